@@ -1,0 +1,27 @@
+pub mod Greatest
+pub mod Places
+pub mod Measures
+pub mod ConversionLaws
+pub mod Walks
+pub mod BreakLaws
+pub mod JoinLaws
+pub mod EditLaws
+pub mod ClipLaws
+pub mod CursorLaws
+pub mod PositionLaws
+pub mod LineLaws
+pub mod CuttingLaws
+pub mod ShapeLaws
+pub mod ChunkLaws
+pub mod SliceLaws
+pub mod CompareLaws
+pub mod ReadLaws
+pub mod LookupLaws
+pub mod LinesJoin
+pub mod ByteLaws
+pub mod Encoded
+pub mod FirstBytes
+pub mod Nearest
+pub mod CutFacts
+pub mod Apart
+mod Examples

@@ -1,0 +1,56 @@
+-- Which chunk of a cutting a look-up answers, and what lies before it.
+use Rattle.std.specs.Prelude.{ℕ, zero, suc, ◌+◌, ◌-◌, Bool, List, [], length, take, nat_le, ◌==◌, slice_index_or, if◌then◌else◌}
+use Rattle.std.specs.List.{concat}
+use Rattle.rope_text.specs.declared.line_breaks.LineBreaks.{LineBreaks}
+use Rattle.rope_text.specs.Text.{byte_len, greatest}
+use Rattle.rope_text.specs.Lines.{line_count}
+use Rattle.rope_text.specs.Conversions.{char_to_line}
+
+-- the least number up to n that passes the test, or n
+abbrev pub least : (ℕ → Bool) → ℕ → ℕ
+least test zero = 0
+least test (suc n) = if test 0 then 0 else suc (least (λ k. test (suc k)) n)
+
+-- the text of the first k chunks
+abbrev pub front_chunks : List (List ℕ) → ℕ → List ℕ
+front_chunks chunks k = concat (take k chunks)
+
+-- the last chunk that starts at or before byte b: the one that holds it, and at the end the last
+unfoldable pub chunk_index_at_byte : List (List ℕ) → ℕ → ℕ
+chunk_index_at_byte chunks b = greatest (λ k. nat_le (byte_len (front_chunks chunks k)) b) (length chunks - 1)
+
+-- the last chunk that starts at or before character i
+unfoldable pub chunk_index_at_char : List (List ℕ) → ℕ → ℕ
+chunk_index_at_char chunks i = greatest (λ k. nat_le (length (front_chunks chunks k)) i) (length chunks - 1)
+
+-- the first chunk by whose end k breaks of the whole text have ended, or else the last
+unfoldable pub chunk_index_at_line_break : LineBreaks → List (List ℕ) → ℕ → ℕ
+chunk_index_at_line_break set chunks k =
+    least (λ j. nat_le k (char_to_line set (concat chunks) (length (front_chunks chunks (j + 1))))) (length chunks - 1)
+
+-- what a look-up answers: a chunk, and the bytes, characters and breaks of the whole text before it
+pub record FoundChunk : Type 0 where
+  pub text : List ℕ
+  pub bytes : ℕ
+  pub chars : ℕ
+  pub breaks : ℕ
+
+-- the answer at the k-th chunk; with no chunk the empty text and zeros
+unfoldable pub found_chunk : LineBreaks → List (List ℕ) → ℕ → FoundChunk
+found_chunk set chunks k = record {
+  text = slice_index_or chunks k [];
+  bytes = byte_len (front_chunks chunks k);
+  chars = length (front_chunks chunks k);
+  breaks = char_to_line set (concat chunks) (length (front_chunks chunks k));
+}
+
+-- where a cursor over the chunks starts: before the chunk that the look-up answers, and at the end for the end of the text.
+-- The numbers told with it are those of `found_chunk` at that place.
+abbrev pub chunk_place_at_byte : List (List ℕ) → ℕ → ℕ
+chunk_place_at_byte chunks b = if b == byte_len (concat chunks) then length chunks else chunk_index_at_byte chunks b
+
+abbrev pub chunk_place_at_char : List (List ℕ) → ℕ → ℕ
+chunk_place_at_char chunks i = if i == length (concat chunks) then length chunks else chunk_index_at_char chunks i
+
+abbrev pub chunk_place_at_line_break : LineBreaks → List (List ℕ) → ℕ → ℕ
+chunk_place_at_line_break set chunks k = if k == line_count set (concat chunks) then length chunks else chunk_index_at_line_break set chunks k

@@ -1,0 +1,139 @@
+//! Places where the bytes of a text may be cut: within no character, and not between CR and LF.
+ghost use Rattle.std.specs.Prelude.{◌≡◌, ℕ, ◌-◌, ◌<◌, ◌≤◌, true, false, length, ◌++◌, IsTrue, slice_index};
+ghost use Rattle.std.specs.Str.{IsUtf8, IsCharBoundary};
+ghost use Rattle.rope_text.specs.Cuts.{is_cut, is_cut_between, distance};
+
+#[inline]
+fn is_between(x: u8, y: u8) -> bool
+    ensures { result ≡ is_cut_between x y }
+{
+    (y < 0x80 || y >= 0xC0) && (x != b'\r' || y != b'\n')
+}
+
+/// Whether a text may be cut into `left` and `right`.
+pub fn seam_is_break(left: &[u8], right: &[u8]) -> bool
+    requires left { 0 < length left.now }
+    requires right { 0 < length right.now }
+    ensures { result ≡ is_cut (left.now ++ right.now) (length left.now) }
+{
+    is_between(left[left.len() - 1], right[0])
+}
+
+/// Whether the text may be cut before the byte `at`. It may be at either end.
+pub fn is_break(text: &[u8], at: usize) -> bool
+    requires { at ≤ length text.now }
+    ensures value { result ≡ is_cut text.now at }
+{
+    at == 0 || at == text.len() || is_between(text[at - 1], text[at])
+}
+
+/// The last cut before `at`, or 0 where `at` is 0.
+#[tactic(auto, using(crate::proofs::CutFacts::boundary_of_cut))]
+pub fn prev_break(text: &[u8], at: usize) -> usize
+    requires { at ≤ length text.now }
+    ensures boundary { IsUtf8 text.now → IsCharBoundary text.now result }
+    ensures cut { IsTrue (is_cut text.now result) }
+    ensures before { 0 < at → result < at }
+    ensures bound { result ≤ at }
+    ensures nearest { (k : ℕ) → k < at → IsTrue (is_cut text.now k) → k ≤ result }
+{
+    if at == 0 {
+        return 0;
+    }
+    let mut i = at - 1;
+    while !is_break(text, i) {
+        i -= 1;
+    }
+    i
+}
+
+/// The first cut after `at`, or the end where `at` is the end.
+#[tactic(auto, using(crate::proofs::CutFacts::boundary_of_cut))]
+pub fn next_break(text: &[u8], at: usize) -> usize
+    requires { at ≤ length text.now }
+    ensures boundary { IsUtf8 text.now → IsCharBoundary text.now result }
+    ensures cut { IsTrue (is_cut text.now result) }
+    ensures after { at < length text.now → at < result }
+    ensures bound { result ≤ length text.now }
+    ensures nearest { (k : ℕ) → at < k → k ≤ length text.now → IsTrue (is_cut text.now k) → result ≤ k }
+    ensures not_before { at ≤ result }
+{
+    if at == text.len() {
+        return at;
+    }
+    let mut i = at + 1;
+    while !is_break(text, i) {
+        i += 1;
+    }
+    i
+}
+
+// The last cut up to `at`, and at the end the last one before it.
+fn break_up_to(text: &[u8], at: usize) -> usize
+    requires { at ≤ length text.now }
+    ensures cut { IsTrue (is_cut text.now result) }
+    ensures bound { result ≤ at }
+    ensures inside { 0 < length text.now → result < length text.now }
+    ensures nearest { (k : ℕ) → k ≤ at → k < length text.now → IsTrue (is_cut text.now k) → k ≤ result }
+{
+    if at == text.len() {
+        return prev_break(text, at);
+    }
+    if is_break(text, at) {
+        at
+    } else {
+        prev_break(text, at)
+    }
+}
+
+/// The cut inside the text that is nearest to `at`, the later one of two that are as near. Where no cut lies inside, the end.
+pub fn nearest_internal_break(text: &[u8], at: usize) -> usize
+    requires { at ≤ length text.now }
+    ensures boundary { IsUtf8 text.now → IsCharBoundary text.now result }
+    ensures cut { IsTrue (is_cut text.now result) }
+    ensures bound { result ≤ length text.now }
+    ensures inside { (k : ℕ) → 0 < k → k < length text.now → IsTrue (is_cut text.now k)
+        → (0 < result) × (result < length text.now) }
+    ensures nearest { (k : ℕ) → 0 < k → k < length text.now → IsTrue (is_cut text.now k)
+        → distance at result ≤ distance at k }
+    ensures later { (k : ℕ) → 0 < k → k < length text.now → IsTrue (is_cut text.now k)
+        → distance at result ≡ distance at k → k ≤ result }
+    ensures none { result ≡ 0 → length text.now ≡ 0 }
+{
+    let left = break_up_to(text, at);
+    let right = next_break(text, at);
+    if left == 0 {
+        return right;
+    }
+    if right == text.len() {
+        return left;
+    }
+    if at - left < right - at { left } else { right }
+}
+
+/// The cut at `at`, or else the nearest cut before it or after it, before it where `bias_left` says so,
+/// unless no cut inside the text lies on that side.
+pub fn find_good_split(at: usize, text: &[u8], bias_left: bool) -> usize
+    requires { at ≤ length text.now }
+    ensures boundary { IsUtf8 text.now → IsCharBoundary text.now result }
+    ensures cut { IsTrue (is_cut text.now result) }
+    ensures bound { result ≤ length text.now }
+    ensures exact { IsTrue (is_cut text.now at) → result ≡ at }
+    ensures left { IsTrue bias_left → (k : ℕ) → 0 < k → k < at → IsTrue (is_cut text.now k)
+        → (k ≤ result) × (result ≤ at) }
+    ensures right { bias_left ≡ false → (k : ℕ) → at < k → k < length text.now → IsTrue (is_cut text.now k)
+        → (at ≤ result) × (result ≤ k) }
+{
+    if is_break(text, at) {
+        return at;
+    }
+    let before = prev_break(text, at);
+    let after = next_break(text, at);
+    if bias_left {
+        if before > 0 { before } else { after }
+    } else if after < text.len() {
+        after
+    } else {
+        before
+    }
+}

@@ -1,0 +1,154 @@
+//! What calls answer where they refuse.
+ghost use Rattle.std.specs.Prelude.{◌≡◌, Some};
+ghost use Rattle.rope_text.specs.declared.error.Error.TheVariants.{OutOfMemory};
+
+use std::alloc::{AllocError, AllocFailed};
+use std::fmt;
+
+/// Why a call was refused.
+///
+/// `Display` and `Debug` print the same text, which is ropey's for the errors that ropey has.
+#[derive(Clone, Copy, PartialEq, Eq)]
+#[non_exhaustive]
+pub enum Error {
+    /// A byte index past the end: the index, and the length in bytes.
+    ByteIndexOutOfBounds(usize, usize),
+    /// A character index past the end: the index, and the length in characters.
+    CharIndexOutOfBounds(usize, usize),
+    /// A line index past the last line: the index, and the number of lines.
+    LineIndexOutOfBounds(usize, usize),
+    /// A UTF-16 index past the end: the index, and the length in code units.
+    Utf16IndexOutOfBounds(usize, usize),
+    /// A byte index inside a character. Kept from ropey; no call answers it.
+    ByteIndexNotCharBoundary(usize),
+    /// A byte range that starts or ends inside a character: its bounds as they were told.
+    ByteRangeNotCharBoundary(Option<usize>, Option<usize>),
+    /// A byte range whose start is past its end.
+    ByteRangeInvalid(usize, usize),
+    /// A character range whose start is past its end.
+    CharRangeInvalid(usize, usize),
+    /// A byte range past the end: its bounds as they were told, and the length in bytes.
+    ByteRangeOutOfBounds(Option<usize>, Option<usize>, usize),
+    /// A character range past the end: its bounds as they were told, and the length in characters.
+    CharRangeOutOfBounds(Option<usize>, Option<usize>, usize),
+    /// The text would have more than `isize::MAX` bytes.
+    TooLong,
+    /// Memory was refused.
+    OutOfMemory,
+    /// Two ropes that were to be joined have different sets of line breaks.
+    LineBreaksDiffer,
+}
+
+/// What a call that may be refused answers.
+pub type Result<T> = std::result::Result<T, Error>;
+
+/// The bounds of a range as they were told, which print as Rust writes a range.
+#[derive(Clone, Copy)]
+struct Bounds(Option<usize>, Option<usize>);
+
+impl fmt::Display for Bounds {
+    ghost use Rattle.std.specs.Prelude.{Some};
+    ghost use Rattle.rope_text.specs.ErrorText.{range_text};
+
+    ghost output = { λ b. Some (range_text b.0 b.1) };
+
+    fn fmt<W: fmt::Write>(&self, f: &mut fmt::Formatter<W>) -> fmt::Result {
+        match (self.0, self.1) {
+            (None, None) => write!(f, ".."),
+            (Some(start), None) => write!(f, "{start}.."),
+            (None, Some(end)) => write!(f, "..{end}"),
+            (Some(start), Some(end)) => write!(f, "{start}..{end}"),
+        }
+    }
+}
+
+impl fmt::Display for Error {
+    ghost use Rattle.std.specs.Prelude.{Some};
+    ghost use Rattle.rope_text.specs.ErrorText.{error_text};
+
+    ghost output = { λ e. Some (error_text e) };
+
+    fn fmt<W: fmt::Write>(&self, f: &mut fmt::Formatter<W>) -> fmt::Result {
+        match *self {
+            Error::ByteIndexOutOfBounds(index, len) => write!(
+                f,
+                "Byte index out of bounds: byte index {index}, Rope/RopeSlice byte length {len}"
+            ),
+            Error::CharIndexOutOfBounds(index, len) => write!(
+                f,
+                "Char index out of bounds: char index {index}, Rope/RopeSlice char length {len}"
+            ),
+            Error::LineIndexOutOfBounds(index, len) => write!(
+                f,
+                "Line index out of bounds: line index {index}, Rope/RopeSlice line count {len}"
+            ),
+            Error::Utf16IndexOutOfBounds(index, len) => write!(
+                f,
+                "Utf16 code-unit index out of bounds: utf16 index {index}, Rope/RopeSlice utf16 length {len}"
+            ),
+            Error::ByteIndexNotCharBoundary(index) => write!(
+                f,
+                "Byte index is not a valid char boundary: byte index {index}"
+            ),
+            Error::ByteRangeNotCharBoundary(start, end) => {
+                let range = Bounds(start, end);
+                write!(
+                    f,
+                    "Byte range does not align with char boundaries: range {range}"
+                )
+            }
+            Error::ByteRangeInvalid(start, end) => {
+                write!(f, "Invalid byte range {start}..{end}: start must be <= end")
+            }
+            Error::CharRangeInvalid(start, end) => {
+                write!(f, "Invalid char range {start}..{end}: start must be <= end")
+            }
+            Error::ByteRangeOutOfBounds(start, end, len) => {
+                let range = Bounds(start, end);
+                write!(
+                    f,
+                    "Byte range out of bounds: byte range {range}, Rope/RopeSlice byte length {len}"
+                )
+            }
+            Error::CharRangeOutOfBounds(start, end, len) => {
+                let range = Bounds(start, end);
+                write!(
+                    f,
+                    "Char range out of bounds: char range {range}, Rope/RopeSlice char length {len}"
+                )
+            }
+            Error::TooLong => write!(f, "Text would be longer than isize::MAX bytes"),
+            Error::OutOfMemory => write!(f, "Out of memory"),
+            Error::LineBreaksDiffer => write!(f, "Ropes have different line breaks"),
+        }
+    }
+}
+
+impl fmt::Debug for Error {
+    ghost use Rattle.std.specs.Prelude.{Some};
+    ghost use Rattle.rope_text.specs.ErrorText.{error_text};
+
+    ghost debug_output = { λ e. Some (error_text e) };
+
+    fn fmt<W: fmt::Write>(&self, f: &mut fmt::Formatter<W>) -> fmt::Result {
+        fmt::Display::fmt(self, f)
+    }
+}
+
+impl std::error::Error for Error {}
+
+impl From<AllocError> for Error {
+    ghost from_gives = { λ _ e. e ≡ OutOfMemory };
+
+    fn from(_e: AllocError) -> Error {
+        Error::OutOfMemory
+    }
+}
+
+impl<T: Drop> From<AllocFailed<T>> for Error {
+    ghost from_gives = { λ _ e. e ≡ OutOfMemory };
+
+    fn from(_e: AllocFailed<T>) -> Error {
+        Error::OutOfMemory
+    }
+}

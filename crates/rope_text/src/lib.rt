@@ -1,0 +1,28 @@
+//! Plain texts: line breaks, counts, conversions between indices, places where a text may be cut,
+//! index ranges and errors; and the definitions that the contracts of every crate cite.
+#![tactic(auto)]
+
+pub mod crlf;
+pub mod error;
+pub mod laws;
+pub mod line_breaks;
+pub mod range;
+pub mod steps;
+pub mod str_utils;
+
+pub use error::{Error, Result};
+pub use line_breaks::LineBreaks;
+pub use range::IndexRange;
+pub use steps::Steps;
+
+/// The bytes that a leaf holds at the most.
+pub const MAX_BYTES: usize = 984;
+
+/// The bytes below which two neighbouring leaves are merged where they fit together into one.
+pub const MIN_BYTES: usize = 462;
+
+/// The children that an inner node has at the most.
+pub const MAX_CHILDREN: usize = 24;
+
+/// The children that an inner node has at the least, unless it is the root.
+pub const MIN_CHILDREN: usize = 12;
