@@ -21,6 +21,7 @@ pub mod LinesJoin
 pub mod ByteLaws
 pub mod Encoded
 pub mod FirstBytes
+pub mod TextParts
 pub mod Nearest
 pub mod CutFacts
 pub mod Apart
