@@ -1,13 +1,21 @@
 -- What a rope or a slice shows.
-use Rattle.std.specs.Prelude.{ℕ, ◌+◌, ◌/◌, ◌≤◌, List, length}
+use Rattle.std.specs.Prelude.{◌≡◌, ℕ, ◌+◌, ◌/◌, ◌^◌, ◌<◌, ◌≤◌, true, List, length}
+use Rattle.std.specs.Str.{all_scalars}
 use Rattle.rope_text.specs.declared.line_breaks.LineBreaks.{LineBreaks}
 use Rattle.rope_text.specs.Text.{byte_len}
+use Rattle.rope_text.specs.Cutting.{IsRopeCutting}
 
 -- a text, the chunks it is cut into, and its set of line breaks
 pub record Content : Type 0 where
   pub text : List ℕ
   pub chunks : List (List ℕ)
   pub breaks : LineBreaks
+
+-- what every rope keeps: its chunks are a rope cutting of its text, which is one of Unicode scalar values and has at most isize::MAX bytes
+pub record IsRope (c : Content) : Type 0 where
+  pub cut : IsRopeCutting c.text c.chunks
+  pub scalars : all_scalars c.text ≡ true
+  pub fits : byte_len c.text < 2 ^ 63
 
 -- at most so many chunks as where each but the last has 981 bytes or more
 abbrev pub HasFewChunks : Content → Type 0

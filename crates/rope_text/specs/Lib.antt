@@ -14,5 +14,6 @@ pub mod Laws
 pub mod Bytes
 pub mod Cuts
 pub mod Content
+pub mod Sides
 pub mod ErrorText
 pub mod Range

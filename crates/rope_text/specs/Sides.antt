@@ -1,0 +1,45 @@
+-- A cursor, seen as what stands on its two sides: the form in which steps of code are stated.
+use Rattle.std.specs.Prelude.{◌≡◌, ℕ, Bool, false, not, List, [], ◌∷◌, ◌++◌, length, reverse, Option, MatchOption, if◌then◌else◌}
+use Rattle.std.specs.Bool.{MatchBool}
+
+pub record Sides (X : Type 0) : Type 0 where
+  pub left : List X
+  pub right : List X
+  pub is_backward : Bool
+
+-- before all items, facing forward
+abbrev pub at_start : {X : Type 0} → List X → Sides X
+at_start items = record { left = []; right = items; is_backward = false }
+
+-- the list, and the place in it
+abbrev pub all_items : {X : Type 0} → Sides X → List X
+all_items c = c.left ++ c.right
+
+abbrev pub place : {X : Type 0} → Sides X → ℕ
+place c = length c.left
+
+-- what `next` still gives, and what `prev` still gives
+abbrev pub ahead : {X : Type 0} → Sides X → List X
+ahead c = if c.is_backward then reverse c.left else c.right
+
+abbrev pub behind : {X : Type 0} → Sides X → List X
+behind c = if c.is_backward then c.right else reverse c.left
+
+-- the same cursor, turned at its place
+abbrev pub turned : {X : Type 0} → Sides X → Sides X
+turned c = record { left = c.left; right = c.right; is_backward = not c.is_backward }
+
+-- a step to the right or to the left, with the item that it passes, or none at the end, where it stays
+module _ {A X : Type 0} (view : A → X) where
+  abbrev pub GoesRight : Sides X → Option A → Sides X → Type 0
+  GoesRight s r t = MatchOption r ((s.right ≡ []) × (t ≡ s)) (λ x. (s.right ≡ view x ∷ t.right) × (t.left ≡ s.left ++ view x ∷ []) × (t.is_backward ≡ s.is_backward))
+
+  abbrev pub GoesLeft : Sides X → Option A → Sides X → Type 0
+  GoesLeft s r t = MatchOption r ((s.left ≡ []) × (t ≡ s)) (λ x. (s.left ≡ t.left ++ view x ∷ []) × (t.right ≡ view x ∷ s.right) × (t.is_backward ≡ s.is_backward))
+
+  -- `next` and `prev`
+  abbrev pub StepsAhead : Sides X → Option A → Sides X → Type 0
+  StepsAhead s r t = MatchBool s.is_backward (GoesLeft s r t) (GoesRight s r t)
+
+  abbrev pub StepsBack : Sides X → Option A → Sides X → Type 0
+  StepsBack s r t = MatchBool s.is_backward (GoesRight s r t) (GoesLeft s r t)
