@@ -5,7 +5,7 @@ use Rattle.std.specs.Char.{encode_utf8}
 use Rattle.std.proofs.lemmas.Str.{encodes-chars}
 use Rattle.std.proofs.lemmas.Bool.{cond_both, or_left, or_right, or_from, le-ltb, le-leb, lt-leb, ltb-true, ltb-false}
 use Rattle.std.proofs.lemmas.List.Sums.{sum_by-append}
-use Rattle.rope_text.specs.Text.{utf16_len}
+use Rattle.rope_text.specs.Text.{surrogate_count, utf16_len}
 use Rattle.rope_text.specs.Bytes.{begins_char, begins_pair}
 
 lead_begins : (b : ℕ) → 192 ≤ b → begins_char b ≡ true
@@ -49,7 +49,9 @@ pairs-from_bytes (c ∷ cs) =
 pub length-chars : (bs : List ℕ) → IsUtf8 bs → length (chars bs) ≡ count_by begins_char bs
 length-chars bs u = sym (length-from_bytes (chars bs)) ∙ ap (count_by begins_char) (encodes-chars bs u)
 
+pub surrogate_count-chars : (bs : List ℕ) → IsUtf8 bs → surrogate_count (chars bs) ≡ count_by begins_pair bs
+surrogate_count-chars bs u = sym (pairs-from_bytes (chars bs)) ∙ ap (count_by begins_pair) (encodes-chars bs u)
+
 pub utf16_len-chars : (bs : List ℕ) → IsUtf8 bs → utf16_len (chars bs) ≡ count_by begins_char bs + count_by begins_pair bs
 utf16_len-chars bs u =
-    let pairs = sym (pairs-from_bytes (chars bs)) ∙ ap (count_by begins_pair) (encodes-chars bs u) in
-    omega (arith, length-chars bs u)
+    omega (arith, length-chars bs u, surrogate_count-chars bs u)

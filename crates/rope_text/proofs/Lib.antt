@@ -25,4 +25,8 @@ pub mod TextParts
 pub mod Nearest
 pub mod CutFacts
 pub mod Apart
+pub mod ByteBreakLaws
+pub mod Blocks
+pub mod Marks
+pub mod InfoLaws
 mod Examples

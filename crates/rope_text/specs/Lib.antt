@@ -17,3 +17,5 @@ pub mod Content
 pub mod Sides
 pub mod ErrorText
 pub mod Range
+pub mod ByteBreaks
+pub mod TextInfo

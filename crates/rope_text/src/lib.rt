@@ -4,16 +4,19 @@
 
 pub mod crlf;
 pub mod error;
+mod lanes;
 pub mod laws;
 pub mod line_breaks;
 pub mod range;
 pub mod steps;
 pub mod str_utils;
+pub mod text_info;
 
 pub use error::{Error, Result};
 pub use line_breaks::LineBreaks;
 pub use range::IndexRange;
 pub use steps::Steps;
+pub use text_info::TextInfo;
 
 /// The bytes that a leaf holds at the most.
 pub const MAX_BYTES: usize = 984;

@@ -1,0 +1,41 @@
+-- The breaks that begin in a part of the bytes, place by place.
+use Rattle.std.proofs.Common.{◌≡◌, ℕ, zero, suc, ◌+◌, ◌<◌, ◌≤◌, Bool, true, false, cond, List, [], ◌∷◌, length, take, drop, get_or, count_by, ap, ◌∙◌, arith}
+use Rattle.std.specs.List.{range_with_len}
+use Rattle.std.proofs.lemmas.List.{at_drop_more, get_or-drop}
+use Rattle.std.proofs.lemmas.List.Sums.{sum_by-cons, sum_by-append}
+use Rattle.std.proofs.lemmas.Simd.{chunk-drop}
+use Rattle.rope_text.specs.declared.line_breaks.LineBreaks.{LineBreaks}
+use Rattle.rope_text.specs.ByteBreaks.{break_at, byte_breaks}
+
+-- whether a break begins at the byte k
+abbrev pub breaks_at : LineBreaks → List ℕ → ℕ → Bool
+breaks_at b xs k = break_at b (get_or xs k 0) (get_or xs (k + 1) 0) (get_or xs (k + 2) 0)
+
+pub byte_breaks-drop : (b : LineBreaks) (xs : List ℕ) (i : ℕ) → i < length xs →
+    byte_breaks b (drop i xs) ≡ cond (breaks_at b xs i) 1 0 + byte_breaks b (drop (i + 1) xs)
+byte_breaks-drop b xs i h =
+    at_drop_more (byte_breaks b) xs i 0 h
+    ∙ simp (get_or-drop) (rw (let e : (i + 1) + 0 ≡ i + 1 = omega arith in e, let e : (i + 1) + 1 ≡ i + 2 = omega arith in e))
+
+pub byte_breaks-block : (b : LineBreaks) (xs : List ℕ) (i n : ℕ) → i + n ≤ length xs →
+    byte_breaks b (drop i xs) ≡ count_by (breaks_at b xs) (range_with_len i n) + byte_breaks b (drop (i + n) xs)
+byte_breaks-block b xs i zero h = omega (arith, ap (λ j. byte_breaks b (drop j xs)) (let e : i + 0 ≡ i = omega arith in e))
+byte_breaks-block b xs i (suc n) h =
+    omega (
+      arith,
+      byte_breaks-drop b xs i (omega arith),
+      sum_by-cons (λ k. cond (breaks_at b xs k) 1 0) i (range_with_len (i + 1) n),
+      byte_breaks-block b xs (i + 1) n (omega arith),
+      ap (λ j. byte_breaks b (drop j xs)) (let e : i + suc n ≡ (i + 1) + n = omega arith in e),
+    )
+
+one_at_most : (t : Bool) → cond t 1 0 ≤ 1
+one_at_most true = omega arith
+one_at_most false = omega arith
+
+pub byte_breaks_le : (b : LineBreaks) (xs : List ℕ) → byte_breaks b xs ≤ length xs
+byte_breaks_le b [] = omega arith
+byte_breaks_le b (x ∷ xs) = omega (arith, byte_breaks_le b xs, one_at_most (break_at b x (get_or xs 0 0) (get_or xs 1 0)))
+
+pub count_by-block : (p : ℕ → Bool) (xs : List ℕ) (i n : ℕ) → count_by p (drop i xs) ≡ count_by p (take n (drop i xs)) + count_by p (drop (i + n) xs)
+count_by-block p xs i n = ap (count_by p) (chunk-drop i n xs) ∙ sum_by-append (λ x. cond (p x) 1 0) (take n (drop i xs)) (drop (i + n) xs)

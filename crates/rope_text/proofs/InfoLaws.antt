@@ -1,0 +1,29 @@
+-- The counts of joined texts.
+use Rattle.std.proofs.Common.{◌≡◌, ℕ, ◌+◌, ◌-◌, Bool, false, ◌&&◌, cond, List, ◌++◌, nat_le, refl, ap, ◌∙◌, arith, length-append}
+use Rattle.std.proofs.lemmas.List.Sums.{sum_by-append}
+use Rattle.rope_text.specs.declared.line_breaks.LineBreaks.{LineBreaks}
+use Rattle.rope_text.specs.Text.{surrogate_count}
+use Rattle.rope_text.specs.Breaks.{is_break_char, break_count}
+use Rattle.rope_text.specs.Cutting.{parts_crlf}
+use Rattle.rope_text.specs.TextInfo.{info_of, info_sum, shared_breaks, less_breaks}
+use Rattle.rope_text.proofs.Measures.{IsMeasure-byte_len}
+use Rattle.rope_text.proofs.BreakLaws.{break_count-append}
+
+pub surrogate_count-append : (s t : List ℕ) → surrogate_count (s ++ t) ≡ surrogate_count s + surrogate_count t
+surrogate_count-append s t = sum_by-append (λ c. cond (nat_le 65536 c) 1 0) s t
+
+pub info_of-append : (set : LineBreaks) (s t : List ℕ) → info_of set (s ++ t) ≡ less_breaks (info_sum (info_of set s) (info_of set t)) (shared_breaks set s t)
+info_of-append set s t =
+    let bytes = IsMeasure-byte_len.joined s t in
+    let pairs = surrogate_count-append s t in
+    let chars = length-append s t in
+    let breaks : break_count set (s ++ t) ≡ (break_count set s + break_count set t) - shared_breaks set s t = omega (arith, break_count-append set s t) in
+    cc
+
+-- where CR doesn't meet LF, the sums
+pub info_of-append_apart : (set : LineBreaks) (s t : List ℕ) → parts_crlf s t ≡ false → info_of set (s ++ t) ≡ info_sum (info_of set s) (info_of set t)
+info_of-append_apart set s t apart =
+    let none : shared_breaks set s t ≡ 0 = ap (λ (x : Bool). cond {A = ℕ} (x && is_break_char set 13) 1 0) apart in
+    let same : (break_count set s + break_count set t) - 0 ≡ break_count set s + break_count set t = omega arith in
+    let whole : less_breaks (info_sum (info_of set s) (info_of set t)) 0 ≡ info_sum (info_of set s) (info_of set t) = rw same refl in
+    info_of-append set s t ∙ ap (less_breaks (info_sum (info_of set s) (info_of set t))) none ∙ whole

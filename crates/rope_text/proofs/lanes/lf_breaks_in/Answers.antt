@@ -1,0 +1,15 @@
+use Rattle.std.proofs.Common.{◌+◌, eqb, drop, sym, ap, ◌∙◌, arith}
+use Rattle.std.proofs.lemmas.List.FromFn.{length-range_with_len}
+use Rattle.rope_text.specs.declared.line_breaks.LineBreaks.TheVariants.{Lf}
+use Rattle.rope_text.specs.ByteBreaks.{byte_breaks}
+use Rattle.rope_text.proofs.Blocks.{byte_breaks-block}
+use Rattle.rope_text.proofs.Marks.{compared, counted, loaded}
+use Rattle.rope_text.proofs.lanes.lf_breaks_in.Goals as goal
+
+pub returns : goal.returns
+returns c =
+    let s = c.args.bytes.now in
+    let i = c.args.at in
+    let long = length-range_with_len i 32 in
+    byte_breaks-block Lf s i 32 (omega arith)
+    ∙ ap (λ n. n + byte_breaks Lf (drop (i + 32) s)) (sym (counted (omega (arith, long)) (compared eqb 10 32 long (loaded s i 32 (omega arith)))))

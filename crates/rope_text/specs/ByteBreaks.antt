@@ -1,0 +1,21 @@
+-- Line breaks over the bytes of a text. A private working definition: only clauses of private functions cite it.
+use Rattle.std.specs.Prelude.{ℕ, ◌+◌, Bool, cond, not, ◌&&◌, ◌||◌, ◌==◌, List, [], ◌∷◌, get_or}
+use Rattle.std.specs.Int.{is_in_range}
+use Rattle.rope_text.specs.declared.line_breaks.LineBreaks.{LineBreaks}
+use Rattle.rope_text.specs.declared.line_breaks.LineBreaks.TheVariants.{Lf, CrLf, Unicode}
+
+-- whether the byte x is CR and the next byte y isn't LF
+abbrev pub lone_cr : ℕ → ℕ → Bool
+lone_cr x y = x == 13 && not (y == 10)
+
+-- whether a character that ends a line break begins with the byte x, before the bytes y and z; CR LF counts at its LF
+abbrev pub break_at : LineBreaks → ℕ → ℕ → ℕ → Bool
+break_at Lf x y z = x == 10
+break_at CrLf x y z = x == 10 || lone_cr x y
+break_at Unicode x y z =
+    (is_in_range 10 12 x || lone_cr x y) || ((x == 0xC2 && y == 0x85) || (x == 0xE2 && (y == 0x80 && (z == 0xA8 || z == 0xA9))))
+
+-- how many such characters there are
+abbrev pub byte_breaks : LineBreaks → List ℕ → ℕ
+byte_breaks set [] = 0
+byte_breaks set (x ∷ xs) = cond (break_at set x (get_or xs 0 0) (get_or xs 1 0)) 1 0 + byte_breaks set xs

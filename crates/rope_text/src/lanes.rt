@@ -1,0 +1,174 @@
+// Counts over the bytes of a text, 32 bytes at once.
+ghost use Rattle.std.specs.Prelude.{◌≡◌, ◌+◌, ◌<◌, ◌≤◌, length, count_by, drop, slice_index};
+ghost use Rattle.rope_text.specs.Bytes.{begins_char, begins_pair};
+ghost use Rattle.rope_text.specs.ByteBreaks.{break_at, byte_breaks};
+
+use crate::line_breaks::LineBreaks;
+use std::simd::prelude::*;
+
+// How many of the 32 bytes from `at` on begin a character.
+#[inline(always)]
+pub(crate) fn chars_in(bytes: &[u8], at: usize) -> u32
+    requires { at + 32 ≤ length bytes.now }
+    ensures { count_by begins_char (drop at bytes.now) ≡ result + count_by begins_char (drop (at + 32) bytes.now) }
+{
+    let lanes = u8x32::from_slice(&bytes[at..]);
+    (lanes.simd_lt(u8x32::splat(0x80)) | lanes.simd_ge(u8x32::splat(0xC0)))
+        .to_bitmask()
+        .count_ones()
+}
+
+// How many of the 32 bytes from `at` on begin a character of two code units.
+#[inline(always)]
+pub(crate) fn pairs_in(bytes: &[u8], at: usize) -> u32
+    requires { at + 32 ≤ length bytes.now }
+    ensures { count_by begins_pair (drop at bytes.now) ≡ result + count_by begins_pair (drop (at + 32) bytes.now) }
+{
+    let lanes = u8x32::from_slice(&bytes[at..]);
+    lanes.simd_ge(u8x32::splat(0xF0)).to_bitmask().count_ones()
+}
+
+#[inline(always)]
+fn lf_breaks_in(bytes: &[u8], at: usize) -> u32
+    requires { at + 34 ≤ length bytes.now }
+    ensures { byte_breaks LineBreaks.Lf (drop at bytes.now) ≡ result + byte_breaks LineBreaks.Lf (drop (at + 32) bytes.now) }
+{
+    let x = u8x32::from_slice(&bytes[at..]);
+    x.simd_eq(u8x32::splat(b'\n')).to_bitmask().count_ones()
+}
+
+#[inline(always)]
+fn cr_lf_breaks_in(bytes: &[u8], at: usize) -> u32
+    requires { at + 34 ≤ length bytes.now }
+    ensures { byte_breaks LineBreaks.CrLf (drop at bytes.now) ≡ result + byte_breaks LineBreaks.CrLf (drop (at + 32) bytes.now) }
+{
+    let x = u8x32::from_slice(&bytes[at..]);
+    let y = u8x32::from_slice(&bytes[at + 1..]);
+    let lone_cr = x.simd_eq(u8x32::splat(b'\r')) & y.simd_ne(u8x32::splat(b'\n'));
+    (x.simd_eq(u8x32::splat(b'\n')) | lone_cr)
+        .to_bitmask()
+        .count_ones()
+}
+
+#[inline(always)]
+fn unicode_breaks_in(bytes: &[u8], at: usize) -> u32
+    requires { at + 34 ≤ length bytes.now }
+    ensures { byte_breaks LineBreaks.Unicode (drop at bytes.now) ≡ result + byte_breaks LineBreaks.Unicode (drop (at + 32) bytes.now) }
+{
+    let x = u8x32::from_slice(&bytes[at..]);
+    let y = u8x32::from_slice(&bytes[at + 1..]);
+    let z = u8x32::from_slice(&bytes[at + 2..]);
+    let low = x.simd_ge(u8x32::splat(10)) & x.simd_le(u8x32::splat(12));
+    let lone_cr = x.simd_eq(u8x32::splat(b'\r')) & y.simd_ne(u8x32::splat(b'\n'));
+    let nel = x.simd_eq(u8x32::splat(0xC2)) & y.simd_eq(u8x32::splat(0x85));
+    let separator = z.simd_eq(u8x32::splat(0xA8)) | z.simd_eq(u8x32::splat(0xA9));
+    let wide = x.simd_eq(u8x32::splat(0xE2)) & (y.simd_eq(u8x32::splat(0x80)) & separator);
+    ((low | lone_cr) | (nel | wide)).to_bitmask().count_ones()
+}
+
+// How many breaks begin in the 32 bytes from `at` on: loads one and two bytes on see across the end of the block.
+#[inline(always)]
+pub(crate) fn breaks_in(bytes: &[u8], at: usize, set: LineBreaks) -> u32
+    requires { at + 34 ≤ length bytes.now }
+    ensures { byte_breaks set (drop at bytes.now) ≡ result + byte_breaks set (drop (at + 32) bytes.now) }
+{
+    match set {
+        LineBreaks::Lf => lf_breaks_in(bytes, at),
+        LineBreaks::CrLf => cr_lf_breaks_in(bytes, at),
+        LineBreaks::Unicode => unicode_breaks_in(bytes, at),
+    }
+}
+
+#[inline(always)]
+fn begins_break(x: u8, y: u8, z: u8, set: LineBreaks) -> bool
+    ensures { result ≡ break_at set x y z }
+{
+    let is_lone_cr = x == b'\r' && y != b'\n';
+    match set {
+        LineBreaks::Lf => x == b'\n',
+        LineBreaks::CrLf => x == b'\n' || is_lone_cr,
+        LineBreaks::Unicode => {
+            (10..=12).contains(&x)
+                || is_lone_cr
+                || (x == 0xC2 && y == 0x85)
+                || (x == 0xE2 && y == 0x80 && (z == 0xA8 || z == 0xA9))
+        }
+    }
+}
+
+#[inline(always)]
+fn byte_or_zero(bytes: &[u8], at: usize) -> u8
+    ensures { result ≡ slice_index bytes.now at }
+{
+    if at < bytes.len() { bytes[at] } else { 0 }
+}
+
+// Whether a character that ends a break begins at the byte `at`.
+#[inline(always)]
+pub(crate) fn is_break_begin(bytes: &[u8], at: usize, set: LineBreaks) -> bool
+    requires { at < length bytes.now }
+    ensures { result ≡ break_at set (slice_index bytes.now at) (slice_index bytes.now (at + 1)) (slice_index bytes.now (at + 2)) }
+{
+    let next = byte_or_zero(bytes, at + 1);
+    begins_break(bytes[at], next, byte_or_zero(bytes, at + 2), set)
+}
+
+// The breaks that begin from `from` on and before `to`, a byte at a time.
+fn breaks_between(bytes: &[u8], from: usize, to: usize, set: LineBreaks) -> usize
+    requires from { from ≤ to }
+    requires to { to ≤ length bytes.now }
+    ensures { byte_breaks set (drop from bytes.now) ≡ result + byte_breaks set (drop to bytes.now) }
+{
+    let mut total = 0;
+    for i in from..to {
+        if is_break_begin(bytes, i, set) {
+            total += 1;
+        }
+    }
+    total
+}
+
+/// How many of the bytes begin a character.
+pub(crate) fn count_begins(bytes: &[u8]) -> usize
+    ensures { result ≡ count_by begins_char bytes.now }
+{
+    let mut total = 0;
+    let mut i = 0;
+    while bytes.len() - i >= 32 {
+        total += chars_in(bytes, i) as usize;
+        i += 32;
+    }
+    total
+        + bytes[i..]
+            .iter()
+            .filter(|b| **b < 0x80 || **b >= 0xC0)
+            .count()
+}
+
+/// How many of the bytes begin a character of two code units.
+pub(crate) fn count_pairs(bytes: &[u8]) -> usize
+    ensures { result ≡ count_by begins_pair bytes.now }
+{
+    let mut total = 0;
+    let mut i = 0;
+    while bytes.len() - i >= 32 {
+        total += pairs_in(bytes, i) as usize;
+        i += 32;
+    }
+    total + bytes[i..].iter().filter(|b| **b >= 0xF0).count()
+}
+
+/// How many breaks begin before the byte `to`.
+#[tactic(auto, using(crate::proofs::Blocks::byte_breaks_le))]
+pub(crate) fn count_breaks_before(bytes: &[u8], to: usize, set: LineBreaks) -> usize
+    requires { to ≤ length bytes.now }
+    ensures { byte_breaks set bytes.now ≡ result + byte_breaks set (drop to bytes.now) }
+{
+    let mut total = 0;
+    let mut i = 0;
+    while to - i >= 32 && bytes.len() - i >= 34 {
+        total += breaks_in(bytes, i, set) as usize;
+        i += 32;
+    }
+    total + breaks_between(bytes, i, to, set)
+}

@@ -1,0 +1,82 @@
+// The counts of a text.
+ghost use Rattle.std.specs.Prelude.{◌≡◌, ◌+◌, ◌<◌, ◌≤◌, ◌^◌, [], ◌++◌, false, List, ℕ};
+ghost use Rattle.std.specs.Str.{chars};
+
+use crate::line_breaks::LineBreaks;
+use crate::str_utils::{count_breaks, count_chars, count_surrogates};
+
+/// What a text counts.
+#[derive(Clone, Copy, Debug, Default, PartialEq, Eq)]
+pub struct TextInfo {
+    /// The bytes.
+    pub bytes: usize,
+    /// The characters.
+    pub chars: usize,
+    /// The characters that take two code units in UTF-16.
+    pub utf16_surrogates: usize,
+    /// The line breaks, by the set that was told.
+    pub line_breaks: usize,
+}
+
+impl TextInfo {
+    ghost use Rattle.rope_text.specs.Cutting.{parts_crlf};
+    ghost use Rattle.rope_text.specs.TextInfo.{info_of, info_sum};
+
+    /// The counts of the empty text.
+    pub fn new() -> TextInfo
+        ensures { (set : LineBreaks) → result ≡ info_of set [] }
+    {
+        TextInfo {
+            bytes: 0,
+            chars: 0,
+            utf16_surrogates: 0,
+            line_breaks: 0,
+        }
+    }
+
+    /// The counts of a text, its line breaks by the set.
+    pub fn from_str(text: &str, set: LineBreaks) -> TextInfo
+        ensures { result ≡ info_of set (chars text.now) }
+    {
+        TextInfo {
+            bytes: text.len(),
+            chars: count_chars(text),
+            utf16_surrogates: count_surrogates(text),
+            line_breaks: count_breaks(text, set),
+        }
+    }
+
+    /// The sums: the counts of two texts joined, unless CR meets LF there.
+    pub fn plus(self, other: TextInfo) -> TextInfo
+        requires bytes { self.bytes + other.bytes < 2 ^ 64 }
+        requires chars { self.chars + other.chars < 2 ^ 64 }
+        requires utf16_surrogates { self.utf16_surrogates + other.utf16_surrogates < 2 ^ 64 }
+        requires line_breaks { self.line_breaks + other.line_breaks < 2 ^ 64 }
+        ensures sum { result ≡ info_sum self other }
+        ensures joined { (set : LineBreaks) (s t : List ℕ) → self ≡ info_of set s → other ≡ info_of set t → parts_crlf s t ≡ false
+            → result ≡ info_of set (s ++ t) }
+    {
+        TextInfo {
+            bytes: self.bytes + other.bytes,
+            chars: self.chars + other.chars,
+            utf16_surrogates: self.utf16_surrogates + other.utf16_surrogates,
+            line_breaks: self.line_breaks + other.line_breaks,
+        }
+    }
+
+    /// What is left of the counts where those of a front are taken away.
+    pub fn minus(self, front: TextInfo) -> TextInfo
+        requires bytes { front.bytes ≤ self.bytes }
+        requires chars { front.chars ≤ self.chars }
+        requires utf16_surrogates { front.utf16_surrogates ≤ self.utf16_surrogates }
+        requires line_breaks { front.line_breaks ≤ self.line_breaks }
+        ensures { info_sum front result ≡ self }
+    {
+        TextInfo {
+            bytes: self.bytes - front.bytes,
+            chars: self.chars - front.chars,
+            utf16_surrogates: self.utf16_surrogates - front.utf16_surrogates,
+            line_breaks: self.line_breaks - front.line_breaks,
+        }
+    }
+}
