@@ -1,0 +1,4 @@
+//! The leaves of a rope.
+#![tactic(auto)]
+
+pub mod node_text;

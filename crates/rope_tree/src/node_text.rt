@@ -1,0 +1,212 @@
+//! The text of a leaf.
+ghost use Rattle.std.specs.Prelude.{◌≡◌, ℕ, ◌+◌, ◌<◌, ◌≤◌, ◌++◌, [], true, false, length, take, drop, IsTrue, IfNone, IfSome};
+ghost use Rattle.std.specs.Str.{chars, all_scalars, IsCharBoundary, encode_utf8_all};
+ghost use Rattle.rope_text.specs.Text.{byte_len};
+ghost use Rattle.rope_text.specs.Cutting.{parts_crlf};
+ghost use Rattle.rope_text.specs.Cuts.{is_cut};
+ghost use Rattle.rope_text.specs.Edit.{inserted, removed};
+
+use arrayvec::ArrayString;
+use rope_text::MAX_BYTES;
+use rope_text::crlf::{next_break, prev_break};
+use rope_text::str_utils::{char_to_byte_idx, count_chars};
+use std::marker::Model;
+
+// One text of three.
+fn join_parts<const N: usize>(first: &str, second: &str, third: &str) -> ArrayString<N>
+    requires { (length first.now + length second.now) + length third.now ≤ N }
+    ensures { result.bytes ≡ first.now ++ (second.now ++ third.now) }
+{
+    let mut text = ArrayString::new();
+    text.push_str(first);
+    text.push_str(second);
+    text.push_str(third);
+    text
+}
+
+// The byte at which a text that is too long for one leaf is cut into two.
+fn split_place(text: &str) -> usize
+    requires long { 985 ≤ length text.now }
+    requires short { length text.now ≤ 1965 }
+    ensures boundary { IsCharBoundary text.now result }
+    ensures cut { is_cut text.now result ≡ true }
+    ensures left { (0 < result) × (result ≤ 984) }
+    ensures right { (result < length text.now) × (length text.now ≤ result + 984) }
+{
+    next_break(text.as_bytes(), text.len() / 2 - 2)
+}
+
+/// A text of at most `MAX_BYTES` bytes, seen as the list of its characters. Its calls count in
+/// characters where they take a place, and take no memory.
+#[derive(Clone, Drop)]
+pub struct NodeText {
+    text: ArrayString<984>,
+}
+
+impl Model for NodeText {
+    ghost use Rattle.std.specs.Prelude.{◌≡◌, ℕ, List, true, ◌≤◌, length};
+    ghost use Rattle.std.specs.Str.{chars, is_utf8};
+
+    ghost Value = { List ℕ };
+
+    ghost view = { λ s. chars s.text.bytes };
+
+    ghost invariant = { λ s. (is_utf8 s.text.bytes ≡ true) × (length s.text.bytes ≤ 984) };
+}
+
+impl NodeText {
+    // One text of three.
+    fn of_parts(first: &str, second: &str, third: &str) -> Self
+        requires { (length first.now + length second.now) + length third.now ≤ 984 }
+        ensures value { result ≡ chars first.now ++ (chars second.now ++ chars third.now) }
+        ensures len { byte_len result ≡ (length first.now + length second.now) + length third.now }
+    {
+        NodeText {
+            text: join_parts(first, second, third),
+        }
+    }
+
+    /// The empty text.
+    pub fn new() -> Self
+        ensures { result ≡ [] }
+    {
+        NodeText::of_parts("", "", "")
+    }
+
+    /// A copy of a text of at most `MAX_BYTES` bytes.
+    pub fn from_str(text: &str) -> Self
+        requires { length text.now ≤ 984 }
+        ensures value { result ≡ chars text.now }
+        ensures len { byte_len result ≡ length text.now }
+    {
+        NodeText::of_parts(text, "", "")
+    }
+
+    /// The text.
+    pub fn as_str(&self) -> &str
+        ensures bytes { result.now ≡ encode_utf8_all self.now }
+        ensures chars { chars result.now ≡ self.now }
+        ensures fits { byte_len self.now ≤ 984 }
+        ensures scalars { all_scalars self.now ≡ true }
+    {
+        self.text.as_str()
+    }
+
+    /// The length in bytes.
+    pub fn len(&self) -> usize
+        ensures value { result ≡ byte_len self.now }
+        ensures fits { result ≤ 984 }
+    {
+        self.as_str().len()
+    }
+
+    /// The number of characters.
+    pub fn count_chars(&self) -> usize
+        ensures { result ≡ length self.now }
+    {
+        count_chars(self.as_str())
+    }
+
+    /// Puts `text` before the character `at`, or at the end.
+    pub fn insert_str(&mut self, at: usize, text: &str)
+        requires { byte_len self.old + length text.now ≤ 984 }
+        ensures value { self.new ≡ inserted self.old at (chars text.now) }
+        ensures len { byte_len self.new ≡ byte_len self.old + length text.now }
+    {
+        let old = self.as_str();
+        let place = char_to_byte_idx(old, at);
+        *self = NodeText::of_parts(&old[..place], text, &old[place..]);
+    }
+
+    /// Puts `text` at the end.
+    pub fn push_str(&mut self, text: &str)
+        requires { byte_len self.old + length text.now ≤ 984 }
+        ensures value { self.new ≡ self.old ++ chars text.now }
+        ensures len { byte_len self.new ≡ byte_len self.old + length text.now }
+    {
+        *self = NodeText::of_parts(self.as_str(), text, "");
+    }
+
+    /// Takes the characters from `start` up to `end` out.
+    pub fn remove_range(&mut self, start: usize, end: usize)
+        requires { start ≤ end }
+        ensures { self.new ≡ removed self.old start end }
+    {
+        let old = self.as_str();
+        let from = char_to_byte_idx(old, start);
+        let to = char_to_byte_idx(old, end);
+        *self = NodeText::of_parts(&old[..from], &old[to..], "");
+    }
+
+    /// Keeps the first `len` characters.
+    pub fn truncate(&mut self, len: usize)
+        ensures { self.new ≡ take len self.old }
+    {
+        let old = self.as_str();
+        let to = char_to_byte_idx(old, len);
+        *self = NodeText::of_parts(&old[..to], "", "");
+    }
+
+    /// Leaves the first `at` characters, and returns the others.
+    pub fn split_off(&mut self, at: usize) -> NodeText
+        ensures front { self.new ≡ take at self.old }
+        ensures back { result ≡ drop at self.old }
+    {
+        let old = self.as_str();
+        let place = char_to_byte_idx(old, at);
+        let back = NodeText::of_parts(&old[place..], "", "");
+        *self = NodeText::of_parts(&old[..place], "", "");
+        back
+    }
+
+    /// Puts `text` before the character `at`, or at the end, where one leaf cannot hold both: leaves the first part, and
+    /// returns the second. No part is empty, and the cut parts no CR from an LF.
+    pub fn insert_str_split(&mut self, at: usize, text: &str) -> NodeText
+        requires long { 985 ≤ byte_len self.old + length text.now }
+        requires short { byte_len self.old + length text.now ≤ 1965 }
+        ensures joined { self.new ++ result ≡ inserted self.old at (chars text.now) }
+        ensures front { 0 < length self.new }
+        ensures back { 0 < length result }
+        ensures apart { parts_crlf self.new result ≡ false }
+    {
+        let old = self.as_str();
+        let place = char_to_byte_idx(old, at);
+        let whole = join_parts::<1965>(&old[..place], text, &old[place..]);
+        let whole = whole.as_str();
+        let cut = split_place(whole);
+        let back = NodeText::of_parts(&whole[cut..], "", "");
+        *self = NodeText::of_parts(&whole[..cut], "", "");
+        back
+    }
+
+    /// Puts `text` before the character `at`, or at the end: in this leaf, or, where it cannot hold both, in this one
+    /// and the one that is returned.
+    pub fn insert_or_split(&mut self, at: usize, text: &str) -> Option<NodeText>
+        requires { length text.now ≤ 981 }
+        ensures one { IfNone result ((byte_len self.old + length text.now ≤ 984) × (self.new ≡ inserted self.old at (chars text.now))) }
+        ensures two { IfSome result (λ back. (985 ≤ byte_len self.old + length text.now) × (self.new ++ back ≡ inserted self.old at (chars text.now))) }
+        ensures parts { IfSome result (λ back. (0 < length self.new) × (0 < length back) × (parts_crlf self.new back ≡ false)) }
+    {
+        if self.len() + text.len() <= MAX_BYTES {
+            self.insert_str(at, text);
+            None
+        } else {
+            Some(self.insert_str_split(at, text))
+        }
+    }
+}
+
+/// The byte at which the first leaf of a longer text ends: the last cut by which it has `MAX_BYTES` bytes at the most.
+pub fn first_leaf_len(text: &str) -> usize
+    requires { 984 < length text.now }
+    ensures boundary { IsCharBoundary text.now result }
+    ensures cut { is_cut text.now result ≡ true }
+    ensures long { 981 ≤ result }
+    ensures short { result ≤ 984 }
+    ensures last { (k : ℕ) → k ≤ 984 → IsTrue (is_cut text.now k) → k ≤ result }
+{
+    prev_break(text.as_bytes(), MAX_BYTES + 1)
+}
+
+#[cfg(test)]
+mod tests;
