@@ -29,4 +29,5 @@ pub mod ByteBreakLaws
 pub mod Blocks
 pub mod Marks
 pub mod InfoLaws
+pub mod Fronts
 mod Examples
