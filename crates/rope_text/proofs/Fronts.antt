@@ -127,7 +127,7 @@ break_begins CrLf x y z e = grind (arith, nat_tests)
 break_begins Unicode x y z e = grind (arith, nat_tests)
 
 -- the first character of what follows the place p
-first_after : (set : LineBreaks) (bs : List ℕ) (p k : ℕ) → IsUtf8 bs → byte_len (take k (chars bs)) ≡ p → k < length (chars bs)
+pub first_after : (set : LineBreaks) (bs : List ℕ) (p k : ℕ) → IsUtf8 bs → byte_len (take k (chars bs)) ≡ p → k < length (chars bs)
     → (break_at set (get_or bs p 0) (get_or bs (p + 1) 0) (get_or bs (p + 2) 0) ≡ ends_break set (get_or (chars bs) k 0) (drop (suc k) (chars bs)))
     × (char_width (get_or bs p 0) ≡ length (encode_utf8 (get_or (chars bs) k 0)))
 first_after set bs p k u place less =

@@ -30,4 +30,5 @@ pub mod Blocks
 pub mod Marks
 pub mod InfoLaws
 pub mod Fronts
+pub mod LastBreakLaws
 mod Examples
