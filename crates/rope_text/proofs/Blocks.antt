@@ -1,6 +1,7 @@
 -- The breaks that begin in a part of the bytes, place by place.
-use Rattle.std.proofs.Common.{◌≡◌, ℕ, zero, suc, ◌+◌, ◌<◌, ◌≤◌, Bool, true, false, cond, List, [], ◌∷◌, length, take, drop, get_or, count_by, ap, ◌∙◌, arith}
+use Rattle.std.proofs.Common.{◌≡◌, ℕ, zero, suc, ◌+◌, ◌<◌, ◌≤◌, Bool, true, false, cond, List, [], ◌∷◌, length, take, drop, get_or, count_by, refl, sym, ap, ◌∙◌, arith, ◌&&◌, ◌||◌}
 use Rattle.std.specs.List.{range_with_len}
+use Rattle.std.proofs.lemmas.Bool.{both_ways}
 use Rattle.std.proofs.lemmas.List.{at_drop_more, get_or-drop}
 use Rattle.std.proofs.lemmas.List.Sums.{sum_by-cons, sum_by-append}
 use Rattle.std.proofs.lemmas.Simd.{chunk-drop}
@@ -39,3 +40,22 @@ byte_breaks_le b (x ∷ xs) = omega (arith, byte_breaks_le b xs, one_at_most (br
 
 pub count_by-block : (p : ℕ → Bool) (xs : List ℕ) (i n : ℕ) → count_by p (drop i xs) ≡ count_by p (take n (drop i xs)) + count_by p (drop (i + n) xs)
 count_by-block p xs i n = ap (count_by p) (chunk-drop i n xs) ∙ sum_by-append (λ x. cond (p x) 1 0) (take n (drop i xs)) (drop (i + n) xs)
+
+-- tests that agree where a third one, which holds nowhere, doesn't
+pub count_by-unless : (p q r : ℕ → Bool) (ks : List ℕ) → ((k : ℕ) → p k ≡ false → q k ≡ r k) → count_by p ks ≡ 0 → count_by q ks ≡ count_by r ks
+count_by-unless p q r [] same none = refl
+count_by-unless p q r (k ∷ ks) same none =
+    let more = sum_by-cons (λ j. cond (p j) 1 0) k ks in
+    go (p k) refl (sym more ∙ none) (count_by-unless p q r ks same)
+  where
+    go : (t : Bool) → p k ≡ t → cond t 1 0 + count_by p ks ≡ 0 → (count_by p ks ≡ 0 → count_by q ks ≡ count_by r ks) → count_by q (k ∷ ks) ≡ count_by r (k ∷ ks)
+    go true e few rest = absurd (omega (arith, few))
+    go false e few rest =
+        sum_by-cons (λ j. cond (q j) 1 0) k ks ∙ rw (same k e, rest (omega (arith, few))) (sym (sum_by-cons (λ j. cond (r j) 1 0) k ks))
+
+pub wide_off : (a b c d e f : Bool) → (c || d) ≡ false → (a || b) ≡ ((a || b) || ((c && e) || (d && f)))
+wide_off true b c d e f h = refl
+wide_off false true c d e f h = refl
+wide_off false false false false e f h = refl
+wide_off false false true d e f h = absurd (both_ways true h refl)
+wide_off false false false true e f h = absurd (both_ways true h refl)

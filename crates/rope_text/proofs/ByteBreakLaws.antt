@@ -8,7 +8,7 @@ use Rattle.std.proofs.lemmas.List.{drop_all}
 use Rattle.rope_text.specs.declared.line_breaks.LineBreaks.{LineBreaks}
 use Rattle.rope_text.specs.declared.line_breaks.LineBreaks.TheVariants.{Lf, CrLf, Unicode}
 use Rattle.rope_text.specs.Breaks.{is_break_char, begins_with_lf, ends_break, break_count}
-use Rattle.rope_text.specs.ByteBreaks.{break_at, byte_breaks}
+use Rattle.rope_text.specs.ByteBreaks.{break_at, byte_breaks, char_width}
 use Rattle.rope_text.proofs.BreakLaws.{break_count-cons, break_ends-nil}
 use Rattle.rope_text.proofs.Encoded.{Encoded, Encoded-encode}
 use Rattle.rope_text.proofs.Encoded.Encoded.{one, two, three, four}
@@ -80,3 +80,17 @@ break_count-chars set bs u = sym (byte_breaks-encodes set (chars bs) (scalars-ch
 
 pub byte_breaks-past : (set : LineBreaks) (bs : List ℕ) (n : ℕ) → length bs ≤ n → byte_breaks set (drop n bs) ≡ 0
 byte_breaks-past set bs n h = ap (byte_breaks set) (drop_all n bs h)
+
+-- the first bytes tell whether the first character ends a break, and how many bytes it has
+pub break_first : (set : LineBreaks) (c : ℕ) (bs rest : List ℕ) (lf : Bool) → Encoded c bs → eqb (get_or rest 0 0) 10 ≡ lf →
+    break_at set (get_or (bs ++ rest) 0 0) (get_or (bs ++ rest) 1 0) (get_or (bs ++ rest) 2 0) ≡ (is_break_char set c && not (eqb c 13 && lf))
+break_first set c bs rest lf (one h) e = lead_one set c rest (get_or rest 1 0) lf h e
+break_first set c bs rest lf (two {x} {y} h i p q) e = lead_two set c x y (get_or rest 0 0) lf h i p q
+break_first set c bs rest lf (three {x} {y} {z} h i p q r) e = lead_three set c x y z lf h i p q r
+break_first set c bs rest lf (four {x} {y} {z} {w} h i p q r s) e = lead_four set c x y z lf h i p
+
+pub width_first : (c : ℕ) (bs rest : List ℕ) → Encoded c bs → char_width (get_or (bs ++ rest) 0 0) ≡ length bs
+width_first c bs rest (one h) = grind (arith, nat_tests)
+width_first c bs rest (two h i p q) = grind (arith, nat_tests)
+width_first c bs rest (three h i p q r) = grind (arith, nat_tests)
+width_first c bs rest (four h i p q r s) = grind (arith, nat_tests)

@@ -35,12 +35,12 @@ count_pairs c =
     (λ _. cond_both (nat_lt c 65536) _ _ P (λ e. let h = ltb-true c 65536 e in rw (lt-leb 65536 c h, lt-leb 240 (224 + c / 4096) (omega arith), later (c / 64), later c) refl)
     (λ e. let h = ltb-false c 65536 e in rw (le-leb 65536 c h, le-leb 240 (240 + c / 262144) (omega arith), later (c / 4096), later (c / 64), later c) refl)))
 
-length-from_bytes : (cs : List ℕ) → count_by begins_char (encode_utf8_all cs) ≡ length cs
+pub length-from_bytes : (cs : List ℕ) → count_by begins_char (encode_utf8_all cs) ≡ length cs
 length-from_bytes [] = refl
 length-from_bytes (c ∷ cs) =
     omega (arith, sum_by-append (λ b. cond (begins_char b) 1 0) (encode_utf8 c) (encode_utf8_all cs), count_begins c, length-from_bytes cs)
 
-pairs-from_bytes : (cs : List ℕ) → count_by begins_pair (encode_utf8_all cs) ≡ count_by (λ c. nat_le 65536 c) cs
+pub pairs-from_bytes : (cs : List ℕ) → count_by begins_pair (encode_utf8_all cs) ≡ count_by (λ c. nat_le 65536 c) cs
 pairs-from_bytes [] = refl
 pairs-from_bytes (c ∷ cs) =
     omega (arith, sum_by-append (λ b. cond (begins_pair b) 1 0) (encode_utf8 c) (encode_utf8_all cs), count_pairs c, pairs-from_bytes cs, sum_by-append (λ c. cond (nat_le 65536 c) 1 0) (c ∷ []) cs)

@@ -29,4 +29,6 @@ pub mod ByteBreakLaws
 pub mod Blocks
 pub mod Marks
 pub mod InfoLaws
+pub mod Fronts
+pub mod LastBreakLaws
 mod Examples

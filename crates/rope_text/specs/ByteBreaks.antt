@@ -1,6 +1,7 @@
--- Line breaks over the bytes of a text. A private working definition: only clauses of private functions cite it.
-use Rattle.std.specs.Prelude.{ℕ, ◌+◌, Bool, cond, not, ◌&&◌, ◌||◌, ◌==◌, List, [], ◌∷◌, get_or}
+-- Line breaks, code units and widths over the bytes of a text. Private working definitions: only clauses of private functions cite it.
+use Rattle.std.specs.Prelude.{ℕ, ◌+◌, Bool, cond, not, count_by, nat_lt, if◌then◌else◌, ◌&&◌, ◌||◌, ◌==◌, List, [], ◌∷◌, get_or}
 use Rattle.std.specs.Int.{is_in_range}
+use Rattle.rope_text.specs.Bytes.{begins_char, begins_pair}
 use Rattle.rope_text.specs.declared.line_breaks.LineBreaks.{LineBreaks}
 use Rattle.rope_text.specs.declared.line_breaks.LineBreaks.TheVariants.{Lf, CrLf, Unicode}
 
@@ -19,3 +20,11 @@ break_at Unicode x y z =
 abbrev pub byte_breaks : LineBreaks → List ℕ → ℕ
 byte_breaks set [] = 0
 byte_breaks set (x ∷ xs) = cond (break_at set x (get_or xs 0 0) (get_or xs 1 0)) 1 0 + byte_breaks set xs
+
+-- how many code units the bytes take in UTF-16
+abbrev pub unit_count : List ℕ → ℕ
+unit_count bytes = count_by begins_char bytes + count_by begins_pair bytes
+
+-- how many bytes the character has that begins with the byte
+abbrev pub char_width : ℕ → ℕ
+char_width b = if nat_lt b 0x80 then 1 else if nat_lt b 0xE0 then 2 else if nat_lt b 0xF0 then 3 else 4

@@ -8,6 +8,7 @@ use Rattle.rope_text.specs.Conversions.{byte_to_char, utf16_to_char, char_to_byt
 use Rattle.rope_text.specs.Cutting.{clip}
 use Rattle.rope_text.specs.Cursor.{Cursor, next_item, after_next, prev_item, after_prev, size_left}
 use Rattle.rope_text.specs.Edit.{inserted, removed}
+use Rattle.rope_text.specs.TextInfo.{info_of, info_sum, shared_breaks, less_breaks}
 use Rattle.rope_text.specs.Position.{char_to_column, position_to_char}
 
 -- what `greatest` says, where 0 passes
@@ -22,6 +23,10 @@ GreatestIsGreatest = (test : ℕ → Bool) (n : ℕ) → test 0 ≡ true → IsG
 -- a character's byte, or its code unit, lies in that character
 abbrev pub CharsRoundTrip : Type 0
 CharsRoundTrip = (text : List ℕ) (i : ℕ) → i ≤ length text → (byte_to_char text (char_to_byte text i) ≡ i) × (utf16_to_char text (char_to_utf16 text i) ≡ i)
+
+-- the counts of joined texts are the sums, with one break less where CR meets LF and is a break by itself
+abbrev pub CountsJoin : Type 0
+CountsJoin = (set : LineBreaks) (s t : List ℕ) → info_of set (s ++ t) ≡ less_breaks (info_sum (info_of set s) (info_of set t)) (shared_breaks set s t)
 
 -- a line's start lies on that line
 abbrev pub LinesRoundTrip : Type 0

@@ -19,3 +19,4 @@ pub mod ErrorText
 pub mod Range
 pub mod ByteBreaks
 pub mod TextInfo
+pub mod LastBreak

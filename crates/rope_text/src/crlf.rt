@@ -137,3 +137,6 @@ pub fn find_good_split(at: usize, text: &[u8], bias_left: bool) -> usize
         before
     }
 }
+
+#[cfg(test)]
+mod tests;

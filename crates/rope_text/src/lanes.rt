@@ -1,7 +1,7 @@
 // Counts over the bytes of a text, 32 bytes at once.
 ghost use Rattle.std.specs.Prelude.{◌≡◌, ◌+◌, ◌<◌, ◌≤◌, length, count_by, drop, slice_index};
 ghost use Rattle.rope_text.specs.Bytes.{begins_char, begins_pair};
-ghost use Rattle.rope_text.specs.ByteBreaks.{break_at, byte_breaks};
+ghost use Rattle.rope_text.specs.ByteBreaks.{break_at, byte_breaks, unit_count};
 
 use crate::line_breaks::LineBreaks;
 use std::simd::prelude::*;
@@ -57,9 +57,14 @@ fn unicode_breaks_in(bytes: &[u8], at: usize) -> u32
 {
     let x = u8x32::from_slice(&bytes[at..]);
     let y = u8x32::from_slice(&bytes[at + 1..]);
-    let z = u8x32::from_slice(&bytes[at + 2..]);
     let low = x.simd_ge(u8x32::splat(10)) & x.simd_le(u8x32::splat(12));
     let lone_cr = x.simd_eq(u8x32::splat(b'\r')) & y.simd_ne(u8x32::splat(b'\n'));
+    // Most blocks have no byte that begins NEL, LS or PS.
+    let wide_begin = x.simd_eq(u8x32::splat(0xC2)) | x.simd_eq(u8x32::splat(0xE2));
+    if wide_begin.to_bitmask() == 0 {
+        return (low | lone_cr).to_bitmask().count_ones();
+    }
+    let z = u8x32::from_slice(&bytes[at + 2..]);
     let nel = x.simd_eq(u8x32::splat(0xC2)) & y.simd_eq(u8x32::splat(0x85));
     let separator = z.simd_eq(u8x32::splat(0xA8)) | z.simd_eq(u8x32::splat(0xA9));
     let wide = x.simd_eq(u8x32::splat(0xE2)) & (y.simd_eq(u8x32::splat(0x80)) & separator);
@@ -109,8 +114,12 @@ pub(crate) fn is_break_begin(bytes: &[u8], at: usize, set: LineBreaks) -> bool
     requires { at < length bytes.now }
     ensures { result ≡ break_at set (slice_index bytes.now at) (slice_index bytes.now (at + 1)) (slice_index bytes.now (at + 2)) }
 {
+    let byte = bytes[at];
+    if byte > b'\r' && byte != 0xC2 && byte != 0xE2 {
+        return false;
+    }
     let next = byte_or_zero(bytes, at + 1);
-    begins_break(bytes[at], next, byte_or_zero(bytes, at + 2), set)
+    begins_break(byte, next, byte_or_zero(bytes, at + 2), set)
 }
 
 // The breaks that begin from `from` on and before `to`, a byte at a time.
@@ -156,6 +165,20 @@ pub(crate) fn count_pairs(bytes: &[u8]) -> usize
         i += 32;
     }
     total + bytes[i..].iter().filter(|b| **b >= 0xF0).count()
+}
+
+/// How many code units the bytes take in UTF-16.
+pub(crate) fn count_units(bytes: &[u8]) -> usize
+    ensures { result ≡ unit_count bytes.now }
+{
+    let mut total = 0;
+    let mut i = 0;
+    while bytes.len() - i >= 32 {
+        total += chars_in(bytes, i) as usize + pairs_in(bytes, i) as usize;
+        i += 32;
+    }
+    let rest = &bytes[i..];
+    total + count_begins(rest) + count_pairs(rest)
 }
 
 /// How many breaks begin before the byte `to`.

@@ -8,6 +8,7 @@ mod lanes;
 pub mod laws;
 pub mod line_breaks;
 pub mod range;
+mod seek;
 pub mod steps;
 pub mod str_utils;
 pub mod text_info;

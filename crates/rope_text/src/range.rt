@@ -124,3 +124,6 @@ pub fn char_bounds<R: IndexRange>(range: &R, len: usize) -> Result<(usize, usize
     }
     Ok((start, end))
 }
+
+#[cfg(test)]
+mod tests;

@@ -80,3 +80,6 @@ impl TextInfo {
         }
     }
 }
+
+#[cfg(test)]
+mod tests;

@@ -1,0 +1,171 @@
+-- A place in the bytes of a text where a character begins, as the characters before it.
+use Rattle.std.proofs.Common.{◌≡◌, ℕ, suc, ◌+◌, ◌-◌, ◌<◌, ◌≤◌, Bool, true, cond, List, ◌∷◌, ◌++◌, length, take, drop, get_or, count_by, refl, sym, ap, ◌∙◌, arith, take-append-drop, add-one, inl, inr}
+use Rattle.std.proofs.lemmas.Bool.{cases_lt}
+use Rattle.std.proofs.lemmas.Bool.Decides.{nat_tests}
+use Rattle.std.proofs.lemmas.List.{length-append, length-take-le, length-drop, take_at, take_all, drop_more, get_or-drop, get_or_past, get_or_default}
+use Rattle.std.proofs.lemmas.Str.{IsUtf8-take, chars-append, scalars-chars, length-encode}
+use Rattle.std.specs.Char.{encode_utf8}
+use Rattle.std.specs.Str.{chars, IsUtf8, IsCharBoundary, encode_utf8_all, all_scalars}
+use Rattle.rope_text.specs.declared.line_breaks.LineBreaks.{LineBreaks}
+use Rattle.rope_text.specs.declared.line_breaks.LineBreaks.TheVariants.{Lf, CrLf, Unicode}
+use Rattle.rope_text.specs.Text.{byte_len, utf16_len, surrogate_count}
+use Rattle.rope_text.specs.Bytes.{begins_char, begins_pair}
+use Rattle.rope_text.specs.ByteBreaks.{break_at, byte_breaks, unit_count, char_width}
+use Rattle.rope_text.specs.Breaks.{begins_with_lf, ends_break, break_ends, break_count}
+use Rattle.rope_text.specs.Lines.{line_start}
+use Rattle.rope_text.specs.Conversions.{byte_to_char, utf16_to_char, char_to_line}
+use Rattle.rope_text.proofs.Blocks.{count_by-block}
+use Rattle.rope_text.proofs.ByteLaws.{length-chars, utf16_len-chars, length-from_bytes, pairs-from_bytes}
+use Rattle.rope_text.proofs.ByteBreakLaws.{byte_breaks-encodes, break_count-chars, byte_breaks-past, break_first, width_first}
+use Rattle.rope_text.proofs.ConversionLaws.{byte_to_char_is, utf16_to_char_is, byte_len_more, char_to_line_more, char_to_line_past}
+use Rattle.rope_text.proofs.Encoded.{Encoded-encode}
+use Rattle.rope_text.proofs.FirstBytes.{first_scalar, rest_scalars, starts_same}
+use Rattle.rope_text.proofs.Measures.{size_lt, size_le, IsMeasure-byte_len, IsMeasure-utf16_len}
+use Rattle.rope_text.proofs.SliceLaws.{break_count-drop}
+use Rattle.rope_text.proofs.TextParts.{take-bytes, drop-bytes, all_scalars-drop, byte_len_boundary}
+use Rattle.rope_text.proofs.Walks.{byte_len-chars, line_start_is}
+
+-- the bytes before a boundary are those of the first characters
+pub front_at : (bs : List ℕ) (p : ℕ) → IsUtf8 bs → IsCharBoundary bs p → (k : ℕ) × (k ≤ length (chars bs)) × (byte_len (take k (chars bs)) ≡ p)
+front_at bs p u b =
+    let front = IsUtf8-take bs p u b in
+    let parts : chars bs ≡ chars (take p bs) ++ chars (drop p bs) = ap chars (sym (take-append-drop p bs)) ∙ chars-append (take p bs) (drop p bs) front in (
+      length (chars (take p bs)),
+      omega (arith, ap length parts, length-append (chars (take p bs)) (chars (drop p bs))),
+      ap byte_len (ap (take (length (chars (take p bs)))) parts ∙ take_at (chars (take p bs)) (chars (drop p bs)) _ refl)
+          ∙ byte_len-chars (take p bs) front ∙ length-take-le p bs b.0,
+    )
+
+pub boundary_of_begin : (bs : List ℕ) (p : ℕ) → p ≤ length bs → (p < length bs → begins_char (get_or bs p 0) ≡ true) → IsCharBoundary bs p
+boundary_of_begin bs p within begins = (within, λ l big. let b = begins l in grind (arith, nat_tests))
+
+-- what the bytes before the k-th character count, and those after it
+pub begins_before : (bs : List ℕ) (k : ℕ) → IsUtf8 bs → k ≤ length (chars bs) → count_by begins_char (take (byte_len (take k (chars bs))) bs) ≡ k
+begins_before bs k u few = ap (count_by begins_char) (take-bytes bs k u) ∙ length-from_bytes (take k (chars bs)) ∙ length-take-le k (chars bs) few
+
+pub pairs_before : (bs : List ℕ) (k : ℕ) → IsUtf8 bs → count_by begins_pair (take (byte_len (take k (chars bs))) bs) ≡ surrogate_count (take k (chars bs))
+pairs_before bs k u = ap (count_by begins_pair) (take-bytes bs k u) ∙ pairs-from_bytes (take k (chars bs))
+
+begins_from : (bs : List ℕ) (k : ℕ) → IsUtf8 bs → count_by begins_char (drop (byte_len (take k (chars bs))) bs) ≡ length (drop k (chars bs))
+begins_from bs k u = ap (count_by begins_char) (drop-bytes bs k u) ∙ length-from_bytes (drop k (chars bs))
+
+units_from : (bs : List ℕ) (k : ℕ) → IsUtf8 bs → unit_count (drop (byte_len (take k (chars bs))) bs) ≡ utf16_len (drop k (chars bs))
+units_from bs k u = ap unit_count (drop-bytes bs k u) ∙ omega (arith, length-from_bytes (drop k (chars bs)), pairs-from_bytes (drop k (chars bs)))
+
+breaks_from : (set : LineBreaks) (bs : List ℕ) (k : ℕ) → IsUtf8 bs → byte_breaks set (drop (byte_len (take k (chars bs))) bs) ≡ break_count set (drop k (chars bs))
+breaks_from set bs k u = ap (byte_breaks set) (drop-bytes bs k u) ∙ byte_breaks-encodes set (drop k (chars bs)) (all_scalars-drop k (chars bs) (scalars-chars bs u))
+
+-- the byte that has n characters before it, or the end
+pub char_place : (bs : List ℕ) (n p : ℕ) → IsUtf8 bs → p ≤ length bs
+    → (p < length bs → (count_by begins_char bs ≡ n + count_by begins_char (drop p bs)) × (begins_char (get_or bs p 0) ≡ true))
+    → (p ≡ length bs → count_by begins_char bs ≤ n) → p ≡ byte_len (take n (chars bs))
+char_place bs n p u within inside end =
+    elim (cases_lt p (length bs)) [
+      | inl less ↦
+          let f = front_at bs p u (boundary_of_begin bs p within (λ l. (inside l).1)) in
+          let rest = rw f.2 at (begins_from bs f.0 u) in
+          let same : f.0 ≡ n = omega (arith, f.1, rest, (inside less).0, length-chars bs u, length-drop f.0 (chars bs)) in
+          sym f.2 ∙ ap (λ j. byte_len (take j (chars bs))) same
+      | inr past ↦
+          let whole : p ≡ length bs = omega arith in
+          whole ∙ sym (byte_len-chars bs u) ∙ ap byte_len (sym (take_all n (chars bs) (omega (arith, end whole, length-chars bs u))))
+    ]
+
+-- the last boundary up to byte b is where the character that holds b begins
+pub byte_place : (bs : List ℕ) (b p : ℕ) → IsUtf8 bs → IsCharBoundary bs p → p ≤ b → ((k : ℕ) → p < k → k ≤ b → IsCharBoundary bs k → ⊥) → byte_len (take (byte_to_char (chars bs) b) (chars bs)) ≡ p
+byte_place bs b p u at fits last =
+    let f = front_at bs p u at in
+    let same : byte_to_char (chars bs) b ≡ f.0 =
+    byte_to_char_is (chars bs) b f.0 f.1 (omega (arith, f.2))
+    (λ less.
+    let next = byte_len (take (suc f.0) (chars bs)) in
+    let more = size_lt byte_len IsMeasure-byte_len (chars bs) f.0 (suc f.0) (omega arith) less in
+    elim (cases_lt b next) [ inl over ↦ over | inr under ↦ absurd (last next (omega (arith, f.2)) under (byte_len_boundary bs (suc f.0) u)) ]) in
+    ap (λ j. byte_len (take j (chars bs))) same ∙ f.2
+
+units_later : (bs : List ℕ) (i j : ℕ) → i ≤ j → unit_count (drop j bs) ≤ unit_count (drop i bs)
+units_later bs i j l =
+    let same : i + (j - i) ≡ j = omega arith in
+    let chars = rw same at (count_by-block begins_char bs i (j - i)) in
+    let pairs = rw same at (count_by-block begins_pair bs i (j - i)) in
+    omega arith
+
+-- the characters before the one that holds code unit n
+pub unit_place : (bs : List ℕ) (n p : ℕ) → IsUtf8 bs → p ≤ length bs → (p < length bs → begins_char (get_or bs p 0) ≡ true)
+    → unit_count bs ≤ n + unit_count (drop p bs) → (p < length bs → n + unit_count (drop (p + 1) bs) < unit_count bs)
+    → count_by begins_char (take p bs) ≡ utf16_to_char (chars bs) n
+unit_place bs n p u within begins before after =
+    let cs : List ℕ = chars bs in
+    let f = front_at bs p u (boundary_of_begin bs p within begins) in
+    let all = utf16_len-chars bs u in
+    let parts : (k : ℕ) → utf16_len cs ≡ utf16_len (take k cs) + utf16_len (drop k cs) =
+    λ k. ap utf16_len (sym (take-append-drop k cs)) ∙ IsMeasure-utf16_len.joined (take k cs) (drop k cs) in
+    let counted = rw f.2 at (begins_before bs f.0 u f.1) in
+    let rest = rw f.2 at (units_from bs f.0 u) in
+    counted ∙ sym (utf16_to_char_is cs n f.0 f.1 (omega (arith, parts f.0))
+    (λ less.
+    let more = size_lt byte_len IsMeasure-byte_len cs f.0 (suc f.0) (omega arith) less in
+    let most = size_le byte_len IsMeasure-byte_len cs (suc f.0) (length cs) less in
+    let long = ap byte_len (take_all (length cs) cs (omega arith)) ∙ byte_len-chars bs u in
+    let inside : p < length bs = omega (arith, f.2) in
+    let later = units_later bs (p + 1) (byte_len (take (suc f.0) cs)) (omega (arith, f.2)) in
+    omega (arith, parts (suc f.0), units_from bs (suc f.0) u, after inside)))
+
+-- the breaks up to character k are those that begin before its byte
+pub line_place : (set : LineBreaks) (bs : List ℕ) (k : ℕ) → IsUtf8 bs → byte_breaks set bs ≡ char_to_line set (chars bs) k + byte_breaks set (drop (byte_len (take k (chars bs))) bs)
+line_place set bs k u =
+    elim (cases_lt k (length (chars bs))) [
+      | inl less ↦ omega (arith, break_count-drop set (chars bs) k (omega arith), breaks_from set bs k u, break_count-chars set bs u)
+      | inr past ↦
+          let end : length bs ≤ byte_len (take k (chars bs)) = omega (arith, ap byte_len (take_all k (chars bs) past), byte_len-chars bs u) in
+          omega (arith, char_to_line_past set (chars bs) k past, byte_breaks-past set bs (byte_len (take k (chars bs))) end, break_count-chars set bs u)
+    ]
+
+break_begins : (set : LineBreaks) (x y z : ℕ) → break_at set x y z ≡ true → begins_char x ≡ true
+break_begins Lf x y z e = grind (arith, nat_tests)
+break_begins CrLf x y z e = grind (arith, nat_tests)
+break_begins Unicode x y z e = grind (arith, nat_tests)
+
+-- the first character of what follows the place p
+pub first_after : (set : LineBreaks) (bs : List ℕ) (p k : ℕ) → IsUtf8 bs → byte_len (take k (chars bs)) ≡ p → k < length (chars bs)
+    → (break_at set (get_or bs p 0) (get_or bs (p + 1) 0) (get_or bs (p + 2) 0) ≡ ends_break set (get_or (chars bs) k 0) (drop (suc k) (chars bs)))
+    × (char_width (get_or bs p 0) ≡ length (encode_utf8 (get_or (chars bs) k 0)))
+first_after set bs p k u place less =
+    let cs : List ℕ = chars bs in
+    let c : ℕ = get_or cs k 0 in
+    let rest : List ℕ = drop (suc k) cs in
+    let split : drop k cs ≡ c ∷ rest = rw (add-one k) at (drop_more cs k 0 less) in
+    let bytes : drop p bs ≡ encode_utf8 c ++ encode_utf8_all rest = ap (λ q. drop q bs) (sym place) ∙ drop-bytes bs k u ∙ ap encode_utf8_all split in
+    let scalars : all_scalars (c ∷ rest) ≡ true = ap all_scalars (sym split) ∙ all_scalars-drop k cs (scalars-chars bs u) in
+    let whole = Encoded-encode c (first_scalar c rest scalars) in
+    let lf = starts_same rest (rest_scalars c rest scalars) in
+    let at : (j : ℕ) → get_or bs (p + j) 0 ≡ get_or (encode_utf8 c ++ encode_utf8_all rest) j 0 = λ j. sym (get_or-drop p bs j 0) ∙ ap (λ ds. get_or ds j 0) bytes in
+    let first : get_or bs p 0 ≡ get_or (encode_utf8 c ++ encode_utf8_all rest) 0 0 = ap (λ q. get_or bs q 0) (let e : p ≡ p + 0 = omega arith in e) ∙ at 0 in
+    (rw (first, at 1, at 2) (break_first set c (encode_utf8 c) (encode_utf8_all rest) (begins_with_lf rest) whole lf), rw first (width_first c (encode_utf8 c) (encode_utf8_all rest) whole))
+
+-- the end of the n-th break is where line n + 1 starts
+pub break_place : (set : LineBreaks) (bs : List ℕ) (n p : ℕ) → IsUtf8 bs → p < length bs → byte_breaks set bs ≡ n + byte_breaks set (drop p bs)
+    → break_at set (get_or bs p 0) (get_or bs (p + 1) 0) (get_or bs (p + 2) 0) ≡ true
+    → p + char_width (get_or bs p 0) ≡ byte_len (take (line_start set (chars bs) (suc n)) (chars bs))
+break_place set bs n p u inside before begin =
+    let cs : List ℕ = chars bs in
+    let f = front_at bs p u (boundary_of_begin bs p (omega arith) (λ _. break_begins set (get_or bs p 0) (get_or bs (p + 1) 0) (get_or bs (p + 2) 0) begin)) in
+    let few : f.0 < length cs = elim (cases_lt f.0 (length cs)) [
+      | inl less ↦ less
+      | inr past ↦ absurd (omega (arith, f.2, ap byte_len (take_all f.0 cs past), byte_len-chars bs u))
+    ] in
+    let first = first_after set bs p f.0 u f.2 few in
+    let line : char_to_line set cs f.0 ≡ n = omega (arith, rw f.2 at (line_place set bs f.0 u)) in
+    let ended : cond {A = ℕ} (ends_break set (get_or cs f.0 0) (drop (suc f.0) cs)) 1 0 ≡ 1 = ap (λ (t : Bool). cond {A = ℕ} t 1 0) (sym first.0 ∙ begin) in
+    let next : line_start set cs (suc n) ≡ suc f.0 =
+    line_start_is set cs (suc n) (suc f.0) few (λ _. omega (arith, line)) (λ less. omega (arith, line, ended, char_to_line_more set cs f.0 few)) in
+    let size : byte_len (take (suc f.0) cs) ≡ p + char_width (get_or bs p 0) =
+    byte_len_more cs f.0 (get_or cs f.0 0) (few, get_or_default cs f.0 0 (get_or cs f.0 0) few) ∙ omega (arith, f.2, first.1, length-encode (get_or cs f.0 0)) in
+    sym size ∙ ap (λ j. byte_len (take j cs)) (sym next)
+
+-- past the last break a line starts at the end
+pub no_break_place : (set : LineBreaks) (bs : List ℕ) (n : ℕ) → IsUtf8 bs → byte_breaks set bs ≤ n → byte_len (take (line_start set (chars bs) (suc n)) (chars bs)) ≡ length bs
+unfolding line_start
+no_break_place set bs n u few =
+    let past : line_start set (chars bs) (suc n) ≡ length (chars bs) = get_or_past (break_ends set (chars bs)) n (length (chars bs)) (omega (arith, break_count-chars set bs u)) in
+    ap byte_len (ap (λ j. take j (chars bs)) past ∙ take_all (length (chars bs)) (chars bs) (omega arith)) ∙ byte_len-chars bs u
