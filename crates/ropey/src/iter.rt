@@ -31,7 +31,7 @@ impl<'a> Model for Chunks<'a> {
 
 impl<'a> Chunks<'a> {
     // Before the first chunk.
-    pub fn new(leaves: &'a [Leaf]) -> Chunks<'a>
+    pub(crate) fn new(leaves: &'a [Leaf]) -> Chunks<'a>
         ensures { result ≡ at_start leaves.entry.now }
     {
         Chunks { leaves, place: 0 }
@@ -56,3 +56,6 @@ impl<'a> Iterator for Chunks<'a> {
         Some(leaf.as_str())
     }
 }
+
+#[cfg(test)]
+mod tests;
