@@ -1,0 +1,21 @@
+-- When an insert is refused, but for memory.
+use Rattle.std.proofs.Common.{◌≡◌, ℕ, ◌+◌, ◌^◌, ◌<◌, ◌≤◌, List, [], ◌++◌, length, take, drop, refl, ap, ◌∙◌, sym, Some, None, take-append-drop}
+use Rattle.std.proofs.lemmas.Bool.{cond-true, cond-false, le-leb, lt-leb, lt-ltb, le-ltb}
+use Rattle.std.proofs.lemmas.List.{append-nil}
+use Rattle.rope_text.specs.declared.error.Error.TheVariants.{CharIndexOutOfBounds, TooLong}
+use Rattle.rope_text.specs.Text.{byte_len}
+use Rattle.rope_text.specs.Edit.{inserted, insert_error, or_else, char_index_error, size_error}
+
+in_range : (text : List ℕ) (i : ℕ) (new : List ℕ) → i ≤ length text → insert_error text i new ≡ size_error (byte_len text + byte_len new)
+in_range text i new within = ap (λ o. or_else o (size_error (byte_len text + byte_len new))) (cond-true _ _ _ (le-leb i (length text) within))
+
+pub insert_error-none : (text : List ℕ) (i : ℕ) (new : List ℕ) → i ≤ length text → byte_len text + byte_len new < 2 ^ 63 → insert_error text i new ≡ None
+insert_error-none text i new within fits = in_range text i new within ∙ cond-true _ _ _ (lt-ltb (byte_len text + byte_len new) (2 ^ 63) fits)
+
+pub insert_error-long : (text : List ℕ) (i : ℕ) (new : List ℕ) → i ≤ length text → 2 ^ 63 ≤ byte_len text + byte_len new → insert_error text i new ≡ Some TooLong
+insert_error-long text i new within over = in_range text i new within ∙ cond-false _ _ _ (le-ltb (byte_len text + byte_len new) (2 ^ 63) over)
+
+-- the empty text changes nothing
+pub inserted_none : (text : List ℕ) (i : ℕ) (new : List ℕ) → new ≡ [] → text ≡ inserted text i new
+inserted_none text i new none =
+    sym (take-append-drop i text) ∙ ap (λ t. t ++ drop i text) (sym (append-nil (take i text))) ∙ ap (λ n. (take i text ++ n) ++ drop i text) (sym none)

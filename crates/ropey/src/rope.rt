@@ -1,0 +1,189 @@
+// The rope.
+ghost use Rattle.std.specs.Prelude.{◌≡◌, ℕ, ◌+◌, ◌<◌, ◌≤◌, length, ◌^◌, None, IsOk, IfOk, IfErr, OnOk, OnErr};
+ghost use Rattle.std.specs.Str.{chars};
+ghost use Rattle.rope_text.specs.declared.error.Error.TheVariants.{OutOfMemory};
+ghost use Rattle.rope_text.specs.declared.line_breaks.LineBreaks.TheVariants.{Unicode};
+ghost use Rattle.rope_text.specs.Text.{byte_len, utf16_len};
+ghost use Rattle.rope_text.specs.Lines.{line_count};
+ghost use Rattle.rope_text.specs.Content.{IsRope, HasFewChunks};
+ghost use Rattle.rope_text.specs.Edit.{inserted, insert_error, IsRefusal};
+ghost use Rattle.rope_text.specs.Sides.{at_start};
+
+use crate::iter::Chunks;
+use crate::leaf::{Leaf, cut_into_leaves, replace_leaf, text_with};
+use crate::place::insert_place;
+use rope_text::str_utils::{count_breaks, count_chars, count_utf16};
+use rope_text::{Error, LineBreaks, Result};
+use std::alloc::Global;
+use std::marker::Model;
+
+/// A text of at most `isize::MAX` bytes, cut into chunks of 1 to `MAX_BYTES` bytes.
+#[derive(Drop)]
+pub struct Rope {
+    leaves: Vec<Leaf>,
+    breaks: LineBreaks,
+    bytes: usize,
+    characters: usize,
+    code_units: usize,
+    line_breaks: usize,
+    alloc: Global,
+}
+
+impl Model for Rope {
+    ghost use Rattle.std.specs.List.{concat};
+    ghost use Rattle.rope_text.specs.Content.{Content, IsRope};
+    ghost use Rattle.ropey.specs.Kept.{content_of, AreLengths};
+
+    ghost Value = { Content };
+
+    ghost view = { λ r. content_of r.leaves.items r.breaks };
+
+    ghost invariant = { λ r. IsRope (content_of r.leaves.items r.breaks)
+        × AreLengths (concat r.leaves.items) r.breaks r.bytes r.characters r.code_units r.line_breaks };
+}
+
+// The bytes that a text has at the most.
+const MAX_TEXT_BYTES: usize = isize::MAX as usize;
+
+impl Rope {
+    /// A copy of the text, with Unicode's line breaks, in at most one chunk for each 981 bytes and one more for the rest.
+    /// It takes memory, and refuses for want of it alone.
+    pub fn from_str(alloc: Global, text: &str) -> Result<Rope>
+        ensures text { IfOk result (λ rope. rope.text ≡ chars text.now) }
+        ensures breaks { IfOk result (λ rope. rope.breaks ≡ Unicode) }
+        ensures kept { IfOk result IsRope }
+        ensures few { IfOk result HasFewChunks }
+        ensures err { IfErr result (λ e. e ≡ OutOfMemory) }
+    {
+        Rope::with_breaks(alloc, text, LineBreaks::Unicode)
+    }
+
+    // A copy of the text with this set of line breaks.
+    fn with_breaks(alloc: Global, text: &str, breaks: LineBreaks) -> Result<Rope>
+        ensures text { IfOk result (λ rope. rope.text ≡ chars text.now) }
+        ensures breaks { IfOk result (λ rope. rope.breaks ≡ breaks) }
+        ensures kept { IfOk result IsRope }
+        ensures few { IfOk result HasFewChunks }
+        ensures err { IfErr result (λ e. e ≡ OutOfMemory) }
+    {
+        let leaves = cut_into_leaves(alloc, text)?;
+        Ok(Rope {
+            leaves,
+            breaks,
+            bytes: text.len(),
+            characters: count_chars(text),
+            code_units: count_utf16(text),
+            line_breaks: count_breaks(text, breaks),
+            alloc,
+        })
+    }
+
+    /// The length in bytes. No text is read.
+    pub fn len_bytes(&self) -> usize
+        ensures value { result ≡ byte_len self.now.text }
+        ensures kept { IsRope self.now }
+    {
+        self.bytes
+    }
+
+    /// The length in characters. No text is read.
+    pub fn len_chars(&self) -> usize
+        ensures { result ≡ length self.now.text }
+    {
+        self.characters
+    }
+
+    /// The number of lines: one more than there are line breaks. No text is read.
+    pub fn len_lines(&self) -> usize
+        ensures { result ≡ line_count self.now.breaks self.now.text }
+    {
+        self.line_breaks + 1
+    }
+
+    /// The length in code units of UTF-16. No text is read.
+    pub fn len_utf16_cu(&self) -> usize
+        ensures { result ≡ utf16_len self.now.text }
+    {
+        self.code_units
+    }
+
+    /// Puts `text` before the character `char_idx`, or at the end.
+    ///
+    /// It refuses a character past the end, then a text longer than `isize::MAX` bytes, then for want of memory, and
+    /// leaves the rope as it was where it refuses. An empty text takes no memory.
+    pub fn try_insert(&mut self, char_idx: usize, text: &str) -> Result<()>
+        ensures ok { OnOk result ((insert_error self.old.text char_idx (chars text.now) ≡ None)
+            × (self.new.text ≡ inserted self.old.text char_idx (chars text.now))) }
+        ensures refused { IfErr result (IsRefusal (insert_error self.old.text char_idx (chars text.now))) }
+        ensures err { OnErr result (self.new ≡ self.old) }
+        ensures empty { length (chars text.now) ≡ 0 → insert_error self.old.text char_idx (chars text.now) ≡ None
+            → IsOk result × (self.new ≡ self.old) }
+        ensures breaks { self.new.breaks ≡ self.old.breaks }
+        ensures kept { IsRope self.new }
+    {
+        let bytes = self.len_bytes();
+        let len = self.len_chars();
+        if char_idx > len {
+            return Err(Error::CharIndexOutOfBounds(char_idx, len));
+        }
+        if text.len() > MAX_TEXT_BYTES - bytes {
+            return Err(Error::TooLong);
+        }
+        if text.is_empty() {
+            return Ok(());
+        }
+        self.insert_at(char_idx, text)
+    }
+
+    /// Puts `text` before a character of the rope, or at the end, as `try_insert` does.
+    pub fn insert(&mut self, char_idx: usize, text: &str) -> Result<()>
+        requires { char_idx ≤ length self.old.text }
+        ensures ok { OnOk result ((insert_error self.old.text char_idx (chars text.now) ≡ None)
+            × (self.new.text ≡ inserted self.old.text char_idx (chars text.now))) }
+        ensures refused { IfErr result (IsRefusal (insert_error self.old.text char_idx (chars text.now))) }
+        ensures err { OnErr result (self.new ≡ self.old) }
+        ensures empty { length (chars text.now) ≡ 0 → insert_error self.old.text char_idx (chars text.now) ≡ None
+            → IsOk result × (self.new ≡ self.old) }
+        ensures breaks { self.new.breaks ≡ self.old.breaks }
+        ensures kept { IsRope self.new }
+    {
+        self.try_insert(char_idx, text)
+    }
+
+    // Puts a text that isn't empty where only want of memory refuses it.
+    fn insert_at(&mut self, char_idx: usize, text: &str) -> Result<()>
+        requires within { char_idx ≤ length self.old.text }
+        requires fits { byte_len self.old.text + length text.now < 2 ^ 63 }
+        requires some { 0 < length text.now }
+        ensures ok { OnOk result (self.new.text ≡ inserted self.old.text char_idx (chars text.now)) }
+        ensures refused { IfErr result (λ e. e ≡ OutOfMemory) }
+        ensures err { OnErr result (self.new ≡ self.old) }
+        ensures breaks { self.new.breaks ≡ self.old.breaks }
+        ensures kept { IsRope self.new }
+    {
+        if self.leaves.is_empty() {
+            *self = Rope::with_breaks(self.alloc, text, self.breaks)?;
+            return Ok(());
+        }
+        let (at, place) = insert_place(self.leaves.as_slice(), char_idx, text);
+        let old = self.leaves[at].as_str();
+        let whole = text_with(self.alloc, old, place, text)?;
+        let whole = whole.as_str();
+        let made = cut_into_leaves(self.alloc, whole)?;
+        let line_breaks = self.line_breaks + count_breaks(whole, self.breaks)
+            - count_breaks(old, self.breaks);
+        replace_leaf(&mut self.leaves, at, made)?;
+        self.bytes += text.len();
+        self.characters += count_chars(text);
+        self.code_units += count_utf16(text);
+        self.line_breaks = line_breaks;
+        Ok(())
+    }
+
+    /// The chunks of the text, in order.
+    pub fn chunks(&self) -> Chunks<'_>
+        ensures { result ≡ at_start self.now.chunks }
+    {
+        Chunks::new(self.leaves.as_slice())
+    }
+}
