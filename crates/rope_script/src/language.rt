@@ -196,3 +196,6 @@ fn quote_char(out: &mut String, c: char) -> Result<(), AllocError> {
         _ => out.push(c),
     }
 }
+
+#[cfg(test)]
+mod tests;

@@ -214,3 +214,6 @@ impl<'a, W: Write> Output<'a, W> {
         self.writer.flush()
     }
 }
+
+#[cfg(test)]
+mod tests;

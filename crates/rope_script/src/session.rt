@@ -1,14 +1,16 @@
 //! Ropes by number, and runs of commands on them.
-ghost use Rattle.std.specs.Prelude.{◌≡◌, ℕ, ◌+◌, ◌<◌, ◌++◌, ◌∷◌, List, [], None, length, All, OnOk, OnErr, IfErr, IfOk, vec_len, vec_capacity, map};
+ghost use Rattle.std.specs.Prelude.{◌≡◌, ℕ, ◌+◌, ◌<◌, ◌++◌, ◌∷◌, List, [], None, length, All, OnOk, OnErr, IfErr, IfOk, MatchOption, vec_len, vec_capacity, map};
 ghost use Rattle.std.specs.Str.{chars};
 ghost use Rattle.std.specs.String.{string_bytes};
 ghost use Rattle.rope_text.specs.declared.error.Error.TheVariants.{OutOfMemory};
 ghost use Rattle.rope_text.specs.declared.line_breaks.LineBreaks.TheVariants.{Unicode};
 ghost use Rattle.rope_text.specs.Content.{HasFewChunks};
+ghost use Rattle.rope_text.specs.Sides.{ahead};
 ghost use Rattle.rope_script.specs.Ask.{Answers};
 ghost use Rattle.rope_script.specs.Step.{Adds, OrNoMemory, OfRope, Inserts, Step, Ran, AsksWhole};
 
 use crate::script::{Command, Query, Reply};
+use ropey::iter::Chunks;
 use ropey::{Error, Result, Rope};
 use std::alloc::Global;
 use std::marker::Model;
@@ -152,8 +154,23 @@ fn chunk_texts(alloc: Global, rope: &Rope) -> Result<Vec<String>>
     ensures memory { IfErr result (λ e. e ≡ OutOfMemory) }
 {
     let mut texts = Vec::new(alloc);
-    for chunk in rope.chunks() {
-        texts.push(String::from_str(alloc, chunk)?)?;
+    let mut chunks = rope.chunks();
+    while let Some(text) = copy_next(alloc, &mut chunks)? {
+        texts.push(text)?;
     }
     Ok(texts)
 }
+
+/// A copy of the next chunk, if there is one.
+fn copy_next(alloc: Global, chunks: &mut Chunks<'_>) -> Result<Option<String>>
+    ensures next { IfOk result (λ next. MatchOption next (ahead chunks.old ≡ []) (λ text. ahead chunks.old ≡ chars (string_bytes text) ∷ ahead chunks.new)) }
+    ensures memory { IfErr result (λ e. e ≡ OutOfMemory) }
+{
+    match chunks.next() {
+        Some(chunk) => Ok(Some(String::from_str(alloc, chunk)?)),
+        None => Ok(None),
+    }
+}
+
+#[cfg(test)]
+mod tests;
