@@ -1,0 +1,201 @@
+//! Commands as lines of text, and replies as lines of text.
+ghost use Rattle.std.specs.Prelude.{IfOk, IfSome};
+ghost use Rattle.rope_script.specs.Step.{AsksWhole};
+
+use crate::script::{Command, Query, Reply};
+use std::alloc::{AllocError, Global};
+use std::fmt::Write as _;
+
+/// The command of a line without its end, or `None` where the line is bad.
+///
+/// A line is words, each parted from the next by one space: `text TEXT`, `ins ROPE INDEX TEXT`,
+/// `len ROPE` or `chunks ROPE`. A TEXT is the rest of the line and may be empty.
+pub(crate) fn parse(alloc: Global, line: &str) -> Result<Option<Command>, AllocError>
+    ensures { IfOk result (λ found. IfSome found AsksWhole) }
+{
+    let Some((name, rest)) = line.split_once(' ') else {
+        return Ok(None);
+    };
+    match name {
+        "text" => make(alloc, rest),
+        "ins" => insert(alloc, rest),
+        "len" => Ok(ask(rest, Query::Lens)),
+        "chunks" => Ok(ask(rest, Query::Chunks)),
+        _ => Ok(None),
+    }
+}
+
+/// `TEXT`, of a rope to be made.
+fn make(alloc: Global, words: &str) -> Result<Option<Command>, AllocError>
+    ensures { IfOk result (λ found. IfSome found AsksWhole) }
+{
+    match unescape(alloc, words)? {
+        Some(text) => Ok(Some(Command::Text(text))),
+        None => Ok(None),
+    }
+}
+
+/// `ROPE INDEX TEXT`, of an insert.
+fn insert(alloc: Global, words: &str) -> Result<Option<Command>, AllocError>
+    ensures { IfOk result (λ found. IfSome found AsksWhole) }
+{
+    let Some((rope, words)) = words.split_once(' ') else {
+        return Ok(None);
+    };
+    let Some((char_idx, text)) = words.split_once(' ') else {
+        return Ok(None);
+    };
+    let (Some(rope), Some(char_idx)) = (number(rope), number(char_idx)) else {
+        return Ok(None);
+    };
+    match unescape(alloc, text)? {
+        Some(text) => Ok(Some(Command::Insert(rope, char_idx, text))),
+        None => Ok(None),
+    }
+}
+
+/// `ROPE`, of a query.
+fn ask(words: &str, query: Query) -> Option<Command>
+    ensures { IfSome result AsksWhole }
+{
+    Some(Command::Ask(number(words)?, None, query))
+}
+
+/// The value of a word of decimal digits alone, where a `usize` holds it.
+fn number(word: &str) -> Option<usize> {
+    if word.starts_with('+') {
+        return None;
+    }
+    word.parse().ok()
+}
+
+/// How far an escape has come.
+#[derive(Clone, Copy)]
+enum Escape {
+    /// No escape has begun.
+    Outside,
+    /// A backslash.
+    Backslash,
+    /// A backslash and `u`.
+    Unicode,
+    /// A backslash, `u{`, and so many hexadecimal digits of this value.
+    Digits(u32, u8),
+}
+
+/// What a character of a line makes.
+enum Made {
+    /// A character of the text. No escape is open after it.
+    Character(char),
+    /// A part of an escape.
+    Part(Escape),
+}
+
+/// The most hexadecimal digits that an escape has.
+const MAX_DIGITS: u8 = 6;
+
+/// The text that a TEXT stands for, or `None` where a backslash is misused: `\n`, `\r`, `\\` and
+/// `\u{H}`, with 1 to 6 hexadecimal digits of a Unicode scalar value, are LF, CR, a backslash and
+/// that character.
+fn unescape(alloc: Global, written: &str) -> Result<Option<String>, AllocError> {
+    let mut text = String::new(alloc);
+    let mut escape = Escape::Outside;
+    for c in written.chars() {
+        match read(escape, c) {
+            Some(Made::Character(character)) => {
+                text.push(character)?;
+                escape = Escape::Outside;
+            }
+            Some(Made::Part(further)) => escape = further,
+            None => return Ok(None),
+        }
+    }
+    match escape {
+        Escape::Outside => Ok(Some(text)),
+        _ => Ok(None),
+    }
+}
+
+/// What the next character makes, or `None` where it may not stand there.
+fn read(escape: Escape, c: char) -> Option<Made> {
+    match (escape, c) {
+        (Escape::Outside, '\\') => Some(Made::Part(Escape::Backslash)),
+        (Escape::Outside, _) => Some(Made::Character(c)),
+        (Escape::Backslash, 'n') => Some(Made::Character('\n')),
+        (Escape::Backslash, 'r') => Some(Made::Character('\r')),
+        (Escape::Backslash, '\\') => Some(Made::Character('\\')),
+        (Escape::Backslash, 'u') => Some(Made::Part(Escape::Unicode)),
+        (Escape::Unicode, '{') => Some(Made::Part(Escape::Digits(0, 0))),
+        (Escape::Digits(value, count), _) => read_digit(value, count, c),
+        _ => None,
+    }
+}
+
+/// What a character makes after so many hexadecimal digits of this value.
+fn read_digit(value: u32, count: u8, c: char) -> Option<Made> {
+    if c == '}' {
+        if count == 0 {
+            return None;
+        }
+        return Some(Made::Character(char::from_u32(value)?));
+    }
+    if count >= MAX_DIGITS {
+        return None;
+    }
+    let digit = c.to_digit(16)?;
+    let further = value.saturating_mul(16).saturating_add(digit);
+    Some(Made::Part(Escape::Digits(further, count + 1)))
+}
+
+/// Adds the line of a reply, its LF with it.
+pub(crate) fn write_reply(out: &mut String, reply: &Reply) -> Result<(), AllocError> {
+    match reply {
+        Reply::Done => out.push_str("ok")?,
+        Reply::Made(rope) => write!(out, "rope {rope}")?,
+        Reply::NoRope => out.push_str("no rope")?,
+        Reply::Refused(error) => write!(out, "error: {error}")?,
+        Reply::Lens(bytes, chars, lines, units) => {
+            write!(out, "{bytes} {chars} {lines} {units}")?;
+        }
+        Reply::Texts(texts) => write_texts(out, texts)?,
+    }
+    out.push('\n')
+}
+
+/// How many texts there are, and each of them quoted.
+fn write_texts(out: &mut String, texts: &[String]) -> Result<(), AllocError> {
+    let count = texts.len();
+    write!(out, "{count}")?;
+    for text in texts {
+        out.push(' ')?;
+        quote(out, text.as_str())?;
+    }
+    Ok(())
+}
+
+/// A text between quotation marks, in one line.
+fn quote(out: &mut String, text: &str) -> Result<(), AllocError> {
+    out.push('"')?;
+    for c in text.chars() {
+        quote_char(out, c)?;
+    }
+    out.push('"')
+}
+
+/// A character of a quoted text: itself, unless it ends a line, has no form of its own, or means
+/// something between quotation marks.
+fn quote_char(out: &mut String, c: char) -> Result<(), AllocError> {
+    match c {
+        '\n' => out.push_str("\\n"),
+        '\r' => out.push_str("\\r"),
+        '\\' => out.push_str("\\\\"),
+        '"' => out.push_str("\\\""),
+        '\0'..='\u{1f}' | '\u{7f}' | '\u{85}' | '\u{2028}' | '\u{2029}' => {
+            let code = c as u32;
+            write!(out, "\\u{{{code:x}}}")
+        }
+        _ => out.push(c),
+    }
+}
+
+#[cfg(test)]
+mod tests;

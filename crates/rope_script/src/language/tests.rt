@@ -1,0 +1,135 @@
+//! Lines of the language, lines that are not, and replies as they are written.
+use super::*;
+use ropey::Error;
+use std::test::Fail;
+
+#[test]
+fn texts(rt: HostRuntime) -> Result<(), Fail> {
+    for (line, text) in [
+        ("text ", ""),
+        ("text  a b ", " a b "),
+        ("text \\n\\r\\\\", "\n\r\\"),
+        ("text a\\u{41}\\u{0085}\\u{10FfFf}\\u{0}z", "aA\u{85}\u{10ffff}\0z"),
+        ("text \"こ", "\"こ"),
+    ] {
+        let found = parse(rt.alloc(), line)?;
+        match &found {
+            Some(Command::Text(made)) => assert_eq!(rt; made.as_str(), text, "at {line}"),
+            _ => assert!(rt; false, "at {line}"),
+        }
+    }
+    Ok(())
+}
+
+#[test]
+fn inserts(rt: HostRuntime) -> Result<(), Fail> {
+    let found = parse(rt.alloc(), "ins 7 18446744073709551615  x\\n")?;
+    match &found {
+        Some(Command::Insert(7, usize::MAX, text)) => assert_eq!(rt; text.as_str(), " x\n"),
+        _ => assert!(rt; false),
+    }
+    let found = parse(rt.alloc(), "ins 0 1 ")?;
+    match &found {
+        Some(Command::Insert(0, 1, text)) => assert_eq!(rt; text.as_str(), ""),
+        _ => assert!(rt; false),
+    }
+    Ok(())
+}
+
+#[test]
+fn queries(rt: HostRuntime) -> Result<(), Fail> {
+    let lens = parse(rt.alloc(), "len 0012")?;
+    assert!(rt; matches!(&lens, Some(Command::Ask(12, None, Query::Lens))));
+    let chunks = parse(rt.alloc(), "chunks 0")?;
+    assert!(rt; matches!(&chunks, Some(Command::Ask(0, None, Query::Chunks))));
+    Ok(())
+}
+
+#[test]
+fn bad_lines(rt: HostRuntime) -> Result<(), Fail> {
+    for line in [
+        "",
+        " ",
+        "text",
+        " text a",
+        "Text a",
+        "frob 0",
+        "new",
+        "show 0",
+        "len",
+        "len ",
+        "len 0 ",
+        "len  0",
+        "len 0 0",
+        "len 0\r",
+        "len 0:0..0",
+        "len -1",
+        "len +1",
+        "len 1_0",
+        "len ١",
+        "len 18446744073709551616",
+        "chunks a",
+        "chunks 0 b 0",
+        "ins 0 0",
+        "ins 0  x",
+        "ins  0 x",
+        "ins a 0 x",
+        "ins 0 a x",
+        "ins 0 0 \\x",
+        "text \\",
+        "text \\N",
+        "text \\\"",
+        "text \\u",
+        "text \\u0041",
+        "text \\u{",
+        "text \\u{}",
+        "text \\u{41",
+        "text \\u{g}",
+        "text \\u{ 41}",
+        "text \\u{0000041}",
+        "text \\u{D800}",
+        "text \\u{110000}",
+    ] {
+        let found = parse(rt.alloc(), line)?;
+        assert!(rt; found.is_none(), "at {line}");
+    }
+    Ok(())
+}
+
+#[test]
+fn replies(rt: HostRuntime) -> Result<(), Fail> {
+    let mut out = String::new(rt.alloc());
+    write_reply(&mut out, &Reply::Done)?;
+    write_reply(&mut out, &Reply::Made(12))?;
+    write_reply(&mut out, &Reply::NoRope)?;
+    write_reply(&mut out, &Reply::Refused(Error::CharIndexOutOfBounds(3, 2)))?;
+    write_reply(&mut out, &Reply::Lens(4, 3, 2, 1))?;
+    assert_eq!(rt;
+        out.as_str(),
+        "ok\nrope 12\nno rope\nerror: Char index out of bounds: char index 3, Rope/RopeSlice char length 2\n4 3 2 1\n"
+    );
+    Ok(())
+}
+
+#[test]
+fn quoted_texts(rt: HostRuntime) -> Result<(), Fail> {
+    let mut texts = Vec::new(rt.alloc());
+    let mut out = String::new(rt.alloc());
+    write_texts(&mut out, &texts)?;
+    assert_eq!(rt; out.as_str(), "0");
+    for text in [
+        "a\n\r\\\"'",
+        "",
+        "\0\t\u{1f} ~\u{7f}\u{80}\u{85}",
+        "\u{2027}\u{2028}\u{2029}\u{202a}\u{10ffff}",
+    ] {
+        texts.push(String::from_str(rt.alloc(), text)?)?;
+    }
+    out.clear();
+    write_texts(&mut out, &texts)?;
+    assert_eq!(rt;
+        out.as_str(),
+        "4 \"a\\n\\r\\\\\\\"'\" \"\" \"\\u{0}\\u{9}\\u{1f} ~\\u{7f}\u{80}\\u{85}\" \"\u{2027}\\u{2028}\\u{2029}\u{202a}\u{10ffff}\""
+    );
+    Ok(())
+}

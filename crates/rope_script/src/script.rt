@@ -1,0 +1,42 @@
+//! Commands, queries and replies.
+use ropey::Error;
+
+/// What a session may be told to do.
+///
+/// Ropes are numbered from 0, in the order in which they were made. A command that names a rope
+/// which does not exist is replied [`Reply::NoRope`], before anything else is tested.
+#[derive(Drop)]
+pub enum Command {
+    /// Makes a rope of this text.
+    Text(String),
+    /// In a rope, before the character of this index, inserts a text.
+    Insert(usize, usize, String),
+    /// Asks a rope. The range is `None`, for the whole rope: a part cannot be asked.
+    Ask(usize, Option<(usize, usize)>, Query),
+}
+
+/// What a rope may be asked.
+#[derive(Drop)]
+pub enum Query {
+    /// Its lengths.
+    Lens,
+    /// Its chunks.
+    Chunks,
+}
+
+/// What a command is replied.
+#[derive(Drop)]
+pub enum Reply {
+    /// An edit was done.
+    Done,
+    /// A rope was made, and has this number.
+    Made(usize),
+    /// There is no rope of the number that the command named, and nothing has changed.
+    NoRope,
+    /// The rope was not made or edited, and this is why. Nothing has changed.
+    Refused(Error),
+    /// How many bytes, characters, lines and UTF-16 code units the rope has.
+    Lens(usize, usize, usize, usize),
+    /// The chunks, in order.
+    Texts(Vec<String>),
+}

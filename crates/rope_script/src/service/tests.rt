@@ -1,0 +1,169 @@
+//! Lines that come in parts, devices that fail, and how a run ends.
+use super::*;
+use std::io::ErrorKind;
+use std::test::Fail;
+
+/// Gives a few bytes a read. At their end it fails, or tells the end.
+#[derive(Drop)]
+struct Dripping<'a> {
+    rest: &'a [u8],
+    step: usize,
+    fails: bool,
+}
+
+impl Read for Dripping<'_> {
+    fn read(&mut self, buf: &mut [u8]) -> io::Result<usize> {
+        let count = self.step.min(self.rest.len()).min(buf.len());
+        if count == 0 && self.fails {
+            return Err(io::Error::from(ErrorKind::Other));
+        }
+        let (given, rest) = self.rest.split_at(count);
+        buf[..count].copy_from_slice(given);
+        self.rest = rest;
+        Ok(count)
+    }
+}
+
+/// Keeps so many bytes, and then fails. Its flush may fail too.
+#[derive(Drop)]
+struct Narrow {
+    kept: Vec<u8>,
+    room: usize,
+    is_flushed: bool,
+    fails_to_flush: bool,
+}
+
+impl Narrow {
+    fn new(rt: &HostRuntime, room: usize) -> Narrow {
+        Narrow {
+            kept: Vec::new(rt.alloc()),
+            room,
+            is_flushed: false,
+            fails_to_flush: false,
+        }
+    }
+}
+
+impl Write for Narrow {
+    fn write(&mut self, buf: &[u8]) -> io::Result<usize> {
+        let count = self.room.min(buf.len());
+        if count == 0 {
+            return Err(io::Error::from(ErrorKind::Other));
+        }
+        self.kept.extend_from_slice(&buf[..count])?;
+        self.room -= count;
+        self.is_flushed = false;
+        Ok(count)
+    }
+
+    fn flush(&mut self) -> io::Result<()> {
+        if self.fails_to_flush {
+            return Err(io::Error::from(ErrorKind::Other));
+        }
+        self.is_flushed = true;
+        Ok(())
+    }
+}
+
+/// How the run over an input ends that comes by so many bytes, and what was written and flushed.
+fn told(rt: &HostRuntime, input: &[u8], step: usize) -> Result<(Ended, String), Fail> {
+    let mut reader = Dripping {
+        rest: input,
+        step,
+        fails: false,
+    };
+    let mut writer = Narrow::new(rt, 1000);
+    let ended = serve(rt.alloc(), &mut reader, &mut writer);
+    if !writer.is_flushed {
+        writer.kept.clear();
+    }
+    Ok((ended, String::from_utf8(writer.kept)?))
+}
+
+#[test]
+fn ends(rt: HostRuntime) -> Result<(), Fail> {
+    for (input, ended, output) in [
+        (b"".as_slice(), Ended::Done, ""),
+        (b"\n".as_slice(), Ended::BadLine(1), ""),
+        (b"text \nlen 0".as_slice(), Ended::Done, "rope 0\n0 0 1 0\n"),
+        (b"text \nfrob\nlen 0\n".as_slice(), Ended::BadLine(2), "rope 0\n"),
+        (b"len 7\n\n".as_slice(), Ended::BadLine(2), "no rope\n"),
+        (b"len 7\r\n".as_slice(), Ended::BadLine(1), ""),
+        (b"len 7\ntext \xff\n".as_slice(), Ended::BadLine(2), "no rope\n"),
+        (
+            b"text \nins 0 0 \nins 0 1 \nchunks 0\ntext \nins 2 0 a\n".as_slice(),
+            Ended::Done,
+            "rope 0\nok\nerror: Char index out of bounds: char index 1, Rope/RopeSlice char length 0\n0\nrope 1\nno rope\n",
+        ),
+    ] {
+        let (slowly, by_bytes) = told(&rt, input, 1)?;
+        let (at_once, by_blocks) = told(&rt, input, 4096)?;
+        assert_eq!(rt; slowly, ended);
+        assert_eq!(rt; at_once, ended);
+        assert_eq!(rt; by_bytes.as_str(), output);
+        assert_eq!(rt; by_blocks.as_str(), output);
+    }
+    Ok(())
+}
+
+#[test]
+fn failed_read(rt: HostRuntime) -> Result<(), Fail> {
+    let mut reader = Dripping {
+        rest: b"text \nlen 0\nlen 0",
+        step: 4,
+        fails: true,
+    };
+    let mut writer = Narrow::new(&rt, 1000);
+    assert_eq!(rt; serve(rt.alloc(), &mut reader, &mut writer), Ended::Failed);
+    assert_eq!(rt; writer.is_flushed, true);
+    assert_eq!(rt; String::from_utf8(writer.kept)?.as_str(), "rope 0\n0 0 1 0\n");
+    Ok(())
+}
+
+#[test]
+fn failed_writes(rt: HostRuntime) -> Result<(), Fail> {
+    for input in [b"text \n".as_slice(), b"text \nfrob\n".as_slice()] {
+        let mut reader = input;
+        let mut writer = Narrow::new(&rt, 3);
+        assert_eq!(rt; serve(rt.alloc(), &mut reader, &mut writer), Ended::Failed);
+        assert_eq!(rt; String::from_utf8(writer.kept)?.as_str(), "rop");
+        let mut reader = input;
+        let mut writer = Narrow::new(&rt, 1000);
+        writer.fails_to_flush = true;
+        assert_eq!(rt; serve(rt.alloc(), &mut reader, &mut writer), Ended::Failed);
+        assert_eq!(rt; String::from_utf8(writer.kept)?.as_str(), "rope 0\n");
+    }
+    Ok(())
+}
+
+#[test]
+fn long_lines_and_replies(rt: HostRuntime) -> Result<(), Fail> {
+    let mut input = Vec::new(rt.alloc());
+    for _ in 0..3 {
+        input.extend_from_slice(b"len ")?;
+        for _ in 0..5000 {
+            input.push(b'0')?;
+        }
+        input.push(b'\n')?;
+    }
+    for _ in 0..2000 {
+        input.extend_from_slice(b"len 1\n")?;
+    }
+    let mut reader = input.as_slice();
+    let mut writer = Narrow::new(&rt, 20000);
+    assert_eq!(rt; serve(rt.alloc(), &mut reader, &mut writer), Ended::Done);
+    assert_eq!(rt; writer.kept.len(), 2003 * 8);
+    let mut reader = input.as_slice();
+    let mut writer = Narrow::new(&rt, 9000);
+    assert_eq!(rt; serve(rt.alloc(), &mut reader, &mut writer), Ended::Failed);
+
+    let mut writer = Narrow::new(&rt, 20000);
+    let mut output = Output::new(&mut writer);
+    output.put(b"ab")?;
+    output.put(&[b'x'; 9000])?;
+    output.put(b"c")?;
+    output.flush()?;
+    assert_eq!(rt; writer.kept.len(), 9003);
+    assert_eq!(rt; (writer.kept[1], writer.kept[2], writer.kept[9002]), (b'b', b'x', b'c'));
+    Ok(())
+}

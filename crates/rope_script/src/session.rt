@@ -1,0 +1,176 @@
+//! Ropes by number, and runs of commands on them.
+ghost use Rattle.std.specs.Prelude.{◌≡◌, ℕ, ◌+◌, ◌<◌, ◌++◌, ◌∷◌, List, [], None, length, All, OnOk, OnErr, IfErr, IfOk, MatchOption, vec_len, vec_capacity, map};
+ghost use Rattle.std.specs.Str.{chars};
+ghost use Rattle.std.specs.String.{string_bytes};
+ghost use Rattle.rope_text.specs.declared.error.Error.TheVariants.{OutOfMemory};
+ghost use Rattle.rope_text.specs.declared.line_breaks.LineBreaks.TheVariants.{Unicode};
+ghost use Rattle.rope_text.specs.Content.{HasFewChunks};
+ghost use Rattle.rope_text.specs.Sides.{ahead};
+ghost use Rattle.rope_script.specs.Ask.{Answers};
+ghost use Rattle.rope_script.specs.Step.{Adds, OrNoMemory, OfRope, Inserts, Step, Ran, AsksWhole};
+
+use crate::script::{Command, Query, Reply};
+use ropey::iter::Chunks;
+use ropey::{Error, Result, Rope};
+use std::alloc::Global;
+use std::marker::Model;
+
+/// A list of ropes that only grows, numbered from 0 in the order in which they were made.
+#[derive(Drop)]
+pub struct Session {
+    alloc: Global,
+    ropes: Vec<Rope>,
+}
+
+impl Model for Session {
+    ghost use Rattle.std.specs.Prelude.{List};
+    ghost use Rattle.rope_text.specs.Content.{Content};
+
+    ghost Value = { List Content };
+
+    ghost view = { λ s. s.ropes.items };
+}
+
+impl Session {
+    /// A session with no rope. It takes no memory.
+    pub fn new(alloc: Global) -> Session
+        ensures { result ≡ [] }
+    {
+        Session {
+            alloc,
+            ropes: Vec::new(alloc),
+        }
+    }
+
+    /// Does the commands in order, and adds one reply for each to `replies`.
+    ///
+    /// A command that is refused is replied so, and the run goes on. Each command that asks a rope
+    /// asks the whole of it: parts are not there yet.
+    ///
+    /// # Errors
+    ///
+    /// `OutOfMemory` alone, where the list of replies, the list of ropes or the texts of a reply
+    /// could not grow. The command that met it has done nothing, and those before it are done.
+    pub fn run(&mut self, commands: &[Command], replies: &mut Vec<Reply>) -> Result<()>
+        requires whole { All AsksWhole commands.now }
+        ensures run { Ran self.old commands.now replies.old.items replies.new.items self.new }
+        ensures all { OnOk result (vec_len replies.new ≡ vec_len replies.old + length commands.now) }
+        ensures stopped { OnErr result (vec_len replies.new < vec_len replies.old + length commands.now) }
+        ensures err { IfErr result (λ e. e ≡ OutOfMemory) }
+    {
+        for command in commands {
+            replies.reserve(1)?;
+            let reply = self.step(command)?;
+            replies.push(reply).unwrap();
+        }
+        Ok(())
+    }
+
+    /// Does one command, and answers its reply. A refusal for memory has done nothing.
+    fn step(&mut self, command: &Command) -> Result<Reply>
+        requires whole { AsksWhole command.now }
+        ensures step { IfOk result (λ reply. Step self.old command.now reply self.new) }
+        ensures err { OnErr result (self.new ≡ self.old) }
+        ensures memory { IfErr result (λ e. e ≡ OutOfMemory) }
+    {
+        match command {
+            Command::Text(text) => make_text(self.alloc, &mut self.ropes, text.as_str()),
+            Command::Insert(rope, char_idx, text) => {
+                Ok(insert(&mut self.ropes, *rope, *char_idx, text.as_str()))
+            }
+            Command::Ask(rope, None, query) => ask(self.alloc, &self.ropes, *rope, query),
+            Command::Ask(_, Some(_), _) => unreachable!(),
+        }
+    }
+}
+
+/// Adds a rope of this text.
+fn make_text(alloc: Global, ropes: &mut Vec<Rope>, text: &str) -> Result<Reply>
+    ensures step { IfOk result (λ reply. OrNoMemory (Adds (chars text.now) Unicode HasFewChunks ropes.old.items reply ropes.new.items) ropes.old.items reply ropes.new.items) }
+    ensures err { OnErr result (ropes.new.items ≡ ropes.old.items) }
+    ensures memory { IfErr result (λ e. e ≡ OutOfMemory) }
+{
+    ropes.reserve(1)?;
+    match Rope::from_str(alloc, text) {
+        Ok(rope) => Ok(add(ropes, rope)),
+        Err(error) => Ok(Reply::Refused(error)),
+    }
+}
+
+/// Adds a rope, for which there is room.
+fn add(ropes: &mut Vec<Rope>, rope: Rope) -> Reply
+    requires { vec_len ropes.old < vec_capacity ropes.old }
+    ensures reply { result ≡ Reply.Made (length ropes.old.items) }
+    ensures added { ropes.new.items ≡ ropes.old.items ++ rope ∷ [] }
+{
+    let number = ropes.len();
+    ropes.push(rope).unwrap();
+    Reply::Made(number)
+}
+
+/// Inserts a text into a rope.
+fn insert(ropes: &mut Vec<Rope>, rope: usize, char_idx: usize, text: &str) -> Reply
+    ensures { Inserts rope char_idx (chars text.now) ropes.old.items result ropes.new.items }
+{
+    if rope >= ropes.len() {
+        return Reply::NoRope;
+    }
+    match ropes[rope].try_insert(char_idx, text) {
+        Ok(()) => Reply::Done,
+        Err(error) => Reply::Refused(error),
+    }
+}
+
+/// Asks a rope.
+fn ask(alloc: Global, ropes: &[Rope], rope: usize, query: &Query) -> Result<Reply>
+    ensures step { IfOk result (λ reply. OfRope rope (λ asked. Answers asked query.now reply × (ropes.now ≡ ropes.now)) ropes.now reply ropes.now) }
+    ensures memory { IfErr result (λ e. e ≡ OutOfMemory) }
+{
+    match ropes.get(rope) {
+        None => Ok(Reply::NoRope),
+        Some(rope) => answer(alloc, rope, query),
+    }
+}
+
+/// Answers a query of a rope.
+fn answer(alloc: Global, rope: &Rope, query: &Query) -> Result<Reply>
+    ensures answer { IfOk result (Answers rope.now query.now) }
+    ensures memory { IfErr result (λ e. e ≡ OutOfMemory) }
+{
+    match query {
+        Query::Lens => Ok(Reply::Lens(
+            rope.len_bytes(),
+            rope.len_chars(),
+            rope.len_lines(),
+            rope.len_utf16_cu(),
+        )),
+        Query::Chunks => Ok(Reply::Texts(chunk_texts(alloc, rope)?)),
+    }
+}
+
+/// The chunks of a rope, each copied.
+fn chunk_texts(alloc: Global, rope: &Rope) -> Result<Vec<String>>
+    ensures texts { IfOk result (λ texts. map (λ s. chars (string_bytes s)) texts.items ≡ rope.now.chunks) }
+    ensures memory { IfErr result (λ e. e ≡ OutOfMemory) }
+{
+    let mut texts = Vec::new(alloc);
+    let mut chunks = rope.chunks();
+    while let Some(text) = copy_next(alloc, &mut chunks)? {
+        texts.push(text)?;
+    }
+    Ok(texts)
+}
+
+/// A copy of the next chunk, if there is one.
+fn copy_next(alloc: Global, chunks: &mut Chunks<'_>) -> Result<Option<String>>
+    ensures next { IfOk result (λ next. MatchOption next (ahead chunks.old ≡ []) (λ text. ahead chunks.old ≡ chars (string_bytes text) ∷ ahead chunks.new)) }
+    ensures memory { IfErr result (λ e. e ≡ OutOfMemory) }
+{
+    match chunks.next() {
+        Some(chunk) => Ok(Some(String::from_str(alloc, chunk)?)),
+        None => Ok(None),
+    }
+}
+
+#[cfg(test)]
+mod tests;

@@ -1,0 +1,20 @@
+//! A run, told by its replies.
+use super::*;
+use std::test::Fail;
+
+#[test]
+fn replies_are_added(rt: HostRuntime) -> std::result::Result<(), Fail> {
+    let mut session = Session::new(rt.alloc());
+    let mut replies = Vec::new(rt.alloc());
+    let commands = [
+        Command::Text(String::new(rt.alloc())),
+        Command::Ask(0, None, Query::Lens),
+    ];
+    session.run(&commands, &mut replies)?;
+    session.run(&[Command::Insert(1, 0, String::new(rt.alloc()))], &mut replies)?;
+    assert_eq!(rt; replies.len(), 3);
+    assert!(rt; matches!(&replies[0], Reply::Made(0)));
+    assert!(rt; matches!(&replies[1], Reply::Lens(0, 0, 1, 0)));
+    assert!(rt; matches!(&replies[2], Reply::NoRope));
+    Ok(())
+}
