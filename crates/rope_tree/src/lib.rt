@@ -1,4 +1,6 @@
-//! The leaves of a rope.
+//! The tree of a rope: leaf texts under nodes with running totals.
 #![tactic(auto)]
 
+pub mod node;
 pub mod node_text;
+pub mod search;

@@ -1,0 +1,5 @@
+pub mod LeafLaws
+pub mod TreeLaws
+pub mod Halving
+pub mod Infos
+pub mod NodeLaws
