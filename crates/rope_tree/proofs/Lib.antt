@@ -3,3 +3,4 @@ pub mod TreeLaws
 pub mod Halving
 pub mod Infos
 pub mod NodeLaws
+pub mod SiblingLaws

@@ -5,3 +5,4 @@ pub mod Listed
 pub mod Shape
 pub mod Falls
 pub mod View
+pub mod Siblings

@@ -27,6 +27,6 @@ IsViewOf t (Leaf l) = IsLeafOf t l.now
 IsViewOf t (Inner v w) = IsInnerOf t (trees v.now) w.now
 
 -- one node or two, in order
-abbrev pub nodes : Nodes → List Tree
-nodes (One a) = a.value ∷ []
-nodes (Two a b) = a.value ∷ b.value ∷ []
+abbrev pub trees_in : Nodes → List Tree
+trees_in (One a) = a.value ∷ []
+trees_in (Two a b) = a.value ∷ b.value ∷ []

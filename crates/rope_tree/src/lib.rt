@@ -1,6 +1,7 @@
 //! The tree of a rope: leaf texts under nodes with running totals.
 #![tactic(auto)]
 
+pub mod children;
 pub mod node;
 pub mod node_text;
 pub mod search;
