@@ -4,3 +4,4 @@ pub mod Halving
 pub mod Infos
 pub mod NodeLaws
 pub mod SiblingLaws
+pub mod Descents

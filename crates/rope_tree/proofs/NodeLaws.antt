@@ -125,6 +125,17 @@ pub first_breaks : (rcs : List (Rc Node Global)) (d : Rc Node Global) → 1 ≤ 
 first_breaks [] d some = absurd (omega arith)
 first_breaks (rc ∷ rcs) d some = refl
 
+-- the tree at a place among children, and the counts up to its end
+pub child_at : (set : LineBreaks) (h : ℕ) (ts : List Tree) (k : ℕ) (child : Tree) → AreChildren set h ts → k < length ts → get_or ts k child ≡ child → IsChild set h child
+child_at set h ts k child a l here = subst (IsChild set h) here (All-get_or (IsChild set h) ts k child l a.each)
+
+pub more_at : (set : LineBreaks) (h : ℕ) (ts : List Tree) (k : ℕ) (child : Tree) → AreChildren set h ts → k < length ts → get_or ts k child ≡ child
+    → info_of set (joined (take (k + 1) ts)) ≡ info_sum (info_of set (joined (take k ts))) (info_of set (text child))
+more_at set h ts k child a l here =
+    let apart : parts_crlf (joined (take k ts)) (text child) ≡ false = subst (λ u. parts_crlf (joined (take k ts)) (text u) ≡ false) here (joined_apart ts k child l a.leaves) in
+    let longer : joined (take (k + 1) ts) ≡ joined (take k ts) ++ text child = subst (λ u. joined (take (k + 1) ts) ≡ joined (take k ts) ++ text u) here (joined_more ts k child l) in
+    ap (info_of set) longer ∙ info_of-append_apart set (joined (take k ts)) (text child) apart
+
 -- one more node is counted
 pub record AddsNode (set : LineBreaks) (ts : List Tree) (i : ℕ) (total info : TextInfo) : Type 0 where
   pub small_total : IsSmall total
@@ -138,12 +149,10 @@ adds_node set h rcs i item n total info a lt at is front own =
     let ts = trees rcs in
     let l : i < length ts = omega (arith, length-map rcs (λ rc. rc.value)) in
     let here : get_or ts i n ≡ n = tree_at rcs i item n lt at is in
-    let child : IsChild set h n = subst (IsChild set h) here (All-get_or (IsChild set h) ts i n l a.each) in
+    let child = child_at set h ts i n a l here in
     let counts : info ≡ info_of set (text n) = own ∙ ap (λ b. info_of b (text n)) child.same_breaks in
-    let apart : parts_crlf (joined (take i ts)) (text n) ≡ false = subst (λ u. parts_crlf (joined (take i ts)) (text u) ≡ false) here (joined_apart ts i n l a.leaves) in
-    let longer : joined (take (i + 1) ts) ≡ joined (take i ts) ++ text n = subst (λ u. joined (take (i + 1) ts) ≡ joined (take i ts) ++ text u) here (joined_more ts i n l) in
     record {
       small_total = rw front (small_info set (joined (take i ts)) (omega (arith, byte_len-joined ts i, a.fits)));
       small_info = rw counts (small_info set (text n) child.tree.fits);
-      more = ap (info_of set) longer ∙ info_of-append_apart set (joined (take i ts)) (text n) apart ∙ (rw (front, counts) refl);
+      more = more_at set h ts i n a l here ∙ (rw (front, counts) refl);
     }

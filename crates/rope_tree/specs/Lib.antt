@@ -6,3 +6,4 @@ pub mod Shape
 pub mod Falls
 pub mod View
 pub mod Siblings
+pub mod Found

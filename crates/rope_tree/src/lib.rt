@@ -2,6 +2,7 @@
 #![tactic(auto)]
 
 pub mod children;
+pub mod lookup;
 pub mod node;
 pub mod node_text;
 pub mod search;

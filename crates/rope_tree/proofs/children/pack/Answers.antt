@@ -5,7 +5,7 @@ use Rattle.rope_tree.proofs.SiblingLaws.{one_part, first_half, second_half, two_
 use Rattle.rope_tree.proofs.NodeLaws.{children_of_first}
 use Rattle.rope_tree.proofs.children.pack.Goals as goal
 
-pub returns-then-len-le-MAX_CHILDREN-clause-shape : goal.returns-then-len-MAX_CHILDREN-clause-shape
+pub returns-then-len-le-MAX_CHILDREN-clause-shape : goal.returns-then-len-le-MAX_CHILDREN-clause-shape
 returns-then-len-le-MAX_CHILDREN-clause-shape c =
     let n = length-map c.args.nodes.items (λ rc. rc.value) in
     one_part _ _ _ c.requires.siblings c.requires.at_least_two (omega arith) _ c.in_ok-make_inner.ensures.ok
