@@ -5,3 +5,4 @@ pub mod Infos
 pub mod NodeLaws
 pub mod SiblingLaws
 pub mod Descents
+pub mod FoundLaws

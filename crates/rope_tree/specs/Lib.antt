@@ -7,3 +7,4 @@ pub mod Falls
 pub mod View
 pub mod Siblings
 pub mod Found
+pub mod StepBounds

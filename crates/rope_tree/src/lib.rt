@@ -2,6 +2,7 @@
 #![tactic(auto)]
 
 pub mod children;
+pub mod conversions;
 pub mod lookup;
 pub mod node;
 pub mod node_text;
