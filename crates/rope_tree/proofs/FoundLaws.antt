@@ -1,7 +1,10 @@
 -- Conversions of a tree's text, by the leaf that holds the place.
-use Rattle.std.proofs.Common.{◌≡◌, ℕ, zero, suc, ◌+◌, ◌-◌, ◌<◌, ◌≤◌, ◌^◌, List, [], ◌∷◌, ◌++◌, length, get_or, take, drop, refl, sym, ap, subst, ◌∙◌, arith, false, nat_le}
+use Rattle.std.proofs.Common.{◌≡◌, ℕ, zero, suc, ◌+◌, ◌-◌, ◌<◌, ◌≤◌, ◌^◌, List, [], ◌∷◌, ◌++◌, length, get_or, take, drop, refl, sym, ap, subst, ◌∙◌, arith, false, nat_le, Some, slice_get}
+use Rattle.std.specs.Str.{encode_utf8_all}
+use Rattle.std.proofs.lemmas.Str.{encodes-append}
+use Rattle.std.proofs.lemmas.Option.{slice_get-get_or}
 use Rattle.std.specs.List.{concat}
-use Rattle.std.proofs.lemmas.List.{take_all, append-nil, length-append, take-append-le, take-append-drop, take_more}
+use Rattle.std.proofs.lemmas.List.{take_all, append-nil, length-append, take-append-le, take-append-drop, take_more, get_or-append-add, get_or_append_left}
 use Rattle.std.proofs.lemmas.List.Sums.{count_by-le-length}
 use Rattle.std.proofs.Math.Seq.{take-append-add}
 use Rattle.rope_text.specs.declared.line_breaks.LineBreaks.{LineBreaks}
@@ -179,3 +182,29 @@ char_to_line-le set text i = omega (arith, count_by-le-length (λ p. nat_le p i)
 
 pub byte_to_line-le : (set : LineBreaks) (text : List ℕ) (b : ℕ) → byte_to_line set text b ≤ length text
 byte_to_line-le set text b = omega (arith, byte_to_line-byte_to_char set text b, char_to_line-le set text (byte_to_char text b))
+
+-- an element of three lists in a row that lies in the second
+within_middle : (xs ys zs : List ℕ) (n i : ℕ) → n ≡ length xs + i → i < length ys → slice_get (xs ++ (ys ++ zs)) n ≡ Some (get_or ys i 0)
+within_middle xs ys zs n i e lt =
+    ap (slice_get (xs ++ (ys ++ zs))) e
+    ∙ slice_get-get_or (xs ++ (ys ++ zs)) (length xs + i) 0 (omega (arith, length-append xs (ys ++ zs), length-append ys zs))
+    ∙ ap (λ x. Some x) (get_or-append-add xs (ys ++ zs) i 0 ∙ get_or_append_left ys zs 0 i lt)
+
+-- the byte and the character at a place, by the leaf that holds it
+module _ (at : ℕ) (t : Tree) (leaf : List ℕ) (front : TextInfo) where
+  pub found_byte : IsFound Byte at t leaf front → (at - front.bytes < byte_len leaf) × (slice_get (encode_utf8_all (text t)) at ≡ Some (get_or (encode_utf8_all leaf) (at - front.bytes) 0))
+  found_byte f =
+      let l = lies_at Byte at t leaf front f in
+      let more = ap byte_len l.more ∙ IsMeasure-byte_len.joined (before t.leaves f.index) leaf in
+      let lt : at - front.bytes < byte_len leaf = omega (arith, l.bytes, f.not_past, f.past, more) in
+      let bytes : encode_utf8_all (text t) ≡ encode_utf8_all (before t.leaves f.index) ++ (encode_utf8_all leaf ++ encode_utf8_all (after t.leaves f.index)) =
+          ap encode_utf8_all l.around ∙ encodes-append (before t.leaves f.index) (leaf ++ after t.leaves f.index)
+          ∙ ap (λ bs. encode_utf8_all (before t.leaves f.index) ++ bs) (encodes-append leaf (after t.leaves f.index)) in
+      (lt, ap (λ bs. slice_get bs at) bytes ∙ within_middle (encode_utf8_all (before t.leaves f.index)) (encode_utf8_all leaf) (encode_utf8_all (after t.leaves f.index)) at (at - front.bytes) (omega (arith, l.bytes, f.not_past)) lt)
+
+  pub found_char : IsFound Char at t leaf front → (at - front.chars < length leaf) × (slice_get (text t) at ≡ Some (get_or leaf (at - front.chars) 0))
+  found_char f =
+      let l = lies_at Char at t leaf front f in
+      let more = ap length l.more ∙ length-append (before t.leaves f.index) leaf in
+      let lt : at - front.chars < length leaf = omega (arith, l.chars, f.not_past, f.past, more) in
+      (lt, ap (λ cs. slice_get cs at) l.around ∙ within_middle (before t.leaves f.index) leaf (after t.leaves f.index) at (at - front.chars) (omega (arith, l.chars, f.not_past)) lt)

@@ -1,15 +1,19 @@
 //! The way down to the leaf that holds a place.
-ghost use Rattle.std.specs.Prelude.{◌≡◌, ◌+◌, ◌-◌, ◌*◌, ◌<◌, ◌≤◌, ◌^◌, ℕ, [], length, slice_index_or};
+ghost use Rattle.std.specs.Prelude.{◌≡◌, ◌+◌, ◌-◌, ◌*◌, ◌<◌, ◌≤◌, ◌^◌, ℕ, [], length, slice_index_or, slice_get, Some};
+ghost use Rattle.std.specs.Str.{chars, encode_utf8_all};
 ghost use Rattle.rope_text.specs.declared.line_breaks.LineBreaks.{LineBreaks};
 ghost use Rattle.rope_text.specs.declared.text_info.TextInfo.{TextInfo};
+ghost use Rattle.rope_text.specs.Text.{byte_len};
 ghost use Rattle.rope_text.specs.TextInfo.{info_of};
 ghost use Rattle.rope_tree.specs.Search.{count_of};
 ghost use Rattle.rope_tree.specs.Tree.{text};
 ghost use Rattle.rope_tree.specs.Found.{IsFound};
+ghost use Rattle.rope_tree.specs.StepBounds.{HaveRoom, LooksUp};
 
 use crate::node::{Node, View};
 use crate::node_text::NodeText;
 use crate::search::{Unit, count, place_of};
+use rope_text::str_utils::char_to_byte_idx;
 use rope_text::{Steps, TextInfo};
 
 /// A leaf, and the counts of the text before it.
@@ -59,4 +63,42 @@ pub fn leaf_at<'a>(node: &'a Node, unit: Unit, at: usize, steps: &mut Steps) -> 
             }
         }
     }
+}
+
+/// The byte at a place.
+pub fn byte_at(node: &Node, byte_idx: usize, steps: &mut Steps) -> u8
+    requires within { byte_idx < byte_len (text node.now) }
+    requires room { HaveRoom node.now.height steps.old }
+    ensures value { slice_get (encode_utf8_all (text node.now)) byte_idx ≡ Some result }
+    ensures nodes { steps.new.nodes ≡ steps.old.nodes + node.now.height + 1 }
+    ensures steps { LooksUp node.now.height steps.old steps.new }
+{
+    let found = leaf_at(node, Unit::Byte, byte_idx, steps);
+    let bytes = found.leaf.as_str().as_bytes();
+    bytes[byte_idx - found.before.bytes]
+}
+
+/// The first character of a text that is not empty.
+fn first_char(text: &str) -> char
+    requires { 0 < length (chars text.now) }
+    ensures { slice_get (chars text.now) 0 ≡ Some result }
+{
+    match text.chars().next() {
+        Some(first) => first,
+        None => unreachable!(),
+    }
+}
+
+/// The character at a place.
+pub fn char_at(node: &Node, char_idx: usize, steps: &mut Steps) -> char
+    requires within { char_idx < length (text node.now) }
+    requires room { HaveRoom node.now.height steps.old }
+    ensures value { slice_get (text node.now) char_idx ≡ Some result }
+    ensures nodes { steps.new.nodes ≡ steps.old.nodes + node.now.height + 1 }
+    ensures steps { LooksUp node.now.height steps.old steps.new }
+{
+    let found = leaf_at(node, Unit::Char, char_idx, steps);
+    let leaf = found.leaf.as_str();
+    let at = char_to_byte_idx(leaf, char_idx - found.before.chars);
+    first_char(&leaf[at..])
 }
