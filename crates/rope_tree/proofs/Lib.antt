@@ -6,3 +6,5 @@ pub mod NodeLaws
 pub mod SiblingLaws
 pub mod Descents
 pub mod FoundLaws
+pub mod InsertLaws
+pub mod InsertTrees

@@ -8,3 +8,4 @@ pub mod View
 pub mod Siblings
 pub mod Found
 pub mod StepBounds
+pub mod Insert
