@@ -1,5 +1,5 @@
 -- What a step down from a node to one of its children keeps.
-use Rattle.std.proofs.Common.{◌≡◌, ℕ, zero, suc, ◌+◌, ◌-◌, ◌<◌, ◌≤◌, ◌^◌, true, false, List, [], ◌∷◌, ◌++◌, length, get_or, take, drop, refl, sym, ap, subst, ◌∙◌, arith, sub-one}
+use Rattle.std.proofs.Common.{◌≡◌, ℕ, zero, suc, ◌+◌, ◌-◌, ◌<◌, ◌≤◌, false, List, [], ◌∷◌, ◌++◌, length, get_or, take, drop, refl, sym, ap, subst, ◌∙◌, arith}
 use Rattle.std.specs.List.{concat}
 use Rattle.std.proofs.lemmas.List.{append-nil, append_assoc, length-append, length-map, take-append-drop, take_more, take-append-le, get_or-append-add, get_or_append_left}
 use Rattle.std.proofs.Math.Seq.{take-append-add}
@@ -66,8 +66,8 @@ module _ (set : LineBreaks) (left own right : List (List ℕ)) (a : AreLeaves (l
       let seam = leaves_seam left (own ++ right) a in
       let rest = concat (drop i own) ++ concat right in
       let e : concat (own ++ right) ≡ concat (take i own) ++ rest =
-          concat-append own right ∙ ap (λ xs. concat xs ++ concat right) (sym (take-append-drop i own)) ∙ ap (λ s. s ++ concat right) (concat-append (take i own) (drop i own))
-          ∙ append_assoc (concat (take i own)) (concat (drop i own)) (concat right) in
+      concat-append own right ∙ ap (λ xs. concat xs ++ concat right) (sym (take-append-drop i own)) ∙ ap (λ s. s ++ concat right) (concat-append (take i own) (drop i own))
+      ∙ append_assoc (concat (take i own)) (concat (drop i own)) (concat right) in
       (seam_of_left (concat left) (concat (take i own)) rest (subst (IsSeam (concat left)) e seam)).apart
 
   pub front_info : (i : ℕ) → i ≤ length own → info_of set (concat (take (length left + i) (left ++ (own ++ right)))) ≡ info_sum (info_of set (concat left)) (info_of set (concat (take i own)))
@@ -102,7 +102,11 @@ descends unit at rcs totals k item child front a h lt is value first later not_p
     let own = child_at set (height_of ts) ts k child a l here in
     let more = more_at set (height_of ts) ts k child a l here in
     record {
-      children = a; within = l; child_is = here; front_is = f; own = own;
+      children = a;
+      within = l;
+      child_is = here;
+      front_is = f;
+      own = own;
       small = rw f (small_info set (joined (take k ts)) (omega (arith, byte_len-joined ts k, a.fits)));
       not_past = first_front unit at k totals front first later not_past;
       past = let total = ap (count_of unit) (h.total_at k front l ∙ more) in
@@ -111,10 +115,10 @@ descends unit at rcs totals k item child front a h lt is value first later not_p
           omega (arith, past front, total, own_counts, fronts, count_of-sum unit (info_of set (joined (take k ts))) (info_of set (text child)));
     }
   where
-  first_front : (unit : Unit) (at k : ℕ) (totals : List TextInfo) (front : TextInfo) → (k ≡ 0 → (s : LineBreaks) → front ≡ info_of s []) → ((d : TextInfo) → 0 < k → front ≡ get_or totals (k - 1) d)
-      → ((d : TextInfo) → 0 < k → count_of unit (get_or totals (k - 1) d) ≤ at) → count_of unit front ≤ at
-  first_front unit at zero totals front first later not_past = rw (first refl (breaks_of []), count_of-nil unit (breaks_of [])) (omega arith)
-  first_front unit at (suc k) totals front first later not_past = let e = ap (count_of unit) (later front (omega arith)) in omega (arith, e, not_past front (omega arith))
+    first_front : (unit : Unit) (at k : ℕ) (totals : List TextInfo) (front : TextInfo) → (k ≡ 0 → (s : LineBreaks) → front ≡ info_of s []) → ((d : TextInfo) → 0 < k → front ≡ get_or totals (k - 1) d)
+        → ((d : TextInfo) → 0 < k → count_of unit (get_or totals (k - 1) d) ≤ at) → count_of unit front ≤ at
+    first_front unit at zero totals front first later not_past = rw (first refl (breaks_of []), count_of-nil unit (breaks_of [])) (omega arith)
+    first_front unit at (suc k) totals front first later not_past = let e = ap (count_of unit) (later front (omega arith)) in omega (arith, e, not_past front (omega arith))
 
 -- what the child finds, the node finds
 pub found_inner : (set : LineBreaks) (unit : Unit) (at : ℕ) (t : Tree) (ts : List Tree) (k : ℕ) (child : Tree) (front before : TextInfo) (leaf : List ℕ)
@@ -146,8 +150,8 @@ found_inner set unit at t ts k child front before leaf is same d f =
       not_past = omega (arith, count_of-sum unit front before, f.not_past, d.not_past);
       past =
           let total : count_of unit (info_of t.breaks (concat (take (length left + i + 1) t.leaves))) ≡ count_of unit (info_sum (info_of set (concat left)) (info_of set (concat (take (i + 1) own)))) =
-              ap (λ b. count_of unit (info_of b (concat (take (length left + i + 1) t.leaves)))) sets ∙ ap (λ xs. count_of unit (info_of set (concat (take (length left + i + 1) xs)))) whole
-              ∙ ap (λ n. count_of unit (info_of set (concat (take n (left ++ (own ++ right)))))) (sym shift) ∙ next_count in
+          ap (λ b. count_of unit (info_of b (concat (take (length left + i + 1) t.leaves)))) sets ∙ ap (λ xs. count_of unit (info_of set (concat (take (length left + i + 1) xs)))) whole
+          ∙ ap (λ n. count_of unit (info_of set (concat (take n (left ++ (own ++ right)))))) (sym shift) ∙ next_count in
           let sum = count_of-sum unit (info_of set (concat left)) (info_of set (concat (take (i + 1) own))) in
           let fronts_count = ap (count_of unit) fronts in
           omega (arith, total, sum, fronts_count, old_past, f.past, d.not_past);

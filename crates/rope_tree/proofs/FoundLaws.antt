@@ -1,5 +1,5 @@
 -- Conversions of a tree's text, by the leaf that holds the place.
-use Rattle.std.proofs.Common.{◌≡◌, ℕ, zero, suc, ◌+◌, ◌-◌, ◌<◌, ◌≤◌, ◌^◌, List, [], ◌∷◌, ◌++◌, length, get_or, take, drop, refl, sym, ap, subst, ◌∙◌, arith, false, nat_le, Some, slice_get}
+use Rattle.std.proofs.Common.{◌≡◌, ℕ, zero, suc, ◌+◌, ◌-◌, ◌<◌, ◌≤◌, List, [], ◌∷◌, ◌++◌, length, get_or, take, drop, refl, sym, ap, subst, ◌∙◌, arith, false, nat_le, Some, slice_get}
 use Rattle.std.specs.Str.{encode_utf8_all}
 use Rattle.std.proofs.lemmas.Str.{encodes-append}
 use Rattle.std.proofs.lemmas.Option.{slice_get-get_or}
@@ -15,7 +15,7 @@ use Rattle.rope_text.specs.Lines.{line_start}
 use Rattle.rope_text.specs.Conversions.{byte_to_char, utf16_to_char, char_to_byte, char_to_utf16, char_to_line, byte_to_line, line_to_byte}
 use Rattle.rope_text.specs.Cutting.{parts_crlf}
 use Rattle.rope_text.proofs.Measures.{IsMeasure-byte_len, IsMeasure-utf16_len, front-le-length}
-use Rattle.rope_text.proofs.ConversionLaws.{byte_to_char-char_to_byte, utf16_to_char-char_to_utf16, byte_to_char-le-length, char_to_line_end, byte_to_line-byte_to_char}
+use Rattle.rope_text.proofs.ConversionLaws.{byte_to_char-char_to_byte, utf16_to_char-char_to_utf16, char_to_line_end, byte_to_line-byte_to_char}
 use Rattle.rope_text.proofs.LineLaws.{line_start-le-length}
 use Rattle.rope_text.proofs.InfoLaws.{info_of-append_apart}
 use Rattle.rope_text.proofs.ChunkLaws.{before, after, before_more, concat_at, byte_to_char_at, utf16_to_char_at, char_to_line_at, byte_to_line_at, line_start_at}
@@ -23,7 +23,6 @@ use Rattle.rope_tree.specs.declared.search.Unit.{Unit}
 use Rattle.rope_tree.specs.declared.search.Unit.TheVariants.{Byte, Char, CodeUnit, LineBreak}
 use Rattle.rope_tree.specs.Leaves.{AreLeaves}
 use Rattle.rope_tree.specs.Tree.{Tree, text, IsTree}
-use Rattle.rope_tree.specs.Search.{count_of}
 use Rattle.rope_tree.specs.Found.{IsFound}
 use Rattle.rope_tree.proofs.Infos.{break_count-le-length}
 use Rattle.rope_tree.proofs.LeafLaws.{nonempty_leaves, leaves_left, leaves_seam}
@@ -198,8 +197,8 @@ module _ (at : ℕ) (t : Tree) (leaf : List ℕ) (front : TextInfo) where
       let more = ap byte_len l.more ∙ IsMeasure-byte_len.joined (before t.leaves f.index) leaf in
       let lt : at - front.bytes < byte_len leaf = omega (arith, l.bytes, f.not_past, f.past, more) in
       let bytes : encode_utf8_all (text t) ≡ encode_utf8_all (before t.leaves f.index) ++ (encode_utf8_all leaf ++ encode_utf8_all (after t.leaves f.index)) =
-          ap encode_utf8_all l.around ∙ encodes-append (before t.leaves f.index) (leaf ++ after t.leaves f.index)
-          ∙ ap (λ bs. encode_utf8_all (before t.leaves f.index) ++ bs) (encodes-append leaf (after t.leaves f.index)) in
+      ap encode_utf8_all l.around ∙ encodes-append (before t.leaves f.index) (leaf ++ after t.leaves f.index)
+      ∙ ap (λ bs. encode_utf8_all (before t.leaves f.index) ++ bs) (encodes-append leaf (after t.leaves f.index)) in
       (lt, ap (λ bs. slice_get bs at) bytes ∙ within_middle (encode_utf8_all (before t.leaves f.index)) (encode_utf8_all leaf) (encode_utf8_all (after t.leaves f.index)) at (at - front.bytes) (omega (arith, l.bytes, f.not_past)) lt)
 
   pub found_char : IsFound Char at t leaf front → (at - front.chars < length leaf) × (slice_get (text t) at ≡ Some (get_or leaf (at - front.chars) 0))

@@ -1,12 +1,12 @@
 -- A text that goes into the middle one of three: no CR is parted from an LF.
-use Rattle.std.proofs.Common.{◌≡◌, ℕ, zero, suc, ◌+◌, ◌-◌, ◌<◌, ◌≤◌, Bool, true, false, ◌&&◌, ◌⊎◌, inl, inr, List, [], ◌∷◌, ◌++◌, length, take, drop, refl, sym, ap, subst, ◌∙◌, arith}
+use Rattle.std.proofs.Common.{◌≡◌, ℕ, ◌+◌, ◌<◌, ◌≤◌, Bool, true, false, ◌&&◌, inl, inr, List, [], ◌∷◌, ◌++◌, length, take, drop, refl, sym, ap, subst, ◌∙◌, arith}
 use Rattle.std.proofs.lemmas.Bool.{cases_lt}
 use Rattle.std.proofs.lemmas.List.{append-nil, append_assoc, length-append, take-append-drop, take-append-le, drop-append-le, length-drop, length-take-le, drop_all}
 use Rattle.std.proofs.Math.Seq.{take-append-add, drop-append-add}
 use Rattle.rope_text.specs.Breaks.{begins_with_lf, ends_in_cr}
 use Rattle.rope_text.proofs.CuttingLaws.{ends_in_cr-append}
 use Rattle.rope_tree.specs.Leaves.{IsSeam}
-use Rattle.rope_tree.proofs.LeafLaws.{seam-nil, nil-seam, seam_of_left, seam_of_right, seam-take}
+use Rattle.rope_tree.proofs.LeafLaws.{seam_of_left, seam_of_right, seam-take}
 
 -- a seam, by the last text before it and the first after it
 pub seam_ends : (p q r : List ℕ) → 1 ≤ length q → IsSeam q r → IsSeam (p ++ q) r
@@ -58,12 +58,12 @@ module _ (p c n s : List ℕ) (i at : ℕ) (place : at ≡ length p + i) (within
           let none : drop i c ≡ [] = drop_all i c ge in
           let t : IsSeam s n = subst (λ x. IsSeam s (x ++ n)) none s_rest in
           rw (none, append-nil) (seam_ends (take i c) s n some t)
-      ]
+    ]
       where
-      end_kept : 1 ≤ length (drop i c) → IsSeam (take i c ++ (s ++ drop i c)) n
-      end_kept more =
-          let t : IsSeam (drop i c) n = seam_of_right (take i c) (drop i c) n (rw take-append-drop right_seam) in
-          seam_ends (take i c) (s ++ drop i c) n (omega (arith, length-append s (drop i c))) (seam_ends s (drop i c) n more t)
+        end_kept : 1 ≤ length (drop i c) → IsSeam (take i c ++ (s ++ drop i c)) n
+        end_kept more =
+            let t : IsSeam (drop i c) n = seam_of_right (take i c) (drop i c) n (rw take-append-drop right_seam) in
+            seam_ends (take i c) (s ++ drop i c) n (omega (arith, length-append s (drop i c))) (seam_ends s (drop i c) n more t)
 
   -- to the right of a seam, before an LF
   module _ (right_seam : IsSeam c n) (inside : i < length c) where

@@ -1,9 +1,9 @@
 -- A child is replaced by the one or two that an insert makes of it.
-use Rattle.std.proofs.Common.{◌≡◌, ℕ, zero, suc, ◌+◌, ◌-◌, ◌<◌, ◌≤◌, ◌^◌, Bool, true, false, ◌⊎◌, inl, inr, min, List, [], ◌∷◌, ◌++◌, length, get_or, take, drop, refl, sym, ap, subst, ◌∙◌, arith}
+use Rattle.std.proofs.Common.{◌≡◌, ℕ, ◌+◌, ◌-◌, ◌<◌, ◌≤◌, ◌^◌, Bool, true, false, ◌⊎◌, inl, inr, min, List, [], ◌++◌, length, get_or, take, drop, refl, sym, ap, subst, ◌∙◌, arith}
 use Rattle.std.specs.List.{concat, All}
 use Rattle.std.specs.declared.alloc.Global.{Global}
 use Rattle.std.specs.declared.rc.Rc.{Rc}
-use Rattle.std.proofs.lemmas.List.{append-nil, append_assoc, length-append, length-map, length-take-le, length-drop, take-append-drop, take-map, drop-map, take_all, nil_from_length}
+use Rattle.std.proofs.lemmas.List.{append_assoc, length-append, length-take-le, length-drop, take-append-drop, take-map, drop-map, take_all, nil_from_length}
 use Rattle.std.proofs.lemmas.List.Elements.{All-append, All-weaker}
 use Rattle.std.proofs.lemmas.Bool.{cases_lt}
 use Rattle.rope_text.specs.declared.line_breaks.LineBreaks.{LineBreaks}
@@ -18,11 +18,11 @@ use Rattle.rope_tree.specs.Tree.{Tree, text, joined, leaves_of, height_of, break
 use Rattle.rope_tree.specs.Listed.{trees}
 use Rattle.rope_tree.specs.Siblings.{AreSiblings, AreParts}
 use Rattle.rope_tree.specs.Insert.{MayInsert, IsInserted}
-use Rattle.rope_tree.proofs.LeafLaws.{all_left, all_right, leaves-append, leaves_left, leaves_right, leaves_seam, seam_of_left, nil-seam, seam_right_longer}
+use Rattle.rope_tree.proofs.LeafLaws.{all_left, all_right, leaves-append, leaves_left, leaves_right, leaves_seam, seam_of_left, nil-seam}
 use Rattle.rope_tree.proofs.TreeLaws.{wide_more, wide_weaker, height_of_is, breaks_of_is}
 use Rattle.rope_tree.proofs.NodeLaws.{leaves_of-append, joined-append, child_at}
 use Rattle.rope_tree.proofs.Descents.{leaves_at}
-use Rattle.rope_tree.proofs.InsertLaws.{text_of, left_child, left_after, right_after, right_child, before_inside, before_lf, begins_some, seam_begins}
+use Rattle.rope_tree.proofs.InsertLaws.{text_of, left_child, left_after, right_after, right_child, before_inside, before_lf, seam_begins}
 
 -- an inserted text, its three parts grouped to the right
 pub inserted_is : (xs : List ℕ) (i : ℕ) (s : List ℕ) → inserted xs i s ≡ take i xs ++ (s ++ drop i xs)
@@ -34,11 +34,10 @@ byte_len-inserted xs i s =
     omega (arith, ap byte_len (inserted_is xs i s), IsMeasure-byte_len.joined (take i xs) (s ++ drop i xs), IsMeasure-byte_len.joined s (drop i xs), IsMeasure-byte_len.joined (take i xs) (drop i xs), whole)
 
 -- the slices around a child, as trees
-pub around : (rcs : List (Rc Node Global)) (k : ℕ) (ms vs : List Tree) → vs ≡ trees (take (k - 0) rcs) ++ (ms ++ trees (take (length rcs - (k + 1)) (drop (k + 1) rcs))) → vs ≡ take k (trees rcs) ++ (ms ++ drop (k + 1) (trees rcs))
+pub around : (rcs : List (Rc Node Global)) (k : ℕ) (ms vs : List Tree) → vs ≡ trees (take k rcs) ++ (ms ++ trees (take (length rcs - (k + 1)) (drop (k + 1) rcs))) → vs ≡ take k (trees rcs) ++ (ms ++ drop (k + 1) (trees rcs))
 around rcs k ms vs e =
     let f : take (length rcs - (k + 1)) (drop (k + 1) rcs) ≡ drop (k + 1) rcs = take_all (length rcs - (k + 1)) (drop (k + 1) rcs) (simp length-drop (omega arith)) in
-    let g : k - 0 ≡ k = omega arith in
-    e ∙ (rw (f, g, take-map, drop-map) refl)
+    e ∙ (rw (f, take-map, drop-map) refl)
 
 pub siblings_of_first : (set : LineBreaks) (h : ℕ) (ts : List Tree) → 1 ≤ length ts → AreSiblings set h ts → AreSiblings (breaks_of ts) (height_of ts) ts
 siblings_of_first set h ts some a = rw (height_of_is set h ts some a.each, breaks_of_is set h ts some a.each) a
@@ -128,7 +127,7 @@ module _ (set : LineBreaks) (h : ℕ) (ts : List Tree) (k : ℕ) (child : Tree) 
           let all : All (IsChild set h) (take k ts ++ drop k ts) = rw take-append-drop a.each in
           let all' : All (IsChild set h) (take (k + 1) ts ++ drop (k + 1) ts) = rw take-append-drop a.each in
           let wide : (u : Tree) → IsWide child.breaks (min 12 child.width) child.height u → IsChild set h u =
-              λ u w. wide_more set (min 12 child.width) h u (λ p. omega (arith, own.wide p)) (rw (own.same_breaks, own.at_height) at w) in
+          λ u w. wide_more set (min 12 child.width) h u (λ p. omega (arith, own.wide p)) (rw (own.same_breaks, own.at_height) at w) in
           All-append (IsChild set h) (take k ts) (ps ++ drop (k + 1) ts) (all_left (IsChild set h) (take k ts) (drop k ts) all)
           (All-append (IsChild set h) ps (drop (k + 1) ts) (All-weaker (IsWide child.breaks (min 12 child.width) child.height) (IsChild set h) wide ps new.parts.each) (all_right (IsChild set h) (take (k + 1) ts) (drop (k + 1) ts) all'))
 
@@ -165,3 +164,8 @@ module _ (set : LineBreaks) (h : ℕ) (ts : List Tree) (k : ℕ) (child : Tree) 
               full = λ e f. omega (arith, p.full e f, new_length, new.parts.at_most_two, widths);
             };
           }
+
+pub length-inserted : (xs : List ℕ) (i : ℕ) (s : List ℕ) → length (inserted xs i s) ≡ length xs + length s
+length-inserted xs i s =
+    let whole = ap length (take-append-drop i xs) in
+    omega (arith, ap length (inserted_is xs i s), length-append (take i xs) (s ++ drop i xs), length-append s (drop i xs), length-append (take i xs) (drop i xs), whole)

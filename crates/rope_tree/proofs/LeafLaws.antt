@@ -1,14 +1,9 @@
 -- What holds of leaf texts that stand side by side.
-use Rattle.std.proofs.Common.{◌≡◌, ℕ, ◌+◌, ◌≤◌, ◌<◌, Bool, true, false, ◌&&◌, List, [], ◌∷◌, ◌++◌, length, take, drop, refl, sym, ap, ◌∙◌, arith, append_assoc}
+use Rattle.std.proofs.Common.{◌≡◌, ℕ, ◌≤◌, ◌<◌, Bool, true, false, ◌&&◌, List, [], ◌∷◌, ◌++◌, length, take, drop, refl, sym, ap, ◌∙◌, arith}
 use Rattle.std.specs.List.{All, concat}
-use Rattle.std.specs.Str.{encode_utf8_all, all_scalars}
 use Rattle.std.proofs.lemmas.List.{append-nil, length-append, take-append-drop}
 use Rattle.std.proofs.lemmas.List.Elements.{All-nil, All-cons, All-head, All-tail, All-append, All-weaker}
-use Rattle.std.proofs.lemmas.Str.{encodes-append, length-le-encodes}
-use Rattle.rope_text.specs.Text.{byte_len}
 use Rattle.rope_text.specs.Breaks.{ends_in_cr}
-use Rattle.rope_text.specs.Cutting.{parts_crlf, KeepsCrlf}
-use Rattle.rope_text.proofs.Measures.{IsMeasure-byte_len}
 use Rattle.rope_text.proofs.CuttingLaws.{concat-append, ends_in_cr-append, KeepsCrlf-append}
 use Rattle.rope_text.proofs.ChunkLaws.{KeepsCrlf-left, KeepsCrlf-right, KeepsCrlf_seam}
 use Rattle.rope_tree.specs.Leaves.{IsSeam, IsLeafText, AreLeaves, Recuts}

@@ -8,3 +8,5 @@ pub mod Descents
 pub mod FoundLaws
 pub mod InsertLaws
 pub mod InsertTrees
+pub mod InsertLeaves
+pub mod InsertDescents

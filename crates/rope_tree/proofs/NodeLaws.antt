@@ -1,8 +1,7 @@
 -- What holds of nodes, and of trees side by side.
-use Rattle.std.proofs.Common.{◌≡◌, ℕ, ◌+◌, ◌-◌, ◌<◌, ◌≤◌, ◌^◌, true, false, List, [], ◌∷◌, ◌++◌, length, get_or, take, drop, refl, sym, ap, subst, ◌∙◌, arith, inl, inr}
-use Rattle.std.specs.List.{concat, All}
-use Rattle.std.specs.Str.{all_scalars}
-use Rattle.std.proofs.lemmas.List.{append-nil, append_assoc, length-append, length-map, length-take, length-take-le, take_more, take_all, take-take, take-append-drop, get_or_append_left, get_or_push, get_or-map}
+use Rattle.std.proofs.Common.{◌≡◌, ℕ, ◌+◌, ◌-◌, ◌<◌, ◌≤◌, ◌^◌, false, List, [], ◌∷◌, ◌++◌, length, get_or, take, drop, refl, sym, ap, subst, ◌∙◌, arith, inl, inr}
+use Rattle.std.specs.List.{concat}
+use Rattle.std.proofs.lemmas.List.{append-nil, length-append, length-map, length-take-le, take_more, take_all, take-take, take-append-drop, get_or_append_left, get_or_push, get_or-map}
 use Rattle.std.proofs.lemmas.Bool.{cases_lt}
 use Rattle.std.proofs.lemmas.List.Elements.{All-get_or}
 use Rattle.std.proofs.lemmas.List.Concat.{flat_map-append}
@@ -78,7 +77,7 @@ joined_apart ts k d l a =
     let whole : AreLeaves (leaves_of (take (k + 1) ts) ++ leaves_of (drop (k + 1) ts)) = subst AreLeaves (ap leaves_of (sym (take-append-drop (k + 1) ts)) ∙ leaves_of-append (take (k + 1) ts) (drop (k + 1) ts)) a in
     let front = leaves_left (leaves_of (take (k + 1) ts)) (leaves_of (drop (k + 1) ts)) whole in
     let e : leaves_of (take (k + 1) ts) ≡ leaves_of (take k ts) ++ (get_or ts k d).leaves =
-        ap leaves_of (take_more ts k d l) ∙ leaves_of-append (take k ts) (get_or ts k d ∷ []) ∙ ap (λ xs. leaves_of (take k ts) ++ xs) (append-nil (get_or ts k d).leaves) in
+    ap leaves_of (take_more ts k d l) ∙ leaves_of-append (take k ts) (get_or ts k d ∷ []) ∙ ap (λ xs. leaves_of (take k ts) ++ xs) (append-nil (get_or ts k d).leaves) in
     (leaves_seam (leaves_of (take k ts)) (get_or ts k d).leaves (subst AreLeaves e front)).apart
 
 -- one more total

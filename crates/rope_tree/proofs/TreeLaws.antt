@@ -11,7 +11,6 @@ use Rattle.rope_tree.specs.Tree.{Tree, leaves_of, joined, height_of, breaks_of, 
 use Rattle.std.specs.Str.{all_scalars}
 use Rattle.std.proofs.lemmas.Str.{length-le-encodes}
 use Rattle.rope_text.specs.declared.line_breaks.LineBreaks.{LineBreaks}
-use Rattle.rope_tree.specs.Leaves.{IsLeafText}
 use Rattle.rope_tree.proofs.LeafLaws.{leaves_le, no_leaves, lone_leaf}
 
 pub wide_weaker : (set : LineBreaks) (v w h : ℕ) (t : Tree) → v ≤ w → IsWide set w h t → IsWide set v h t

@@ -1,5 +1,5 @@
 -- Trees side by side, and what becomes of them.
-use Rattle.std.specs.Prelude.{◌≡◌, ℕ, ◌+◌, ◌^◌, ◌≤◌, ◌<◌, min, List, length}
+use Rattle.std.specs.Prelude.{◌≡◌, ℕ, ◌^◌, ◌≤◌, ◌<◌, min, List, length}
 use Rattle.std.specs.List.{All}
 use Rattle.rope_text.specs.declared.line_breaks.LineBreaks.{LineBreaks}
 use Rattle.rope_text.specs.Text.{byte_len}

@@ -3,6 +3,7 @@
 
 pub mod children;
 pub mod conversions;
+pub mod insert;
 pub mod lookup;
 pub mod node;
 pub mod node_text;

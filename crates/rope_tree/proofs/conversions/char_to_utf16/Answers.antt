@@ -1,14 +1,13 @@
-use Rattle.std.proofs.Common.{◌≡◌, ◌+◌, ◌-◌, ℕ, length, take, sym, ap, ◌∙◌, arith}
+use Rattle.std.proofs.Common.{◌≡◌, ◌+◌, ◌-◌, sym, ap, ◌∙◌, arith}
 use Rattle.std.proofs.lemmas.Str.{length-le-encodes}
-use Rattle.rope_text.specs.Text.{byte_len, utf16_len}
-use Rattle.rope_text.specs.Lines.{line_start}
-use Rattle.rope_text.specs.Conversions.{byte_to_char, byte_to_line, char_to_byte, char_to_line, char_to_utf16, line_to_byte, line_to_char, utf16_to_char}
-use Rattle.rope_text.proofs.Measures.{IsMeasure-byte_len, IsMeasure-utf16_len, size_le_all}
-use Rattle.rope_text.proofs.ConversionLaws.{byte_to_char-le-length, utf16_len-le, char_to_line_end}
+use Rattle.rope_text.specs.Text.{utf16_len}
+use Rattle.rope_text.specs.Conversions.{char_to_utf16}
+use Rattle.rope_text.proofs.Measures.{IsMeasure-utf16_len, size_le_all}
+use Rattle.rope_text.proofs.ConversionLaws.{utf16_len-le}
 use Rattle.rope_tree.specs.Tree.{text}
 use Rattle.rope_tree.proofs.Infos.{small_info}
 use Rattle.rope_tree.proofs.Descents.{small_found}
-use Rattle.rope_tree.proofs.FoundLaws.{byte_to_char_end, utf16_to_char_end, char_to_byte_end, char_to_utf16_end, byte_to_line_end, line_start_first, line_start_past, found_byte_to_char, found_utf16_to_char, found_char_to_line, found_byte_to_line, found_char_to_byte, found_char_to_utf16, found_line_start, found_line_to_byte, char_to_line-le, byte_to_line-le, utf16_to_char-le}
+use Rattle.rope_tree.proofs.FoundLaws.{found_char_to_utf16}
 use Rattle.rope_tree.proofs.conversions.char_to_utf16.Goals.{After-char_to_utf16_idx}
 use Rattle.rope_tree.proofs.conversions.char_to_utf16.Goals as goal
 

@@ -1,8 +1,6 @@
-use Rattle.std.proofs.Common.{◌≡◌, ℕ, sym, ◌∙◌, ap, refl, arith}
-use Rattle.rope_tree.specs.Tree.{height_of, breaks_of, text}
+use Rattle.std.proofs.Common.{ℕ, ap, refl, arith}
+use Rattle.rope_tree.specs.Tree.{breaks_of}
 use Rattle.rope_tree.specs.Listed.{trees}
-use Rattle.rope_tree.specs.Search.{count_of, IsSmall}
-use Rattle.rope_tree.proofs.TreeLaws.{height_of_is}
 use Rattle.rope_tree.proofs.NodeLaws.{small_totals}
 use Rattle.rope_tree.proofs.Descents.{Descends, descends, found_inner, found_leaf, small_found}
 use Rattle.rope_tree.proofs.lookup.+leaf_at.Goals.{After-deref}

@@ -1,4 +1,4 @@
-use Rattle.std.proofs.Common.{◌≡◌, ◌-◌, ap, get_or, sym, ◌∙◌, arith, Some}
+use Rattle.std.proofs.Common.{◌-◌, ap, get_or, sym, ◌∙◌, Some}
 use Rattle.rope_tree.proofs.FoundLaws.{found_byte}
 use Rattle.rope_tree.proofs.lookup.byte_at.Goals as goal
 

@@ -1,4 +1,4 @@
-use Rattle.std.proofs.Common.{◌≡◌, ◌<◌, ◌+◌, ◌-◌, ap, get_or, sym, ◌∙◌, arith, Some, drop, length, length-drop, slice_get, subst}
+use Rattle.std.proofs.Common.{◌≡◌, ◌+◌, ◌-◌, ap, get_or, sym, ◌∙◌, arith, Some, drop, length-drop, slice_get, subst}
 use Rattle.std.specs.Str.{chars}
 use Rattle.std.proofs.lemmas.Option.{get_or_from_slice_get}
 use Rattle.std.proofs.lemmas.List.{get_or-drop}
@@ -23,5 +23,5 @@ returns-clause-value c =
     let f = found_char c.args.char_idx c.args.node.now leaf c.leaf_at-found.result.before c.leaf_at-found.ensures.found in
     let first : slice_get (drop k leaf) 0 ≡ Some c.first_char.result = subst (λ cs. slice_get cs 0 ≡ Some c.first_char.result) (rest (goal.at.returns-clause-value c).After-range_from) c.first_char.ensures in
     let same : get_or leaf k 0 ≡ c.first_char.result =
-        (let e : k ≡ k + 0 = omega arith in ap (λ n. get_or leaf n 0) e) ∙ sym (get_or-drop k leaf 0 0) ∙ get_or_from_slice_get (drop k leaf) 0 c.first_char.result 0 first in
+    (let e : k ≡ k + 0 = omega arith in ap (λ n. get_or leaf n 0) e) ∙ sym (get_or-drop k leaf 0 0) ∙ get_or_from_slice_get (drop k leaf) 0 c.first_char.result 0 first in
     f.1 ∙ ap (λ x. Some x) same
