@@ -1,4 +1,10 @@
-//! The leaves of a rope.
+//! The tree of a rope: leaf texts under nodes with running totals.
 #![tactic(auto)]
 
+pub mod children;
+pub mod conversions;
+pub mod insert;
+pub mod lookup;
+pub mod node;
 pub mod node_text;
+pub mod search;

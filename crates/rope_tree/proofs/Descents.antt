@@ -1,0 +1,178 @@
+-- What a step down from a node to one of its children keeps.
+use Rattle.std.proofs.Common.{◌≡◌, ℕ, zero, suc, ◌+◌, ◌-◌, ◌<◌, ◌≤◌, false, List, [], ◌∷◌, ◌++◌, length, get_or, take, drop, refl, sym, ap, subst, ◌∙◌, arith}
+use Rattle.std.specs.List.{concat}
+use Rattle.std.proofs.lemmas.List.{append-nil, append_assoc, length-append, length-map, take-append-drop, take_more, take-append-le, get_or-append-add, get_or_append_left}
+use Rattle.std.proofs.Math.Seq.{take-append-add}
+use Rattle.std.specs.declared.alloc.Global.{Global}
+use Rattle.std.specs.declared.rc.Rc.{Rc}
+use Rattle.rope_text.specs.declared.line_breaks.LineBreaks.{LineBreaks}
+use Rattle.rope_text.specs.declared.text_info.TextInfo.{TextInfo}
+use Rattle.rope_text.specs.Text.{byte_len}
+use Rattle.rope_text.specs.TextInfo.{info_of, info_sum}
+use Rattle.rope_text.specs.Cutting.{parts_crlf}
+use Rattle.rope_text.proofs.Measures.{IsMeasure-byte_len}
+use Rattle.rope_text.proofs.CuttingLaws.{concat-append}
+use Rattle.rope_text.proofs.BreakLaws.{break_ends-nil}
+use Rattle.rope_text.proofs.InfoLaws.{info_of-append_apart}
+use Rattle.rope_tree.specs.declared.node.Node.{Node}
+use Rattle.rope_tree.specs.declared.search.Unit.{Unit}
+use Rattle.rope_tree.specs.declared.search.Unit.TheVariants.{Byte, Char, CodeUnit, LineBreak}
+use Rattle.rope_tree.specs.Leaves.{AreLeaves, IsSeam}
+use Rattle.rope_tree.specs.Tree.{Tree, text, joined, leaves_of, height_of, breaks_of, tree_over, leaf_tree, IsTree, IsChild, AreChildren}
+use Rattle.rope_tree.specs.Listed.{trees, HasTotals}
+use Rattle.rope_tree.specs.Search.{count_of, IsSmall}
+use Rattle.rope_tree.specs.Found.{IsFound}
+use Rattle.rope_tree.proofs.LeafLaws.{seam_of_left, leaves_seam}
+use Rattle.rope_tree.proofs.NodeLaws.{leaves_of-append, byte_len-joined, tree_at, child_at, more_at}
+use Rattle.rope_tree.proofs.Infos.{small_info}
+
+-- a count of joined texts
+pub count_of-sum : (unit : Unit) (a b : TextInfo) → count_of unit (info_sum a b) ≡ count_of unit a + count_of unit b
+count_of-sum Byte a b = refl
+count_of-sum Char a b = refl
+count_of-sum CodeUnit a b = omega arith
+count_of-sum LineBreak a b = refl
+
+pub count_of-nil : (unit : Unit) (set : LineBreaks) → count_of unit (info_of set []) ≡ 0
+count_of-nil Byte set = refl
+count_of-nil Char set = refl
+count_of-nil CodeUnit set = refl
+count_of-nil LineBreak set = ap length (break_ends-nil set)
+
+-- the counts before a place, as the code finds them
+pub front_is : (set : LineBreaks) (totals : List TextInfo) (ts : List Tree) (k : ℕ) (front : TextInfo) → HasTotals set totals ts → k ≤ length totals
+    → (k ≡ 0 → (s : LineBreaks) → front ≡ info_of s []) → ((d : TextInfo) → 0 < k → front ≡ get_or totals (k - 1) d) → front ≡ info_of set (joined (take k ts))
+front_is set totals ts zero front h within first later = first refl set
+front_is set totals ts (suc k) front h within first later =
+    let e : suc k - 1 ≡ k = omega arith in
+    later front (omega arith) ∙ ap (λ n. get_or totals n front) e ∙ h.total_at k front (omega (arith, h.as_many)) ∙ (let f : k + 1 ≡ suc k = omega arith in ap (λ n. info_of set (joined (take n ts))) f)
+
+-- the leaves around those of the k-th child
+pub leaves_at : (ts : List Tree) (k : ℕ) (d : Tree) → k < length ts → leaves_of ts ≡ leaves_of (take k ts) ++ ((get_or ts k d).leaves ++ leaves_of (drop (k + 1) ts))
+leaves_at ts k d l =
+    let own = append-nil (get_or ts k d).leaves in
+    ap leaves_of (sym (take-append-drop (k + 1) ts)) ∙ leaves_of-append (take (k + 1) ts) (drop (k + 1) ts)
+    ∙ ap (λ us. leaves_of us ++ leaves_of (drop (k + 1) ts)) (take_more ts k d l)
+    ∙ ap (λ xs. xs ++ leaves_of (drop (k + 1) ts)) (leaves_of-append (take k ts) (get_or ts k d ∷ []) ∙ ap (λ xs. leaves_of (take k ts) ++ xs) own)
+    ∙ append_assoc (leaves_of (take k ts)) (get_or ts k d).leaves (leaves_of (drop (k + 1) ts))
+
+-- the counts of the text up to a leaf of the k-th child
+module _ (set : LineBreaks) (left own right : List (List ℕ)) (a : AreLeaves (left ++ (own ++ right))) where
+  pub front_leaves : (i : ℕ) → i ≤ length own → take (length left + i) (left ++ (own ++ right)) ≡ left ++ take i own
+  front_leaves i le = take-append-add left (own ++ right) i ∙ ap (λ xs. left ++ xs) (take-append-le i own right le)
+
+  pub front_apart : (i : ℕ) → parts_crlf (concat left) (concat (take i own)) ≡ false
+  front_apart i =
+      let seam = leaves_seam left (own ++ right) a in
+      let rest = concat (drop i own) ++ concat right in
+      let e : concat (own ++ right) ≡ concat (take i own) ++ rest =
+      concat-append own right ∙ ap (λ xs. concat xs ++ concat right) (sym (take-append-drop i own)) ∙ ap (λ s. s ++ concat right) (concat-append (take i own) (drop i own))
+      ∙ append_assoc (concat (take i own)) (concat (drop i own)) (concat right) in
+      (seam_of_left (concat left) (concat (take i own)) rest (subst (IsSeam (concat left)) e seam)).apart
+
+  pub front_info : (i : ℕ) → i ≤ length own → info_of set (concat (take (length left + i) (left ++ (own ++ right)))) ≡ info_sum (info_of set (concat left)) (info_of set (concat (take i own)))
+  front_info i le =
+      ap (λ xs. info_of set (concat xs)) (front_leaves i le) ∙ ap (info_of set) (concat-append left (take i own))
+      ∙ info_of-append_apart set (concat left) (concat (take i own)) (front_apart i)
+
+-- the place is in the k-th child
+pub record Descends (set : LineBreaks) (unit : Unit) (at : ℕ) (ts : List Tree) (k : ℕ) (child : Tree) (front : TextInfo) : Type 0 where
+  pub children : AreChildren set (height_of ts) ts
+  pub within : k < length ts
+  pub child_is : get_or ts k child ≡ child
+  pub front_is : front ≡ info_of set (joined (take k ts))
+  pub small : IsSmall front
+  pub own : IsChild set (height_of ts) child
+  pub not_past : count_of unit front ≤ at
+  pub past : at < count_of unit front + count_of unit (info_of child.breaks (text child))
+
+pub descends : (unit : Unit) (at : ℕ) (rcs : List (Rc Node Global)) (totals : List TextInfo) (k : ℕ) (item : Rc Node Global) (child : Tree) (front : TextInfo)
+    → AreChildren (breaks_of (trees rcs)) (height_of (trees rcs)) (trees rcs) → HasTotals (breaks_of (trees rcs)) totals (trees rcs)
+    → k < length totals → item ≡ get_or rcs k item → child ≡ item.value
+    → (k ≡ 0 → (s : LineBreaks) → front ≡ info_of s []) → ((d : TextInfo) → 0 < k → front ≡ get_or totals (k - 1) d)
+    → ((d : TextInfo) → 0 < k → count_of unit (get_or totals (k - 1) d) ≤ at) → ((d : TextInfo) → at < count_of unit (get_or totals k d))
+    → Descends (breaks_of (trees rcs)) unit at (trees rcs) k child front
+descends unit at rcs totals k item child front a h lt is value first later not_past past =
+    let ts = trees rcs in
+    let set = breaks_of ts in
+    let l : k < length ts = omega (arith, h.as_many) in
+    let l' : k < length rcs = omega (arith, length-map rcs (λ rc. rc.value)) in
+    let here : get_or ts k child ≡ child = tree_at rcs k item child l' is value in
+    let f = front_is set totals ts k front h (omega arith) first later in
+    let own = child_at set (height_of ts) ts k child a l here in
+    let more = more_at set (height_of ts) ts k child a l here in
+    record {
+      children = a;
+      within = l;
+      child_is = here;
+      front_is = f;
+      own = own;
+      small = rw f (small_info set (joined (take k ts)) (omega (arith, byte_len-joined ts k, a.fits)));
+      not_past = first_front unit at k totals front first later not_past;
+      past = let total = ap (count_of unit) (h.total_at k front l ∙ more) in
+          let own_counts = ap (λ b. count_of unit (info_of b (text child))) own.same_breaks in
+          let fronts = ap (count_of unit) f in
+          omega (arith, past front, total, own_counts, fronts, count_of-sum unit (info_of set (joined (take k ts))) (info_of set (text child)));
+    }
+  where
+    first_front : (unit : Unit) (at k : ℕ) (totals : List TextInfo) (front : TextInfo) → (k ≡ 0 → (s : LineBreaks) → front ≡ info_of s []) → ((d : TextInfo) → 0 < k → front ≡ get_or totals (k - 1) d)
+        → ((d : TextInfo) → 0 < k → count_of unit (get_or totals (k - 1) d) ≤ at) → count_of unit front ≤ at
+    first_front unit at zero totals front first later not_past = rw (first refl (breaks_of []), count_of-nil unit (breaks_of [])) (omega arith)
+    first_front unit at (suc k) totals front first later not_past = let e = ap (count_of unit) (later front (omega arith)) in omega (arith, e, not_past front (omega arith))
+
+-- what the child finds, the node finds
+pub found_inner : (set : LineBreaks) (unit : Unit) (at : ℕ) (t : Tree) (ts : List Tree) (k : ℕ) (child : Tree) (front before : TextInfo) (leaf : List ℕ)
+    → t ≡ tree_over ts → breaks_of ts ≡ set → Descends set unit at ts k child front → IsFound unit (at - count_of unit front) child leaf before → IsFound unit at t leaf (info_sum front before)
+found_inner set unit at t ts k child front before leaf is same d f =
+    let left = leaves_of (take k ts) in
+    let own = child.leaves in
+    let right = leaves_of (drop (k + 1) ts) in
+    let around : leaves_of ts ≡ left ++ (own ++ right) = subst (λ u. leaves_of ts ≡ left ++ (u.leaves ++ right)) d.child_is (leaves_at ts k child d.within) in
+    let whole : t.leaves ≡ left ++ (own ++ right) = ap (λ u. u.leaves) is ∙ around in
+    let sets : t.breaks ≡ set = ap (λ u. u.breaks) is ∙ same in
+    let a : AreLeaves (left ++ (own ++ right)) = subst AreLeaves around d.children.leaves in
+    let i = f.index in
+    let le : i ≤ length own = omega (arith, f.within) in
+    let le' : i + 1 ≤ length own = omega (arith, f.within) in
+    let here = front_info set left own right a i le in
+    let next = front_info set left own right a (i + 1) le' in
+    let old_before : before ≡ info_of set (concat (take i own)) = f.before_is ∙ ap (λ b. info_of b (concat (take i own))) d.own.same_breaks in
+    let old_past = ap (λ b. count_of unit (info_of b (concat (take (i + 1) own)))) d.own.same_breaks in
+    let fronts : info_of set (concat left) ≡ front = sym d.front_is in
+    let next_count = ap (count_of unit) next in
+    let shift : length left + (i + 1) ≡ length left + i + 1 = omega arith in
+    record {
+      index = length left + i;
+      within = rw whole (omega (arith, f.within, length-append left (own ++ right), length-append own right));
+      leaf_is = f.leaf_is ∙ sym (ap (λ xs. get_or xs (length left + i) []) whole ∙ get_or-append-add left (own ++ right) i [] ∙ get_or_append_left own right [] i f.within);
+      before_is = sym (ap (λ b. info_of b (concat (take (length left + i) t.leaves))) sets ∙ ap (λ xs. info_of set (concat (take (length left + i) xs))) whole ∙ here
+          ∙ ap (λ x. info_sum x (info_of set (concat (take i own)))) fronts ∙ ap (info_sum front) (sym old_before));
+      not_past = omega (arith, count_of-sum unit front before, f.not_past, d.not_past);
+      past =
+          let total : count_of unit (info_of t.breaks (concat (take (length left + i + 1) t.leaves))) ≡ count_of unit (info_sum (info_of set (concat left)) (info_of set (concat (take (i + 1) own)))) =
+          ap (λ b. count_of unit (info_of b (concat (take (length left + i + 1) t.leaves)))) sets ∙ ap (λ xs. count_of unit (info_of set (concat (take (length left + i + 1) xs)))) whole
+          ∙ ap (λ n. count_of unit (info_of set (concat (take n (left ++ (own ++ right)))))) (sym shift) ∙ next_count in
+          let sum = count_of-sum unit (info_of set (concat left)) (info_of set (concat (take (i + 1) own))) in
+          let fronts_count = ap (count_of unit) fronts in
+          omega (arith, total, sum, fronts_count, old_past, f.past, d.not_past);
+    }
+
+-- what is found in a leaf
+pub found_leaf : (unit : Unit) (at : ℕ) (t : Tree) (leaf : List ℕ) (before : TextInfo) → t ≡ leaf_tree t.breaks leaf → ((set : LineBreaks) → before ≡ info_of set []) → at < count_of unit (info_of t.breaks (text t)) → IsFound unit at t leaf before
+found_leaf unit at t [] before is none lt = absurd (omega (arith, ap (λ u. count_of unit (info_of t.breaks (text u))) is, count_of-nil unit t.breaks))
+found_leaf unit at t (c ∷ cs) before is none lt =
+    let leaves : t.leaves ≡ (c ∷ cs) ∷ [] = ap (λ u. u.leaves) is in
+    record {
+      index = 0;
+      within = rw leaves (omega arith);
+      leaf_is = rw leaves refl;
+      before_is = none t.breaks;
+      not_past = omega (arith, ap (count_of unit) (none t.breaks), count_of-nil unit t.breaks);
+      past = rw leaves (let e = ap (λ xs. count_of unit (info_of t.breaks (concat xs))) leaves in omega (arith, e, lt));
+    }
+
+-- the counts before what is found are small
+pub small_found : (unit : Unit) (at : ℕ) (t : Tree) (leaf : List ℕ) (before : TextInfo) → IsTree t → IsFound unit at t leaf before → IsSmall before
+small_found unit at t leaf before i f =
+    let parts : concat t.leaves ≡ concat (take f.index t.leaves) ++ concat (drop f.index t.leaves) = ap concat (sym (take-append-drop f.index t.leaves)) ∙ concat-append (take f.index t.leaves) (drop f.index t.leaves) in
+    rw f.before_is (small_info t.breaks (concat (take f.index t.leaves)) (omega (arith, ap byte_len parts, IsMeasure-byte_len.joined (concat (take f.index t.leaves)) (concat (drop f.index t.leaves)), i.fits)))

@@ -1,0 +1,12 @@
+pub mod LeafLaws
+pub mod TreeLaws
+pub mod Halving
+pub mod Infos
+pub mod NodeLaws
+pub mod SiblingLaws
+pub mod Descents
+pub mod FoundLaws
+pub mod InsertLaws
+pub mod InsertTrees
+pub mod InsertLeaves
+pub mod InsertDescents

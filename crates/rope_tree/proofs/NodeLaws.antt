@@ -1,0 +1,157 @@
+-- What holds of nodes, and of trees side by side.
+use Rattle.std.proofs.Common.{◌≡◌, ℕ, ◌+◌, ◌-◌, ◌<◌, ◌≤◌, ◌^◌, false, List, [], ◌∷◌, ◌++◌, length, get_or, take, drop, refl, sym, ap, subst, ◌∙◌, arith, inl, inr}
+use Rattle.std.specs.List.{concat}
+use Rattle.std.proofs.lemmas.List.{append-nil, length-append, length-map, length-take-le, take_more, take_all, take-take, take-append-drop, get_or_append_left, get_or_push, get_or-map}
+use Rattle.std.proofs.lemmas.Bool.{cases_lt}
+use Rattle.std.proofs.lemmas.List.Elements.{All-get_or}
+use Rattle.std.proofs.lemmas.List.Concat.{flat_map-append}
+use Rattle.std.specs.declared.alloc.Global.{Global}
+use Rattle.std.specs.declared.rc.Rc.{Rc}
+use Rattle.rope_text.specs.declared.line_breaks.LineBreaks.{LineBreaks}
+use Rattle.rope_text.specs.declared.text_info.TextInfo.{TextInfo}
+use Rattle.rope_text.specs.Text.{byte_len}
+use Rattle.rope_text.specs.TextInfo.{info_of, info_sum}
+use Rattle.rope_text.specs.Cutting.{parts_crlf}
+use Rattle.rope_text.proofs.Measures.{IsMeasure-byte_len}
+use Rattle.rope_text.proofs.InfoLaws.{info_of-append_apart}
+use Rattle.rope_text.proofs.CuttingLaws.{concat-append}
+use Rattle.rope_tree.specs.declared.node.Node.{Node}
+use Rattle.rope_tree.specs.declared.node.Node.TheInside.{Inside}
+use Rattle.rope_tree.specs.declared.node.Body.{Body}
+use Rattle.rope_tree.specs.declared.node.Body.TheVariants.{Leaf, Inner}
+use Rattle.rope_tree.specs.Leaves.{AreLeaves}
+use Rattle.rope_tree.specs.Tree.{Tree, text, joined, leaves_of, height_of, breaks_of, tree_over, one_leaf, IsTree, IsChild, AreChildren}
+use Rattle.rope_tree.specs.Shape.{body_leaves, body_width, tree_of, IsBody, IsNode}
+use Rattle.rope_tree.specs.Listed.{trees, HasTotals}
+use Rattle.rope_tree.specs.Search.{IsSmall}
+use Rattle.rope_tree.proofs.LeafLaws.{leaves_left, leaves_seam}
+use Rattle.rope_tree.proofs.TreeLaws.{height_of_is, breaks_of_is, is_tree_over, is_leaf_tree}
+use Rattle.rope_tree.proofs.Infos.{small_info}
+
+pub leaves_of-append : (xs ys : List Tree) → leaves_of (xs ++ ys) ≡ leaves_of xs ++ leaves_of ys
+leaves_of-append xs ys = flat_map-append (λ t. t.leaves) xs ys
+
+pub joined-append : (xs ys : List Tree) → joined (xs ++ ys) ≡ joined xs ++ joined ys
+joined-append xs ys = ap concat (leaves_of-append xs ys) ∙ concat-append (leaves_of xs) (leaves_of ys)
+
+pub joined_one : (t : Tree) → joined (t ∷ []) ≡ text t
+joined_one t = ap concat (append-nil t.leaves)
+
+pub leaf_text : (leaf : List ℕ) → concat (one_leaf leaf) ≡ leaf
+leaf_text [] = refl
+leaf_text (c ∷ cs) = append-nil (c ∷ cs)
+
+pub tree_of_inner : (set : LineBreaks) (h : ℕ) (ts : List Tree) (n : ℕ) → 1 ≤ h → AreChildren set (h - 1) ts → n ≡ length ts
+    → ◌≡◌ {A = Tree} (record { breaks = set; leaves = leaves_of ts; height = h; width = n }) (tree_over ts)
+tree_of_inner set h ts n p a e =
+    let f : h ≡ height_of ts + 1 = omega (arith, height_of_is set (h - 1) ts (omega (arith, a.at_least_two)) a.each) in
+    let g : set ≡ breaks_of ts = sym (breaks_of_is set (h - 1) ts (omega (arith, a.at_least_two)) a.each) in
+    cc
+
+is_tree_of_body : (set : LineBreaks) (h : ℕ) (b : Body) → IsBody set h b → IsTree (record { breaks = set; leaves = body_leaves b; height = h; width = body_width b })
+is_tree_of_body set h (Leaf l) i = rw i.0 (is_leaf_tree set l i.1 i.2 (rw leaf_text (omega (arith, i.1))))
+is_tree_of_body set h (Inner c) i = rw (tree_of_inner set h c (length c) i.0 i.1 refl) (is_tree_over set (h - 1) c i.1)
+
+pub is_tree_of : (a : Inside) → IsNode a → IsTree (tree_of a)
+is_tree_of a i = is_tree_of_body a.breaks a.height a.body i.body
+
+-- children by the facts of the first of them
+pub children_of_first : (set : LineBreaks) (h : ℕ) (ts : List Tree) → AreChildren set h ts → AreChildren (breaks_of ts) (height_of ts) ts
+children_of_first set h ts a =
+    let some : 1 ≤ length ts = omega (arith, a.at_least_two) in
+    rw (height_of_is set h ts some a.each, breaks_of_is set h ts some a.each) a
+
+-- the text up to the end of one more tree
+pub joined_more : (ts : List Tree) (k : ℕ) (d : Tree) → k < length ts → joined (take (k + 1) ts) ≡ joined (take k ts) ++ text (get_or ts k d)
+joined_more ts k d l = ap joined (take_more ts k d l) ∙ joined-append (take k ts) (get_or ts k d ∷ []) ∙ ap (λ s. joined (take k ts) ++ s) (joined_one (get_or ts k d))
+
+pub joined_parts : (ts : List Tree) (k : ℕ) → joined ts ≡ joined (take k ts) ++ joined (drop k ts)
+joined_parts ts k = ap joined (sym (take-append-drop k ts)) ∙ joined-append (take k ts) (drop k ts)
+
+pub byte_len-joined : (ts : List Tree) (k : ℕ) → byte_len (joined (take k ts)) ≤ byte_len (joined ts)
+byte_len-joined ts k = omega (arith, ap byte_len (joined_parts ts k), IsMeasure-byte_len.joined (joined (take k ts)) (joined (drop k ts)))
+
+-- no CR LF lies across the end of the first trees
+pub joined_apart : (ts : List Tree) (k : ℕ) (d : Tree) → k < length ts → AreLeaves (leaves_of ts) → parts_crlf (joined (take k ts)) (text (get_or ts k d)) ≡ false
+joined_apart ts k d l a =
+    let whole : AreLeaves (leaves_of (take (k + 1) ts) ++ leaves_of (drop (k + 1) ts)) = subst AreLeaves (ap leaves_of (sym (take-append-drop (k + 1) ts)) ∙ leaves_of-append (take (k + 1) ts) (drop (k + 1) ts)) a in
+    let front = leaves_left (leaves_of (take (k + 1) ts)) (leaves_of (drop (k + 1) ts)) whole in
+    let e : leaves_of (take (k + 1) ts) ≡ leaves_of (take k ts) ++ (get_or ts k d).leaves =
+    ap leaves_of (take_more ts k d l) ∙ leaves_of-append (take k ts) (get_or ts k d ∷ []) ∙ ap (λ xs. leaves_of (take k ts) ++ xs) (append-nil (get_or ts k d).leaves) in
+    (leaves_seam (leaves_of (take k ts)) (get_or ts k d).leaves (subst AreLeaves e front)).apart
+
+-- one more total
+pub totals_more : (set : LineBreaks) (ts : List Tree) (i : ℕ) (totals : List TextInfo) (total : TextInfo) → i < length ts → HasTotals set totals (take i ts)
+    → total ≡ info_of set (joined (take (i + 1) ts)) → HasTotals set (totals ++ total ∷ []) (take (i + 1) ts)
+totals_more set ts i totals total lt h e =
+    let n : length (take i ts) ≡ i = length-take-le i ts (omega arith) in
+    let m : length (take (i + 1) ts) ≡ i + 1 = length-take-le (i + 1) ts (omega arith) in
+    record {
+      as_many = omega (arith, h.as_many, length-append totals (total ∷ []));
+      total_at = λ k d p. elim (cases_lt k i) [
+        | inl l ↦
+            let a : get_or (totals ++ total ∷ []) k d ≡ get_or totals k d = get_or_append_left totals (total ∷ []) d k (omega (arith, h.as_many)) in
+            let b : take (k + 1) (take i ts) ≡ take (k + 1) ts = take-take (k + 1) i ts (omega arith) in
+            let c : take (k + 1) (take (i + 1) ts) ≡ take (k + 1) ts = take-take (k + 1) (i + 1) ts (omega arith) in
+            a ∙ h.total_at k d (omega arith) ∙ ap (λ us. info_of set (joined us)) (b ∙ sym c)
+        | inr ge ↦
+            let q : k ≡ i = omega arith in
+            let a : get_or (totals ++ total ∷ []) k d ≡ total = get_or_push totals total d k (omega (arith, h.as_many)) in
+            let b : take (k + 1) (take (i + 1) ts) ≡ take (i + 1) ts = take_all (k + 1) (take (i + 1) ts) (omega arith) in
+            a ∙ e ∙ ap (λ us. info_of set (joined us)) (sym b)
+      ];
+    }
+
+pub no_totals : (set : LineBreaks) (ts : List Tree) → HasTotals set [] (take 0 ts)
+no_totals set ts = record { as_many = refl; total_at = λ k d p. absurd (omega arith) }
+
+-- every total is small
+pub small_totals : (set : LineBreaks) (totals : List TextInfo) (ts : List Tree) → HasTotals set totals ts → byte_len (joined ts) < 2 ^ 63
+    → (k : ℕ) (d : TextInfo) → k < length totals → IsSmall (get_or totals k d)
+small_totals set totals ts h fits k d l =
+    rw (h.total_at k d (omega (arith, h.as_many))) (small_info set (joined (take (k + 1) ts)) (omega (arith, byte_len-joined ts (k + 1))))
+
+-- the node at a place, as a tree
+pub tree_at : (rcs : List (Rc Node Global)) (i : ℕ) (item : Rc Node Global) (n : Tree) → i < length rcs → item ≡ get_or rcs i item → n ≡ item.value → get_or (trees rcs) i n ≡ n
+tree_at rcs i item n lt at is = get_or-map (λ rc. rc.value) rcs i item n lt ∙ ap (λ rc. rc.value) (sym at) ∙ sym is
+
+-- the first node
+pub first_height : (rcs : List (Rc Node Global)) (d : Rc Node Global) → 1 ≤ length rcs → (get_or rcs 0 d).value.height ≡ height_of (trees rcs)
+first_height [] d some = absurd (omega arith)
+first_height (rc ∷ rcs) d some = refl
+
+pub first_breaks : (rcs : List (Rc Node Global)) (d : Rc Node Global) → 1 ≤ length rcs → (get_or rcs 0 d).value.breaks ≡ breaks_of (trees rcs)
+first_breaks [] d some = absurd (omega arith)
+first_breaks (rc ∷ rcs) d some = refl
+
+-- the tree at a place among children, and the counts up to its end
+pub child_at : (set : LineBreaks) (h : ℕ) (ts : List Tree) (k : ℕ) (child : Tree) → AreChildren set h ts → k < length ts → get_or ts k child ≡ child → IsChild set h child
+child_at set h ts k child a l here = subst (IsChild set h) here (All-get_or (IsChild set h) ts k child l a.each)
+
+pub more_at : (set : LineBreaks) (h : ℕ) (ts : List Tree) (k : ℕ) (child : Tree) → AreChildren set h ts → k < length ts → get_or ts k child ≡ child
+    → info_of set (joined (take (k + 1) ts)) ≡ info_sum (info_of set (joined (take k ts))) (info_of set (text child))
+more_at set h ts k child a l here =
+    let apart : parts_crlf (joined (take k ts)) (text child) ≡ false = subst (λ u. parts_crlf (joined (take k ts)) (text u) ≡ false) here (joined_apart ts k child l a.leaves) in
+    let longer : joined (take (k + 1) ts) ≡ joined (take k ts) ++ text child = subst (λ u. joined (take (k + 1) ts) ≡ joined (take k ts) ++ text u) here (joined_more ts k child l) in
+    ap (info_of set) longer ∙ info_of-append_apart set (joined (take k ts)) (text child) apart
+
+-- one more node is counted
+pub record AddsNode (set : LineBreaks) (ts : List Tree) (i : ℕ) (total info : TextInfo) : Type 0 where
+  pub small_total : IsSmall total
+  pub small_info : IsSmall info
+  pub more : info_of set (joined (take (i + 1) ts)) ≡ info_sum total info
+
+pub adds_node : (set : LineBreaks) (h : ℕ) (rcs : List (Rc Node Global)) (i : ℕ) (item : Rc Node Global) (n : Tree) (total info : TextInfo)
+    → AreChildren set h (trees rcs) → i < length rcs → item ≡ get_or rcs i item → n ≡ item.value
+    → total ≡ info_of set (joined (take i (trees rcs))) → info ≡ info_of n.breaks (text n) → AddsNode set (trees rcs) i total info
+adds_node set h rcs i item n total info a lt at is front own =
+    let ts = trees rcs in
+    let l : i < length ts = omega (arith, length-map rcs (λ rc. rc.value)) in
+    let here : get_or ts i n ≡ n = tree_at rcs i item n lt at is in
+    let child = child_at set h ts i n a l here in
+    let counts : info ≡ info_of set (text n) = own ∙ ap (λ b. info_of b (text n)) child.same_breaks in
+    record {
+      small_total = rw front (small_info set (joined (take i ts)) (omega (arith, byte_len-joined ts i, a.fits)));
+      small_info = rw counts (small_info set (text n) child.tree.fits);
+      more = more_at set h ts i n a l here ∙ (rw (front, counts) refl);
+    }

@@ -1,0 +1,17 @@
+-- What an insert into a tree needs and gives.
+use Rattle.std.specs.Prelude.{◌≡◌, ℕ, ◌+◌, Bool, true, false, List, drop}
+use Rattle.rope_text.specs.Breaks.{begins_with_lf}
+use Rattle.rope_tree.specs.Leaves.{AreLeaves, IsSeam}
+use Rattle.rope_tree.specs.Tree.{Tree, text, joined, leaves_of}
+use Rattle.rope_tree.specs.Siblings.{AreParts}
+
+-- on which side of a seam a text goes: to the left of it, where it doesn't end in CR before an LF, or else to the right, before that LF
+pub record MayInsert (t : Tree) (at : ℕ) (new : List ℕ) (to_right : Bool) : Type 0 where
+  pub left : to_right ≡ false → IsSeam new (drop at (text t))
+  pub right : to_right ≡ true → begins_with_lf (drop at (text t)) ≡ true
+
+-- one tree or two of the old height, of this text
+pub record IsInserted (old : Tree) (ts : List Tree) (new : List ℕ) : Type 0 where
+  pub text_is : joined ts ≡ new
+  pub leaves : AreLeaves (leaves_of ts)
+  pub parts : AreParts old.breaks old.width (old.width + 1) old.height ts

@@ -1,0 +1,19 @@
+-- What a search counts in.
+use Rattle.std.specs.Prelude.{ℕ, ◌+◌, ◌<◌, ◌≤◌, ◌^◌}
+use Rattle.rope_text.specs.declared.text_info.TextInfo.{TextInfo}
+use Rattle.rope_tree.specs.declared.search.Unit.{Unit}
+use Rattle.rope_tree.specs.declared.search.Unit.TheVariants.{Byte, Char, CodeUnit, LineBreak}
+
+-- one of the counts
+abbrev pub count_of : Unit → TextInfo → ℕ
+count_of Byte info = info.bytes
+count_of Char info = info.chars
+count_of CodeUnit info = info.chars + info.utf16_surrogates
+count_of LineBreak info = info.line_breaks
+
+-- the counts are those of a text that a rope may have
+pub record IsSmall (info : TextInfo) : Type 0 where
+  pub bytes : info.bytes < 2 ^ 63
+  pub chars : info.chars ≤ info.bytes
+  pub surrogates : info.utf16_surrogates ≤ info.chars
+  pub breaks : info.line_breaks ≤ info.chars

@@ -1,0 +1,79 @@
+//! Lists of shared nodes.
+ghost use Rattle.std.specs.Prelude.{◌≡◌, ◌+◌, ◌≤◌, ◌++◌, length, IfOk};
+ghost use Rattle.rope_tree.specs.Tree.{leaves_of, height_of, breaks_of};
+ghost use Rattle.rope_tree.specs.Listed.{trees};
+ghost use Rattle.rope_tree.specs.View.{trees_in};
+ghost use Rattle.rope_tree.specs.Siblings.{AreSiblings, AreParts};
+
+use crate::node::{Node, Nodes, make_inner};
+use rope_text::MAX_CHILDREN;
+use std::alloc::{AllocError, Global};
+use std::rc::Rc;
+
+/// The same node once more.
+pub fn share(node: &Rc<Node>) -> Result<Rc<Node>, AllocError>
+    ensures { IfOk result (λ r. r.value ≡ node.now.value) }
+{
+    node.clone()
+}
+
+/// Appends the nodes.
+fn push_all(list: &mut Vec<Rc<Node>>, nodes: &[Rc<Node>]) -> Result<(), AllocError>
+    ensures { IfOk result (λ _. trees list.new.items ≡ trees list.old.items ++ trees nodes.now) }
+{
+    for node in nodes {
+        list.push(share(node)?)?;
+    }
+    Ok(())
+}
+
+/// The nodes before, one or two, and the nodes after.
+pub fn splice(
+    alloc: Global,
+    before: &[Rc<Node>],
+    middle: Nodes,
+    after: &[Rc<Node>],
+) -> Result<Vec<Rc<Node>>, AllocError>
+    ensures { IfOk result (λ v. trees v.items ≡ trees before.now ++ (trees_in middle ++ trees after.now)) }
+{
+    let mut list = Vec::with_capacity(alloc, MAX_CHILDREN + 1)?;
+    push_all(&mut list, before)?;
+    match middle {
+        Nodes::One(node) => list.push(node)?,
+        Nodes::Two(first, second) => {
+            list.push(first)?;
+            list.push(second)?;
+        }
+    }
+    push_all(&mut list, after)?;
+    Ok(list)
+}
+
+/// The nodes once more.
+pub fn copied(alloc: Global, nodes: &[Rc<Node>]) -> Result<Vec<Rc<Node>>, AllocError>
+    ensures { IfOk result (λ v. trees v.items ≡ trees nodes.now) }
+{
+    let mut list = Vec::with_capacity(alloc, MAX_CHILDREN)?;
+    push_all(&mut list, nodes)?;
+    Ok(list)
+}
+
+/// A node over the nodes, or two over a half of them each where one can't hold them.
+pub fn pack(alloc: Global, nodes: Vec<Rc<Node>>, made: &mut u64) -> Result<Nodes, AllocError>
+    requires siblings { AreSiblings (breaks_of (trees nodes.items)) (height_of (trees nodes.items)) (trees nodes.items) }
+    requires at_least_two { 2 ≤ length (trees nodes.items) }
+    requires at_most_48 { length (trees nodes.items) ≤ 48 }
+    ensures leaves { IfOk result (λ p. leaves_of (trees_in p) ≡ leaves_of (trees nodes.items)) }
+    ensures shape { IfOk result (λ p. AreParts (breaks_of (trees nodes.items)) (length (trees nodes.items)) (length (trees nodes.items)) (height_of (trees nodes.items) + 1) (trees_in p)) }
+    ensures made { made.new ≤ made.old + 2 }
+{
+    if nodes.len() <= MAX_CHILDREN {
+        return Ok(Nodes::One(make_inner(alloc, nodes, made)?));
+    }
+    let half = nodes.len() / 2;
+    let first = copied(alloc, &nodes[..half])?;
+    let second = copied(alloc, &nodes[half..])?;
+    let first = make_inner(alloc, first, made)?;
+    let second = make_inner(alloc, second, made)?;
+    Ok(Nodes::Two(first, second))
+}

@@ -1,0 +1,102 @@
+//! Inserts of short texts, by copies of the nodes on the way down.
+ghost use Rattle.std.specs.Prelude.{◌≡◌, ◌+◌, ◌-◌, ◌*◌, ◌<◌, ◌≤◌, ◌^◌, ℕ, Bool, true, false, length, IfOk};
+ghost use Rattle.rope_text.specs.Text.{byte_len};
+ghost use Rattle.rope_text.specs.Edit.{inserted};
+ghost use Rattle.rope_text.specs.TextInfo.{info_of};
+ghost use Rattle.rope_tree.specs.Search.{count_of};
+ghost use Rattle.rope_tree.specs.Tree.{text, leaf_tree, IsTree};
+ghost use Rattle.rope_tree.specs.Listed.{trees, HasTotals};
+ghost use Rattle.rope_tree.specs.View.{trees_in};
+ghost use Rattle.rope_tree.specs.Insert.{MayInsert, IsInserted};
+
+use crate::children::{pack, splice};
+use crate::lookup::total_before;
+use crate::node::{Node, Nodes, View, make_leaf};
+use crate::node_text::NodeText;
+use crate::search::{Unit, place_of};
+use rope_text::{LineBreaks, Steps, TextInfo};
+use std::alloc::{AllocError, Global};
+use std::rc::Rc;
+
+/// A leaf of its own with this text.
+fn leaf_of(
+    alloc: Global,
+    breaks: LineBreaks,
+    leaf: NodeText,
+    made: &mut u64,
+) -> Result<Rc<Node>, AllocError>
+    ensures ok { IfOk result (λ node. node.value ≡ leaf_tree breaks leaf) }
+    ensures tree { IfOk result (λ node. IsTree node.value) }
+    ensures made { made.new ≤ made.old + 1 }
+{
+    let info = TextInfo::from_str(leaf.as_str(), breaks);
+    let node = make_leaf(alloc, breaks, leaf, info, made)?;
+    let _ = node.height();
+    Ok(node)
+}
+
+/// The leaf with another text before its character `at`, or two leaves where one can't hold both.
+fn insert_into_leaf(
+    alloc: Global,
+    breaks: LineBreaks,
+    leaf: &NodeText,
+    at: usize,
+    added: &NodeText,
+    made: &mut u64,
+) -> Result<Nodes, AllocError>
+    requires some { 1 ≤ length added.now }
+    requires short { byte_len added.now ≤ 981 }
+    ensures ok { IfOk result (λ nodes. IsInserted (leaf_tree breaks leaf.now) (trees_in nodes) (inserted leaf.now at added.now)) }
+    ensures made { made.new ≤ made.old + 2 }
+{
+    let mut front = NodeText::from_str(leaf.as_str());
+    match front.insert_or_split(at, added.as_str()) {
+        None => Ok(Nodes::One(leaf_of(alloc, breaks, front, made)?)),
+        Some(back) => {
+            let first = leaf_of(alloc, breaks, front, made)?;
+            let second = leaf_of(alloc, breaks, back, made)?;
+            Ok(Nodes::Two(first, second))
+        }
+    }
+}
+
+/// The character that the child which takes the text has to hold: at a seam the one before it, or the one after it.
+fn char_to_hold(at: usize, to_right: bool) -> usize
+    ensures right { to_right ≡ true → result ≡ at }
+    ensures first { to_right ≡ false → at ≡ 0 → result ≡ 0 }
+    ensures left { to_right ≡ false → 0 < at → result + 1 ≡ at }
+{
+    if to_right || at == 0 { at } else { at - 1 }
+}
+
+/// The tree with a text of at most 981 bytes before its character `at`, as one tree or two of the same height. The old
+/// tree stays as it is; what both have in common is shared.
+pub fn insert(
+    alloc: Global,
+    node: &Node,
+    at: usize,
+    added: &NodeText,
+    to_right: bool,
+    made: &mut u64,
+) -> Result<Nodes, AllocError>
+    requires within { at ≤ length (text node.now) }
+    requires some { 1 ≤ length added.now }
+    requires short { byte_len added.now ≤ 981 }
+    requires fits { byte_len (text node.now) + byte_len added.now < 2 ^ 63 }
+    requires side { MayInsert node.now at added.now to_right }
+    ensures ok { IfOk result (λ nodes. IsInserted node.now (trees_in nodes) (inserted (text node.now) at added.now)) }
+    ensures made { made.new ≤ made.old + 2 * node.now.height + 2 }
+{
+    let _ = node.height();
+    match node.view() {
+        View::Leaf(leaf) => insert_into_leaf(alloc, node.line_breaks(), leaf, at, added, made),
+        View::Inner(children, totals) => {
+            let held = char_to_hold(at, to_right);
+            let place = place_of(totals, Unit::Char, held, &mut Steps::new());
+            let before = total_before(totals, place).chars;
+            let middle = insert(alloc, &children[place], at - before, added, to_right, made)?;
+            let nodes = splice(alloc, &children[..place], middle, &children[place + 1..])?;
+            Ok(pack(alloc, nodes, made)?)
+        }
+    }
+}

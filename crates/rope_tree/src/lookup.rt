@@ -1,0 +1,104 @@
+//! The way down to the leaf that holds a place.
+ghost use Rattle.std.specs.Prelude.{◌≡◌, ◌+◌, ◌-◌, ◌*◌, ◌<◌, ◌≤◌, ◌^◌, ℕ, [], length, slice_index_or, slice_get, Some};
+ghost use Rattle.std.specs.Str.{chars, encode_utf8_all};
+ghost use Rattle.rope_text.specs.declared.line_breaks.LineBreaks.{LineBreaks};
+ghost use Rattle.rope_text.specs.declared.text_info.TextInfo.{TextInfo};
+ghost use Rattle.rope_text.specs.Text.{byte_len};
+ghost use Rattle.rope_text.specs.TextInfo.{info_of};
+ghost use Rattle.rope_tree.specs.Search.{count_of};
+ghost use Rattle.rope_tree.specs.Tree.{text};
+ghost use Rattle.rope_tree.specs.Found.{IsFound};
+ghost use Rattle.rope_tree.specs.StepBounds.{HaveRoom, LooksUp};
+
+use crate::node::{Node, View};
+use crate::node_text::NodeText;
+use crate::search::{Unit, count, place_of};
+use rope_text::str_utils::char_to_byte_idx;
+use rope_text::{Steps, TextInfo};
+
+/// A leaf, and the counts of the text before it.
+#[derive(Drop)]
+pub struct Found<'a> {
+    pub leaf: &'a NodeText,
+    pub before: TextInfo,
+}
+
+/// The counts of the children before a place.
+pub(crate) fn total_before(totals: &[TextInfo], place: usize) -> TextInfo
+    requires { place ≤ length totals.now }
+    ensures first { place ≡ 0 → (set : LineBreaks) → result ≡ info_of set [] }
+    ensures later { (d : TextInfo) → 0 < place → result ≡ slice_index_or totals.now (place - 1) d }
+{
+    if place == 0 {
+        TextInfo::new()
+    } else {
+        totals[place - 1]
+    }
+}
+
+/// The leaf that holds the place `at`. It takes no memory, enters each node on the way once, and compares at most five
+/// totals in each inner one.
+pub fn leaf_at<'a>(node: &'a Node, unit: Unit, at: usize, steps: &mut Steps) -> Found<'a>
+    requires within { at < count_of unit (info_of node.now.breaks (text node.now)) }
+    requires room { steps.old.nodes + node.now.height + 1 < 2 ^ 64 }
+    requires room_to_compare { steps.old.compares + 5 * node.now.height < 2 ^ 64 }
+    ensures found { IsFound unit at node.now result.leaf.now result.before }
+    ensures nodes { steps.new.nodes ≡ steps.old.nodes + node.now.height + 1 }
+    ensures compares { steps.new.compares ≤ steps.old.compares + 5 * node.now.height }
+    ensures made { steps.new.made ≡ steps.old.made }
+{
+    steps.nodes += 1;
+    match node.view() {
+        View::Leaf(leaf) => Found {
+            leaf,
+            before: TextInfo::new(),
+        },
+        View::Inner(children, totals) => {
+            let place = place_of(totals, unit, at, steps);
+            let front = total_before(totals, place);
+            let found = leaf_at(&children[place], unit, at - count(front, unit), steps);
+            Found {
+                leaf: found.leaf,
+                before: front.plus(found.before),
+            }
+        }
+    }
+}
+
+/// The byte at a place.
+pub fn byte_at(node: &Node, byte_idx: usize, steps: &mut Steps) -> u8
+    requires within { byte_idx < byte_len (text node.now) }
+    requires room { HaveRoom node.now.height steps.old }
+    ensures value { slice_get (encode_utf8_all (text node.now)) byte_idx ≡ Some result }
+    ensures nodes { steps.new.nodes ≡ steps.old.nodes + node.now.height + 1 }
+    ensures steps { LooksUp node.now.height steps.old steps.new }
+{
+    let found = leaf_at(node, Unit::Byte, byte_idx, steps);
+    let bytes = found.leaf.as_str().as_bytes();
+    bytes[byte_idx - found.before.bytes]
+}
+
+/// The first character of a text that is not empty.
+fn first_char(text: &str) -> char
+    requires { 0 < length (chars text.now) }
+    ensures { slice_get (chars text.now) 0 ≡ Some result }
+{
+    match text.chars().next() {
+        Some(first) => first,
+        None => unreachable!(),
+    }
+}
+
+/// The character at a place.
+pub fn char_at(node: &Node, char_idx: usize, steps: &mut Steps) -> char
+    requires within { char_idx < length (text node.now) }
+    requires room { HaveRoom node.now.height steps.old }
+    ensures value { slice_get (text node.now) char_idx ≡ Some result }
+    ensures nodes { steps.new.nodes ≡ steps.old.nodes + node.now.height + 1 }
+    ensures steps { LooksUp node.now.height steps.old steps.new }
+{
+    let found = leaf_at(node, Unit::Char, char_idx, steps);
+    let leaf = found.leaf.as_str();
+    let at = char_to_byte_idx(leaf, char_idx - found.before.chars);
+    first_char(&leaf[at..])
+}
