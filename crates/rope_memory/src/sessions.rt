@@ -1,6 +1,10 @@
 //! Sessions of commands, and lines that are served.
+ghost use Rattle.std.specs.Prelude.{length};
+ghost use Rattle.rope_script.specs.Step.{AsksWhole};
+
 use crate::TRIES;
 use rope_script::{Command, Ended, Query, Reply, Session, serve};
+use ropey::Error;
 use std::alloc::Global;
 use std::io::Print;
 
@@ -9,35 +13,80 @@ const INPUT: &str = "text one\\r\\ntwo\nins 0 3 \\u{85}\nlen 0\nchunks 0\nins 0 
 /// A string, made again where memory was refused.
 fn owned(alloc: Global, text: &str) -> Option<String> {
     for _ in 0..TRIES {
-        if let Ok(text) = text.to_string(alloc) {
+        if let Ok(text) = String::from_str(alloc, text) {
             return Some(text);
         }
     }
     None
 }
 
-/// Adds a command, again where memory was refused.
-fn add(commands: &mut Vec<Command>, command: Command) -> Option<()> {
+/// Runs one command, again where memory was refused, and answers its reply.
+fn reply_to(alloc: Global, session: &mut Session, command: Command) -> Option<Reply>
+    requires { AsksWhole command }
+{
+    let commands = [command];
     for _ in 0..TRIES {
-        if commands.reserve(1).is_ok() {
-            return commands.push(command).ok();
+        let mut replies = Vec::new(alloc);
+        if session.run(&commands, &mut replies).is_ok() {
+            match replies.pop() {
+                Some(Reply::Refused(Error::OutOfMemory)) => {}
+                reply => return reply,
+            }
         }
     }
     None
 }
 
-fn commands(alloc: Global) -> Option<Vec<Command>> {
-    let mut commands = Vec::new(alloc);
-    add(&mut commands, Command::Text(owned(alloc, "a\r\nb")?))?;
-    add(&mut commands, Command::Insert(0, 3, owned(alloc, "x")?))?;
-    add(&mut commands, Command::Text(owned(alloc, "")?))?;
-    add(&mut commands, Command::Insert(1, 0, owned(alloc, "y")?))?;
-    add(&mut commands, Command::Ask(0, None, Query::Lens))?;
-    add(&mut commands, Command::Ask(1, None, Query::Chunks))?;
-    Some(commands)
+/// The lengths of a rope of the session.
+fn lens(alloc: Global, session: &mut Session, rope: usize) -> Option<[usize; 4]> {
+    match reply_to(alloc, session, Command::Ask(rope, None, Query::Lens))? {
+        Reply::Lens(bytes, chars, lines, units) => Some([bytes, chars, lines, units]),
+        _ => None,
+    }
 }
 
-/// Prints a reply, and says whether it was a refusal for memory.
-fn is_refused(reply: &Reply) -> bool {
-    matches!(reply, Reply::Refused(rope_text::Error::OutOfMemory))
+/// How many chunks a rope of the session has.
+fn chunks(alloc: Global, session: &mut Session, rope: usize) -> Option<usize> {
+    match reply_to(alloc, session, Command::Ask(rope, None, Query::Chunks))? {
+        Reply::Texts(texts) => Some(texts.len()),
+        _ => None,
+    }
+}
+
+/// Runs commands on two ropes, and prints what they are.
+fn run_commands(rt: &impl Print, alloc: Global) -> Option<()> {
+    let mut session = Session::new(alloc);
+    reply_to(alloc, &mut session, Command::Text(owned(alloc, "a\r\nb")?))?;
+    reply_to(alloc, &mut session, Command::Insert(0, 3, owned(alloc, "x")?))?;
+    reply_to(alloc, &mut session, Command::Text(owned(alloc, "")?))?;
+    reply_to(alloc, &mut session, Command::Insert(1, 0, owned(alloc, "y")?))?;
+    for rope in 0..2 {
+        let [bytes, chars, lines, units] = lens(alloc, &mut session, rope)?;
+        let chunks = chunks(alloc, &mut session, rope)?;
+        println!(rt; "{bytes} {chars} {lines} {units} in {chunks}").ok()?;
+    }
+    Some(())
+}
+
+/// Serves the lines, again where memory was refused, and prints what was written.
+fn serve_lines(rt: &impl Print, alloc: Global) -> Option<()> {
+    for _ in 0..TRIES {
+        let mut reader = INPUT.as_bytes();
+        let mut written = Vec::new(alloc);
+        match serve(alloc, &mut reader, &mut written) {
+            Ended::Done => {
+                let text = str::from_utf8(&written).ok()?;
+                return print!(rt; "{text}").ok();
+            }
+            Ended::OutOfMemory | Ended::Failed => {}
+            Ended::BadLine(_) => return None,
+        }
+    }
+    None
+}
+
+/// Runs commands and serves lines, and prints what they gave.
+pub fn run(rt: &impl Print, alloc: Global) -> Option<()> {
+    run_commands(rt, alloc)?;
+    serve_lines(rt, alloc)
 }

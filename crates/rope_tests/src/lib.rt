@@ -4,4 +4,6 @@
 #[cfg(test)]
 mod conversions;
 #[cfg(test)]
+mod edits;
+#[cfg(test)]
 mod plain_text;

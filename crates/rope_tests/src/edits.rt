@@ -1,0 +1,186 @@
+//! Ropes that are made and edited, against plain lists of characters.
+use crate::plain_text;
+use rope_text::LineBreaks;
+use ropey::{Error, MAX_BYTES, Rope};
+use std::alloc::Global;
+use std::process::Abort;
+use std::test::Fail;
+
+/// So many times a text.
+fn repeated(alloc: Global, text: &str, count: usize) -> Result<String, Fail> {
+    let mut all = String::new(alloc);
+    for _ in 0..count {
+        all.push_str(text)?;
+    }
+    Ok(all)
+}
+
+/// A text as a list of characters.
+fn chars_of(alloc: Global, text: &str) -> Result<Vec<char>, Fail> {
+    let mut chars = Vec::new(alloc);
+    for c in text.chars() {
+        chars.push(c)?;
+    }
+    Ok(chars)
+}
+
+/// The list with a text before the character `at`.
+fn inserted(alloc: Global, old: &[char], at: usize, text: &str) -> Result<Vec<char>, Fail> {
+    let mut new = Vec::new(alloc);
+    for c in old.iter().take(at) {
+        new.push(*c)?;
+    }
+    for c in text.chars() {
+        new.push(c)?;
+    }
+    for c in old.iter().skip(at) {
+        new.push(*c)?;
+    }
+    Ok(new)
+}
+
+/// The rope has the text and its lengths, and its chunks are cut by the rules.
+fn compare(rt: &impl Abort, rope: &Rope, text: &[char]) {
+    let set = LineBreaks::Unicode;
+    assert!(rt; rope.len_bytes() == plain_text::char_to_byte(text, text.len()));
+    assert!(rt; rope.len_chars() == text.len());
+    assert!(rt; rope.len_utf16_cu() == plain_text::char_to_utf16(text, text.len()));
+    assert!(rt; rope.len_lines() == plain_text::char_to_line(text, text.len(), set).saturating_add(1));
+    let mut place: usize = 0;
+    let mut after_cr = false;
+    for chunk in rope.chunks() {
+        assert!(rt; !chunk.is_empty() && chunk.len() <= MAX_BYTES);
+        assert!(rt; !(after_cr && chunk.starts_with('\n')));
+        after_cr = chunk.ends_with('\r');
+        for c in chunk.chars() {
+            assert!(rt; text.get(place) == Some(&c));
+            place = place.saturating_add(1);
+        }
+    }
+    assert!(rt; place == text.len());
+}
+
+/// Whether two characters in a row lie in one chunk.
+fn lie_together(rope: &Rope, first: usize) -> bool {
+    let mut start: usize = 0;
+    for chunk in rope.chunks() {
+        let end = start.saturating_add(chunk.chars().count());
+        if start <= first && first < end {
+            return first.saturating_add(1) < end;
+        }
+        start = end;
+    }
+    false
+}
+
+#[test]
+fn a_pair_at_a_full_leaf(rt: HostRuntime) -> Result<(), Fail> {
+    let mut rope = Rope::from_str(rt.alloc(), repeated(rt.alloc(), "a", 984)?.as_str())?;
+    rope.try_insert(984, "\r")?;
+    rope.try_insert(985, "\n")?;
+    assert_eq!(rt; rope.len_bytes(), 986);
+    assert_eq!(rt; rope.len_lines(), 2);
+    assert!(rt; rope.chunks().count() >= 2);
+    assert!(rt; lie_together(&rope, 984));
+    let mut rope = Rope::from_str(rt.alloc(), repeated(rt.alloc(), "\r\n", 492)?.as_str())?;
+    rope.try_insert(1, "x")?;
+    assert_eq!(rt; rope.len_bytes(), 985);
+    assert_eq!(rt; rope.len_lines(), 494);
+    Ok(())
+}
+
+#[test]
+fn pairs_that_meet_in_long_texts(rt: HostRuntime) -> Result<(), Fail> {
+    let mut rope = Rope::from_str(rt.alloc(), repeated(rt.alloc(), "\n", 1_967)?.as_str())?;
+    rope.try_insert(983, "\r")?;
+    assert_eq!(rt; (rope.len_chars(), rope.len_lines()), (1_968, 1_968));
+    assert!(rt; lie_together(&rope, 983));
+    let mut rope = Rope::from_str(rt.alloc(), repeated(rt.alloc(), "\r", 1_967)?.as_str())?;
+    rope.try_insert(984, "\n")?;
+    assert_eq!(rt; (rope.len_chars(), rope.len_lines()), (1_968, 1_968));
+    assert!(rt; lie_together(&rope, 983));
+    Ok(())
+}
+
+#[test]
+fn refusals(rt: HostRuntime) -> Result<(), Fail> {
+    let mut rope = Rope::from_str(rt.alloc(), "Hello!")?;
+    for text in ["x", ""] {
+        let Err(error) = rope.try_insert(7, text) else {
+            return Err(Fail::from("an index out of bounds was taken"));
+        };
+        assert!(rt; error == Error::CharIndexOutOfBounds(7, 6));
+        let printed = format!(in rt.alloc(); "{error}")?;
+        assert_eq!(rt;
+            printed.as_str(),
+            "Char index out of bounds: char index 7, Rope/RopeSlice char length 6"
+        );
+    }
+    rope.try_insert(6, "x")?;
+    rope.try_insert(7, "")?;
+    let text = chars_of(rt.alloc(), "Hello!x")?;
+    compare(&rt, &rope, &text);
+    Ok(())
+}
+
+#[test]
+fn worked_lengths(rt: HostRuntime) -> Result<(), Fail> {
+    for (text, bytes, chars, lines, units) in [
+        ("", 0, 0, 1, 0),
+        ("a\r\nb", 4, 4, 2, 4),
+        ("\u{A}Hello\u{D}\u{A}\u{D}せ\u{B}か\u{C}い\u{85}. There\u{2028}is something.\u{2029}", 48, 37, 9, 37),
+        ("\r\nHello there!  How're you doing?  It's a fine day, isn't it?  Aren't you glad we're alive?\r\nこんにちは！元気ですか？日はいいですね。私たちが生きだって嬉しいではないか？\r\n", 209, 133, 4, 133),
+        ("🐸", 4, 1, 1, 2),
+    ] {
+        let rope = Rope::from_str(rt.alloc(), text)?;
+        assert_eq!(rt; rope.len_bytes(), bytes);
+        assert_eq!(rt; rope.len_chars(), chars);
+        assert_eq!(rt; rope.len_lines(), lines);
+        assert_eq!(rt; rope.len_utf16_cu(), units);
+    }
+    Ok(())
+}
+
+/// The next of a row of numbers that look random.
+fn next_number(state: &mut u64) -> usize {
+    *state ^= *state << 13;
+    *state ^= *state >> 7;
+    *state ^= *state << 17;
+    (*state >> 8) as usize
+}
+
+const PARTS: [&str; 8] = ["a", "\r", "\n", "\r\n", "é", "こ", "🐸", "\u{2028}"];
+
+/// A text of 0 to 1,200 bytes, rich in breaks.
+fn random_text(alloc: Global, state: &mut u64) -> Result<String, Fail> {
+    let mut text = String::new(alloc);
+    let long = next_number(state) % 4 == 0;
+    let most = if long { 1_196 } else { 12 };
+    let len = next_number(state) % (most + 1);
+    for _ in 0..len {
+        if text.as_str().len() >= len {
+            break;
+        }
+        text.push_str(PARTS[next_number(state) % 8])?;
+    }
+    Ok(text)
+}
+
+#[test]
+fn random_inserts(rt: HostRuntime) -> Result<(), Fail> {
+    let mut state = 0x9E37_79B9_7F4A_7C15;
+    for _ in 0..8 {
+        let mut rope = Rope::from_str(rt.alloc(), "")?;
+        let mut plain = Vec::new(rt.alloc());
+        for round in 0..250 {
+            let at = next_number(&mut state) % plain.len().saturating_add(1);
+            let text = random_text(rt.alloc(), &mut state)?;
+            rope.try_insert(at, text.as_str())?;
+            plain = inserted(rt.alloc(), &plain, at, text.as_str())?;
+            if round % 10 == 9 {
+                compare(&rt, &rope, &plain);
+            }
+        }
+    }
+    Ok(())
+}
