@@ -5,7 +5,6 @@ use Rattle.std.specs.List.{concat}
 use Rattle.rope_text.proofs.ChunkLaws.{before, after, before_more, concat_at}
 use Rattle.ropey.proofs.place.leaf_at.Goals as goal
 
--- a leaf as the code reads it, and as the definitions do
 pub loop-at-preserved : goal.loop-at-preserved
 loop-at-preserved c =
     let leaves = c.args.leaves.now in
