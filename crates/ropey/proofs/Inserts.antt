@@ -1,5 +1,5 @@
 -- What a rope keeps where a text is put into one of its chunks.
-use Rattle.std.proofs.Common.{◌≡◌, ℕ, zero, suc, ◌+◌, ◌-◌, ◌*◌, ◌^◌, ◌<◌, ◌≤◌, true, List, [], ◌∷◌, ◌++◌, length, take, drop, get_or, map, refl, ap, sym, ◌∙◌, arith, subst, add-one, nat_le, zero-add}
+use Rattle.std.proofs.Common.{◌≡◌, ℕ, ◌+◌, ◌-◌, ◌*◌, ◌^◌, ◌<◌, ◌≤◌, true, List, [], ◌∷◌, ◌++◌, length, take, drop, get_or, ap, sym, ◌∙◌, arith, subst, add-one, nat_le}
 use Rattle.std.proofs.lemmas.Bool.{and_from}
 use Rattle.std.proofs.lemmas.List.{get_or_default}
 use Rattle.std.proofs.lemmas.List.Sums.{count_by-le-length}
@@ -12,7 +12,7 @@ use Rattle.rope_text.specs.Breaks.{break_ends, break_count, is_break_end}
 use Rattle.rope_text.specs.Cutting.{IsRopeCutting}
 use Rattle.rope_text.specs.Content.{IsRope}
 use Rattle.rope_text.specs.Edit.{inserted}
-use Rattle.rope_text.proofs.Measures.{IsMeasure, IsMeasure-length, IsMeasure-byte_len, IsMeasure-utf16_len}
+use Rattle.rope_text.proofs.Measures.{IsMeasure-length, IsMeasure-byte_len, IsMeasure-utf16_len}
 use Rattle.rope_text.proofs.EditLaws.{size-inserted}
 use Rattle.rope_text.proofs.Places.{length-upto_le}
 use Rattle.rope_text.proofs.TextParts.{all_scalars-take, all_scalars-drop}

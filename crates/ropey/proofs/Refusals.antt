@@ -1,10 +1,10 @@
 -- When an insert is refused, but for memory.
-use Rattle.std.proofs.Common.{◌≡◌, ℕ, ◌+◌, ◌^◌, ◌<◌, ◌≤◌, List, [], ◌++◌, length, take, drop, refl, ap, ◌∙◌, sym, Some, None, take-append-drop}
-use Rattle.std.proofs.lemmas.Bool.{cond-true, cond-false, le-leb, lt-leb, lt-ltb, le-ltb}
+use Rattle.std.proofs.Common.{◌≡◌, ℕ, ◌+◌, ◌^◌, ◌<◌, ◌≤◌, List, [], ◌++◌, length, take, drop, ap, ◌∙◌, sym, Some, None, take-append-drop}
+use Rattle.std.proofs.lemmas.Bool.{cond-true, cond-false, le-leb, lt-ltb, le-ltb}
 use Rattle.std.proofs.lemmas.List.{append-nil}
-use Rattle.rope_text.specs.declared.error.Error.TheVariants.{CharIndexOutOfBounds, TooLong}
+use Rattle.rope_text.specs.declared.error.Error.TheVariants.{TooLong}
 use Rattle.rope_text.specs.Text.{byte_len}
-use Rattle.rope_text.specs.Edit.{inserted, insert_error, or_else, char_index_error, size_error}
+use Rattle.rope_text.specs.Edit.{inserted, insert_error, or_else, size_error}
 
 in_range : (text : List ℕ) (i : ℕ) (new : List ℕ) → i ≤ length text → insert_error text i new ≡ size_error (byte_len text + byte_len new)
 in_range text i new within = ap (λ o. or_else o (size_error (byte_len text + byte_len new))) (cond-true _ _ _ (le-leb i (length text) within))

@@ -1,5 +1,5 @@
 -- A text put into one chunk: the text and the chunks of the whole.
-use Rattle.std.proofs.Common.{◌≡◌, ℕ, zero, suc, ◌+◌, ◌<◌, ◌≤◌, Bool, false, ◌&&◌, cond, List, [], ◌∷◌, ◌++◌, length, take, drop, get_or, refl, ap, sym, ◌∙◌, arith, append_assoc, length-append, All, take-append-drop, subst, add-one}
+use Rattle.std.proofs.Common.{◌≡◌, ℕ, suc, ◌+◌, ◌<◌, ◌≤◌, false, ◌&&◌, cond, List, [], ◌++◌, length, take, drop, get_or, ap, sym, ◌∙◌, arith, append_assoc, length-append, All, take-append-drop, subst}
 use Rattle.std.proofs.lemmas.List.{take-append-le, drop-append-le, append-nil}
 use Rattle.std.proofs.lemmas.List.Elements.{All-append, All-take, All-drop}
 use Rattle.std.proofs.Math.Seq.{take-append-add, drop-append-add}
@@ -9,7 +9,7 @@ use Rattle.rope_text.specs.Text.{byte_len}
 use Rattle.rope_text.specs.Breaks.{break_count, is_break_char}
 use Rattle.rope_text.specs.Cutting.{parts_crlf, KeepsCrlf, IsChunkSize, IsRopeCutting}
 use Rattle.rope_text.specs.Edit.{inserted}
-use Rattle.rope_text.proofs.CuttingLaws.{concat-append, KeepsCrlf-append, parts_crlf-append}
+use Rattle.rope_text.proofs.CuttingLaws.{concat-append, KeepsCrlf-append}
 use Rattle.rope_text.proofs.ChunkLaws.{before, after, concat_at, KeepsCrlf-left, KeepsCrlf-right, KeepsCrlf_before, KeepsCrlf_at}
 use Rattle.rope_text.proofs.BreakLaws.{break_count-append, joins_break}
 use Rattle.ropey.specs.Place.{IsPlace, KeepsEnds}
@@ -24,7 +24,6 @@ inserted_between b x a new place within =
     ∙ ap (λ t. t ++ (drop place x ++ a)) (append_assoc b (take place x) new)
     ∙ append_assoc b (take place x ++ new) (drop place x ++ a)
     ∙ ap (λ t. b ++ t) (sym (append_assoc (take place x ++ new) (drop place x) a))
-
 
 -- the text of the chunks, where one of them is replaced by others
 concat-replaced : (p made q : List (List ℕ)) → concat (p ++ (made ++ q)) ≡ concat p ++ (concat made ++ concat q)

@@ -1,13 +1,13 @@
 -- Where a text may be put into a text of chunks, so that no chunk ends between CR and LF.
-use Rattle.std.proofs.Common.{◌≡◌, ℕ, zero, suc, ◌+◌, ◌<◌, ◌≤◌, Bool, true, false, ◌&&◌, List, [], ◌∷◌, ◌++◌, length, take, drop, get_or, refl, ap, sym, ◌∙◌, arith, append_assoc, All, take-append-drop}
-use Rattle.std.proofs.lemmas.List.{append-nil, length-drop, length-take-le, drop_all, take_all}
+use Rattle.std.proofs.Common.{◌≡◌, ℕ, zero, suc, ◌<◌, ◌≤◌, Bool, true, false, ◌&&◌, List, [], ◌∷◌, ◌++◌, length, take, drop, get_or, refl, ap, sym, ◌∙◌, arith, append_assoc, All, take-append-drop}
+use Rattle.std.proofs.lemmas.List.{append-nil, length-drop, length-take-le, drop_all}
 use Rattle.std.specs.List.{concat}
 use Rattle.rope_text.specs.Text.{byte_len}
 use Rattle.rope_text.specs.Breaks.{begins_with_lf, ends_in_cr}
 use Rattle.rope_text.specs.Cutting.{parts_crlf, KeepsCrlf, IsChunkSize}
 use Rattle.rope_text.proofs.CuttingLaws.{ends_in_cr-append}
-use Rattle.rope_text.proofs.ChunkLaws.{before, after, before_more, concat_at, KeepsCrlf_before, KeepsCrlf_at}
-use Rattle.ropey.specs.Place.{IsPlace, KeepsEnds}
+use Rattle.rope_text.proofs.ChunkLaws.{before, after, KeepsCrlf_before, KeepsCrlf_at}
+use Rattle.ropey.specs.Place.{KeepsEnds}
 
 begins_front : (f g : List ℕ) → 0 < length f → begins_with_lf (f ++ g) ≡ begins_with_lf f
 begins_front [] g some = absurd (omega arith)

@@ -21,9 +21,9 @@ impl<'a> Model for Chunks<'a> {
     ghost Value = { Sides (List ℕ) };
 
     ghost view = { λ a. record {
-        left = take a.place a.leaves.now;
-        right = drop a.place a.leaves.now;
-        is_backward = false
+      left = take a.place a.leaves.now;
+      right = drop a.place a.leaves.now;
+      is_backward = false;
     } };
 
     ghost invariant = { λ a. a.place ≤ length a.leaves.now };

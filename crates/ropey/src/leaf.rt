@@ -1,4 +1,4 @@
-// The leaves of a rope, and how texts are cut into them.
+//! The leaves of a rope, and how texts are cut into them.
 ghost use Rattle.std.specs.Prelude.{◌≡◌, ℕ, ◌+◌, ◌*◌, ◌/◌, ◌<◌, ◌≤◌, ◌++◌, length, true, false, IsTrue, IfOk, IfErr, OnOk, OnErr, vec_len};
 ghost use Rattle.std.specs.List.{splice};
 ghost use Rattle.std.specs.Str.{chars, all_scalars, encode_utf8_all};

@@ -1,7 +1,4 @@
-//! The rope of an editor: a text of at most `isize::MAX` bytes, kept in chunks.
-//!
-//! This is ropey 1.6.1, with contracts. A text is seen as the list of its characters, and each call answers what the
-//! definitions of `rope_text` say.
+//! The text buffer of an editor: ropey 1.6.1 with contracts.
 #![tactic(auto)]
 
 pub mod iter;

@@ -1,4 +1,4 @@
-// Where in the leaves a character stands, and where a text is put.
+//! Where in the leaves a character stands, and where a text is put.
 ghost use Rattle.std.specs.Prelude.{◌≡◌, ℕ, ◌<◌, ◌≤◌, length};
 ghost use Rattle.std.specs.List.{concat};
 ghost use Rattle.std.specs.Str.{chars};

@@ -1,4 +1,4 @@
-// The rope.
+//! The rope.
 ghost use Rattle.std.specs.Prelude.{◌≡◌, ℕ, ◌+◌, ◌<◌, ◌≤◌, length, ◌^◌, None, IsOk, IfOk, IfErr, OnOk, OnErr};
 ghost use Rattle.std.specs.Str.{chars};
 ghost use Rattle.rope_text.specs.declared.error.Error.TheVariants.{OutOfMemory};

@@ -1,5 +1,5 @@
 -- Each turn cuts one leaf off, and what is left at last is one more.
-use Rattle.std.proofs.Common.{◌≡◌, ◌∙◌, ◌<◌, true, false, ◌++◌, ◌∷◌, [], ap, length, arith, sym, subst}
+use Rattle.std.proofs.Common.{◌≡◌, ◌∙◌, ◌<◌, true, false, ◌∷◌, [], ap, length, arith, sym, subst}
 use Rattle.std.proofs.lemmas.List.{length-append}
 use Rattle.std.proofs.lemmas.Bool.Decides.{nat_tests}
 use Rattle.std.specs.Prelude.{◌==◌}
@@ -26,14 +26,14 @@ returns-clause-cut c =
     let rest = c.loop-rest.rest.now in
     let before = c.loop-rest.invariant in
     elim c.if-not-is_empty.branch [
-      then-not-is_empty+in_ok-push-2 w ↦
-        let full : (length rest == 0) ≡ false = sym c.is_empty.ensures ∙ w.if-not-is_empty.true in
-        let some : 0 < length rest = grind (arith, nat_tests) in
-        subst (λ v. IsRopeCutting (chars c.args.text.now) v.items) (sym w.leaves-is)
-        (IsRopeCutting-last (chars c.args.text.now) c.loop-rest.leaves.items _ rest w.from_str-then-not-is_empty.result before.fronts before.utf8 some c.loop-rest-test.false w.from_str-then-not-is_empty.ensures.value w.in_ok-push-2.ensures.items)
+      | then-not-is_empty+in_ok-push-2 w ↦
+          let full : (length rest == 0) ≡ false = sym c.is_empty.ensures ∙ w.if-not-is_empty.true in
+          let some : 0 < length rest = grind (arith, nat_tests) in
+          subst (λ v. IsRopeCutting (chars c.args.text.now) v.items) (sym w.leaves-is)
+          (IsRopeCutting-last (chars c.args.text.now) c.loop-rest.leaves.items _ rest w.from_str-then-not-is_empty.result before.fronts before.utf8 some c.loop-rest-test.false w.from_str-then-not-is_empty.ensures.value w.in_ok-push-2.ensures.items)
       | else-not-is_empty w ↦
-        let empty : (length rest == 0) ≡ true = sym c.is_empty.ensures ∙ w.if-not-is_empty.false in
-        let none : length rest ≡ 0 = grind (arith, nat_tests) in
-        subst (λ v. IsRopeCutting (chars c.args.text.now) v.items) (sym w.leaves-is)
-        (IsRopeCutting-all (chars c.args.text.now) c.loop-rest.leaves.items (chars rest) before.fronts (no_chars_left rest none))
+          let empty : (length rest == 0) ≡ true = sym c.is_empty.ensures ∙ w.if-not-is_empty.false in
+          let none : length rest ≡ 0 = grind (arith, nat_tests) in
+          subst (λ v. IsRopeCutting (chars c.args.text.now) v.items) (sym w.leaves-is)
+          (IsRopeCutting-all (chars c.args.text.now) c.loop-rest.leaves.items (chars rest) before.fronts (no_chars_left rest none))
     ]

@@ -1,5 +1,5 @@
 -- The bytes beside the seam decide.
-use Rattle.std.proofs.Common.{◌∙◌, ◌++◌, eqb, get_or, length, ap, ap₂, sym, subst}
+use Rattle.std.proofs.Common.{◌∙◌, ◌++◌, eqb, get_or, length, ap, ap₂, sym}
 use Rattle.std.specs.Str.{chars}
 use Rattle.rope_text.specs.Cuts.{is_cut}
 use Rattle.ropey.proofs.ByteSeams.{true_of_not, apart_at_seam, lf_of_byte, apart_at_no_lf}

@@ -1,5 +1,5 @@
 -- A place inside a leaf, at the end of the last one, at the start of a leaf, and at the end of another.
-use Rattle.std.proofs.Common.{◌≡◌, ◌+◌, ◌<◌, ◌≤◌, suc, [], true, length, get_or, ap, ◌∙◌, sym, subst, arith, length-append, add-one}
+use Rattle.std.proofs.Common.{◌≡◌, ◌+◌, ◌<◌, suc, [], true, length, get_or, ap, ◌∙◌, sym, subst, arith, length-append, add-one}
 use Rattle.std.proofs.lemmas.List.{get_or_default}
 use Rattle.std.specs.Str.{chars}
 use Rattle.rope_text.specs.Breaks.{begins_with_lf}

@@ -1,11 +1,10 @@
 -- A leaf more is passed; and where no other follows, all that is left is in this one.
-use Rattle.std.proofs.Common.{◌≡◌, suc, ◌++◌, ◌+◌, ◌-◌, ◌<◌, ◌≤◌, [], length, get_or, ap, ◌∙◌, sym, arith, length-append, add-one}
+use Rattle.std.proofs.Common.{◌≡◌, suc, ◌++◌, ◌<◌, [], length, get_or, ap, ◌∙◌, sym, arith, length-append, add-one}
 use Rattle.std.proofs.lemmas.List.{get_or_default, drop_all}
 use Rattle.std.specs.List.{concat}
 use Rattle.rope_text.proofs.ChunkLaws.{before, after, before_more, concat_at}
 use Rattle.ropey.proofs.place.leaf_at.Goals as goal
 
--- a leaf as the code reads it, and as the definitions do
 pub loop-at-preserved : goal.loop-at-preserved
 loop-at-preserved c =
     let leaves = c.args.leaves.now in

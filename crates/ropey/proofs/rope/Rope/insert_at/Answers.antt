@@ -1,5 +1,5 @@
 -- The leaf that the text goes into is replaced by the leaves of both.
-use Rattle.std.proofs.Common.{◌≡◌, ◌+◌, ◌<◌, ◌^◌, ◌∙◌, length, ap, sym, refl, arith}
+use Rattle.std.proofs.Common.{◌≡◌, ◌+◌, ◌∙◌, length, ap, sym, refl, arith}
 use Rattle.std.proofs.lemmas.Str.{length-le-encodes, scalars-chars}
 use Rattle.std.specs.List.{concat, splice}
 use Rattle.std.specs.Str.{chars}

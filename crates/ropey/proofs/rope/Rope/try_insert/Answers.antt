@@ -1,12 +1,11 @@
 -- The tests come in the order of the errors, and past them only memory refuses.
-use Rattle.std.proofs.Common.{◌≡◌, ◌+◌, ◌^◌, ◌<◌, ◌≤◌, ◌∙◌, length, ap, sym, refl, arith, subst, Some, None, true, false}
+use Rattle.std.proofs.Common.{◌≡◌, ◌<◌, ◌∙◌, length, sym, refl, arith, subst, Some, true, false}
 use Rattle.std.proofs.lemmas.Bool.Decides.{nat_tests}
 use Rattle.std.specs.Prelude.{◌==◌}
 use Rattle.std.proofs.lemmas.Result.{on_ok_weaker}
 use Rattle.std.specs.Result.{IfErr}
 use Rattle.std.specs.Str.{chars}
 use Rattle.rope_text.specs.declared.error.Error.TheVariants.{TooLong}
-use Rattle.rope_text.specs.Text.{byte_len}
 use Rattle.rope_text.specs.Edit.{insert_error, IsRefusal}
 use Rattle.rope_text.proofs.Apart.{has_chars}
 use Rattle.rope_text.proofs.Walks.{byte_len-chars}
@@ -35,9 +34,10 @@ returns-then-is_empty-clause-ok c =
     let text = c.args.self.now.text in
     let new = c.args.text.now in
     let empty : (length new == 0) ≡ true = sym c.is_empty.ensures ∙ c.if-is_empty.true in
-    let nothing : length new ≡ 0 = grind (arith, nat_tests) in
-    (insert_error-none text c.args.char_idx (chars new) (omega arith) (omega (arith, byte_len-chars new c.utf8.text, c.len_bytes-bytes.ensures.value, c.len_bytes-bytes.ensures.kept.fits)),
-    inserted_none text c.args.char_idx (chars new) (no_chars_left new nothing))
+    let nothing : length new ≡ 0 = grind (arith, nat_tests) in (
+      insert_error-none text c.args.char_idx (chars new) (omega arith) (omega (arith, byte_len-chars new c.utf8.text, c.len_bytes-bytes.ensures.value, c.len_bytes-bytes.ensures.kept.fits)),
+      inserted_none text c.args.char_idx (chars new) (no_chars_left new nothing),
+    )
 
 pub returns-clause-ok : goal.returns-clause-ok
 returns-clause-ok c =

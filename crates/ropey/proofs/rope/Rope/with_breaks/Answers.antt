@@ -9,9 +9,10 @@ use Rattle.ropey.proofs.rope.Rope.with_breaks.Goals as goal
 pub invariant_of-result : goal.invariant_of-result
 invariant_of-result c =
     let leaves = c.in_ok-leaves.leaves.items in
-    let cut = c.in_ok-leaves.ensures.cut in
-    (IsRope-made c.args.text.now leaves c.args.breaks c.utf8.text (omega arith) cut,
-    AreLengths-made c.args.text.now leaves c.args.breaks _ _ _ c.utf8.text cut.joined c.count_chars.ensures c.count_utf16.ensures c.count_breaks.ensures)
+    let cut = c.in_ok-leaves.ensures.cut in (
+      IsRope-made c.args.text.now leaves c.args.breaks c.utf8.text (omega arith) cut,
+      AreLengths-made c.args.text.now leaves c.args.breaks _ _ _ c.utf8.text cut.joined c.count_chars.ensures c.count_utf16.ensures c.count_breaks.ensures,
+    )
 
 pub returns-clause-kept : goal.returns-clause-kept
 returns-clause-kept c = IsRope-made c.args.text.now c.in_ok-leaves.leaves.items c.args.breaks c.utf8.text (omega arith) c.in_ok-leaves.ensures.cut
