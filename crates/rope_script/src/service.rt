@@ -1,5 +1,6 @@
 //! Lines in, replies out.
-ghost use Rattle.std.specs.Prelude.{◌≤◌, All};
+ghost use Rattle.std.specs.Prelude.{◌≡◌, ◌≤◌, false, IfOk};
+ghost use Rattle.std.specs.Io.KnownBytes.{IsAtEnd};
 
 use crate::language::{parse, write_reply};
 use crate::session::Session;
@@ -28,12 +29,22 @@ enum Fault {
 }
 
 impl From<AllocError> for Fault {
+    ghost use Rattle.std.specs.Prelude.{◌≡◌};
+    ghost use Rattle.rope_script.specs.declared.service.Fault.TheVariants.{OutOfMemory};
+
+    ghost from_gives = { λ _ fault. fault ≡ OutOfMemory };
+
     fn from(_error: AllocError) -> Fault {
         Fault::OutOfMemory
     }
 }
 
 impl From<io::Error> for Fault {
+    ghost use Rattle.std.specs.Prelude.{◌≡◌};
+    ghost use Rattle.rope_script.specs.declared.service.Fault.TheVariants.{Failed};
+
+    ghost from_gives = { λ _ fault. fault ≡ Failed };
+
     fn from(_error: io::Error) -> Fault {
         Fault::Failed
     }
@@ -45,10 +56,12 @@ impl From<io::Error> for Fault {
 /// ends the run, and so does a refusal of memory for a line or its reply, and a read or a write that
 /// failed. The replies to the lines before it are written and flushed, unless it is a write that
 /// failed. A line past number `u64::MAX` is a bad line of that number.
-pub fn serve<R: Read, W: Write>(alloc: Global, reader: &mut R, writer: &mut W) -> Ended {
-    let mut output = Output::new(writer);
-    let ended = answer_lines(alloc, reader, &mut output);
-    match output.flush() {
+pub fn serve<R: Read, W: Write>(alloc: Global, reader: &mut R, writer: &mut W) -> Ended
+    ensures done { result ≡ Ended.Done → IsAtEnd (R.remaining reader.new) }
+{
+    let mut output = Output::new();
+    let ended = answer_lines(alloc, reader, writer, &mut output);
+    match output.flush(writer) {
         Ok(()) => ended,
         Err(_) => Ended::Failed,
     }
@@ -58,14 +71,17 @@ pub fn serve<R: Read, W: Write>(alloc: Global, reader: &mut R, writer: &mut W) -
 fn answer_lines<R: Read, W: Write>(
     alloc: Global,
     reader: &mut R,
-    output: &mut Output<'_, W>,
-) -> Ended {
+    writer: &mut W,
+    output: &mut Output,
+) -> Ended
+    ensures done { result ≡ Ended.Done → IsAtEnd (R.remaining reader.new) }
+{
     let mut session = Session::new(alloc);
-    let mut input = Input::new(reader);
+    let mut input = Input::new();
     let mut line = Vec::new(alloc);
     for number in 1..=u64::MAX {
-        let fault = match input.next_line(&mut line) {
-            Ok(true) => answer(alloc, &mut session, &line, output).err(),
+        let fault = match input.next_line(reader, &mut line) {
+            Ok(true) => answer(alloc, &mut session, &line, writer, output).err(),
             Ok(false) => return Ended::Done,
             Err(fault) => Some(fault),
         };
@@ -76,7 +92,7 @@ fn answer_lines<R: Read, W: Write>(
             Some(Fault::Failed) => return Ended::Failed,
         }
     }
-    match input.next_line(&mut line) {
+    match input.next_line(reader, &mut line) {
         Ok(true) => Ended::BadLine(u64::MAX),
         Ok(false) => Ended::Done,
         Err(Fault::Failed) => Ended::Failed,
@@ -89,7 +105,8 @@ fn answer<W: Write>(
     alloc: Global,
     session: &mut Session,
     line: &[u8],
-    output: &mut Output<'_, W>,
+    writer: &mut W,
+    output: &mut Output,
 ) -> Result<(), Fault> {
     let Ok(line) = str::from_utf8(line) else {
         return Err(Fault::BadLine);
@@ -105,17 +122,16 @@ fn answer<W: Write>(
     for reply in &replies {
         write_reply(&mut written, reply)?;
     }
-    output.put(written.as_bytes())?;
+    output.put(writer, written.as_bytes())?;
     Ok(())
 }
 
 /// How many bytes are read at once.
 const INPUT_BYTES: usize = 4096;
 
-/// A reader by lines.
+/// What was read and is in no line yet.
 #[derive(Drop)]
-struct Input<'a, R> {
-    reader: &'a mut R,
+struct Input {
     buffer: [u8; INPUT_BYTES],
     start: usize,
     end: usize,
@@ -123,10 +139,9 @@ struct Input<'a, R> {
     ghost held: { end ≤ 4096 },
 }
 
-impl<'a, R: Read> Input<'a, R> {
-    fn new(reader: &'a mut R) -> Input<'a, R> {
+impl Input {
+    fn new() -> Input {
         Input {
-            reader,
             buffer: [0; INPUT_BYTES],
             start: 0,
             end: 0,
@@ -134,10 +149,12 @@ impl<'a, R: Read> Input<'a, R> {
     }
 
     /// Reads the next line, without its LF. There is none at the end of the input.
-    fn next_line(&mut self, line: &mut Vec<u8>) -> Result<bool, Fault> {
+    fn next_line<R: Read>(&mut self, reader: &mut R, line: &mut Vec<u8>) -> Result<bool, Fault>
+        ensures end { IfOk result (λ found. found ≡ false → IsAtEnd (R.remaining reader.new)) }
+    {
         line.clear();
         for _ in 0..u64::MAX {
-            if self.start == self.end && !self.fill()? {
+            if self.start == self.end && !self.fill(reader)? {
                 return Ok(!line.is_empty());
             }
             let held = &self.buffer[self.start..self.end];
@@ -157,8 +174,10 @@ impl<'a, R: Read> Input<'a, R> {
     }
 
     /// Reads once, and answers whether any bytes came.
-    fn fill(&mut self) -> Result<bool, Fault> {
-        let count = self.reader.read(&mut self.buffer)?;
+    fn fill<R: Read>(&mut self, reader: &mut R) -> Result<bool, Fault>
+        ensures end { IfOk result (λ found. found ≡ false → IsAtEnd (R.remaining reader.new)) }
+    {
+        let count = reader.read(&mut self.buffer)?;
         self.start = 0;
         self.end = count;
         Ok(count > 0)
@@ -168,31 +187,29 @@ impl<'a, R: Read> Input<'a, R> {
 /// How many bytes are gathered before they are written.
 const OUTPUT_BYTES: usize = 8192;
 
-/// A writer of whole replies, which gathers short ones.
+/// Replies that are not written yet.
 #[derive(Drop)]
-struct Output<'a, W> {
-    writer: &'a mut W,
+struct Output {
     buffer: [u8; OUTPUT_BYTES],
     filled: usize,
     ghost held: { filled ≤ 8192 },
 }
 
-impl<'a, W: Write> Output<'a, W> {
-    fn new(writer: &'a mut W) -> Output<'a, W> {
+impl Output {
+    fn new() -> Output {
         Output {
-            writer,
             buffer: [0; OUTPUT_BYTES],
             filled: 0,
         }
     }
 
     /// Takes a reply. Where there is no room for it, what was gathered is written first.
-    fn put(&mut self, reply: &[u8]) -> io::Result<()> {
+    fn put<W: Write>(&mut self, writer: &mut W, reply: &[u8]) -> io::Result<()> {
         if reply.len() > OUTPUT_BYTES - self.filled {
-            self.write_gathered()?;
+            self.write_gathered(writer)?;
         }
         if reply.len() > OUTPUT_BYTES - self.filled {
-            return self.writer.write_all(reply);
+            return writer.write_all(reply);
         }
         let end = self.filled + reply.len();
         self.buffer[self.filled..end].copy_from_slice(reply);
@@ -201,17 +218,17 @@ impl<'a, W: Write> Output<'a, W> {
     }
 
     /// Writes what was gathered, once: after an error nothing of it is written again.
-    fn write_gathered(&mut self) -> io::Result<()> {
+    fn write_gathered<W: Write>(&mut self, writer: &mut W) -> io::Result<()> {
         let gathered = &self.buffer[..self.filled];
-        let result = self.writer.write_all(gathered);
+        let result = writer.write_all(gathered);
         self.filled = 0;
         result
     }
 
     /// Writes what was gathered, and flushes the writer.
-    fn flush(&mut self) -> io::Result<()> {
-        self.write_gathered()?;
-        self.writer.flush()
+    fn flush<W: Write>(&mut self, writer: &mut W) -> io::Result<()> {
+        self.write_gathered(writer)?;
+        writer.flush()
     }
 }
 

@@ -9,7 +9,10 @@ fn texts(rt: HostRuntime) -> Result<(), Fail> {
         ("text ", ""),
         ("text  a b ", " a b "),
         ("text \\n\\r\\\\", "\n\r\\"),
-        ("text a\\u{41}\\u{0085}\\u{10FfFf}\\u{0}z", "aA\u{85}\u{10ffff}\0z"),
+        (
+            "text a\\u{41}\\u{0085}\\u{10FfFf}\\u{0}z",
+            "aA\u{85}\u{10ffff}\0z",
+        ),
         ("text \"こ", "\"こ"),
     ] {
         let found = parse(rt.alloc(), line)?;

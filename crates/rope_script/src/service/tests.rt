@@ -86,10 +86,18 @@ fn ends(rt: HostRuntime) -> Result<(), Fail> {
         (b"".as_slice(), Ended::Done, ""),
         (b"\n".as_slice(), Ended::BadLine(1), ""),
         (b"text \nlen 0".as_slice(), Ended::Done, "rope 0\n0 0 1 0\n"),
-        (b"text \nfrob\nlen 0\n".as_slice(), Ended::BadLine(2), "rope 0\n"),
+        (
+            b"text \nfrob\nlen 0\n".as_slice(),
+            Ended::BadLine(2),
+            "rope 0\n",
+        ),
         (b"len 7\n\n".as_slice(), Ended::BadLine(2), "no rope\n"),
         (b"len 7\r\n".as_slice(), Ended::BadLine(1), ""),
-        (b"len 7\ntext \xff\n".as_slice(), Ended::BadLine(2), "no rope\n"),
+        (
+            b"len 7\ntext \xff\n".as_slice(),
+            Ended::BadLine(2),
+            "no rope\n",
+        ),
         (
             b"text \nins 0 0 \nins 0 1 \nchunks 0\ntext \nins 2 0 a\n".as_slice(),
             Ended::Done,
@@ -116,7 +124,10 @@ fn failed_read(rt: HostRuntime) -> Result<(), Fail> {
     let mut writer = Narrow::new(&rt, 1000);
     assert_eq!(rt; serve(rt.alloc(), &mut reader, &mut writer), Ended::Failed);
     assert_eq!(rt; writer.is_flushed, true);
-    assert_eq!(rt; String::from_utf8(writer.kept)?.as_str(), "rope 0\n0 0 1 0\n");
+    assert_eq!(rt;
+        String::from_utf8(writer.kept)?.as_str(),
+        "rope 0\n0 0 1 0\n"
+    );
     Ok(())
 }
 
@@ -158,12 +169,15 @@ fn long_lines_and_replies(rt: HostRuntime) -> Result<(), Fail> {
     assert_eq!(rt; serve(rt.alloc(), &mut reader, &mut writer), Ended::Failed);
 
     let mut writer = Narrow::new(&rt, 20000);
-    let mut output = Output::new(&mut writer);
-    output.put(b"ab")?;
-    output.put(&[b'x'; 9000])?;
-    output.put(b"c")?;
-    output.flush()?;
+    let mut output = Output::new();
+    output.put(&mut writer, b"ab")?;
+    output.put(&mut writer, &[b'x'; 9000])?;
+    output.put(&mut writer, b"c")?;
+    output.flush(&mut writer)?;
     assert_eq!(rt; writer.kept.len(), 9003);
-    assert_eq!(rt; (writer.kept[1], writer.kept[2], writer.kept[9002]), (b'b', b'x', b'c'));
+    assert_eq!(rt;
+        (writer.kept[1], writer.kept[2], writer.kept[9002]),
+        (b'b', b'x', b'c')
+    );
     Ok(())
 }

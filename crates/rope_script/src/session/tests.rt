@@ -11,7 +11,10 @@ fn replies_are_added(rt: HostRuntime) -> std::result::Result<(), Fail> {
         Command::Ask(0, None, Query::Lens),
     ];
     session.run(&commands, &mut replies)?;
-    session.run(&[Command::Insert(1, 0, String::new(rt.alloc()))], &mut replies)?;
+    session.run(
+        &[Command::Insert(1, 0, String::new(rt.alloc()))],
+        &mut replies,
+    )?;
     assert_eq!(rt; replies.len(), 3);
     assert!(rt; matches!(&replies[0], Reply::Made(0)));
     assert!(rt; matches!(&replies[1], Reply::Lens(0, 0, 1, 0)));

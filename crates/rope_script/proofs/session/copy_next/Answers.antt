@@ -1,5 +1,3 @@
-use Rattle.std.proofs.Common.{rules, arith}
-use Rattle.std.proofs.lemmas.Grind.{common_steps}
 use Rattle.rope_script.proofs.session.copy_next.Goals as goal
 
 -- the chunk is a text, as the type of the result says
