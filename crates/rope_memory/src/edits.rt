@@ -76,10 +76,7 @@ pub fn run(rt: &impl Print, alloc: Global) -> Option<usize> {
     for rope in [&rope, &other] {
         let bytes = rope.len_bytes();
         let lines = rope.len_lines();
-        let seen = fingerprint(rope);
-        if println!(rt; "{bytes} bytes, {lines} lines, {seen:x}").is_err() {
-            return None;
-        }
+        println!(rt; "{bytes} bytes, {lines} lines").ok()?;
     }
     Some(faults)
 }

@@ -57,9 +57,17 @@ fn chunks(alloc: Global, session: &mut Session, rope: usize) -> Option<usize> {
 fn run_commands(rt: &impl Print, alloc: Global) -> Option<()> {
     let mut session = Session::new(alloc);
     reply_to(alloc, &mut session, Command::Text(owned(alloc, "a\r\nb")?))?;
-    reply_to(alloc, &mut session, Command::Insert(0, 3, owned(alloc, "x")?))?;
+    reply_to(
+        alloc,
+        &mut session,
+        Command::Insert(0, 3, owned(alloc, "x")?),
+    )?;
     reply_to(alloc, &mut session, Command::Text(owned(alloc, "")?))?;
-    reply_to(alloc, &mut session, Command::Insert(1, 0, owned(alloc, "y")?))?;
+    reply_to(
+        alloc,
+        &mut session,
+        Command::Insert(1, 0, owned(alloc, "y")?),
+    )?;
     for rope in 0..2 {
         let [bytes, chars, lines, units] = lens(alloc, &mut session, rope)?;
         let chunks = chunks(alloc, &mut session, rope)?;
