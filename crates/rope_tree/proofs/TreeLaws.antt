@@ -103,3 +103,13 @@ is_leaf_tree set (x ∷ xs) fits scalars few = record {
   leaves = lone_leaf (x ∷ xs) (record { some = omega arith; fits = fits; scalars = scalars });
   fits = few;
 }
+
+pow18 : (n : ℕ) → 18 ≤ n → 12 ^ 18 ≤ 12 ^ n
+pow18 n le = pow-le-pow_right {n = 12} (omega arith) le
+
+-- and so is a tree
+pub low_tree : (t : Tree) → IsTree t → t.height ≤ 18
+low_tree t i = elim (cases_lt t.height 19) [
+  | inl l ↦ omega arith
+  | inr ge ↦ absurd (omega (arith, pow18 (t.height - 1) (omega arith), i.least_leaves (omega arith), mul-le-mul_right (12 ^ (t.height - 1)) (i.at_least_two (omega arith)), leaves_le t.leaves i.leaves.each, length-le-encodes (concat t.leaves), i.fits))
+]

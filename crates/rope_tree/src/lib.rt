@@ -2,6 +2,7 @@
 #![tactic(auto)]
 
 pub mod children;
+pub mod chunk_lookup;
 pub mod conversions;
 pub mod insert;
 pub mod lookup;

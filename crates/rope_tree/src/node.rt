@@ -112,9 +112,10 @@ impl Children {
 }
 
 impl Node {
-    /// How many levels lie below it: 0 for a leaf.
+    /// How many levels lie below it: 0 for a leaf, and at most 18.
     pub fn height(&self) -> usize
         ensures value { result ≡ self.now.height }
+        ensures low { self.now.height ≤ 18 }
         ensures tree { IsTree self.now }
     {
         self.height
