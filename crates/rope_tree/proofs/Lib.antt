@@ -11,3 +11,4 @@ pub mod InsertTrees
 pub mod InsertLeaves
 pub mod InsertDescents
 pub mod ChunksFound
+pub mod InsertRoots

@@ -1,5 +1,5 @@
 //! Lists of shared nodes.
-ghost use Rattle.std.specs.Prelude.{◌≡◌, ◌+◌, ◌≤◌, ◌++◌, length, IfOk};
+ghost use Rattle.std.specs.Prelude.{◌≡◌, ◌+◌, ◌≤◌, ◌++◌, [], ◌∷◌, length, IfOk};
 ghost use Rattle.rope_tree.specs.Tree.{leaves_of, height_of, breaks_of};
 ghost use Rattle.rope_tree.specs.Listed.{trees};
 ghost use Rattle.rope_tree.specs.View.{trees_in};
@@ -55,6 +55,16 @@ pub fn copied(alloc: Global, nodes: &[Rc<Node>]) -> Result<Vec<Rc<Node>>, AllocE
 {
     let mut list = Vec::with_capacity(alloc, MAX_CHILDREN)?;
     push_all(&mut list, nodes)?;
+    Ok(list)
+}
+
+/// Two nodes in a row.
+pub fn pair(alloc: Global, first: Rc<Node>, second: Rc<Node>) -> Result<Vec<Rc<Node>>, AllocError>
+    ensures { IfOk result (λ v. trees v.items ≡ first.value ∷ second.value ∷ []) }
+{
+    let mut list = Vec::with_capacity(alloc, MAX_CHILDREN)?;
+    list.push(first)?;
+    list.push(second)?;
     Ok(list)
 }
 

@@ -4,6 +4,7 @@
 pub mod children;
 pub mod chunk_lookup;
 pub mod conversions;
+pub mod edit;
 pub mod insert;
 pub mod lookup;
 pub mod node;

@@ -1,0 +1,73 @@
+//! Edits of whole trees.
+ghost use Rattle.std.specs.Prelude.{◌≡◌, ◌+◌, ◌-◌, ◌*◌, ◌<◌, ◌≤◌, ◌^◌, ◌&&◌, true, false, length, drop, IfOk};
+ghost use Rattle.rope_text.specs.Text.{byte_len};
+ghost use Rattle.rope_text.specs.Breaks.{begins_with_lf};
+ghost use Rattle.rope_text.specs.Edit.{inserted};
+ghost use Rattle.rope_tree.specs.Tree.{text, IsTree};
+ghost use Rattle.rope_tree.specs.View.{trees_in};
+ghost use Rattle.rope_tree.specs.Insert.{IsInserted};
+
+use crate::children::pair;
+use crate::insert::insert;
+use crate::lookup::char_at;
+use crate::node::{Node, Nodes, make_inner};
+use crate::node_text::NodeText;
+use rope_text::Steps;
+use std::alloc::{AllocError, Global};
+use std::rc::Rc;
+
+/// Whether an LF stands at a place. A text that is inserted there goes to the right of a seam, so that it can't part a CR
+/// at its end from that LF; no CR stands before the LF across a seam.
+fn is_lf(node: &Node, at: usize) -> bool
+    requires { at ≤ length (text node.now) }
+    ensures { result ≡ begins_with_lf (drop at (text node.now)) }
+{
+    let _ = node.height();
+    at < node.info().chars && char_at(node, at, &mut Steps::new()) == '\n'
+}
+
+/// One tree over the nodes that an insert into `old` made.
+fn root_of(
+    alloc: Global,
+    old: &Node,
+    nodes: Nodes,
+    added: &NodeText,
+    at: usize,
+    made: &mut u64,
+) -> Result<Rc<Node>, AllocError>
+    requires inserted { IsInserted old.now (trees_in nodes) (inserted (text old.now) at added.now) }
+    requires fits { byte_len (text old.now) + byte_len added.now < 2 ^ 63 }
+    ensures text { IfOk result (λ node. text node.value ≡ inserted (text old.now) at added.now) }
+    ensures breaks { IfOk result (λ node. node.value.breaks ≡ old.now.breaks) }
+    ensures made { made.new ≤ made.old + 1 }
+{
+    match nodes {
+        Nodes::One(node) => Ok(node),
+        Nodes::Two(first, second) => {
+            let both = pair(alloc, first, second)?;
+            let node = make_inner(alloc, both, made)?;
+            Ok(node)
+        }
+    }
+}
+
+/// The tree with a text of at most 981 bytes before its character `at`. The old tree stays as it is.
+pub fn insert_short(
+    alloc: Global,
+    node: &Node,
+    at: usize,
+    added: &NodeText,
+    made: &mut u64,
+) -> Result<Rc<Node>, AllocError>
+    requires within { at ≤ length (text node.now) }
+    requires some { 1 ≤ length added.now }
+    requires short { byte_len added.now ≤ 981 }
+    requires fits { byte_len (text node.now) + byte_len added.now < 2 ^ 63 }
+    ensures text { IfOk result (λ new. text new.value ≡ inserted (text node.now) at added.now) }
+    ensures breaks { IfOk result (λ new. new.value.breaks ≡ node.now.breaks) }
+    ensures made { made.new ≤ made.old + 2 * node.now.height + 3 }
+{
+    let to_right = is_lf(node, at);
+    let nodes = insert(alloc, node, at, added, to_right, made)?;
+    Ok(root_of(alloc, node, nodes, added, at, made)?)
+}
