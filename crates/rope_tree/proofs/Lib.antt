@@ -10,3 +10,4 @@ pub mod InsertLaws
 pub mod InsertTrees
 pub mod InsertLeaves
 pub mod InsertDescents
+pub mod BuildLaws
