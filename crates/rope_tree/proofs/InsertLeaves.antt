@@ -12,7 +12,7 @@ use Rattle.rope_tree.specs.Insert.{IsInserted}
 use Rattle.rope_tree.proofs.LeafLaws.{leaves-append}
 use Rattle.rope_tree.proofs.NodeLaws.{leaf_text, joined_one}
 
-wide_leaf : (set : LineBreaks) (w : ℕ) (x : Tree) (leaf : List ℕ) → x ≡ leaf_tree set leaf → IsTree x → 1 ≤ length leaf → IsWide set w 0 x
+pub wide_leaf : (set : LineBreaks) (w : ℕ) (x : Tree) (leaf : List ℕ) → x ≡ leaf_tree set leaf → IsTree x → 1 ≤ length leaf → IsWide set w 0 x
 wide_leaf set w x [] is tree some = absurd (omega arith)
 wide_leaf set w x (c ∷ cs) is tree some = record {
   same_breaks = ap (λ u. u.breaks) is;
@@ -22,7 +22,7 @@ wide_leaf set w x (c ∷ cs) is tree some = record {
   tree = tree;
 }
 
-text_of_leaf : (set : LineBreaks) (x : Tree) (leaf : List ℕ) → x ≡ leaf_tree set leaf → text x ≡ leaf
+pub text_of_leaf : (set : LineBreaks) (x : Tree) (leaf : List ℕ) → x ≡ leaf_tree set leaf → text x ≡ leaf
 text_of_leaf set x leaf is = ap text is ∙ leaf_text leaf
 
 pub one_inserted : (set : LineBreaks) (old leaf new : List ℕ) (x : Tree) → x ≡ leaf_tree set leaf → IsTree x → leaf ≡ new → 1 ≤ length new → IsInserted (leaf_tree set old) (x ∷ []) new

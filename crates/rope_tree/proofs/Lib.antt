@@ -12,3 +12,4 @@ pub mod InsertLeaves
 pub mod InsertDescents
 pub mod ChunksFound
 pub mod InsertRoots
+pub mod BuildLaws

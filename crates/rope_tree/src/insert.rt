@@ -19,7 +19,7 @@ use std::alloc::{AllocError, Global};
 use std::rc::Rc;
 
 /// A leaf of its own with this text.
-fn leaf_of(
+pub fn leaf_of(
     alloc: Global,
     breaks: LineBreaks,
     leaf: NodeText,

@@ -1,6 +1,7 @@
 //! The tree of a rope: leaf texts under nodes with running totals.
 #![tactic(auto)]
 
+pub mod build;
 pub mod children;
 pub mod chunk_lookup;
 pub mod conversions;

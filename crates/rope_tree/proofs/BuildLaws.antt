@@ -1,0 +1,215 @@
+-- Trees built from the bottom up: leaves cut off the front of a text, and nodes over groups of nodes.
+use Rattle.std.proofs.Common.{◌≡◌, ℕ, zero, suc, ◌+◌, ◌-◌, ◌*◌, ◌/◌, ◌%◌, ◌^◌, ◌<◌, ◌≤◌, true, List, [], ◌∷◌, ◌++◌, length, take, drop, refl, ap, ap₂, sym, subst, ◌∙◌, get_or, arith, append_assoc, take-append-drop, inl, inr}
+use Rattle.std.specs.List.{All, concat}
+use Rattle.std.specs.Str.{chars, IsUtf8}
+use Rattle.std.specs.declared.alloc.Global.{Global}
+use Rattle.std.specs.declared.rc.Rc.{Rc}
+use Rattle.std.proofs.Math.Nat.{mul-le-mul_right, mul-suc, mod-lt, div-mul-le_self, div-le_of_le-mul}
+use Rattle.std.proofs.lemmas.Nat.{le-div, div-add-mod'}
+use Rattle.std.proofs.lemmas.Bool.{cases_lt}
+use Rattle.std.proofs.lemmas.List.{append-nil, length-append, length-take-le, length-drop, length-map, take-map, drop-map, map-append, take_all}
+use Rattle.std.proofs.lemmas.Str.{chars-append, chars-nil, scalars-chars}
+use Rattle.std.proofs.lemmas.List.Elements.{All-nil, All-push, All-get_or}
+use Rattle.rope_text.specs.declared.line_breaks.LineBreaks.{LineBreaks}
+use Rattle.rope_text.specs.Text.{byte_len}
+use Rattle.rope_text.specs.Cuts.{is_cut}
+use Rattle.rope_text.specs.Cutting.{parts_crlf}
+use Rattle.rope_text.proofs.Apart.{apart_at_cut}
+use Rattle.rope_text.proofs.Walks.{byte_len-chars}
+use Rattle.rope_text.proofs.CuttingLaws.{concat-append}
+use Rattle.rope_tree.specs.declared.node.Node.{Node}
+use Rattle.rope_tree.specs.Leaves.{AreLeaves, IsLeafText, IsSeam}
+use Rattle.rope_tree.specs.Tree.{Tree, leaves_of, joined, height_of, breaks_of, one_leaf, leaf_tree, tree_over, IsTree, IsChild, AreChildren}
+use Rattle.rope_tree.specs.Listed.{trees}
+use Rattle.rope_tree.specs.Siblings.{AreSiblings}
+use Rattle.rope_tree.proofs.LeafLaws.{no_leaves, lone_leaf, leaves-append, nil-seam, seam-nil, seam_of_left, seam_left_longer}
+use Rattle.rope_tree.proofs.TreeLaws.{is_wide_over, height_of_is, breaks_of_is}
+use Rattle.rope_tree.proofs.NodeLaws.{leaves_of-append}
+use Rattle.rope_tree.proofs.SiblingLaws.{siblings_left, siblings_right, children_of}
+use Rattle.rope_tree.proofs.InsertLeaves.{wide_leaf}
+
+-- the leaves so far, and the rest of the text
+pub record AreFronts (text : List ℕ) (leaves : List (List ℕ)) (rest : List ℕ) : Type 0 where
+  pub whole : concat leaves ++ rest ≡ text
+  pub are_leaves : AreLeaves leaves
+  pub apart : IsSeam (concat leaves) rest
+
+-- one leaf more, from the front of the rest
+fronts_more : (text : List ℕ) (leaves : List (List ℕ)) (rest x y : List ℕ) → AreFronts text leaves rest → x ++ y ≡ rest → IsLeafText x → IsSeam x y → AreFronts text (leaves ++ x ∷ []) y
+fronts_more text leaves rest x y fronts parts leaf seam =
+    let all : concat (leaves ++ x ∷ []) ≡ concat leaves ++ x = concat-append leaves (x ∷ []) ∙ ap (λ t. concat leaves ++ t) (append-nil x) in
+    let before : IsSeam (concat leaves) (x ++ y) = subst (IsSeam (concat leaves)) (sym parts) fronts.apart in
+    record {
+      whole = ap (λ t. t ++ y) all ∙ append_assoc (concat leaves) x y ∙ ap (λ t. concat leaves ++ t) parts ∙ fronts.whole;
+      are_leaves = leaves-append leaves (x ∷ []) fronts.are_leaves (lone_leaf x leaf) (subst (IsSeam (concat leaves)) (sym (append-nil x)) (seam_of_left (concat leaves) x y before));
+      apart = subst (λ t. IsSeam t y) (sym all) (seam_left_longer (concat leaves) x y before seam);
+    }
+
+-- leaf nodes side by side, and the rest of the text
+pub record AreFrontNodes (set : LineBreaks) (text : List ℕ) (ts : List Tree) (rest : List ℕ) : Type 0 where
+  pub each : All (IsChild set 0) ts
+  pub fronts : AreFronts text (leaves_of ts) rest
+
+pub no_nodes : (set : LineBreaks) (text : List ℕ) → AreFrontNodes set text [] text
+no_nodes set text = record { each = All-nil (IsChild set 0); fronts = record { whole = refl; are_leaves = no_leaves; apart = nil-seam text } }
+
+one_leaf_is : (x : List ℕ) → 1 ≤ length x → one_leaf x ≡ x ∷ []
+one_leaf_is [] some = absurd (omega arith)
+one_leaf_is (c ∷ cs) some = refl
+
+-- the leaves below one node more
+pub leaves_more : (set : LineBreaks) (ts : List Tree) (t : Tree) (x : List ℕ) → 1 ≤ length x → t ≡ leaf_tree set x → leaves_of (ts ++ t ∷ []) ≡ leaves_of ts ++ x ∷ []
+leaves_more set ts t x some is =
+    leaves_of-append ts (t ∷ []) ∙ ap (λ ls. leaves_of ts ++ ls) (append-nil t.leaves ∙ ap (λ u. u.leaves) is ∙ one_leaf_is x some)
+
+nodes_more : (set : LineBreaks) (text : List ℕ) (ts : List Tree) (rest x y : List ℕ) (t : Tree) → AreFrontNodes set text ts rest → x ++ y ≡ rest → IsLeafText x → IsSeam x y
+    → t ≡ leaf_tree set x → IsTree t → AreFrontNodes set text (ts ++ t ∷ []) y
+nodes_more set text ts rest x y t a parts leaf seam is tree = record {
+  each = All-push (IsChild set 0) ts t a.each (wide_leaf set 12 t x is tree leaf.some);
+  fronts = subst (λ ls. AreFronts text ls y) (sym (leaves_more set ts t x leaf.some is)) (fronts_more text (leaves_of ts) rest x y a.fronts parts leaf seam);
+}
+
+some_chars : (x : List ℕ) → 1 ≤ byte_len x → 1 ≤ length x
+some_chars [] some = absurd (omega arith)
+some_chars (c ∷ x) some = omega arith
+
+-- bytes of a text that fit in a leaf
+leaf_of_bytes : (bs : List ℕ) → IsUtf8 bs → 0 < length bs → length bs ≤ 984 → IsLeafText (chars bs)
+leaf_of_bytes bs u some short =
+    let size : byte_len (chars bs) ≡ length bs = byte_len-chars bs u in
+    record { some = some_chars (chars bs) (omega arith); fits = omega arith; scalars = scalars-chars bs u }
+
+-- one node more, for the bytes of a front that is cut off at a cut
+pub nodes_cut : (set : LineBreaks) (text : List ℕ) (ts : List Tree) (bs front back leaf : List ℕ) (r : ℕ) (t : Tree) → AreFrontNodes set text ts (chars bs)
+    → IsUtf8 bs → IsUtf8 front → IsUtf8 back → front ≡ take (r - 0) bs → back ≡ drop r bs → 0 < r → r < length bs → r ≤ 984 → is_cut bs r ≡ true
+    → leaf ≡ chars front → t ≡ leaf_tree set leaf → IsTree t
+    → AreFrontNodes set text (ts ++ t ∷ []) (chars back) × (length (leaves_of (ts ++ t ∷ [])) ≡ length (leaves_of ts) + 1)
+nodes_cut set text ts bs front back leaf r t a u v w is_front is_back some inside short cut of_front is tree =
+    let e : front ≡ take r bs = is_front ∙ ap (λ k. take k bs) (omega arith) in
+    let n : length front ≡ r = ap length e ∙ length-take-le r bs (omega arith) in
+    let parts : chars front ++ chars back ≡ chars bs = sym (chars-append front back v) ∙ ap chars (ap₂ (λ a b. a ++ b) e is_back ∙ take-append-drop r bs) in
+    let seam : IsSeam (chars front) (chars back) = record { apart = ap₂ (λ a b. parts_crlf (chars a) (chars b)) e is_back ∙ apart_at_cut bs r (subst IsUtf8 e v) (subst IsUtf8 is_back w) some inside cut } in
+    let own : t ≡ leaf_tree set (chars front) = is ∙ ap (leaf_tree set) of_front in
+    let i : IsLeafText (chars front) = leaf_of_bytes front v (omega arith) (omega arith) in (
+      nodes_more set text ts (chars bs) (chars front) (chars back) t a parts i seam own tree,
+      ap length (leaves_more set ts t (chars front) i.some own) ∙ length-append (leaves_of ts) (chars front ∷ []),
+    )
+
+-- the last node has all that is left
+pub nodes_last : (set : LineBreaks) (text : List ℕ) (ts : List Tree) (bs leaf : List ℕ) (t : Tree) → AreFrontNodes set text ts (chars bs)
+    → IsUtf8 bs → 0 < length bs → length bs ≤ 984 → leaf ≡ chars bs → t ≡ leaf_tree set leaf → IsTree t
+    → AreFrontNodes set text (ts ++ t ∷ []) [] × (length (leaves_of (ts ++ t ∷ [])) ≡ length (leaves_of ts) + 1)
+nodes_last set text ts bs leaf t a u some short of_rest is tree =
+    let own : t ≡ leaf_tree set (chars bs) = is ∙ ap (leaf_tree set) of_rest in
+    let i : IsLeafText (chars bs) = leaf_of_bytes bs u some short in (
+      nodes_more set text ts (chars bs) (chars bs) [] t a (append-nil (chars bs)) i (seam-nil (chars bs)) own tree,
+      ap length (leaves_more set ts t (chars bs) i.some own) ∙ length-append (leaves_of ts) (chars bs ∷ []),
+    )
+
+-- where nothing is left
+pub nodes_whole : (set : LineBreaks) (text : List ℕ) (ts : List Tree) → AreFrontNodes set text ts [] → joined ts ≡ text
+nodes_whole set text ts a = sym (append-nil (joined ts)) ∙ a.fronts.whole
+
+pub siblings_whole : (set : LineBreaks) (text : List ℕ) (ts : List Tree) → AreFrontNodes set text ts [] → byte_len text < 2 ^ 63 → AreSiblings set 0 ts
+siblings_whole set text ts a few = record { each = a.each; leaves = a.fronts.are_leaves; fits = omega (arith, ap byte_len (nodes_whole set text ts a)) }
+
+pub trees_push : (rcs : List (Rc Node Global)) (rc : Rc Node Global) → trees (rcs ++ rc ∷ []) ≡ trees rcs ++ rc.value ∷ []
+trees_push rcs rc = map-append (λ (r : Rc Node Global). r.value) rcs (rc ∷ [])
+
+-- an even share of the nodes that are left
+pub share_least : (left groups : ℕ) → 1 ≤ groups → 12 * groups ≤ left → 12 ≤ left / groups
+share_least left groups some least = le-div 12 left groups some least
+
+pub share_most : (left groups : ℕ) → left ≤ 24 * groups → left / groups ≤ 24
+share_most left groups most = div-le_of_le-mul groups (omega arith)
+
+pub least_after : (left groups : ℕ) → 1 ≤ groups → 12 * groups ≤ left → 12 * (groups - 1) ≤ left - left / groups
+least_after left zero some least = omega arith
+least_after left (suc g) some least =
+    let q : ℕ = left / suc g in
+    omega (arith, div-mul-le_self left (suc g), mul-suc q g, mul-le-mul_right g (share_least left (suc g) some least))
+
+pub most_after : (left groups : ℕ) → 1 ≤ groups → left ≤ 24 * groups → left - left / groups ≤ 24 * (groups - 1)
+most_after left zero some most = absurd (omega arith)
+most_after left (suc g) some most =
+    let q : ℕ = left / suc g in
+    let r : ℕ = left % suc g in
+    elim (cases_lt q 24) [
+      | inl less ↦
+          let few : q ≤ 23 = omega arith in
+          omega (arith, div-add-mod' left (suc g), mod-lt left {m = suc g} some, mul-suc q g, mul-le-mul_right g few)
+      | inr ge ↦ omega (arith, div-add-mod' left (suc g), mul-suc q g, mul-le-mul_right g ge)
+    ]
+
+-- the nodes made so far over a front of the nodes, and those that are left
+pub record AreOver (set : LineBreaks) (h : ℕ) (whole done rest : List Tree) : Type 0 where
+  pub each : All (IsChild set (h + 1)) done
+  pub left : AreSiblings set h rest
+  pub same : leaves_of done ++ leaves_of rest ≡ leaves_of whole
+
+pub none_over : (set : LineBreaks) (h : ℕ) (whole : List Tree) → AreSiblings set h whole → AreOver set h whole [] whole
+none_over set h whole a = record { each = All-nil (IsChild set (h + 1)); left = a; same = refl }
+
+-- the next group of children
+pub group_children : (set : LineBreaks) (h : ℕ) (rest : List Tree) (n : ℕ) → AreSiblings set h rest → 12 ≤ n → n ≤ 24 → n ≤ length rest → AreChildren set h (take n rest)
+group_children set h rest n a least most within =
+    let s : AreSiblings set h (take n rest ++ drop n rest) = rw take-append-drop a in
+    let l = length-take-le n rest within in
+    children_of set h (take n rest) (siblings_left set h (take n rest) (drop n rest) s) (omega arith) (omega arith)
+
+-- one node more
+pub over_more : (set : LineBreaks) (h : ℕ) (whole done rest : List Tree) (n : ℕ) (t : Tree) → AreOver set h whole done rest → 12 ≤ n → n ≤ 24 → n ≤ length rest
+    → t ≡ tree_over (take n rest) → AreOver set h whole (done ++ t ∷ []) (drop n rest)
+over_more set h whole done rest n t a least most within is =
+    let s : AreSiblings set h (take n rest ++ drop n rest) = rw take-append-drop a.left in
+    let l = length-take-le n rest within in
+    let child : IsChild set (h + 1) t = subst (IsChild set (h + 1)) (sym is) (is_wide_over set 12 h (take n rest) (group_children set h rest n a.left least most within) (omega arith)) in
+    let front : leaves_of (done ++ t ∷ []) ≡ leaves_of done ++ leaves_of (take n rest) = leaves_of-append done (t ∷ []) ∙ ap (λ ls. leaves_of done ++ ls) (append-nil t.leaves ∙ ap (λ u. u.leaves) is) in
+    let both : leaves_of (take n rest) ++ leaves_of (drop n rest) ≡ leaves_of rest = sym (leaves_of-append (take n rest) (drop n rest)) ∙ ap leaves_of (take-append-drop n rest) in
+    record {
+      each = All-push (IsChild set (h + 1)) done t a.each child;
+      left = siblings_right set h (take n rest) (drop n rest) s;
+      same = ap (λ ls. ls ++ leaves_of (drop n rest)) front ∙ append_assoc (leaves_of done) (leaves_of (take n rest)) (leaves_of (drop n rest)) ∙ ap (λ ls. leaves_of done ++ ls) both ∙ a.same;
+    }
+
+-- where no node is left
+pub over_same : (set : LineBreaks) (h : ℕ) (whole done rest : List Tree) → AreOver set h whole done rest → length rest ≡ 0 → leaves_of done ≡ leaves_of whole
+over_same set h whole done [] a none = sym (append-nil (leaves_of done)) ∙ a.same
+over_same set h whole done (t ∷ ts) a none = absurd (omega arith)
+
+pub over_siblings : (set : LineBreaks) (h : ℕ) (whole done rest : List Tree) → AreOver set h whole done rest → length rest ≡ 0 → AreSiblings set h whole → AreSiblings set (h + 1) done
+over_siblings set h whole done rest a none all =
+    let e : leaves_of done ≡ leaves_of whole = over_same set h whole done rest a none in
+    record { each = a.each; leaves = subst AreLeaves (sym e) all.leaves; fits = omega (arith, all.fits, ap (λ ls. byte_len (concat ls)) e) }
+
+-- what slices of nodes are seen as
+pub front_of : (rcs : List (Rc Node Global)) (n : ℕ) → trees (take n rcs) ≡ take n (trees rcs)
+front_of rcs n = sym (take-map (λ (r : Rc Node Global). r.value) n rcs)
+
+pub back_of : (rcs xs : List (Rc Node Global)) (n : ℕ) → xs ≡ take (length rcs - n) (drop n rcs) → trees xs ≡ drop n (trees rcs)
+back_of rcs xs n e =
+    let all : take (length rcs - n) (drop n rcs) ≡ drop n rcs = take_all (length rcs - n) (drop n rcs) (simp length-drop (omega arith)) in
+    ap trees (e ∙ all) ∙ sym (drop-map (λ (r : Rc Node Global). r.value) n rcs)
+
+pub length_of : (rcs : List (Rc Node Global)) → length (trees rcs) ≡ length rcs
+length_of rcs = length-map rcs (λ (r : Rc Node Global). r.value)
+
+-- the tree with the leaves of the only node
+pub lone_leaves : (ts : List Tree) (t : Tree) → length ts ≡ 1 → get_or ts 0 t ≡ t → leaves_of ts ≡ t.leaves
+lone_leaves [] t one here = absurd (omega arith)
+lone_leaves (u ∷ []) t one here = append-nil u.leaves ∙ ap (λ v. v.leaves) here
+lone_leaves (u ∷ v ∷ us) t one here = absurd (omega arith)
+
+pub lone_child : (set : LineBreaks) (h : ℕ) (ts : List Tree) (t : Tree) → All (IsChild set h) ts → length ts ≡ 1 → get_or ts 0 t ≡ t → IsChild set h t
+lone_child set h ts t each one here = subst (IsChild set h) here (All-get_or (IsChild set h) ts 0 t (omega arith) each)
+
+-- the next level
+pub level_up : (set : LineBreaks) (h : ℕ) (ts us : List Tree) → AreSiblings set h ts → 1 ≤ length ts → AreSiblings (breaks_of ts) (height_of ts + 1) us → 1 ≤ length us → AreSiblings set (height_of us) us
+level_up set h ts us a some b more =
+    let e : height_of us ≡ height_of ts + 1 = height_of_is (breaks_of ts) (height_of ts + 1) us more b.each in
+    let s : AreSiblings set (height_of ts + 1) us = subst (λ x. AreSiblings x (height_of ts + 1) us) (breaks_of_is set h ts some a.each) b in
+    subst (λ k. AreSiblings set k us) (sym e) s
+
+pub no_chars : (bs : List ℕ) → length bs ≡ 0 → chars bs ≡ []
+no_chars [] none = chars-nil
+no_chars (b ∷ bs) none = absurd (omega arith)

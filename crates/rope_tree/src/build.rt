@@ -1,0 +1,117 @@
+//! Trees of whole texts, built from the bottom up.
+ghost use Rattle.std.specs.Prelude.{◌≡◌, ◌+◌, ◌-◌, ◌*◌, ◌/◌, ◌<◌, ◌≤◌, length, IfOk};
+ghost use Rattle.std.specs.Str.{chars};
+ghost use Rattle.rope_tree.specs.Tree.{text, joined, leaves_of, height_of, breaks_of, IsTree};
+ghost use Rattle.rope_tree.specs.Listed.{trees};
+ghost use Rattle.rope_tree.specs.Siblings.{AreSiblings};
+
+use crate::children::{copied, share};
+use crate::insert::leaf_of;
+use crate::node::{Node, make_inner};
+use crate::node_text::{NodeText, first_leaf_len};
+use rope_text::{LineBreaks, MAX_BYTES, MAX_CHILDREN};
+use std::alloc::{AllocError, Global};
+use std::rc::Rc;
+
+/// The leaves of a text that is not empty, in order, each but the last of 981 bytes or more.
+fn leaf_nodes(
+    alloc: Global,
+    whole: &str,
+    breaks: LineBreaks,
+    made: &mut u64,
+) -> Result<Vec<Rc<Node>>, AllocError>
+    requires { 0 < length whole.now }
+    ensures siblings { IfOk result (λ nodes. AreSiblings breaks 0 (trees nodes.items)) }
+    ensures text { IfOk result (λ nodes. joined (trees nodes.items) ≡ chars whole.now) }
+    ensures some { IfOk result (λ nodes. 1 ≤ length (trees nodes.items)) }
+    ensures few { IfOk result (λ nodes. length (leaves_of (trees nodes.items)) ≤ (length whole.now + 980) / 981) }
+{
+    let mut nodes = Vec::new(alloc);
+    let mut rest = whole;
+    while rest.len() > MAX_BYTES {
+        let len = first_leaf_len(rest);
+        let leaf = NodeText::from_str(&rest[..len]);
+        nodes.push(leaf_of(alloc, breaks, leaf, made)?)?;
+        rest = &rest[len..];
+    }
+    nodes.push(leaf_of(alloc, breaks, NodeText::from_str(rest), made)?)?;
+    Ok(nodes)
+}
+
+/// How many of the nodes that are left come under the next of so many nodes, which share them evenly.
+fn group_len(left: usize, groups: usize) -> usize
+    requires some { 1 ≤ groups }
+    requires least { 12 * groups ≤ left }
+    requires most { left ≤ 24 * groups }
+    ensures least { 12 ≤ result }
+    ensures most { result ≤ 24 }
+    ensures within { result ≤ left }
+    ensures least_after { 12 * (groups - 1) ≤ left - result }
+    ensures most_after { left - result ≤ 24 * (groups - 1) }
+{
+    left / groups
+}
+
+/// The nodes one level up: as few as can hold these, of 12 to 24 children each.
+fn level_over(
+    alloc: Global,
+    nodes: &[Rc<Node>],
+    made: &mut u64,
+) -> Result<Vec<Rc<Node>>, AllocError>
+    requires siblings { AreSiblings (breaks_of (trees nodes.now)) (height_of (trees nodes.now)) (trees nodes.now) }
+    requires many { 24 < length (trees nodes.now) }
+    ensures siblings { IfOk result (λ level. AreSiblings (breaks_of (trees nodes.now)) (height_of (trees nodes.now) + 1) (trees level.items)) }
+    ensures leaves { IfOk result (λ level. leaves_of (trees level.items) ≡ leaves_of (trees nodes.now)) }
+    ensures few { IfOk result (λ level. length (trees level.items) ≡ (length (trees nodes.now) + 23) / 24) }
+{
+    let mut groups = nodes.len().div_ceil(MAX_CHILDREN);
+    let mut level = Vec::with_capacity(alloc, groups)?;
+    let mut rest = nodes;
+    while groups > 0 {
+        let len = group_len(rest.len(), groups);
+        let children = copied(alloc, &rest[..len])?;
+        level.push(make_inner(alloc, children, made)?)?;
+        rest = &rest[len..];
+        groups -= 1;
+    }
+    Ok(level)
+}
+
+/// The tree over the nodes, level by level up to one root.
+fn root_over(alloc: Global, nodes: Vec<Rc<Node>>, made: &mut u64) -> Result<Rc<Node>, AllocError>
+    requires siblings { AreSiblings (breaks_of (trees nodes.items)) (height_of (trees nodes.items)) (trees nodes.items) }
+    requires some { 1 ≤ length (trees nodes.items) }
+    ensures leaves { IfOk result (λ node. node.value.leaves ≡ leaves_of (trees nodes.items)) }
+    ensures breaks { IfOk result (λ node. node.value.breaks ≡ breaks_of (trees nodes.items)) }
+    ensures tree { IfOk result (λ node. IsTree node.value) }
+{
+    let mut level = nodes;
+    while level.len() > MAX_CHILDREN {
+        level = level_over(alloc, &level, made)?;
+    }
+    if level.len() == 1 {
+        Ok(share(&level[0])?)
+    } else {
+        Ok(make_inner(alloc, level, made)?)
+    }
+}
+
+/// A tree of this text, built from the bottom: leaves cut in order, then nodes of 12 to 24 children level by level.
+/// No text is read twice for its counts.
+pub fn build(
+    alloc: Global,
+    whole: &str,
+    breaks: LineBreaks,
+    made: &mut u64,
+) -> Result<Rc<Node>, AllocError>
+    ensures text { IfOk result (λ node. text node.value ≡ chars whole.now) }
+    ensures breaks { IfOk result (λ node. node.value.breaks ≡ breaks) }
+    ensures tree { IfOk result (λ node. IsTree node.value) }
+    ensures few { IfOk result (λ node. length node.value.leaves ≤ (length whole.now + 980) / 981) }
+{
+    if whole.is_empty() {
+        return Ok(leaf_of(alloc, breaks, NodeText::new(), made)?);
+    }
+    let leaves = leaf_nodes(alloc, whole, breaks, made)?;
+    Ok(root_over(alloc, leaves, made)?)
+}
