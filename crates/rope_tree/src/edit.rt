@@ -1,5 +1,6 @@
 //! Edits of whole trees.
 ghost use Rattle.std.specs.Prelude.{◌≡◌, ◌+◌, ◌-◌, ◌*◌, ◌<◌, ◌≤◌, ◌^◌, ◌&&◌, true, false, length, drop, IfOk};
+ghost use Rattle.std.specs.Str.{chars};
 ghost use Rattle.rope_text.specs.Text.{byte_len};
 ghost use Rattle.rope_text.specs.Breaks.{begins_with_lf};
 ghost use Rattle.rope_text.specs.Edit.{inserted};
@@ -7,7 +8,7 @@ ghost use Rattle.rope_tree.specs.Tree.{text, IsTree};
 ghost use Rattle.rope_tree.specs.View.{trees_in};
 ghost use Rattle.rope_tree.specs.Insert.{IsInserted};
 
-use crate::children::pair;
+use crate::children::{pair, share};
 use crate::insert::insert;
 use crate::lookup::char_at;
 use crate::node::{Node, Nodes, make_inner};
@@ -70,4 +71,34 @@ pub fn insert_short(
     let to_right = is_lf(node, at);
     let nodes = insert(alloc, node, at, added, to_right, made)?;
     Ok(root_of(alloc, node, nodes, added, at, made)?)
+}
+
+/// The bytes that one insert takes at the most.
+const PIECE_BYTES: usize = 981;
+
+/// The tree with a text of any length before its character `at`, put in piece by piece. The old tree stays as it is.
+pub fn insert_text(
+    alloc: Global,
+    node: &Rc<Node>,
+    at: usize,
+    added: &str,
+    made: &mut u64,
+) -> Result<Rc<Node>, AllocError>
+    requires within { at ≤ length (text node.now.value) }
+    requires fits { byte_len (text node.now.value) + length added.now < 2 ^ 63 }
+    ensures text { IfOk result (λ new. text new.value ≡ inserted (text node.now.value) at (chars added.now)) }
+    ensures breaks { IfOk result (λ new. new.value.breaks ≡ node.now.value.breaks) }
+{
+    let mut root = share(node)?;
+    let mut rest = added;
+    let mut place = at;
+    while !rest.is_empty() {
+        let len = rest.floor_char_boundary(PIECE_BYTES);
+        let piece = NodeText::from_str(&rest[..len]);
+        let next = insert_short(alloc, &root, place, &piece, made)?;
+        root = next;
+        place += piece.count_chars();
+        rest = &rest[len..];
+    }
+    Ok(root)
 }
