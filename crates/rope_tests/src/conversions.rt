@@ -53,8 +53,12 @@ fn compare_places(rt: &impl Abort, sample: &Sample, from: usize) {
         for more in 0..2 {
             let byte = byte.saturating_add(more);
             let unit = unit.saturating_add(more);
-            assert!(rt; str_utils::byte_to_char_idx(text, byte) == plain_text::byte_to_char(chars, byte));
-            assert!(rt; str_utils::utf16_to_char_idx(text, unit) == plain_text::utf16_to_char(chars, unit));
+            assert!(rt;
+                str_utils::byte_to_char_idx(text, byte) == plain_text::byte_to_char(chars, byte)
+            );
+            assert!(rt;
+                str_utils::utf16_to_char_idx(text, unit) == plain_text::utf16_to_char(chars, unit)
+            );
         }
     }
 }
@@ -74,7 +78,9 @@ fn compare_lines(rt: &impl Abort, sample: &Sample, from: usize, set: LineBreaks)
     for line in 0..=breaks.saturating_add(2) {
         let start = plain_text::line_to_char(chars, line, set);
         assert!(rt; str_utils::line_to_char_with(text, line, set) == start);
-        assert!(rt; str_utils::line_to_byte_with(text, line, set) == plain_text::char_to_byte(chars, start));
+        assert!(rt;
+            str_utils::line_to_byte_with(text, line, set) == plain_text::char_to_byte(chars, start)
+        );
     }
 }
 

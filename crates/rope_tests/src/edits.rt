@@ -45,7 +45,9 @@ fn compare(rt: &impl Abort, rope: &Rope, text: &[char]) {
     assert!(rt; rope.len_bytes() == plain_text::char_to_byte(text, text.len()));
     assert!(rt; rope.len_chars() == text.len());
     assert!(rt; rope.len_utf16_cu() == plain_text::char_to_utf16(text, text.len()));
-    assert!(rt; rope.len_lines() == plain_text::char_to_line(text, text.len(), set).saturating_add(1));
+    assert!(rt;
+        rope.len_lines() == plain_text::char_to_line(text, text.len(), set).saturating_add(1)
+    );
     let mut place: usize = 0;
     let mut after_cr = false;
     for chunk in rope.chunks() {
@@ -128,8 +130,20 @@ fn worked_lengths(rt: HostRuntime) -> Result<(), Fail> {
     for (text, bytes, chars, lines, units) in [
         ("", 0, 0, 1, 0),
         ("a\r\nb", 4, 4, 2, 4),
-        ("\u{A}Hello\u{D}\u{A}\u{D}せ\u{B}か\u{C}い\u{85}. There\u{2028}is something.\u{2029}", 48, 37, 9, 37),
-        ("\r\nHello there!  How're you doing?  It's a fine day, isn't it?  Aren't you glad we're alive?\r\nこんにちは！元気ですか？日はいいですね。私たちが生きだって嬉しいではないか？\r\n", 209, 133, 4, 133),
+        (
+            "\u{A}Hello\u{D}\u{A}\u{D}せ\u{B}か\u{C}い\u{85}. There\u{2028}is something.\u{2029}",
+            48,
+            37,
+            9,
+            37,
+        ),
+        (
+            "\r\nHello there!  How're you doing?  It's a fine day, isn't it?  Aren't you glad we're alive?\r\nこんにちは！元気ですか？日はいいですね。私たちが生きだって嬉しいではないか？\r\n",
+            209,
+            133,
+            4,
+            133,
+        ),
         ("🐸", 4, 1, 1, 2),
     ] {
         let rope = Rope::from_str(rt.alloc(), text)?;
