@@ -1,2 +1,3 @@
 pub mod Edits
 pub mod RunLaws
+pub mod Written

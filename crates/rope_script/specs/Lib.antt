@@ -1,2 +1,3 @@
 pub mod Ask
 pub mod Step
+pub mod ReplyLine
