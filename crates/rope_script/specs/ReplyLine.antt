@@ -38,3 +38,7 @@ reply_words (Texts v) = decimal (length v.items) ++ flat_map (λ s. codes " " ++
 -- its line, the LF with it
 abbrev pub reply_line : Reply → List ℕ
 reply_line reply = reply_words reply ++ 10 ∷ []
+
+-- the lines of replies, in order
+abbrev pub reply_lines : List Reply → List ℕ
+reply_lines replies = flat_map reply_line replies

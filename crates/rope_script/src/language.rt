@@ -4,7 +4,7 @@ ghost use Rattle.std.specs.Fmt.{decimal};
 ghost use Rattle.std.specs.List.{flat_map};
 ghost use Rattle.std.specs.Str.{chars};
 ghost use Rattle.std.specs.String.{string_bytes};
-ghost use Rattle.rope_script.specs.ReplyLine.{quoted_char, quoted, reply_line};
+ghost use Rattle.rope_script.specs.ReplyLine.{quoted_char, quoted, reply_line, reply_lines};
 ghost use Rattle.rope_script.specs.Step.{AsksWhole};
 
 use crate::script::{Command, Query, Reply};
@@ -151,8 +151,19 @@ fn read_digit(value: u32, count: u8, c: char) -> Option<Made> {
     Some(Made::Part(Escape::Digits(further, count + 1)))
 }
 
+/// The lines of replies, in order.
+pub(crate) fn lines_of(alloc: Global, replies: &[Reply]) -> Result<String, AllocError>
+    ensures { IfOk result (λ lines. string_bytes lines ≡ reply_lines replies.now) }
+{
+    let mut lines = String::new(alloc);
+    for reply in replies {
+        write_reply(&mut lines, reply)?;
+    }
+    Ok(lines)
+}
+
 /// Adds the line of a reply, its LF with it.
-pub(crate) fn write_reply(out: &mut String, reply: &Reply) -> Result<(), AllocError>
+fn write_reply(out: &mut String, reply: &Reply) -> Result<(), AllocError>
     ensures { OnOk result (string_bytes out.new ≡ string_bytes out.old ++ reply_line reply.now) }
 {
     match reply {
