@@ -1,2 +1,4 @@
 pub mod Edits
 pub mod RunLaws
+pub mod Written
+pub mod Serving

@@ -1,2 +1,4 @@
 pub mod Ask
 pub mod Step
+pub mod ReplyLine
+pub mod Serving

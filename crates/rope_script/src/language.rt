@@ -1,5 +1,10 @@
 //! Commands as lines of text, and replies as lines of text.
-ghost use Rattle.std.specs.Prelude.{IfOk, IfSome};
+ghost use Rattle.std.specs.Prelude.{◌≡◌, ◌++◌, length, codes, IfOk, IfSome, OnOk};
+ghost use Rattle.std.specs.Fmt.{decimal};
+ghost use Rattle.std.specs.List.{flat_map};
+ghost use Rattle.std.specs.Str.{chars};
+ghost use Rattle.std.specs.String.{string_bytes};
+ghost use Rattle.rope_script.specs.ReplyLine.{quoted_char, quoted, reply_line, reply_lines};
 ghost use Rattle.rope_script.specs.Step.{AsksWhole};
 
 use crate::script::{Command, Query, Reply};
@@ -146,8 +151,21 @@ fn read_digit(value: u32, count: u8, c: char) -> Option<Made> {
     Some(Made::Part(Escape::Digits(further, count + 1)))
 }
 
+/// The lines of replies, in order.
+pub(crate) fn lines_of(alloc: Global, replies: &[Reply]) -> Result<String, AllocError>
+    ensures { IfOk result (λ lines. string_bytes lines ≡ reply_lines replies.now) }
+{
+    let mut lines = String::new(alloc);
+    for reply in replies {
+        write_reply(&mut lines, reply)?;
+    }
+    Ok(lines)
+}
+
 /// Adds the line of a reply, its LF with it.
-pub(crate) fn write_reply(out: &mut String, reply: &Reply) -> Result<(), AllocError> {
+fn write_reply(out: &mut String, reply: &Reply) -> Result<(), AllocError>
+    ensures { OnOk result (string_bytes out.new ≡ string_bytes out.old ++ reply_line reply.now) }
+{
     match reply {
         Reply::Done => out.push_str("ok")?,
         Reply::Made(rope) => write!(out, "rope {rope}")?,
@@ -162,7 +180,9 @@ pub(crate) fn write_reply(out: &mut String, reply: &Reply) -> Result<(), AllocEr
 }
 
 /// How many texts there are, and each of them quoted.
-fn write_texts(out: &mut String, texts: &[String]) -> Result<(), AllocError> {
+fn write_texts(out: &mut String, texts: &[String]) -> Result<(), AllocError>
+    ensures { OnOk result (string_bytes out.new ≡ string_bytes out.old ++ (decimal (length texts.now) ++ flat_map (λ s. codes " " ++ quoted (chars (string_bytes s))) texts.now)) }
+{
     let count = texts.len();
     write!(out, "{count}")?;
     for text in texts {
@@ -173,7 +193,9 @@ fn write_texts(out: &mut String, texts: &[String]) -> Result<(), AllocError> {
 }
 
 /// A text between quotation marks, in one line.
-fn quote(out: &mut String, text: &str) -> Result<(), AllocError> {
+fn quote(out: &mut String, text: &str) -> Result<(), AllocError>
+    ensures { OnOk result (string_bytes out.new ≡ string_bytes out.old ++ quoted (chars text.now)) }
+{
     out.push('"')?;
     for c in text.chars() {
         quote_char(out, c)?;
@@ -183,7 +205,9 @@ fn quote(out: &mut String, text: &str) -> Result<(), AllocError> {
 
 /// A character of a quoted text: itself, unless it ends a line, has no form of its own, or means
 /// something between quotation marks.
-fn quote_char(out: &mut String, c: char) -> Result<(), AllocError> {
+fn quote_char(out: &mut String, c: char) -> Result<(), AllocError>
+    ensures { OnOk result (string_bytes out.new ≡ string_bytes out.old ++ quoted_char c) }
+{
     match c {
         '\n' => out.push_str("\\n"),
         '\r' => out.push_str("\\r"),

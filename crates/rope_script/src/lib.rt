@@ -3,6 +3,7 @@
 
 mod language;
 pub mod laws;
+mod output;
 mod script;
 mod service;
 mod session;

@@ -1,8 +1,11 @@
 //! Lines in, replies out.
-ghost use Rattle.std.specs.Prelude.{◌≡◌, ◌≤◌, false, IfOk};
+ghost use Rattle.std.specs.Prelude.{◌≡◌, ◌≢◌, ◌≤◌, List, [], false, IfOk, IfErr, OnOk};
 ghost use Rattle.std.specs.Io.KnownBytes.{IsAtEnd};
+ghost use Rattle.rope_text.specs.Content.{Content};
+ghost use Rattle.rope_script.specs.Serving.{PutsRun, WritesReplies};
 
-use crate::language::{parse, write_reply};
+use crate::language::{lines_of, parse};
+use crate::output::Output;
 use crate::session::Session;
 use std::alloc::{AllocError, Global};
 use std::io::{self, Read, Write};
@@ -58,12 +61,25 @@ impl From<io::Error> for Fault {
 /// failed. A line past number `u64::MAX` is a bad line of that number.
 pub fn serve<R: Read, W: Write>(alloc: Global, reader: &mut R, writer: &mut W) -> Ended
     ensures done { result ≡ Ended.Done → IsAtEnd (R.remaining reader.new) }
+    ensures written { result ≢ Ended.Failed → WritesReplies (W.contents writer.old) (W.contents writer.new) }
 {
     let mut output = Output::new();
     let ended = answer_lines(alloc, reader, writer, &mut output);
     match output.flush(writer) {
         Ok(()) => ended,
         Err(_) => Ended::Failed,
+    }
+}
+
+/// How a run ends at the fault of a line of this number.
+fn end_of(fault: Fault, number: u64) -> Ended
+    ensures unfinished { result ≢ Ended.Done }
+    ensures failed { result ≢ Ended.Failed → fault ≢ Fault.Failed }
+{
+    match fault {
+        Fault::BadLine => Ended::BadLine(number),
+        Fault::OutOfMemory => Ended::OutOfMemory,
+        Fault::Failed => Ended::Failed,
     }
 }
 
@@ -75,28 +91,25 @@ fn answer_lines<R: Read, W: Write>(
     output: &mut Output,
 ) -> Ended
     ensures done { result ≡ Ended.Done → IsAtEnd (R.remaining reader.new) }
+    ensures put { result ≢ Ended.Failed → (left : List Content) × PutsRun [] left (W.contents writer.old) (W.contents writer.new) output.old output.new }
 {
     let mut session = Session::new(alloc);
     let mut input = Input::new();
     let mut line = Vec::new(alloc);
-    for number in 1..=u64::MAX {
-        let fault = match input.next_line(reader, &mut line) {
-            Ok(true) => answer(alloc, &mut session, &line, writer, output).err(),
+    for earlier in 0..u64::MAX {
+        match input.next_line(reader, &mut line) {
+            Ok(true) => {}
             Ok(false) => return Ended::Done,
-            Err(fault) => Some(fault),
-        };
-        match fault {
-            None => {}
-            Some(Fault::BadLine) => return Ended::BadLine(number),
-            Some(Fault::OutOfMemory) => return Ended::OutOfMemory,
-            Some(Fault::Failed) => return Ended::Failed,
+            Err(fault) => return end_of(fault, earlier + 1),
+        }
+        if let Err(fault) = answer(alloc, &mut session, &line, writer, output) {
+            return end_of(fault, earlier + 1);
         }
     }
     match input.next_line(reader, &mut line) {
         Ok(true) => Ended::BadLine(u64::MAX),
         Ok(false) => Ended::Done,
-        Err(Fault::Failed) => Ended::Failed,
-        Err(_) => Ended::OutOfMemory,
+        Err(fault) => end_of(fault, u64::MAX),
     }
 }
 
@@ -107,7 +120,10 @@ fn answer<W: Write>(
     line: &[u8],
     writer: &mut W,
     output: &mut Output,
-) -> Result<(), Fault> {
+) -> Result<(), Fault>
+    ensures put { OnOk result (PutsRun session.old session.new (W.contents writer.old) (W.contents writer.new) output.old output.new) }
+    ensures kept { IfErr result (λ fault. fault ≢ Fault.Failed → (writer.new ≡ writer.old) × (output.new ≡ output.old)) }
+{
     let Ok(line) = str::from_utf8(line) else {
         return Err(Fault::BadLine);
     };
@@ -118,12 +134,11 @@ fn answer<W: Write>(
     if session.run(&[command], &mut replies).is_err() {
         return Err(Fault::OutOfMemory);
     }
-    let mut written = String::new(alloc);
-    for reply in &replies {
-        write_reply(&mut written, reply)?;
+    let lines = lines_of(alloc, &replies)?;
+    match output.put(writer, lines.as_bytes()) {
+        Ok(()) => Ok(()),
+        Err(_) => Err(Fault::Failed),
     }
-    output.put(writer, written.as_bytes())?;
-    Ok(())
 }
 
 /// How many bytes are read at once.
@@ -181,54 +196,6 @@ impl Input {
         self.start = 0;
         self.end = count;
         Ok(count > 0)
-    }
-}
-
-/// How many bytes are gathered before they are written.
-const OUTPUT_BYTES: usize = 8192;
-
-/// Replies that are not written yet.
-#[derive(Drop)]
-struct Output {
-    buffer: [u8; OUTPUT_BYTES],
-    filled: usize,
-    ghost held: { filled ≤ 8192 },
-}
-
-impl Output {
-    fn new() -> Output {
-        Output {
-            buffer: [0; OUTPUT_BYTES],
-            filled: 0,
-        }
-    }
-
-    /// Takes a reply. Where there is no room for it, what was gathered is written first.
-    fn put<W: Write>(&mut self, writer: &mut W, reply: &[u8]) -> io::Result<()> {
-        if reply.len() > OUTPUT_BYTES - self.filled {
-            self.write_gathered(writer)?;
-        }
-        if reply.len() > OUTPUT_BYTES - self.filled {
-            return writer.write_all(reply);
-        }
-        let end = self.filled + reply.len();
-        self.buffer[self.filled..end].copy_from_slice(reply);
-        self.filled = end;
-        Ok(())
-    }
-
-    /// Writes what was gathered, once: after an error nothing of it is written again.
-    fn write_gathered<W: Write>(&mut self, writer: &mut W) -> io::Result<()> {
-        let gathered = &self.buffer[..self.filled];
-        let result = writer.write_all(gathered);
-        self.filled = 0;
-        result
-    }
-
-    /// Writes what was gathered, and flushes the writer.
-    fn flush<W: Write>(&mut self, writer: &mut W) -> io::Result<()> {
-        self.write_gathered(writer)?;
-        writer.flush()
     }
 }
 

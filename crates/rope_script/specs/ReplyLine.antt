@@ -1,0 +1,44 @@
+-- A reply as the line that is written for it, in UTF-8.
+use Rattle.std.specs.Prelude.{ℕ, Bool, false, ◌==◌, ◌||◌, List, [], ◌∷◌, ◌++◌, length, nat_lt, codes, encode_utf8, if◌then◌else◌}
+use Rattle.std.specs.List.{flat_map}
+use Rattle.std.specs.Fmt.{decimal, digits}
+use Rattle.std.specs.Str.{chars}
+use Rattle.std.specs.String.{string_bytes}
+use Rattle.rope_text.specs.ErrorText.{error_text}
+use Rattle.rope_script.specs.declared.script.Reply.{Reply}
+use Rattle.rope_script.specs.declared.script.Reply.TheVariants.{Done, Made, NoRope, Refused, Lens, Texts}
+
+-- whether a character has no form of its own, or ends a line: those below U+0020, DEL, NEL, LS and PS
+abbrev pub is_control : ℕ → Bool
+is_control c = nat_lt c 0x20 || c == 0x7f || c == 0x85 || c == 0x2028 || c == 0x2029
+
+-- a character of a quoted text: LF, CR, a backslash and a quotation mark by a backslash and a sign, a control by its number, and any other as itself
+abbrev pub quoted_char : ℕ → List ℕ
+quoted_char c =
+    if c == 10 then codes "\\n"
+    else if c == 13 then codes "\\r"
+    else if c == 92 then codes "\\\\"
+    else if c == 34 then codes "\\\""
+    else if is_control c then codes "\\u{" ++ (digits 16 false c ++ codes "}")
+    else encode_utf8 c
+
+-- a text between quotation marks
+abbrev pub quoted : List ℕ → List ℕ
+quoted text = codes "\"" ++ (flat_map quoted_char text ++ codes "\"")
+
+-- the words of a reply
+abbrev pub reply_words : Reply → List ℕ
+reply_words Done = codes "ok"
+reply_words (Made n) = codes "rope " ++ decimal n
+reply_words NoRope = codes "no rope"
+reply_words (Refused e) = codes "error: " ++ error_text e
+reply_words (Lens bytes characters lines units) = decimal bytes ++ (codes " " ++ (decimal characters ++ (codes " " ++ (decimal lines ++ (codes " " ++ decimal units)))))
+reply_words (Texts v) = decimal (length v.items) ++ flat_map (λ s. codes " " ++ quoted (chars (string_bytes s))) v.items
+
+-- its line, the LF with it
+abbrev pub reply_line : Reply → List ℕ
+reply_line reply = reply_words reply ++ 10 ∷ []
+
+-- the lines of replies, in order
+abbrev pub reply_lines : List Reply → List ℕ
+reply_lines replies = flat_map reply_line replies
