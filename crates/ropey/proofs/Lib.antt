@@ -1,6 +1,3 @@
-pub mod Seams
-pub mod Replaced
-pub mod Fronts
-pub mod ByteSeams
-pub mod Inserts
+pub mod ChunkSteps
 pub mod Refusals
+pub mod Ropes

@@ -4,37 +4,48 @@ ghost use Rattle.std.specs.Str.{chars};
 ghost use Rattle.std.specs.Iterator.{YieldsFirstBy, MakesProgress, item_count};
 ghost use Rattle.rope_text.specs.Sides.{Sides, ahead, at_start, StepsAhead};
 
-use crate::leaf::Leaf;
+use rope_text::Steps;
+use rope_tree::lookup::leaf_at;
+use rope_tree::node::Node;
+use rope_tree::search::Unit;
 use std::marker::Model;
 
 /// The chunks of a rope, in order. It takes no memory.
 #[derive(Drop)]
 pub struct Chunks<'a> {
-    leaves: &'a [Leaf],
+    root: &'a Node,
+    index: usize,
     place: usize,
 }
 
 impl<'a> Model for Chunks<'a> {
-    ghost use Rattle.std.specs.Prelude.{ℕ, List, length, take, drop, false, ◌≤◌};
+    ghost use Rattle.std.specs.Prelude.{ℕ, List, length, take, drop, false, ◌≤◌, ◌≡◌};
+    ghost use Rattle.rope_text.specs.Lookup.{front_chunks};
     ghost use Rattle.rope_text.specs.Sides.{Sides};
+    ghost use Rattle.rope_tree.specs.Tree.{IsTree};
 
     ghost Value = { Sides (List ℕ) };
 
     ghost view = { λ a. record {
-      left = take a.place a.leaves.now;
-      right = drop a.place a.leaves.now;
+      left = take a.index a.root.now.leaves;
+      right = drop a.index a.root.now.leaves;
       is_backward = false;
     } };
 
-    ghost invariant = { λ a. a.place ≤ length a.leaves.now };
+    ghost invariant = { λ a. (a.index ≤ length a.root.now.leaves) × (a.place ≡ length (front_chunks a.root.now.leaves a.index)) × IsTree a.root.now };
 }
 
 impl<'a> Chunks<'a> {
     // Before the first chunk.
-    pub(crate) fn new(leaves: &'a [Leaf]) -> Chunks<'a>
-        ensures { result ≡ at_start leaves.entry.now }
+    pub(crate) fn new(root: &'a Node) -> Chunks<'a>
+        ensures { result ≡ at_start root.entry.now.leaves }
     {
-        Chunks { leaves, place: 0 }
+        let _ = root.height();
+        Chunks {
+            root,
+            index: 0,
+            place: 0,
+        }
     }
 }
 
@@ -51,11 +62,13 @@ impl<'a> Iterator for Chunks<'a> {
         ensures goes { MakesProgress (λ _. ⊤) (item_count ahead) self.old result self.new }
         ensures moves { StepsAhead (λ x. chars x.now) self.old result self.new }
     {
-        let leaf = self.leaves.get(self.place)?;
-        self.place += 1;
-        Some(leaf.as_str())
+        let _ = self.root.height();
+        if self.place == self.root.info().chars {
+            return None;
+        }
+        let found = leaf_at(self.root, Unit::Char, self.place, &mut Steps::new());
+        self.index += 1;
+        self.place += found.leaf.count_chars();
+        Some(found.leaf.as_str())
     }
 }
-
-#[cfg(test)]
-mod tests;

@@ -2,8 +2,6 @@
 #![tactic(auto)]
 
 pub mod iter;
-mod leaf;
-mod place;
 mod rope;
 pub mod str_utils;
 

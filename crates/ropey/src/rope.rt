@@ -10,36 +10,31 @@ ghost use Rattle.rope_text.specs.Edit.{inserted, insert_error, IsRefusal};
 ghost use Rattle.rope_text.specs.Sides.{at_start};
 
 use crate::iter::Chunks;
-use crate::leaf::{Leaf, cut_into_leaves, replace_leaf, text_with};
-use crate::place::insert_place;
-use rope_text::str_utils::{count_breaks, count_chars, count_utf16};
 use rope_text::{Error, LineBreaks, Result};
+use rope_tree::build::build;
+use rope_tree::edit::insert_text;
+use rope_tree::node::Node;
 use std::alloc::Global;
 use std::marker::Model;
+use std::rc::Rc;
 
-/// A text of at most `isize::MAX` bytes, cut into chunks of 1 to `MAX_BYTES` bytes.
+/// A text of at most `isize::MAX` bytes, cut into chunks of 1 to `MAX_BYTES` bytes, which are the leaves of a tree.
 #[derive(Drop)]
 pub struct Rope {
-    leaves: Vec<Leaf>,
-    breaks: LineBreaks,
-    bytes: usize,
-    characters: usize,
-    code_units: usize,
-    line_breaks: usize,
+    root: Rc<Node>,
     alloc: Global,
 }
 
 impl Model for Rope {
-    ghost use Rattle.std.specs.List.{concat};
-    ghost use Rattle.rope_text.specs.Content.{Content, IsRope};
-    ghost use Rattle.ropey.specs.Kept.{content_of, AreLengths};
+    ghost use Rattle.rope_text.specs.Content.{Content};
+    ghost use Rattle.rope_tree.specs.Tree.{IsTree};
+    ghost use Rattle.ropey.specs.Kept.{content_of};
 
     ghost Value = { Content };
 
-    ghost view = { λ r. content_of r.leaves.items r.breaks };
+    ghost view = { λ r. content_of r.root.value };
 
-    ghost invariant = { λ r. IsRope (content_of r.leaves.items r.breaks)
-        × AreLengths (concat r.leaves.items) r.breaks r.bytes r.characters r.code_units r.line_breaks };
+    ghost invariant = { λ r. IsTree r.root.value };
 }
 
 // The bytes that a text has at the most.
@@ -66,16 +61,8 @@ impl Rope {
         ensures few { IfOk result HasFewChunks }
         ensures err { IfErr result (λ e. e ≡ OutOfMemory) }
     {
-        let leaves = cut_into_leaves(alloc, text)?;
-        Ok(Rope {
-            leaves,
-            breaks,
-            bytes: text.len(),
-            characters: count_chars(text),
-            code_units: count_utf16(text),
-            line_breaks: count_breaks(text, breaks),
-            alloc,
-        })
+        let root = build(alloc, text, breaks, &mut 0)?;
+        Ok(Rope { root, alloc })
     }
 
     /// The length in bytes. No text is read.
@@ -83,28 +70,29 @@ impl Rope {
         ensures value { result ≡ byte_len self.now.text }
         ensures kept { IsRope self.now }
     {
-        self.bytes
+        self.root.info().bytes
     }
 
     /// The length in characters. No text is read.
     pub fn len_chars(&self) -> usize
         ensures { result ≡ length self.now.text }
     {
-        self.characters
+        self.root.info().chars
     }
 
     /// The number of lines: one more than there are line breaks. No text is read.
     pub fn len_lines(&self) -> usize
         ensures { result ≡ line_count self.now.breaks self.now.text }
     {
-        self.line_breaks + 1
+        self.root.info().line_breaks + 1
     }
 
     /// The length in code units of UTF-16. No text is read.
     pub fn len_utf16_cu(&self) -> usize
         ensures { result ≡ utf16_len self.now.text }
     {
-        self.code_units
+        let info = self.root.info();
+        info.chars + info.utf16_surrogates
     }
 
     /// Puts `text` before the character `char_idx`, or at the end.
@@ -161,22 +149,9 @@ impl Rope {
         ensures breaks { self.new.breaks ≡ self.old.breaks }
         ensures kept { IsRope self.new }
     {
-        if self.leaves.is_empty() {
-            *self = Rope::with_breaks(self.alloc, text, self.breaks)?;
-            return Ok(());
-        }
-        let (at, place) = insert_place(self.leaves.as_slice(), char_idx, text);
-        let old = self.leaves[at].as_str();
-        let whole = text_with(self.alloc, old, place, text)?;
-        let whole = whole.as_str();
-        let made = cut_into_leaves(self.alloc, whole)?;
-        let line_breaks = self.line_breaks + count_breaks(whole, self.breaks)
-            - count_breaks(old, self.breaks);
-        replace_leaf(&mut self.leaves, at, made)?;
-        self.bytes += text.len();
-        self.characters += count_chars(text);
-        self.code_units += count_utf16(text);
-        self.line_breaks = line_breaks;
+        let root = insert_text(self.alloc, &self.root, char_idx, text, &mut 0)?;
+        let _ = root.height();
+        self.root = root;
         Ok(())
     }
 
@@ -184,6 +159,6 @@ impl Rope {
     pub fn chunks(&self) -> Chunks<'_>
         ensures { result ≡ at_start self.now.chunks }
     {
-        Chunks::new(self.leaves.as_slice())
+        Chunks::new(&self.root)
     }
 }

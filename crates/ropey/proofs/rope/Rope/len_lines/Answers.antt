@@ -1,11 +1,12 @@
 -- A text has no more line breaks than bytes.
-use Rattle.std.proofs.Common.{arith}
-use Rattle.std.specs.List.{concat}
-use Rattle.std.proofs.lemmas.Str.{length-le-encodes}
-use Rattle.ropey.proofs.Inserts.{break_count_le}
+use Rattle.std.proofs.Common.{arith, ap, ◌∙◌}
+use Rattle.rope_text.specs.TextInfo.{info_of}
+use Rattle.rope_tree.specs.Tree.{text}
+use Rattle.rope_tree.proofs.Infos.{small_info}
 use Rattle.ropey.proofs.rope.Rope.len_lines.Goals as goal
 
 pub overflow_add-result : goal.overflow_add-result
 overflow_add-result c =
-    let text = concat c.self.inside.leaves.items in
-    omega (arith, c.self.invariant.1.in_breaks, break_count_le c.self.inside.breaks text, length-le-encodes text, c.self.invariant.0.fits)
+    let t = c.self.inside.root.value in
+    let small = small_info t.breaks (text t) c.self.invariant.fits in
+    omega (arith, small.bytes, small.chars, small.breaks, ap (λ x. x.line_breaks) (c.info.ensures ∙ ap (λ n. info_of n.breaks (text n)) c.deref.ensures))

@@ -9,7 +9,7 @@ use Rattle.rope_text.specs.declared.error.Error.TheVariants.{TooLong}
 use Rattle.rope_text.specs.Edit.{insert_error, IsRefusal}
 use Rattle.rope_text.proofs.Apart.{has_chars}
 use Rattle.rope_text.proofs.Walks.{byte_len-chars}
-use Rattle.ropey.proofs.Fronts.{no_chars_left}
+use Rattle.ropey.proofs.Ropes.{no_chars_left}
 use Rattle.ropey.proofs.Refusals.{insert_error-none, insert_error-long, inserted_none}
 use Rattle.ropey.proofs.rope.Rope.try_insert.Goals as goal
 
