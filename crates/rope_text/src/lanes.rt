@@ -1,4 +1,4 @@
-// Counts over the bytes of a text, 32 bytes at once.
+//! Counts over the bytes of a text, 32 bytes at once.
 ghost use Rattle.std.specs.Prelude.{◌≡◌, ◌+◌, ◌<◌, ◌≤◌, length, count_by, drop, slice_index};
 ghost use Rattle.rope_text.specs.Bytes.{begins_char, begins_pair};
 ghost use Rattle.rope_text.specs.ByteBreaks.{break_at, byte_breaks, unit_count};

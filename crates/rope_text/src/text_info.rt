@@ -1,4 +1,4 @@
-// The counts of a text.
+//! The counts of a text.
 ghost use Rattle.std.specs.Prelude.{◌≡◌, ◌+◌, ◌<◌, ◌≤◌, ◌^◌, [], ◌++◌, false, List, ℕ};
 ghost use Rattle.std.specs.Str.{chars};
 
