@@ -12,7 +12,7 @@ use Rattle.rope_text.specs.Text.{byte_len}
 use Rattle.rope_text.proofs.FirstBytes.{rest_scalars, starts_same}
 use Rattle.rope_text.proofs.Walks.{byte_len-chars}
 
-last_of_more : (xs ys : List ℕ) → 0 < length ys → get_or (xs ++ ys) (length (xs ++ ys) - 1) 0 ≡ get_or ys (length ys - 1) 0
+pub last_of_more : (xs ys : List ℕ) → 0 < length ys → get_or (xs ++ ys) (length (xs ++ ys) - 1) 0 ≡ get_or ys (length ys - 1) 0
 last_of_more xs ys h =
     let long = length-append xs ys in
     get_or-append_right xs ys (length xs) _ 0 refl (omega (arith, long)) ∙ ap (λ j. get_or ys j 0) (omega (arith, long))

@@ -1,8 +1,8 @@
 -- The line break at the end of a text, found in its bytes.
-use Rattle.std.proofs.Common.{◌≡◌, ℕ, zero, suc, ◌+◌, ◌-◌, ◌<◌, ◌≤◌, Bool, true, false, ◌&&◌, eqb, List, [], ◌∷◌, ◌++◌, length, take, drop, get_or, refl, sym, ap, ap₂, ◌∙◌, arith, inl, inr}
+use Rattle.std.proofs.Common.{◌≡◌, ℕ, zero, suc, ◌+◌, ◌-◌, ◌<◌, ◌≤◌, Bool, true, false, ◌&&◌, eqb, List, [], ◌∷◌, length, take, drop, get_or, refl, sym, ap, ap₂, ◌∙◌, arith, inl, inr}
 use Rattle.std.proofs.lemmas.Bool.{cases_lt}
 use Rattle.std.proofs.lemmas.Bool.Decides.{nat_tests}
-use Rattle.std.proofs.lemmas.List.{length-append, append-nil, get_or-take, get_or-drop, get_or-append_right, length-take-le, take_all, drop_more, get_or_default}
+use Rattle.std.proofs.lemmas.List.{append-nil, get_or-take, get_or-drop, length-take-le, take_all, drop_more, get_or_default}
 use Rattle.std.proofs.lemmas.Str.{length-le-encodes, scalars-chars}
 use Rattle.std.specs.Char.{encode_utf8}
 use Rattle.std.specs.Str.{chars, IsUtf8, IsCharBoundary, encode_utf8_all, all_scalars}
@@ -11,6 +11,7 @@ use Rattle.rope_text.specs.Text.{byte_len}
 use Rattle.rope_text.specs.ByteBreaks.{break_at}
 use Rattle.rope_text.specs.Breaks.{is_break_char, begins_with_lf, ends_in_cr, is_break_end}
 use Rattle.rope_text.specs.LastBreak.{ends_in_break, ends_in_crlf, without_break}
+use Rattle.rope_text.proofs.Apart.{last_of_more}
 use Rattle.rope_text.proofs.ConversionLaws.{byte_len_more}
 use Rattle.rope_text.proofs.Encoded.{Encoded, Encoded-encode}
 use Rattle.rope_text.proofs.Encoded.Encoded.{one, two, three, four}
@@ -49,11 +50,6 @@ last_byte c bs (one h) = refl
 last_byte c bs (two h i p q) = grind (arith, nat_tests)
 last_byte c bs (three h i p q r) = grind (arith, nat_tests)
 last_byte c bs (four h i p q r s) = grind (arith, nat_tests)
-
-last_of_more : (xs ys : List ℕ) → 0 < length ys → get_or (xs ++ ys) (length (xs ++ ys) - 1) 0 ≡ get_or ys (length ys - 1) 0
-last_of_more xs ys h =
-    let long = length-append xs ys in
-    get_or-append_right xs ys (length xs) _ 0 refl (omega (arith, long)) ∙ ap (λ j. get_or ys j 0) (omega (arith, long))
 
 -- a text ends in CR where its bytes do
 ends_same : (cs : List ℕ) → all_scalars cs ≡ true → eqb (get_or (encode_utf8_all cs) (byte_len cs - 1) 0) 13 ≡ ends_in_cr cs

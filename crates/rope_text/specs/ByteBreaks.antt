@@ -1,4 +1,4 @@
--- Line breaks, code units and widths over the bytes of a text. Private working definitions: only clauses of private functions cite it.
+-- Line breaks, code units and widths over the bytes of a text. Private working definitions: only clauses of private functions cite them.
 use Rattle.std.specs.Prelude.{ℕ, ◌+◌, Bool, cond, not, count_by, nat_lt, if◌then◌else◌, ◌&&◌, ◌||◌, ◌==◌, List, [], ◌∷◌, get_or}
 use Rattle.std.specs.Int.{is_in_range}
 use Rattle.rope_text.specs.Bytes.{begins_char, begins_pair}

@@ -1,4 +1,4 @@
-// Counts over the bytes of a text, 32 bytes at once.
+//! Counts over the bytes of a text, 32 bytes at once.
 ghost use Rattle.std.specs.Prelude.{◌≡◌, ◌+◌, ◌<◌, ◌≤◌, length, count_by, drop, slice_index};
 ghost use Rattle.rope_text.specs.Bytes.{begins_char, begins_pair};
 ghost use Rattle.rope_text.specs.ByteBreaks.{break_at, byte_breaks, unit_count};
@@ -115,7 +115,8 @@ pub(crate) fn is_break_begin(bytes: &[u8], at: usize, set: LineBreaks) -> bool
     ensures { result ≡ break_at set (slice_index bytes.now at) (slice_index bytes.now (at + 1)) (slice_index bytes.now (at + 2)) }
 {
     let byte = bytes[at];
-    if byte > b'\r' && byte != 0xC2 && byte != 0xE2 {
+    // Letters and the bytes after a character's first begin none.
+    if (0x0E..0xC2).contains(&byte) {
         return false;
     }
     let next = byte_or_zero(bytes, at + 1);

@@ -1,5 +1,5 @@
-// Searches for places in the bytes of a text: whole blocks of 32 bytes are counted until the one that holds
-// the place, and that one is gone through byte by byte. A place that isn't there is the end.
+//! Searches for places in the bytes of a text: whole blocks of 32 bytes are counted until the one that holds
+//! the place, and that one is gone through byte by byte. A place that isn't there is the end.
 ghost use Rattle.std.specs.Prelude.{◌≡◌, ◌+◌, ◌<◌, ◌≤◌, length, count_by, drop, slice_index, IsTrue};
 ghost use Rattle.rope_text.specs.Bytes.{begins_char, begins_pair};
 ghost use Rattle.rope_text.specs.ByteBreaks.{break_at, byte_breaks, unit_count};

@@ -1,4 +1,4 @@
-// The counts of a text.
+//! The counts of a text.
 ghost use Rattle.std.specs.Prelude.{◌≡◌, ◌+◌, ◌<◌, ◌≤◌, ◌^◌, [], ◌++◌, false, List, ℕ};
 ghost use Rattle.std.specs.Str.{chars};
 
@@ -64,13 +64,15 @@ impl TextInfo {
         }
     }
 
-    /// What is left of the counts where those of a front are taken away.
+    /// The differences: the counts of what follows a front, unless CR meets LF there.
     pub fn minus(self, front: TextInfo) -> TextInfo
         requires bytes { front.bytes ≤ self.bytes }
         requires chars { front.chars ≤ self.chars }
         requires utf16_surrogates { front.utf16_surrogates ≤ self.utf16_surrogates }
         requires line_breaks { front.line_breaks ≤ self.line_breaks }
-        ensures { info_sum front result ≡ self }
+        ensures sum { info_sum front result ≡ self }
+        ensures rest { (set : LineBreaks) (s t : List ℕ) → self ≡ info_of set (s ++ t) → front ≡ info_of set s → parts_crlf s t ≡ false
+            → result ≡ info_of set t }
     {
         TextInfo {
             bytes: self.bytes - front.bytes,

@@ -9,7 +9,7 @@ use Rattle.std.proofs.lemmas.Nat.{le-div, div-add-mod'}
 use Rattle.std.proofs.lemmas.Bool.{cases_lt}
 use Rattle.std.proofs.lemmas.List.{append-nil, length-append, length-take-le, length-drop, length-map, take-map, drop-map, map-append, take_all}
 use Rattle.std.proofs.lemmas.Str.{chars-append, chars-nil, scalars-chars}
-use Rattle.std.proofs.lemmas.List.Elements.{All-nil, All-push, All-get_or}
+use Rattle.std.proofs.lemmas.List.Elements.{All-nil, All-push, All-get_or, All-head, All-tail}
 use Rattle.rope_text.specs.declared.line_breaks.LineBreaks.{LineBreaks}
 use Rattle.rope_text.specs.Text.{byte_len}
 use Rattle.rope_text.specs.Cuts.{is_cut}
@@ -213,3 +213,9 @@ level_up set h ts us a some b more =
 pub no_chars : (bs : List ℕ) → length bs ≡ 0 → chars bs ≡ []
 no_chars [] none = chars-nil
 no_chars (b ∷ bs) none = absurd (omega arith)
+
+-- each node has a leaf
+pub nodes_le : (set : LineBreaks) (h : ℕ) (ts : List Tree) → All (IsChild set h) ts → length ts ≤ length (leaves_of ts)
+nodes_le set h [] each = omega arith
+nodes_le set h (t ∷ ts) each =
+    omega (arith, (All-head (IsChild set h) t ts each).some, nodes_le set h ts (All-tail (IsChild set h) t ts each), length-append t.leaves (leaves_of ts))

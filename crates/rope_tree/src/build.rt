@@ -25,6 +25,7 @@ fn leaf_nodes(
     ensures text { IfOk result (λ nodes. joined (trees nodes.items) ≡ chars whole.now) }
     ensures some { IfOk result (λ nodes. 1 ≤ length (trees nodes.items)) }
     ensures few { IfOk result (λ nodes. length (leaves_of (trees nodes.items)) ≤ (length whole.now + 980) / 981) }
+    ensures made { IfOk result (λ nodes. made.new ≤ made.old + length nodes.items) }
 {
     let mut nodes = Vec::new(alloc);
     let mut rest = whole;
@@ -63,6 +64,7 @@ fn level_over(
     ensures siblings { IfOk result (λ level. AreSiblings (breaks_of (trees nodes.now)) (height_of (trees nodes.now) + 1) (trees level.items)) }
     ensures leaves { IfOk result (λ level. leaves_of (trees level.items) ≡ leaves_of (trees nodes.now)) }
     ensures few { IfOk result (λ level. length (trees level.items) ≡ (length (trees nodes.now) + 23) / 24) }
+    ensures made { IfOk result (λ level. made.new ≤ made.old + length level.items) }
 {
     let mut groups = nodes.len().div_ceil(MAX_CHILDREN);
     let mut level = Vec::with_capacity(alloc, groups)?;
@@ -84,6 +86,7 @@ fn root_over(alloc: Global, nodes: Vec<Rc<Node>>, made: &mut u64) -> Result<Rc<N
     ensures leaves { IfOk result (λ node. node.value.leaves ≡ leaves_of (trees nodes.items)) }
     ensures breaks { IfOk result (λ node. node.value.breaks ≡ breaks_of (trees nodes.items)) }
     ensures tree { IfOk result (λ node. IsTree node.value) }
+    ensures made { IfOk result (λ _. made.new ≤ made.old + length nodes.items) }
 {
     let mut level = nodes;
     while level.len() > MAX_CHILDREN {
@@ -97,7 +100,7 @@ fn root_over(alloc: Global, nodes: Vec<Rc<Node>>, made: &mut u64) -> Result<Rc<N
 }
 
 /// A tree of this text, built from the bottom: leaves cut in order, then nodes of 12 to 24 children level by level.
-/// No text is read twice for its counts.
+/// It makes two nodes at the most for each leaf, or one for the empty text. No text is read twice for its counts.
 pub fn build(
     alloc: Global,
     whole: &str,
@@ -108,6 +111,7 @@ pub fn build(
     ensures breaks { IfOk result (λ node. node.value.breaks ≡ breaks) }
     ensures tree { IfOk result (λ node. IsTree node.value) }
     ensures few { IfOk result (λ node. length node.value.leaves ≤ (length whole.now + 980) / 981) }
+    ensures made { IfOk result (λ node. made.new ≤ made.old + 2 * length node.value.leaves + 1) }
 {
     if whole.is_empty() {
         return Ok(leaf_of(alloc, breaks, NodeText::new(), made)?);
@@ -115,3 +119,6 @@ pub fn build(
     let leaves = leaf_nodes(alloc, whole, breaks, made)?;
     Ok(root_over(alloc, leaves, made)?)
 }
+
+#[cfg(test)]
+mod tests;

@@ -1,11 +1,11 @@
 -- The leaves have the text, and the tree has the leaves.
-use Rattle.std.proofs.Common.{◌≡◌, ◌∙◌, true, length, sym, arith}
+use Rattle.std.proofs.Common.{ap, ◌≡◌, ◌∙◌, true, length, sym, arith}
 use Rattle.std.proofs.lemmas.Bool.Decides.{nat_tests}
 use Rattle.std.specs.Prelude.{◌==◌}
 use Rattle.rope_tree.specs.Listed.{trees}
 use Rattle.rope_tree.proofs.TreeLaws.{breaks_of_is}
 use Rattle.rope_tree.proofs.InsertLeaves.{text_of_leaf}
-use Rattle.rope_tree.proofs.BuildLaws.{no_chars}
+use Rattle.rope_tree.proofs.BuildLaws.{no_chars, length_of, nodes_le}
 use Rattle.rope_tree.proofs.build.build.Goals as goal
 
 pub returns-then-is_empty-clause-text : goal.returns-then-is_empty-clause-text
@@ -19,3 +19,8 @@ pub returns-clause-breaks : goal.returns-clause-breaks
 returns-clause-breaks c =
     let ts = trees c.in_ok-leaves.leaves.items in
     c.in_ok-root_over.ensures.breaks ∙ breaks_of_is c.args.breaks 0 ts c.in_ok-leaves.ensures.some c.in_ok-leaves.ensures.siblings.each
+
+pub returns-clause-made : goal.returns-clause-made
+returns-clause-made c =
+    let rcs = c.in_ok-leaves.leaves.items in
+    omega (arith, c.in_ok-leaves.ensures.made, c.in_ok-root_over.ensures.made, ap length c.in_ok-root_over.ensures.leaves, length_of rcs, nodes_le c.args.breaks 0 (trees rcs) c.in_ok-leaves.ensures.siblings.each)

@@ -1,5 +1,6 @@
 -- Each turn cuts one leaf off, and what is left at last is one more.
-use Rattle.std.proofs.Common.{◌≡◌, ◌∙◌, ◌+◌, ◌<◌, ◌^◌, [], length, ap, arith}
+use Rattle.std.proofs.Common.{◌≡◌, ◌∙◌, ◌+◌, ◌<◌, ◌^◌, [], ◌∷◌, length, ap, arith}
+use Rattle.std.proofs.lemmas.List.{length-append}
 use Rattle.std.specs.Str.{chars}
 use Rattle.rope_text.specs.Text.{byte_len}
 use Rattle.rope_text.proofs.Walks.{byte_len-chars}
@@ -24,6 +25,7 @@ loop-rest-preserved c =
       some = omega (arith, len.ensures.short, c.range_from-rest.ensures.len, c.loop-rest-test.true);
       nodes = rw pushed more.0;
       long = omega (arith, len.ensures.long, ap (λ ts. length (leaves_of ts)) pushed, more.1, c.range_from-rest.ensures.len, before.long);
+      made = omega (arith, c.in_ok-leaf_of.ensures.made, ap length c.in_ok-push.ensures.items, length-append c.loop-rest.nodes.items (node ∷ []), before.made);
     }
 
 last : (c : In_ok-push-2) → AreFrontNodes c.args.breaks (chars c.args.whole.now) (trees c.push-2.new.self.items) [] × (length (leaves_of (trees c.push-2.new.self.items)) ≡ length (leaves_of (trees c.loop-rest.nodes.items)) + 1)

@@ -39,4 +39,5 @@ loop-groups-preserved c =
       least = omega (arith, g.least_after);
       most = omega (arith, g.most_after);
       counted = omega (arith, ap length c.in_ok-push.ensures.items, length-append c.loop-groups.level.items (c.in_ok-make_inner.field-0 ∷ []), c.loop-groups.invariant.counted);
+      made = omega (arith, c.in_ok-make_inner.ensures.made, ap length c.in_ok-push.ensures.items, length-append c.loop-groups.level.items (c.in_ok-make_inner.field-0 ∷ []), c.loop-groups.invariant.made);
     }

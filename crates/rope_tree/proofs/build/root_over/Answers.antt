@@ -25,6 +25,7 @@ loop-alloc-preserved c =
       siblings = level_up _ _ ts us c.loop-alloc.invariant.siblings c.loop-alloc.invariant.some (rw c.deref.ensures.value at c.in_ok-level.ensures.siblings) more;
       some = more;
       same = rw c.deref.ensures.value at c.in_ok-level.ensures.leaves ∙ c.loop-alloc.invariant.same;
+      made = omega (arith, c.in_ok-level.ensures.made, length_of c.in_ok-level.level.items, few, c.loop-alloc.invariant.made);
     }
 
 pub make_inner-requires : goal.make_inner-requires

@@ -1,5 +1,5 @@
 -- The nodes of each level have the leaves of the first level.
-use Rattle.std.proofs.Common.{◌≡◌, ◌≤◌, length}
+use Rattle.std.proofs.Common.{◌≡◌, ◌+◌, ◌≤◌, length}
 use Rattle.rope_tree.specs.Tree.{breaks_of, height_of, leaves_of}
 use Rattle.rope_tree.specs.Listed.{trees}
 use Rattle.rope_tree.specs.Siblings.{AreSiblings}
@@ -10,6 +10,7 @@ invariant-loop-alloc l = record {
   siblings : AreSiblings (breaks_of (trees l.fn.nodes.items)) (height_of (trees l.level.items)) (trees l.level.items);
   some : 1 ≤ length (trees l.level.items);
   same : leaves_of (trees l.level.items) ≡ leaves_of (trees l.fn.nodes.items);
+  made : l.made + length l.level.items ≤ l.fn.made + length l.fn.nodes.items;
 }
 
 abbrev pub decreases-loop-alloc : goal.decreases-loop-alloc
