@@ -82,7 +82,9 @@ fn a_pair_at_a_full_leaf(rt: HostRuntime) -> Result<(), Fail> {
     rope.try_insert(985, "\n")?;
     assert_eq!(rt; rope.len_bytes(), 986);
     assert_eq!(rt; rope.len_lines(), 2);
-    assert!(rt; rope.chunks().count() >= 2);
+    let mut chunks = rope.chunks();
+    assert!(rt; chunks.next().is_some());
+    assert!(rt; chunks.next().is_some());
     assert!(rt; lie_together(&rope, 984));
     let mut rope = Rope::from_str(rt.alloc(), repeated(rt.alloc(), "\r\n", 492)?.as_str())?;
     rope.try_insert(1, "x")?;
