@@ -8,7 +8,7 @@ use Rattle.rope_text.specs.ErrorText.{error_text}
 use Rattle.rope_script.specs.declared.script.Reply.{Reply}
 use Rattle.rope_script.specs.declared.script.Reply.TheVariants.{Done, Made, NoRope, Refused, Lens, Texts}
 
--- whether a character has no form of its own, or ends a line: those below U+0020, DEL, NEL, LS and PS
+-- whether a reply writes the character by its number: those below U+0020, DEL, NEL, LS and PS
 abbrev pub is_control : ℕ → Bool
 is_control c = nat_lt c 0x20 || c == 0x7f || c == 0x85 || c == 0x2028 || c == 0x2029
 

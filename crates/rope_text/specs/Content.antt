@@ -17,6 +17,6 @@ pub record IsRope (c : Content) : Type 0 where
   pub scalars : all_scalars c.text ≡ true
   pub fits : byte_len c.text < 2 ^ 63
 
--- at most so many chunks as where each but the last has 981 bytes or more
+-- at most one chunk for each 981 bytes, and one for the rest
 abbrev pub HasFewChunks : Content → Type 0
 HasFewChunks c = length c.chunks ≤ (byte_len c.text + 980) / 981

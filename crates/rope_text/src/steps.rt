@@ -1,7 +1,7 @@
 //! Counts of what a call did in a tree.
 ghost use Rattle.std.specs.Prelude.{◌≡◌};
 
-/// What a counted call did: it sets all counts to 0 first, and then counts.
+/// What calls did: each counted call adds to these counts.
 #[derive(Clone, Copy, Debug, PartialEq, Eq)]
 pub struct Steps {
     /// The nodes that were entered.

@@ -11,7 +11,7 @@ count_of Char info = info.chars
 count_of CodeUnit info = info.chars + info.utf16_surrogates
 count_of LineBreak info = info.line_breaks
 
--- the counts are those of a text that a rope may have
+-- the counts are in the bounds that the counts of a rope's text keep
 pub record IsSmall (info : TextInfo) : Type 0 where
   pub bytes : info.bytes < 2 ^ 63
   pub chars : info.chars ≤ info.bytes

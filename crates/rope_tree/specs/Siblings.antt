@@ -12,7 +12,7 @@ pub record AreSiblings (set : LineBreaks) (h : ℕ) (ts : List Tree) : Type 0 wh
   pub leaves : AreLeaves (leaves_of ts)
   pub fits : byte_len (joined ts) < 2 ^ 63
 
--- one tree or two of height h, whose roots have at least `least` children or 12; there are two only where more than 24 children were there, of at most `most`
+-- one tree or two of height h, whose roots have at least 12 children, or `least` where that is fewer; there are two only where more than 24 children were there, of at most `most`
 pub record AreParts (set : LineBreaks) (least most h : ℕ) (ts : List Tree) : Type 0 where
   pub some : 1 ≤ length ts
   pub at_most_two : length ts ≤ 2

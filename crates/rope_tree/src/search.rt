@@ -27,7 +27,7 @@ pub fn count(info: TextInfo, unit: Unit) -> usize
     }
 }
 
-/// The first place whose total passes `at`, by at most five comparisons.
+/// A place whose total passes `at` and the total before it does not, by at most five comparisons.
 pub fn place_of(totals: &[TextInfo], unit: Unit, at: usize, steps: &mut Steps) -> usize
     requires some { 0 < length totals.now }
     requires few { length totals.now ≤ 24 }
