@@ -45,6 +45,8 @@ fn compare_places(rt: &impl Abort, sample: &Sample, from: usize) {
     let chars = sample.chars.as_slice();
     assert!(rt; str_utils::count_chars(text) == chars.len());
     assert!(rt; str_utils::count_utf16(text) == plain_text::char_to_utf16(chars, chars.len()));
+    let pairs = plain_text::surrogates_before(chars, chars.len());
+    assert!(rt; str_utils::count_surrogates(text) == pairs);
     for i in from..=chars.len() {
         let byte = plain_text::char_to_byte(chars, i);
         let unit = plain_text::char_to_utf16(chars, i);
@@ -53,9 +55,10 @@ fn compare_places(rt: &impl Abort, sample: &Sample, from: usize) {
         for more in 0..2 {
             let byte = byte.saturating_add(more);
             let unit = unit.saturating_add(more);
-            assert!(rt;
-                str_utils::byte_to_char_idx(text, byte) == plain_text::byte_to_char(chars, byte)
-            );
+            let place = plain_text::byte_to_char(chars, byte);
+            let pairs = plain_text::surrogates_before(chars, place);
+            assert!(rt; str_utils::byte_to_char_idx(text, byte) == place);
+            assert!(rt; str_utils::byte_to_surrogates(text, byte) == pairs);
             assert!(rt;
                 str_utils::utf16_to_char_idx(text, unit) == plain_text::utf16_to_char(chars, unit)
             );

@@ -60,8 +60,12 @@ char_to_line-rises set text i j le = rises (break_ends set text) where
 breaks_rise : (t : Tree) (j k : ℕ) → IsTree t → j ≤ k → break_count t.breaks (front_chunks t.leaves j) ≤ break_count t.breaks (front_chunks t.leaves k)
 breaks_rise t j k i le =
     let full = nonempty_leaves t.leaves i.leaves.each in
-    omega (arith, breaks_before t.breaks t.leaves j full i.leaves.whole, breaks_before t.breaks t.leaves k full i.leaves.whole,
-    char_to_line-rises t.breaks (concat t.leaves) (length (front_chunks t.leaves j)) (length (front_chunks t.leaves k)) (size-front_chunks length IsMeasure-length t.leaves j k le))
+    omega (
+      arith,
+      breaks_before t.breaks t.leaves j full i.leaves.whole,
+      breaks_before t.breaks t.leaves k full i.leaves.whole,
+      char_to_line-rises t.breaks (concat t.leaves) (length (front_chunks t.leaves j)) (length (front_chunks t.leaves k)) (size-front_chunks length IsMeasure-length t.leaves j k le),
+    )
 
 -- what is found at an index
 pub chunk_of : (unit : Unit) (at : ℕ) (t : Tree) (leaf : List ℕ) (front : TextInfo) (k : ℕ) → IsTree t → (f : IsFound unit at t leaf front) → k ≡ f.index → IsChunkAt t k leaf front
@@ -83,8 +87,8 @@ module _ (t : Tree) (leaf : List ℕ) (front : TextInfo) (i : IsTree t) where
       let full = nonempty_leaves t.leaves i.leaves.each in
       let next : at < byte_len (front_chunks t.leaves (suc f.index)) = (let e : f.index + 1 ≡ suc f.index = omega arith in omega (arith, f.past, ap (λ n. byte_len (concat (take n t.leaves))) e)) in
       chunk_of Byte at t leaf front (chunk_index_at_byte t.leaves b) i f
-      (chunk_index_at_byte_is t.leaves b f.index f.within (elim last [ | inl same ↦ omega (arith, l.bytes, f.not_past) | inr end ↦ omega (arith, l.bytes, f.not_past, end.0, end.1) ])
-      (λ more. elim last [ | inl same ↦ omega (arith, next) | inr end ↦ absurd (omega (arith, next, end.0, front_inside byte_len IsMeasure-byte_len t.leaves (suc f.index) full more)) ]))
+      (chunk_index_at_byte_is t.leaves b f.index f.within (elim last [ inl same ↦ omega (arith, l.bytes, f.not_past) | inr end ↦ omega (arith, l.bytes, f.not_past, end.0, end.1) ])
+      (λ more. elim last [ inl same ↦ omega (arith, next) | inr end ↦ absurd (omega (arith, next, end.0, front_inside byte_len IsMeasure-byte_len t.leaves (suc f.index) full more)) ]))
 
   pub chunk_by_char : (at b : ℕ) → IsFound Char at t leaf front → (b ≡ at) ⊎ ((at + 1 ≡ length (text t)) × (b ≡ length (text t))) → IsChunkAt t (chunk_index_at_char t.leaves b) leaf front
   chunk_by_char at b f last =
@@ -92,8 +96,8 @@ module _ (t : Tree) (leaf : List ℕ) (front : TextInfo) (i : IsTree t) where
       let full = nonempty_leaves t.leaves i.leaves.each in
       let next : at < length (front_chunks t.leaves (suc f.index)) = (let e : f.index + 1 ≡ suc f.index = omega arith in omega (arith, f.past, ap (λ n. length (concat (take n t.leaves))) e)) in
       chunk_of Char at t leaf front (chunk_index_at_char t.leaves b) i f
-      (chunk_index_at_char_is t.leaves b f.index f.within (elim last [ | inl same ↦ omega (arith, l.chars, f.not_past) | inr end ↦ omega (arith, l.chars, f.not_past, end.0, end.1) ])
-      (λ more. elim last [ | inl same ↦ omega (arith, next) | inr end ↦ absurd (omega (arith, next, end.0, front_inside length IsMeasure-length t.leaves (suc f.index) full more)) ]))
+      (chunk_index_at_char_is t.leaves b f.index f.within (elim last [ inl same ↦ omega (arith, l.chars, f.not_past) | inr end ↦ omega (arith, l.chars, f.not_past, end.0, end.1) ])
+      (λ more. elim last [ inl same ↦ omega (arith, next) | inr end ↦ absurd (omega (arith, next, end.0, front_inside length IsMeasure-length t.leaves (suc f.index) full more)) ]))
 
   -- at a line break: before the first, between, and past the last
   pub chunk_by_first : IsFound Char 0 t leaf front → IsChunkAt t (chunk_index_at_line_break t.breaks t.leaves 0) leaf front
@@ -104,9 +108,9 @@ module _ (t : Tree) (leaf : List ℕ) (front : TextInfo) (i : IsTree t) where
       chunk_of Char 0 t leaf front (chunk_index_at_line_break t.breaks t.leaves 0) i f
       (chunk_index_at_line_break_is t.breaks t.leaves 0 f.index f.within full i.leaves.whole (λ more. omega arith) (λ j less. absurd (omega (arith, none))))
     where
-    first_index : (k : ℕ) → k ≤ length t.leaves → length (front_chunks t.leaves k) ≤ 0 → All (λ part. 0 < length part) t.leaves → k ≡ 0
-    first_index zero le none full = refl
-    first_index (suc k) le none full = absurd (omega (arith, front_short length IsMeasure-length t.leaves k full (omega arith)))
+      first_index : (k : ℕ) → k ≤ length t.leaves → length (front_chunks t.leaves k) ≤ 0 → All (λ part. 0 < length part) t.leaves → k ≡ 0
+      first_index zero le none full = refl
+      first_index (suc k) le none full = absurd (omega (arith, front_short length IsMeasure-length t.leaves k full (omega arith)))
 
   pub chunk_by_break : (at b : ℕ) → IsFound LineBreak at t leaf front → b ≡ at + 1 → IsChunkAt t (chunk_index_at_line_break t.breaks t.leaves b) leaf front
   chunk_by_break at b f next =
@@ -140,13 +144,13 @@ chunk_of_none t k leaf front none empty zeros =
       breaks = ap (λ x. x.line_breaks) (zeros t.breaks) ∙ ap length (break_ends-nil t.breaks) ∙ sym (ap (λ ps. char_to_line t.breaks (concat ps) (length (front_chunks ps k))) none ∙ ap (λ xs. char_to_line t.breaks [] (length xs)) (front_of_none k) ∙ char_to_line_start t.breaks []);
     }
   where
-  front_of_none : (k : ℕ) → front_chunks [] k ≡ []
-  front_of_none zero = refl
-  front_of_none (suc k) = refl
+    front_of_none : (k : ℕ) → front_chunks [] k ≡ []
+    front_of_none zero = refl
+    front_of_none (suc k) = refl
 
-  none_at : (k : ℕ) → get_or {A = List ℕ} [] k [] ≡ []
-  none_at zero = refl
-  none_at (suc k) = refl
+    none_at : (k : ℕ) → get_or {A = List ℕ} [] k [] ≡ []
+    none_at zero = refl
+    none_at (suc k) = refl
 
 -- a tree with no text has no leaf, and is one
 pub no_leaves_of : (t : Tree) → IsTree t → byte_len (text t) ≡ 0 → t.leaves ≡ []

@@ -49,7 +49,12 @@ pub fn chunk_at_char(node: &Node, char_idx: usize) -> Found<'_>
     if info.bytes == 0 {
         return no_chunk(node);
     }
-    leaf_at(node, Unit::Char, char_idx.min(info.chars - 1), &mut Steps::new())
+    leaf_at(
+        node,
+        Unit::Char,
+        char_idx.min(info.chars - 1),
+        &mut Steps::new(),
+    )
 }
 
 /// The first chunk by whose end so many line breaks have ended; where there are fewer, the last chunk.

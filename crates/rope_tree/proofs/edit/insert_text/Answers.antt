@@ -39,8 +39,21 @@ overflow_add-place c =
     let sizes = inserting_sizes c.args.node.now.value c.args.at (chars c.args.added.now) c.loop-rest.rest.now c.loop-rest.root.value c.loop-rest.place c.loop-rest.invariant in
     let whole = ap length (cut_off c.loop-rest.rest.now c.floor_char_boundary-len.result c.loop-rest.invariant.utf8 c.floor_char_boundary-len.ensures.boundary) in
     let piece = ap (λ bs. length (chars bs)) (piece_is e) in
-    omega (arith, sizes.1, whole, length-append (chars (take c.floor_char_boundary-len.result c.loop-rest.rest.now)) (chars (drop c.floor_char_boundary-len.result c.loop-rest.rest.now)), piece, ap length c.from_str-piece.ensures.value, c.count_chars-place.ensures,
-    c.loop-rest.invariant.place_is, length-le-encodes (chars c.args.added.now), byte_len-chars c.args.added.now c.utf8.added, length-le-encodes (text c.args.node.now.value), c.requires.within, c.requires.fits)
+    omega (
+      arith,
+      sizes.1,
+      whole,
+      length-append (chars (take c.floor_char_boundary-len.result c.loop-rest.rest.now)) (chars (drop c.floor_char_boundary-len.result c.loop-rest.rest.now)),
+      piece,
+      ap length c.from_str-piece.ensures.value,
+      c.count_chars-place.ensures,
+      c.loop-rest.invariant.place_is,
+      length-le-encodes (chars c.args.added.now),
+      byte_len-chars c.args.added.now c.utf8.added,
+      length-le-encodes (text c.args.node.now.value),
+      c.requires.within,
+      c.requires.fits,
+    )
 
 pub loop-rest-smaller : goal.loop-rest-smaller
 loop-rest-smaller c =
