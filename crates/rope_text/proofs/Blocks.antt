@@ -3,9 +3,10 @@ use Rattle.std.proofs.Common.{◌≡◌, ℕ, zero, suc, ◌+◌, ◌<◌, ◌�
 use Rattle.std.specs.List.{range_with_len}
 use Rattle.std.proofs.lemmas.Bool.{both_ways}
 use Rattle.std.proofs.lemmas.List.{at_drop_more, get_or-drop}
-use Rattle.std.proofs.lemmas.List.Sums.{sum_by-cons, sum_by-append}
+use Rattle.std.proofs.lemmas.List.Sums.{sum_by-cons, sum_by-append, count_by-le-length}
 use Rattle.std.proofs.lemmas.Simd.{chunk-drop}
 use Rattle.rope_text.specs.declared.line_breaks.LineBreaks.{LineBreaks}
+use Rattle.rope_text.specs.Bytes.{begins_char}
 use Rattle.rope_text.specs.ByteBreaks.{break_at, byte_breaks}
 
 -- whether a break begins at the byte k
@@ -37,6 +38,9 @@ one_at_most false = omega arith
 pub byte_breaks_le : (b : LineBreaks) (xs : List ℕ) → byte_breaks b xs ≤ length xs
 byte_breaks_le b [] = omega arith
 byte_breaks_le b (x ∷ xs) = omega (arith, byte_breaks_le b xs, one_at_most (break_at b x (get_or xs 0 0) (get_or xs 1 0)))
+
+pub begins_le : (xs : List ℕ) → count_by begins_char xs ≤ length xs
+begins_le xs = count_by-le-length begins_char xs
 
 pub count_by-block : (p : ℕ → Bool) (xs : List ℕ) (i n : ℕ) → count_by p (drop i xs) ≡ count_by p (take n (drop i xs)) + count_by p (drop (i + n) xs)
 count_by-block p xs i n = ap (count_by p) (chunk-drop i n xs) ∙ sum_by-append (λ x. cond (p x) 1 0) (take n (drop i xs)) (drop (i + n) xs)

@@ -143,11 +143,12 @@ first_after set bs p k u place less =
     let first : get_or bs p 0 ≡ get_or (encode_utf8 c ++ encode_utf8_all rest) 0 0 = ap (λ q. get_or bs q 0) (let e : p ≡ p + 0 = omega arith in e) ∙ at 0 in
     (rw (first, at 1, at 2) (break_first set c (encode_utf8 c) (encode_utf8_all rest) (begins_with_lf rest) whole lf), rw first (width_first c (encode_utf8 c) (encode_utf8_all rest) whole))
 
--- the end of the n-th break is where line n + 1 starts
-pub break_place : (set : LineBreaks) (bs : List ℕ) (n p : ℕ) → IsUtf8 bs → p < length bs → byte_breaks set bs ≡ n + byte_breaks set (drop p bs)
+-- the last character of the n-th break, the one before line n + 1
+break_front : (set : LineBreaks) (bs : List ℕ) (n p : ℕ) → IsUtf8 bs → p < length bs → byte_breaks set bs ≡ n + byte_breaks set (drop p bs)
     → break_at set (get_or bs p 0) (get_or bs (p + 1) 0) (get_or bs (p + 2) 0) ≡ true
-    → p + char_width (get_or bs p 0) ≡ byte_len (take (line_start set (chars bs) (suc n)) (chars bs))
-break_place set bs n p u inside before begin =
+    → (k : ℕ) × (k < length (chars bs)) × (byte_len (take k (chars bs)) ≡ p) × (line_start set (chars bs) (suc n) ≡ suc k)
+    × (char_width (get_or bs p 0) ≡ length (encode_utf8 (get_or (chars bs) k 0)))
+break_front set bs n p u inside before begin =
     let cs : List ℕ = chars bs in
     let f = front_at bs p u (boundary_of_begin bs p (omega arith) (λ _. break_begins set (get_or bs p 0) (get_or bs (p + 1) 0) (get_or bs (p + 2) 0) begin)) in
     let few : f.0 < length cs = elim (cases_lt f.0 (length cs)) [
@@ -159,13 +160,32 @@ break_place set bs n p u inside before begin =
     let ended : cond {A = ℕ} (ends_break set (get_or cs f.0 0) (drop (suc f.0) cs)) 1 0 ≡ 1 = ap (λ (t : Bool). cond {A = ℕ} t 1 0) (sym first.0 ∙ begin) in
     let next : line_start set cs (suc n) ≡ suc f.0 =
     line_start_is set cs (suc n) (suc f.0) few (λ _. omega (arith, line)) (λ less. omega (arith, line, ended, char_to_line_more set cs f.0 few)) in
+    (f.0, few, f.2, next, first.1)
+
+-- the end of the n-th break is where line n + 1 starts
+pub break_place : (set : LineBreaks) (bs : List ℕ) (n p : ℕ) → IsUtf8 bs → p < length bs → byte_breaks set bs ≡ n + byte_breaks set (drop p bs)
+    → break_at set (get_or bs p 0) (get_or bs (p + 1) 0) (get_or bs (p + 2) 0) ≡ true
+    → p + char_width (get_or bs p 0) ≡ byte_len (take (line_start set (chars bs) (suc n)) (chars bs))
+break_place set bs n p u inside before begin =
+    let cs : List ℕ = chars bs in
+    let f = break_front set bs n p u inside before begin in
     let size : byte_len (take (suc f.0) cs) ≡ p + char_width (get_or bs p 0) =
-    byte_len_more cs f.0 (get_or cs f.0 0) (few, get_or_default cs f.0 0 (get_or cs f.0 0) few) ∙ omega (arith, f.2, first.1, length-encode (get_or cs f.0 0)) in
-    sym size ∙ ap (λ j. byte_len (take j cs)) (sym next)
+    byte_len_more cs f.0 (get_or cs f.0 0) (f.1, get_or_default cs f.0 0 (get_or cs f.0 0) f.1) ∙ omega (arith, f.2, f.4, length-encode (get_or cs f.0 0)) in
+    sym size ∙ ap (λ j. byte_len (take j cs)) (sym f.3)
+
+pub break_char : (set : LineBreaks) (bs : List ℕ) (n p k : ℕ) → IsUtf8 bs → p < length bs → byte_breaks set bs ≡ n + byte_breaks set (drop p bs)
+    → break_at set (get_or bs p 0) (get_or bs (p + 1) 0) (get_or bs (p + 2) 0) ≡ true → count_by begins_char bs ≡ k + count_by begins_char (drop p bs)
+    → k + 1 ≡ line_start set (chars bs) (suc n)
+break_char set bs n p k u inside before begin counted =
+    let f = break_front set bs n p u inside before begin in
+    let rest = rw f.2 at (begins_from bs f.0 u) in
+    omega (arith, f.1, f.3, rest, length-chars bs u, length-drop f.0 (chars bs))
 
 -- past the last break a line starts at the end
-pub no_break_place : (set : LineBreaks) (bs : List ℕ) (n : ℕ) → IsUtf8 bs → byte_breaks set bs ≤ n → byte_len (take (line_start set (chars bs) (suc n)) (chars bs)) ≡ length bs
+pub no_break_line : (set : LineBreaks) (bs : List ℕ) (n : ℕ) → IsUtf8 bs → byte_breaks set bs ≤ n → line_start set (chars bs) (suc n) ≡ length (chars bs)
 unfolding line_start
+no_break_line set bs n u few = get_or_past (break_ends set (chars bs)) n (length (chars bs)) (omega (arith, break_count-chars set bs u))
+
+pub no_break_place : (set : LineBreaks) (bs : List ℕ) (n : ℕ) → IsUtf8 bs → byte_breaks set bs ≤ n → byte_len (take (line_start set (chars bs) (suc n)) (chars bs)) ≡ length bs
 no_break_place set bs n u few =
-    let past : line_start set (chars bs) (suc n) ≡ length (chars bs) = get_or_past (break_ends set (chars bs)) n (length (chars bs)) (omega (arith, break_count-chars set bs u)) in
-    ap byte_len (ap (λ j. take j (chars bs)) past ∙ take_all (length (chars bs)) (chars bs) (omega arith)) ∙ byte_len-chars bs u
+    ap byte_len (ap (λ j. take j (chars bs)) (no_break_line set bs n u few) ∙ take_all (length (chars bs)) (chars bs) (omega arith)) ∙ byte_len-chars bs u

@@ -4,7 +4,7 @@ ghost use Rattle.std.specs.Prelude.{◌≡◌, ◌+◌, ◌<◌, ◌≤◌, leng
 ghost use Rattle.rope_text.specs.Bytes.{begins_char, begins_pair};
 ghost use Rattle.rope_text.specs.ByteBreaks.{break_at, byte_breaks, unit_count};
 
-use crate::lanes::{breaks_between, breaks_in, chars_in, is_break_begin, pairs_in};
+use crate::lanes::{breaks_between, breaks_in, chars_in, count_begins, is_break_begin, pairs_in};
 use crate::line_breaks::LineBreaks;
 
 // The blocks before the character `n`: their end, and which character it is from there on.
@@ -166,6 +166,7 @@ fn skip_breaks(bytes: &[u8], n: usize, set: LineBreaks) -> (usize, usize)
 
 fn find_break(bytes: &[u8], from: usize, n: usize, set: LineBreaks) -> usize
     requires { from ≤ length bytes.now }
+    ensures from { from ≤ result }
     ensures bound { result ≤ length bytes.now }
     ensures inside { result < length bytes.now
         → (byte_breaks set (drop from bytes.now) ≡ n + byte_breaks set (drop result bytes.now))
@@ -194,4 +195,41 @@ pub(crate) fn place_of_break(bytes: &[u8], n: usize, set: LineBreaks) -> usize
 {
     let (at, left) = skip_breaks(bytes, n, set);
     find_break(bytes, at, left, set)
+}
+
+// The blocks before the break `n`: their end, which break it is from there on, and the characters in them.
+#[tactic(auto, using(crate::proofs::Blocks::begins_le))]
+fn skip_breaks_with_chars(bytes: &[u8], n: usize, set: LineBreaks) -> (usize, usize, usize)
+    ensures bound { result.0 ≤ length bytes.now }
+    ensures counted { byte_breaks set bytes.now + result.1 ≡ n + byte_breaks set (drop result.0 bytes.now) }
+    ensures chars { count_by begins_char bytes.now ≡ result.2 + count_by begins_char (drop result.0 bytes.now) }
+{
+    let mut at = 0;
+    let mut left = n;
+    let mut chars = 0;
+    while bytes.len() - at >= 34 {
+        let passed = breaks_in(bytes, at, set) as usize;
+        if left < passed {
+            return (at, left, chars);
+        }
+        left -= passed;
+        chars += chars_in(bytes, at) as usize;
+        at += 32;
+    }
+    (at, left, chars)
+}
+
+/// The byte at which the last character of the break `n` begins, and how many characters begin before it.
+#[tactic(auto, using(crate::proofs::Blocks::begins_le))]
+pub(crate) fn char_of_break(bytes: &[u8], n: usize, set: LineBreaks) -> (usize, usize)
+    ensures bound { result.0 ≤ length bytes.now }
+    ensures inside { result.0 < length bytes.now
+        → (byte_breaks set bytes.now ≡ n + byte_breaks set (drop result.0 bytes.now))
+        × IsTrue (break_at set (slice_index bytes.now result.0) (slice_index bytes.now (result.0 + 1)) (slice_index bytes.now (result.0 + 2))) }
+    ensures end { result.0 ≡ length bytes.now → byte_breaks set bytes.now ≤ n }
+    ensures chars { count_by begins_char bytes.now ≡ result.1 + count_by begins_char (drop result.0 bytes.now) }
+{
+    let (from, left, before) = skip_breaks_with_chars(bytes, n, set);
+    let to = find_break(bytes, from, left, set);
+    (to, before + count_begins(&bytes[from..to]))
 }
