@@ -124,7 +124,7 @@ pub(crate) fn is_break_begin(bytes: &[u8], at: usize, set: LineBreaks) -> bool
 }
 
 // The breaks that begin from `from` on and before `to`, a byte at a time.
-pub(crate) fn breaks_between(bytes: &[u8], from: usize, to: usize, set: LineBreaks) -> usize
+fn breaks_between(bytes: &[u8], from: usize, to: usize, set: LineBreaks) -> usize
     requires from { from ≤ to }
     requires to { to ≤ length bytes.now }
     ensures { byte_breaks set (drop from bytes.now) ≡ result + byte_breaks set (drop to bytes.now) }

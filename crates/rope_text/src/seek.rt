@@ -4,7 +4,7 @@ ghost use Rattle.std.specs.Prelude.{◌≡◌, ◌+◌, ◌<◌, ◌≤◌, leng
 ghost use Rattle.rope_text.specs.Bytes.{begins_char, begins_pair};
 ghost use Rattle.rope_text.specs.ByteBreaks.{break_at, byte_breaks, unit_count};
 
-use crate::lanes::{breaks_between, breaks_in, chars_in, count_begins, is_break_begin, pairs_in};
+use crate::lanes::{breaks_in, chars_in, count_begins, is_break_begin, pairs_in};
 use crate::line_breaks::LineBreaks;
 
 // The blocks before the character `n`: their end, and which character it is from there on.
@@ -27,7 +27,6 @@ fn skip_chars(bytes: &[u8], n: usize) -> (usize, usize)
 
 fn find_char(bytes: &[u8], from: usize, n: usize) -> usize
     requires { from ≤ length bytes.now }
-    ensures from { from ≤ result }
     ensures bound { result ≤ length bytes.now }
     ensures inside { result < length bytes.now
         → (count_by begins_char (drop from bytes.now) ≡ n + count_by begins_char (drop result bytes.now))
@@ -57,43 +56,6 @@ pub(crate) fn place_of_char(bytes: &[u8], n: usize) -> usize
 {
     let (at, left) = skip_chars(bytes, n);
     find_char(bytes, at, left)
-}
-
-// The blocks before the character `n`: their end, which character it is from there on, and the breaks in them.
-#[tactic(auto, using(crate::proofs::Blocks::byte_breaks_le))]
-fn skip_chars_with_breaks(bytes: &[u8], n: usize, set: LineBreaks) -> (usize, usize, usize)
-    ensures bound { result.0 ≤ length bytes.now }
-    ensures counted { count_by begins_char bytes.now + result.1 ≡ n + count_by begins_char (drop result.0 bytes.now) }
-    ensures breaks { byte_breaks set bytes.now ≡ result.2 + byte_breaks set (drop result.0 bytes.now) }
-{
-    let mut at = 0;
-    let mut left = n;
-    let mut breaks = 0;
-    while bytes.len() - at >= 34 {
-        let passed = chars_in(bytes, at) as usize;
-        if left < passed {
-            return (at, left, breaks);
-        }
-        left -= passed;
-        breaks += breaks_in(bytes, at, set) as usize;
-        at += 32;
-    }
-    (at, left, breaks)
-}
-
-/// The byte at which the character `n` begins, and how many breaks begin before it.
-#[tactic(auto, using(crate::proofs::Blocks::byte_breaks_le))]
-pub(crate) fn line_of_char(bytes: &[u8], n: usize, set: LineBreaks) -> (usize, usize)
-    ensures bound { result.0 ≤ length bytes.now }
-    ensures inside { result.0 < length bytes.now
-        → (count_by begins_char bytes.now ≡ n + count_by begins_char (drop result.0 bytes.now))
-        × IsTrue (begins_char (slice_index bytes.now result.0)) }
-    ensures end { result.0 ≡ length bytes.now → count_by begins_char bytes.now ≤ n }
-    ensures breaks { byte_breaks set bytes.now ≡ result.1 + byte_breaks set (drop result.0 bytes.now) }
-{
-    let (from, left, before) = skip_chars_with_breaks(bytes, n, set);
-    let to = find_char(bytes, from, left);
-    (to, before + breaks_between(bytes, from, to, set))
 }
 
 // The blocks before the code unit `n`: their end, and which code unit it is from there on.
