@@ -13,7 +13,7 @@ use crate::children::{pack, splice};
 use crate::lookup::total_before;
 use crate::node::{Node, Nodes, View, make_leaf};
 use crate::node_text::NodeText;
-use crate::search::{Unit, place_of};
+use crate::search::{Unit, char_to_hold, place_of};
 use rope_text::{LineBreaks, Steps, TextInfo};
 use std::alloc::{AllocError, Global};
 use std::rc::Rc;
@@ -58,15 +58,6 @@ fn insert_into_leaf(
             Ok(Nodes::Two(first, second))
         }
     }
-}
-
-/// The character that the child which takes the text has to hold: at a seam the one before it, or the one after it.
-fn char_to_hold(at: usize, to_right: bool) -> usize
-    ensures right { to_right ≡ true → result ≡ at }
-    ensures first { to_right ≡ false → at ≡ 0 → result ≡ 0 }
-    ensures left { to_right ≡ false → 0 < at → result + 1 ≡ at }
-{
-    if to_right || at == 0 { at } else { at - 1 }
 }
 
 /// The tree with a text of at most 981 bytes before its character `at`, as one tree or two of the same height. The old
