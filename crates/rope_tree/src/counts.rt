@@ -10,7 +10,7 @@ use rope_text::str_utils::char_to_byte_idx;
 use rope_text::{LineBreaks, TextInfo};
 
 /// Whether CR is the last character.
-fn ends_in_cr(text: &str) -> bool
+pub(crate) fn ends_in_cr(text: &str) -> bool
     ensures { result ≡ ends_in_cr (chars text.now) }
 {
     let bytes = text.as_bytes();

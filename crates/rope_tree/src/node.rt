@@ -191,6 +191,7 @@ pub fn make_leaf(
 ) -> Result<Rc<Node>, AllocError>
     requires { info ≡ info_of breaks leaf }
     ensures ok { IfOk result (λ node. node.value ≡ leaf_tree breaks leaf) }
+    ensures tree { IfOk result (λ node. IsTree node.value) }
     ensures made { made.new ≤ made.old + 1 }
 {
     add_made(made);
@@ -204,6 +205,7 @@ pub fn make_leaf(
             body: Body::Leaf(leaf),
         },
     )?;
+    let _ = node.height();
     Ok(node)
 }
 
