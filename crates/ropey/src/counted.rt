@@ -108,11 +108,13 @@ impl Rope {
         tree::line_to_char(self.root(), line_idx, steps)
     }
 
-    /// What `byte` answers, under the same condition, with the steps that it took: one node for each level.
+    /// What `byte` answers, under the same condition, with the steps that it took: one node for each level,
+    /// and at least one comparison for each inner one.
     pub fn byte_counted(&self, byte_idx: usize, steps: &mut Steps) -> u8
         requires { byte_idx < byte_len self.now.text }
         ensures value { slice_get (encode_utf8_all self.now.text) byte_idx ≡ Some result }
         ensures nodes { steps.new.nodes ≡ self.now.depth + 1 }
+        ensures counted { self.now.depth ≤ steps.new.compares }
         ensures compares { steps.new.compares ≤ 5 * self.now.depth }
         ensures made { steps.new.made ≡ 0 }
     {
@@ -120,11 +122,13 @@ impl Rope {
         byte_at(self.root(), byte_idx, steps)
     }
 
-    /// What `char` answers, under the same condition, with the steps that it took: one node for each level.
+    /// What `char` answers, under the same condition, with the steps that it took: one node for each level,
+    /// and at least one comparison for each inner one.
     pub fn char_counted(&self, char_idx: usize, steps: &mut Steps) -> char
         requires { char_idx < length self.now.text }
         ensures value { slice_get self.now.text char_idx ≡ Some result }
         ensures nodes { steps.new.nodes ≡ self.now.depth + 1 }
+        ensures counted { self.now.depth ≤ steps.new.compares }
         ensures compares { steps.new.compares ≤ 5 * self.now.depth }
         ensures made { steps.new.made ≡ 0 }
     {
