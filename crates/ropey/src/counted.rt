@@ -1,5 +1,5 @@
-//! Look-ups that count their steps. Each sets the counts to 0 first, enters at most one node a level, compares an index with
-//! at most five running totals in each inner node, and makes no node. None takes memory.
+//! Look-ups that count their steps: the nodes that they enter, and the running totals that they compare an index with. Each
+//! sets the counts to 0 first.
 ghost use Rattle.std.specs.Prelude.{◌≡◌, ◌+◌, ◌*◌, ◌<◌, ◌≤◌, length, slice_get, Some};
 ghost use Rattle.std.specs.Str.{encode_utf8_all};
 ghost use Rattle.rope_text.specs.Text.{byte_len, utf16_len};
@@ -12,7 +12,8 @@ use rope_tree::conversions as tree;
 use rope_tree::lookup::{byte_at, char_at};
 
 impl Rope {
-    /// What `byte_to_char` answers, under the same condition, with the steps that it took.
+    /// What `byte_to_char` answers, under the same condition, with the steps that it took: at most one node for each level,
+    /// and at most five comparisons for each inner node on the way. No memory is taken.
     pub fn byte_to_char_counted(&self, byte_idx: usize, steps: &mut Steps) -> usize
         requires { byte_idx ≤ byte_len self.now.text }
         ensures value { result ≡ byte_to_char self.now.text byte_idx }
@@ -24,7 +25,8 @@ impl Rope {
         tree::byte_to_char(self.root(), byte_idx, steps)
     }
 
-    /// What `byte_to_line` answers, under the same condition, with the steps that it took.
+    /// What `byte_to_line` answers, under the same condition, with the steps that it took: at most one node for each level,
+    /// and at most five comparisons for each inner node on the way. No memory is taken.
     pub fn byte_to_line_counted(&self, byte_idx: usize, steps: &mut Steps) -> usize
         requires { byte_idx ≤ byte_len self.now.text }
         ensures value { result ≡ byte_to_line self.now.breaks self.now.text byte_idx }
@@ -36,7 +38,8 @@ impl Rope {
         tree::byte_to_line(self.root(), byte_idx, steps)
     }
 
-    /// What `char_to_byte` answers, under the same condition, with the steps that it took.
+    /// What `char_to_byte` answers, under the same condition, with the steps that it took: at most one node for each level,
+    /// and at most five comparisons for each inner node on the way. No memory is taken.
     pub fn char_to_byte_counted(&self, char_idx: usize, steps: &mut Steps) -> usize
         requires { char_idx ≤ length self.now.text }
         ensures value { result ≡ char_to_byte self.now.text char_idx }
@@ -48,7 +51,8 @@ impl Rope {
         tree::char_to_byte(self.root(), char_idx, steps)
     }
 
-    /// What `char_to_line` answers, under the same condition, with the steps that it took.
+    /// What `char_to_line` answers, under the same condition, with the steps that it took: at most one node for each level,
+    /// and at most five comparisons for each inner node on the way. No memory is taken.
     pub fn char_to_line_counted(&self, char_idx: usize, steps: &mut Steps) -> usize
         requires { char_idx ≤ length self.now.text }
         ensures value { result ≡ char_to_line self.now.breaks self.now.text char_idx }
@@ -60,7 +64,8 @@ impl Rope {
         tree::char_to_line(self.root(), char_idx, steps)
     }
 
-    /// What `char_to_utf16_cu` answers, under the same condition, with the steps that it took.
+    /// What `char_to_utf16_cu` answers, under the same condition, with the steps that it took: at most one node for each level,
+    /// and at most five comparisons for each inner node on the way. No memory is taken.
     pub fn char_to_utf16_cu_counted(&self, char_idx: usize, steps: &mut Steps) -> usize
         requires { char_idx ≤ length self.now.text }
         ensures value { result ≡ char_to_utf16 self.now.text char_idx }
@@ -72,7 +77,8 @@ impl Rope {
         tree::char_to_utf16(self.root(), char_idx, steps)
     }
 
-    /// What `utf16_cu_to_char` answers, under the same condition, with the steps that it took.
+    /// What `utf16_cu_to_char` answers, under the same condition, with the steps that it took: at most one node for each level,
+    /// and at most five comparisons for each inner node on the way. No memory is taken.
     pub fn utf16_cu_to_char_counted(&self, utf16_cu_idx: usize, steps: &mut Steps) -> usize
         requires { utf16_cu_idx ≤ utf16_len self.now.text }
         ensures value { result ≡ utf16_to_char self.now.text utf16_cu_idx }
@@ -84,7 +90,8 @@ impl Rope {
         tree::utf16_to_char(self.root(), utf16_cu_idx, steps)
     }
 
-    /// What `line_to_byte` answers, under the same condition, with the steps that it took.
+    /// What `line_to_byte` answers, under the same condition, with the steps that it took: at most one node for each level,
+    /// and at most five comparisons for each inner node on the way. No memory is taken.
     pub fn line_to_byte_counted(&self, line_idx: usize, steps: &mut Steps) -> usize
         requires { line_idx ≤ line_count self.now.breaks self.now.text }
         ensures value { result ≡ line_to_byte self.now.breaks self.now.text line_idx }
@@ -96,7 +103,8 @@ impl Rope {
         tree::line_to_byte(self.root(), line_idx, steps)
     }
 
-    /// What `line_to_char` answers, under the same condition, with the steps that it took.
+    /// What `line_to_char` answers, under the same condition, with the steps that it took: at most one node for each level,
+    /// and at most five comparisons for each inner node on the way. No memory is taken.
     pub fn line_to_char_counted(&self, line_idx: usize, steps: &mut Steps) -> usize
         requires { line_idx ≤ line_count self.now.breaks self.now.text }
         ensures value { result ≡ line_to_char self.now.breaks self.now.text line_idx }
@@ -108,8 +116,8 @@ impl Rope {
         tree::line_to_char(self.root(), line_idx, steps)
     }
 
-    /// What `byte` answers, under the same condition, with the steps that it took: one node for each level,
-    /// and at least one comparison for each inner one.
+    /// What `byte` answers, under the same condition, with the steps that it took: one node for each level, and one to
+    /// five comparisons for each inner node on the way. No memory is taken.
     pub fn byte_counted(&self, byte_idx: usize, steps: &mut Steps) -> u8
         requires { byte_idx < byte_len self.now.text }
         ensures value { slice_get (encode_utf8_all self.now.text) byte_idx ≡ Some result }
@@ -122,8 +130,8 @@ impl Rope {
         byte_at(self.root(), byte_idx, steps)
     }
 
-    /// What `char` answers, under the same condition, with the steps that it took: one node for each level,
-    /// and at least one comparison for each inner one.
+    /// What `char` answers, under the same condition, with the steps that it took: one node for each level, and one to
+    /// five comparisons for each inner node on the way. No memory is taken.
     pub fn char_counted(&self, char_idx: usize, steps: &mut Steps) -> char
         requires { char_idx < length self.now.text }
         ensures value { slice_get self.now.text char_idx ≡ Some result }

@@ -85,8 +85,9 @@ impl Rope {
         ensures depth { result.now.height ≡ self.now.depth }
         ensures low { result.now.height ≤ 18 }
     {
-        let _ = self.root.height();
-        &self.root
+        let node: &Node = &self.root;
+        let _ = node.height();
+        node
     }
 
     /// The length in bytes. No text is read.
@@ -119,7 +120,8 @@ impl Rope {
         info.chars + info.utf16_surrogates
     }
 
-    /// How many levels the tree has above the chunks: 0 where there is at most one chunk. No text is read.
+    /// How many levels the tree has above the chunks: 0 where there is at most one chunk, and 18 at the most. No text is
+    /// read.
     pub fn depth(&self) -> usize
         ensures value { result ≡ self.now.depth }
         ensures kept { IsRope self.now }
