@@ -5,13 +5,27 @@ ghost use Rattle.std.specs.Str.{encode_utf8_all};
 ghost use Rattle.rope_text.specs.Text.{byte_len, utf16_len};
 ghost use Rattle.rope_text.specs.Lines.{line_count};
 ghost use Rattle.rope_text.specs.Conversions.{byte_to_char, byte_to_line, char_to_byte, char_to_line, char_to_utf16, line_to_byte, line_to_char, utf16_to_char};
+ghost use Rattle.rope_tree.specs.Tree.{text};
 
 use crate::rope::Rope;
 use rope_text::Steps;
 use rope_tree::conversions as tree;
 use rope_tree::lookup::{byte_at, char_at};
+use rope_tree::node::Node;
 
 impl Rope {
+    // The root of the tree, where the counts begin with 0.
+    fn begin(&self, steps: &mut Steps) -> &Node
+        ensures text { text result.now ≡ self.now.text }
+        ensures breaks { result.now.breaks ≡ self.now.breaks }
+        ensures depth { result.now.height ≡ self.now.depth }
+        ensures low { result.now.height ≤ 18 }
+        ensures zero { steps.new ≡ record { nodes = 0; compares = 0; made = 0 } }
+    {
+        *steps = Steps::new();
+        self.root()
+    }
+
     /// What `byte_to_char` answers, under the same condition, with the steps that it took: at most one node for each level,
     /// and at most five comparisons for each inner node on the way. No memory is taken.
     pub fn byte_to_char_counted(&self, byte_idx: usize, steps: &mut Steps) -> usize
@@ -21,8 +35,7 @@ impl Rope {
         ensures compares { steps.new.compares ≤ 5 * self.now.depth }
         ensures made { steps.new.made ≡ 0 }
     {
-        *steps = Steps::new();
-        tree::byte_to_char(self.root(), byte_idx, steps)
+        tree::byte_to_char(self.begin(steps), byte_idx, steps)
     }
 
     /// What `byte_to_line` answers, under the same condition, with the steps that it took: at most one node for each level,
@@ -34,8 +47,7 @@ impl Rope {
         ensures compares { steps.new.compares ≤ 5 * self.now.depth }
         ensures made { steps.new.made ≡ 0 }
     {
-        *steps = Steps::new();
-        tree::byte_to_line(self.root(), byte_idx, steps)
+        tree::byte_to_line(self.begin(steps), byte_idx, steps)
     }
 
     /// What `char_to_byte` answers, under the same condition, with the steps that it took: at most one node for each level,
@@ -47,8 +59,7 @@ impl Rope {
         ensures compares { steps.new.compares ≤ 5 * self.now.depth }
         ensures made { steps.new.made ≡ 0 }
     {
-        *steps = Steps::new();
-        tree::char_to_byte(self.root(), char_idx, steps)
+        tree::char_to_byte(self.begin(steps), char_idx, steps)
     }
 
     /// What `char_to_line` answers, under the same condition, with the steps that it took: at most one node for each level,
@@ -60,8 +71,7 @@ impl Rope {
         ensures compares { steps.new.compares ≤ 5 * self.now.depth }
         ensures made { steps.new.made ≡ 0 }
     {
-        *steps = Steps::new();
-        tree::char_to_line(self.root(), char_idx, steps)
+        tree::char_to_line(self.begin(steps), char_idx, steps)
     }
 
     /// What `char_to_utf16_cu` answers, under the same condition, with the steps that it took: at most one node for each level,
@@ -73,8 +83,7 @@ impl Rope {
         ensures compares { steps.new.compares ≤ 5 * self.now.depth }
         ensures made { steps.new.made ≡ 0 }
     {
-        *steps = Steps::new();
-        tree::char_to_utf16(self.root(), char_idx, steps)
+        tree::char_to_utf16(self.begin(steps), char_idx, steps)
     }
 
     /// What `utf16_cu_to_char` answers, under the same condition, with the steps that it took: at most one node for each level,
@@ -86,8 +95,7 @@ impl Rope {
         ensures compares { steps.new.compares ≤ 5 * self.now.depth }
         ensures made { steps.new.made ≡ 0 }
     {
-        *steps = Steps::new();
-        tree::utf16_to_char(self.root(), utf16_cu_idx, steps)
+        tree::utf16_to_char(self.begin(steps), utf16_cu_idx, steps)
     }
 
     /// What `line_to_byte` answers, under the same condition, with the steps that it took: at most one node for each level,
@@ -99,8 +107,7 @@ impl Rope {
         ensures compares { steps.new.compares ≤ 5 * self.now.depth }
         ensures made { steps.new.made ≡ 0 }
     {
-        *steps = Steps::new();
-        tree::line_to_byte(self.root(), line_idx, steps)
+        tree::line_to_byte(self.begin(steps), line_idx, steps)
     }
 
     /// What `line_to_char` answers, under the same condition, with the steps that it took: at most one node for each level,
@@ -112,8 +119,7 @@ impl Rope {
         ensures compares { steps.new.compares ≤ 5 * self.now.depth }
         ensures made { steps.new.made ≡ 0 }
     {
-        *steps = Steps::new();
-        tree::line_to_char(self.root(), line_idx, steps)
+        tree::line_to_char(self.begin(steps), line_idx, steps)
     }
 
     /// What `byte` answers, under the same condition, with the steps that it took: one node for each level, and one to
@@ -126,8 +132,7 @@ impl Rope {
         ensures compares { steps.new.compares ≤ 5 * self.now.depth }
         ensures made { steps.new.made ≡ 0 }
     {
-        *steps = Steps::new();
-        byte_at(self.root(), byte_idx, steps)
+        byte_at(self.begin(steps), byte_idx, steps)
     }
 
     /// What `char` answers, under the same condition, with the steps that it took: one node for each level, and one to
@@ -140,7 +145,6 @@ impl Rope {
         ensures compares { steps.new.compares ≤ 5 * self.now.depth }
         ensures made { steps.new.made ≡ 0 }
     {
-        *steps = Steps::new();
-        char_at(self.root(), char_idx, steps)
+        char_at(self.begin(steps), char_idx, steps)
     }
 }
