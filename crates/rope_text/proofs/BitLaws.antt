@@ -1,5 +1,5 @@
 -- Set bits of a number, those below a place and those from there on.
-use Rattle.std.proofs.Common.{◌≡◌, ℕ, zero, suc, ◌+◌, ◌*◌, ◌/◌, ◌%◌, ◌^◌, ◌≤◌, ◌<◌, Bool, true, false, cond, List, [], ◌∷◌, take, count_ones, refl, sym, ap, ap₂, ◌∙◌, arith, add-one}
+use Rattle.std.proofs.Common.{◌≡◌, ℕ, zero, suc, ◌+◌, ◌-◌, ◌*◌, ◌/◌, ◌%◌, ◌^◌, ◌≤◌, ◌<◌, Bool, true, false, cond, List, [], ◌∷◌, take, count_ones, refl, sym, ap, ap₂, ◌∙◌, arith, add-one}
 use Rattle.std.proofs.Math.Nat.{mod-one, div-one, zero-mod, div-div-eq-div-mul, pow-succ'}
 use Rattle.std.proofs.lemmas.Nat.{ones_le_self, mod-pow-add, pow-add}
 use lib.Count.{ones_step}
@@ -33,6 +33,16 @@ ones_more m (suc a) b n e =
     let next : n ≡ suc (a + b) = omega (arith, e) in
     let shift : m / 2 / 2 ^ a ≡ m / 2 ^ suc a = div-div-eq-div-mul m 2 (2 ^ a) ∙ ap (λ x. m / x) (sym (pow-succ' 2 a)) in
     omega (arith, ap (ones_below m) next, ones_low m (a + b), ones_more (m / 2) a b (a + b) refl, ones_low m a, ap (λ x. ones_below x b) shift)
+
+pub ones_le : (m n : ℕ) → ones_below m n ≤ n
+ones_le m zero = omega (arith, ap count_ones (mod-one m), no_ones)
+ones_le m (suc n) = omega (arith, ones_low m n, ones_le (m / 2) n)
+
+-- where each byte of a block has a mark, so have those of its front
+pub all_ones : (m n k : ℕ) → ones_below m n ≡ n → k ≤ n → ones_below m k ≡ k
+all_ones m n k full within =
+    let rest : ℕ = n - k in
+    omega (arith, ones_more m k rest n (omega (arith, within)), ones_le m k, ones_le (m / 2 ^ k) rest, full)
 
 pub marks_more : (x y a b n : ℕ) → n ≡ a + b → marks_below x y n ≡ marks_below x y a + marks_below (x / 2 ^ a) (y / 2 ^ a) b
 marks_more x y a b n e = omega (arith, ones_more x a b n e, ones_more y a b n e)

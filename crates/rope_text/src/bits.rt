@@ -19,6 +19,10 @@ pub(crate) fn place_of_mark(first: u64, second: u64, n: usize) -> usize
     ensures before { marks_below first second result ≤ n }
     ensures after { n < marks_below first second (result + 1) }
 {
+    // In a block of ASCII each byte has a mark.
+    if second == 0 && ones_before(first, 32) == 32 {
+        return n;
+    }
     let mut ones = first;
     let mut more = second;
     let mut left = n;

@@ -299,9 +299,11 @@ pub(crate) fn count_breaks_before(bytes: &[u8], to: usize, set: LineBreaks) -> u
     requires { to ≤ length bytes.now }
     ensures { byte_breaks set bytes.now ≡ result + byte_breaks set (drop to bytes.now) }
 {
+    // A block is read two bytes past its end.
+    let end = to.min(bytes.len().saturating_sub(2));
     let mut total = 0;
     let mut i = 0;
-    while to - i >= 32 && bytes.len() - i >= 34 {
+    while end - i >= 32 {
         total += breaks_in(bytes, i, set);
         i += 32;
     }
