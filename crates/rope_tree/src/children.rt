@@ -18,7 +18,7 @@ pub fn share(node: &Rc<Node>) -> Result<Rc<Node>, AllocError>
 }
 
 /// Appends the nodes.
-fn push_all(list: &mut Vec<Rc<Node>>, nodes: &[Rc<Node>]) -> Result<(), AllocError>
+pub fn push_all(list: &mut Vec<Rc<Node>>, nodes: &[Rc<Node>]) -> Result<(), AllocError>
     ensures { IfOk result (λ _. trees list.new.items ≡ trees list.old.items ++ trees nodes.now) }
 {
     for node in nodes {

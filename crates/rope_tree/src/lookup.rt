@@ -24,7 +24,7 @@ pub struct Found<'a> {
 }
 
 /// The counts of the children before a place.
-pub(crate) fn total_before(totals: &[TextInfo], place: usize) -> TextInfo
+pub fn total_before(totals: &[TextInfo], place: usize) -> TextInfo
     requires { place ≤ length totals.now }
     ensures first { place ≡ 0 → (set : LineBreaks) → result ≡ info_of set [] }
     ensures later { (d : TextInfo) → 0 < place → result ≡ slice_index_or totals.now (place - 1) d }

@@ -1,0 +1,202 @@
+-- A node cut at one of its children.
+use Rattle.std.proofs.Common.{◌≡◌, ℕ, ◌+◌, ◌-◌, ◌^◌, ◌<◌, ◌≤◌, List, [], ◌++◌, length, take, drop, get_or, refl, sym, ap, subst, ◌∙◌, arith, inl, inr}
+use Rattle.std.specs.List.{concat, All}
+use Rattle.std.specs.declared.alloc.Global.{Global}
+use Rattle.std.specs.declared.rc.Rc.{Rc}
+use Rattle.std.proofs.lemmas.Bool.{cases_lt}
+use Rattle.std.proofs.lemmas.List.{append-nil, length-drop, length-take-le, take_all, take-append-drop, take-map, drop-map, nil_from_length}
+use Rattle.rope_text.specs.declared.line_breaks.LineBreaks.{LineBreaks}
+use Rattle.rope_text.specs.Text.{byte_len}
+use Rattle.rope_text.proofs.Measures.{IsMeasure-byte_len}
+use Rattle.rope_text.proofs.CuttingLaws.{concat-append}
+use Rattle.rope_tree.specs.declared.node.Node.{Node}
+use Rattle.rope_tree.specs.Listed.{trees}
+use Rattle.rope_tree.specs.Leaves.{AreLeaves, IsSeam}
+use Rattle.rope_tree.specs.Tree.{Tree, text, joined, leaves_of, height_of, breaks_of, tree_over, leaf_tree, IsTree, IsChild, AreChildren}
+use Rattle.rope_tree.specs.Siblings.{AreSiblings}
+use Rattle.rope_tree.proofs.LeafLaws.{all_left, all_right, leaves_left, leaves_right, leaves_seam, leaves-append, seam_of_left, seam-take, seam-drop}
+use Rattle.rope_tree.proofs.TreeLaws.{height_of_is, breaks_of_is}
+use Rattle.rope_tree.proofs.NodeLaws.{child_at}
+use Rattle.rope_tree.proofs.Descents.{leaves_at}
+use Rattle.rope_tree.proofs.InsertTrees.{text_around}
+use Rattle.rope_tree.proofs.InsertLaws.{front_of, rest_of}
+use Rattle.rope_tree.proofs.InsertLeaves.{text_of_leaf}
+use Rattle.rope_join.specs.Join.{CanJoin, IsJoin, IsGathered}
+use Rattle.rope_join.specs.Cut.{IsFront, IsBack}
+
+-- the parts of an inner node around one child
+pub record CutsAt (n : Tree) (xs : List Tree) (t : Tree) (ys : List Tree) : Type 0 where
+  pub text_is : text n ≡ joined xs ++ (text t ++ joined ys)
+  pub leaves : AreLeaves (leaves_of xs ++ (t.leaves ++ leaves_of ys))
+  pub fits : byte_len (joined xs) + (byte_len (text t) + byte_len (joined ys)) < 2 ^ 63
+  pub same_breaks : t.breaks ≡ n.breaks
+  pub above : t.height + 1 ≡ n.height
+  pub before : All (IsChild t.breaks t.height) xs
+  pub after : All (IsChild t.breaks t.height) ys
+  pub few : length xs + (length ys + 1) ≤ 24
+
+pub cuts_at : (n : Tree) (br : LineBreaks) (h : ℕ) (ts : List Tree) (k : ℕ) (t : Tree) → n ≡ tree_over ts → AreChildren br h ts → k < length ts → get_or ts k t ≡ t → CutsAt n (take k ts) t (drop (k + 1) ts)
+cuts_at n br h ts k t is a lt here =
+    let own = child_at br h ts k t a lt here in
+    let l : leaves_of ts ≡ leaves_of (take k ts) ++ (t.leaves ++ leaves_of (drop (k + 1) ts)) =
+    subst (λ u. leaves_of ts ≡ leaves_of (take k ts) ++ (u.leaves ++ leaves_of (drop (k + 1) ts))) here (leaves_at ts k t lt) in
+    let x = text_around br h ts k t a lt here in
+    let all : All (IsChild br h) (take k ts ++ drop k ts) = rw take-append-drop a.each in
+    let all' : All (IsChild br h) (take (k + 1) ts ++ drop (k + 1) ts) = rw take-append-drop a.each in
+    record {
+      text_is = ap text is ∙ x;
+      leaves = subst AreLeaves l a.leaves;
+      fits = omega (arith, a.fits, ap byte_len x, IsMeasure-byte_len.joined (joined (take k ts)) (text t ++ joined (drop (k + 1) ts)), IsMeasure-byte_len.joined (text t) (joined (drop (k + 1) ts)));
+      same_breaks = own.same_breaks ∙ sym (ap (λ u. u.breaks) is ∙ breaks_of_is br h ts (omega (arith, a.at_least_two)) a.each);
+      above = omega (arith, own.at_height, ap (λ u. u.height) is, height_of_is br h ts (omega (arith, a.at_least_two)) a.each);
+      before = rw (own.same_breaks, own.at_height) (all_left (IsChild br h) (take k ts) (drop k ts) all);
+      after = rw (own.same_breaks, own.at_height) (all_right (IsChild br h) (take (k + 1) ts) (drop (k + 1) ts) all');
+      few = omega (arith, a.at_most_24, length-take-le k ts (omega arith), length-drop (k + 1) ts);
+    }
+
+-- the height of gathered trees
+module _ (br : LineBreaks) (h : ℕ) (xs : List Tree) (g : Tree) (each : All (IsChild br h) xs) (some : 1 ≤ length xs) (i : IsGathered xs g) where
+  pub gathered_set : g.breaks ≡ br
+  gathered_set = i.same_breaks ∙ breaks_of_is br h xs some each
+
+  pub gathered_least : h ≤ g.height
+  gathered_least = elim (cases_lt (length xs) 2) [
+    | inl l ↦ omega (arith, i.alone (omega arith), height_of_is br h xs some each)
+    | inr ge ↦ omega (arith, i.more ge, height_of_is br h xs some each)
+  ]
+
+  pub gathered_most : g.height ≤ h + 1
+  gathered_most = elim (cases_lt (length xs) 2) [
+    | inl l ↦ omega (arith, i.alone (omega arith), height_of_is br h xs some each)
+    | inr ge ↦ omega (arith, i.more ge, height_of_is br h xs some each)
+  ]
+
+  pub gathered_width : h < g.height → g.width ≡ length xs
+  gathered_width low = elim (cases_lt (length xs) 2) [
+    | inl l ↦ absurd (omega (arith, i.alone (omega arith), height_of_is br h xs some each))
+    | inr ge ↦ i.width ge
+  ]
+
+gather_siblings : (br : LineBreaks) (h : ℕ) (xs : List Tree) → All (IsChild br h) xs → 1 ≤ length xs → AreLeaves (leaves_of xs) → byte_len (joined xs) < 2 ^ 63 → AreSiblings (breaks_of xs) (height_of xs) xs
+gather_siblings br h xs each some c fits = rw (height_of_is br h xs some each, breaks_of_is br h xs some each) (record { each = each; leaves = c; fits = fits })
+
+byte_len-parts : (k : ℕ) (l : List ℕ) → byte_len (take k l) + byte_len (drop k l) ≡ byte_len l
+byte_len-parts k l = omega (arith, IsMeasure-byte_len.joined (take k l) (drop k l), ap byte_len (take-append-drop k l))
+
+module _ (n : Tree) (xs : List Tree) (t : Tree) (ys : List Tree) (s : CutsAt n xs t ys) where
+  pub before_siblings : 1 ≤ length xs → AreSiblings (breaks_of xs) (height_of xs) xs
+  before_siblings some = gather_siblings t.breaks t.height xs s.before some (leaves_left (leaves_of xs) (t.leaves ++ leaves_of ys) s.leaves) (omega (arith, s.fits))
+
+  right_leaves : AreLeaves (t.leaves ++ leaves_of ys)
+  right_leaves = leaves_right (leaves_of xs) (t.leaves ++ leaves_of ys) s.leaves
+
+  pub after_siblings : 1 ≤ length ys → AreSiblings (breaks_of ys) (height_of ys) ys
+  after_siblings some = gather_siblings t.breaks t.height ys s.after some (leaves_right t.leaves (leaves_of ys) right_leaves) (omega (arith, s.fits))
+
+  module _ (at k : ℕ) (p : Tree) (e : at ≡ length (joined xs) + k) (le : k ≤ length (text t)) where
+    front_text : take at (text n) ≡ joined xs ++ take k (text t)
+    front_text = ap (take at) s.text_is ∙ front_of (joined xs) (text t) (joined ys) [] k at e le
+
+    back_text : drop at (text n) ≡ drop k (text t) ++ joined ys
+    back_text = ap (drop at) s.text_is ∙ rest_of (joined xs) (text t) (joined ys) [] k at e le
+
+    pub front_alone : length xs ≡ 0 → IsFront k t p → IsFront at n p
+    front_alone z i =
+        let x : xs ≡ [] = nil_from_length xs z in
+        let f : take at (text n) ≡ take k (text t) = front_text ∙ ap (λ w. joined w ++ take k (text t)) x in
+        record { text_is = i.text_is ∙ sym f; same_breaks = i.same_breaks ∙ s.same_breaks; leaves = i.leaves; not_higher = omega (arith, i.not_higher, s.above) }
+
+    pub back_alone : length ys ≡ 0 → IsBack k t p → IsBack at n p
+    back_alone z i =
+        let y : ys ≡ [] = nil_from_length ys z in
+        let f : drop at (text n) ≡ drop k (text t) = back_text ∙ ap (λ w. drop k (text t) ++ joined w) y ∙ append-nil (drop k (text t)) in
+        record { text_is = i.text_is ∙ sym f; same_breaks = i.same_breaks ∙ s.same_breaks; leaves = i.leaves; not_higher = omega (arith, i.not_higher, s.above) }
+
+    module _ (g : Tree) (some : 1 ≤ length xs) (gi : IsGathered xs g) (i : IsFront k t p) where
+      front_set : g.breaks ≡ t.breaks
+      front_set = gathered_set t.breaks t.height xs g s.before some gi
+
+      pub front_can_join : CanJoin g p
+      front_can_join =
+          let c = leaves_seam (leaves_of xs) (t.leaves ++ leaves_of ys) s.leaves in
+          let d : IsSeam (joined xs) (text t ++ joined ys) = rw (concat-append t.leaves (leaves_of ys)) at c in
+          let f : IsSeam (joined xs) (text p) = rw i.text_is (seam-take k (joined xs) (text t) (seam_of_left (joined xs) (text t) (joined ys) d)) in
+          record {
+            same_breaks = i.same_breaks ∙ sym front_set;
+            leaves = rw gi.leaves (leaves-append (leaves_of xs) p.leaves (leaves_left (leaves_of xs) (t.leaves ++ leaves_of ys) s.leaves) i.leaves f);
+            fits = omega (arith, s.fits, ap (λ ls. byte_len (concat ls)) gi.leaves, ap byte_len i.text_is, byte_len-parts k (text t));
+          }
+
+      pub front_joined : (r : Tree) → IsJoin g p r → IsFront at n r
+      front_joined r j =
+          let low = gathered_least t.breaks t.height xs g s.before some gi in
+          let high = gathered_most t.breaks t.height xs g s.before some gi in
+          let x : text r ≡ joined xs ++ text p = j.recuts.same_text ∙ concat-append g.leaves p.leaves ∙ ap (λ ls. concat ls ++ text p) gi.leaves in
+          record {
+            text_is = x ∙ ap (λ z. joined xs ++ z) i.text_is ∙ sym front_text;
+            same_breaks = j.same_breaks ∙ front_set ∙ s.same_breaks;
+            leaves = j.recuts.leaves;
+            not_higher = elim (cases_lt t.height g.height) [
+              | inl l ↦ omega (arith, j.below_left (omega (arith, i.not_higher)) (omega (arith, s.few, gathered_width t.breaks t.height xs g s.before some gi l)), s.above)
+              | inr ge ↦ omega (arith, j.most, i.not_higher, s.above)
+            ];
+          }
+
+    module _ (g : Tree) (some : 1 ≤ length ys) (gi : IsGathered ys g) (i : IsBack k t p) where
+      back_set : g.breaks ≡ t.breaks
+      back_set = gathered_set t.breaks t.height ys g s.after some gi
+
+      pub back_can_join : CanJoin p g
+      back_can_join =
+          let f : IsSeam (text p) (joined ys) = rw i.text_is (seam-drop k (text t) (joined ys) (leaves_seam t.leaves (leaves_of ys) right_leaves)) in
+          record {
+            same_breaks = back_set ∙ sym i.same_breaks;
+            leaves = rw gi.leaves (leaves-append p.leaves (leaves_of ys) i.leaves (leaves_right t.leaves (leaves_of ys) right_leaves) f);
+            fits = omega (arith, s.fits, ap (λ ls. byte_len (concat ls)) gi.leaves, ap byte_len i.text_is, byte_len-parts k (text t));
+          }
+
+      pub back_joined : (r : Tree) → IsJoin p g r → IsBack at n r
+      back_joined r j =
+          let low = gathered_least t.breaks t.height ys g s.after some gi in
+          let high = gathered_most t.breaks t.height ys g s.after some gi in
+          let x : text r ≡ text p ++ joined ys = j.recuts.same_text ∙ concat-append p.leaves g.leaves ∙ ap (λ ls. text p ++ concat ls) gi.leaves in
+          record {
+            text_is = x ∙ ap (λ z. z ++ joined ys) i.text_is ∙ sym back_text;
+            same_breaks = j.same_breaks ∙ i.same_breaks ∙ s.same_breaks;
+            leaves = j.recuts.leaves;
+            not_higher = elim (cases_lt t.height g.height) [
+              | inl l ↦ omega (arith, j.below_right (omega (arith, i.not_higher)) (omega (arith, s.few, gathered_width t.breaks t.height ys g s.after some gi l)), s.above)
+              | inr ge ↦ omega (arith, j.most, i.not_higher, s.above)
+            ];
+          }
+
+-- a leaf's parts
+pub leaf_front : (n r : Tree) (l new : List ℕ) (k : ℕ) → n ≡ leaf_tree n.breaks l → new ≡ take k l → r ≡ leaf_tree n.breaks new → IsTree r → IsFront k n r
+leaf_front n r l new k e is f i = record {
+  text_is = text_of_leaf n.breaks r new f ∙ is ∙ ap (take k) (sym (text_of_leaf n.breaks n l e));
+  same_breaks = ap (λ z. z.breaks) f;
+  leaves = i.leaves;
+  not_higher = omega (arith, ap (λ z. z.height) f);
+}
+
+pub leaf_back : (n r : Tree) (l new : List ℕ) (k : ℕ) → n ≡ leaf_tree n.breaks l → new ≡ drop k l → r ≡ leaf_tree n.breaks new → IsTree r → IsBack k n r
+leaf_back n r l new k e is f i = record {
+  text_is = text_of_leaf n.breaks r new f ∙ is ∙ ap (drop k) (sym (text_of_leaf n.breaks n l e));
+  same_breaks = ap (λ z. z.breaks) f;
+  leaves = i.leaves;
+  not_higher = omega (arith, ap (λ z. z.height) f);
+}
+
+-- all of a tree
+pub whole_front : (n r : Tree) (at : ℕ) → IsTree n → at ≡ length (text n) → r ≡ n → IsFront at n r
+whole_front n r at i z e = rw e (record { text_is = sym (take_all at (text n) (omega arith)); same_breaks = refl; leaves = i.leaves; not_higher = omega arith })
+
+pub whole_back : (n r : Tree) (at : ℕ) → IsTree n → at ≡ 0 → r ≡ n → IsBack at n r
+whole_back n r at i z e = rw (e, z) (record { text_is = refl; same_breaks = refl; leaves = i.leaves; not_higher = omega arith })
+
+-- what the slices around a child have
+pub front_trees : (rcs : List (Rc Node Global)) (k : ℕ) → trees (take k rcs) ≡ take k (trees rcs)
+front_trees rcs k = rw take-map refl
+
+pub back_trees : (rcs : List (Rc Node Global)) (k : ℕ) → trees (take (length rcs - k) (drop k rcs)) ≡ drop k (trees rcs)
+back_trees rcs k = ap trees (take_all (length rcs - k) (drop k rcs) (omega (arith, length-drop k rcs))) ∙ (rw drop-map refl)

@@ -1,0 +1,5 @@
+use Rattle.std.proofs.Common.{◌+◌}
+use Rattle.rope_join.proofs.join.+unite.Given as goal
+
+abbrev pub decreases-unite : goal.decreases-unite
+decreases-unite l = l.left.now.value.height + l.right.now.value.height

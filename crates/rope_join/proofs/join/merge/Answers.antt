@@ -1,0 +1,34 @@
+use Rattle.std.proofs.Common.{arith, sym, ◌∙◌}
+use Rattle.rope_tree.specs.Search.{IsSmall}
+use Rattle.rope_tree.proofs.Infos.{small_info}
+use Rattle.rope_join.proofs.Unions.{inner_siblings, inner_union}
+use Rattle.rope_join.proofs.join.merge.Goals.{After-info-then-len-lt-MIN_BYTES-2}
+use Rattle.rope_join.proofs.join.merge.Goals as goal
+
+both : (c : After-info-then-len-lt-MIN_BYTES-2) → IsSmall c.info.result × IsSmall c.info-then-len-lt-MIN_BYTES-2.result
+both c = (
+  rw (c.info.ensures, c.deref-then-len-lt-MIN_BYTES-2.ensures) (small_info _ _ (rw c.deref.ensures at c.height.ensures.tree).fits),
+  rw (c.info-then-len-lt-MIN_BYTES-2.ensures, c.deref-then-len-lt-MIN_BYTES-2-2.ensures) (small_info _ _ (rw c.deref-2.ensures at c.height-2.ensures.tree).fits),
+)
+
+pub plus-info-requires-clause-chars : goal.plus-info-requires-clause-chars
+plus-info-requires-clause-chars c = let b = both c in omega (arith, b.0.chars, b.0.bytes, b.1.chars, b.1.bytes)
+
+pub plus-info-requires-clause-utf16_surrogates : goal.plus-info-requires-clause-utf16_surrogates
+plus-info-requires-clause-utf16_surrogates c = let b = both c in omega (arith, b.0.chars, b.0.bytes, b.1.chars, b.1.bytes, b.0.surrogates, b.1.surrogates)
+
+pub plus-info-requires-clause-line_breaks : goal.plus-info-requires-clause-line_breaks
+plus-info-requires-clause-line_breaks c = let b = both c in omega (arith, b.0.chars, b.0.bytes, b.1.chars, b.1.bytes, b.0.breaks, b.1.breaks)
+
+pub pack-requires-clause-siblings : goal.pack-requires-clause-siblings
+pack-requires-clause-siblings c =
+    let ea = sym c.deref-3.ensures ∙ c.in-Inner.ensures.is in
+    let eb = sym c.deref-in-Inner.ensures ∙ c.in-Inner-view.ensures.is in
+    rw c.in_ok-nodes-in-Inner.ensures (inner_siblings _ _ _ _ ea eb c.in-Inner.ensures.children c.in-Inner-view.ensures.children c.requires.join c.requires.height)
+
+pub returns-in_ok-pack-in-Inner-clause-union : goal.returns-in_ok-pack-in-Inner-clause-union
+returns-in_ok-pack-in-Inner-clause-union c =
+    let ea = sym c.deref-3.ensures ∙ c.in-Inner.ensures.is in
+    let eb = sym c.deref-in-Inner.ensures ∙ c.in-Inner-view.ensures.is in
+    let n = c.in_ok-nodes-in-Inner.ensures in
+    inner_union _ _ _ _ ea eb c.in-Inner.ensures.children c.in-Inner-view.ensures.children c.requires.join c.requires.height _ (rw n at c.in_ok-pack-in-Inner.ensures.leaves) (rw n at c.in_ok-pack-in-Inner.ensures.shape)

@@ -1,0 +1,36 @@
+-- What trees joined and gathered are.
+use Rattle.std.specs.Prelude.{◌≡◌, ◌+◌, ◌^◌, ◌≤◌, ◌<◌, max, List, ◌++◌, length}
+use Rattle.rope_text.specs.Text.{byte_len}
+use Rattle.rope_tree.specs.Leaves.{AreLeaves, Recuts}
+use Rattle.rope_tree.specs.Tree.{Tree, text, leaves_of, height_of, breaks_of}
+use Rattle.rope_tree.specs.Siblings.{AreParts}
+
+-- two trees that may stand side by side: of one set of line breaks, no CR at the end of the one before an LF of the other
+pub record CanJoin (left right : Tree) : Type 0 where
+  pub same_breaks : right.breaks ≡ left.breaks
+  pub leaves : AreLeaves (left.leaves ++ right.leaves)
+  pub fits : byte_len (text left) + byte_len (text right) < 2 ^ 63
+
+-- the two trees as one tree or two of the greater height
+pub record IsUnion (left right : Tree) (ts : List Tree) : Type 0 where
+  pub recuts : Recuts (left.leaves ++ right.leaves) (leaves_of ts)
+  pub equal : left.height ≡ right.height → AreParts left.breaks (left.width + right.width) (left.width + right.width) left.height ts
+  pub higher : right.height < left.height → AreParts left.breaks left.width (left.width + 1) left.height ts
+  pub lower : left.height < right.height → AreParts left.breaks right.width (right.width + 1) right.height ts
+
+-- the two trees as one, which keeps the height of the higher where its root has room and the other is lower
+pub record IsJoin (left right t : Tree) : Type 0 where
+  pub same_breaks : t.breaks ≡ left.breaks
+  pub recuts : Recuts (left.leaves ++ right.leaves) t.leaves
+  pub least : max left.height right.height ≤ t.height
+  pub most : t.height ≤ max left.height right.height + 1
+  pub below_left : right.height < left.height → left.width < 24 → t.height ≡ left.height
+  pub below_right : left.height < right.height → right.width < 24 → t.height ≡ right.height
+
+-- trees side by side as one
+pub record IsGathered (ts : List Tree) (t : Tree) : Type 0 where
+  pub same_breaks : t.breaks ≡ breaks_of ts
+  pub leaves : t.leaves ≡ leaves_of ts
+  pub alone : length ts ≡ 1 → t.height ≡ height_of ts
+  pub more : 2 ≤ length ts → t.height ≡ height_of ts + 1
+  pub width : 2 ≤ length ts → t.width ≡ length ts

@@ -1,0 +1,87 @@
+//! The front and the back of a tree, as trees no higher than it.
+ghost use Rattle.std.specs.Prelude.{◌≡◌, ◌+◌, ◌-◌, ◌*◌, ◌<◌, ◌≤◌, length, IfOk};
+ghost use Rattle.rope_tree.specs.Tree.{text};
+ghost use Rattle.rope_join.specs.Cut.{IsFront, IsBack};
+
+use crate::gather::gather;
+use crate::join::join;
+use rope_text::Steps;
+use rope_tree::children::share;
+use rope_tree::insert::leaf_of;
+use rope_tree::lookup::total_before;
+use rope_tree::node::{Node, View};
+use rope_tree::node_text::NodeText;
+use rope_tree::search::{Unit, place_of};
+use std::alloc::{AllocError, Global};
+use std::rc::Rc;
+
+/// The first `at` characters, at least one.
+pub fn front(
+    alloc: Global,
+    node: &Rc<Node>,
+    at: usize,
+    made: &mut u64,
+) -> Result<Rc<Node>, AllocError>
+    requires some { 1 ≤ at }
+    requires within { at ≤ length (text node.now.value) }
+    ensures front { IfOk result (λ part. IsFront at node.now.value part.value) }
+    ensures made_ok { IfOk result (λ part. made.new ≤ made.old + 4 * node.now.value.height + 2 * part.value.height + 1) }
+    ensures made { made.new ≤ made.old + 6 * node.now.value.height + 1 }
+{
+    let _ = node.height();
+    if at == node.info().chars {
+        return share(node);
+    }
+    match node.view() {
+        View::Leaf(leaf) => {
+            let mut part = NodeText::from_str(leaf.as_str());
+            part.truncate(at);
+            leaf_of(alloc, node.line_breaks(), part, made)
+        }
+        View::Inner(children, totals) => {
+            let place = place_of(totals, Unit::Char, at - 1, &mut Steps::new());
+            let before = total_before(totals, place).chars;
+            let part = front(alloc, &children[place], at - before, made)?;
+            if place == 0 {
+                return Ok(part);
+            }
+            let left = gather(alloc, &children[..place], made)?;
+            Ok(join(alloc, &left, &part, made)?)
+        }
+    }
+}
+
+/// What follows the first `at` characters, at least one.
+pub fn back(
+    alloc: Global,
+    node: &Rc<Node>,
+    at: usize,
+    made: &mut u64,
+) -> Result<Rc<Node>, AllocError>
+    requires { at < length (text node.now.value) }
+    ensures back { IfOk result (λ part. IsBack at node.now.value part.value) }
+    ensures made_ok { IfOk result (λ part. made.new ≤ made.old + 4 * node.now.value.height + 2 * part.value.height + 1) }
+    ensures made { made.new ≤ made.old + 6 * node.now.value.height + 1 }
+{
+    let _ = node.height();
+    if at == 0 {
+        return share(node);
+    }
+    match node.view() {
+        View::Leaf(leaf) => {
+            let mut front = NodeText::from_str(leaf.as_str());
+            let part = front.split_off(at);
+            leaf_of(alloc, node.line_breaks(), part, made)
+        }
+        View::Inner(children, totals) => {
+            let place = place_of(totals, Unit::Char, at, &mut Steps::new());
+            let before = total_before(totals, place).chars;
+            let part = back(alloc, &children[place], at - before, made)?;
+            if place + 1 == children.len() {
+                return Ok(part);
+            }
+            let right = gather(alloc, &children[place + 1..], made)?;
+            Ok(join(alloc, &part, &right, made)?)
+        }
+    }
+}

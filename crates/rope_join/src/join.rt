@@ -1,0 +1,142 @@
+//! Two trees as one.
+ghost use Rattle.std.specs.Prelude.{◌≡◌, ◌+◌, ◌-◌, ◌*◌, ◌<◌, ◌≤◌, [], ◌∷◌, ◌++◌, length, IfOk};
+ghost use Rattle.rope_text.specs.Text.{byte_len};
+ghost use Rattle.rope_tree.specs.View.{trees_in};
+ghost use Rattle.rope_join.specs.Join.{CanJoin, IsUnion, IsJoin};
+
+use crate::gather::both;
+use rope_text::{MAX_BYTES, MAX_CHILDREN, MIN_BYTES, MIN_CHILDREN};
+use rope_tree::children::{pack, pair, share, splice};
+use rope_tree::node::{Node, Nodes, View, make_inner, make_leaf};
+use rope_tree::node_text::NodeText;
+use std::alloc::{AllocError, Global};
+use std::rc::Rc;
+
+/// One text of two that fit in one leaf.
+fn joined_text(first: &NodeText, second: &NodeText) -> NodeText
+    requires { byte_len first.now + byte_len second.now ≤ 984 }
+    ensures value { result ≡ first.now ++ second.now }
+{
+    let mut text = NodeText::from_str(first.as_str());
+    text.push_str(second.as_str());
+    text
+}
+
+/// Both nodes as they are.
+fn keep(left: &Rc<Node>, right: &Rc<Node>) -> Result<Nodes, AllocError>
+    ensures { IfOk result (λ nodes. trees_in nodes ≡ left.now.value ∷ right.now.value ∷ []) }
+{
+    Ok(Nodes::Two(share(left)?, share(right)?))
+}
+
+/// Two trees of one height as one tree or two. Leaves become one where they fit in it and one of them is short; other
+/// nodes where one can have all children, and where one of them has few they share the children evenly.
+fn merge(
+    alloc: Global,
+    left: &Rc<Node>,
+    right: &Rc<Node>,
+    made: &mut u64,
+) -> Result<Nodes, AllocError>
+    requires left_some { 1 ≤ length left.now.value.leaves }
+    requires right_some { 1 ≤ length right.now.value.leaves }
+    requires join { CanJoin left.now.value right.now.value }
+    requires height { left.now.value.height ≡ right.now.value.height }
+    ensures union { IfOk result (λ nodes. IsUnion left.now.value right.now.value (trees_in nodes)) }
+    ensures made { made.new ≤ made.old + 2 }
+{
+    let _ = left.height();
+    let _ = right.height();
+    match left.view() {
+        View::Leaf(first) => {
+            let View::Leaf(second) = right.view() else {
+                unreachable!()
+            };
+            if first.len() + second.len() <= MAX_BYTES
+                && (first.len() < MIN_BYTES || second.len() < MIN_BYTES)
+            {
+                let info = left.info().plus(right.info());
+                let text = joined_text(first, second);
+                let node = make_leaf(alloc, left.line_breaks(), text, info, made)?;
+                return Ok(Nodes::One(node));
+            }
+            Ok(keep(left, right)?)
+        }
+        View::Inner(first, _) => {
+            let View::Inner(second, _) = right.view() else {
+                unreachable!()
+            };
+            if first.len() >= MIN_CHILDREN
+                && second.len() >= MIN_CHILDREN
+                && first.len() + second.len() > MAX_CHILDREN
+            {
+                return Ok(keep(left, right)?);
+            }
+            let nodes = both(alloc, first, second)?;
+            Ok(pack(alloc, nodes, made)?)
+        }
+    }
+}
+
+/// Two trees that aren't empty as one tree or two of the greater height.
+fn unite(
+    alloc: Global,
+    left: &Rc<Node>,
+    right: &Rc<Node>,
+    made: &mut u64,
+) -> Result<Nodes, AllocError>
+    requires left_some { 1 ≤ length left.now.value.leaves }
+    requires right_some { 1 ≤ length right.now.value.leaves }
+    requires join { CanJoin left.now.value right.now.value }
+    ensures union { IfOk result (λ nodes. IsUnion left.now.value right.now.value (trees_in nodes)) }
+    ensures made { made.new ≤ made.old + 2 * ((left.now.value.height - right.now.value.height) + (right.now.value.height - left.now.value.height)) + 2 }
+{
+    let left_height = left.height();
+    let right_height = right.height();
+    if right_height < left_height {
+        let View::Inner(children, _) = left.view() else {
+            unreachable!()
+        };
+        let last = children.len() - 1;
+        let middle = unite(alloc, &children[last], right, made)?;
+        let nodes = splice(alloc, &children[..last], middle, &[])?;
+        return Ok(pack(alloc, nodes, made)?);
+    }
+    if left_height < right_height {
+        let View::Inner(children, _) = right.view() else {
+            unreachable!()
+        };
+        let middle = unite(alloc, left, &children[0], made)?;
+        let nodes = splice(alloc, &[], middle, &children[1..])?;
+        return Ok(pack(alloc, nodes, made)?);
+    }
+    Ok(merge(alloc, left, right, made)?)
+}
+
+/// The text of the one tree and then that of the other as one tree, at most one level higher than the higher of them. No
+/// CR at the end of the one may stand before an LF of the other.
+pub fn join(
+    alloc: Global,
+    left: &Rc<Node>,
+    right: &Rc<Node>,
+    made: &mut u64,
+) -> Result<Rc<Node>, AllocError>
+    requires { CanJoin left.now.value right.now.value }
+    ensures join { IfOk result (λ node. IsJoin left.now.value right.now.value node.value) }
+    ensures made { made.new ≤ made.old + 2 * ((left.now.value.height - right.now.value.height) + (right.now.value.height - left.now.value.height)) + 3 }
+{
+    let _ = left.height();
+    let _ = right.height();
+    if right.info().bytes == 0 {
+        return Ok(share(left)?);
+    }
+    if left.info().bytes == 0 {
+        return Ok(share(right)?);
+    }
+    match unite(alloc, left, right, made)? {
+        Nodes::One(node) => Ok(node),
+        Nodes::Two(first, second) => {
+            let nodes = pair(alloc, first, second)?;
+            Ok(make_inner(alloc, nodes, made)?)
+        }
+    }
+}

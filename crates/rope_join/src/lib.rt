@@ -1,0 +1,6 @@
+//! Trees cut in two, and two trees made one. What is handed in stays as it was; the results share its nodes.
+#![tactic(auto)]
+
+pub mod cut;
+pub mod gather;
+pub mod join;
