@@ -80,7 +80,7 @@ module _ (br : LineBreaks) (h : ℕ) (xs : List Tree) (g : Tree) (each : All (Is
 gather_siblings : (br : LineBreaks) (h : ℕ) (xs : List Tree) → All (IsChild br h) xs → 1 ≤ length xs → AreLeaves (leaves_of xs) → byte_len (joined xs) < 2 ^ 63 → AreSiblings (breaks_of xs) (height_of xs) xs
 gather_siblings br h xs each some c fits = rw (height_of_is br h xs some each, breaks_of_is br h xs some each) (record { each = each; leaves = c; fits = fits })
 
-byte_len-parts : (k : ℕ) (l : List ℕ) → byte_len (take k l) + byte_len (drop k l) ≡ byte_len l
+pub byte_len-parts : (k : ℕ) (l : List ℕ) → byte_len (take k l) + byte_len (drop k l) ≡ byte_len l
 byte_len-parts k l = omega (arith, IsMeasure-byte_len.joined (take k l) (drop k l), ap byte_len (take-append-drop k l))
 
 module _ (n : Tree) (xs : List Tree) (t : Tree) (ys : List Tree) (s : CutsAt n xs t ys) where

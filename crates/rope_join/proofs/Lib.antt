@@ -1,3 +1,4 @@
 pub mod Unions
 pub mod Whole
 pub mod Cuts
+pub mod Seams

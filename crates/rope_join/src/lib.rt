@@ -2,5 +2,6 @@
 #![tactic(auto)]
 
 pub mod cut;
+pub mod edit;
 pub mod gather;
 pub mod join;

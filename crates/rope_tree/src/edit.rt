@@ -19,7 +19,7 @@ use std::alloc::{AllocError, Global};
 use std::rc::Rc;
 
 /// Whether an LF stands at a place.
-fn is_lf(node: &Node, at: usize) -> bool
+pub fn is_lf(node: &Node, at: usize) -> bool
     requires { at ≤ length (text node.now) }
     ensures { result ≡ begins_with_lf (drop at (text node.now)) }
 {

@@ -1,0 +1,160 @@
+//! Trees split, with a part taken out, and put one behind the other. Where a CR and an LF would meet at a seam, the two
+//! become a leaf of their own between what stands before and what follows, so that no CR LF lies across two leaves.
+ghost use Rattle.std.specs.Prelude.{◌≡◌, ◌+◌, ◌*◌, ◌<◌, ◌≤◌, ◌^◌, ◌∷◌, ◌++◌, length, take, drop, max, IfOk};
+ghost use Rattle.rope_text.specs.Text.{byte_len};
+ghost use Rattle.rope_text.specs.Breaks.{ends_in_cr};
+ghost use Rattle.rope_text.specs.Cutting.{parts_crlf};
+ghost use Rattle.rope_text.specs.Edit.{removed};
+ghost use Rattle.rope_tree.specs.Tree.{text};
+ghost use Rattle.rope_join.specs.Cut.{IsFront, IsBack};
+
+use crate::cut::{back, front};
+use crate::join::join;
+use rope_text::Steps;
+use rope_tree::edit::is_lf;
+use rope_tree::insert::leaf_of;
+use rope_tree::lookup::char_at;
+use rope_tree::node::Node;
+use rope_tree::node_text::NodeText;
+use std::alloc::{AllocError, Global};
+use std::rc::Rc;
+
+/// Whether CR is the last of the first `at` characters.
+fn is_cr_before(node: &Node, at: usize) -> bool
+    requires { at ≤ length (text node.now) }
+    ensures { result ≡ ends_in_cr (take at (text node.now)) }
+{
+    let _ = node.height();
+    at > 0 && char_at(node, at - 1, &mut Steps::new()) == '\r'
+}
+
+/// Whether a CR ends the first characters of the one text and an LF begins what follows those of the other.
+fn pair_meets(left: &Node, front: usize, right: &Node, back: usize) -> bool
+    requires front { front ≤ length (text left.now) }
+    requires back { back ≤ length (text right.now) }
+    ensures { result ≡ parts_crlf (take front (text left.now)) (drop back (text right.now)) }
+{
+    is_cr_before(left, front) && is_lf(right, back)
+}
+
+/// The first `at` characters, perhaps none.
+fn front_or_none(
+    alloc: Global,
+    node: &Rc<Node>,
+    at: usize,
+    made: &mut u64,
+) -> Result<Rc<Node>, AllocError>
+    requires { at ≤ length (text node.now.value) }
+    ensures front { IfOk result (λ part. IsFront at node.now.value part.value) }
+    ensures made { made.new ≤ made.old + 6 * node.now.value.height + 1 }
+{
+    if at == 0 {
+        return Ok(leaf_of(alloc, node.line_breaks(), NodeText::new(), made)?);
+    }
+    Ok(front(alloc, node, at, made)?)
+}
+
+/// What follows the first `at` characters, perhaps nothing.
+fn back_or_none(
+    alloc: Global,
+    node: &Rc<Node>,
+    at: usize,
+    made: &mut u64,
+) -> Result<Rc<Node>, AllocError>
+    requires { at ≤ length (text node.now.value) }
+    ensures back { IfOk result (λ part. IsBack at node.now.value part.value) }
+    ensures made { made.new ≤ made.old + 6 * node.now.value.height + 1 }
+{
+    if at == node.info().chars {
+        return Ok(leaf_of(alloc, node.line_breaks(), NodeText::new(), made)?);
+    }
+    Ok(back(alloc, node, at, made)?)
+}
+
+/// Two trees with CR LF between them.
+fn join_by_pair(
+    alloc: Global,
+    left: &Rc<Node>,
+    right: &Rc<Node>,
+    made: &mut u64,
+) -> Result<Rc<Node>, AllocError>
+    requires same_breaks { right.now.value.breaks ≡ left.now.value.breaks }
+    requires fits { byte_len (text left.now.value) + byte_len (text right.now.value) + 2 < 2 ^ 63 }
+    ensures text { IfOk result (λ node. text node.value ≡ text left.now.value ++ 13 ∷ 10 ∷ text right.now.value) }
+    ensures breaks { IfOk result (λ node. node.value.breaks ≡ left.now.value.breaks) }
+    ensures made { made.new ≤ made.old + 2 * left.now.value.height + 2 * max left.now.value.height right.now.value.height + 9 }
+{
+    let _ = left.height();
+    let _ = right.height();
+    let pair = leaf_of(alloc, left.line_breaks(), NodeText::from_str("\r\n"), made)?;
+    let first = join(alloc, left, &pair, made)?;
+    Ok(join(alloc, &first, right, made)?)
+}
+
+/// The text of the one tree and then that of the other.
+pub fn append(
+    alloc: Global,
+    left: &Rc<Node>,
+    right: &Rc<Node>,
+    made: &mut u64,
+) -> Result<Rc<Node>, AllocError>
+    requires same_breaks { right.now.value.breaks ≡ left.now.value.breaks }
+    requires fits { byte_len (text left.now.value) + byte_len (text right.now.value) < 2 ^ 63 }
+    ensures text { IfOk result (λ node. text node.value ≡ text left.now.value ++ text right.now.value) }
+    ensures breaks { IfOk result (λ node. node.value.breaks ≡ left.now.value.breaks) }
+    ensures made { made.new ≤ made.old + 16 * max left.now.value.height right.now.value.height + 11 }
+{
+    let _ = left.height();
+    let _ = right.height();
+    let end = left.info().chars;
+    if pair_meets(left, end, right, 0) {
+        let first = front_or_none(alloc, left, end - 1, made)?;
+        let second = back_or_none(alloc, right, 1, made)?;
+        return Ok(join_by_pair(alloc, &first, &second, made)?);
+    }
+    Ok(join(alloc, left, right, made)?)
+}
+
+/// The text without the characters from `start` up to `end`.
+pub fn remove(
+    alloc: Global,
+    node: &Rc<Node>,
+    start: usize,
+    end: usize,
+    made: &mut u64,
+) -> Result<Rc<Node>, AllocError>
+    requires ordered { start ≤ end }
+    requires within { end ≤ length (text node.now.value) }
+    ensures text { IfOk result (λ new. text new.value ≡ removed (text node.now.value) start end) }
+    ensures breaks { IfOk result (λ new. new.value.breaks ≡ node.now.value.breaks) }
+    ensures made { made.new ≤ made.old + 16 * node.now.value.height + 11 }
+{
+    let _ = node.height();
+    if pair_meets(node, start, node, end) {
+        let first = front_or_none(alloc, node, start - 1, made)?;
+        let second = back_or_none(alloc, node, end + 1, made)?;
+        return Ok(join_by_pair(alloc, &first, &second, made)?);
+    }
+    let first = front_or_none(alloc, node, start, made)?;
+    let second = back_or_none(alloc, node, end, made)?;
+    Ok(join(alloc, &first, &second, made)?)
+}
+
+/// Two trees of one.
+#[derive(Drop)]
+pub struct Parts {
+    pub front: Rc<Node>,
+    pub back: Rc<Node>,
+}
+
+/// The first `at` characters, and what follows them.
+pub fn split(alloc: Global, node: &Rc<Node>, at: usize, made: &mut u64) -> Result<Parts, AllocError>
+    requires { at ≤ length (text node.now.value) }
+    ensures front { IfOk result (λ parts. IsFront at node.now.value parts.front.value) }
+    ensures back { IfOk result (λ parts. IsBack at node.now.value parts.back.value) }
+    ensures made { made.new ≤ made.old + 12 * node.now.value.height + 2 }
+{
+    let front = front_or_none(alloc, node, at, made)?;
+    let back = back_or_none(alloc, node, at, made)?;
+    Ok(Parts { front, back })
+}
