@@ -6,6 +6,7 @@ ghost use Rattle.rope_text.specs.declared.error.Error.TheVariants.{OutOfMemory};
 ghost use Rattle.rope_text.specs.declared.line_breaks.LineBreaks.TheVariants.{Unicode};
 ghost use Rattle.rope_text.specs.Content.{HasFewChunks};
 ghost use Rattle.rope_text.specs.Sides.{ahead};
+ghost use Rattle.ropey.specs.View.{content};
 ghost use Rattle.rope_script.specs.Ask.{Answers};
 ghost use Rattle.rope_script.specs.Step.{Adds, OrNoMemory, OfRope, Inserts, Step, Ran, AsksWhole};
 
@@ -23,12 +24,13 @@ pub struct Session {
 }
 
 impl Model for Session {
-    ghost use Rattle.std.specs.Prelude.{List};
+    ghost use Rattle.std.specs.Prelude.{List, map};
     ghost use Rattle.rope_text.specs.Content.{Content};
+    ghost use Rattle.ropey.specs.View.{content};
 
     ghost Value = { List Content };
 
-    ghost view = { λ s. s.ropes.items };
+    ghost view = { λ s. map content s.ropes.items };
 }
 
 impl Session {
@@ -86,7 +88,7 @@ impl Session {
 
 /// Adds a rope of this text.
 fn make_text(alloc: Global, ropes: &mut Vec<Rope>, text: &str) -> Result<Reply>
-    ensures step { IfOk result (λ reply. OrNoMemory (Adds (chars text.now) Unicode HasFewChunks ropes.old.items reply ropes.new.items) ropes.old.items reply ropes.new.items) }
+    ensures step { IfOk result (λ reply. OrNoMemory (Adds (chars text.now) Unicode HasFewChunks (map content ropes.old.items) reply (map content ropes.new.items)) (map content ropes.old.items) reply (map content ropes.new.items)) }
     ensures err { OnErr result (ropes.new.items ≡ ropes.old.items) }
     ensures memory { IfErr result (λ e. e ≡ OutOfMemory) }
 {
@@ -110,7 +112,7 @@ fn add(ropes: &mut Vec<Rope>, rope: Rope) -> Reply
 
 /// Inserts a text into a rope.
 fn insert(ropes: &mut Vec<Rope>, rope: usize, char_idx: usize, text: &str) -> Reply
-    ensures { Inserts rope char_idx (chars text.now) ropes.old.items result ropes.new.items }
+    ensures { Inserts rope char_idx (chars text.now) (map content ropes.old.items) result (map content ropes.new.items) }
 {
     if rope >= ropes.len() {
         return Reply::NoRope;
@@ -123,7 +125,7 @@ fn insert(ropes: &mut Vec<Rope>, rope: usize, char_idx: usize, text: &str) -> Re
 
 /// Asks a rope.
 fn ask(alloc: Global, ropes: &[Rope], rope: usize, query: &Query) -> Result<Reply>
-    ensures step { IfOk result (λ reply. OfRope rope (λ asked. Answers asked query.now reply × (ropes.now ≡ ropes.now)) ropes.now reply ropes.now) }
+    ensures step { IfOk result (λ reply. OfRope rope (λ asked. Answers asked query.now reply × (map content ropes.now ≡ map content ropes.now)) (map content ropes.now) reply (map content ropes.now)) }
     ensures memory { IfErr result (λ e. e ≡ OutOfMemory) }
 {
     match ropes.get(rope) {
@@ -134,7 +136,7 @@ fn ask(alloc: Global, ropes: &[Rope], rope: usize, query: &Query) -> Result<Repl
 
 /// Answers a query of a rope.
 fn answer(alloc: Global, rope: &Rope, query: &Query) -> Result<Reply>
-    ensures answer { IfOk result (Answers rope.now query.now) }
+    ensures answer { IfOk result (Answers (content rope.now) query.now) }
     ensures memory { IfErr result (λ e. e ≡ OutOfMemory) }
 {
     match query {

@@ -1,18 +1,20 @@
 -- A tree is a rope.
-use Rattle.std.proofs.Common.{◌≡◌, ℕ, true, List, [], ◌∷◌, ◌++◌, length, refl, ap, ◌∙◌, arith, All}
+use Rattle.std.proofs.Common.{◌≡◌, ℕ, zero, suc, ◌-◌, ◌*◌, ◌^◌, ◌<◌, ◌≤◌, true, List, [], ◌∷◌, ◌++◌, length, refl, subst, arith, All}
 use Rattle.std.specs.List.{concat}
-use Rattle.std.specs.Str.{all_scalars, chars}
+use Rattle.std.specs.Str.{all_scalars}
+use Rattle.std.proofs.Math.Nat.{pow-succ', mul-le-mul_right}
 use Rattle.std.proofs.lemmas.Bool.{and_from}
-use Rattle.std.proofs.lemmas.List.{nil_from_length}
 use Rattle.std.proofs.lemmas.List.Elements.{All-head, All-tail, All-weaker}
-use Rattle.std.proofs.lemmas.Str.{length-le-encodes, chars-nil}
+use Rattle.std.proofs.lemmas.Str.{length-le-encodes}
 use Rattle.rope_text.specs.Text.{byte_len}
 use Rattle.rope_text.specs.Cutting.{IsChunkSize}
-use Rattle.rope_text.specs.Content.{IsRope}
+use Rattle.rope_text.specs.Content as of_content
 use Rattle.rope_text.proofs.FirstBytes.{first_scalar, rest_scalars}
 use Rattle.rope_tree.specs.Leaves.{IsLeafText}
-use Rattle.rope_tree.specs.Tree.{Tree, IsTree}
-use Rattle.ropey.specs.Kept.{content_of}
+use Rattle.rope_tree.specs.Tree.{Tree, text, IsTree}
+use Rattle.rope_tree.proofs.LeafLaws.{leaves_le}
+use Rattle.rope_tree.proofs.TreeLaws.{low_tree}
+use Rattle.ropey.specs.View.{IsRope, content, view_of}
 use lib.Utf8.{scalar}
 
 scalars-append : (s t : List ℕ) → all_scalars s ≡ true → all_scalars t ≡ true → all_scalars (s ++ t) ≡ true
@@ -25,8 +27,8 @@ scalars-concat (leaf ∷ leaves) a =
     scalars-append leaf (concat leaves) (All-head IsLeafText leaf leaves a).scalars (scalars-concat leaves (All-tail IsLeafText leaf leaves a))
 
 -- what a rope keeps, by its tree
-pub rope_of : (t : Tree) → IsTree t → IsRope (content_of t)
-rope_of t i = record {
+pub content_of : (t : Tree) → IsTree t → of_content.IsRope (content (view_of t))
+content_of t i = record {
   cut = record {
     joined = refl;
     sized = All-weaker IsLeafText (λ chunk. IsChunkSize (byte_len chunk)) (λ leaf l. (omega (arith, l.some, length-le-encodes leaf), l.fits)) t.leaves i.leaves.each;
@@ -36,6 +38,26 @@ rope_of t i = record {
   fits = i.fits;
 }
 
--- a text of no bytes has no characters
-pub no_chars_left : (bs : List ℕ) → length bs ≡ 0 → chars bs ≡ []
-no_chars_left bs none = ap chars (nil_from_length bs none) ∙ chars-nil
+-- the chunks of a tree lie between those of two full children and those of 24
+least_chunks : (t : Tree) → IsTree t → 1 ≤ t.height → 2 * 12 ^ (t.height - 1) ≤ length t.leaves
+least_chunks t i high = omega (arith, i.least_leaves high, mul-le-mul_right (12 ^ (t.height - 1)) (i.at_least_two high))
+
+most_for : (h w n : ℕ) → (h ≡ 0 → n ≤ 1) → w ≤ 24 → (1 ≤ h → n ≤ w * 24 ^ (h - 1)) → n ≤ 24 ^ h
+most_for zero w n lone wide most = lone refl
+most_for (suc h) w n lone wide most =
+    let e : suc h - 1 ≡ h = omega arith in
+    let m : n ≤ w * 24 ^ h = subst (λ k. n ≤ w * 24 ^ k) e (most (omega arith)) in
+    omega (arith, m, pow-succ' 24 h, mul-le-mul_right (24 ^ h) wide)
+
+pub rope_of : (t : Tree) → IsTree t → IsRope (view_of t)
+rope_of t i = record {
+  content = content_of t i;
+  low = low_tree t i;
+  lone = i.lone;
+  least = least_chunks t i;
+  most = most_for t.height t.width (length t.leaves) i.lone i.at_most_24 i.most_leaves;
+}
+
+-- each leaf has a byte
+pub few_leaves : (t : Tree) → IsTree t → length t.leaves < 2 ^ 63
+few_leaves t i = omega (arith, leaves_le t.leaves i.leaves.each, length-le-encodes (text t), i.fits)

@@ -1,9 +1,15 @@
 //! The text buffer of an editor: ropey 1.6.1 with contracts.
 #![tactic(auto)]
 
+mod chunks_at;
+mod conversions;
+mod counted;
 pub mod iter;
+mod lookups;
 mod rope;
 pub mod str_utils;
 
 pub use rope::Rope;
-pub use rope_text::{Error, LineBreaks, MAX_BYTES, MAX_CHILDREN, MIN_BYTES, MIN_CHILDREN, Result};
+pub use rope_text::{
+    Error, LineBreaks, MAX_BYTES, MAX_CHILDREN, MIN_BYTES, MIN_CHILDREN, Result, Steps,
+};

@@ -1,13 +1,14 @@
 //! The rope.
-ghost use Rattle.std.specs.Prelude.{◌≡◌, ℕ, ◌+◌, ◌<◌, ◌≤◌, length, ◌^◌, None, IsOk, IfOk, IfErr, OnOk, OnErr};
+ghost use Rattle.std.specs.Prelude.{◌≡◌, ℕ, ◌+◌, ◌<◌, ◌≤◌, [], ◌∷◌, length, ◌^◌, None, IsOk, IfOk, IfErr, OnOk, OnErr};
 ghost use Rattle.std.specs.Str.{chars};
 ghost use Rattle.rope_text.specs.declared.error.Error.TheVariants.{OutOfMemory};
 ghost use Rattle.rope_text.specs.declared.line_breaks.LineBreaks.TheVariants.{Unicode};
 ghost use Rattle.rope_text.specs.Text.{byte_len, utf16_len};
 ghost use Rattle.rope_text.specs.Lines.{line_count};
-ghost use Rattle.rope_text.specs.Content.{IsRope, HasFewChunks};
 ghost use Rattle.rope_text.specs.Edit.{inserted, insert_error, IsRefusal};
 ghost use Rattle.rope_text.specs.Sides.{at_start};
+ghost use Rattle.rope_tree.specs.Tree.{text};
+ghost use Rattle.ropey.specs.View.{IsRope, HasFewChunks};
 
 use crate::iter::Chunks;
 use rope_text::{Error, LineBreaks, Result};
@@ -26,13 +27,12 @@ pub struct Rope {
 }
 
 impl Model for Rope {
-    ghost use Rattle.rope_text.specs.Content.{Content};
     ghost use Rattle.rope_tree.specs.Tree.{IsTree};
-    ghost use Rattle.ropey.specs.Kept.{content_of};
+    ghost use Rattle.ropey.specs.View.{RopeView, view_of};
 
-    ghost Value = { Content };
+    ghost Value = { RopeView };
 
-    ghost view = { λ r. content_of r.root.value };
+    ghost view = { λ r. view_of r.root.value };
 
     ghost invariant = { λ r. IsTree r.root.value };
 }
@@ -41,6 +41,17 @@ impl Model for Rope {
 const MAX_TEXT_BYTES: usize = isize::MAX as usize;
 
 impl Rope {
+    /// The empty text, with Unicode's line breaks, in no chunk. It takes memory, and refuses for want of it alone.
+    pub fn new(alloc: Global) -> Result<Rope>
+        ensures text { IfOk result (λ rope. rope.text ≡ []) }
+        ensures chunks { IfOk result (λ rope. rope.chunks ≡ []) }
+        ensures breaks { IfOk result (λ rope. rope.breaks ≡ Unicode) }
+        ensures kept { IfOk result IsRope }
+        ensures err { IfErr result (λ e. e ≡ OutOfMemory) }
+    {
+        Rope::from_str(alloc, "")
+    }
+
     /// A copy of the text, with Unicode's line breaks, in at most one chunk for each 981 bytes and one more for the rest.
     /// It takes memory, and refuses for want of it alone.
     pub fn from_str(alloc: Global, text: &str) -> Result<Rope>
@@ -63,6 +74,18 @@ impl Rope {
     {
         let root = build(alloc, text, breaks, &mut 0)?;
         Ok(Rope { root, alloc })
+    }
+
+    // The root of the tree.
+    pub(crate) fn root(&self) -> &Node
+        ensures text { text result.now ≡ self.now.text }
+        ensures leaves { result.now.leaves ≡ self.now.chunks }
+        ensures breaks { result.now.breaks ≡ self.now.breaks }
+        ensures depth { result.now.height ≡ self.now.depth }
+        ensures low { result.now.height ≤ 18 }
+    {
+        let _ = self.root.height();
+        &self.root
     }
 
     /// The length in bytes. No text is read.
@@ -93,6 +116,14 @@ impl Rope {
     {
         let info = self.root.info();
         info.chars + info.utf16_surrogates
+    }
+
+    /// How many levels the tree has above the chunks: 0 where there is at most one chunk. No text is read.
+    pub fn depth(&self) -> usize
+        ensures value { result ≡ self.now.depth }
+        ensures kept { IsRope self.now }
+    {
+        self.root.height()
     }
 
     /// Puts `text` before the character `char_idx`, or at the end.
@@ -138,6 +169,36 @@ impl Rope {
         self.try_insert(char_idx, text)
     }
 
+    /// Puts the character `c` before the character `char_idx`, or at the end.
+    ///
+    /// It refuses a character past the end, then a text longer than `isize::MAX` bytes, then for want of memory, and
+    /// leaves the rope as it was where it refuses.
+    pub fn try_insert_char(&mut self, char_idx: usize, c: char) -> Result<()>
+        ensures ok { OnOk result ((insert_error self.old.text char_idx (c ∷ []) ≡ None)
+            × (self.new.text ≡ inserted self.old.text char_idx (c ∷ []))) }
+        ensures refused { IfErr result (IsRefusal (insert_error self.old.text char_idx (c ∷ []))) }
+        ensures err { OnErr result (self.new ≡ self.old) }
+        ensures breaks { self.new.breaks ≡ self.old.breaks }
+        ensures kept { IsRope self.new }
+    {
+        let mut buffer = [0; 4];
+        self.try_insert(char_idx, c.encode_utf8(&mut buffer))
+    }
+
+    /// Puts the character `c` before a character of the rope, or at the end, as `try_insert_char` does. The index is at
+    /// most `len_chars()`.
+    pub fn insert_char(&mut self, char_idx: usize, c: char) -> Result<()>
+        requires { char_idx ≤ length self.old.text }
+        ensures ok { OnOk result ((insert_error self.old.text char_idx (c ∷ []) ≡ None)
+            × (self.new.text ≡ inserted self.old.text char_idx (c ∷ []))) }
+        ensures refused { IfErr result (IsRefusal (insert_error self.old.text char_idx (c ∷ []))) }
+        ensures err { OnErr result (self.new ≡ self.old) }
+        ensures breaks { self.new.breaks ≡ self.old.breaks }
+        ensures kept { IsRope self.new }
+    {
+        self.try_insert_char(char_idx, c)
+    }
+
     // Puts a text that isn't empty where only want of memory refuses it.
     fn insert_at(&mut self, char_idx: usize, text: &str) -> Result<()>
         requires within { char_idx ≤ length self.old.text }
@@ -157,7 +218,8 @@ impl Rope {
 
     /// The chunks of the text, in order.
     pub fn chunks(&self) -> Chunks<'_>
-        ensures { result ≡ at_start self.now.chunks }
+        ensures cut { result ≡ at_start self.now.chunks }
+        ensures few { length self.now.chunks < 2 ^ 63 }
     {
         Chunks::new(&self.root)
     }

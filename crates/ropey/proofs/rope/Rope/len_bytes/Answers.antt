@@ -1,6 +1,6 @@
 -- The tree is a rope.
 use Rattle.std.proofs.Common.{subst}
-use Rattle.rope_text.specs.Content.{IsRope}
+use Rattle.ropey.specs.View.{IsRope}
 use Rattle.ropey.proofs.Ropes.{rope_of}
 use Rattle.ropey.proofs.rope.Rope.len_bytes.Goals as goal
 

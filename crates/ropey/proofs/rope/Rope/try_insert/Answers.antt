@@ -9,7 +9,7 @@ use Rattle.rope_text.specs.declared.error.Error.TheVariants.{TooLong}
 use Rattle.rope_text.specs.Edit.{insert_error, IsRefusal}
 use Rattle.rope_text.proofs.Apart.{has_chars}
 use Rattle.rope_text.proofs.Walks.{byte_len-chars}
-use Rattle.ropey.proofs.Ropes.{no_chars_left}
+use Rattle.rope_tree.proofs.BuildLaws.{no_chars}
 use Rattle.ropey.proofs.Refusals.{insert_error-none, insert_error-long, inserted_none}
 use Rattle.ropey.proofs.rope.Rope.try_insert.Goals as goal
 
@@ -35,22 +35,22 @@ returns-then-is_empty-clause-ok c =
     let new = c.args.text.now in
     let empty : (length new == 0) ≡ true = sym c.is_empty.ensures ∙ c.if-is_empty.true in
     let nothing : length new ≡ 0 = grind (arith, nat_tests) in (
-      insert_error-none text c.args.char_idx (chars new) (omega arith) (omega (arith, byte_len-chars new c.utf8.text, c.len_bytes-bytes.ensures.value, c.len_bytes-bytes.ensures.kept.fits)),
-      inserted_none text c.args.char_idx (chars new) (no_chars_left new nothing),
+      insert_error-none text c.args.char_idx (chars new) (omega arith) (omega (arith, byte_len-chars new c.utf8.text, c.len_bytes-bytes.ensures.value, c.len_bytes-bytes.ensures.kept.content.fits)),
+      inserted_none text c.args.char_idx (chars new) (no_chars new nothing),
     )
 
 pub returns-clause-ok : goal.returns-clause-ok
 returns-clause-ok c =
     let text = c.args.self.now.text in
     let new = c.args.text.now in
-    let none = insert_error-none text c.args.char_idx (chars new) (omega arith) (omega (arith, byte_len-chars new c.utf8.text, c.len_bytes-bytes.ensures.value, c.len_bytes-bytes.ensures.kept.fits)) in
+    let none = insert_error-none text c.args.char_idx (chars new) (omega arith) (omega (arith, byte_len-chars new c.utf8.text, c.len_bytes-bytes.ensures.value, c.len_bytes-bytes.ensures.kept.content.fits)) in
     on_ok_weaker c.insert_at.result (λ same. (none, same)) c.insert_at.ensures.ok
 
 pub returns-clause-refused : goal.returns-clause-refused
 returns-clause-refused c =
     let text = c.args.self.now.text in
     let new = c.args.text.now in
-    let none = insert_error-none text c.args.char_idx (chars new) (omega arith) (omega (arith, byte_len-chars new c.utf8.text, c.len_bytes-bytes.ensures.value, c.len_bytes-bytes.ensures.kept.fits)) in
+    let none = insert_error-none text c.args.char_idx (chars new) (omega arith) (omega (arith, byte_len-chars new c.utf8.text, c.len_bytes-bytes.ensures.value, c.len_bytes-bytes.ensures.kept.content.fits)) in
     subst (λ o. IfErr c.insert_at.result (IsRefusal o)) (sym none) c.insert_at.ensures.refused
 
 pub returns-clause-empty : goal.returns-clause-empty

@@ -1,0 +1,33 @@
+-- What a rope shows, and what each rope keeps.
+use Rattle.std.specs.Prelude.{◌≡◌, ℕ, ◌-◌, ◌*◌, ◌^◌, ◌≤◌, List, length}
+use Rattle.rope_text.specs.declared.line_breaks.LineBreaks.{LineBreaks}
+use Rattle.rope_text.specs.Content.{Content}
+use Rattle.rope_text.specs.Content as of_content
+use Rattle.rope_tree.specs.Tree.{Tree, text}
+
+-- a text, the chunks it is cut into, its set of line breaks, and how many levels its tree has above the chunks
+pub record RopeView : Type 0 where
+  pub text : List ℕ
+  pub chunks : List (List ℕ)
+  pub breaks : LineBreaks
+  pub depth : ℕ
+
+-- the rope without its depth
+abbrev pub content : RopeView → Content
+content r = record { text = r.text; chunks = r.chunks; breaks = r.breaks }
+
+-- what a tree shows as a rope: its text, its leaves as chunks, its set of line breaks and its height
+abbrev pub view_of : Tree → RopeView
+view_of t = record { text = text t; chunks = t.leaves; breaks = t.breaks; depth = t.height }
+
+-- what every rope keeps: its chunks are a rope cutting of its text, and their number bounds its depth on both sides
+pub record IsRope (r : RopeView) : Type 0 where
+  pub content : of_content.IsRope (content r)
+  pub low : r.depth ≤ 18
+  pub lone : r.depth ≡ 0 → length r.chunks ≤ 1
+  pub least : 1 ≤ r.depth → 2 * 12 ^ (r.depth - 1) ≤ length r.chunks
+  pub most : length r.chunks ≤ 24 ^ r.depth
+
+-- at most one chunk for each 981 bytes, and one for the rest
+abbrev pub HasFewChunks : RopeView → Type 0
+HasFewChunks r = of_content.HasFewChunks (content r)

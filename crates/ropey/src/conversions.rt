@@ -1,0 +1,217 @@
+//! Conversions between the indices of a rope: bytes, characters, code units of UTF-16 and lines.
+ghost use Rattle.std.specs.Prelude.{◌≡◌, ◌≤◌, length};
+ghost use Rattle.rope_text.specs.Text.{byte_len, utf16_len};
+ghost use Rattle.rope_text.specs.Lines.{line_count};
+ghost use Rattle.rope_text.specs.Conversions.{byte_to_char, byte_to_line, char_to_byte, char_to_line, char_to_utf16, line_to_byte, line_to_char, utf16_to_char};
+ghost use Rattle.rope_text.specs.Edit.{byte_index_error, char_index_error, line_index_error, utf16_index_error};
+ghost use Rattle.ropey.specs.Answer.{checked};
+
+use crate::rope::Rope;
+use rope_text::{Error, Result, Steps};
+
+impl Rope {
+    /// The character, counted from 0, that holds the byte `byte_idx`; at the end of the text the number of characters.
+    /// A byte inside a character gives that character.
+    ///
+    /// The index is at most `len_bytes()`. No memory is taken.
+    pub fn byte_to_char(&self, byte_idx: usize) -> usize
+        requires { byte_idx ≤ byte_len self.now.text }
+        ensures { result ≡ byte_to_char self.now.text byte_idx }
+    {
+        self.byte_to_char_counted(byte_idx, &mut Steps::new())
+    }
+
+    /// What `byte_to_char` answers. No memory is taken.
+    ///
+    /// # Errors
+    ///
+    /// `ByteIndexOutOfBounds`, with the index and the number of bytes, where the index is past `len_bytes()`.
+    pub fn try_byte_to_char(&self, byte_idx: usize) -> Result<usize>
+        ensures { result ≡ checked (byte_index_error byte_idx (byte_len self.now.text)) (byte_to_char self.now.text byte_idx) }
+    {
+        let len = self.len_bytes();
+        if byte_idx > len {
+            return Err(Error::ByteIndexOutOfBounds(byte_idx, len));
+        }
+        Ok(self.byte_to_char(byte_idx))
+    }
+
+    /// The line, counted from 0, that the byte `byte_idx` lies on: how many line breaks have ended at or before it.
+    /// A byte inside a break, between the CR and the LF of a pair among them, lies on the line that the break ends.
+    ///
+    /// The index is at most `len_bytes()`. No memory is taken.
+    pub fn byte_to_line(&self, byte_idx: usize) -> usize
+        requires { byte_idx ≤ byte_len self.now.text }
+        ensures { result ≡ byte_to_line self.now.breaks self.now.text byte_idx }
+    {
+        self.byte_to_line_counted(byte_idx, &mut Steps::new())
+    }
+
+    /// What `byte_to_line` answers. No memory is taken.
+    ///
+    /// # Errors
+    ///
+    /// `ByteIndexOutOfBounds`, with the index and the number of bytes, where the index is past `len_bytes()`.
+    pub fn try_byte_to_line(&self, byte_idx: usize) -> Result<usize>
+        ensures { result ≡ checked (byte_index_error byte_idx (byte_len self.now.text)) (byte_to_line self.now.breaks self.now.text byte_idx) }
+    {
+        let len = self.len_bytes();
+        if byte_idx > len {
+            return Err(Error::ByteIndexOutOfBounds(byte_idx, len));
+        }
+        Ok(self.byte_to_line(byte_idx))
+    }
+
+    /// The byte, counted from 0, at which the character `char_idx` starts; at the end of the text the number of bytes.
+    ///
+    /// The index is at most `len_chars()`. No memory is taken.
+    pub fn char_to_byte(&self, char_idx: usize) -> usize
+        requires { char_idx ≤ length self.now.text }
+        ensures { result ≡ char_to_byte self.now.text char_idx }
+    {
+        self.char_to_byte_counted(char_idx, &mut Steps::new())
+    }
+
+    /// What `char_to_byte` answers. No memory is taken.
+    ///
+    /// # Errors
+    ///
+    /// `CharIndexOutOfBounds`, with the index and the number of characters, where the index is past `len_chars()`.
+    pub fn try_char_to_byte(&self, char_idx: usize) -> Result<usize>
+        ensures { result ≡ checked (char_index_error char_idx (length self.now.text)) (char_to_byte self.now.text char_idx) }
+    {
+        let len = self.len_chars();
+        if char_idx > len {
+            return Err(Error::CharIndexOutOfBounds(char_idx, len));
+        }
+        Ok(self.char_to_byte(char_idx))
+    }
+
+    /// The line, counted from 0, that the character `char_idx` lies on: how many line breaks have ended at or before it.
+    /// The place between the CR and the LF of a pair lies on the line that the pair ends.
+    ///
+    /// The index is at most `len_chars()`. No memory is taken.
+    pub fn char_to_line(&self, char_idx: usize) -> usize
+        requires { char_idx ≤ length self.now.text }
+        ensures { result ≡ char_to_line self.now.breaks self.now.text char_idx }
+    {
+        self.char_to_line_counted(char_idx, &mut Steps::new())
+    }
+
+    /// What `char_to_line` answers. No memory is taken.
+    ///
+    /// # Errors
+    ///
+    /// `CharIndexOutOfBounds`, with the index and the number of characters, where the index is past `len_chars()`.
+    pub fn try_char_to_line(&self, char_idx: usize) -> Result<usize>
+        ensures { result ≡ checked (char_index_error char_idx (length self.now.text)) (char_to_line self.now.breaks self.now.text char_idx) }
+    {
+        let len = self.len_chars();
+        if char_idx > len {
+            return Err(Error::CharIndexOutOfBounds(char_idx, len));
+        }
+        Ok(self.char_to_line(char_idx))
+    }
+
+    /// The UTF-16 code unit, counted from 0, at which the character `char_idx` starts; at the end of the text the number of
+    /// code units.
+    ///
+    /// The index is at most `len_chars()`. No memory is taken.
+    pub fn char_to_utf16_cu(&self, char_idx: usize) -> usize
+        requires { char_idx ≤ length self.now.text }
+        ensures { result ≡ char_to_utf16 self.now.text char_idx }
+    {
+        self.char_to_utf16_cu_counted(char_idx, &mut Steps::new())
+    }
+
+    /// What `char_to_utf16_cu` answers. No memory is taken.
+    ///
+    /// # Errors
+    ///
+    /// `CharIndexOutOfBounds`, with the index and the number of characters, where the index is past `len_chars()`.
+    pub fn try_char_to_utf16_cu(&self, char_idx: usize) -> Result<usize>
+        ensures { result ≡ checked (char_index_error char_idx (length self.now.text)) (char_to_utf16 self.now.text char_idx) }
+    {
+        let len = self.len_chars();
+        if char_idx > len {
+            return Err(Error::CharIndexOutOfBounds(char_idx, len));
+        }
+        Ok(self.char_to_utf16_cu(char_idx))
+    }
+
+    /// The character, counted from 0, that holds the UTF-16 code unit `utf16_cu_idx`; at the end of the text the number of
+    /// characters. A code unit inside a surrogate pair gives the pair's character.
+    ///
+    /// The index is at most `len_utf16_cu()`. No memory is taken.
+    pub fn utf16_cu_to_char(&self, utf16_cu_idx: usize) -> usize
+        requires { utf16_cu_idx ≤ utf16_len self.now.text }
+        ensures { result ≡ utf16_to_char self.now.text utf16_cu_idx }
+    {
+        self.utf16_cu_to_char_counted(utf16_cu_idx, &mut Steps::new())
+    }
+
+    /// What `utf16_cu_to_char` answers. No memory is taken.
+    ///
+    /// # Errors
+    ///
+    /// `Utf16IndexOutOfBounds`, with the index and the number of code units, where the index is past `len_utf16_cu()`.
+    pub fn try_utf16_cu_to_char(&self, utf16_cu_idx: usize) -> Result<usize>
+        ensures { result ≡ checked (utf16_index_error utf16_cu_idx (utf16_len self.now.text)) (utf16_to_char self.now.text utf16_cu_idx) }
+    {
+        let len = self.len_utf16_cu();
+        if utf16_cu_idx > len {
+            return Err(Error::Utf16IndexOutOfBounds(utf16_cu_idx, len));
+        }
+        Ok(self.utf16_cu_to_char(utf16_cu_idx))
+    }
+
+    /// The byte, counted from 0, at which the line `line_idx` starts; for the number of lines the number of bytes.
+    ///
+    /// The index is at most `len_lines()`. No memory is taken.
+    pub fn line_to_byte(&self, line_idx: usize) -> usize
+        requires { line_idx ≤ line_count self.now.breaks self.now.text }
+        ensures { result ≡ line_to_byte self.now.breaks self.now.text line_idx }
+    {
+        self.line_to_byte_counted(line_idx, &mut Steps::new())
+    }
+
+    /// What `line_to_byte` answers. No memory is taken.
+    ///
+    /// # Errors
+    ///
+    /// `LineIndexOutOfBounds`, with the index and the number of lines, where the index is past `len_lines()`.
+    pub fn try_line_to_byte(&self, line_idx: usize) -> Result<usize>
+        ensures { result ≡ checked (line_index_error line_idx (line_count self.now.breaks self.now.text)) (line_to_byte self.now.breaks self.now.text line_idx) }
+    {
+        let len = self.len_lines();
+        if line_idx > len {
+            return Err(Error::LineIndexOutOfBounds(line_idx, len));
+        }
+        Ok(self.line_to_byte(line_idx))
+    }
+
+    /// The character, counted from 0, at which the line `line_idx` starts; for the number of lines the number of characters.
+    ///
+    /// The index is at most `len_lines()`. No memory is taken.
+    pub fn line_to_char(&self, line_idx: usize) -> usize
+        requires { line_idx ≤ line_count self.now.breaks self.now.text }
+        ensures { result ≡ line_to_char self.now.breaks self.now.text line_idx }
+    {
+        self.line_to_char_counted(line_idx, &mut Steps::new())
+    }
+
+    /// What `line_to_char` answers. No memory is taken.
+    ///
+    /// # Errors
+    ///
+    /// `LineIndexOutOfBounds`, with the index and the number of lines, where the index is past `len_lines()`.
+    pub fn try_line_to_char(&self, line_idx: usize) -> Result<usize>
+        ensures { result ≡ checked (line_index_error line_idx (line_count self.now.breaks self.now.text)) (line_to_char self.now.breaks self.now.text line_idx) }
+    {
+        let len = self.len_lines();
+        if line_idx > len {
+            return Err(Error::LineIndexOutOfBounds(line_idx, len));
+        }
+        Ok(self.line_to_char(line_idx))
+    }
+}
