@@ -18,6 +18,17 @@ pub enum Counted {
 }
 
 impl Counted {
+    /// The name of the workload.
+    pub fn name(self) -> &'static str {
+        match self {
+            Counted::Chars => "count_chars_100MB",
+            Counted::Breaks(LineBreaks::Unicode) => "count_breaks_100MB",
+            Counted::Breaks(LineBreaks::Lf) => "count_breaks_lf_100MB",
+            Counted::Breaks(LineBreaks::CrLf) => "count_breaks_crlf_100MB",
+            Counted::Pairs => "count_utf16_100MB",
+        }
+    }
+
     fn count(self, text: &str) -> usize {
         match self {
             Counted::Chars => str_utils::count_chars(text),

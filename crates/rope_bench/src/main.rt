@@ -1,6 +1,7 @@
 //! Times what is done most with ropes, on two texts of ten million bytes.
 #![tactic(auto)]
 
+mod asking;
 mod counting;
 mod fault;
 mod inserting;
