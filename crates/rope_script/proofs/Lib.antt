@@ -1,3 +1,4 @@
+pub mod Contents
 pub mod Edits
 pub mod RunLaws
 pub mod Written

@@ -1,10 +1,10 @@
 -- The leaf that is found is the chunk of the definitions.
-use Rattle.std.proofs.Common.{◌≡◌, ℕ, zero, suc, ◌+◌, ◌-◌, ◌<◌, ◌≤◌, List, [], ◌∷◌, ◌++◌, length, get_or, take, drop, refl, sym, ap, ◌∙◌, arith, All, Bool, true, false, cond, nat_le, count_by}
+use Rattle.std.proofs.Common.{◌≡◌, ℕ, zero, suc, ◌+◌, ◌-◌, ◌<◌, ◌≤◌, List, [], ◌∷◌, length, get_or, take, refl, sym, ap, ◌∙◌, arith, All, Bool, true, false, cond, nat_le, count_by}
 use Rattle.std.specs.List.{concat}
-use Rattle.std.proofs.lemmas.List.{length-append, take_all, nil_from_length}
+use Rattle.std.proofs.lemmas.List.{take_all, nil_from_length}
 use Rattle.std.proofs.lemmas.Str.{length-le-encodes}
 use Rattle.std.proofs.lemmas.Bool.{cases_lt}
-use Rattle.std.proofs.Common.{inl, inr, ◌⊎◌, ◌*◌, ◌^◌}
+use Rattle.std.proofs.Common.{inl, inr, ◌⊎◌, ◌^◌}
 use Rattle.std.proofs.Math.Nat.{mul-le-mul_right, one-le-pow}
 use Rattle.std.proofs.lemmas.List.Elements.{All-get_or}
 use Rattle.std.proofs.lemmas.Bool.{le-leb, leb-true}
@@ -13,7 +13,7 @@ use Rattle.rope_text.specs.declared.line_breaks.LineBreaks.{LineBreaks}
 use Rattle.rope_text.specs.declared.text_info.TextInfo.{TextInfo}
 use Rattle.rope_text.specs.TextInfo.{info_of}
 use Rattle.rope_text.proofs.BreakLaws.{break_ends-nil}
-use Rattle.rope_text.specs.Text.{byte_len}
+use Rattle.rope_text.specs.Text.{byte_len, surrogate_count}
 use Rattle.rope_text.specs.Breaks.{break_ends, break_count}
 use Rattle.rope_text.specs.Conversions.{char_to_line}
 use Rattle.rope_text.specs.Lookup.{front_chunks, found_chunk, chunk_index_at_byte, chunk_index_at_char, chunk_index_at_line_break}
@@ -23,7 +23,6 @@ use Rattle.rope_text.proofs.ChunkLaws.{before_more}
 use Rattle.rope_text.proofs.LookupLaws.{size-front_chunks, breaks_before, chunk_index_at_byte_is, chunk_index_at_char_is, chunk_index_at_line_break_is}
 use Rattle.rope_tree.specs.declared.search.Unit.{Unit}
 use Rattle.rope_tree.specs.declared.search.Unit.TheVariants.{Byte, Char, LineBreak}
-use Rattle.rope_tree.specs.Leaves.{IsLeafText}
 use Rattle.rope_tree.specs.Tree.{Tree, text, leaf_tree, one_leaf, IsTree}
 use Rattle.rope_tree.specs.Found.{IsFound, IsChunkAt}
 use Rattle.rope_tree.proofs.LeafLaws.{nonempty_leaves, leaves_le}
@@ -77,6 +76,7 @@ chunk_of unit at t leaf front k i f same =
       text_is = f.leaf_is;
       bytes = sym l.bytes;
       chars = sym l.chars;
+      surrogates = ap (λ x. x.utf16_surrogates) f.before_is;
       breaks = sym l.breaks ∙ sym (breaks_before t.breaks t.leaves f.index full i.leaves.whole);
     })
 
@@ -141,6 +141,7 @@ chunk_of_none t k leaf front none empty zeros =
       text_is = empty ∙ sym (ap (λ ps. get_or ps k []) none ∙ none_at k);
       bytes = ap (λ x. x.bytes) (zeros t.breaks) ∙ sym (ap byte_len no_front);
       chars = ap (λ x. x.chars) (zeros t.breaks) ∙ sym (ap length no_front);
+      surrogates = ap (λ x. x.utf16_surrogates) (zeros t.breaks) ∙ sym (ap surrogate_count no_front);
       breaks = ap (λ x. x.line_breaks) (zeros t.breaks) ∙ ap length (break_ends-nil t.breaks) ∙ sym (ap (λ ps. char_to_line t.breaks (concat ps) (length (front_chunks ps k))) none ∙ ap (λ xs. char_to_line t.breaks [] (length xs)) (front_of_none k) ∙ char_to_line_start t.breaks []);
     }
   where

@@ -9,6 +9,7 @@ use Rattle.rope_text.specs.declared.steps.Steps.{Steps}
 pub record HalvesIn (base size c : ℕ) (n : ℕ) : Type 0 where
   pub some : 1 ≤ size
   pub inside : base + size ≤ n
+  pub counted : size < n → 1 ≤ c
   pub five : c ≤ 5
   pub at2 : 2 ≤ size → c ≤ 4
   pub at3 : 3 ≤ size → c ≤ 3

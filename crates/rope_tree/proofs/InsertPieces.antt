@@ -1,5 +1,5 @@
 -- A text that is put in piece by piece.
-use Rattle.std.proofs.Common.{◌≡◌, ℕ, zero, suc, ◌+◌, ◌<◌, ◌≤◌, List, [], ◌∷◌, ◌++◌, length, take, drop, refl, sym, ap, ◌∙◌, arith}
+use Rattle.std.proofs.Common.{◌≡◌, ℕ, zero, suc, ◌+◌, ◌<◌, ◌≤◌, List, [], ◌∷◌, ◌++◌, length, take, drop, sym, ap, ◌∙◌, arith}
 use Rattle.std.specs.Str.{chars, IsUtf8, IsCharBoundary}
 use Rattle.std.specs.Char.{encode_utf8}
 use Rattle.std.proofs.lemmas.Str.{IsUtf8-take, IsUtf8-drop, chars-append, length-encode, len_utf8_bounds}
@@ -9,7 +9,6 @@ use Rattle.rope_text.proofs.Walks.{byte_len-chars}
 use Rattle.rope_text.proofs.Apart.{has_chars}
 use Rattle.rope_text.proofs.TextParts.{byte_len_boundary}
 use Rattle.std.proofs.lemmas.List.{append-nil, append_assoc, length-append, take_at, drop_at, length-take-le, take-append-drop}
-use Rattle.std.proofs.Math.Seq.{take-append-add, drop-append-add}
 use Rattle.rope_text.specs.Edit.{inserted}
 use Rattle.rope_tree.specs.Tree.{Tree, text}
 use Rattle.rope_tree.proofs.InsertTrees.{inserted_is, byte_len-inserted}

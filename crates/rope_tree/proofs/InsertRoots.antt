@@ -1,11 +1,10 @@
 -- What an insert makes becomes one tree.
-use Rattle.std.proofs.Common.{◌≡◌, ℕ, ◌+◌, ◌<◌, ◌≤◌, ◌^◌, Bool, true, false, ◌&&◌, eqb, Some, slice_get, List, [], ◌∷◌, ◌++◌, length, drop, refl, sym, ap, ◌∙◌, arith}
+use Rattle.std.proofs.Common.{◌≡◌, ℕ, ◌<◌, ◌^◌, Bool, true, false, ◌&&◌, eqb, Some, slice_get, List, [], ◌∷◌, drop, refl, sym, ap, ◌∙◌, arith}
 use Rattle.std.proofs.lemmas.List.{drop_more}
 use Rattle.std.proofs.lemmas.Option.{slice_get_within, get_or_from_slice_get}
 use Rattle.rope_text.specs.Text.{byte_len}
 use Rattle.rope_text.specs.Breaks.{begins_with_lf, ends_in_cr}
-use Rattle.rope_tree.specs.Leaves.{IsSeam}
-use Rattle.rope_tree.specs.Tree.{Tree, text, joined, leaves_of, height_of, breaks_of, AreChildren}
+use Rattle.rope_tree.specs.Tree.{Tree, text, height_of, breaks_of, AreChildren}
 use Rattle.rope_tree.specs.Insert.{MayInsert, IsInserted}
 use Rattle.rope_tree.proofs.NodeLaws.{children_of_first}
 

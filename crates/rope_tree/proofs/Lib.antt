@@ -1,3 +1,4 @@
+pub mod LeafCounts
 pub mod LeafLaws
 pub mod TreeLaws
 pub mod Halving

@@ -3,7 +3,8 @@ use Rattle.std.specs.Prelude.{◌≡◌, ℕ, ◌+◌, ◌≤◌, ◌<◌, List,
 use Rattle.std.specs.List.{concat}
 use Rattle.rope_text.specs.declared.text_info.TextInfo.{TextInfo}
 use Rattle.rope_text.specs.TextInfo.{info_of}
-use Rattle.rope_text.specs.Lookup.{found_chunk}
+use Rattle.rope_text.specs.Text.{surrogate_count}
+use Rattle.rope_text.specs.Lookup.{found_chunk, front_chunks}
 use Rattle.rope_tree.specs.declared.search.Unit.{Unit}
 use Rattle.rope_tree.specs.Search.{count_of}
 use Rattle.rope_tree.specs.Tree.{Tree}
@@ -22,4 +23,5 @@ pub record IsChunkAt (t : Tree) (k : ℕ) (leaf : List ℕ) (before : TextInfo) 
   pub text_is : leaf ≡ (found_chunk t.breaks t.leaves k).text
   pub bytes : before.bytes ≡ (found_chunk t.breaks t.leaves k).bytes
   pub chars : before.chars ≡ (found_chunk t.breaks t.leaves k).chars
+  pub surrogates : before.utf16_surrogates ≡ surrogate_count (front_chunks t.leaves k)
   pub breaks : before.line_breaks ≡ (found_chunk t.breaks t.leaves k).breaks

@@ -45,6 +45,7 @@ pub fn leaf_at<'a>(node: &'a Node, unit: Unit, at: usize, steps: &mut Steps) -> 
     ensures found { IsFound unit at node.now result.leaf.now result.before }
     ensures nodes { steps.new.nodes ≡ steps.old.nodes + node.now.height + 1 }
     ensures compares { steps.new.compares ≤ steps.old.compares + 5 * node.now.height }
+    ensures counted { steps.old.compares + node.now.height ≤ steps.new.compares }
     ensures made { steps.new.made ≡ steps.old.made }
 {
     steps.nodes += 1;
@@ -65,6 +66,24 @@ pub fn leaf_at<'a>(node: &'a Node, unit: Unit, at: usize, steps: &mut Steps) -> 
     }
 }
 
+/// The number of chunks: the leaves that are not empty. It enters the inner nodes alone, and takes no memory.
+pub fn leaf_count(node: &Node) -> usize
+    ensures { result ≡ length node.now.leaves }
+{
+    let height = node.height();
+    match node.view() {
+        View::Leaf(leaf) => leaf.len().min(1),
+        View::Inner(children, _) if height == 1 => children.len(),
+        View::Inner(children, _) => {
+            let mut count = 0;
+            for child in children {
+                count += leaf_count(child);
+            }
+            count
+        }
+    }
+}
+
 /// The byte at a place.
 pub fn byte_at(node: &Node, byte_idx: usize, steps: &mut Steps) -> u8
     requires within { byte_idx < byte_len (text node.now) }
@@ -72,6 +91,7 @@ pub fn byte_at(node: &Node, byte_idx: usize, steps: &mut Steps) -> u8
     ensures value { slice_get (encode_utf8_all (text node.now)) byte_idx ≡ Some result }
     ensures nodes { steps.new.nodes ≡ steps.old.nodes + node.now.height + 1 }
     ensures steps { LooksUp node.now.height steps.old steps.new }
+    ensures counted { steps.old.compares + node.now.height ≤ steps.new.compares }
 {
     let found = leaf_at(node, Unit::Byte, byte_idx, steps);
     let bytes = found.leaf.as_str().as_bytes();
@@ -96,6 +116,7 @@ pub fn char_at(node: &Node, char_idx: usize, steps: &mut Steps) -> char
     ensures value { slice_get (text node.now) char_idx ≡ Some result }
     ensures nodes { steps.new.nodes ≡ steps.old.nodes + node.now.height + 1 }
     ensures steps { LooksUp node.now.height steps.old steps.new }
+    ensures counted { steps.old.compares + node.now.height ≤ steps.new.compares }
 {
     let found = leaf_at(node, Unit::Char, char_idx, steps);
     let leaf = found.leaf.as_str();

@@ -38,6 +38,7 @@ pub fn place_of(totals: &[TextInfo], unit: Unit, at: usize, steps: &mut Steps) -
     ensures before { (d : TextInfo) → 0 < result → count_of unit (slice_index_or totals.now (result - 1) d) ≤ at }
     ensures past { (d : TextInfo) → at < count_of unit (slice_index_or totals.now result d) }
     ensures compares { steps.new.compares ≤ steps.old.compares + 5 }
+    ensures counted { 2 ≤ length totals.now → steps.old.compares < steps.new.compares }
     ensures nodes { steps.new.nodes ≡ steps.old.nodes }
     ensures made { steps.new.made ≡ steps.old.made }
 {

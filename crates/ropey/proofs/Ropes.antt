@@ -1,11 +1,12 @@
 -- A tree is a rope.
-use Rattle.std.proofs.Common.{◌≡◌, ℕ, zero, suc, ◌-◌, ◌*◌, ◌^◌, ◌<◌, ◌≤◌, true, List, [], ◌∷◌, ◌++◌, length, refl, subst, arith, All}
+use Rattle.std.proofs.Common.{◌≡◌, ℕ, zero, suc, ◌-◌, ◌*◌, ◌^◌, ◌<◌, ◌≤◌, true, List, [], ◌∷◌, ◌++◌, length, refl, sym, ap, ◌∙◌, ◌+◌, ◌/◌, subst, arith, All}
 use Rattle.std.specs.List.{concat}
-use Rattle.std.specs.Str.{all_scalars}
+use Rattle.std.specs.Str.{all_scalars, chars}
 use Rattle.std.proofs.Math.Nat.{pow-succ', mul-le-mul_right}
 use Rattle.std.proofs.lemmas.Bool.{and_from}
+use Rattle.std.proofs.lemmas.List.{append-nil, nil_from_length}
 use Rattle.std.proofs.lemmas.List.Elements.{All-head, All-tail, All-weaker}
-use Rattle.std.proofs.lemmas.Str.{length-le-encodes}
+use Rattle.std.proofs.lemmas.Str.{length-le-encodes, chars-encodes}
 use Rattle.rope_text.specs.Text.{byte_len}
 use Rattle.rope_text.specs.Cutting.{IsChunkSize}
 use Rattle.rope_text.specs.Content as of_content
@@ -14,8 +15,8 @@ use Rattle.rope_tree.specs.Leaves.{IsLeafText}
 use Rattle.rope_tree.specs.Tree.{Tree, text, IsTree}
 use Rattle.rope_tree.proofs.LeafLaws.{leaves_le}
 use Rattle.rope_tree.proofs.TreeLaws.{low_tree}
-use Rattle.ropey.specs.View.{IsRope, content, view_of}
-use lib.Utf8.{scalar}
+use Rattle.ropey.specs.View.{RopeView, IsRope, HasFewChunks, content, view_of}
+use lib.Utf8.{scalar, encode}
 
 scalars-append : (s t : List ℕ) → all_scalars s ≡ true → all_scalars t ≡ true → all_scalars (s ++ t) ≡ true
 scalars-append [] t a b = b
@@ -61,3 +62,13 @@ rope_of t i = record {
 -- each leaf has a byte
 pub few_leaves : (t : Tree) → IsTree t → length t.leaves < 2 ^ 63
 few_leaves t i = omega (arith, leaves_le t.leaves i.leaves.each, length-le-encodes (text t), i.fits)
+
+-- a rope of few chunks and no text has none
+pub no_chunks : (r : RopeView) → r.text ≡ [] → HasFewChunks r → r.chunks ≡ []
+no_chunks r empty few =
+    let some : length r.chunks ≤ (byte_len [] + 980) / 981 = subst (λ t. length r.chunks ≤ (byte_len t + 980) / 981) empty few in
+    nil_from_length r.chunks (omega (arith, some))
+
+-- the bytes of a character spell it
+pub one_char : (c : ℕ) → scalar c ≡ true → chars (encode c) ≡ c ∷ []
+one_char c s = ap chars (sym (append-nil (encode c))) ∙ chars-encodes (c ∷ []) (and_from (scalar c) true s refl)

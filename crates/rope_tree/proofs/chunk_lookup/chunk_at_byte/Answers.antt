@@ -1,4 +1,4 @@
-use Rattle.std.proofs.Common.{◌≡◌, ap, arith, inl, inr}
+use Rattle.std.proofs.Common.{ap, arith, inl, inr}
 use Rattle.std.proofs.lemmas.Bool.{cases_lt}
 use Rattle.rope_tree.proofs.ChunksFound.{chunk_by_byte}
 use Rattle.rope_tree.proofs.chunk_lookup.chunk_at_byte.Goals as goal

@@ -1,4 +1,4 @@
-use Rattle.std.proofs.Common.{◌≡◌, ap, arith, inl, inr}
+use Rattle.std.proofs.Common.{ap, arith, inl, inr}
 use Rattle.std.proofs.lemmas.Bool.{cases_lt}
 use Rattle.rope_tree.specs.Tree.{text}
 use Rattle.rope_tree.proofs.ChunksFound.{chunk_by_char, some_chars}

@@ -1,4 +1,4 @@
-use Rattle.std.proofs.Common.{◌≡◌, ◌-◌, ap, arith}
+use Rattle.std.proofs.Common.{◌-◌, ap, arith}
 use Rattle.rope_tree.specs.Tree.{text}
 use Rattle.rope_tree.proofs.ChunksFound.{chunk_by_first, chunk_by_break, chunk_by_last, some_chars}
 use Rattle.rope_tree.proofs.chunk_lookup.chunk_at_line_break.Goals as goal

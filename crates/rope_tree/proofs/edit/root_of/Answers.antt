@@ -1,4 +1,4 @@
-use Rattle.std.proofs.Common.{◌∷◌, [], arith, subst}
+use Rattle.std.proofs.Common.{arith, subst}
 use Rattle.rope_text.specs.Edit.{inserted}
 use Rattle.rope_tree.specs.Tree.{text}
 use Rattle.rope_tree.specs.View.{trees_in}

@@ -59,3 +59,8 @@ pub returns-in-Inner-clause-compares : goal.returns-in-Inner-clause-compares
 returns-in-Inner-clause-compares t c =
     let d = down t (goal.at.returns-in-Inner-clause-compares t c).After-deref in
     omega (arith, ap (λ u. u.height) c.in-Inner.ensures.is, d.own.at_height, c.leaf_at-found.ensures.compares, c.place_of-place.ensures.compares)
+
+pub returns-in-Inner-clause-counted : goal.returns-in-Inner-clause-counted
+returns-in-Inner-clause-counted t c =
+    let d = down t (goal.at.returns-in-Inner-clause-counted t c).After-deref in
+    omega (arith, ap (λ u. u.height) c.in-Inner.ensures.is, d.own.at_height, c.leaf_at-found.ensures.counted, c.place_of-place.ensures.counted, c.in-Inner.ensures.children.at_least_two, c.in-Inner.ensures.totals_right.as_many)

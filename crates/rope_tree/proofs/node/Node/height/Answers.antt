@@ -1,4 +1,3 @@
-use Rattle.std.proofs.Common.{◌≤◌}
 use Rattle.rope_tree.specs.Tree.{IsTree}
 use Rattle.rope_tree.proofs.TreeLaws.{low_tree}
 use Rattle.rope_tree.proofs.NodeLaws.{is_tree_of}
