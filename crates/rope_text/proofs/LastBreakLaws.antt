@@ -67,7 +67,7 @@ first_lf bs p k u place less =
     ap (λ q. get_or bs q 0) (let e : p ≡ p + 0 = omega arith in e) ∙ sym (get_or-drop p bs 0 0) ∙ ap (λ ds. get_or ds 0 0) bytes in
     ap (λ b. eqb b 10) first ∙ starts_same (drop k cs) (all_scalars-drop k cs (scalars-chars bs u)) ∙ ap begins_with_lf (drop_more cs k 0 less)
 
-last_cr : (bs : List ℕ) (p k : ℕ) → IsUtf8 bs → byte_len (take k (chars bs)) ≡ p → 0 < p → p ≤ length bs → eqb (get_or bs (p - 1) 0) 13 ≡ ends_in_cr (take k (chars bs))
+pub last_cr : (bs : List ℕ) (p k : ℕ) → IsUtf8 bs → byte_len (take k (chars bs)) ≡ p → 0 < p → p ≤ length bs → eqb (get_or bs (p - 1) 0) 13 ≡ ends_in_cr (take k (chars bs))
 last_cr bs p k u place some within =
     let cs : List ℕ = chars bs in
     let bytes : take p bs ≡ encode_utf8_all (take k cs) = ap (λ q. take q bs) (sym place) ∙ take-bytes bs k u in

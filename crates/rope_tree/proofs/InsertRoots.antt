@@ -1,9 +1,10 @@
 -- What an insert makes becomes one tree.
-use Rattle.std.proofs.Common.{◌≡◌, ℕ, ◌<◌, ◌^◌, Bool, true, false, ◌&&◌, eqb, Some, slice_get, List, [], ◌∷◌, drop, refl, sym, ap, ◌∙◌, arith}
+use Rattle.std.proofs.Common.{◌≡◌, ℕ, ◌<◌, ◌^◌, Bool, true, false, ◌&&◌, eqb, Some, slice_get, List, [], ◌∷◌, drop, refl, ap, ◌∙◌, arith}
 use Rattle.std.proofs.lemmas.List.{drop_more}
 use Rattle.std.proofs.lemmas.Option.{slice_get_within, get_or_from_slice_get}
 use Rattle.rope_text.specs.Text.{byte_len}
 use Rattle.rope_text.specs.Breaks.{begins_with_lf, ends_in_cr}
+use Rattle.rope_text.specs.Cutting.{parts_crlf}
 use Rattle.rope_tree.specs.Tree.{Tree, text, height_of, breaks_of, AreChildren}
 use Rattle.rope_tree.specs.Insert.{MayInsert, IsInserted}
 use Rattle.rope_tree.proofs.NodeLaws.{children_of_first}
@@ -12,16 +13,16 @@ use Rattle.rope_tree.proofs.NodeLaws.{children_of_first}
 pub begins_at : (xs : List ℕ) (i x : ℕ) → slice_get xs i ≡ Some x → begins_with_lf (drop i xs) ≡ eqb x 10
 begins_at xs i x e = ap begins_with_lf (drop_more xs i x (slice_get_within xs i x e)) ∙ ap (λ d. eqb d 10) (get_or_from_slice_get xs i x x e)
 
-and_none : (x : Bool) → (x && false) ≡ false
-and_none true = refl
-and_none false = refl
-
--- the side of a seam, by whether an LF follows
-pub may_insert : (t : Tree) (at : ℕ) (new : List ℕ) (to_right : Bool) → to_right ≡ begins_with_lf (drop at (text t)) → MayInsert t at new to_right
-may_insert t at new to_right e = record {
-  left = λ f. record { apart = rw (sym e ∙ f) (and_none (ends_in_cr new)) };
-  right = λ f. sym e ∙ f;
+-- the side of a seam, by whether the new text ends in CR and an LF follows
+pub may_insert : (t : Tree) (at : ℕ) (new : List ℕ) → MayInsert t at new (parts_crlf new (drop at (text t)))
+may_insert t at new = record {
+  left = λ f. record { apart = f };
+  right = λ f. both (ends_in_cr new) (begins_with_lf (drop at (text t))) f;
 }
+  where
+    both : (x y : Bool) → (x && y) ≡ true → y ≡ true
+    both true y e = e
+    both false y e = cc
 
 -- two trees are children of one
 pub children_of_two : (old x y : Tree) (new : List ℕ) → IsInserted old (x ∷ y ∷ []) new → byte_len new < 2 ^ 63 → AreChildren (breaks_of (x ∷ y ∷ [])) (height_of (x ∷ y ∷ [])) (x ∷ y ∷ [])

@@ -2,6 +2,10 @@ pub mod LeafCounts
 pub mod LeafLaws
 pub mod TreeLaws
 pub mod Halving
+pub mod Retotals
+pub mod CountLaws
+pub mod TotalLaws
+pub mod GrownLaws
 pub mod Infos
 pub mod NodeLaws
 pub mod SiblingLaws

@@ -19,7 +19,7 @@ pub deep_le_tallest : (rcs : List (Rc Node Global)) → max (most (λ (rc : Rc N
 deep_le_tallest [] = omega arith
 deep_le_tallest (rc ∷ rcs) = omega (arith, deep_le_tallest rcs)
 
-tallest_below : (set : LineBreaks) (h : ℕ) (ts : List Tree) → All (IsChild set h) ts → tallest ts ≤ h + h + 1
+pub tallest_below : (set : LineBreaks) (h : ℕ) (ts : List Tree) → All (IsChild set h) ts → tallest ts ≤ h + h + 1
 tallest_below set h [] each = omega arith
 tallest_below set h (t ∷ ts) each =
     omega (arith, (All-head (IsChild set h) t ts each).at_height, tallest_below set h ts (All-tail (IsChild set h) t ts each))

@@ -1,9 +1,9 @@
 -- What an insert into a tree needs and gives.
-use Rattle.std.specs.Prelude.{◌≡◌, ℕ, ◌+◌, Bool, true, false, List, drop}
+use Rattle.std.specs.Prelude.{◌≡◌, ℕ, ◌+◌, Bool, true, false, List, length, drop}
 use Rattle.rope_text.specs.Breaks.{begins_with_lf}
 use Rattle.rope_tree.specs.Leaves.{AreLeaves, IsSeam}
-use Rattle.rope_tree.specs.Tree.{Tree, text, joined, leaves_of}
-use Rattle.rope_tree.specs.Siblings.{AreParts}
+use Rattle.rope_tree.specs.Tree.{Tree, text, joined, leaves_of, height_of, breaks_of}
+use Rattle.rope_tree.specs.Siblings.{AreSiblings, AreParts}
 
 -- on which side of a seam a text goes: to the left of it, where it doesn't end in CR before an LF, or else to the right, before that LF
 pub record MayInsert (t : Tree) (at : ℕ) (new : List ℕ) (to_right : Bool) : Type 0 where
@@ -15,3 +15,9 @@ pub record IsInserted (old : Tree) (ts : List Tree) (new : List ℕ) : Type 0 wh
   pub text_is : joined ts ≡ new
   pub leaves : AreLeaves (leaves_of ts)
   pub parts : AreParts old.breaks old.width (old.width + 1) old.height ts
+
+-- as many trees of the same height as before, of this text
+pub record AreGrown (old ts : List Tree) (new : List ℕ) : Type 0 where
+  pub as_many : length ts ≡ length old
+  pub text_is : joined ts ≡ new
+  pub siblings : AreSiblings (breaks_of old) (height_of old) ts

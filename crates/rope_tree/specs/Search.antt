@@ -17,3 +17,10 @@ pub record IsSmall (info : TextInfo) : Type 0 where
   pub chars : info.chars ≤ info.bytes
   pub surrogates : info.utf16_surrogates ≤ info.chars
   pub breaks : info.line_breaks ≤ info.chars
+
+-- the part is in the total, count by count
+pub record HasPart (total part : TextInfo) : Type 0 where
+  pub bytes : part.bytes ≤ total.bytes
+  pub chars : part.chars ≤ total.chars
+  pub surrogates : part.utf16_surrogates ≤ total.utf16_surrogates
+  pub breaks : part.line_breaks ≤ total.line_breaks

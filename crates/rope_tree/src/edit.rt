@@ -6,9 +6,10 @@ ghost use Rattle.rope_text.specs.Breaks.{begins_with_lf};
 ghost use Rattle.rope_text.specs.Edit.{inserted};
 ghost use Rattle.rope_tree.specs.Tree.{text, IsTree};
 ghost use Rattle.rope_tree.specs.View.{trees_in};
-ghost use Rattle.rope_tree.specs.Insert.{IsInserted};
+ghost use Rattle.rope_tree.specs.Insert.{MayInsert, IsInserted};
 
 use crate::children::{pair, share};
+use crate::counts::ends_in_cr;
 use crate::insert::insert;
 use crate::lookup::char_at;
 use crate::node::{Node, Nodes, make_inner};
@@ -17,14 +18,40 @@ use rope_text::Steps;
 use std::alloc::{AllocError, Global};
 use std::rc::Rc;
 
-/// Whether an LF stands at a place. A text that is inserted there goes to the right of a seam, so that it can't part a CR
-/// at its end from that LF; no CR stands before the LF across a seam.
+/// Whether an LF stands at a place.
 fn is_lf(node: &Node, at: usize) -> bool
     requires { at ≤ length (text node.now) }
     ensures { result ≡ begins_with_lf (drop at (text node.now)) }
 {
     let _ = node.height();
     at < node.info().chars && char_at(node, at, &mut Steps::new()) == '\n'
+}
+
+/// Whether a text that is put in at a seam goes to the right of it: where it ends in CR, so that it can't part that CR from
+/// an LF there. No CR stands before the LF across a seam.
+fn goes_right(node: &Node, at: usize, added: &NodeText) -> bool
+    requires { at ≤ length (text node.now) }
+    ensures { MayInsert node.now at added.now result }
+{
+    ends_in_cr(added.as_str()) && is_lf(node, at)
+}
+
+/// Puts a text of at most 981 bytes before the character `at`, where no node on the way is shared and the leaf has room;
+/// whether it did. It takes no memory.
+pub fn insert_in_place(root: &mut Rc<Node>, at: usize, added: &NodeText) -> bool
+    requires within { at ≤ length (text root.old.value) }
+    requires some { 1 ≤ length added.now }
+    requires fits { byte_len (text root.old.value) + byte_len added.now < 2 ^ 63 }
+    ensures text { result ≡ true → text root.new.value ≡ inserted (text root.old.value) at added.now }
+    ensures breaks { root.new.value.breaks ≡ root.old.value.breaks }
+    ensures tree { result ≡ true → IsTree root.new.value }
+    ensures kept { result ≡ false → root.new ≡ root.old }
+{
+    let to_right = goes_right(root, at, added);
+    match Rc::get_mut(root) {
+        Some(node) => node.insert_in_place(at, added, to_right),
+        None => false,
+    }
 }
 
 /// One tree over the nodes that an insert into `old` made.
@@ -68,7 +95,7 @@ pub fn insert_short(
     ensures breaks { IfOk result (λ new. new.value.breaks ≡ node.now.breaks) }
     ensures made { made.new ≤ made.old + 2 * node.now.height + 3 }
 {
-    let to_right = is_lf(node, at);
+    let to_right = goes_right(node, at, added);
     let nodes = insert(alloc, node, at, added, to_right, made)?;
     Ok(root_of(alloc, node, nodes, added, at, made)?)
 }

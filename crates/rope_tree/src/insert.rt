@@ -10,10 +10,11 @@ ghost use Rattle.rope_tree.specs.View.{trees_in};
 ghost use Rattle.rope_tree.specs.Insert.{MayInsert, IsInserted};
 
 use crate::children::{pack, splice};
+use crate::counts::info_with;
 use crate::lookup::total_before;
 use crate::node::{Node, Nodes, View, make_leaf};
 use crate::node_text::NodeText;
-use crate::search::{Unit, place_of};
+use crate::search::{Unit, char_to_hold, place_of};
 use rope_text::{LineBreaks, Steps, TextInfo};
 use std::alloc::{AllocError, Global};
 use std::rc::Rc;
@@ -30,43 +31,38 @@ pub fn leaf_of(
     ensures made { made.new ≤ made.old + 1 }
 {
     let info = TextInfo::from_str(leaf.as_str(), breaks);
-    let node = make_leaf(alloc, breaks, leaf, info, made)?;
-    let _ = node.height();
-    Ok(node)
+    make_leaf(alloc, breaks, leaf, info, made)
 }
 
-/// The leaf with another text before its character `at`, or two leaves where one can't hold both.
+/// The leaf with another text before its character `at`, or two leaves where one can't hold both. The counts of the leaf
+/// that was are not taken again: only the new text is counted, and of two leaves the first.
 fn insert_into_leaf(
     alloc: Global,
-    breaks: LineBreaks,
+    node: &Node,
     leaf: &NodeText,
     at: usize,
     added: &NodeText,
     made: &mut u64,
 ) -> Result<Nodes, AllocError>
+    requires leaf { node.now ≡ leaf_tree node.now.breaks leaf.now }
     requires some { 1 ≤ length added.now }
     requires short { byte_len added.now ≤ 981 }
-    ensures ok { IfOk result (λ nodes. IsInserted (leaf_tree breaks leaf.now) (trees_in nodes) (inserted leaf.now at added.now)) }
+    ensures ok { IfOk result (λ nodes. IsInserted node.now (trees_in nodes) (inserted leaf.now at added.now)) }
     ensures made { made.new ≤ made.old + 2 }
 {
+    let breaks = node.line_breaks();
+    let info = info_with(node.info(), leaf, at, added, breaks);
     let mut front = NodeText::from_str(leaf.as_str());
     match front.insert_or_split(at, added.as_str()) {
-        None => Ok(Nodes::One(leaf_of(alloc, breaks, front, made)?)),
+        None => Ok(Nodes::One(make_leaf(alloc, breaks, front, info, made)?)),
         Some(back) => {
-            let first = leaf_of(alloc, breaks, front, made)?;
-            let second = leaf_of(alloc, breaks, back, made)?;
+            let front_info = TextInfo::from_str(front.as_str(), breaks);
+            let back_info = info.minus(front_info);
+            let first = make_leaf(alloc, breaks, front, front_info, made)?;
+            let second = make_leaf(alloc, breaks, back, back_info, made)?;
             Ok(Nodes::Two(first, second))
         }
     }
-}
-
-/// The character that the child which takes the text has to hold: at a seam the one before it, or the one after it.
-fn char_to_hold(at: usize, to_right: bool) -> usize
-    ensures right { to_right ≡ true → result ≡ at }
-    ensures first { to_right ≡ false → at ≡ 0 → result ≡ 0 }
-    ensures left { to_right ≡ false → 0 < at → result + 1 ≡ at }
-{
-    if to_right || at == 0 { at } else { at - 1 }
 }
 
 /// The tree with a text of at most 981 bytes before its character `at`, as one tree or two of the same height. The old
@@ -89,7 +85,7 @@ pub fn insert(
 {
     let _ = node.height();
     match node.view() {
-        View::Leaf(leaf) => insert_into_leaf(alloc, node.line_breaks(), leaf, at, added, made),
+        View::Leaf(leaf) => insert_into_leaf(alloc, node, leaf, at, added, made),
         View::Inner(children, totals) => {
             let held = char_to_hold(at, to_right);
             let place = place_of(totals, Unit::Char, held, &mut Steps::new());

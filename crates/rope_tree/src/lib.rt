@@ -5,6 +5,7 @@ pub mod build;
 pub mod children;
 pub mod chunk_lookup;
 pub mod conversions;
+pub mod counts;
 pub mod edit;
 pub mod insert;
 pub mod lookup;

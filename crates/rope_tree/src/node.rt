@@ -15,6 +15,8 @@ use std::alloc::{AllocError, Global};
 use std::marker::Model;
 use std::rc::Rc;
 
+mod in_place;
+
 /// A node of a rope's tree, with the whole tree below it.
 #[cycle(tree)]
 #[derive(Drop)]
@@ -94,6 +96,15 @@ impl Children {
             totals: self.totals.as_slice(),
             nodes: self.nodes.as_slice(),
         }
+    }
+
+    /// The counts of all children.
+    fn total(&self) -> TextInfo
+        requires { 1 ≤ length self.now }
+        ensures { result ≡ info_of (breaks_of self.now) (joined self.now) }
+    {
+        let totals = self.totals.as_slice();
+        totals[totals.len() - 1]
     }
 
     /// The list of the nodes, with their totals.
@@ -180,6 +191,7 @@ pub fn make_leaf(
 ) -> Result<Rc<Node>, AllocError>
     requires { info ≡ info_of breaks leaf }
     ensures ok { IfOk result (λ node. node.value ≡ leaf_tree breaks leaf) }
+    ensures tree { IfOk result (λ node. IsTree node.value) }
     ensures made { made.new ≤ made.old + 1 }
 {
     add_made(made);
@@ -193,6 +205,7 @@ pub fn make_leaf(
             body: Body::Leaf(leaf),
         },
     )?;
+    let _ = node.height();
     Ok(node)
 }
 
@@ -210,8 +223,7 @@ pub fn make_inner(
     let height = children[0].height() + 1;
     let breaks = children[0].line_breaks();
     let children = Children::from_nodes(children);
-    let totals = children.parts().totals;
-    let info = totals[totals.len() - 1];
+    let info = children.total();
     let node = Rc::new(
         alloc,
         Node {

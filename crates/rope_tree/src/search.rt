@@ -1,7 +1,8 @@
 //! Finds a child by halving the range over running totals.
-ghost use Rattle.std.specs.Prelude.{◌≡◌, ℕ, ◌+◌, ◌-◌, ◌<◌, ◌≤◌, ◌^◌, length, slice_index_or};
+ghost use Rattle.std.specs.Prelude.{◌≡◌, ℕ, ◌+◌, ◌-◌, ◌<◌, ◌≤◌, ◌^◌, true, false, length, slice_index_or};
 ghost use Rattle.rope_text.specs.declared.text_info.TextInfo.{TextInfo};
-ghost use Rattle.rope_tree.specs.Search.{count_of, IsSmall};
+ghost use Rattle.rope_text.specs.TextInfo.{info_sum};
+ghost use Rattle.rope_tree.specs.Search.{count_of, IsSmall, HasPart};
 
 use rope_text::{Steps, TextInfo};
 
@@ -56,4 +57,27 @@ pub fn place_of(totals: &[TextInfo], unit: Unit, at: usize, steps: &mut Steps) -
         }
     }
     base
+}
+
+/// The character that the child which takes a text has to hold: at a seam the one before it, or the one after it.
+pub fn char_to_hold(at: usize, to_right: bool) -> usize
+    ensures right { to_right ≡ true → result ≡ at }
+    ensures first { to_right ≡ false → at ≡ 0 → result ≡ 0 }
+    ensures left { to_right ≡ false → 0 < at → result + 1 ≡ at }
+{
+    if to_right || at == 0 { at } else { at - 1 }
+}
+
+/// Puts other counts for those of one part of a text, in all totals from a place on.
+pub fn retotal(totals: &mut [TextInfo], place: usize, old: TextInfo, new: TextInfo)
+    requires small { (j : ℕ) (d : TextInfo) → j < length totals.old → IsSmall (slice_index_or totals.old j d) }
+    requires part { (j : ℕ) (d : TextInfo) → place ≤ j → j < length totals.old → HasPart (slice_index_or totals.old j d) old }
+    requires new { IsSmall new }
+    ensures len { length totals.new ≡ length totals.old }
+    ensures before { (j : ℕ) (d : TextInfo) → j < place → slice_index_or totals.new j d ≡ slice_index_or totals.old j d }
+    ensures after { (j : ℕ) (d : TextInfo) → place ≤ j → j < length totals.old → info_sum (slice_index_or totals.new j d) old ≡ info_sum (slice_index_or totals.old j d) new }
+{
+    for j in place..totals.len() {
+        totals[j] = totals[j].minus(old).plus(new);
+    }
 }

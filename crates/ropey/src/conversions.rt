@@ -10,8 +10,8 @@ use crate::rope::Rope;
 use rope_text::{Error, Result, Steps};
 
 impl Rope {
-    /// The character, counted from 0, that holds the byte `byte_idx`; at the end of the text the number of characters.
-    /// A byte inside a character gives that character.
+    /// The character, counted from 0, that holds the byte `byte_idx`, also where that is inside the character; at the end of
+    /// the text the number of characters.
     ///
     /// The index is at most `len_bytes()`. No memory is taken.
     pub fn byte_to_char(&self, byte_idx: usize) -> usize
@@ -27,7 +27,8 @@ impl Rope {
     ///
     /// `ByteIndexOutOfBounds`, with the index and the number of bytes, where the index is past `len_bytes()`.
     pub fn try_byte_to_char(&self, byte_idx: usize) -> Result<usize>
-        ensures { result ≡ checked (byte_index_error byte_idx (byte_len self.now.text)) (byte_to_char self.now.text byte_idx) }
+        ensures { result ≡ checked (byte_index_error byte_idx (byte_len self.now.text))
+            (byte_to_char self.now.text byte_idx) }
     {
         let len = self.len_bytes();
         if byte_idx > len {
@@ -36,8 +37,8 @@ impl Rope {
         Ok(self.byte_to_char(byte_idx))
     }
 
-    /// The line, counted from 0, that the byte `byte_idx` lies on: how many line breaks have ended at or before it.
-    /// A byte inside a break, between the CR and the LF of a pair among them, lies on the line that the break ends.
+    /// The line, counted from 0, that the byte `byte_idx` lies on: how many line breaks end at or before it. A byte inside a
+    /// break of several bytes, as between CR and LF, lies on the line that the break ends.
     ///
     /// The index is at most `len_bytes()`. No memory is taken.
     pub fn byte_to_line(&self, byte_idx: usize) -> usize
@@ -53,7 +54,8 @@ impl Rope {
     ///
     /// `ByteIndexOutOfBounds`, with the index and the number of bytes, where the index is past `len_bytes()`.
     pub fn try_byte_to_line(&self, byte_idx: usize) -> Result<usize>
-        ensures { result ≡ checked (byte_index_error byte_idx (byte_len self.now.text)) (byte_to_line self.now.breaks self.now.text byte_idx) }
+        ensures { result ≡ checked (byte_index_error byte_idx (byte_len self.now.text))
+            (byte_to_line self.now.breaks self.now.text byte_idx) }
     {
         let len = self.len_bytes();
         if byte_idx > len {
@@ -78,7 +80,8 @@ impl Rope {
     ///
     /// `CharIndexOutOfBounds`, with the index and the number of characters, where the index is past `len_chars()`.
     pub fn try_char_to_byte(&self, char_idx: usize) -> Result<usize>
-        ensures { result ≡ checked (char_index_error char_idx (length self.now.text)) (char_to_byte self.now.text char_idx) }
+        ensures { result ≡ checked (char_index_error char_idx (length self.now.text))
+            (char_to_byte self.now.text char_idx) }
     {
         let len = self.len_chars();
         if char_idx > len {
@@ -87,8 +90,8 @@ impl Rope {
         Ok(self.char_to_byte(char_idx))
     }
 
-    /// The line, counted from 0, that the character `char_idx` lies on: how many line breaks have ended at or before it.
-    /// The place between the CR and the LF of a pair lies on the line that the pair ends.
+    /// The line, counted from 0, that the character `char_idx` lies on: how many line breaks end at or before it. The place
+    /// between CR and LF lies on the line that the pair ends.
     ///
     /// The index is at most `len_chars()`. No memory is taken.
     pub fn char_to_line(&self, char_idx: usize) -> usize
@@ -104,7 +107,8 @@ impl Rope {
     ///
     /// `CharIndexOutOfBounds`, with the index and the number of characters, where the index is past `len_chars()`.
     pub fn try_char_to_line(&self, char_idx: usize) -> Result<usize>
-        ensures { result ≡ checked (char_index_error char_idx (length self.now.text)) (char_to_line self.now.breaks self.now.text char_idx) }
+        ensures { result ≡ checked (char_index_error char_idx (length self.now.text))
+            (char_to_line self.now.breaks self.now.text char_idx) }
     {
         let len = self.len_chars();
         if char_idx > len {
@@ -130,7 +134,8 @@ impl Rope {
     ///
     /// `CharIndexOutOfBounds`, with the index and the number of characters, where the index is past `len_chars()`.
     pub fn try_char_to_utf16_cu(&self, char_idx: usize) -> Result<usize>
-        ensures { result ≡ checked (char_index_error char_idx (length self.now.text)) (char_to_utf16 self.now.text char_idx) }
+        ensures { result ≡ checked (char_index_error char_idx (length self.now.text))
+            (char_to_utf16 self.now.text char_idx) }
     {
         let len = self.len_chars();
         if char_idx > len {
@@ -139,8 +144,8 @@ impl Rope {
         Ok(self.char_to_utf16_cu(char_idx))
     }
 
-    /// The character, counted from 0, that holds the UTF-16 code unit `utf16_cu_idx`; at the end of the text the number of
-    /// characters. A code unit inside a surrogate pair gives the pair's character.
+    /// The character, counted from 0, that holds the UTF-16 code unit `utf16_cu_idx`, also where that is inside its surrogate
+    /// pair; at the end of the text the number of characters.
     ///
     /// The index is at most `len_utf16_cu()`. No memory is taken.
     pub fn utf16_cu_to_char(&self, utf16_cu_idx: usize) -> usize
@@ -156,7 +161,8 @@ impl Rope {
     ///
     /// `Utf16IndexOutOfBounds`, with the index and the number of code units, where the index is past `len_utf16_cu()`.
     pub fn try_utf16_cu_to_char(&self, utf16_cu_idx: usize) -> Result<usize>
-        ensures { result ≡ checked (utf16_index_error utf16_cu_idx (utf16_len self.now.text)) (utf16_to_char self.now.text utf16_cu_idx) }
+        ensures { result ≡ checked (utf16_index_error utf16_cu_idx (utf16_len self.now.text))
+            (utf16_to_char self.now.text utf16_cu_idx) }
     {
         let len = self.len_utf16_cu();
         if utf16_cu_idx > len {
@@ -165,7 +171,7 @@ impl Rope {
         Ok(self.utf16_cu_to_char(utf16_cu_idx))
     }
 
-    /// The byte, counted from 0, at which the line `line_idx` starts; for the number of lines the number of bytes.
+    /// The byte, counted from 0, at which the line `line_idx` starts; for `len_lines()` the end of the text.
     ///
     /// The index is at most `len_lines()`. No memory is taken.
     pub fn line_to_byte(&self, line_idx: usize) -> usize
@@ -181,7 +187,8 @@ impl Rope {
     ///
     /// `LineIndexOutOfBounds`, with the index and the number of lines, where the index is past `len_lines()`.
     pub fn try_line_to_byte(&self, line_idx: usize) -> Result<usize>
-        ensures { result ≡ checked (line_index_error line_idx (line_count self.now.breaks self.now.text)) (line_to_byte self.now.breaks self.now.text line_idx) }
+        ensures { result ≡ checked (line_index_error line_idx (line_count self.now.breaks self.now.text))
+            (line_to_byte self.now.breaks self.now.text line_idx) }
     {
         let len = self.len_lines();
         if line_idx > len {
@@ -190,7 +197,7 @@ impl Rope {
         Ok(self.line_to_byte(line_idx))
     }
 
-    /// The character, counted from 0, at which the line `line_idx` starts; for the number of lines the number of characters.
+    /// The character, counted from 0, at which the line `line_idx` starts; for `len_lines()` the end of the text.
     ///
     /// The index is at most `len_lines()`. No memory is taken.
     pub fn line_to_char(&self, line_idx: usize) -> usize
@@ -206,7 +213,8 @@ impl Rope {
     ///
     /// `LineIndexOutOfBounds`, with the index and the number of lines, where the index is past `len_lines()`.
     pub fn try_line_to_char(&self, line_idx: usize) -> Result<usize>
-        ensures { result ≡ checked (line_index_error line_idx (line_count self.now.breaks self.now.text)) (line_to_char self.now.breaks self.now.text line_idx) }
+        ensures { result ≡ checked (line_index_error line_idx (line_count self.now.breaks self.now.text))
+            (line_to_char self.now.breaks self.now.text line_idx) }
     {
         let len = self.len_lines();
         if line_idx > len {

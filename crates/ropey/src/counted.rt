@@ -1,18 +1,33 @@
-//! Look-ups that count their steps. Each sets the counts to 0 first, enters at most one node a level, compares an index with
-//! at most five running totals in each inner node, and makes no node. None takes memory.
+//! Look-ups that count their steps: the nodes that they enter, and the running totals that they compare an index with. Each
+//! sets the counts to 0 first.
 ghost use Rattle.std.specs.Prelude.{◌≡◌, ◌+◌, ◌*◌, ◌<◌, ◌≤◌, length, slice_get, Some};
 ghost use Rattle.std.specs.Str.{encode_utf8_all};
 ghost use Rattle.rope_text.specs.Text.{byte_len, utf16_len};
 ghost use Rattle.rope_text.specs.Lines.{line_count};
 ghost use Rattle.rope_text.specs.Conversions.{byte_to_char, byte_to_line, char_to_byte, char_to_line, char_to_utf16, line_to_byte, line_to_char, utf16_to_char};
+ghost use Rattle.rope_tree.specs.Tree.{text};
 
 use crate::rope::Rope;
 use rope_text::Steps;
 use rope_tree::conversions as tree;
 use rope_tree::lookup::{byte_at, char_at};
+use rope_tree::node::Node;
 
 impl Rope {
-    /// What `byte_to_char` answers, under the same condition, with the steps that it took.
+    // The root of the tree, where the counts begin with 0.
+    fn begin(&self, steps: &mut Steps) -> &Node
+        ensures text { text result.now ≡ self.now.text }
+        ensures breaks { result.now.breaks ≡ self.now.breaks }
+        ensures depth { result.now.height ≡ self.now.depth }
+        ensures low { result.now.height ≤ 18 }
+        ensures zero { steps.new ≡ record { nodes = 0; compares = 0; made = 0 } }
+    {
+        *steps = Steps::new();
+        self.root()
+    }
+
+    /// What `byte_to_char` answers, under the same condition, with the steps that it took: at most one node for each level,
+    /// and at most five comparisons for each inner node on the way. No memory is taken.
     pub fn byte_to_char_counted(&self, byte_idx: usize, steps: &mut Steps) -> usize
         requires { byte_idx ≤ byte_len self.now.text }
         ensures value { result ≡ byte_to_char self.now.text byte_idx }
@@ -20,11 +35,11 @@ impl Rope {
         ensures compares { steps.new.compares ≤ 5 * self.now.depth }
         ensures made { steps.new.made ≡ 0 }
     {
-        *steps = Steps::new();
-        tree::byte_to_char(self.root(), byte_idx, steps)
+        tree::byte_to_char(self.begin(steps), byte_idx, steps)
     }
 
-    /// What `byte_to_line` answers, under the same condition, with the steps that it took.
+    /// What `byte_to_line` answers, under the same condition, with the steps that it took: at most one node for each level,
+    /// and at most five comparisons for each inner node on the way. No memory is taken.
     pub fn byte_to_line_counted(&self, byte_idx: usize, steps: &mut Steps) -> usize
         requires { byte_idx ≤ byte_len self.now.text }
         ensures value { result ≡ byte_to_line self.now.breaks self.now.text byte_idx }
@@ -32,11 +47,11 @@ impl Rope {
         ensures compares { steps.new.compares ≤ 5 * self.now.depth }
         ensures made { steps.new.made ≡ 0 }
     {
-        *steps = Steps::new();
-        tree::byte_to_line(self.root(), byte_idx, steps)
+        tree::byte_to_line(self.begin(steps), byte_idx, steps)
     }
 
-    /// What `char_to_byte` answers, under the same condition, with the steps that it took.
+    /// What `char_to_byte` answers, under the same condition, with the steps that it took: at most one node for each level,
+    /// and at most five comparisons for each inner node on the way. No memory is taken.
     pub fn char_to_byte_counted(&self, char_idx: usize, steps: &mut Steps) -> usize
         requires { char_idx ≤ length self.now.text }
         ensures value { result ≡ char_to_byte self.now.text char_idx }
@@ -44,11 +59,11 @@ impl Rope {
         ensures compares { steps.new.compares ≤ 5 * self.now.depth }
         ensures made { steps.new.made ≡ 0 }
     {
-        *steps = Steps::new();
-        tree::char_to_byte(self.root(), char_idx, steps)
+        tree::char_to_byte(self.begin(steps), char_idx, steps)
     }
 
-    /// What `char_to_line` answers, under the same condition, with the steps that it took.
+    /// What `char_to_line` answers, under the same condition, with the steps that it took: at most one node for each level,
+    /// and at most five comparisons for each inner node on the way. No memory is taken.
     pub fn char_to_line_counted(&self, char_idx: usize, steps: &mut Steps) -> usize
         requires { char_idx ≤ length self.now.text }
         ensures value { result ≡ char_to_line self.now.breaks self.now.text char_idx }
@@ -56,11 +71,11 @@ impl Rope {
         ensures compares { steps.new.compares ≤ 5 * self.now.depth }
         ensures made { steps.new.made ≡ 0 }
     {
-        *steps = Steps::new();
-        tree::char_to_line(self.root(), char_idx, steps)
+        tree::char_to_line(self.begin(steps), char_idx, steps)
     }
 
-    /// What `char_to_utf16_cu` answers, under the same condition, with the steps that it took.
+    /// What `char_to_utf16_cu` answers, under the same condition, with the steps that it took: at most one node for each level,
+    /// and at most five comparisons for each inner node on the way. No memory is taken.
     pub fn char_to_utf16_cu_counted(&self, char_idx: usize, steps: &mut Steps) -> usize
         requires { char_idx ≤ length self.now.text }
         ensures value { result ≡ char_to_utf16 self.now.text char_idx }
@@ -68,11 +83,11 @@ impl Rope {
         ensures compares { steps.new.compares ≤ 5 * self.now.depth }
         ensures made { steps.new.made ≡ 0 }
     {
-        *steps = Steps::new();
-        tree::char_to_utf16(self.root(), char_idx, steps)
+        tree::char_to_utf16(self.begin(steps), char_idx, steps)
     }
 
-    /// What `utf16_cu_to_char` answers, under the same condition, with the steps that it took.
+    /// What `utf16_cu_to_char` answers, under the same condition, with the steps that it took: at most one node for each level,
+    /// and at most five comparisons for each inner node on the way. No memory is taken.
     pub fn utf16_cu_to_char_counted(&self, utf16_cu_idx: usize, steps: &mut Steps) -> usize
         requires { utf16_cu_idx ≤ utf16_len self.now.text }
         ensures value { result ≡ utf16_to_char self.now.text utf16_cu_idx }
@@ -80,11 +95,11 @@ impl Rope {
         ensures compares { steps.new.compares ≤ 5 * self.now.depth }
         ensures made { steps.new.made ≡ 0 }
     {
-        *steps = Steps::new();
-        tree::utf16_to_char(self.root(), utf16_cu_idx, steps)
+        tree::utf16_to_char(self.begin(steps), utf16_cu_idx, steps)
     }
 
-    /// What `line_to_byte` answers, under the same condition, with the steps that it took.
+    /// What `line_to_byte` answers, under the same condition, with the steps that it took: at most one node for each level,
+    /// and at most five comparisons for each inner node on the way. No memory is taken.
     pub fn line_to_byte_counted(&self, line_idx: usize, steps: &mut Steps) -> usize
         requires { line_idx ≤ line_count self.now.breaks self.now.text }
         ensures value { result ≡ line_to_byte self.now.breaks self.now.text line_idx }
@@ -92,11 +107,11 @@ impl Rope {
         ensures compares { steps.new.compares ≤ 5 * self.now.depth }
         ensures made { steps.new.made ≡ 0 }
     {
-        *steps = Steps::new();
-        tree::line_to_byte(self.root(), line_idx, steps)
+        tree::line_to_byte(self.begin(steps), line_idx, steps)
     }
 
-    /// What `line_to_char` answers, under the same condition, with the steps that it took.
+    /// What `line_to_char` answers, under the same condition, with the steps that it took: at most one node for each level,
+    /// and at most five comparisons for each inner node on the way. No memory is taken.
     pub fn line_to_char_counted(&self, line_idx: usize, steps: &mut Steps) -> usize
         requires { line_idx ≤ line_count self.now.breaks self.now.text }
         ensures value { result ≡ line_to_char self.now.breaks self.now.text line_idx }
@@ -104,31 +119,32 @@ impl Rope {
         ensures compares { steps.new.compares ≤ 5 * self.now.depth }
         ensures made { steps.new.made ≡ 0 }
     {
-        *steps = Steps::new();
-        tree::line_to_char(self.root(), line_idx, steps)
+        tree::line_to_char(self.begin(steps), line_idx, steps)
     }
 
-    /// What `byte` answers, under the same condition, with the steps that it took: one node for each level.
+    /// What `byte` answers, under the same condition, with the steps that it took: one node for each level, and one to
+    /// five comparisons for each inner node on the way. No memory is taken.
     pub fn byte_counted(&self, byte_idx: usize, steps: &mut Steps) -> u8
         requires { byte_idx < byte_len self.now.text }
         ensures value { slice_get (encode_utf8_all self.now.text) byte_idx ≡ Some result }
         ensures nodes { steps.new.nodes ≡ self.now.depth + 1 }
+        ensures counted { self.now.depth ≤ steps.new.compares }
         ensures compares { steps.new.compares ≤ 5 * self.now.depth }
         ensures made { steps.new.made ≡ 0 }
     {
-        *steps = Steps::new();
-        byte_at(self.root(), byte_idx, steps)
+        byte_at(self.begin(steps), byte_idx, steps)
     }
 
-    /// What `char` answers, under the same condition, with the steps that it took: one node for each level.
+    /// What `char` answers, under the same condition, with the steps that it took: one node for each level, and one to
+    /// five comparisons for each inner node on the way. No memory is taken.
     pub fn char_counted(&self, char_idx: usize, steps: &mut Steps) -> char
         requires { char_idx < length self.now.text }
         ensures value { slice_get self.now.text char_idx ≡ Some result }
         ensures nodes { steps.new.nodes ≡ self.now.depth + 1 }
+        ensures counted { self.now.depth ≤ steps.new.compares }
         ensures compares { steps.new.compares ≤ 5 * self.now.depth }
         ensures made { steps.new.made ≡ 0 }
     {
-        *steps = Steps::new();
-        char_at(self.root(), char_idx, steps)
+        char_at(self.begin(steps), char_idx, steps)
     }
 }

@@ -1,5 +1,5 @@
 //! The rope.
-ghost use Rattle.std.specs.Prelude.{◌≡◌, ℕ, ◌+◌, ◌<◌, ◌≤◌, [], ◌∷◌, length, ◌^◌, None, IsOk, IfOk, IfErr, OnOk, OnErr};
+ghost use Rattle.std.specs.Prelude.{◌≡◌, ℕ, ◌+◌, ◌-◌, ◌*◌, ◌<◌, ◌≤◌, [], ◌∷◌, length, ◌^◌, min, None, IsOk, IfOk, IfErr, OnOk, OnErr};
 ghost use Rattle.std.specs.Str.{chars};
 ghost use Rattle.rope_text.specs.declared.error.Error.TheVariants.{OutOfMemory};
 ghost use Rattle.rope_text.specs.declared.line_breaks.LineBreaks.TheVariants.{Unicode};
@@ -11,9 +11,10 @@ ghost use Rattle.rope_tree.specs.Tree.{text};
 ghost use Rattle.ropey.specs.View.{IsRope, HasFewChunks};
 
 use crate::iter::Chunks;
-use rope_text::{Error, LineBreaks, Result};
+use rope_text::{Error, LineBreaks, MAX_BYTES, Result};
 use rope_tree::build::build;
 use rope_tree::edit::insert_text;
+use rope_tree::lookup::leaf_count;
 use rope_tree::node::Node;
 use std::alloc::Global;
 use std::marker::Model;
@@ -84,8 +85,9 @@ impl Rope {
         ensures depth { result.now.height ≡ self.now.depth }
         ensures low { result.now.height ≤ 18 }
     {
-        let _ = self.root.height();
-        &self.root
+        let node: &Node = &self.root;
+        let _ = node.height();
+        node
     }
 
     /// The length in bytes. No text is read.
@@ -118,12 +120,21 @@ impl Rope {
         info.chars + info.utf16_surrogates
     }
 
-    /// How many levels the tree has above the chunks: 0 where there is at most one chunk. No text is read.
+    /// How many levels the tree has above the chunks: 0 where there is at most one chunk, and 18 at the most. No text is
+    /// read.
     pub fn depth(&self) -> usize
         ensures value { result ≡ self.now.depth }
         ensures kept { IsRope self.now }
     {
         self.root.height()
+    }
+
+    /// The bytes that the chunks have room for: `MAX_BYTES` for each chunk, and `usize::MAX` at the most. The inner nodes of
+    /// the tree are counted, and no text is read.
+    pub fn capacity(&self) -> usize
+        ensures { result ≡ min (984 * length self.now.chunks) (2 ^ 64 - 1) }
+    {
+        leaf_count(&self.root).saturating_mul(MAX_BYTES)
     }
 
     /// Puts `text` before the character `char_idx`, or at the end.

@@ -1,21 +1,48 @@
-use Rattle.std.proofs.Common.{◌≡◌, ap, ◌∙◌, arith}
+use Rattle.std.proofs.Common.{◌≡◌, ◌++◌, [], ◌∷◌, ap, subst, sym, ◌∙◌, arith}
+use Rattle.std.specs.Str.{chars}
 use Rattle.rope_text.specs.Edit.{inserted}
+use Rattle.rope_text.specs.TextInfo.{info_of, info_sum}
+use Rattle.rope_text.proofs.InfoLaws.{info_of-append_apart}
+use Rattle.rope_tree.specs.Tree.{leaf_tree}
+use Rattle.rope_tree.specs.Insert.{IsInserted}
 use Rattle.rope_tree.proofs.InsertTrees.{length-inserted}
 use Rattle.rope_tree.proofs.InsertLeaves.{one_inserted, two_inserted}
+use Rattle.rope_tree.proofs.insert.insert_into_leaf.Goals.{After-insert_or_split, After-from_str-front_info}
 use Rattle.rope_tree.proofs.insert.insert_into_leaf.Goals as goal
 
-pub returns-in_ok-leaf_of-in-None-clause-ok : goal.returns-in_ok-leaf_of-in-None-clause-ok
-returns-in_ok-leaf_of-in-None-clause-ok c =
+-- what the edit of the copy gives is the edit of the leaf
+same : (c : After-insert_or_split) → inserted c.from_str-front.result c.args.at (chars c.as_str-2.result.now) ≡ inserted c.args.leaf.now c.args.at c.args.added.now
+same c = ap (inserted c.from_str-front.result c.args.at) c.as_str-2.ensures.chars ∙ ap (λ l. inserted l c.args.at c.args.added.now) (c.from_str-front.ensures.value ∙ c.as_str.ensures.chars)
+
+parted : (c : After-from_str-front_info) → c.insert_or_split.new.self ++ c.in-Some.back ≡ inserted c.args.leaf.now c.args.at c.args.added.now → c.info_with-info.result ≡ info_sum c.from_str-front_info.result (info_of c.line_breaks-breaks.result c.in-Some.back)
+parted c parts =
+    let set = c.line_breaks-breaks.result in
+    let front = c.from_str-front_info.ensures ∙ ap (info_of set) c.as_str-in-Some.ensures.chars in
+    c.info_with-info.ensures ∙ ap (info_of set) (sym parts)
+    ∙ info_of-append_apart set c.insert_or_split.new.self c.in-Some.back c.in-Some.ensures.parts.2 ∙ ap (λ i. info_sum i (info_of set c.in-Some.back)) (sym front)
+
+pub minus-back_info-requires-clause-bytes : goal.minus-back_info-requires-clause-bytes
+minus-back_info-requires-clause-bytes c = omega (arith, ap (λ i. i.bytes) (parted c (c.in-Some.ensures.two.1 ∙ same (goal.at.minus-back_info-requires-clause-bytes c).After-insert_or_split)))
+
+pub minus-back_info-requires-clause-line_breaks : goal.minus-back_info-requires-clause-line_breaks
+minus-back_info-requires-clause-line_breaks c = omega (arith, ap (λ i. i.line_breaks) (parted c (c.in-Some.ensures.two.1 ∙ same (goal.at.minus-back_info-requires-clause-line_breaks c).After-insert_or_split)))
+
+pub returns-in_ok-make_leaf-in-None-clause-ok : goal.returns-in_ok-make_leaf-in-None-clause-ok
+returns-in_ok-make_leaf-in-None-clause-ok c =
     let s = c.args.added.now in
-    let same : inserted c.from_str-front.result c.args.at s ≡ inserted c.args.leaf.now c.args.at s = ap (λ l. inserted l c.args.at s) (c.from_str-front.ensures.value ∙ c.as_str.ensures.chars) in
-    let text = ap (inserted c.from_str-front.result c.args.at) c.as_str-2.ensures.chars in
-    one_inserted c.args.breaks c.args.leaf.now _ (inserted c.args.leaf.now c.args.at s) c.in_ok-leaf_of-in-None.field-0.value
-    c.in_ok-leaf_of-in-None.ensures.ok c.in_ok-leaf_of-in-None.ensures.tree (c.in-None.ensures.one.1 ∙ text ∙ same) (omega (arith, length-inserted c.args.leaf.now c.args.at s, c.requires.some))
+    let new = inserted c.args.leaf.now c.args.at s in
+    subst (λ t. IsInserted t (c.in_ok-make_leaf-in-None.field-0.value ∷ []) new) (sym c.requires.leaf)
+    (one_inserted c.args.node.now.breaks c.args.leaf.now _ new c.in_ok-make_leaf-in-None.field-0.value
+    (c.in_ok-make_leaf-in-None.ensures.ok ∙ ap (λ b. leaf_tree b c.insert_or_split.new.self) c.line_breaks-breaks.ensures) c.in_ok-make_leaf-in-None.ensures.tree
+    (c.in-None.ensures.one.1 ∙ same (goal.at.returns-in_ok-make_leaf-in-None-clause-ok c).After-insert_or_split) (omega (arith, length-inserted c.args.leaf.now c.args.at s, c.requires.some)))
 
 pub returns-in_ok-second-in-Some-clause-ok : goal.returns-in_ok-second-in-Some-clause-ok
 returns-in_ok-second-in-Some-clause-ok c =
     let s = c.args.added.now in
-    let same : inserted c.from_str-front.result c.args.at s ≡ inserted c.args.leaf.now c.args.at s = ap (λ l. inserted l c.args.at s) (c.from_str-front.ensures.value ∙ c.as_str.ensures.chars) in
-    let text = ap (inserted c.from_str-front.result c.args.at) c.as_str-2.ensures.chars in
-    two_inserted c.args.breaks c.args.leaf.now _ _ (inserted c.args.leaf.now c.args.at s) c.in_ok-first-in-Some.first.value c.in_ok-second-in-Some.second.value
-    c.in_ok-first-in-Some.ensures.ok c.in_ok-second-in-Some.ensures.ok c.in_ok-first-in-Some.ensures.tree c.in_ok-second-in-Some.ensures.tree (c.in-Some.ensures.two.1 ∙ text ∙ same) c.in-Some.ensures.parts
+    let new = inserted c.args.leaf.now c.args.at s in
+    let first = c.in_ok-first-in-Some in
+    let second = c.in_ok-second-in-Some in
+    subst (λ t. IsInserted t (first.first.value ∷ second.second.value ∷ []) new) (sym c.requires.leaf)
+    (two_inserted c.args.node.now.breaks c.args.leaf.now _ _ new first.first.value second.second.value
+    (first.ensures.ok ∙ ap (λ b. leaf_tree b c.insert_or_split.new.self) c.line_breaks-breaks.ensures) (second.ensures.ok ∙ ap (λ b. leaf_tree b c.in-Some.back) c.line_breaks-breaks.ensures)
+    first.ensures.tree second.ensures.tree (c.in-Some.ensures.two.1 ∙ same (goal.at.returns-in_ok-second-in-Some-clause-ok c).After-insert_or_split) c.in-Some.ensures.parts)

@@ -1,0 +1,153 @@
+-- Children of which one was changed where it stands.
+use Rattle.std.proofs.Common.{◌≡◌, ℕ, zero, suc, ◌+◌, ◌-◌, ◌<◌, ◌≤◌, ◌^◌, ◌⊎◌, Bool, true, false, min, List, [], ◌∷◌, ◌++◌, length, get_or, set, take, drop, refl, sym, ap, subst, add-one, ◌∙◌, arith}
+use Rattle.std.specs.declared.alloc.Global.{Global}
+use Rattle.std.specs.declared.rc.Rc.{Rc}
+use Rattle.std.proofs.lemmas.List.{length-set, set_split, set-get_or, map-set, append-nil, drop_all, take_all}
+use Rattle.std.proofs.lemmas.List.Elements.{All-head}
+use Rattle.rope_text.specs.declared.line_breaks.LineBreaks.{LineBreaks}
+use Rattle.rope_text.specs.Text.{byte_len}
+use Rattle.rope_text.specs.Edit.{inserted}
+use Rattle.rope_tree.specs.declared.node.Node.{Node}
+use Rattle.rope_tree.specs.declared.node.Node.TheInside.{Inside}
+use Rattle.rope_tree.specs.declared.node.Body.TheVariants.{Leaf, Inner}
+use Rattle.rope_tree.specs.Shape.{tree_of, IsBody, IsNode}
+use Rattle.std.specs.List.{refill}
+use Rattle.std.specs.Str.{all_scalars}
+use Rattle.rope_text.specs.declared.text_info.TextInfo.{TextInfo}
+use Rattle.rope_text.specs.TextInfo.{info_of}
+use Rattle.rope_tree.specs.Tree.{Tree, text, joined, leaves_of, height_of, breaks_of, tree_over, leaf_tree, IsWide, IsChild, AreChildren}
+use Rattle.rope_tree.specs.Listed.{trees, tallest, HasTotals}
+use Rattle.rope_tree.specs.Siblings.{AreSiblings}
+use Rattle.rope_tree.specs.Insert.{MayInsert, IsInserted, AreGrown}
+use Rattle.rope_tree.proofs.NodeLaws.{joined_one, leaf_text, tree_of_inner, is_tree_of, children_of_first}
+use Rattle.rope_tree.proofs.SiblingLaws.{children_of, one_part}
+use Rattle.rope_tree.proofs.TreeLaws.{height_of_is, breaks_of_is}
+use Rattle.rope_tree.proofs.InsertLeaves.{one_inserted}
+use Rattle.rope_tree.proofs.InsertTrees.{new_text, new_siblings, length-inserted}
+
+-- the list with the new child in the old one's place
+set_parts : (ts : List Tree) (k : ℕ) (u : Tree) → k < length ts → set ts k u ≡ take k ts ++ (u ∷ [] ++ drop (k + 1) ts)
+set_parts ts k u lt = set_split ts k u lt ∙ ap (λ n. take k ts ++ (u ∷ [] ++ drop n ts)) (sym (add-one k))
+
+pub same_set : (ts : List Tree) (k : ℕ) (c : Tree) → k < length ts → get_or ts k c ≡ c → set ts k c ≡ ts
+same_set ts k c lt here = ap (λ x. set ts k x) (sym here) ∙ set-get_or ts k c
+
+pub trees_set : (rcs : List (Rc Node Global)) (k : ℕ) (rc : Rc Node Global) (ts : List Tree) → trees rcs ≡ ts → trees (set rcs k rc) ≡ set ts k rc.value
+trees_set rcs k rc ts e = map-set (λ (r : Rc Node Global). r.value) rcs k rc ∙ ap (λ x. set x k rc.value) e
+
+-- a text that went into the child at k
+pub grown : (br : LineBreaks) (h : ℕ) (ts : List Tree) (k : ℕ) (c u : Tree) (a : AreChildren br h ts) (lt : k < length ts) (here : get_or ts k c ≡ c) (at i : ℕ) (s : List ℕ) → 1 ≤ length s
+    → at ≡ length (joined (take k ts)) + i → i ≤ length (text c) → (to_right : Bool) → (to_right ≡ true → i < length (text c)) → (to_right ≡ false → at ≡ 0 ⊎ 1 ≤ i) → MayInsert (tree_over ts) at s to_right
+    → IsInserted c (u ∷ []) (inserted (text c) i s) → byte_len (joined ts) + byte_len s < 2 ^ 63 → br ≡ breaks_of ts → h ≡ height_of ts → AreGrown ts (set ts k u) (inserted (joined ts) at s)
+grown br h ts k c u a lt here at i s some place within to_right inside outside may new fits br_is h_is =
+    let us = take k ts ++ (u ∷ [] ++ drop (k + 1) ts) in
+    let siblings : AreSiblings br h us = new_siblings br h ts k c a lt here (tree_over ts) refl at i s some place within (u ∷ []) to_right inside outside may new fits in
+    let is = set_parts ts k u lt in
+    record {
+      as_many = length-set ts k u;
+      text_is = ap joined is ∙ new_text br h ts k c a lt here (tree_over ts) refl at i s some place within (u ∷ []) to_right inside outside may new fits;
+      siblings = rw (is, sym br_is, sym h_is) siblings;
+    }
+
+-- the changed children are children of one node
+pub children_grown : (ts us : List Tree) (new : List ℕ) → AreChildren (breaks_of ts) (height_of ts) ts → AreGrown ts us new → AreChildren (breaks_of ts) (height_of ts) us
+children_grown ts us new a g = children_of (breaks_of ts) (height_of ts) us g.siblings (omega (arith, g.as_many, a.at_least_two)) (omega (arith, g.as_many, a.at_most_24))
+
+-- and the node over them is the old one with the text
+pub node_grown : (t : Tree) (ts us : List Tree) (at : ℕ) (s : List ℕ) → t ≡ tree_over ts → AreChildren (breaks_of ts) (height_of ts) ts → AreGrown ts us (inserted (joined ts) at s)
+    → (x : Tree) → x ≡ tree_over us → IsInserted t (x ∷ []) (inserted (text t) at s)
+node_grown t ts us at s is a g x x_is =
+    let parts = one_part (breaks_of ts) (height_of ts) us g.siblings (omega (arith, g.as_many, a.at_least_two)) (omega (arith, g.as_many, a.at_most_24)) x x_is in
+    let flat : leaves_of (x ∷ []) ≡ leaves_of us = append-nil x.leaves ∙ ap (λ y. y.leaves) x_is in
+    rw is (record {
+      text_is = joined_one x ∙ ap text x_is ∙ g.text_is;
+      leaves = rw flat g.siblings.leaves;
+      parts = rw (sym g.as_many) (record {
+        some = parts.some;
+        at_most_two = parts.at_most_two;
+        each = parts.each;
+        two = parts.two;
+        full = λ p q. absurd (omega arith);
+      });
+    })
+
+-- what an inserted text makes of a child is a child
+pub child_grown : (br : LineBreaks) (h : ℕ) (c u : Tree) (new : List ℕ) → IsChild br h c → IsInserted c (u ∷ []) new → IsWide br (min 12 c.width) h u
+child_grown br h c u new own i = rw (sym own.same_breaks, sym own.at_height) (All-head (IsWide c.breaks (min 12 c.width) c.height) u [] i.parts.each)
+
+-- the totals as they are read
+pub totals_seen : (rcs : List (Rc Node Global)) (ts : List Tree) (totals seen : List TextInfo) → trees rcs ≡ ts → seen ≡ totals → HasTotals (breaks_of (trees rcs)) totals (trees rcs) → HasTotals (breaks_of ts) seen ts
+totals_seen rcs ts totals seen e f h = rw (sym e, f) h
+
+pub tallest_above : (ts : List Tree) (k : ℕ) (d : Tree) → k < length ts → (get_or ts k d).height + (get_or ts k d).height + 1 ≤ tallest ts
+tallest_above [] k d lt = absurd (omega arith)
+tallest_above (t ∷ ts) zero d lt = omega arith
+tallest_above (t ∷ ts) (suc k) d lt = omega (arith, tallest_above ts k d (omega arith))
+
+-- all of a list that is written over
+pub refill_all : (xs ws : List TextInfo) → length ws ≡ length xs → refill (length xs) xs ws ≡ ws
+refill_all xs ws e = rw (drop_all (length ws) xs (omega arith), append-nil ws) (take_all (length xs) ws (omega arith))
+
+-- what an inner node is
+pub record IsInner (a : Inside) (t : Tree) (ts : List Tree) : Type 0 where
+  pub is : t ≡ tree_over ts
+  pub children : AreChildren (breaks_of ts) (height_of ts) ts
+  pub same_breaks : a.breaks ≡ breaks_of ts
+  pub above : a.height ≡ height_of ts + 1
+
+pub inner_of : (a : Inside) (t : Tree) (ts : List Tree) → IsNode a → a.body ≡ Inner ts → tree_of a ≡ t → IsInner a t ts
+inner_of a t ts i e view =
+    let body : IsBody a.breaks a.height (Inner ts) = subst (IsBody a.breaks a.height) e i.body in
+    let some : 1 ≤ length ts = omega (arith, body.1.at_least_two) in
+    let whole : tree_of (record { height = a.height; breaks = a.breaks; info = a.info; body = Inner ts }) ≡ tree_over ts = tree_of_inner a.breaks a.height ts (length ts) body.0 body.1 refl in
+    let same : tree_of a ≡ tree_of (record { height = a.height; breaks = a.breaks; info = a.info; body = Inner ts }) = ap (λ b. tree_of (record { height = a.height; breaks = a.breaks; info = a.info; body = b })) e in
+    record {
+      is = sym view ∙ same ∙ whole;
+      children = children_of_first a.breaks (a.height - 1) ts body.1;
+      same_breaks = sym (breaks_of_is a.breaks (a.height - 1) ts some body.1.each);
+      above = omega (arith, height_of_is a.breaks (a.height - 1) ts some body.1.each, body.0);
+    }
+
+-- a node whose children were changed
+module _ (a : Inside) (t : Tree) (ts us : List Tree) (at : ℕ) (s : List ℕ) (f : IsInner a t ts) (g : AreGrown ts us (inserted (joined ts) at s)) (info : TextInfo) (counted : info ≡ info_of (breaks_of us) (joined us)) where
+  below : AreChildren a.breaks (a.height - 1) us
+  below =
+      let e : height_of ts ≡ a.height - 1 = omega (arith, f.above) in
+      rw (sym e, f.same_breaks) (children_grown ts us (inserted (joined ts) at s) f.children g)
+
+  pub inner_after : IsNode (record { height = a.height; breaks = a.breaks; info = info; body = Inner us })
+  inner_after =
+      let e : breaks_of us ≡ a.breaks = breaks_of_is a.breaks (a.height - 1) us (omega (arith, below.at_least_two)) below.each in
+      record {
+        body = (omega (arith, f.above), below);
+        counted = counted ∙ ap (λ b. info_of b (joined us)) e;
+      }
+
+  pub inner_inserted : IsInserted t (tree_of (record { height = a.height; breaks = a.breaks; info = info; body = Inner us }) ∷ []) (inserted (text t) at s)
+  inner_inserted =
+      node_grown t ts us at s f.is f.children g (tree_of (record { height = a.height; breaks = a.breaks; info = info; body = Inner us }))
+      (tree_of_inner a.breaks a.height us (length us) (omega (arith, f.above)) below refl)
+
+-- a leaf whose text was changed
+module _ (a : Inside) (t : Tree) (l new : List ℕ) (at : ℕ) (s : List ℕ) (i : IsNode a) (e : a.body ≡ Leaf l) (view : tree_of a ≡ t) (some : 1 ≤ length s) (is : new ≡ inserted l at s)
+    (fits : byte_len new ≤ 984) (scalars : all_scalars new ≡ true) (info : TextInfo) (counted : info ≡ info_of a.breaks (inserted l at s)) where
+  old_body : IsBody a.breaks a.height (Leaf l)
+  old_body = subst (IsBody a.breaks a.height) e i.body
+
+  pub leaf_after : IsNode (record { height = a.height; breaks = a.breaks; info = info; body = Leaf new })
+  leaf_after = record {
+    body = (old_body.0, fits, scalars);
+    counted = counted ∙ ap (info_of a.breaks) (sym is ∙ sym (leaf_text new));
+  }
+
+  pub leaf_inserted : IsInserted t (tree_of (record { height = a.height; breaks = a.breaks; info = info; body = Leaf new }) ∷ []) (inserted (text t) at s)
+  leaf_inserted =
+      let low = old_body.0 in
+      let x = tree_of (record { height = a.height; breaks = a.breaks; info = info; body = Leaf new }) in
+      let x_is : x ≡ leaf_tree a.breaks new = rw low refl in
+      let same : tree_of a ≡ tree_of (record { height = a.height; breaks = a.breaks; info = a.info; body = Leaf l }) = ap (λ b. tree_of (record { height = a.height; breaks = a.breaks; info = a.info; body = b })) e in
+      let old : tree_of (record { height = a.height; breaks = a.breaks; info = a.info; body = Leaf l }) ≡ leaf_tree a.breaks l = rw low refl in
+      let t_is : t ≡ leaf_tree a.breaks l = sym view ∙ same ∙ old in
+      let text_is : text t ≡ l = ap text t_is ∙ leaf_text l in
+      let ins : IsInserted (leaf_tree a.breaks l) (x ∷ []) (inserted l at s) = one_inserted a.breaks l new (inserted l at s) x x_is (is_tree_of (record { height = a.height; breaks = a.breaks; info = info; body = Leaf new }) leaf_after) is (omega (arith, length-inserted l at s)) in
+      rw (text_is, t_is) ins
