@@ -23,6 +23,7 @@ fn a_byte_in_two_levels(rt: HostRuntime) -> Result<(), Fail> {
         (rope.len_bytes(), rope.chunks().count(), rope.depth()),
         (20_000, 21, 1)
     );
+    assert_eq!(rt; rope.capacity(), 20_664);
     let mut steps = Steps::new();
     let mut most = 0;
     for place in 0..rope.len_bytes() {

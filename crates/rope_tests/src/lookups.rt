@@ -21,6 +21,7 @@ fn empty_ropes(rt: HostRuntime) -> Result<(), Fail> {
         assert_eq!(rt; rope.len_lines(), 1);
         assert_eq!(rt; rope.len_utf16_cu(), 0);
         assert_eq!(rt; rope.depth(), 0);
+        assert_eq!(rt; rope.capacity(), 0);
         assert!(rt; rope.chunks().next().is_none());
         let Some((chunk, bytes, chars, breaks)) = rope.get_chunk_at_byte(0) else {
             return Err(Fail::from("the empty rope has no chunk at 0"));
