@@ -7,7 +7,7 @@ use Rattle.rope_text.specs.Breaks.{break_ends}
 use Rattle.rope_text.specs.Lines.{line_start, line_count, line}
 use Rattle.rope_text.specs.Conversions.{byte_to_char, utf16_to_char, char_to_line}
 use Rattle.rope_text.specs.Cutting.{clip}
-use Rattle.rope_text.specs.Lookup.{chunk_index_at_byte, chunk_index_at_line_break, found_chunk, chunk_place_at_line_break}
+use Rattle.rope_text.specs.Lookup.{chunk_index_at_byte, chunk_index_at_char, chunk_index_at_line_break, found_chunk, chunk_place_at_line_break}
 use Rattle.rope_text.specs.Edit.{char_range_error, byte_range_error}
 use Rattle.rope_text.specs.Compare.{text_cmp, blocks}
 use Rattle.rope_text.specs.Read.{text_rest}
@@ -120,3 +120,27 @@ block_sizes = refl
 
 block_sizes_even : map length (blocks (replicate 256 97)) ≡ 256 ∷ []
 block_sizes_even = refl
+
+-- "Hello ", "there ", "world!": the chunk of a character, and the characters before it
+abbrev words : List (List ℕ)
+words = (72 ∷ 101 ∷ 108 ∷ 108 ∷ 111 ∷ 32 ∷ []) ∷ (116 ∷ 104 ∷ 101 ∷ 114 ∷ 101 ∷ 32 ∷ []) ∷ (119 ∷ 111 ∷ 114 ∷ 108 ∷ 100 ∷ 33 ∷ []) ∷ []
+
+word_chunks : map (chunk_index_at_char words) (0 ∷ 5 ∷ 6 ∷ 11 ∷ 12 ∷ 17 ∷ 18 ∷ []) ≡ 0 ∷ 0 ∷ 1 ∷ 1 ∷ 2 ∷ 2 ∷ 2 ∷ []
+unfolding chunk_index_at_char
+word_chunks = refl
+
+chars_before : map (λ i. (found_chunk Unicode words (chunk_index_at_char words i)).chars) (0 ∷ 5 ∷ 6 ∷ 11 ∷ 12 ∷ 17 ∷ 18 ∷ []) ≡ 0 ∷ 0 ∷ 6 ∷ 6 ∷ 12 ∷ 12 ∷ 12 ∷ []
+unfolding found_chunk chunk_index_at_char
+chars_before = refl
+
+-- "Hello\n", "\nthere\n", "world!\n": the chunk of a line break, and the breaks before it
+abbrev lines_of_words : List (List ℕ)
+lines_of_words = (72 ∷ 101 ∷ 108 ∷ 108 ∷ 111 ∷ 10 ∷ []) ∷ (10 ∷ 116 ∷ 104 ∷ 101 ∷ 114 ∷ 101 ∷ 10 ∷ []) ∷ (119 ∷ 111 ∷ 114 ∷ 108 ∷ 100 ∷ 33 ∷ 10 ∷ []) ∷ []
+
+break_chunks : map (chunk_index_at_line_break Unicode lines_of_words) (0 ∷ 1 ∷ 2 ∷ 3 ∷ 4 ∷ []) ≡ 0 ∷ 0 ∷ 1 ∷ 1 ∷ 2 ∷ []
+unfolding chunk_index_at_line_break char_to_line break_ends
+break_chunks = refl
+
+line_breaks_before : map (λ k. (found_chunk Unicode lines_of_words (chunk_index_at_line_break Unicode lines_of_words k)).breaks) (0 ∷ 1 ∷ 2 ∷ 3 ∷ 4 ∷ []) ≡ 0 ∷ 0 ∷ 1 ∷ 1 ∷ 3 ∷ []
+unfolding found_chunk chunk_index_at_line_break char_to_line break_ends
+line_breaks_before = refl

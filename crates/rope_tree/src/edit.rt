@@ -1,5 +1,5 @@
 //! Edits of whole trees.
-ghost use Rattle.std.specs.Prelude.{◌≡◌, ◌+◌, ◌-◌, ◌*◌, ◌<◌, ◌≤◌, ◌^◌, ◌&&◌, true, false, length, drop, IfOk};
+ghost use Rattle.std.specs.Prelude.{◌≡◌, ◌+◌, ◌-◌, ◌*◌, ◌<◌, ◌≤◌, ◌^◌, ◌&&◌, true, false, length, drop, IfOk, OnOk, OnErr};
 ghost use Rattle.std.specs.Str.{chars};
 ghost use Rattle.rope_text.specs.Text.{byte_len};
 ghost use Rattle.rope_text.specs.Breaks.{begins_with_lf};
@@ -128,4 +128,31 @@ pub fn insert_text(
         rest = &rest[len..];
     }
     Ok(root)
+}
+
+/// Puts a text that isn't empty before the character `at`: a short one where the nodes stand, if nothing on the way is
+/// shared and the leaf has room, which takes no memory; any other in a tree that takes the old one's place last of all.
+pub fn insert_at(
+    alloc: Global,
+    root: &mut Rc<Node>,
+    at: usize,
+    added: &str,
+    made: &mut u64,
+) -> Result<(), AllocError>
+    requires within { at ≤ length (text root.old.value) }
+    requires some { 1 ≤ length added.now }
+    requires fits { byte_len (text root.old.value) + length added.now < 2 ^ 63 }
+    ensures text { OnOk result (text root.new.value ≡ inserted (text root.old.value) at (chars added.now)) }
+    ensures breaks { root.new.value.breaks ≡ root.old.value.breaks }
+    ensures tree { IsTree root.new.value }
+    ensures err { OnErr result (root.new ≡ root.old) }
+{
+    let _ = root.height();
+    if added.len() <= PIECE_BYTES && insert_in_place(root, at, &NodeText::from_str(added)) {
+        return Ok(());
+    }
+    let new = insert_text(alloc, root, at, added, made)?;
+    let _ = new.height();
+    *root = new;
+    Ok(())
 }

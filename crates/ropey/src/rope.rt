@@ -13,7 +13,7 @@ ghost use Rattle.ropey.specs.View.{IsRope, HasFewChunks};
 use crate::iter::Chunks;
 use rope_text::{Error, LineBreaks, MAX_BYTES, Result};
 use rope_tree::build::build;
-use rope_tree::edit::insert_text;
+use rope_tree::edit::insert_at;
 use rope_tree::lookup::leaf_count;
 use rope_tree::node::Node;
 use std::alloc::Global;
@@ -221,9 +221,7 @@ impl Rope {
         ensures breaks { self.new.breaks ≡ self.old.breaks }
         ensures kept { IsRope self.new }
     {
-        let root = insert_text(self.alloc, &self.root, char_idx, text, &mut 0)?;
-        let _ = root.height();
-        self.root = root;
+        insert_at(self.alloc, &mut self.root, char_idx, text, &mut 0)?;
         Ok(())
     }
 
