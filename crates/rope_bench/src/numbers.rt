@@ -1,5 +1,5 @@
 //! Numbers that look random, and sums of what was read.
-ghost use Rattle.std.specs.Prelude.{◌≤◌};
+ghost use Rattle.std.specs.Prelude.{◌≡◌, ◌≤◌, ◌+◌, ◌%◌};
 
 /// A row of numbers by a xorshift of 64 bits: the same row each time.
 #[derive(Drop)]
@@ -16,7 +16,9 @@ impl Numbers {
     }
 
     // The next number of the row.
-    fn take(&mut self) -> u64 {
+    fn take(&mut self) -> u64
+        ensures { result ≡ self.new.state }
+    {
         let mut x = self.state;
         x ^= x << 13;
         x ^= x >> 7;
@@ -27,7 +29,8 @@ impl Numbers {
 
     /// The next number, brought into the range from 0 to `most` by its remainder.
     pub fn up_to(&mut self, most: usize) -> usize
-        ensures { result ≤ most }
+        ensures within { result ≤ most }
+        ensures drawn { result ≡ self.new.state % (most + 1) }
     {
         let number = self.take() as usize;
         match most.checked_add(1) {
