@@ -1,13 +1,14 @@
 -- The breaks that begin in a part of the bytes, place by place.
-use Rattle.std.proofs.Common.{◌≡◌, ℕ, zero, suc, ◌+◌, ◌<◌, ◌≤◌, Bool, true, false, cond, List, [], ◌∷◌, length, take, drop, get_or, count_by, refl, sym, ap, ◌∙◌, arith, ◌&&◌, ◌||◌}
+use Rattle.std.proofs.Common.{◌≡◌, ℕ, zero, suc, ◌+◌, ◌<◌, ◌≤◌, Bool, true, false, cond, List, [], ◌∷◌, length, take, drop, get_or, count_by, refl, sym, ap, ◌∙◌, arith, take-append-drop, ◌&&◌, ◌||◌}
 use Rattle.std.specs.List.{range_with_len}
 use Rattle.std.proofs.lemmas.Bool.{both_ways}
 use Rattle.std.proofs.lemmas.List.{at_drop_more, get_or-drop}
 use Rattle.std.proofs.lemmas.List.Sums.{sum_by-cons, sum_by-append, count_by-le-length}
 use Rattle.std.proofs.lemmas.Simd.{chunk-drop}
 use Rattle.rope_text.specs.declared.line_breaks.LineBreaks.{LineBreaks}
-use Rattle.rope_text.specs.Bytes.{begins_char}
+use Rattle.rope_text.specs.Bytes.{begins_char, begins_pair}
 use Rattle.rope_text.specs.ByteBreaks.{break_at, byte_breaks}
+use Rattle.rope_text.proofs.BitLaws.{one_at_most}
 
 -- whether a break begins at the byte k
 abbrev pub breaks_at : LineBreaks → List ℕ → ℕ → Bool
@@ -31,10 +32,6 @@ byte_breaks-block b xs i (suc n) h =
       ap (λ j. byte_breaks b (drop j xs)) (let e : i + suc n ≡ (i + 1) + n = omega arith in e),
     )
 
-one_at_most : (t : Bool) → cond t 1 0 ≤ 1
-one_at_most true = omega arith
-one_at_most false = omega arith
-
 pub byte_breaks_le : (b : LineBreaks) (xs : List ℕ) → byte_breaks b xs ≤ length xs
 byte_breaks_le b [] = omega arith
 byte_breaks_le b (x ∷ xs) = omega (arith, byte_breaks_le b xs, one_at_most (break_at b x (get_or xs 0 0) (get_or xs 1 0)))
@@ -42,8 +39,17 @@ byte_breaks_le b (x ∷ xs) = omega (arith, byte_breaks_le b xs, one_at_most (br
 pub begins_le : (xs : List ℕ) → count_by begins_char xs ≤ length xs
 begins_le xs = count_by-le-length begins_char xs
 
+pub pairs_le : (xs : List ℕ) → count_by begins_pair xs ≤ length xs
+pairs_le xs = count_by-le-length begins_pair xs
+
 pub count_by-block : (p : ℕ → Bool) (xs : List ℕ) (i n : ℕ) → count_by p (drop i xs) ≡ count_by p (take n (drop i xs)) + count_by p (drop (i + n) xs)
 count_by-block p xs i n = ap (count_by p) (chunk-drop i n xs) ∙ sum_by-append (λ x. cond (p x) 1 0) (take n (drop i xs)) (drop (i + n) xs)
+
+pub count_by-front : (p : ℕ → Bool) (xs : List ℕ) (n : ℕ) → count_by p xs ≡ count_by p (take n xs) + count_by p (drop n xs)
+count_by-front p xs n = ap (count_by p) (sym (take-append-drop n xs)) ∙ sum_by-append (λ x. cond (p x) 1 0) (take n xs) (drop n xs)
+
+pub count_by-drop : (p : ℕ → Bool) (xs : List ℕ) (i : ℕ) → i < length xs → count_by p (drop i xs) ≡ cond (p (get_or xs i 0)) 1 0 + count_by p (drop (i + 1) xs)
+count_by-drop p xs i h = at_drop_more (count_by p) xs i 0 h ∙ sum_by-cons (λ x. cond (p x) 1 0) (get_or xs i 0) (drop (i + 1) xs)
 
 -- tests that agree where a third one, which holds nowhere, doesn't
 pub count_by-unless : (p q r : ℕ → Bool) (ks : List ℕ) → ((k : ℕ) → p k ≡ false → q k ≡ r k) → count_by p ks ≡ 0 → count_by q ks ≡ count_by r ks

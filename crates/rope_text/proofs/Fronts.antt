@@ -46,6 +46,22 @@ begins_before bs k u few = ap (count_by begins_char) (take-bytes bs k u) ∙ len
 pub pairs_before : (bs : List ℕ) (k : ℕ) → IsUtf8 bs → count_by begins_pair (take (byte_len (take k (chars bs))) bs) ≡ surrogate_count (take k (chars bs))
 pairs_before bs k u = ap (count_by begins_pair) (take-bytes bs k u) ∙ pairs-from_bytes (take k (chars bs))
 
+-- the first characters that take all bytes are all characters, and fewer are not
+pub whole_front : (bs : List ℕ) (k : ℕ) → IsUtf8 bs → byte_len (take k (chars bs)) ≡ length bs → take k (chars bs) ≡ chars bs
+whole_front bs k u place =
+    let cs : List ℕ = chars bs in
+    elim (cases_lt k (length cs)) [
+      | inl less ↦ absurd (omega (arith, size_lt byte_len IsMeasure-byte_len cs k (length cs) less (omega arith), ap byte_len (take_all (length cs) cs (omega arith)), byte_len-chars bs u, place))
+      | inr past ↦ take_all k cs past
+    ]
+
+pub part_front : (bs : List ℕ) (k : ℕ) → IsUtf8 bs → (byte_len (take k (chars bs)) ≡ length bs → ⊥) → k < length (chars bs)
+part_front bs k u part =
+    elim (cases_lt k (length (chars bs))) [
+      | inl less ↦ less
+      | inr past ↦ absurd (part (ap byte_len (take_all k (chars bs) past) ∙ byte_len-chars bs u))
+    ]
+
 begins_from : (bs : List ℕ) (k : ℕ) → IsUtf8 bs → count_by begins_char (drop (byte_len (take k (chars bs))) bs) ≡ length (drop k (chars bs))
 begins_from bs k u = ap (count_by begins_char) (drop-bytes bs k u) ∙ length-from_bytes (drop k (chars bs))
 

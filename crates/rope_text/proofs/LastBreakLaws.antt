@@ -18,7 +18,7 @@ use Rattle.rope_text.proofs.Encoded.Encoded.{one, two, three, four}
 use Rattle.rope_text.proofs.FirstBytes.{first_scalar, rest_scalars, starts_same}
 use Rattle.rope_text.proofs.Fronts.{front_at, first_after}
 use Rattle.rope_text.proofs.Measures.{size_lt, IsMeasure-byte_len}
-use Rattle.rope_text.proofs.TextParts.{take-bytes, drop-bytes, all_scalars-take, all_scalars-drop, byte_len_boundary}
+use Rattle.rope_text.proofs.TextParts.{take-bytes, drop-bytes, all_scalars-take, all_scalars-drop, byte_len_boundary, some_cr}
 use Rattle.rope_text.proofs.Walks.{byte_len-chars}
 
 -- the last place before the end where a character begins has all characters but one before it
@@ -118,10 +118,6 @@ both_true true true e = (refl, refl)
 both_true true false e = absurd (grind (arith, nat_tests))
 both_true false y e = absurd (grind (arith, nat_tests))
 
-some_front : (cs : List ℕ) → ends_in_cr cs ≡ true → 0 < length cs
-some_front [] e = absurd (grind (arith, nat_tests))
-some_front (c ∷ cs) e = omega arith
-
 pub crlf_break : (set : LineBreaks) (bs : List ℕ) (p k : ℕ) → IsUtf8 bs → length (chars bs) ≡ suc k → byte_len (take k (chars bs)) ≡ p
     → ends_in_break set (chars bs) ≡ true → (is_break_char set 13 && ends_in_crlf (chars bs)) ≡ true → p - 1 ≡ byte_len (without_break set (chars bs))
 crlf_break set bs p k u long place ends pair =
@@ -130,7 +126,7 @@ crlf_break set bs p k u long place ends pair =
     let same : length cs - 1 ≡ k = omega (arith, long) in
     let cr : ends_in_cr (take k cs) ≡ true = ap (λ j. ends_in_cr (take j cs)) (sym same) ∙ (both_true (ends_in_cr (take (length cs - 1) cs)) (eqb (get_or cs (length cs - 1) 0) 10) crlf).0 in
     let size = length-take-le k cs (omega (arith, long)) in
-    let some = some_front (take k cs) cr in
+    let some = some_cr (take k cs) cr in
     let step : suc (k - 1) ≡ k = omega arith in
     let last : get_or cs (k - 1) 0 ≡ 13 = sym (get_or-take k cs (k - 1) 0 (omega arith)) ∙ front_and_cr (take k cs) (k - 1) (omega arith) cr in
     let here : k - 1 < length cs = omega (arith, long) in

@@ -26,6 +26,8 @@ pub mod Nearest
 pub mod CutFacts
 pub mod Apart
 pub mod ByteBreakLaws
+pub mod BitLaws
+pub mod UnicodeLanes
 pub mod Blocks
 pub mod Marks
 pub mod InfoLaws

@@ -1,4 +1,5 @@
 pub mod Text
+pub mod Bits
 pub mod Breaks
 pub mod Lines
 pub mod Conversions

@@ -1,85 +1,131 @@
 //! Counts over the bytes of a text, 32 bytes at once.
-ghost use Rattle.std.specs.Prelude.{◌≡◌, ◌+◌, ◌<◌, ◌≤◌, length, count_by, drop, slice_index};
+ghost use Rattle.std.specs.Prelude.{◌≡◌, ◌+◌, ◌<◌, ◌≤◌, length, count_by, drop, slice_index, ℕ};
+ghost use Rattle.rope_text.specs.Bits.{ones_below};
 ghost use Rattle.rope_text.specs.Bytes.{begins_char, begins_pair};
 ghost use Rattle.rope_text.specs.ByteBreaks.{break_at, byte_breaks, unit_count};
 
+use crate::bits::ones_before;
 use crate::line_breaks::LineBreaks;
 use std::simd::prelude::*;
 
-// How many of the 32 bytes from `at` on begin a character.
+// The bytes, of the 32 from `at` on, that begin a character.
 #[inline(always)]
-pub(crate) fn chars_in(bytes: &[u8], at: usize) -> u32
+pub(crate) fn char_mask(bytes: &[u8], at: usize) -> u64
     requires { at + 32 ≤ length bytes.now }
-    ensures { count_by begins_char (drop at bytes.now) ≡ result + count_by begins_char (drop (at + 32) bytes.now) }
+    ensures { (n : ℕ) → n ≤ 32 → count_by begins_char (drop at bytes.now) ≡ ones_below result n + count_by begins_char (drop (at + n) bytes.now) }
 {
     let lanes = u8x32::from_slice(&bytes[at..]);
-    (lanes.simd_lt(u8x32::splat(0x80)) | lanes.simd_ge(u8x32::splat(0xC0)))
-        .to_bitmask()
-        .count_ones()
+    (lanes.simd_lt(u8x32::splat(0x80)) | lanes.simd_ge(u8x32::splat(0xC0))).to_bitmask()
 }
 
-// How many of the 32 bytes from `at` on begin a character of two code units.
+// The bytes, of the 32 from `at` on, that begin a character of two code units.
 #[inline(always)]
-pub(crate) fn pairs_in(bytes: &[u8], at: usize) -> u32
+pub(crate) fn pair_mask(bytes: &[u8], at: usize) -> u64
     requires { at + 32 ≤ length bytes.now }
-    ensures { count_by begins_pair (drop at bytes.now) ≡ result + count_by begins_pair (drop (at + 32) bytes.now) }
+    ensures { (n : ℕ) → n ≤ 32 → count_by begins_pair (drop at bytes.now) ≡ ones_below result n + count_by begins_pair (drop (at + n) bytes.now) }
 {
     let lanes = u8x32::from_slice(&bytes[at..]);
-    lanes.simd_ge(u8x32::splat(0xF0)).to_bitmask().count_ones()
+    lanes.simd_ge(u8x32::splat(0xF0)).to_bitmask()
 }
 
 #[inline(always)]
-fn lf_breaks_in(bytes: &[u8], at: usize) -> u32
+fn lf_mask(bytes: &[u8], at: usize) -> u64
     requires { at + 34 ≤ length bytes.now }
-    ensures { byte_breaks LineBreaks.Lf (drop at bytes.now) ≡ result + byte_breaks LineBreaks.Lf (drop (at + 32) bytes.now) }
+    ensures { (n : ℕ) → n ≤ 32 → byte_breaks LineBreaks.Lf (drop at bytes.now) ≡ ones_below result n + byte_breaks LineBreaks.Lf (drop (at + n) bytes.now) }
 {
     let x = u8x32::from_slice(&bytes[at..]);
-    x.simd_eq(u8x32::splat(b'\n')).to_bitmask().count_ones()
+    x.simd_eq(u8x32::splat(b'\n')).to_bitmask()
 }
 
 #[inline(always)]
-fn cr_lf_breaks_in(bytes: &[u8], at: usize) -> u32
+fn cr_lf_mask(bytes: &[u8], at: usize) -> u64
     requires { at + 34 ≤ length bytes.now }
-    ensures { byte_breaks LineBreaks.CrLf (drop at bytes.now) ≡ result + byte_breaks LineBreaks.CrLf (drop (at + 32) bytes.now) }
+    ensures { (n : ℕ) → n ≤ 32 → byte_breaks LineBreaks.CrLf (drop at bytes.now) ≡ ones_below result n + byte_breaks LineBreaks.CrLf (drop (at + n) bytes.now) }
 {
     let x = u8x32::from_slice(&bytes[at..]);
     let y = u8x32::from_slice(&bytes[at + 1..]);
     let lone_cr = x.simd_eq(u8x32::splat(b'\r')) & y.simd_ne(u8x32::splat(b'\n'));
-    (x.simd_eq(u8x32::splat(b'\n')) | lone_cr)
-        .to_bitmask()
-        .count_ones()
+    (x.simd_eq(u8x32::splat(b'\n')) | lone_cr).to_bitmask()
 }
 
 #[inline(always)]
-fn unicode_breaks_in(bytes: &[u8], at: usize) -> u32
+fn unicode_mask(bytes: &[u8], at: usize) -> u64
+    requires { at + 34 ≤ length bytes.now }
+    ensures { (n : ℕ) → n ≤ 32 → byte_breaks LineBreaks.Unicode (drop at bytes.now) ≡ ones_below result n + byte_breaks LineBreaks.Unicode (drop (at + n) bytes.now) }
+{
+    let x = u8x32::from_slice(&bytes[at..]);
+    let y = u8x32::from_slice(&bytes[at + 1..]);
+    let z = u8x32::from_slice(&bytes[at + 2..]);
+    // From 10 to 13, but only to 12 before LF.
+    let most = y
+        .simd_eq(u8x32::splat(b'\n'))
+        .select(u8x32::splat(2), u8x32::splat(3));
+    let low = (x - u8x32::splat(10)).simd_le(most);
+    let nel = x.simd_eq(u8x32::splat(0xC2)) & y.simd_eq(u8x32::splat(0x85));
+    let separator = z.simd_eq(u8x32::splat(0xA8)) | z.simd_eq(u8x32::splat(0xA9));
+    let wide = x.simd_eq(u8x32::splat(0xE2)) & (y.simd_eq(u8x32::splat(0x80)) & separator);
+    (low | (nel | wide)).to_bitmask()
+}
+
+// The bytes, of the 32 from `at` on, at which a break begins: loads one and two bytes on see across the end of the block.
+#[inline(always)]
+pub(crate) fn break_mask(bytes: &[u8], at: usize, set: LineBreaks) -> u64
+    requires { at + 34 ≤ length bytes.now }
+    ensures { (n : ℕ) → n ≤ 32 → byte_breaks set (drop at bytes.now) ≡ ones_below result n + byte_breaks set (drop (at + n) bytes.now) }
+{
+    match set {
+        LineBreaks::Lf => lf_mask(bytes, at),
+        LineBreaks::CrLf => cr_lf_mask(bytes, at),
+        LineBreaks::Unicode => unicode_mask(bytes, at),
+    }
+}
+
+// How many of the 32 bytes from `at` on begin a character.
+#[inline(always)]
+pub(crate) fn chars_in(bytes: &[u8], at: usize) -> usize
+    requires { at + 32 ≤ length bytes.now }
+    ensures { count_by begins_char (drop at bytes.now) ≡ result + count_by begins_char (drop (at + 32) bytes.now) }
+{
+    ones_before(char_mask(bytes, at), 32)
+}
+
+// How many of the 32 bytes from `at` on begin a character of two code units.
+#[inline(always)]
+pub(crate) fn pairs_in(bytes: &[u8], at: usize) -> usize
+    requires { at + 32 ≤ length bytes.now }
+    ensures { count_by begins_pair (drop at bytes.now) ≡ result + count_by begins_pair (drop (at + 32) bytes.now) }
+{
+    ones_before(pair_mask(bytes, at), 32)
+}
+
+#[inline(always)]
+fn unicode_breaks_in(bytes: &[u8], at: usize) -> usize
     requires { at + 34 ≤ length bytes.now }
     ensures { byte_breaks LineBreaks.Unicode (drop at bytes.now) ≡ result + byte_breaks LineBreaks.Unicode (drop (at + 32) bytes.now) }
 {
     let x = u8x32::from_slice(&bytes[at..]);
     let y = u8x32::from_slice(&bytes[at + 1..]);
-    let low = x.simd_ge(u8x32::splat(10)) & x.simd_le(u8x32::splat(12));
-    let lone_cr = x.simd_eq(u8x32::splat(b'\r')) & y.simd_ne(u8x32::splat(b'\n'));
-    // Most blocks have no byte that begins NEL, LS or PS.
-    let wide_begin = x.simd_eq(u8x32::splat(0xC2)) | x.simd_eq(u8x32::splat(0xE2));
-    if wide_begin.to_bitmask() == 0 {
-        return (low | lone_cr).to_bitmask().count_ones();
+    // Most blocks have none of the bytes C2 and E2, which begin NEL, LS and PS.
+    let wide_begin = (x & u8x32::splat(0xDF)).simd_eq(u8x32::splat(0xC2));
+    if wide_begin.to_bitmask() != 0 {
+        return ones_before(unicode_mask(bytes, at), 32);
     }
-    let z = u8x32::from_slice(&bytes[at + 2..]);
-    let nel = x.simd_eq(u8x32::splat(0xC2)) & y.simd_eq(u8x32::splat(0x85));
-    let separator = z.simd_eq(u8x32::splat(0xA8)) | z.simd_eq(u8x32::splat(0xA9));
-    let wide = x.simd_eq(u8x32::splat(0xE2)) & (y.simd_eq(u8x32::splat(0x80)) & separator);
-    ((low | lone_cr) | (nel | wide)).to_bitmask().count_ones()
+    let most = y
+        .simd_eq(u8x32::splat(b'\n'))
+        .select(u8x32::splat(2), u8x32::splat(3));
+    let low = (x - u8x32::splat(10)).simd_le(most);
+    ones_before(low.to_bitmask(), 32)
 }
 
-// How many breaks begin in the 32 bytes from `at` on: loads one and two bytes on see across the end of the block.
+// How many breaks begin in the 32 bytes from `at` on.
 #[inline(always)]
-pub(crate) fn breaks_in(bytes: &[u8], at: usize, set: LineBreaks) -> u32
+pub(crate) fn breaks_in(bytes: &[u8], at: usize, set: LineBreaks) -> usize
     requires { at + 34 ≤ length bytes.now }
     ensures { byte_breaks set (drop at bytes.now) ≡ result + byte_breaks set (drop (at + 32) bytes.now) }
 {
     match set {
-        LineBreaks::Lf => lf_breaks_in(bytes, at),
-        LineBreaks::CrLf => cr_lf_breaks_in(bytes, at),
+        LineBreaks::Lf => ones_before(lf_mask(bytes, at), 32),
+        LineBreaks::CrLf => ones_before(cr_lf_mask(bytes, at), 32),
         LineBreaks::Unicode => unicode_breaks_in(bytes, at),
     }
 }
@@ -124,7 +170,7 @@ pub(crate) fn is_break_begin(bytes: &[u8], at: usize, set: LineBreaks) -> bool
 }
 
 // The breaks that begin from `from` on and before `to`, a byte at a time.
-fn breaks_between(bytes: &[u8], from: usize, to: usize, set: LineBreaks) -> usize
+fn breaks_byte_by_byte(bytes: &[u8], from: usize, to: usize, set: LineBreaks) -> usize
     requires from { from ≤ to }
     requires to { to ≤ length bytes.now }
     ensures { byte_breaks set (drop from bytes.now) ≡ result + byte_breaks set (drop to bytes.now) }
@@ -138,34 +184,99 @@ fn breaks_between(bytes: &[u8], from: usize, to: usize, set: LineBreaks) -> usiz
     total
 }
 
+// The breaks that begin from `from` on and before `to`, at once where both lie in one block.
+#[inline(always)]
+fn breaks_between(bytes: &[u8], from: usize, to: usize, set: LineBreaks) -> usize
+    requires from { from ≤ to }
+    requires to { to ≤ length bytes.now }
+    ensures { byte_breaks set (drop from bytes.now) ≡ result + byte_breaks set (drop to bytes.now) }
+{
+    if to - from <= 32 && bytes.len() - from >= 34 {
+        return ones_before(break_mask(bytes, from, set), to - from);
+    }
+    breaks_byte_by_byte(bytes, from, to, set)
+}
+
+fn begins_byte_by_byte(bytes: &[u8]) -> usize
+    ensures { result ≡ count_by begins_char bytes.now }
+{
+    bytes.iter().filter(|b| **b < 0x80 || **b >= 0xC0).count()
+}
+
+/// How many characters begin from the byte `from` on and before `to`.
+#[inline(always)]
+pub(crate) fn begins_between(bytes: &[u8], from: usize, to: usize) -> usize
+    requires from { from ≤ to }
+    requires to { to ≤ length bytes.now }
+    ensures { count_by begins_char (drop from bytes.now) ≡ result + count_by begins_char (drop to bytes.now) }
+{
+    if to - from <= 32 && bytes.len() - from >= 32 {
+        return ones_before(char_mask(bytes, from), to - from);
+    }
+    begins_byte_by_byte(&bytes[from..to])
+}
+
+fn pairs_byte_by_byte(bytes: &[u8]) -> usize
+    ensures { result ≡ count_by begins_pair bytes.now }
+{
+    bytes.iter().filter(|b| **b >= 0xF0).count()
+}
+
+// How many characters of two code units begin from the byte `from` on and before `to`.
+#[inline(always)]
+fn pairs_between(bytes: &[u8], from: usize, to: usize) -> usize
+    requires from { from ≤ to }
+    requires to { to ≤ length bytes.now }
+    ensures { count_by begins_pair (drop from bytes.now) ≡ result + count_by begins_pair (drop to bytes.now) }
+{
+    if to - from <= 32 && bytes.len() - from >= 32 {
+        return ones_before(pair_mask(bytes, from), to - from);
+    }
+    pairs_byte_by_byte(&bytes[from..to])
+}
+
+/// How many characters begin before the byte `to`.
+#[tactic(auto, using(crate::proofs::Blocks::begins_le))]
+pub(crate) fn count_begins_before(bytes: &[u8], to: usize) -> usize
+    requires { to ≤ length bytes.now }
+    ensures { count_by begins_char bytes.now ≡ result + count_by begins_char (drop to bytes.now) }
+{
+    let mut total = 0;
+    let mut i = 0;
+    while to - i >= 32 {
+        total += chars_in(bytes, i);
+        i += 32;
+    }
+    total + begins_between(bytes, i, to)
+}
+
 /// How many of the bytes begin a character.
 pub(crate) fn count_begins(bytes: &[u8]) -> usize
     ensures { result ≡ count_by begins_char bytes.now }
 {
+    count_begins_before(bytes, bytes.len())
+}
+
+/// How many characters of two code units begin before the byte `to`.
+#[tactic(auto, using(crate::proofs::Blocks::pairs_le))]
+pub(crate) fn count_pairs_before(bytes: &[u8], to: usize) -> usize
+    requires { to ≤ length bytes.now }
+    ensures { count_by begins_pair bytes.now ≡ result + count_by begins_pair (drop to bytes.now) }
+{
     let mut total = 0;
     let mut i = 0;
-    while bytes.len() - i >= 32 {
-        total += chars_in(bytes, i) as usize;
+    while to - i >= 32 {
+        total += pairs_in(bytes, i);
         i += 32;
     }
-    total
-        + bytes[i..]
-            .iter()
-            .filter(|b| **b < 0x80 || **b >= 0xC0)
-            .count()
+    total + pairs_between(bytes, i, to)
 }
 
 /// How many of the bytes begin a character of two code units.
 pub(crate) fn count_pairs(bytes: &[u8]) -> usize
     ensures { result ≡ count_by begins_pair bytes.now }
 {
-    let mut total = 0;
-    let mut i = 0;
-    while bytes.len() - i >= 32 {
-        total += pairs_in(bytes, i) as usize;
-        i += 32;
-    }
-    total + bytes[i..].iter().filter(|b| **b >= 0xF0).count()
+    count_pairs_before(bytes, bytes.len())
 }
 
 /// How many code units the bytes take in UTF-16.
@@ -175,7 +286,7 @@ pub(crate) fn count_units(bytes: &[u8]) -> usize
     let mut total = 0;
     let mut i = 0;
     while bytes.len() - i >= 32 {
-        total += chars_in(bytes, i) as usize + pairs_in(bytes, i) as usize;
+        total += chars_in(bytes, i) + pairs_in(bytes, i);
         i += 32;
     }
     let rest = &bytes[i..];
@@ -188,10 +299,12 @@ pub(crate) fn count_breaks_before(bytes: &[u8], to: usize, set: LineBreaks) -> u
     requires { to ≤ length bytes.now }
     ensures { byte_breaks set bytes.now ≡ result + byte_breaks set (drop to bytes.now) }
 {
+    // A block is read two bytes past its end.
+    let end = to.min(bytes.len().saturating_sub(2));
     let mut total = 0;
     let mut i = 0;
-    while to - i >= 32 && bytes.len() - i >= 34 {
-        total += breaks_in(bytes, i, set) as usize;
+    while end - i >= 32 {
+        total += breaks_in(bytes, i, set);
         i += 32;
     }
     total + breaks_between(bytes, i, to, set)

@@ -2,6 +2,7 @@
 //! index ranges and errors; and the definitions that the contracts of every crate cite.
 #![tactic(auto)]
 
+mod bits;
 pub mod crlf;
 pub mod error;
 mod lanes;

@@ -1,29 +1,15 @@
 //! Searches for places in the bytes of a text: whole blocks of 32 bytes are counted until the one that holds
-//! the place, and that one is gone through byte by byte. A place that isn't there is the end.
+//! the place, and that one is halved. What is left behind the last block is gone through byte by byte.
+//! A place that isn't there is the end.
 ghost use Rattle.std.specs.Prelude.{◌≡◌, ◌+◌, ◌<◌, ◌≤◌, length, count_by, drop, slice_index, IsTrue};
 ghost use Rattle.rope_text.specs.Bytes.{begins_char, begins_pair};
 ghost use Rattle.rope_text.specs.ByteBreaks.{break_at, byte_breaks, unit_count};
 
-use crate::lanes::{breaks_in, chars_in, count_begins, is_break_begin, pairs_in};
+use crate::bits::{ones_before, place_of_mark};
+use crate::lanes::{
+    begins_between, break_mask, breaks_in, char_mask, chars_in, is_break_begin, pair_mask,
+};
 use crate::line_breaks::LineBreaks;
-
-// The blocks before the character `n`: their end, and which character it is from there on.
-fn skip_chars(bytes: &[u8], n: usize) -> (usize, usize)
-    ensures bound { result.0 ≤ length bytes.now }
-    ensures counted { count_by begins_char bytes.now + result.1 ≡ n + count_by begins_char (drop result.0 bytes.now) }
-{
-    let mut at = 0;
-    let mut left = n;
-    while bytes.len() - at >= 32 {
-        let passed = chars_in(bytes, at) as usize;
-        if left < passed {
-            return (at, left);
-        }
-        left -= passed;
-        at += 32;
-    }
-    (at, left)
-}
 
 fn find_char(bytes: &[u8], from: usize, n: usize) -> usize
     requires { from ≤ length bytes.now }
@@ -54,30 +40,23 @@ pub(crate) fn place_of_char(bytes: &[u8], n: usize) -> usize
         × IsTrue (begins_char (slice_index bytes.now result)) }
     ensures end { result ≡ length bytes.now → count_by begins_char bytes.now ≤ n }
 {
-    let (at, left) = skip_chars(bytes, n);
-    find_char(bytes, at, left)
-}
-
-// The blocks before the code unit `n`: their end, and which code unit it is from there on.
-fn skip_units(bytes: &[u8], n: usize) -> (usize, usize)
-    ensures bound { result.0 ≤ length bytes.now }
-    ensures counted { unit_count bytes.now + result.1 ≡ n + unit_count (drop result.0 bytes.now) }
-{
     let mut at = 0;
     let mut left = n;
     while bytes.len() - at >= 32 {
-        let passed = chars_in(bytes, at) as usize + pairs_in(bytes, at) as usize;
+        let mask = char_mask(bytes, at);
+        let passed = ones_before(mask, 32);
         if left < passed {
-            return (at, left);
+            return at + place_of_mark(mask, 0, left);
         }
         left -= passed;
         at += 32;
     }
-    (at, left)
+    find_char(bytes, at, left)
 }
 
 fn find_unit(bytes: &[u8], from: usize, n: usize) -> usize
     requires { from ≤ length bytes.now }
+    ensures from { from ≤ result }
     ensures bound { result ≤ length bytes.now }
     ensures begins { result < length bytes.now → IsTrue (begins_char (slice_index bytes.now result)) }
     ensures before { unit_count (drop from bytes.now) ≤ n + unit_count (drop result bytes.now) }
@@ -97,15 +76,33 @@ fn find_unit(bytes: &[u8], from: usize, n: usize) -> usize
     bytes.len()
 }
 
-/// The byte at which the character begins that holds the code unit `n`.
-pub(crate) fn place_of_unit(bytes: &[u8], n: usize) -> usize
-    ensures bound { result ≤ length bytes.now }
-    ensures begins { result < length bytes.now → IsTrue (begins_char (slice_index bytes.now result)) }
-    ensures before { unit_count bytes.now ≤ n + unit_count (drop result bytes.now) }
-    ensures after { result < length bytes.now → n + unit_count (drop (result + 1) bytes.now) < unit_count bytes.now }
+/// The byte at which the character begins that holds the code unit `n`, and how many characters begin before it.
+#[tactic(auto, using(crate::proofs::Blocks::begins_le))]
+pub(crate) fn place_of_unit(bytes: &[u8], n: usize) -> (usize, usize)
+    ensures bound { result.0 ≤ length bytes.now }
+    ensures begins { result.0 < length bytes.now → IsTrue (begins_char (slice_index bytes.now result.0)) }
+    ensures before { unit_count bytes.now ≤ n + unit_count (drop result.0 bytes.now) }
+    ensures after { result.0 < length bytes.now → n + unit_count (drop (result.0 + 1) bytes.now) < unit_count bytes.now }
+    ensures chars { count_by begins_char bytes.now ≡ result.1 + count_by begins_char (drop result.0 bytes.now) }
 {
-    let (at, left) = skip_units(bytes, n);
-    find_unit(bytes, at, left)
+    let mut at = 0;
+    let mut left = n;
+    let mut chars = 0;
+    while bytes.len() - at >= 32 {
+        let begins = char_mask(bytes, at);
+        let pairs = pair_mask(bytes, at);
+        let begun = ones_before(begins, 32);
+        let passed = begun + ones_before(pairs, 32);
+        if left < passed {
+            let front = place_of_mark(begins, pairs, left);
+            return (at + front, chars + ones_before(begins, front));
+        }
+        left -= passed;
+        chars += begun;
+        at += 32;
+    }
+    let to = find_unit(bytes, at, left);
+    (to, chars + begins_between(bytes, at, to))
 }
 
 // The blocks before the break `n`: their end, and which break it is from there on.
@@ -116,7 +113,7 @@ fn skip_breaks(bytes: &[u8], n: usize, set: LineBreaks) -> (usize, usize)
     let mut at = 0;
     let mut left = n;
     while bytes.len() - at >= 34 {
-        let passed = breaks_in(bytes, at, set) as usize;
+        let passed = breaks_in(bytes, at, set);
         if left < passed {
             return (at, left);
         }
@@ -126,7 +123,8 @@ fn skip_breaks(bytes: &[u8], n: usize, set: LineBreaks) -> (usize, usize)
     (at, left)
 }
 
-fn find_break(bytes: &[u8], from: usize, n: usize, set: LineBreaks) -> usize
+// A byte at a time.
+fn find_break_byte_by_byte(bytes: &[u8], from: usize, n: usize, set: LineBreaks) -> usize
     requires { from ≤ length bytes.now }
     ensures from { from ≤ result }
     ensures bound { result ≤ length bytes.now }
@@ -145,6 +143,25 @@ fn find_break(bytes: &[u8], from: usize, n: usize, set: LineBreaks) -> usize
         }
     }
     bytes.len()
+}
+
+#[inline(always)]
+fn find_break(bytes: &[u8], from: usize, n: usize, set: LineBreaks) -> usize
+    requires { from ≤ length bytes.now }
+    ensures from { from ≤ result }
+    ensures bound { result ≤ length bytes.now }
+    ensures inside { result < length bytes.now
+        → (byte_breaks set (drop from bytes.now) ≡ n + byte_breaks set (drop result bytes.now))
+        × IsTrue (break_at set (slice_index bytes.now result) (slice_index bytes.now (result + 1)) (slice_index bytes.now (result + 2))) }
+    ensures end { result ≡ length bytes.now → byte_breaks set (drop from bytes.now) ≤ n }
+{
+    if bytes.len() - from >= 34 {
+        let mask = break_mask(bytes, from, set);
+        if n < ones_before(mask, 32) {
+            return from + place_of_mark(mask, 0, n);
+        }
+    }
+    find_break_byte_by_byte(bytes, from, n, set)
 }
 
 /// The byte at which the last character of the break `n` begins, the breaks counted from 0.
@@ -170,12 +187,12 @@ fn skip_breaks_with_chars(bytes: &[u8], n: usize, set: LineBreaks) -> (usize, us
     let mut left = n;
     let mut chars = 0;
     while bytes.len() - at >= 34 {
-        let passed = breaks_in(bytes, at, set) as usize;
+        let passed = breaks_in(bytes, at, set);
         if left < passed {
             return (at, left, chars);
         }
         left -= passed;
-        chars += chars_in(bytes, at) as usize;
+        chars += chars_in(bytes, at);
         at += 32;
     }
     (at, left, chars)
@@ -193,5 +210,5 @@ pub(crate) fn char_of_break(bytes: &[u8], n: usize, set: LineBreaks) -> (usize, 
 {
     let (from, left, before) = skip_breaks_with_chars(bytes, n, set);
     let to = find_break(bytes, from, left, set);
-    (to, before + count_begins(&bytes[from..to]))
+    (to, before + begins_between(bytes, from, to))
 }

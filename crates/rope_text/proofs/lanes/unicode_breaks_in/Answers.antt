@@ -1,30 +1,12 @@
-use Rattle.std.proofs.Common.{◌+◌, ◌&&◌, ◌||◌, Bool, ℕ, not, eqb, leb, get_or, drop, sym, ap, ◌∙◌, arith}
+use Rattle.std.proofs.Common.{◌+◌, ◌-◌, ◌%◌, ◌^◌, ◌&&◌, ◌||◌, Bool, ℕ, not, eqb, leb, bit_and, get_or, drop, sym, ap, ◌∙◌, arith}
 use Rattle.std.specs.List.{range_with_len}
 use Rattle.std.proofs.lemmas.List.FromFn.{length-range_with_len}
 use Rattle.rope_text.specs.declared.line_breaks.LineBreaks.TheVariants.{Unicode}
 use Rattle.rope_text.specs.ByteBreaks.{byte_breaks}
 use Rattle.rope_text.proofs.Blocks.{byte_breaks-block, breaks_at, count_by-unless, wide_off}
-use Rattle.rope_text.proofs.Marks.{compared, compared_left, both, either, counted, none_set, loaded, loaded_from}
+use Rattle.rope_text.proofs.Marks.{compared, compared_both, computed, chosen, retested, counted_from, none_set, loaded, loaded_from}
+use Rattle.rope_text.proofs.UnicodeLanes.{low_break, no_wide_begin}
 use Rattle.rope_text.proofs.lanes.unicode_breaks_in.Goals as goal
-
-pub returns-then-wide_begin-eq0 : goal.returns-then-wide_begin-eq0
-returns-then-wide_begin-eq0 c =
-    let s = c.args.bytes.now in
-    let i = c.args.at in
-    let long = length-range_with_len i 32 in
-    let x = loaded s i 32 (omega arith) in
-    let y = loaded_from s i 1 32 (omega arith) in
-    let low = both (compared_left leb 10 32 long x) (compared leb 12 32 long x) in
-    let lone_cr = both (compared eqb 13 32 long x) (compared (λ a b. not (eqb a b)) 10 32 long y) in
-    let none = none_set (omega (arith, long)) (either (compared eqb 194 32 long x) (compared eqb 226 32 long x)) c.if-wide_begin-eq0.true in
-    let at : ℕ → ℕ → Bool = λ k v. eqb (get_or s k 0) v in
-    let is_low : ℕ → Bool = λ k. leb 10 (get_or s k 0) && leb (get_or s k 0) 12 in
-    let is_lone_cr : ℕ → Bool = λ k. at k 13 && not (at (k + 1) 10) in
-    let same =
-    count_by-unless (λ k. at k 194 || at k 226) (λ k. is_low k || is_lone_cr k) (breaks_at Unicode s) (range_with_len i 32)
-    (λ k off. wide_off (is_low k) (is_lone_cr k) (at k 194) (at k 226) (at (k + 1) 133) (at (k + 1) 128 && (at (k + 2) 168 || at (k + 2) 169)) off) none in
-    byte_breaks-block Unicode s i 32 (omega arith)
-    ∙ ap (λ n. n + byte_breaks Unicode (drop (i + 32) s)) (sym (counted (omega (arith, long)) (either low lone_cr) ∙ same))
 
 pub returns : goal.returns
 returns c =
@@ -33,11 +15,18 @@ returns c =
     let long = length-range_with_len i 32 in
     let x = loaded s i 32 (omega arith) in
     let y = loaded_from s i 1 32 (omega arith) in
-    let z = loaded_from s i 2 32 (omega arith) in
-    let low = both (compared_left leb 10 32 long x) (compared leb 12 32 long x) in
-    let lone_cr = both (compared eqb 13 32 long x) (compared (λ a b. not (eqb a b)) 10 32 long y) in
-    let nel = both (compared eqb 194 32 long x) (compared eqb 133 32 long y) in
-    let separator = either (compared eqb 168 32 long z) (compared eqb 169 32 long z) in
-    let wide = both (compared eqb 226 32 long x) (both (compared eqb 128 32 long y) separator) in
+    let at : ℕ → ℕ → Bool = λ k v. eqb (get_or s k 0) v in
+    let is_low : ℕ → Bool = λ k. leb 10 (get_or s k 0) && leb (get_or s k 0) 12 in
+    let is_lone_cr : ℕ → Bool = λ k. at k 13 && not (at (k + 1) 10) in
+    let is_wide_begin : ℕ → Bool = λ k. eqb (bit_and (get_or s k 0) 223) 194 in
+    let most = chosen 2 3 32 long (compared eqb 10 32 long y) in
+    let up = compared_both leb (computed (λ a b. (a + (2 ^ 8 - b)) % 2 ^ 8) 10 32 long x) most in
+    let low = retested (λ k. low_break (get_or s k 0) (get_or s (k + 1) 0) (c.type_inv.bytes k).fits) up in
+    let none = none_set (omega (arith, long)) (compared eqb 194 32 long (computed bit_and 223 32 long x)) c.if-wide_begin-ne0.false in
+    let same =
+    count_by-unless is_wide_begin (λ k. is_low k || is_lone_cr k) (breaks_at Unicode s) (range_with_len i 32)
+    (λ k off.
+    wide_off (is_low k) (is_lone_cr k) (at k 194) (at k 226) (at (k + 1) 133) (at (k + 1) 128 && (at (k + 2) 168 || at (k + 2) 169))
+    (no_wide_begin (get_or s k 0) off)) none in
     byte_breaks-block Unicode s i 32 (omega arith)
-    ∙ ap (λ n. n + byte_breaks Unicode (drop (i + 32) s)) (sym (counted (omega (arith, long)) (either (either low lone_cr) (either nel wide))))
+    ∙ ap (λ n. n + byte_breaks Unicode (drop (i + 32) s)) (sym (c.ones_before-2.ensures ∙ counted_from {m = 32} i 32 (omega arith) (omega arith) low ∙ same))

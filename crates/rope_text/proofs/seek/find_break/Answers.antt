@@ -1,18 +1,19 @@
-use Rattle.std.proofs.Common.{◌≡◌, ℕ, Bool, cond, arith, sym, ◌∙◌, ap}
+use Rattle.std.proofs.Common.{◌≡◌, ◌+◌, ℕ, drop, ap, ◌∙◌, arith}
+use Rattle.rope_text.specs.Bits.{ones_below}
+use Rattle.rope_text.specs.ByteBreaks.{byte_breaks}
+use Rattle.rope_text.proofs.BitLaws.{found_mark}
 use Rattle.rope_text.proofs.Blocks.{byte_breaks-drop, breaks_at}
-use Rattle.rope_text.proofs.seek.find_break.Goals.{then-is_break_begin+else-left-eq0, else-is_break_begin}
 use Rattle.rope_text.proofs.seek.find_break.Goals as goal
 
-pub loop-at-preserved : goal.loop-at-preserved
-loop-at-preserved c =
-    let set = c.args.set in
+pub returns-then-n-ones_before-clause-inside : goal.returns-then-n-ones_before-clause-inside
+returns-then-n-ones_before-clause-inside c = λ inside.
     let s = c.args.bytes.now in
-    let i = c.loop-at.at in
-    let step = byte_breaks-drop set s i (omega arith) in
-    let test : c.is_break_begin.result ≡ breaks_at set s i = c.is_break_begin.ensures in
-    elim c.if-is_break_begin.branch [
-      | then-is_break_begin+else-left-eq0 w ↦
-          let yes : cond {A = ℕ} (breaks_at set s i) 1 0 ≡ 1 = ap (λ (t : Bool). cond {A = ℕ} t 1 0) (sym test ∙ w.if-is_break_begin.true) in omega arith
-      | else-is_break_begin w ↦
-          let no : cond {A = ℕ} (breaks_at set s i) 1 0 ≡ 0 = ap (λ (t : Bool). cond {A = ℕ} t 1 0) (sym test ∙ w.if-is_break_begin.false) in omega arith
-    ]
+    let set = c.args.set in
+    let i : ℕ = c.args.from in
+    let mask = c.break_mask-mask in
+    let mark = c.place_of_mark in
+    let r : ℕ = mark.result in
+    let next : i + (r + 1) ≡ (i + r) + 1 = omega arith in
+    let more = mask.ensures (r + 1) (omega (arith, mark.ensures.bound)) ∙ ap (λ j. ones_below mask.result (r + 1) + byte_breaks set (drop j s)) next in
+    found_mark mask.result c.args.n r _ _ _ (breaks_at set s (i + r)) (mask.ensures r (omega (arith, mark.ensures.bound))) more
+    (byte_breaks-drop set s (i + r) inside) mark.ensures.before mark.ensures.after

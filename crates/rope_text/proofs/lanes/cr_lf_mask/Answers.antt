@@ -3,16 +3,16 @@ use Rattle.std.proofs.lemmas.List.FromFn.{length-range_with_len}
 use Rattle.rope_text.specs.declared.line_breaks.LineBreaks.TheVariants.{CrLf}
 use Rattle.rope_text.specs.ByteBreaks.{byte_breaks}
 use Rattle.rope_text.proofs.Blocks.{byte_breaks-block}
-use Rattle.rope_text.proofs.Marks.{compared, both, either, counted, loaded, loaded_from}
-use Rattle.rope_text.proofs.lanes.cr_lf_breaks_in.Goals as goal
+use Rattle.rope_text.proofs.Marks.{compared, both, either, counted_from, loaded, loaded_from}
+use Rattle.rope_text.proofs.lanes.cr_lf_mask.Goals as goal
 
 pub returns : goal.returns
-returns c =
+returns c = λ n few.
     let s = c.args.bytes.now in
     let i = c.args.at in
     let long = length-range_with_len i 32 in
     let x = loaded s i 32 (omega arith) in
     let y = loaded_from s i 1 32 (omega arith) in
     let lone_cr = both (compared eqb 13 32 long x) (compared (λ a b. not (eqb a b)) 10 32 long y) in
-    byte_breaks-block CrLf s i 32 (omega arith)
-    ∙ ap (λ n. n + byte_breaks CrLf (drop (i + 32) s)) (sym (counted (omega (arith, long)) (either (compared eqb 10 32 long x) lone_cr)))
+    byte_breaks-block CrLf s i n (omega arith)
+    ∙ ap (λ k. k + byte_breaks CrLf (drop (i + n) s)) (sym (counted_from i n few (omega arith) (either (compared eqb 10 32 long x) lone_cr)))

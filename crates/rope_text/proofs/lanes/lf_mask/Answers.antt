@@ -3,13 +3,13 @@ use Rattle.std.proofs.lemmas.List.FromFn.{length-range_with_len}
 use Rattle.rope_text.specs.declared.line_breaks.LineBreaks.TheVariants.{Lf}
 use Rattle.rope_text.specs.ByteBreaks.{byte_breaks}
 use Rattle.rope_text.proofs.Blocks.{byte_breaks-block}
-use Rattle.rope_text.proofs.Marks.{compared, counted, loaded}
-use Rattle.rope_text.proofs.lanes.lf_breaks_in.Goals as goal
+use Rattle.rope_text.proofs.Marks.{compared, counted_from, loaded}
+use Rattle.rope_text.proofs.lanes.lf_mask.Goals as goal
 
 pub returns : goal.returns
-returns c =
+returns c = λ n few.
     let s = c.args.bytes.now in
     let i = c.args.at in
     let long = length-range_with_len i 32 in
-    byte_breaks-block Lf s i 32 (omega arith)
-    ∙ ap (λ n. n + byte_breaks Lf (drop (i + 32) s)) (sym (counted (omega (arith, long)) (compared eqb 10 32 long (loaded s i 32 (omega arith)))))
+    byte_breaks-block Lf s i n (omega arith)
+    ∙ ap (λ k. k + byte_breaks Lf (drop (i + n) s)) (sym (counted_from i n few (omega arith) (compared eqb 10 32 long (loaded s i 32 (omega arith)))))

@@ -1,7 +1,7 @@
 use Rattle.std.proofs.Common.{◌≡◌, ℕ, Bool, cond, arith, sym, ◌∙◌, ap}
 use Rattle.rope_text.proofs.Blocks.{byte_breaks-drop, breaks_at}
-use Rattle.rope_text.proofs.lanes.breaks_between.Goals as goal
-use Rattle.rope_text.proofs.lanes.breaks_between.Goals.{then-is_break_begin, else-is_break_begin}
+use Rattle.rope_text.proofs.lanes.breaks_byte_by_byte.Goals as goal
+use Rattle.rope_text.proofs.lanes.breaks_byte_by_byte.Goals.{then-is_break_begin, else-is_break_begin}
 
 pub loop-i-preserved : goal.loop-i-preserved
 loop-i-preserved c =

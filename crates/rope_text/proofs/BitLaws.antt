@@ -1,0 +1,71 @@
+-- Set bits of a number, those below a place and those from there on.
+use Rattle.std.proofs.Common.{◌≡◌, ℕ, zero, suc, ◌+◌, ◌-◌, ◌*◌, ◌/◌, ◌%◌, ◌^◌, ◌≤◌, ◌<◌, Bool, true, false, cond, List, [], ◌∷◌, take, count_ones, refl, sym, ap, ap₂, ◌∙◌, arith, add-one}
+use Rattle.std.proofs.Math.Nat.{mod-one, div-one, zero-mod, div-div-eq-div-mul, pow-succ'}
+use Rattle.std.proofs.lemmas.Nat.{ones_le_self, mod-pow-add, pow-add}
+use lib.Count.{ones_step}
+use lib.Lanes.{mask_l}
+use Rattle.rope_text.specs.Bits.{ones_below, marks_below}
+
+pub one_at_most : (t : Bool) → cond t 1 0 ≤ 1
+one_at_most true = omega arith
+one_at_most false = omega arith
+
+no_ones : count_ones 0 ≡ 0
+no_ones = omega (arith, ones_le_self 0)
+
+-- the lowest bit, and the others
+low_bits : (m k : ℕ) → m % 2 ^ suc k ≡ (m / 2 % 2 ^ k) * 2 + m % 2
+low_bits m k = ap (λ j. m % 2 ^ j) (sym (add-one k)) ∙ mod-pow-add m k 1
+
+ones_low : (m k : ℕ) → ones_below m (suc k) ≡ m % 2 + ones_below (m / 2) k
+ones_low m k =
+    let low = low_bits m k in
+    let half : m % 2 ^ suc k / 2 ≡ m / 2 % 2 ^ k = omega (arith, low) in
+    let odd : m % 2 ^ suc k % 2 ≡ m % 2 = omega (arith, low) in
+    ones_step (m % 2 ^ suc k) ∙ ap₂ (λ a b. a + count_ones b) odd half
+
+pub ones_more : (m a b n : ℕ) → n ≡ a + b → ones_below m n ≡ ones_below m a + ones_below (m / 2 ^ a) b
+ones_more m zero b n e =
+    let same : n ≡ b = omega (arith, e) in
+    let none : count_ones (m % 2 ^ 0) ≡ 0 = ap count_ones (mod-one m) ∙ no_ones in
+    omega (arith, ap (ones_below m) same, none, ap (λ x. ones_below x b) (div-one m))
+ones_more m (suc a) b n e =
+    let next : n ≡ suc (a + b) = omega (arith, e) in
+    let shift : m / 2 / 2 ^ a ≡ m / 2 ^ suc a = div-div-eq-div-mul m 2 (2 ^ a) ∙ ap (λ x. m / x) (sym (pow-succ' 2 a)) in
+    omega (arith, ap (ones_below m) next, ones_low m (a + b), ones_more (m / 2) a b (a + b) refl, ones_low m a, ap (λ x. ones_below x b) shift)
+
+pub ones_le : (m n : ℕ) → ones_below m n ≤ n
+ones_le m zero = omega (arith, ap count_ones (mod-one m), no_ones)
+ones_le m (suc n) = omega (arith, ones_low m n, ones_le (m / 2) n)
+
+-- where each byte of a block has a mark, so have those of its front
+pub all_ones : (m n k : ℕ) → ones_below m n ≡ n → k ≤ n → ones_below m k ≡ k
+all_ones m n k full within =
+    let rest : ℕ = n - k in
+    omega (arith, ones_more m k rest n (omega (arith, within)), ones_le m k, ones_le (m / 2 ^ k) rest, full)
+
+pub marks_more : (x y a b n : ℕ) → n ≡ a + b → marks_below x y n ≡ marks_below x y a + marks_below (x / 2 ^ a) (y / 2 ^ a) b
+marks_more x y a b n e = omega (arith, ones_more x a b n e, ones_more y a b n e)
+
+pub shift_more : (m a b : ℕ) → m / 2 ^ a / 2 ^ b ≡ m / 2 ^ (a + b)
+shift_more m a b = div-div-eq-div-mul m (2 ^ a) (2 ^ b) ∙ ap (λ x. m / x) (sym (pow-add 2 a b))
+
+pub no_marks : (n : ℕ) → ones_below 0 n ≡ 0
+no_marks n = ap count_ones (zero-mod (2 ^ n)) ∙ no_ones
+
+-- the lowest n bits of a mask are the mask of the first n lanes
+pub mask_front : (ms : List Bool) (n : ℕ) → mask_l ms % 2 ^ n ≡ mask_l (take n ms)
+mask_front ms zero = mod-one (mask_l ms)
+mask_front [] (suc n) = zero-mod (2 ^ suc n)
+mask_front (m ∷ ms) (suc n) =
+    let bit = one_at_most m in
+    let half : mask_l (m ∷ ms) / 2 ≡ mask_l ms = omega (arith, bit) in
+    let odd : mask_l (m ∷ ms) % 2 ≡ cond m 1 0 = omega (arith, bit) in
+    omega (arith, low_bits (mask_l (m ∷ ms)) n, ap (λ h. h % 2 ^ n) half, odd, mask_front ms n)
+
+-- The mark n of a mask whose marks tell where a test holds: what is counted from its place on, and that the test holds there.
+-- The counts are those from the block on, from the place on, and from the next place on.
+pub found_mark : (mask n r here there next : ℕ) (t : Bool) → here ≡ ones_below mask r + there → here ≡ ones_below mask (r + 1) + next → there ≡ cond t 1 0 + next
+    → marks_below mask 0 r ≤ n → n < marks_below mask 0 (r + 1) → (here ≡ n + there) × (t ≡ true)
+found_mark mask n r here there next true front more one before after = (omega (arith, front, more, one, before, after, no_marks r, no_marks (r + 1)), refl)
+found_mark mask n r here there next false front more one before after = absurd (omega (arith, front, more, one, before, after, no_marks r, no_marks (r + 1)))

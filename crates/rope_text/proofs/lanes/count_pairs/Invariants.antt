@@ -1,9 +1,0 @@
-use Rattle.std.proofs.Common.{◌≡◌, ◌≤◌, length, count_by, drop, ◌+◌, ◌-◌}
-use Rattle.rope_text.specs.Bytes.{begins_pair}
-use Rattle.rope_text.proofs.lanes.count_pairs.Given as goal
-
-abbrev pub invariant-loop-i : goal.invariant-loop-i
-invariant-loop-i l = (l.i ≤ length l.bytes) × (l.total + count_by begins_pair (drop l.i l.bytes) ≡ count_by begins_pair l.bytes)
-
-abbrev pub decreases-loop-i : goal.decreases-loop-i
-decreases-loop-i l = length l.bytes - l.i

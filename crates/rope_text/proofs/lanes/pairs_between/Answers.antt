@@ -1,0 +1,10 @@
+use Rattle.std.proofs.Common.{◌≡◌, ◌+◌, ◌-◌, ℕ, arith}
+use Rattle.rope_text.specs.Bytes.{begins_pair}
+use Rattle.rope_text.proofs.Blocks.{count_by-block}
+use Rattle.rope_text.proofs.lanes.pairs_between.Goals as goal
+
+pub returns : goal.returns
+returns c =
+    let size : ℕ = c.args.to - c.args.from in
+    let end : c.args.from + size ≡ c.args.to = omega (arith, c.requires.from) in
+    omega (arith, c.pairs_byte_by_byte.ensures, rw end at (count_by-block begins_pair c.args.bytes.now c.args.from size))

@@ -1,0 +1,12 @@
+use Rattle.std.proofs.Common.{◌≡◌, ◌≤◌, ◌+◌, ◌-◌, length, drop, count_by}
+use Rattle.rope_text.specs.Bytes.{begins_char}
+use Rattle.rope_text.specs.ByteBreaks.{unit_count}
+use Rattle.rope_text.proofs.seek.place_of_unit.Given as goal
+
+abbrev pub invariant-loop-at : goal.invariant-loop-at
+invariant-loop-at l =
+    (l.at ≤ length l.bytes) × (unit_count l.bytes + l.left ≡ l.fn.n + unit_count (drop l.at l.bytes))
+    × (count_by begins_char l.bytes ≡ l.chars + count_by begins_char (drop l.at l.bytes))
+
+abbrev pub decreases-loop-at : goal.decreases-loop-at
+decreases-loop-at l = length l.bytes - l.at

@@ -1,0 +1,43 @@
+//! Masks of blocks of 32 bytes: the bit `k` is the mark of the byte `k`.
+ghost use Rattle.std.specs.Prelude.{◌≡◌, ◌+◌, ◌<◌, ◌≤◌, ◌%◌, ◌^◌};
+ghost use Rattle.rope_text.specs.Bits.{ones_below, marks_below};
+
+/// How many of the first `n` bytes have a mark.
+#[inline(always)]
+pub(crate) fn ones_before(mask: u64, n: usize) -> usize
+    requires { n ≤ 32 }
+    ensures { result ≡ ones_below mask n }
+{
+    (mask & ((1 << n) - 1)).count_ones() as usize
+}
+
+/// The byte with the mark `n` of two masks, counted from 0: it has at most `n` marks before it.
+#[inline(always)]
+pub(crate) fn place_of_mark(first: u64, second: u64, n: usize) -> usize
+    requires { n < marks_below first second 32 }
+    ensures bound { result < 32 }
+    ensures before { marks_below first second result ≤ n }
+    ensures after { n < marks_below first second (result + 1) }
+{
+    // In a block of ASCII each byte has a mark.
+    if second == 0 && ones_before(first, 32) == 32 {
+        return n;
+    }
+    let mut ones = first;
+    let mut more = second;
+    let mut left = n;
+    let mut place = 0;
+    let mut step = 5usize;
+    while step > 0 {
+        step -= 1;
+        let half = 1 << step;
+        let passed = ones_before(ones, half) + ones_before(more, half);
+        if left >= passed {
+            left -= passed;
+            ones >>= half;
+            more >>= half;
+            place += half;
+        }
+    }
+    place
+}
