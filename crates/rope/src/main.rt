@@ -4,27 +4,43 @@
 //! a read or a write failed. Standard error says which.
 #![tactic(auto)]
 
+ghost use Rattle.std.specs.Prelude.{◌≡◌, ℕ};
+ghost use Rattle.rope_script.specs.declared.service.Ended.TheVariants.{Done, BadLine, OutOfMemory, Failed};
+
 use rope_script::{Ended, serve};
 use std::io;
 use std::process::ExitCode;
 
+/// The status that tells how the run ended.
+fn status(ended: Ended) -> u8
+    ensures done { ended ≡ Done → result ≡ 0 }
+    ensures bad_line { (number : ℕ) → ended ≡ BadLine number → result ≡ 2 }
+    ensures out_of_memory { ended ≡ OutOfMemory → result ≡ 3 }
+    ensures failed { ended ≡ Failed → result ≡ 4 }
+{
+    match ended {
+        Ended::Done => 0,
+        Ended::BadLine(_) => 2,
+        Ended::OutOfMemory => 3,
+        Ended::Failed => 4,
+    }
+}
+
+/// Says on standard error how the run ended, where that wasn't well.
+fn tell(rt: &impl Eprint, ended: Ended) {
+    // What cannot be told here is still told by the status.
+    let _ = match ended {
+        Ended::Done => Ok(()),
+        Ended::BadLine(number) => eprintln!(rt; "bad line {number}"),
+        Ended::OutOfMemory => eprintln!(rt; "out of memory"),
+        Ended::Failed => eprintln!(rt; "input or output failed"),
+    };
+}
+
 fn main(rt: HostRuntime) -> ExitCode {
     let mut reader = rt.reader();
     let mut writer = io::writer(&rt);
-    // A fault that cannot be told is still told by the status.
-    match serve(rt.alloc(), &mut reader, &mut writer) {
-        Ended::Done => ExitCode::from(0),
-        Ended::BadLine(number) => {
-            let _ = eprintln!(rt; "bad line {number}");
-            ExitCode::from(2)
-        }
-        Ended::OutOfMemory => {
-            let _ = eprintln!(rt; "out of memory");
-            ExitCode::from(3)
-        }
-        Ended::Failed => {
-            let _ = eprintln!(rt; "input or output failed");
-            ExitCode::from(4)
-        }
-    }
+    let ended = serve(rt.alloc(), &mut reader, &mut writer);
+    tell(&rt, ended);
+    ExitCode::from(status(ended))
 }

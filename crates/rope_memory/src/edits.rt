@@ -1,6 +1,6 @@
 //! Ropes that are made and edited.
 use crate::TRIES;
-use ropey::{Error, Rope};
+use ropey::{Error, Result, Rope};
 use std::alloc::Global;
 use std::io::Print;
 
@@ -44,13 +44,43 @@ fn made(alloc: Global, text: &str) -> Option<Rope> {
     None
 }
 
+/// An empty rope, made again where memory was refused.
+fn empty(alloc: Global) -> Option<Rope> {
+    for _ in 0..TRIES {
+        match Rope::new(alloc) {
+            Ok(rope) => return Some(rope),
+            Err(Error::OutOfMemory) => {}
+            Err(_) => return None,
+        }
+    }
+    None
+}
+
+/// What is put into a rope.
+#[derive(Clone, Copy)]
+enum Piece<'a> {
+    Text(&'a str),
+    Char(char),
+}
+
+/// Inserts, a character no later than at the end.
+fn insert_once(rope: &mut Rope, char_idx: usize, piece: Piece<'_>) -> Result<()> {
+    match piece {
+        Piece::Text(text) => rope.try_insert(char_idx, text),
+        Piece::Char(c) => {
+            let place = char_idx.min(rope.len_chars());
+            rope.insert_char(place, c)
+        }
+    }
+}
+
 /// Inserts, again where memory was refused, and counts what a refusal changed.
-fn insert(rope: &mut Rope, char_idx: usize, text: &str) -> Option<usize> {
+fn insert(rope: &mut Rope, char_idx: usize, piece: Piece<'_>) -> Option<usize> {
     let before = fingerprint(rope);
     let bytes = rope.len_bytes();
     let mut faults: usize = 0;
     for _ in 0..TRIES {
-        match rope.try_insert(char_idx, text) {
+        match insert_once(rope, char_idx, piece) {
             Ok(()) => return Some(faults),
             Err(Error::OutOfMemory) => {
                 if fingerprint(rope) != before || rope.len_bytes() != bytes {
@@ -67,13 +97,21 @@ fn insert(rope: &mut Rope, char_idx: usize, text: &str) -> Option<usize> {
 pub fn run(rt: &impl Print, alloc: Global) -> Option<usize> {
     let mut rope = made(alloc, "")?;
     let long = letters(alloc, 5_000)?;
-    let mut faults = insert(&mut rope, 0, "one\r\ntwo\n")?;
-    faults = faults.saturating_add(insert(&mut rope, 3, long.as_str())?);
-    faults = faults.saturating_add(insert(&mut rope, 990, "\r")?);
-    faults = faults.saturating_add(insert(&mut rope, 991, "\n")?);
-    faults = faults.saturating_add(insert(&mut rope, 1_000, "")?);
+    let mut faults = insert(&mut rope, 0, Piece::Text("one\r\ntwo\n"))?;
+    for (char_idx, piece) in [
+        (3, Piece::Text(long.as_str())),
+        (990, Piece::Text("\r")),
+        (991, Piece::Char('\n')),
+        (1_000, Piece::Text("")),
+        (991, Piece::Char('x')),
+        (2_500, Piece::Char('é')),
+    ] {
+        faults = faults.saturating_add(insert(&mut rope, char_idx, piece)?);
+    }
+    let mut typed = empty(alloc)?;
+    faults = faults.saturating_add(insert(&mut typed, 0, Piece::Char('🐸'))?);
     let other = made(alloc, long.as_str())?;
-    for rope in [&rope, &other] {
+    for rope in [&rope, &typed, &other] {
         let bytes = rope.len_bytes();
         let lines = rope.len_lines();
         println!(rt; "{bytes} bytes, {lines} lines").ok()?;

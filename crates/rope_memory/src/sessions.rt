@@ -84,7 +84,10 @@ fn serve_lines(rt: &impl Print, alloc: Global) -> Option<()> {
         match serve(alloc, &mut reader, &mut written) {
             Ended::Done => {
                 let text = str::from_utf8(&written).ok()?;
-                return print!(rt; "{text}").ok();
+                // A command that memory was refused for is told as a reply, and what follows goes on without it.
+                if !text.contains("error: Out of memory\n") {
+                    return print!(rt; "{text}").ok();
+                }
             }
             Ended::OutOfMemory | Ended::Failed => {}
             Ended::BadLine(_) => return None,

@@ -7,7 +7,7 @@ use std::process::Abort;
 use std::test::Fail;
 
 /// So many times a text.
-fn repeated(alloc: Global, text: &str, count: usize) -> Result<String, Fail> {
+pub fn repeated(alloc: Global, text: &str, count: usize) -> Result<String, Fail> {
     let mut all = String::new(alloc);
     for _ in 0..count {
         all.push_str(text)?;
@@ -24,23 +24,8 @@ fn chars_of(alloc: Global, text: &str) -> Result<Vec<char>, Fail> {
     Ok(chars)
 }
 
-/// The list with a text before the character `at`.
-fn inserted(alloc: Global, old: &[char], at: usize, text: &str) -> Result<Vec<char>, Fail> {
-    let mut new = Vec::new(alloc);
-    for c in old.iter().take(at) {
-        new.push(*c)?;
-    }
-    for c in text.chars() {
-        new.push(c)?;
-    }
-    for c in old.iter().skip(at) {
-        new.push(*c)?;
-    }
-    Ok(new)
-}
-
 /// The rope has the text and its lengths, and its chunks are cut by the rules.
-fn compare(rt: &impl Abort, rope: &Rope, text: &[char]) {
+pub fn compare(rt: &impl Abort, rope: &Rope, text: &[char]) {
     let set = LineBreaks::Unicode;
     assert!(rt; rope.len_bytes() == plain_text::char_to_byte(text, text.len()));
     assert!(rt; rope.len_chars() == text.len());
@@ -122,7 +107,8 @@ fn refusals(rt: HostRuntime) -> Result<(), Fail> {
     }
     rope.try_insert(6, "x")?;
     rope.try_insert(7, "")?;
-    let text = chars_of(rt.alloc(), "Hello!x")?;
+    rope.try_insert_char(7, 'y')?;
+    let text = chars_of(rt.alloc(), "Hello!xy")?;
     compare(&rt, &rope, &text);
     Ok(())
 }
@@ -153,50 +139,6 @@ fn worked_lengths(rt: HostRuntime) -> Result<(), Fail> {
         assert_eq!(rt; rope.len_chars(), chars);
         assert_eq!(rt; rope.len_lines(), lines);
         assert_eq!(rt; rope.len_utf16_cu(), units);
-    }
-    Ok(())
-}
-
-/// The next of a row of numbers that look random.
-fn next_number(state: &mut u64) -> usize {
-    *state ^= *state << 13;
-    *state ^= *state >> 7;
-    *state ^= *state << 17;
-    (*state >> 8) as usize
-}
-
-const PARTS: [&str; 8] = ["a", "\r", "\n", "\r\n", "é", "こ", "🐸", "\u{2028}"];
-
-/// A text of 0 to 1,200 bytes, rich in breaks.
-fn random_text(alloc: Global, state: &mut u64) -> Result<String, Fail> {
-    let mut text = String::new(alloc);
-    let long = next_number(state) % 4 == 0;
-    let most = if long { 1_196 } else { 12 };
-    let len = next_number(state) % (most + 1);
-    for _ in 0..len {
-        if text.as_str().len() >= len {
-            break;
-        }
-        text.push_str(PARTS[next_number(state) % 8])?;
-    }
-    Ok(text)
-}
-
-#[test]
-fn random_inserts(rt: HostRuntime) -> Result<(), Fail> {
-    let mut state = 0x9E37_79B9_7F4A_7C15;
-    for _ in 0..8 {
-        let mut rope = Rope::from_str(rt.alloc(), "")?;
-        let mut plain = Vec::new(rt.alloc());
-        for round in 0..250 {
-            let at = next_number(&mut state) % plain.len().saturating_add(1);
-            let text = random_text(rt.alloc(), &mut state)?;
-            rope.try_insert(at, text.as_str())?;
-            plain = inserted(rt.alloc(), &plain, at, text.as_str())?;
-            if round % 10 == 9 {
-                compare(&rt, &rope, &plain);
-            }
-        }
     }
     Ok(())
 }

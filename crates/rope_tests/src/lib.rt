@@ -4,6 +4,12 @@
 #[cfg(test)]
 mod conversions;
 #[cfg(test)]
+mod counted;
+#[cfg(test)]
 mod edits;
 #[cfg(test)]
+mod lookups;
+#[cfg(test)]
 mod plain_text;
+#[cfg(test)]
+mod random_inserts;

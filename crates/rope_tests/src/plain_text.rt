@@ -97,3 +97,36 @@ pub fn line_to_char(text: &[char], line: usize, set: LineBreaks) -> usize {
     }
     text.len()
 }
+
+/// A place before a character or at the end, in every unit, and where its line starts.
+#[derive(Clone, Copy)]
+pub struct Place {
+    pub byte: usize,
+    pub unit: usize,
+    pub line: usize,
+    pub line_start_char: usize,
+    pub line_start_byte: usize,
+}
+
+/// The place behind the first characters, by one pass over them.
+pub fn place_of(text: &[char], char_idx: usize, set: LineBreaks) -> Place {
+    let mut place = Place {
+        byte: 0,
+        unit: 0,
+        line: 0,
+        line_start_char: 0,
+        line_start_byte: 0,
+    };
+    let mut passed: usize = 0;
+    for c in text.iter().take(char_idx) {
+        passed = passed.saturating_add(1);
+        place.byte = place.byte.saturating_add(c.len_utf8());
+        place.unit = place.unit.saturating_add(c.len_utf16());
+        if is_break_end(text, passed, set) {
+            place.line = place.line.saturating_add(1);
+            place.line_start_char = passed;
+            place.line_start_byte = place.byte;
+        }
+    }
+    place
+}

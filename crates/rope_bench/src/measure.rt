@@ -1,0 +1,55 @@
+//! What is measured of a workload.
+use crate::fault::Fault;
+use crate::numbers::Fnv;
+use ropey::Rope;
+use std::time::CpuClock;
+
+/// What a run of a workload took and gave.
+#[derive(Clone, Copy)]
+pub struct Outcome {
+    /// How many operations were done.
+    pub operations: usize,
+    /// The processor time of all of them, in nanoseconds.
+    pub nanos: u64,
+    /// What was read or made, in one number.
+    pub checksum: u64,
+}
+
+/// The processor time that this thread has used, in nanoseconds.
+pub fn now<C: CpuClock>(clock: &C) -> Result<u64, Fault> {
+    let time = clock.thread_cpu_time()?;
+    let nanos = u64::from(time.subsec_nanos());
+    Ok(
+        time.as_secs()
+            .wrapping_mul(1_000_000_000)
+            .wrapping_add(nanos),
+    )
+}
+
+/// The nanoseconds of processor time since then.
+pub fn since<C: CpuClock>(clock: &C, start: u64) -> Result<u64, Fault> {
+    Ok(now(clock)?.wrapping_sub(start))
+}
+
+/// The four lengths of a rope in one number.
+pub fn lens(rope: &Rope) -> u64 {
+    let bytes = rope.len_bytes() as u64;
+    let chars = rope.len_chars() as u64;
+    let lines = rope.len_lines() as u64;
+    let units = rope.len_utf16_cu() as u64;
+    bytes ^ (chars << 1) ^ (lines << 2) ^ (units << 3)
+}
+
+/// The bytes of a rope in one number.
+pub fn bytes_sum(rope: &Rope) -> u64 {
+    let mut sum = Fnv::new();
+    for chunk in rope.chunks() {
+        sum.add(chunk);
+    }
+    sum.sum()
+}
+
+/// The bytes and the lengths of a rope in one number.
+pub fn whole(rope: &Rope) -> u64 {
+    bytes_sum(rope) ^ lens(rope)
+}

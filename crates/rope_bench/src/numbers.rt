@@ -1,0 +1,68 @@
+//! Numbers that look random, and sums of what was read.
+ghost use Rattle.std.specs.Prelude.{◌≡◌, ◌≤◌, ◌+◌, ◌%◌};
+
+/// A row of numbers by a xorshift of 64 bits: the same row each time.
+#[derive(Drop)]
+pub struct Numbers {
+    state: u64,
+}
+
+impl Numbers {
+    /// At the start of the row.
+    pub fn new() -> Numbers {
+        Numbers {
+            state: 0x9E37_79B9_7F4A_7C15,
+        }
+    }
+
+    // The next number of the row.
+    fn take(&mut self) -> u64
+        ensures { result ≡ self.new.state }
+    {
+        let mut x = self.state;
+        x ^= x << 13;
+        x ^= x >> 7;
+        x ^= x << 17;
+        self.state = x;
+        x
+    }
+
+    /// The next number, brought into the range from 0 to `most` by its remainder.
+    pub fn up_to(&mut self, most: usize) -> usize
+        ensures within { result ≤ most }
+        ensures drawn { result ≡ self.new.state % (most + 1) }
+    {
+        let number = self.take() as usize;
+        match most.checked_add(1) {
+            Some(count) => number % count,
+            None => number,
+        }
+    }
+}
+
+/// A sum over bytes in their order, by FNV-1a.
+#[derive(Clone, Copy)]
+pub struct Fnv {
+    sum: u64,
+}
+
+impl Fnv {
+    /// The sum of no bytes.
+    pub fn new() -> Fnv {
+        Fnv {
+            sum: 0xCBF2_9CE4_8422_2325,
+        }
+    }
+
+    /// Takes the bytes of a text into the sum.
+    pub fn add(&mut self, text: &str) {
+        for byte in text.bytes() {
+            self.sum = (self.sum ^ u64::from(byte)).wrapping_mul(0x0100_0000_01B3);
+        }
+    }
+
+    /// The sum.
+    pub fn sum(self) -> u64 {
+        self.sum
+    }
+}

@@ -1,0 +1,78 @@
+//! The workloads by name.
+use crate::asking::{Question, ask};
+use crate::counting::{Counted, count};
+use crate::fault::Fault;
+use crate::inserting::{self, Inserts, insert};
+use crate::measure::Outcome;
+use crate::sample::Sample;
+use crate::{making, reading};
+use rope_text::LineBreaks;
+use std::time::CpuClock;
+
+/// What is timed.
+#[derive(Clone, Copy)]
+pub enum Workload {
+    FromStr,
+    Insert(Inserts),
+    Ask(Question),
+    IterChunks,
+    Count(Counted),
+    FromStrSmall,
+    TypeFromEmpty,
+}
+
+/// Those that are done on each of the two texts, in order.
+pub const OF_TEXTS: [Workload; 21] = [
+    Workload::FromStr,
+    Workload::Insert(Inserts::CharsAtRandom),
+    Workload::Insert(Inserts::CharsInARow),
+    Workload::Insert(Inserts::TextsAtRandom),
+    Workload::Ask(Question::CharToByte),
+    Workload::Ask(Question::CharToLine),
+    Workload::Ask(Question::CharToUtf16),
+    Workload::Ask(Question::ByteToChar),
+    Workload::Ask(Question::ByteToLine),
+    Workload::Ask(Question::LineToChar),
+    Workload::Ask(Question::LineToByte),
+    Workload::Ask(Question::Utf16ToChar),
+    Workload::Ask(Question::Byte),
+    Workload::Ask(Question::Char),
+    Workload::Ask(Question::ChunkAtChar),
+    Workload::IterChunks,
+    Workload::Count(Counted::Chars),
+    Workload::Count(Counted::Breaks(LineBreaks::Unicode)),
+    Workload::Count(Counted::Breaks(LineBreaks::Lf)),
+    Workload::Count(Counted::Breaks(LineBreaks::CrLf)),
+    Workload::Count(Counted::Pairs),
+];
+
+/// Those of many small ropes, in order.
+pub const OF_SMALL_ROPES: [Workload; 2] = [Workload::FromStrSmall, Workload::TypeFromEmpty];
+
+impl Workload {
+    /// Its name.
+    pub fn name(self) -> &'static str {
+        match self {
+            Workload::FromStr => "from_str",
+            Workload::Insert(what) => what.name(),
+            Workload::Ask(what) => what.name(),
+            Workload::IterChunks => "iter_chunks_per_byte",
+            Workload::Count(what) => what.name(),
+            Workload::FromStrSmall => "from_str_small",
+            Workload::TypeFromEmpty => "type_from_empty",
+        }
+    }
+
+    /// Does it once.
+    pub fn run<C: CpuClock>(self, clock: &C, sample: &Sample) -> Result<Outcome, Fault> {
+        match self {
+            Workload::FromStr => making::from_str(clock, sample),
+            Workload::Insert(what) => insert(clock, sample, what),
+            Workload::Ask(what) => ask(clock, sample, what),
+            Workload::IterChunks => reading::iter_chunks(clock, sample),
+            Workload::Count(what) => count(clock, sample, what),
+            Workload::FromStrSmall => making::from_str_small(clock, sample),
+            Workload::TypeFromEmpty => inserting::type_from_empty(clock, sample),
+        }
+    }
+}

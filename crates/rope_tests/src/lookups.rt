@@ -1,0 +1,76 @@
+//! Conversions and look-ups of ropes, against rows that were worked by hand.
+use rope_text::LineBreaks;
+use ropey::{Error, Rope};
+use std::alloc::Global;
+use std::process::Abort;
+use std::test::Fail;
+
+/// Characters of one to four bytes and breaks of every kind, in 48 bytes.
+const BREAKS: &str =
+    "\u{A}Hello\u{D}\u{A}\u{D}せ\u{B}か\u{C}い\u{85}. There\u{2028}is something.\u{2029}";
+
+/// Lines that end in CR LF, in 209 bytes.
+const PAIRS: &str =
+    "\r\nHello there!  How're you doing?  It's a fine day, isn't it?  Aren't you glad we're alive?\r\nこんにちは！元気ですか？日はいいですね。私たちが生きだって嬉しいではないか？\r\n";
+
+#[test]
+fn empty_ropes(rt: HostRuntime) -> Result<(), Fail> {
+    for rope in [Rope::new(rt.alloc())?, Rope::from_str(rt.alloc(), "")?] {
+        assert_eq!(rt; rope.len_bytes(), 0);
+        assert_eq!(rt; rope.len_chars(), 0);
+        assert_eq!(rt; rope.len_lines(), 1);
+        assert_eq!(rt; rope.len_utf16_cu(), 0);
+        assert_eq!(rt; rope.depth(), 0);
+        assert_eq!(rt; rope.capacity(), 0);
+        assert!(rt; rope.chunks().next().is_none());
+        let Some((chunk, bytes, chars, breaks)) = rope.get_chunk_at_byte(0) else {
+            return Err(Fail::from("the empty rope has no chunk at 0"));
+        };
+        assert!(rt; chunk.is_empty());
+        assert_eq!(rt; (bytes, chars, breaks), (0, 0, 0));
+        assert!(rt; rope.get_chunk_at_byte(1).is_none());
+        assert!(rt; rope.get_byte(0).is_none());
+        assert!(rt; rope.get_char(0).is_none());
+    }
+    Ok(())
+}
+
+#[test]
+fn lines_of_chars(rt: HostRuntime) -> Result<(), Fail> {
+    let rope = Rope::from_str(rt.alloc(), "a\r\nb")?;
+    for (char_idx, line) in [0, 0, 0, 1, 1].iter().enumerate() {
+        assert_eq!(rt; rope.try_char_to_line(char_idx)?, *line);
+    }
+    let rope = Rope::from_str(rt.alloc(), BREAKS)?;
+    for (line, char_idx) in [0, 1, 8, 9, 11, 13, 15, 23, 37].iter().enumerate() {
+        assert_eq!(rt; rope.try_char_to_line(*char_idx)?, line);
+    }
+    Ok(())
+}
+
+#[test]
+fn starts_of_lines(rt: HostRuntime) -> Result<(), Fail> {
+    let rope = Rope::from_str(rt.alloc(), BREAKS)?;
+    for (line, char_idx) in [0, 1, 8, 9, 11, 13, 15, 23, 37, 37].iter().enumerate() {
+        assert_eq!(rt; rope.try_line_to_char(line)?, *char_idx);
+    }
+    let rope = Rope::from_str(rt.alloc(), PAIRS)?;
+    for (line, byte_idx) in [0, 2, 93, 209, 209].iter().enumerate() {
+        assert_eq!(rt; rope.try_line_to_byte(line)?, *byte_idx);
+    }
+    for (line, char_idx) in [0, 2, 93, 133, 133].iter().enumerate() {
+        assert_eq!(rt; rope.try_line_to_char(line)?, *char_idx);
+    }
+    assert!(rt; rope.try_line_to_byte(5) == Err(Error::LineIndexOutOfBounds(5, 4)));
+    Ok(())
+}
+
+#[test]
+fn units_of_a_pair(rt: HostRuntime) -> Result<(), Fail> {
+    let rope = Rope::from_str(rt.alloc(), "🐸")?;
+    for (unit, char_idx) in [0, 0, 1].iter().enumerate() {
+        assert_eq!(rt; rope.try_utf16_cu_to_char(unit)?, *char_idx);
+    }
+    assert!(rt; rope.try_utf16_cu_to_char(3) == Err(Error::Utf16IndexOutOfBounds(3, 2)));
+    Ok(())
+}
