@@ -1,5 +1,6 @@
 -- Where CR and LF meet.
-use Rattle.std.proofs.Common.{◌≡◌, ℕ, ◌+◌, ◌-◌, ◌^◌, ◌<◌, ◌≤◌, Bool, true, false, ◌&&◌, eqb, Some, slice_get, List, [], ◌∷◌, ◌++◌, length, take, drop, refl, sym, ap, ◌∙◌, arith, append_assoc}
+use Rattle.std.proofs.Common.{◌≡◌, ℕ, ◌+◌, ◌-◌, ◌^◌, ◌<◌, ◌≤◌, true, false, eqb, Some, slice_get, List, [], ◌∷◌, ◌++◌, length, take, drop, refl, sym, ap, ◌∙◌, arith, append_assoc}
+use Rattle.std.proofs.lemmas.Bool.{and_parts, and_right}
 use Rattle.std.proofs.lemmas.Option.{slice_get_within, get_or_from_slice_get}
 use Rattle.std.proofs.lemmas.List.{length-take-le, length-drop, drop_all, take_more, take-take, drop-drop}
 use Rattle.std.specs.Str.{chars}
@@ -31,10 +32,6 @@ can_join a b i j set s fits = record { same_breaks = set; leaves = leaves-append
 pub join_text : (a b r : Tree) → IsJoin a b r → text r ≡ text a ++ text b
 join_text a b r j = j.recuts.same_text ∙ concat-append a.leaves b.leaves
 
-and_no : (b : Bool) → (b && false) ≡ false
-and_no true = refl
-and_no false = refl
-
 pub byte_len-pair : byte_len (13 ∷ 10 ∷ []) ≡ 2
 unfolding lib.Utf8.encode
 byte_len-pair = refl
@@ -45,7 +42,7 @@ module _ (a p b : Tree) (ia : IsTree a) (ip : IsTree p) (ib : IsTree b) (set : b
 
   pub pair_first : CanJoin a p
   pair_first =
-      let s : IsSeam (text a) (text p) = record { apart = rw pair_is (and_no (ends_in_cr (text a))) } in
+      let s : IsSeam (text a) (text p) = record { apart = rw pair_is (and_right (ends_in_cr (text a)) false refl) } in
       can_join a p ia.leaves ip.leaves (ap (λ z. z.breaks) e) s (omega (arith, ap byte_len pair_is, byte_len-pair))
 
   module _ (f : Tree) (j : IsJoin a p f) where
@@ -70,10 +67,6 @@ pub chars_crlf : chars (13 ∷ 10 ∷ []) ≡ 13 ∷ 10 ∷ []
 unfolding chars
 chars_crlf = refl
 
-both : (x y : Bool) → (x && y) ≡ true → (x ≡ true) × (y ≡ true)
-both true y e = (refl, e)
-both false y e = cc
-
 -- the text without the two characters that meet, and with them
 pub record Meets (t u : List ℕ) (i j : ℕ) : Type 0 where
   pub some : 1 ≤ i
@@ -83,7 +76,7 @@ pub record Meets (t u : List ℕ) (i j : ℕ) : Type 0 where
 
 pub meets : (t u : List ℕ) (i j : ℕ) → i ≤ length t → parts_crlf (take i t) (drop j u) ≡ true → Meets t u i j
 meets t u i j le e =
-    let two = both (ends_in_cr (take i t)) (begins_with_lf (drop j u)) e in
+    let two = and_parts (ends_in_cr (take i t)) (begins_with_lf (drop j u)) e in
     let long : length (take i t) ≡ i = length-take-le i t le in
     let some : 1 ≤ i = omega (arith, some_cr (take i t) two.0) in
     let more : j < length u = omega (arith, begins_some (drop j u) two.1, length-drop j u) in

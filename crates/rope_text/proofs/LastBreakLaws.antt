@@ -1,6 +1,6 @@
 -- The line break at the end of a text, found in its bytes.
-use Rattle.std.proofs.Common.{◌≡◌, ℕ, zero, suc, ◌+◌, ◌-◌, ◌<◌, ◌≤◌, Bool, true, false, ◌&&◌, eqb, List, [], ◌∷◌, length, take, drop, get_or, refl, sym, ap, ap₂, ◌∙◌, arith, inl, inr}
-use Rattle.std.proofs.lemmas.Bool.{cases_lt}
+use Rattle.std.proofs.Common.{◌≡◌, ℕ, zero, suc, ◌+◌, ◌-◌, ◌<◌, ◌≤◌, true, false, ◌&&◌, eqb, List, [], ◌∷◌, length, take, drop, get_or, refl, sym, ap, ap₂, ◌∙◌, arith, inl, inr}
+use Rattle.std.proofs.lemmas.Bool.{and_parts, cases_lt}
 use Rattle.std.proofs.lemmas.Bool.Decides.{nat_tests}
 use Rattle.std.proofs.lemmas.List.{append-nil, get_or-take, get_or-drop, length-take-le, take_all, drop_more, get_or_default}
 use Rattle.std.proofs.lemmas.Str.{length-le-encodes, scalars-chars}
@@ -113,18 +113,13 @@ front_and_cr (c ∷ []) (suc j) long e = absurd (omega arith)
 front_and_cr (c ∷ d ∷ cs) zero long e = absurd (omega arith)
 front_and_cr (c ∷ d ∷ cs) (suc j) long e = front_and_cr (d ∷ cs) j (omega arith) e
 
-both_true : (x y : Bool) → (x && y) ≡ true → (x ≡ true) × (y ≡ true)
-both_true true true e = (refl, refl)
-both_true true false e = absurd (grind (arith, nat_tests))
-both_true false y e = absurd (grind (arith, nat_tests))
-
 pub crlf_break : (set : LineBreaks) (bs : List ℕ) (p k : ℕ) → IsUtf8 bs → length (chars bs) ≡ suc k → byte_len (take k (chars bs)) ≡ p
     → ends_in_break set (chars bs) ≡ true → (is_break_char set 13 && ends_in_crlf (chars bs)) ≡ true → p - 1 ≡ byte_len (without_break set (chars bs))
 crlf_break set bs p k u long place ends pair =
     let cs : List ℕ = chars bs in
-    let crlf = (both_true (is_break_char set 13) (ends_in_crlf cs) pair).1 in
+    let crlf = (and_parts (is_break_char set 13) (ends_in_crlf cs) pair).1 in
     let same : length cs - 1 ≡ k = omega (arith, long) in
-    let cr : ends_in_cr (take k cs) ≡ true = ap (λ j. ends_in_cr (take j cs)) (sym same) ∙ (both_true (ends_in_cr (take (length cs - 1) cs)) (eqb (get_or cs (length cs - 1) 0) 10) crlf).0 in
+    let cr : ends_in_cr (take k cs) ≡ true = ap (λ j. ends_in_cr (take j cs)) (sym same) ∙ (and_parts (ends_in_cr (take (length cs - 1) cs)) (eqb (get_or cs (length cs - 1) 0) 10) crlf).0 in
     let size = length-take-le k cs (omega (arith, long)) in
     let some = some_cr (take k cs) cr in
     let step : suc (k - 1) ≡ k = omega arith in

@@ -1,5 +1,6 @@
 -- What an insert makes becomes one tree.
-use Rattle.std.proofs.Common.{◌≡◌, ℕ, ◌<◌, ◌^◌, Bool, true, false, ◌&&◌, eqb, Some, slice_get, List, [], ◌∷◌, drop, refl, ap, ◌∙◌, arith}
+use Rattle.std.proofs.Common.{◌≡◌, ℕ, ◌<◌, ◌^◌, eqb, Some, slice_get, List, [], ◌∷◌, drop, refl, ap, ◌∙◌, arith}
+use Rattle.std.proofs.lemmas.Bool.{and_parts}
 use Rattle.std.proofs.lemmas.List.{drop_more}
 use Rattle.std.proofs.lemmas.Option.{slice_get_within, get_or_from_slice_get}
 use Rattle.rope_text.specs.Text.{byte_len}
@@ -17,12 +18,8 @@ begins_at xs i x e = ap begins_with_lf (drop_more xs i x (slice_get_within xs i 
 pub may_insert : (t : Tree) (at : ℕ) (new : List ℕ) → MayInsert t at new (parts_crlf new (drop at (text t)))
 may_insert t at new = record {
   left = λ f. record { apart = f };
-  right = λ f. both (ends_in_cr new) (begins_with_lf (drop at (text t))) f;
+  right = λ f. (and_parts (ends_in_cr new) (begins_with_lf (drop at (text t))) f).1;
 }
-  where
-    both : (x y : Bool) → (x && y) ≡ true → y ≡ true
-    both true y e = e
-    both false y e = cc
 
 -- two trees are children of one
 pub children_of_two : (old x y : Tree) (new : List ℕ) → IsInserted old (x ∷ y ∷ []) new → byte_len new < 2 ^ 63 → AreChildren (breaks_of (x ∷ y ∷ [])) (height_of (x ∷ y ∷ [])) (x ∷ y ∷ [])
