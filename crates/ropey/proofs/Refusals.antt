@@ -1,10 +1,13 @@
 -- When an insert is refused, but for memory.
-use Rattle.std.proofs.Common.{◌≡◌, ℕ, ◌+◌, ◌^◌, ◌<◌, ◌≤◌, List, [], ◌++◌, length, take, drop, ap, ◌∙◌, sym, Some, None, take-append-drop}
+use Rattle.std.proofs.Common.{◌≡◌, ℕ, ◌+◌, ◌^◌, ◌<◌, ◌≤◌, List, [], ◌++◌, length, take, drop, ap, ◌∙◌, sym, Some, None, true, refl, arith, take-append-drop}
 use Rattle.std.proofs.lemmas.Bool.{cond-true, cond-false, le-leb, lt-ltb, le-ltb}
-use Rattle.std.proofs.lemmas.List.{append-nil}
+use Rattle.std.proofs.lemmas.List.{append-nil, nil_from_length}
+use Rattle.std.proofs.lemmas.Str.{length-le-encodes}
+use Rattle.rope_text.specs.declared.line_breaks.LineBreaks.{LineBreaks}
+use Rattle.rope_text.specs.declared.line_breaks.LineBreaks.TheVariants.{Lf, CrLf, Unicode}
 use Rattle.rope_text.specs.declared.error.Error.TheVariants.{TooLong}
 use Rattle.rope_text.specs.Text.{byte_len}
-use Rattle.rope_text.specs.Edit.{inserted, insert_error, or_else, size_error}
+use Rattle.rope_text.specs.Edit.{inserted, insert_error, append_error, same_breaks, or_else, size_error}
 
 in_range : (text : List ℕ) (i : ℕ) (new : List ℕ) → i ≤ length text → insert_error text i new ≡ size_error (byte_len text + byte_len new)
 in_range text i new within = ap (λ o. or_else o (size_error (byte_len text + byte_len new))) (cond-true _ _ _ (le-leb i (length text) within))
@@ -19,3 +22,18 @@ insert_error-long text i new within over = in_range text i new within ∙ cond-f
 pub inserted_none : (text : List ℕ) (i : ℕ) (new : List ℕ) → new ≡ [] → text ≡ inserted text i new
 inserted_none text i new none =
     sym (take-append-drop i text) ∙ ap (λ t. t ++ drop i text) (sym (append-nil (take i text))) ∙ ap (λ n. (take i text ++ n) ++ drop i text) (sym none)
+
+-- an append that nothing refuses but memory
+pub append_error-none : (set other : LineBreaks) (text new : List ℕ) → other ≡ set → byte_len text + byte_len new < 2 ^ 63 → append_error set other text new ≡ None
+append_error-none set other text new same fits =
+    let one : same_breaks set other ≡ true = ap (same_breaks set) same ∙ reflexive set in
+    ap (λ o. or_else o (size_error (byte_len text + byte_len new))) (cond-true _ _ _ one) ∙ cond-true _ _ _ (lt-ltb (byte_len text + byte_len new) (2 ^ 63) fits)
+  where
+    reflexive : (br : LineBreaks) → same_breaks br br ≡ true
+    reflexive Lf = refl
+    reflexive CrLf = refl
+    reflexive Unicode = refl
+
+-- a text of no bytes
+pub no_text : (text : List ℕ) → byte_len text ≡ 0 → text ≡ []
+no_text text none = nil_from_length text (omega (arith, length-le-encodes text))

@@ -4,6 +4,7 @@
 mod chunks_at;
 mod conversions;
 mod counted;
+mod edits;
 pub mod iter;
 mod lookups;
 mod rope;

@@ -21,10 +21,10 @@ use std::marker::Model;
 use std::rc::Rc;
 
 /// A text of at most `isize::MAX` bytes, cut into chunks of 1 to `MAX_BYTES` bytes, which are the leaves of a tree.
-#[derive(Drop)]
+#[derive(Clone, Drop)]
 pub struct Rope {
-    root: Rc<Node>,
-    alloc: Global,
+    pub(crate) root: Rc<Node>,
+    pub(crate) alloc: Global,
 }
 
 impl Model for Rope {
@@ -39,7 +39,7 @@ impl Model for Rope {
 }
 
 // The bytes that a text has at the most.
-const MAX_TEXT_BYTES: usize = isize::MAX as usize;
+pub(crate) const MAX_TEXT_BYTES: usize = isize::MAX as usize;
 
 impl Rope {
     /// The empty text, with Unicode's line breaks, in no chunk. It takes memory, and refuses for want of it alone.

@@ -1,0 +1,256 @@
+//! Ropes split, appended, and with a part taken out.
+ghost use Rattle.std.specs.Prelude.{◌≡◌, ℕ, ◌+◌, ◌*◌, ◌≤◌, ◌<◌, ◌^◌, ◌++◌, length, take, drop, max, None, IsOk, IfOk, IfErr, OnOk, OnErr};
+ghost use Rattle.rope_text.specs.declared.error.Error.TheVariants.{OutOfMemory};
+ghost use Rattle.rope_text.specs.Text.{byte_len};
+ghost use Rattle.rope_text.specs.Edit.{char_index_error, char_range_error, range_start, range_end, removed, append_error, IsRefusal};
+ghost use Rattle.ropey.specs.View.{IsRope};
+
+use crate::rope::{MAX_TEXT_BYTES, Rope};
+use rope_join::edit::{Parts, append, remove, split};
+use rope_text::range::{IndexRange, char_bounds};
+use rope_text::{Error, Result, Steps};
+
+impl Rope {
+    // Splits where only want of memory refuses it, and counts the nodes that are made.
+    fn split_at(&mut self, char_idx: usize, made: &mut u64) -> Result<Rope>
+        requires { char_idx ≤ length self.old.text }
+        ensures front { OnOk result (self.new.text ≡ take char_idx self.old.text) }
+        ensures back { IfOk result (λ rope. rope.text ≡ drop char_idx self.old.text) }
+        ensures same { IfOk result (λ rope. rope.breaks ≡ self.old.breaks) }
+        ensures part { IfOk result IsRope }
+        ensures refused { IfErr result (λ e. e ≡ OutOfMemory) }
+        ensures err { OnErr result (self.new ≡ self.old) }
+        ensures breaks { self.new.breaks ≡ self.old.breaks }
+        ensures kept { IsRope self.new }
+        ensures made { made.new ≤ made.old + 12 * self.old.depth + 2 }
+    {
+        let _ = self.root.height();
+        let Parts { front, back } = split(self.alloc, &self.root, char_idx, made)?;
+        let _ = front.height();
+        let _ = back.height();
+        self.root = front;
+        Ok(Rope {
+            root: back,
+            alloc: self.alloc,
+        })
+    }
+
+    /// Leaves the first `char_idx` characters, and answers the others as a rope with the same set of line breaks.
+    ///
+    /// It refuses a character past the end, then for want of memory, and leaves the rope as it was where it refuses.
+    pub fn try_split_off(&mut self, char_idx: usize) -> Result<Rope>
+        ensures front { OnOk result ((char_index_error char_idx (length self.old.text) ≡ None) × (self.new.text ≡ take char_idx self.old.text)) }
+        ensures back { IfOk result (λ rope. rope.text ≡ drop char_idx self.old.text) }
+        ensures same { IfOk result (λ rope. rope.breaks ≡ self.old.breaks) }
+        ensures part { IfOk result IsRope }
+        ensures refused { IfErr result (IsRefusal (char_index_error char_idx (length self.old.text))) }
+        ensures err { OnErr result (self.new ≡ self.old) }
+        ensures breaks { self.new.breaks ≡ self.old.breaks }
+        ensures kept { IsRope self.new }
+    {
+        let len = self.len_chars();
+        let _ = self.len_bytes();
+        if char_idx > len {
+            return Err(Error::CharIndexOutOfBounds(char_idx, len));
+        }
+        self.split_at(char_idx, &mut 0)
+    }
+
+    /// Leaves the first `char_idx` characters, and answers the others, as `try_split_off` does.
+    pub fn split_off(&mut self, char_idx: usize) -> Result<Rope>
+        requires { char_idx ≤ length self.old.text }
+        ensures front { OnOk result (self.new.text ≡ take char_idx self.old.text) }
+        ensures back { IfOk result (λ rope. rope.text ≡ drop char_idx self.old.text) }
+        ensures same { IfOk result (λ rope. rope.breaks ≡ self.old.breaks) }
+        ensures part { IfOk result IsRope }
+        ensures refused { IfErr result (λ e. e ≡ OutOfMemory) }
+        ensures err { OnErr result (self.new ≡ self.old) }
+        ensures breaks { self.new.breaks ≡ self.old.breaks }
+        ensures kept { IsRope self.new }
+    {
+        self.split_at(char_idx, &mut 0)
+    }
+
+    /// Does what `split_off` does, and counts the nodes that it makes; all counts are 0 before.
+    pub fn split_off_counted(&mut self, char_idx: usize, steps: &mut Steps) -> Result<Rope>
+        requires { char_idx ≤ length self.old.text }
+        ensures front { OnOk result (self.new.text ≡ take char_idx self.old.text) }
+        ensures back { IfOk result (λ rope. rope.text ≡ drop char_idx self.old.text) }
+        ensures same { IfOk result (λ rope. rope.breaks ≡ self.old.breaks) }
+        ensures part { IfOk result IsRope }
+        ensures refused { IfErr result (λ e. e ≡ OutOfMemory) }
+        ensures err { OnErr result (self.new ≡ self.old) }
+        ensures breaks { self.new.breaks ≡ self.old.breaks }
+        ensures kept { IsRope self.new }
+        ensures made { steps.new.made ≤ 16 * self.old.depth + 32 }
+    {
+        *steps = Steps::new();
+        self.split_at(char_idx, &mut steps.made)
+    }
+
+    // Takes characters out where only want of memory refuses it, and counts the nodes that are made.
+    fn remove_chars(&mut self, start: usize, end: usize, made: &mut u64) -> Result<()>
+        requires ordered { start ≤ end }
+        requires within { end ≤ length self.old.text }
+        ensures ok { OnOk result (self.new.text ≡ removed self.old.text start end) }
+        ensures refused { IfErr result (λ e. e ≡ OutOfMemory) }
+        ensures err { OnErr result (self.new ≡ self.old) }
+        ensures breaks { self.new.breaks ≡ self.old.breaks }
+        ensures kept { IsRope self.new }
+        ensures made { made.new ≤ made.old + 16 * self.old.depth + 11 }
+    {
+        let _ = self.root.height();
+        let root = remove(self.alloc, &self.root, start, end, made)?;
+        let _ = root.height();
+        self.root = root;
+        Ok(())
+    }
+
+    // Takes the characters of a range out, and counts the nodes that are made.
+    fn remove_range<R: IndexRange + Drop>(&mut self, range: R, made: &mut u64) -> Result<()>
+        ensures ok { OnOk result ((char_range_error (R.told_start range) (R.told_end range) (length self.old.text) ≡ None)
+            × (self.new.text ≡ removed self.old.text (range_start (R.told_start range)) (range_end (R.told_end range) (length self.old.text)))) }
+        ensures refused { IfErr result (IsRefusal (char_range_error (R.told_start range) (R.told_end range) (length self.old.text))) }
+        ensures err { OnErr result (self.new ≡ self.old) }
+        ensures empty { char_range_error (R.told_start range) (R.told_end range) (length self.old.text) ≡ None
+            → range_start (R.told_start range) ≡ range_end (R.told_end range) (length self.old.text) → IsOk result × (self.new ≡ self.old) }
+        ensures breaks { self.new.breaks ≡ self.old.breaks }
+        ensures kept { IsRope self.new }
+        ensures made { made.new ≤ made.old + 16 * self.old.depth + 11 }
+    {
+        let _ = self.len_bytes();
+        let (start, end) = char_bounds(&range, self.len_chars())?;
+        if start == end {
+            return Ok(());
+        }
+        self.remove_chars(start, end, made)
+    }
+
+    /// Takes the characters of a range out.
+    ///
+    /// It refuses a bound past the end, then a start after the end, then for want of memory, and leaves the rope as it was
+    /// where it refuses. An empty range within the text takes no memory.
+    pub fn try_remove<R: IndexRange + Drop>(&mut self, range: R) -> Result<()>
+        ensures ok { OnOk result ((char_range_error (R.told_start range) (R.told_end range) (length self.old.text) ≡ None)
+            × (self.new.text ≡ removed self.old.text (range_start (R.told_start range)) (range_end (R.told_end range) (length self.old.text)))) }
+        ensures refused { IfErr result (IsRefusal (char_range_error (R.told_start range) (R.told_end range) (length self.old.text))) }
+        ensures err { OnErr result (self.new ≡ self.old) }
+        ensures empty { char_range_error (R.told_start range) (R.told_end range) (length self.old.text) ≡ None
+            → range_start (R.told_start range) ≡ range_end (R.told_end range) (length self.old.text) → IsOk result × (self.new ≡ self.old) }
+        ensures breaks { self.new.breaks ≡ self.old.breaks }
+        ensures kept { IsRope self.new }
+    {
+        self.remove_range(range, &mut 0)
+    }
+
+    /// Takes the characters of a range within the text out, as `try_remove` does.
+    pub fn remove<R: IndexRange + Drop>(&mut self, range: R) -> Result<()>
+        requires { char_range_error (R.told_start range) (R.told_end range) (length self.old.text) ≡ None }
+        ensures ok { OnOk result (self.new.text ≡ removed self.old.text (range_start (R.told_start range)) (range_end (R.told_end range) (length self.old.text))) }
+        ensures refused { IfErr result (λ e. e ≡ OutOfMemory) }
+        ensures err { OnErr result (self.new ≡ self.old) }
+        ensures empty { range_start (R.told_start range) ≡ range_end (R.told_end range) (length self.old.text) → IsOk result × (self.new ≡ self.old) }
+        ensures breaks { self.new.breaks ≡ self.old.breaks }
+        ensures kept { IsRope self.new }
+    {
+        self.try_remove(range)
+    }
+
+    /// Does what `remove` does, and counts the nodes that it makes; all counts are 0 before.
+    pub fn remove_counted<R: IndexRange + Drop>(
+        &mut self,
+        range: R,
+        steps: &mut Steps,
+    ) -> Result<()>
+        requires { char_range_error (R.told_start range) (R.told_end range) (length self.old.text) ≡ None }
+        ensures ok { OnOk result (self.new.text ≡ removed self.old.text (range_start (R.told_start range)) (range_end (R.told_end range) (length self.old.text))) }
+        ensures refused { IfErr result (λ e. e ≡ OutOfMemory) }
+        ensures err { OnErr result (self.new ≡ self.old) }
+        ensures empty { range_start (R.told_start range) ≡ range_end (R.told_end range) (length self.old.text) → IsOk result × (self.new ≡ self.old) }
+        ensures breaks { self.new.breaks ≡ self.old.breaks }
+        ensures kept { IsRope self.new }
+        ensures made { steps.new.made ≤ 16 * self.old.depth + 32 }
+    {
+        *steps = Steps::new();
+        self.remove_range(range, &mut steps.made)
+    }
+
+    // Appends where only want of memory refuses it, and counts the nodes that are made.
+    fn append_rope(&mut self, other: &Rope, made: &mut u64) -> Result<()>
+        requires same_breaks { other.now.breaks ≡ self.old.breaks }
+        requires fits { byte_len self.old.text + byte_len other.now.text < 2 ^ 63 }
+        ensures ok { OnOk result (self.new.text ≡ self.old.text ++ other.now.text) }
+        ensures refused { IfErr result (λ e. e ≡ OutOfMemory) }
+        ensures err { OnErr result (self.new ≡ self.old) }
+        ensures breaks { self.new.breaks ≡ self.old.breaks }
+        ensures kept { IsRope self.new }
+        ensures made { made.new ≤ made.old + 16 * max self.old.depth other.now.depth + 11 }
+    {
+        let _ = self.root.height();
+        let root = append(self.alloc, &self.root, &other.root, made)?;
+        let _ = root.height();
+        self.root = root;
+        Ok(())
+    }
+
+    // Puts the text of another rope behind this one's, and counts the nodes that are made.
+    fn append_made(&mut self, other: Rope, made: &mut u64) -> Result<()>
+        ensures ok { OnOk result ((append_error self.old.breaks other.breaks self.old.text other.text ≡ None) × (self.new.text ≡ self.old.text ++ other.text)) }
+        ensures refused { IfErr result (IsRefusal (append_error self.old.breaks other.breaks self.old.text other.text)) }
+        ensures err { OnErr result (self.new ≡ self.old) }
+        ensures empty_other { append_error self.old.breaks other.breaks self.old.text other.text ≡ None → length other.text ≡ 0 → IsOk result × (self.new ≡ self.old) }
+        ensures empty_self { append_error self.old.breaks other.breaks self.old.text other.text ≡ None → length self.old.text ≡ 0 → 0 < length other.text → IsOk result × (self.new ≡ other) }
+        ensures breaks { self.new.breaks ≡ self.old.breaks }
+        ensures kept { IsRope self.new }
+        ensures made { made.new ≤ made.old + 16 * max self.old.depth other.depth + 11 }
+    {
+        let bytes = self.len_bytes();
+        let more = other.len_bytes();
+        if self.root.line_breaks() != other.root.line_breaks() {
+            return Err(Error::LineBreaksDiffer);
+        }
+        if more > MAX_TEXT_BYTES - bytes {
+            return Err(Error::TooLong);
+        }
+        if more == 0 {
+            return Ok(());
+        }
+        if bytes == 0 {
+            self.root = other.root;
+            return Ok(());
+        }
+        self.append_rope(&other, made)
+    }
+
+    /// Puts the text of another rope behind this one's.
+    ///
+    /// It refuses a rope with another set of line breaks, then a text longer than `isize::MAX` bytes, then for want of
+    /// memory, and leaves the rope as it was where it refuses. Where one of the two is empty it takes no memory, and the
+    /// rope has the chunks of the other.
+    pub fn append(&mut self, other: Rope) -> Result<()>
+        ensures ok { OnOk result ((append_error self.old.breaks other.breaks self.old.text other.text ≡ None) × (self.new.text ≡ self.old.text ++ other.text)) }
+        ensures refused { IfErr result (IsRefusal (append_error self.old.breaks other.breaks self.old.text other.text)) }
+        ensures err { OnErr result (self.new ≡ self.old) }
+        ensures empty_other { append_error self.old.breaks other.breaks self.old.text other.text ≡ None → length other.text ≡ 0 → IsOk result × (self.new ≡ self.old) }
+        ensures empty_self { append_error self.old.breaks other.breaks self.old.text other.text ≡ None → length self.old.text ≡ 0 → 0 < length other.text → IsOk result × (self.new ≡ other) }
+        ensures breaks { self.new.breaks ≡ self.old.breaks }
+        ensures kept { IsRope self.new }
+    {
+        self.append_made(other, &mut 0)
+    }
+
+    /// Does what `append` does, and counts the nodes that it makes; all counts are 0 before.
+    pub fn append_counted(&mut self, other: Rope, steps: &mut Steps) -> Result<()>
+        ensures ok { OnOk result ((append_error self.old.breaks other.breaks self.old.text other.text ≡ None) × (self.new.text ≡ self.old.text ++ other.text)) }
+        ensures refused { IfErr result (IsRefusal (append_error self.old.breaks other.breaks self.old.text other.text)) }
+        ensures err { OnErr result (self.new ≡ self.old) }
+        ensures empty_other { append_error self.old.breaks other.breaks self.old.text other.text ≡ None → length other.text ≡ 0 → IsOk result × (self.new ≡ self.old) }
+        ensures empty_self { append_error self.old.breaks other.breaks self.old.text other.text ≡ None → length self.old.text ≡ 0 → 0 < length other.text → IsOk result × (self.new ≡ other) }
+        ensures breaks { self.new.breaks ≡ self.old.breaks }
+        ensures kept { IsRope self.new }
+        ensures made { steps.new.made ≤ 16 * max self.old.depth other.depth + 32 }
+    {
+        *steps = Steps::new();
+        self.append_made(other, &mut steps.made)
+    }
+}
