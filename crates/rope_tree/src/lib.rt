@@ -11,4 +11,5 @@ pub mod insert;
 pub mod lookup;
 pub mod node;
 pub mod node_text;
+pub mod removal;
 pub mod search;
