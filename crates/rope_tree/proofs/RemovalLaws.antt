@@ -2,6 +2,8 @@
 use Rattle.std.proofs.Common.{◌≡◌, ℕ, ◌+◌, ◌-◌, ◌*◌, ◌^◌, ◌<◌, ◌≤◌, true, List, [], ◌∷◌, ◌++◌, length, get_or, set, take, drop, refl, sym, ap, ap₂, subst, ◌∙◌, arith}
 use Rattle.std.specs.List.{concat}
 use Rattle.std.specs.Str.{all_scalars}
+use Rattle.std.specs.declared.alloc.Global.{Global}
+use Rattle.std.specs.declared.rc.Rc.{Rc}
 use Rattle.std.proofs.lemmas.List.{append_assoc, append-nil, length-append, length-set, length-take-le, length-drop, take-append-drop}
 use Rattle.std.proofs.lemmas.List.Elements.{All-set}
 use Rattle.rope_text.specs.declared.line_breaks.LineBreaks.{LineBreaks}
@@ -12,12 +14,13 @@ use Rattle.rope_text.specs.TextInfo.{info_of}
 use Rattle.rope_text.proofs.Measures.{IsMeasure-byte_len, size_le}
 use Rattle.rope_text.proofs.CuttingLaws.{concat-append}
 use Rattle.rope_tree.specs.declared.search.Unit.TheVariants.{Char}
+use Rattle.rope_tree.specs.declared.node.Node.{Node}
 use Rattle.rope_tree.specs.declared.node.Node.TheInside.{Inside}
 use Rattle.rope_tree.specs.declared.node.Body.TheVariants.{Leaf, Inner}
 use Rattle.rope_tree.specs.Shape.{body_leaves, tree_of, IsNode}
 use Rattle.rope_tree.specs.Leaves.{AreLeaves, IsSeam}
 use Rattle.rope_tree.specs.Tree.{Tree, text, joined, one_leaf, leaves_of, height_of, breaks_of, tree_over, IsTree, IsWide, IsChild, AreChildren}
-use Rattle.rope_tree.specs.Listed.{HasTotals}
+use Rattle.rope_tree.specs.Listed.{trees, HasTotals}
 use Rattle.rope_tree.specs.Removal.{IsRemoved, AreRemoved}
 use Rattle.rope_tree.proofs.LeafLaws.{lone_leaf, leaves-append, leaves_left, leaves_right, seam_of_left, seam_of_right, seam_right_longer, seam_left_longer, seam-take, seam-drop}
 use Rattle.rope_tree.proofs.TreeLaws.{height_of_is, breaks_of_is}
@@ -25,7 +28,7 @@ use Rattle.rope_tree.proofs.NodeLaws.{leaves_of-append, child_at, more_at, leaf_
 use Rattle.rope_tree.proofs.Descents.{Descends}
 use Rattle.rope_tree.proofs.GrownLaws.{set_parts, IsInner}
 use Rattle.rope_tree.proofs.InsertLaws.{front_of, rest_of}
-use Rattle.rope_tree.proofs.InsertTrees.{around_child, text_around, seam_before, seam_after}
+use Rattle.rope_tree.proofs.InsertTrees.{around, around_child, text_around, seam_before, seam_after}
 
 pub byte_len-removed : (xs : List ℕ) (a b : ℕ) → a ≤ b → byte_len (removed xs a b) ≤ byte_len xs
 byte_len-removed xs a b order =
@@ -171,6 +174,14 @@ module _ (br : LineBreaks) (h : ℕ) (ts : List Tree) (k : ℕ) (c : Tree) (a : 
       as_many_leaves = omega (arith, ap length new_leaves, ap length old_leaves, length-append left (u.leaves ++ right), length-append left (c.leaves ++ right), length-append u.leaves right, length-append c.leaves right, r.as_many);
       children = rw (sym br_is, sym h_is) new_children;
     }
+
+-- the slices around a child, with the new one between them
+pub spliced_removed : (rcs : List (Rc Node Global)) (k : ℕ) (c u : Tree) (vs : List Tree) → AreChildren (breaks_of (trees rcs)) (height_of (trees rcs)) (trees rcs) → k < length (trees rcs) → get_or (trees rcs) k c ≡ c
+    → (i j start end : ℕ) → Holds (trees rcs) k c i j start end → IsSeam (take start (joined (trees rcs))) (drop end (joined (trees rcs))) → IsRemoved c u i j
+    → vs ≡ trees (take k rcs) ++ (u ∷ [] ++ trees (take (length rcs - (k + 1)) (drop (k + 1) rcs))) → AreRemoved (trees rcs) vs start end
+spliced_removed rcs k c u vs a lt here i j start end held apart r is =
+    let ts = trees rcs in
+    rw (around rcs k (u ∷ []) vs is ∙ sym (set_parts ts k u lt)) (children_removed (breaks_of ts) (height_of ts) ts k c a lt here i j start end held apart u r refl refl)
 
 -- a node over the children that are left is the old one without the characters
 pub over_removed : (t x : Tree) (ts us : List Tree) (start end : ℕ) → t ≡ tree_over ts → x ≡ tree_over us → AreRemoved ts us start end → IsRemoved t x start end
