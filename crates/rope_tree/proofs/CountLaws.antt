@@ -74,7 +74,7 @@ pub record Uncounts (set : LineBreaks) (front back : List ℕ) (info less : Text
   pub breaks_le : less.line_breaks ≤ info.line_breaks + met
   pub met_le : met ≤ 2
   pub whole : ◌≡◌ {A = TextInfo} (record { bytes = info.bytes - less.bytes; chars = info.chars - less.chars; utf16_surrogates = info.utf16_surrogates - less.utf16_surrogates; line_breaks = info.line_breaks + met - less.line_breaks })
-    (info_of set (front ++ back))
+      (info_of set (front ++ back))
 
 -- the counts of a text less those of a part in it, with the breaks corrected where the part met the ends around it
 pub uncounts : (set : LineBreaks) (front part back : List ℕ) (info less : TextInfo) (first second : ℕ) → 1 ≤ length part → info ≡ info_of set (front ++ (part ++ back)) → less ≡ info_of set part
