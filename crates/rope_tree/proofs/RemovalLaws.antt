@@ -1,10 +1,10 @@
 -- Characters that are taken out of one leaf below a node.
-use Rattle.std.proofs.Common.{◌≡◌, ℕ, ◌+◌, ◌-◌, ◌*◌, ◌^◌, ◌<◌, ◌≤◌, true, List, [], ◌∷◌, ◌++◌, length, get_or, set, take, drop, refl, sym, ap, ap₂, subst, ◌∙◌, arith}
+use Rattle.std.proofs.Common.{◌≡◌, ℕ, ◌+◌, ◌-◌, ◌<◌, ◌≤◌, true, List, [], ◌∷◌, ◌++◌, length, get_or, set, take, drop, refl, sym, ap, subst, ◌∙◌, arith}
 use Rattle.std.specs.List.{concat}
 use Rattle.std.specs.Str.{all_scalars}
 use Rattle.std.specs.declared.alloc.Global.{Global}
 use Rattle.std.specs.declared.rc.Rc.{Rc}
-use Rattle.std.proofs.lemmas.List.{append_assoc, append-nil, length-append, length-set, length-take-le, length-drop, take-append-drop}
+use Rattle.std.proofs.lemmas.List.{append_assoc, length-append, length-set, length-take-le, length-drop, take-append-drop}
 use Rattle.std.proofs.lemmas.List.Elements.{All-set}
 use Rattle.rope_text.specs.declared.line_breaks.LineBreaks.{LineBreaks}
 use Rattle.rope_text.specs.declared.text_info.TextInfo.{TextInfo}
@@ -19,7 +19,7 @@ use Rattle.rope_tree.specs.declared.node.Node.TheInside.{Inside}
 use Rattle.rope_tree.specs.declared.node.Body.TheVariants.{Leaf, Inner}
 use Rattle.rope_tree.specs.Shape.{body_leaves, tree_of, IsNode}
 use Rattle.rope_tree.specs.Leaves.{AreLeaves, IsSeam}
-use Rattle.rope_tree.specs.Tree.{Tree, text, joined, one_leaf, leaves_of, height_of, breaks_of, tree_over, IsTree, IsWide, IsChild, AreChildren}
+use Rattle.rope_tree.specs.Tree.{Tree, text, joined, one_leaf, leaves_of, height_of, breaks_of, tree_over, IsTree, IsChild, AreChildren}
 use Rattle.rope_tree.specs.Listed.{trees, HasTotals}
 use Rattle.rope_tree.specs.Removal.{IsRemoved, AreRemoved}
 use Rattle.rope_tree.proofs.LeafLaws.{lone_leaf, leaves-append, leaves_left, leaves_right, seam_of_left, seam_of_right, seam_right_longer, seam_left_longer, seam-take, seam-drop}

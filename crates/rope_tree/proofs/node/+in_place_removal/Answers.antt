@@ -1,12 +1,10 @@
-use Rattle.std.proofs.Common.{◌≡◌, ℕ, ◌+◌, ◌-◌, ◌<◌, ◌≤◌, [], ◌∷◌, length, ◌++◌, set, take, drop, sym, ap, subst, refl, ◌∙◌, arith}
+use Rattle.std.proofs.Common.{◌≡◌, ℕ, ◌-◌, ◌<◌, ◌≤◌, length, set, take, drop, sym, ap, subst, refl, ◌∙◌, arith}
 use Rattle.std.specs.Rc.{rc_with_value}
-use Rattle.rope_text.specs.Text.{byte_len}
-use Rattle.rope_text.specs.Edit.{removed}
 use Rattle.rope_text.specs.TextInfo.{info_of}
 use Rattle.rope_tree.specs.declared.search.Unit.TheVariants.{Char}
 use Rattle.rope_tree.specs.Falls.{tallest_below}
 use Rattle.rope_tree.specs.Leaves.{IsSeam}
-use Rattle.rope_tree.specs.Tree.{Tree, text, joined, height_of, breaks_of, tree_over, AreChildren}
+use Rattle.rope_tree.specs.Tree.{Tree, text, joined, height_of, breaks_of, AreChildren}
 use Rattle.rope_tree.specs.Listed.{trees, HasTotals}
 use Rattle.rope_tree.specs.Removal.{IsRemoved, AreRemoved}
 use Rattle.rope_tree.proofs.NodeLaws.{small_totals}

@@ -1,4 +1,4 @@
-use Rattle.std.proofs.Common.{◌≡◌, ℕ, ◌+◌, ◌-◌, ◌<◌, ◌≤◌, length, take, drop, ap, subst, ◌∙◌, arith}
+use Rattle.std.proofs.Common.{◌≡◌, ℕ, ◌+◌, ◌-◌, ◌≤◌, length, take, drop, ap, subst, arith}
 use Rattle.rope_tree.specs.Leaves.{IsSeam}
 use Rattle.rope_tree.specs.declared.search.Unit.TheVariants.{Char}
 use Rattle.rope_tree.specs.Tree.{text, joined, height_of, breaks_of}
