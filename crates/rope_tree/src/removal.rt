@@ -122,3 +122,6 @@ pub fn remove_at(
     *root = new;
     Ok(true)
 }
+
+#[cfg(test)]
+mod tests;
