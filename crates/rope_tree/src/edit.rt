@@ -100,6 +100,9 @@ pub fn insert_short(
     Ok(root_of(alloc, node, nodes, added, at, made)?)
 }
 
+/// The bytes of the longest text that goes into a leaf: with it in, a full leaf can be cut into two wherever it goes.
+pub const MAX_SHORT_BYTES: usize = 981;
+
 /// Puts a text of 1 to 981 bytes before the character `at`: where the nodes stand, if nothing on the way is shared and the
 /// leaf has room, which takes no memory; and else in a tree that takes the old one's place last of all.
 pub fn insert_at(
