@@ -18,3 +18,4 @@ pub mod InsertDescents
 pub mod ChunksFound
 pub mod InsertRoots
 pub mod BuildLaws
+pub mod NodeTexts
