@@ -94,9 +94,7 @@ fn split_and_append(rope: &mut Rope, count: usize) -> Result<(), Fault> {
     let first = (rope.len_chars() / 2).saturating_sub(500);
     for _ in 0..count {
         // Never past the end, where the prover need not be told so.
-        let place = first
-            .wrapping_add(numbers.up_to(999))
-            .min(rope.len_chars());
+        let place = first.wrapping_add(numbers.up_to(999)).min(rope.len_chars());
         let back = rope.split_off(place)?;
         rope.append(back)?;
     }
