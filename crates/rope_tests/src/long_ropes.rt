@@ -7,6 +7,7 @@ use std::test::Fail;
 
 /// Half of the longest text made by doubling, and its double.
 const HALF: usize = 1 << 61;
+
 const WHOLE: usize = 1 << 62;
 
 /// A text that is joined to itself so many times.
@@ -43,7 +44,10 @@ fn the_longest_text(rt: HostRuntime) -> Result<(), Fail> {
     let mut rope = doubled(rt.alloc(), "a", 62)?;
     let mut first = rope.clone()?;
     let rest = first.try_split_off(1)?;
-    assert_eq!(rt; (first.len_bytes(), rest.len_bytes()), (1, 4_611_686_018_427_387_903));
+    assert_eq!(rt;
+        (first.len_bytes(), rest.len_bytes()),
+        (1, 4_611_686_018_427_387_903)
+    );
     rope.append(rest)?;
     assert!(rt; rope.len_bytes() == isize::MAX as usize);
     assert!(rt; rope.try_insert_char(0, 'x') == Err(Error::TooLong));

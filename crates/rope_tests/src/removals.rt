@@ -6,10 +6,7 @@ use std::test::Fail;
 
 /// A million letters.
 fn million(alloc: Global) -> Result<Rope, Fail> {
-    Ok(Rope::from_str(
-        alloc,
-        repeated(alloc, "a", 1_000_000)?.as_str(),
-    )?)
+    Ok(Rope::from_str(alloc, repeated(alloc, "a", 1_000_000)?.as_str())?)
 }
 
 #[test]
@@ -19,7 +16,10 @@ fn all_pairs_but_the_ends(rt: HostRuntime) -> Result<(), Fail> {
     rope.remove(1..1_999)?;
     compare(&rt, &rope, &chars_of(rt.alloc(), "\r\n")?);
     assert_eq!(rt; rope.len_lines(), 2);
-    assert_eq!(rt; (rope.chunks().count(), rope.depth(), rope.capacity()), (1, 0, 984));
+    assert_eq!(rt;
+        (rope.chunks().count(), rope.depth(), rope.capacity()),
+        (1, 0, 984)
+    );
     Ok(())
 }
 
