@@ -1,16 +1,18 @@
-//! Trees split, with a part taken out, and put one behind the other. Where a CR and an LF would meet at a seam, the two
+//! Trees split, with a part taken out or put in, and put one behind the other. Where a CR and an LF would meet at a seam, the two
 //! become a leaf of their own between what stands before and what follows, so that no CR LF lies across two leaves.
 ghost use Rattle.std.specs.Prelude.{◌≡◌, ◌+◌, ◌*◌, ◌<◌, ◌≤◌, ◌^◌, ◌∷◌, ◌++◌, length, take, drop, max, IfOk};
+ghost use Rattle.std.specs.Str.{chars};
 ghost use Rattle.rope_text.specs.Text.{byte_len};
 ghost use Rattle.rope_text.specs.Breaks.{ends_in_cr};
 ghost use Rattle.rope_text.specs.Cutting.{parts_crlf};
-ghost use Rattle.rope_text.specs.Edit.{removed};
+ghost use Rattle.rope_text.specs.Edit.{inserted, removed};
 ghost use Rattle.rope_tree.specs.Tree.{text};
 ghost use Rattle.rope_join.specs.Cut.{IsFront, IsBack};
 
 use crate::cut::{back, front};
 use crate::join::join;
 use rope_text::Steps;
+use rope_tree::build::build;
 use rope_tree::edit::is_lf;
 use rope_tree::insert::leaf_of;
 use rope_tree::lookup::char_at;
@@ -157,4 +159,24 @@ pub fn split(alloc: Global, node: &Rc<Node>, at: usize, made: &mut u64) -> Resul
     let front = front_or_none(alloc, node, at, made)?;
     let back = back_or_none(alloc, node, at, made)?;
     Ok(Parts { front, back })
+}
+
+/// The tree with a text of any length before its character `at`: it is split, and the text goes between as a tree of its
+/// own. What is made of the old tree are its parts, so it costs what the new text and the height do.
+pub fn insert(
+    alloc: Global,
+    node: &Rc<Node>,
+    at: usize,
+    added: &str,
+    made: &mut u64,
+) -> Result<Rc<Node>, AllocError>
+    requires within { at ≤ length (text node.now.value) }
+    requires fits { byte_len (text node.now.value) + length added.now < 2 ^ 63 }
+    ensures text { IfOk result (λ new. text new.value ≡ inserted (text node.now.value) at (chars added.now)) }
+    ensures breaks { IfOk result (λ new. new.value.breaks ≡ node.now.value.breaks) }
+{
+    let Parts { front, back } = split(alloc, node, at, made)?;
+    let middle = build(alloc, added, node.line_breaks(), made)?;
+    let first = append(alloc, &front, &middle, made)?;
+    Ok(append(alloc, &first, &back, made)?)
 }

@@ -17,5 +17,5 @@ pub mod InsertLeaves
 pub mod InsertDescents
 pub mod ChunksFound
 pub mod InsertRoots
-pub mod InsertPieces
 pub mod BuildLaws
+pub mod NodeTexts

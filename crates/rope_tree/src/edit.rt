@@ -8,12 +8,12 @@ ghost use Rattle.rope_tree.specs.Tree.{text, IsTree};
 ghost use Rattle.rope_tree.specs.View.{trees_in};
 ghost use Rattle.rope_tree.specs.Insert.{MayInsert, IsInserted};
 
-use crate::children::{pair, share};
+use crate::children::pair;
 use crate::counts::ends_in_cr;
 use crate::insert::insert;
 use crate::lookup::char_at;
 use crate::node::{Node, Nodes, make_inner};
-use crate::node_text::NodeText;
+use crate::short_text::ShortText;
 use rope_text::Steps;
 use std::alloc::{AllocError, Global};
 use std::rc::Rc;
@@ -29,7 +29,7 @@ pub fn is_lf(node: &Node, at: usize) -> bool
 
 /// Whether a text that is put in at a seam goes to the right of it: where it ends in CR, so that it can't part that CR from
 /// an LF there. No CR stands before the LF across a seam.
-fn goes_right(node: &Node, at: usize, added: &NodeText) -> bool
+fn goes_right(node: &Node, at: usize, added: &ShortText<'_>) -> bool
     requires { at ≤ length (text node.now) }
     ensures { MayInsert node.now at added.now result }
 {
@@ -38,7 +38,7 @@ fn goes_right(node: &Node, at: usize, added: &NodeText) -> bool
 
 /// Puts a text of at most 981 bytes before the character `at`, where no node on the way is shared and the leaf has room;
 /// whether it did. It takes no memory.
-pub fn insert_in_place(root: &mut Rc<Node>, at: usize, added: &NodeText) -> bool
+pub fn insert_in_place(root: &mut Rc<Node>, at: usize, added: &ShortText<'_>) -> bool
     requires within { at ≤ length (text root.old.value) }
     requires some { 1 ≤ length added.now }
     requires fits { byte_len (text root.old.value) + byte_len added.now < 2 ^ 63 }
@@ -59,7 +59,7 @@ fn root_of(
     alloc: Global,
     old: &Node,
     nodes: Nodes,
-    added: &NodeText,
+    added: &ShortText<'_>,
     at: usize,
     made: &mut u64,
 ) -> Result<Rc<Node>, AllocError>
@@ -84,7 +84,7 @@ pub fn insert_short(
     alloc: Global,
     node: &Node,
     at: usize,
-    added: &NodeText,
+    added: &ShortText<'_>,
     made: &mut u64,
 ) -> Result<Rc<Node>, AllocError>
     requires within { at ≤ length (text node.now) }
@@ -100,38 +100,11 @@ pub fn insert_short(
     Ok(root_of(alloc, node, nodes, added, at, made)?)
 }
 
-/// The bytes that one insert takes at the most.
-const PIECE_BYTES: usize = 981;
+/// The bytes of the longest text that goes into a leaf: with it in, a full leaf can be cut into two wherever it goes.
+pub const MAX_SHORT_BYTES: usize = 981;
 
-/// The tree with a text of any length before its character `at`, put in piece by piece. The old tree stays as it is.
-pub fn insert_text(
-    alloc: Global,
-    node: &Rc<Node>,
-    at: usize,
-    added: &str,
-    made: &mut u64,
-) -> Result<Rc<Node>, AllocError>
-    requires within { at ≤ length (text node.now.value) }
-    requires fits { byte_len (text node.now.value) + length added.now < 2 ^ 63 }
-    ensures text { IfOk result (λ new. text new.value ≡ inserted (text node.now.value) at (chars added.now)) }
-    ensures breaks { IfOk result (λ new. new.value.breaks ≡ node.now.value.breaks) }
-{
-    let mut root = share(node)?;
-    let mut rest = added;
-    let mut place = at;
-    while !rest.is_empty() {
-        let len = rest.floor_char_boundary(PIECE_BYTES);
-        let piece = NodeText::from_str(&rest[..len]);
-        let next = insert_short(alloc, &root, place, &piece, made)?;
-        root = next;
-        place += piece.count_chars();
-        rest = &rest[len..];
-    }
-    Ok(root)
-}
-
-/// Puts a text that isn't empty before the character `at`: a short one where the nodes stand, if nothing on the way is
-/// shared and the leaf has room, which takes no memory; any other in a tree that takes the old one's place last of all.
+/// Puts a text of 1 to 981 bytes before the character `at`: where the nodes stand, if nothing on the way is shared and the
+/// leaf has room, which takes no memory; and else in a tree that takes the old one's place last of all.
 pub fn insert_at(
     alloc: Global,
     root: &mut Rc<Node>,
@@ -141,17 +114,20 @@ pub fn insert_at(
 ) -> Result<(), AllocError>
     requires within { at ≤ length (text root.old.value) }
     requires some { 1 ≤ length added.now }
+    requires short { length added.now ≤ 981 }
     requires fits { byte_len (text root.old.value) + length added.now < 2 ^ 63 }
     ensures text { OnOk result (text root.new.value ≡ inserted (text root.old.value) at (chars added.now)) }
     ensures breaks { root.new.value.breaks ≡ root.old.value.breaks }
     ensures tree { IsTree root.new.value }
     ensures err { OnErr result (root.new ≡ root.old) }
+    ensures made { made.new ≤ made.old + 2 * root.old.value.height + 3 }
 {
     let _ = root.height();
-    if added.len() <= PIECE_BYTES && insert_in_place(root, at, &NodeText::from_str(added)) {
+    let added = ShortText::new(added);
+    if insert_in_place(root, at, &added) {
         return Ok(());
     }
-    let new = insert_text(alloc, root, at, added, made)?;
+    let new = insert_short(alloc, root, at, &added, made)?;
     let _ = new.height();
     *root = new;
     Ok(())

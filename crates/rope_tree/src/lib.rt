@@ -12,3 +12,4 @@ pub mod lookup;
 pub mod node;
 pub mod node_text;
 pub mod search;
+pub mod short_text;
