@@ -2,6 +2,7 @@
 #![tactic(auto)]
 
 mod asking;
+mod changing;
 mod counting;
 mod fault;
 mod inserting;

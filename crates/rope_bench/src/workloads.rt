@@ -1,5 +1,6 @@
 //! The workloads by name.
 use crate::asking::{Question, ask};
+use crate::changing::{self, Changes, change};
 use crate::counting::{Counted, count};
 use crate::fault::Fault;
 use crate::inserting::{self, Inserts, insert};
@@ -14,6 +15,8 @@ use std::time::CpuClock;
 pub enum Workload {
     FromStr,
     Insert(Inserts),
+    Change(Changes),
+    CloneAndInsert,
     Ask(Question),
     IterChunks,
     Count(Counted),
@@ -22,11 +25,13 @@ pub enum Workload {
 }
 
 /// Those that are done on each of the two texts, in order.
-pub const OF_TEXTS: [Workload; 21] = [
+pub const OF_TEXTS: [Workload; 25] = [
     Workload::FromStr,
     Workload::Insert(Inserts::CharsAtRandom),
     Workload::Insert(Inserts::CharsInARow),
     Workload::Insert(Inserts::TextsAtRandom),
+    Workload::Change(Changes::Removals),
+    Workload::Change(Changes::Replacements),
     Workload::Ask(Question::CharToByte),
     Workload::Ask(Question::CharToLine),
     Workload::Ask(Question::CharToUtf16),
@@ -39,6 +44,8 @@ pub const OF_TEXTS: [Workload; 21] = [
     Workload::Ask(Question::Char),
     Workload::Ask(Question::ChunkAtChar),
     Workload::IterChunks,
+    Workload::CloneAndInsert,
+    Workload::Change(Changes::Splits),
     Workload::Count(Counted::Chars),
     Workload::Count(Counted::Breaks(LineBreaks::Unicode)),
     Workload::Count(Counted::Breaks(LineBreaks::Lf)),
@@ -55,6 +62,8 @@ impl Workload {
         match self {
             Workload::FromStr => "from_str",
             Workload::Insert(what) => what.name(),
+            Workload::Change(what) => what.name(),
+            Workload::CloneAndInsert => "clone_and_insert",
             Workload::Ask(what) => what.name(),
             Workload::IterChunks => "iter_chunks_per_byte",
             Workload::Count(what) => what.name(),
@@ -68,6 +77,8 @@ impl Workload {
         match self {
             Workload::FromStr => making::from_str(clock, sample),
             Workload::Insert(what) => insert(clock, sample, what),
+            Workload::Change(what) => change(clock, sample, what),
+            Workload::CloneAndInsert => changing::clone_and_insert(clock, sample),
             Workload::Ask(what) => ask(clock, sample, what),
             Workload::IterChunks => reading::iter_chunks(clock, sample),
             Workload::Count(what) => count(clock, sample, what),

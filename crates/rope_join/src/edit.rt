@@ -1,21 +1,24 @@
-//! Trees split, with a part taken out, and put one behind the other. Where a CR and an LF would meet at a seam, the two
+//! Trees split, with a part taken out or put in, and put one behind the other. Where a CR and an LF would meet at a seam, the two
 //! become a leaf of their own between what stands before and what follows, so that no CR LF lies across two leaves.
-ghost use Rattle.std.specs.Prelude.{◌≡◌, ◌+◌, ◌*◌, ◌<◌, ◌≤◌, ◌^◌, ◌∷◌, ◌++◌, length, take, drop, max, IfOk};
+ghost use Rattle.std.specs.Prelude.{◌≡◌, ◌+◌, ◌*◌, ◌<◌, ◌≤◌, ◌^◌, ◌∷◌, ◌++◌, length, take, drop, max, IfOk, OnOk, OnErr};
+ghost use Rattle.std.specs.Str.{chars};
 ghost use Rattle.rope_text.specs.Text.{byte_len};
 ghost use Rattle.rope_text.specs.Breaks.{ends_in_cr};
 ghost use Rattle.rope_text.specs.Cutting.{parts_crlf};
-ghost use Rattle.rope_text.specs.Edit.{removed};
-ghost use Rattle.rope_tree.specs.Tree.{text};
+ghost use Rattle.rope_text.specs.Edit.{inserted, removed};
+ghost use Rattle.rope_tree.specs.Tree.{text, IsTree};
 ghost use Rattle.rope_join.specs.Cut.{IsFront, IsBack};
 
 use crate::cut::{back, front};
 use crate::join::join;
 use rope_text::Steps;
+use rope_tree::build::build;
 use rope_tree::edit::is_lf;
 use rope_tree::insert::leaf_of;
 use rope_tree::lookup::char_at;
 use rope_tree::node::Node;
 use rope_tree::node_text::NodeText;
+use rope_tree::removal::remove_at;
 use std::alloc::{AllocError, Global};
 use std::rc::Rc;
 
@@ -115,8 +118,8 @@ pub fn append(
     Ok(join(alloc, left, right, made)?)
 }
 
-/// The text without the characters from `start` up to `end`.
-pub fn remove(
+/// The tree without the characters from `start` up to `end`: its front joined to its back.
+fn without(
     alloc: Global,
     node: &Rc<Node>,
     start: usize,
@@ -140,6 +143,34 @@ pub fn remove(
     Ok(join(alloc, &first, &second, made)?)
 }
 
+/// Takes the characters from `start` up to `end` out, at least one: where they lie in one leaf that keeps others and no CR
+/// meets an LF, in that leaf alone; else by a front and a back that are joined. A new tree takes the old one's place last of
+/// all.
+pub fn remove(
+    alloc: Global,
+    root: &mut Rc<Node>,
+    start: usize,
+    end: usize,
+    made: &mut u64,
+) -> Result<(), AllocError>
+    requires ordered { start < end }
+    requires within { end ≤ length (text root.old.value) }
+    ensures text { OnOk result (text root.new.value ≡ removed (text root.old.value) start end) }
+    ensures breaks { root.new.value.breaks ≡ root.old.value.breaks }
+    ensures tree { IsTree root.new.value }
+    ensures err { OnErr result (root.new ≡ root.old) }
+    ensures made { made.new ≤ made.old + 17 * root.old.value.height + 12 }
+{
+    let _ = root.height();
+    if !pair_meets(root, start, root, end) && remove_at(alloc, root, start, end, made)? {
+        return Ok(());
+    }
+    let new = without(alloc, root, start, end, made)?;
+    let _ = new.height();
+    *root = new;
+    Ok(())
+}
+
 /// Two trees of one.
 #[derive(Drop)]
 pub struct Parts {
@@ -157,4 +188,24 @@ pub fn split(alloc: Global, node: &Rc<Node>, at: usize, made: &mut u64) -> Resul
     let front = front_or_none(alloc, node, at, made)?;
     let back = back_or_none(alloc, node, at, made)?;
     Ok(Parts { front, back })
+}
+
+/// The tree with a text of any length before its character `at`: it is split, and the text goes between as a tree of its
+/// own. What is made of the old tree are its parts, so it costs what the new text and the height do.
+pub fn insert(
+    alloc: Global,
+    node: &Rc<Node>,
+    at: usize,
+    added: &str,
+    made: &mut u64,
+) -> Result<Rc<Node>, AllocError>
+    requires within { at ≤ length (text node.now.value) }
+    requires fits { byte_len (text node.now.value) + length added.now < 2 ^ 63 }
+    ensures text { IfOk result (λ new. text new.value ≡ inserted (text node.now.value) at (chars added.now)) }
+    ensures breaks { IfOk result (λ new. new.value.breaks ≡ node.now.value.breaks) }
+{
+    let Parts { front, back } = split(alloc, node, at, made)?;
+    let middle = build(alloc, added, node.line_breaks(), made)?;
+    let first = append(alloc, &front, &middle, made)?;
+    Ok(append(alloc, &first, &back, made)?)
 }

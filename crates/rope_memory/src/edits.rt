@@ -1,11 +1,11 @@
-//! Ropes that are made and edited.
+//! Ropes that are made, and edits of them.
 use crate::TRIES;
 use ropey::{Error, Result, Rope};
 use std::alloc::Global;
 use std::io::Print;
 
 /// A number that the text and its cutting decide; it takes no memory.
-fn fingerprint(rope: &Rope) -> u64 {
+pub fn fingerprint(rope: &Rope) -> u64 {
     let mut seen: u64 = 0xCBF2_9CE4_8422_2325;
     for chunk in rope.chunks() {
         for byte in chunk.bytes() {
@@ -16,24 +16,24 @@ fn fingerprint(rope: &Rope) -> u64 {
     seen
 }
 
-/// So many letters.
-fn letters(alloc: Global, count: usize) -> Option<String> {
+/// So many times a text.
+pub fn repeated(alloc: Global, text: &str, count: usize) -> Option<String> {
     for _ in 0..TRIES {
-        let mut text = String::new(alloc);
-        if text.reserve(count).is_ok() {
+        let mut all = String::new(alloc);
+        if all.reserve(text.len().saturating_mul(count)).is_ok() {
             for _ in 0..count {
-                if text.push('a').is_err() {
+                if all.push_str(text).is_err() {
                     return None;
                 }
             }
-            return Some(text);
+            return Some(all);
         }
     }
     None
 }
 
 /// A rope of a text, made again where memory was refused.
-fn made(alloc: Global, text: &str) -> Option<Rope> {
+pub fn made(alloc: Global, text: &str) -> Option<Rope> {
     for _ in 0..TRIES {
         match Rope::from_str(alloc, text) {
             Ok(rope) => return Some(rope),
@@ -56,31 +56,38 @@ fn empty(alloc: Global) -> Option<Rope> {
     None
 }
 
-/// What is put into a rope.
+/// What is done to a rope.
 #[derive(Clone, Copy)]
-enum Piece<'a> {
-    Text(&'a str),
-    Char(char),
+pub enum Edit<'a> {
+    /// A text put before a character or at the end.
+    Insert(usize, &'a str),
+    /// A character put before another, or at the end where the place is past it.
+    InsertChar(usize, char),
+    /// The characters from the first place to the second taken out.
+    Remove(usize, usize),
+    /// A clone of another rope put behind it.
+    Append(&'a Rope),
 }
 
-/// Inserts, a character no later than at the end.
-fn insert_once(rope: &mut Rope, char_idx: usize, piece: Piece<'_>) -> Result<()> {
-    match piece {
-        Piece::Text(text) => rope.try_insert(char_idx, text),
-        Piece::Char(c) => {
+fn apply_once(rope: &mut Rope, edit: Edit<'_>) -> Result<()> {
+    match edit {
+        Edit::Insert(char_idx, text) => rope.try_insert(char_idx, text),
+        Edit::InsertChar(char_idx, c) => {
             let place = char_idx.min(rope.len_chars());
             rope.insert_char(place, c)
         }
+        Edit::Remove(start, end) => rope.try_remove(start..end),
+        Edit::Append(other) => rope.append(other.clone()?),
     }
 }
 
-/// Inserts, again where memory was refused, and counts what a refusal changed.
-fn insert(rope: &mut Rope, char_idx: usize, piece: Piece<'_>) -> Option<usize> {
+/// Edits, again where memory was refused, and counts the refusals that changed something.
+pub fn apply(rope: &mut Rope, edit: Edit<'_>) -> Option<usize> {
     let before = fingerprint(rope);
     let bytes = rope.len_bytes();
     let mut faults: usize = 0;
     for _ in 0..TRIES {
-        match insert_once(rope, char_idx, piece) {
+        match apply_once(rope, edit) {
             Ok(()) => return Some(faults),
             Err(Error::OutOfMemory) => {
                 if fingerprint(rope) != before || rope.len_bytes() != bytes {
@@ -93,28 +100,34 @@ fn insert(rope: &mut Rope, char_idx: usize, piece: Piece<'_>) -> Option<usize> {
     None
 }
 
-/// Makes and edits ropes, prints what they are, and answers how many refusals changed something.
+/// Prints how long a rope is.
+pub fn show(rt: &impl Print, rope: &Rope) -> Option<()> {
+    let bytes = rope.len_bytes();
+    let lines = rope.len_lines();
+    println!(rt; "{bytes} bytes, {lines} lines").ok()
+}
+
+/// Makes ropes, inserts into them, prints what they are, and answers how many refusals changed something.
 pub fn run(rt: &impl Print, alloc: Global) -> Option<usize> {
     let mut rope = made(alloc, "")?;
-    let long = letters(alloc, 5_000)?;
-    let mut faults = insert(&mut rope, 0, Piece::Text("one\r\ntwo\n"))?;
-    for (char_idx, piece) in [
-        (3, Piece::Text(long.as_str())),
-        (990, Piece::Text("\r")),
-        (991, Piece::Char('\n')),
-        (1_000, Piece::Text("")),
-        (991, Piece::Char('x')),
-        (2_500, Piece::Char('é')),
+    let long = repeated(alloc, "a", 5_000)?;
+    let mut faults: usize = 0;
+    for step in [
+        Edit::Insert(0, "one\r\ntwo\n"),
+        Edit::Insert(3, long.as_str()),
+        Edit::Insert(990, "\r"),
+        Edit::InsertChar(991, '\n'),
+        Edit::Insert(1_000, ""),
+        Edit::InsertChar(991, 'x'),
+        Edit::InsertChar(2_500, 'é'),
     ] {
-        faults = faults.saturating_add(insert(&mut rope, char_idx, piece)?);
+        faults = faults.saturating_add(apply(&mut rope, step)?);
     }
     let mut typed = empty(alloc)?;
-    faults = faults.saturating_add(insert(&mut typed, 0, Piece::Char('🐸'))?);
+    faults = faults.saturating_add(apply(&mut typed, Edit::InsertChar(0, '🐸'))?);
     let other = made(alloc, long.as_str())?;
     for rope in [&rope, &typed, &other] {
-        let bytes = rope.len_bytes();
-        let lines = rope.len_lines();
-        println!(rt; "{bytes} bytes, {lines} lines").ok()?;
+        show(rt, rope)?;
     }
     Some(faults)
 }

@@ -3,6 +3,7 @@
 #![tactic(auto)]
 
 mod edits;
+mod parts;
 mod sessions;
 
 use std::process::ExitCode;
@@ -15,7 +16,10 @@ fn main(rt: HostRuntime) -> ExitCode {
     let Some(faults) = edits::run(&rt, alloc) else {
         return ExitCode::from(2);
     };
-    if faults > 0 || sessions::run(&rt, alloc).is_none() {
+    let Some(more) = parts::run(&rt, alloc) else {
+        return ExitCode::from(2);
+    };
+    if faults > 0 || more > 0 || sessions::run(&rt, alloc).is_none() {
         return ExitCode::from(1);
     }
     ExitCode::SUCCESS

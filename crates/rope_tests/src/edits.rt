@@ -16,7 +16,7 @@ pub fn repeated(alloc: Global, text: &str, count: usize) -> Result<String, Fail>
 }
 
 /// A text as a list of characters.
-fn chars_of(alloc: Global, text: &str) -> Result<Vec<char>, Fail> {
+pub fn chars_of(alloc: Global, text: &str) -> Result<Vec<char>, Fail> {
     let mut chars = Vec::new(alloc);
     for c in text.chars() {
         chars.push(c)?;
@@ -48,7 +48,7 @@ pub fn compare(rt: &impl Abort, rope: &Rope, text: &[char]) {
 }
 
 /// Whether two characters in a row lie in one chunk.
-fn lie_together(rope: &Rope, first: usize) -> bool {
+pub fn lie_together(rope: &Rope, first: usize) -> bool {
     let mut start: usize = 0;
     for chunk in rope.chunks() {
         let end = start.saturating_add(chunk.chars().count());

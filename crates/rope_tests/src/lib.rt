@@ -8,8 +8,14 @@ mod counted;
 #[cfg(test)]
 mod edits;
 #[cfg(test)]
+mod long_ropes;
+#[cfg(test)]
 mod lookups;
 #[cfg(test)]
 mod plain_text;
 #[cfg(test)]
+mod random_edits;
+#[cfg(test)]
 mod random_inserts;
+#[cfg(test)]
+mod removals;

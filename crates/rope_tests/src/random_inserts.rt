@@ -8,7 +8,7 @@ use std::process::Abort;
 use std::test::Fail;
 
 /// The next of a row of numbers that look random.
-fn next_number(state: &mut u64) -> usize {
+pub fn next_number(state: &mut u64) -> usize {
     *state ^= *state << 13;
     *state ^= *state >> 7;
     *state ^= *state << 17;
@@ -18,7 +18,7 @@ fn next_number(state: &mut u64) -> usize {
 const PARTS: [&str; 8] = ["a", "\r", "\n", "\r\n", "é", "こ", "🐸", "\u{2028}"];
 
 /// A text of 0 to 1,200 bytes, rich in breaks.
-fn random_text(alloc: Global, state: &mut u64) -> Result<String, Fail> {
+pub fn random_text(alloc: Global, state: &mut u64) -> Result<String, Fail> {
     let mut text = String::new(alloc);
     let long = next_number(state) % 4 == 0;
     let most = if long { 1_196 } else { 12 };
@@ -33,7 +33,7 @@ fn random_text(alloc: Global, state: &mut u64) -> Result<String, Fail> {
 }
 
 /// The list with a text before the character `at`.
-fn inserted(alloc: Global, old: &[char], at: usize, text: &str) -> Result<Vec<char>, Fail> {
+pub fn inserted(alloc: Global, old: &[char], at: usize, text: &str) -> Result<Vec<char>, Fail> {
     let mut new = Vec::new(alloc);
     new.reserve(old.len().saturating_add(text.len()))?;
     let (front, back) = old.split_at(at.min(old.len()));

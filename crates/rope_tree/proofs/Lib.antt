@@ -19,3 +19,4 @@ pub mod InsertDescents
 pub mod ChunksFound
 pub mod InsertRoots
 pub mod BuildLaws
+pub mod NodeTexts

@@ -1,12 +1,14 @@
 //! Counts of a text after an edit, by sums and differences.
 ghost use Rattle.std.specs.Prelude.{◌≡◌, ◌+◌, ◌<◌, ◌≤◌, ◌^◌, ◌++◌, length, take, drop};
 ghost use Rattle.std.specs.Str.{chars, IsCharBoundary};
+ghost use Rattle.rope_text.specs.Text.{byte_len};
 ghost use Rattle.rope_text.specs.TextInfo.{info_of, shared_breaks};
 ghost use Rattle.rope_text.specs.Edit.{inserted, removed};
 ghost use Rattle.rope_text.specs.Breaks.{begins_with_lf, ends_in_cr};
 ghost use Rattle.rope_tree.specs.Leaves.{IsSeam};
 
 use crate::node_text::NodeText;
+use crate::short_text::ShortText;
 use rope_text::str_utils::char_to_byte_idx;
 use rope_text::{LineBreaks, TextInfo};
 
@@ -36,23 +38,15 @@ fn shared_breaks(first: &str, second: &str, set: LineBreaks) -> usize
     }
 }
 
-/// The counts of a leaf with another text before its character `at`, by the counts of the leaf: only the new text is gone
-/// over, and the ends of the parts.
-pub fn info_with(
-    info: TextInfo,
-    leaf: &NodeText,
-    at: usize,
-    added: &NodeText,
-    set: LineBreaks,
-) -> TextInfo
-    requires info { info ≡ info_of set leaf.now }
-    requires some { 1 ≤ length added.now }
-    ensures { result ≡ info_of set (inserted leaf.now at added.now) }
+/// The counts of a text with another between its front and its back, by the counts of the whole: only the new text is gone
+/// over, and the ends.
+fn info_between(info: TextInfo, front: &str, added: &str, back: &str, set: LineBreaks) -> TextInfo
+    requires info { info ≡ info_of set (chars front.now ++ chars back.now) }
+    requires fits { info.bytes ≤ 984 }
+    requires short { length added.now ≤ 984 }
+    requires some { 1 ≤ length (chars added.now) }
+    ensures { result ≡ info_of set (chars front.now ++ (chars added.now ++ chars back.now)) }
 {
-    let leaf = leaf.as_str();
-    let added = added.as_str();
-    let place = char_to_byte_idx(leaf, at);
-    let (front, back) = (&leaf[..place], &leaf[place..]);
     let more = info.plus(TextInfo::from_str(added, set));
     let apart = shared_breaks(front, back, set);
     let met = shared_breaks(front, added, set) + shared_breaks(added, back, set);
@@ -60,6 +54,46 @@ pub fn info_with(
         line_breaks: more.line_breaks + apart - met,
         ..more
     }
+}
+
+/// The counts of a leaf with another text before its character `at`, by the counts of the leaf.
+pub fn info_with(
+    info: TextInfo,
+    leaf: &NodeText,
+    at: usize,
+    added: &ShortText<'_>,
+    set: LineBreaks,
+) -> TextInfo
+    requires info { info ≡ info_of set leaf.now }
+    requires some { 1 ≤ length added.now }
+    ensures { result ≡ info_of set (inserted leaf.now at added.now) }
+{
+    let text = leaf.as_str();
+    let place = char_to_byte_idx(text, at);
+    info_between(info, &text[..place], added.as_str(), &text[place..], set)
+}
+
+/// Puts a text before the character `at` of a leaf that has room for it, and tells the counts of the whole, by those of what
+/// was.
+pub fn put_in(
+    leaf: &mut NodeText,
+    at: usize,
+    added: &ShortText<'_>,
+    info: TextInfo,
+    set: LineBreaks,
+) -> TextInfo
+    requires info { info ≡ info_of set leaf.old }
+    requires some { 1 ≤ length added.now }
+    requires fits { byte_len leaf.old + byte_len added.now ≤ 984 }
+    ensures text { leaf.new ≡ inserted leaf.old at added.now }
+    ensures info { result ≡ info_of set (inserted leaf.old at added.now) }
+{
+    let text = leaf.as_str();
+    let place = char_to_byte_idx(text, at);
+    let added = added.as_str();
+    let info = info_between(info, &text[..place], added, &text[place..], set);
+    leaf.insert_bytes(place, added);
+    info
 }
 
 /// The counts of a text without the part between its front and its back, by the counts of the whole: only the part is gone

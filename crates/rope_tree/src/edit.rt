@@ -13,7 +13,7 @@ use crate::counts::ends_in_cr;
 use crate::insert::insert;
 use crate::lookup::char_at;
 use crate::node::{Node, Nodes, make_inner};
-use crate::node_text::NodeText;
+use crate::short_text::ShortText;
 use rope_text::Steps;
 use std::alloc::{AllocError, Global};
 use std::rc::Rc;
@@ -29,7 +29,7 @@ pub fn is_lf(node: &Node, at: usize) -> bool
 
 /// Whether a text that is put in at a seam goes to the right of it: where it ends in CR, so that it can't part that CR from
 /// an LF there. No CR stands before the LF across a seam.
-fn goes_right(node: &Node, at: usize, added: &NodeText) -> bool
+fn goes_right(node: &Node, at: usize, added: &ShortText<'_>) -> bool
     requires { at ≤ length (text node.now) }
     ensures { MayInsert node.now at added.now result }
 {
@@ -38,7 +38,7 @@ fn goes_right(node: &Node, at: usize, added: &NodeText) -> bool
 
 /// Puts a text of at most 981 bytes before the character `at`, where no node on the way is shared and the leaf has room;
 /// whether it did. It takes no memory.
-pub fn insert_in_place(root: &mut Rc<Node>, at: usize, added: &NodeText) -> bool
+pub fn insert_in_place(root: &mut Rc<Node>, at: usize, added: &ShortText<'_>) -> bool
     requires within { at ≤ length (text root.old.value) }
     requires some { 1 ≤ length added.now }
     requires fits { byte_len (text root.old.value) + byte_len added.now < 2 ^ 63 }
@@ -59,7 +59,7 @@ fn root_of(
     alloc: Global,
     old: &Node,
     nodes: Nodes,
-    added: &NodeText,
+    added: &ShortText<'_>,
     at: usize,
     made: &mut u64,
 ) -> Result<Rc<Node>, AllocError>
@@ -84,7 +84,7 @@ pub fn insert_short(
     alloc: Global,
     node: &Node,
     at: usize,
-    added: &NodeText,
+    added: &ShortText<'_>,
     made: &mut u64,
 ) -> Result<Rc<Node>, AllocError>
     requires within { at ≤ length (text node.now) }
@@ -99,6 +99,9 @@ pub fn insert_short(
     let nodes = insert(alloc, node, at, added, to_right, made)?;
     Ok(root_of(alloc, node, nodes, added, at, made)?)
 }
+
+/// The bytes of the longest text that goes into a leaf: with it in, a full leaf can be cut into two wherever it goes.
+pub const MAX_SHORT_BYTES: usize = 981;
 
 /// Puts a text of 1 to 981 bytes before the character `at`: where the nodes stand, if nothing on the way is shared and the
 /// leaf has room, which takes no memory; and else in a tree that takes the old one's place last of all.
@@ -120,7 +123,7 @@ pub fn insert_at(
     ensures made { made.new ≤ made.old + 2 * root.old.value.height + 3 }
 {
     let _ = root.height();
-    let added = NodeText::from_str(added);
+    let added = ShortText::new(added);
     if insert_in_place(root, at, &added) {
         return Ok(());
     }

@@ -15,6 +15,7 @@ use crate::lookup::total_before;
 use crate::node::{Node, Nodes, View, make_leaf};
 use crate::node_text::NodeText;
 use crate::search::{Unit, char_to_hold, place_of};
+use crate::short_text::ShortText;
 use rope_text::{LineBreaks, Steps, TextInfo};
 use std::alloc::{AllocError, Global};
 use std::rc::Rc;
@@ -41,7 +42,7 @@ fn insert_into_leaf(
     node: &Node,
     leaf: &NodeText,
     at: usize,
-    added: &NodeText,
+    added: &ShortText<'_>,
     made: &mut u64,
 ) -> Result<Nodes, AllocError>
     requires leaf { node.now ≡ leaf_tree node.now.breaks leaf.now }
@@ -71,7 +72,7 @@ pub fn insert(
     alloc: Global,
     node: &Node,
     at: usize,
-    added: &NodeText,
+    added: &ShortText<'_>,
     to_right: bool,
     made: &mut u64,
 ) -> Result<Nodes, AllocError>

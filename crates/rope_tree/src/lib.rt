@@ -13,3 +13,4 @@ pub mod node;
 pub mod node_text;
 pub mod removal;
 pub mod search;
+pub mod short_text;

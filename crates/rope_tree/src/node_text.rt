@@ -1,6 +1,6 @@
 //! The text of a leaf.
 ghost use Rattle.std.specs.Prelude.{◌≡◌, ℕ, ◌+◌, ◌<◌, ◌≤◌, ◌++◌, [], true, false, length, take, drop, IsTrue, IfNone, IfSome};
-ghost use Rattle.std.specs.List.{remove_range};
+ghost use Rattle.std.specs.List.{insert_slice, remove_range};
 ghost use Rattle.std.specs.Str.{chars, all_scalars, IsCharBoundary, encode_utf8_all};
 ghost use Rattle.rope_text.specs.Text.{byte_len};
 ghost use Rattle.rope_text.specs.Cutting.{parts_crlf};
@@ -53,7 +53,8 @@ pub struct NodeText {
 
 impl Model for NodeText {
     ghost use Rattle.std.specs.Prelude.{◌≡◌, ℕ, List, true, ◌≤◌, length};
-    ghost use Rattle.std.specs.Str.{chars, is_utf8};
+    ghost use Rattle.std.specs.List.{insert_slice};
+ghost use Rattle.std.specs.Str.{chars, is_utf8};
 
     ghost Value = { List ℕ };
 
@@ -121,9 +122,21 @@ impl NodeText {
         ensures value { self.new ≡ inserted self.old at (chars text.now) }
         ensures len { byte_len self.new ≡ byte_len self.old + length text.now }
     {
-        let old = self.as_str();
-        let place = char_to_byte_idx(old, at);
-        *self = NodeText::of_parts(&old[..place], text, &old[place..]);
+        let place = char_to_byte_idx(self.as_str(), at);
+        self.insert_bytes(place, text);
+    }
+
+    /// Puts `added` where a character starts, or at the end. What follows it moves down, and what stands before it stays.
+    pub fn insert_bytes(&mut self, place: usize, added: &str)
+        requires boundary { IsCharBoundary (encode_utf8_all self.old) place }
+        requires fits { byte_len self.old + length added.now ≤ 984 }
+        ensures value { self.new ≡ chars (insert_slice (encode_utf8_all self.old) place added.now) }
+        ensures len { byte_len self.new ≡ byte_len self.old + length added.now }
+    {
+        let rest = join_parts::<984>(&self.as_str()[place..], "", "");
+        self.text.truncate(place);
+        self.text.push_str(added);
+        self.text.push_str(rest.as_str());
     }
 
     /// Puts `text` at the end.
@@ -132,7 +145,7 @@ impl NodeText {
         ensures value { self.new ≡ self.old ++ chars text.now }
         ensures len { byte_len self.new ≡ byte_len self.old + length text.now }
     {
-        *self = NodeText::of_parts(self.as_str(), text, "");
+        self.text.push_str(text);
     }
 
     /// The bytes that the characters from `start` up to `end` take.

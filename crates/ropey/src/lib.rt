@@ -5,6 +5,7 @@ mod chunks_at;
 mod conversions;
 mod counted;
 mod edits;
+mod inserts;
 pub mod iter;
 mod lookups;
 mod rope;

@@ -11,9 +11,8 @@ ghost use Rattle.rope_tree.specs.Tree.{text};
 ghost use Rattle.ropey.specs.View.{IsRope, HasFewChunks};
 
 use crate::iter::Chunks;
-use rope_text::{Error, LineBreaks, MAX_BYTES, Result};
+use rope_text::{LineBreaks, MAX_BYTES, Result};
 use rope_tree::build::build;
-use rope_tree::edit::insert_at;
 use rope_tree::lookup::leaf_count;
 use rope_tree::node::Node;
 use std::alloc::Global;
@@ -135,94 +134,6 @@ impl Rope {
         ensures { result ≡ min (984 * length self.now.chunks) (2 ^ 64 - 1) }
     {
         leaf_count(&self.root).saturating_mul(MAX_BYTES)
-    }
-
-    /// Puts `text` before the character `char_idx`, or at the end.
-    ///
-    /// It refuses a character past the end, then a text longer than `isize::MAX` bytes, then for want of memory, and
-    /// leaves the rope as it was where it refuses. An empty text takes no memory.
-    pub fn try_insert(&mut self, char_idx: usize, text: &str) -> Result<()>
-        ensures ok { OnOk result ((insert_error self.old.text char_idx (chars text.now) ≡ None)
-            × (self.new.text ≡ inserted self.old.text char_idx (chars text.now))) }
-        ensures refused { IfErr result (IsRefusal (insert_error self.old.text char_idx (chars text.now))) }
-        ensures err { OnErr result (self.new ≡ self.old) }
-        ensures empty { length (chars text.now) ≡ 0 → insert_error self.old.text char_idx (chars text.now) ≡ None
-            → IsOk result × (self.new ≡ self.old) }
-        ensures breaks { self.new.breaks ≡ self.old.breaks }
-        ensures kept { IsRope self.new }
-    {
-        let bytes = self.len_bytes();
-        let len = self.len_chars();
-        if char_idx > len {
-            return Err(Error::CharIndexOutOfBounds(char_idx, len));
-        }
-        if text.len() > MAX_TEXT_BYTES - bytes {
-            return Err(Error::TooLong);
-        }
-        if text.is_empty() {
-            return Ok(());
-        }
-        self.insert_at(char_idx, text)
-    }
-
-    /// Puts `text` before a character of the rope, or at the end, as `try_insert` does.
-    pub fn insert(&mut self, char_idx: usize, text: &str) -> Result<()>
-        requires { char_idx ≤ length self.old.text }
-        ensures ok { OnOk result ((insert_error self.old.text char_idx (chars text.now) ≡ None)
-            × (self.new.text ≡ inserted self.old.text char_idx (chars text.now))) }
-        ensures refused { IfErr result (IsRefusal (insert_error self.old.text char_idx (chars text.now))) }
-        ensures err { OnErr result (self.new ≡ self.old) }
-        ensures empty { length (chars text.now) ≡ 0 → insert_error self.old.text char_idx (chars text.now) ≡ None
-            → IsOk result × (self.new ≡ self.old) }
-        ensures breaks { self.new.breaks ≡ self.old.breaks }
-        ensures kept { IsRope self.new }
-    {
-        self.try_insert(char_idx, text)
-    }
-
-    /// Puts the character `c` before the character `char_idx`, or at the end.
-    ///
-    /// It refuses a character past the end, then a text longer than `isize::MAX` bytes, then for want of memory, and
-    /// leaves the rope as it was where it refuses.
-    pub fn try_insert_char(&mut self, char_idx: usize, c: char) -> Result<()>
-        ensures ok { OnOk result ((insert_error self.old.text char_idx (c ∷ []) ≡ None)
-            × (self.new.text ≡ inserted self.old.text char_idx (c ∷ []))) }
-        ensures refused { IfErr result (IsRefusal (insert_error self.old.text char_idx (c ∷ []))) }
-        ensures err { OnErr result (self.new ≡ self.old) }
-        ensures breaks { self.new.breaks ≡ self.old.breaks }
-        ensures kept { IsRope self.new }
-    {
-        let mut buffer = [0; 4];
-        self.try_insert(char_idx, c.encode_utf8(&mut buffer))
-    }
-
-    /// Puts the character `c` before a character of the rope, or at the end, as `try_insert_char` does. The index is at
-    /// most `len_chars()`.
-    pub fn insert_char(&mut self, char_idx: usize, c: char) -> Result<()>
-        requires { char_idx ≤ length self.old.text }
-        ensures ok { OnOk result ((insert_error self.old.text char_idx (c ∷ []) ≡ None)
-            × (self.new.text ≡ inserted self.old.text char_idx (c ∷ []))) }
-        ensures refused { IfErr result (IsRefusal (insert_error self.old.text char_idx (c ∷ []))) }
-        ensures err { OnErr result (self.new ≡ self.old) }
-        ensures breaks { self.new.breaks ≡ self.old.breaks }
-        ensures kept { IsRope self.new }
-    {
-        self.try_insert_char(char_idx, c)
-    }
-
-    // Puts a text that isn't empty where only want of memory refuses it.
-    fn insert_at(&mut self, char_idx: usize, text: &str) -> Result<()>
-        requires within { char_idx ≤ length self.old.text }
-        requires fits { byte_len self.old.text + length text.now < 2 ^ 63 }
-        requires some { 0 < length text.now }
-        ensures ok { OnOk result (self.new.text ≡ inserted self.old.text char_idx (chars text.now)) }
-        ensures refused { IfErr result (λ e. e ≡ OutOfMemory) }
-        ensures err { OnErr result (self.new ≡ self.old) }
-        ensures breaks { self.new.breaks ≡ self.old.breaks }
-        ensures kept { IsRope self.new }
-    {
-        insert_at(self.alloc, &mut self.root, char_idx, text, &mut 0)?;
-        Ok(())
     }
 
     /// The chunks of the text, in order.

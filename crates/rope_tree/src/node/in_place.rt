@@ -6,17 +6,17 @@ ghost use Rattle.rope_tree.specs.Tree.{text, joined, breaks_of, height_of, tree_
 ghost use Rattle.rope_tree.specs.Insert.{MayInsert, IsInserted, AreGrown};
 
 use super::{Body, Children, Node};
-use crate::counts::info_with;
+use crate::counts::put_in;
 use crate::lookup::total_before;
-use crate::node_text::NodeText;
 use crate::search::{Unit, char_to_hold, place_of, retotal};
+use crate::short_text::ShortText;
 use rope_text::{MAX_BYTES, Steps};
 use std::rc::Rc;
 
 impl Children {
     /// Puts a text before the character `at`, where no node on the way is shared and the leaf has room; whether it did.
     #[cycle(in_place)]
-    fn insert_in_place(&mut self, at: usize, added: &NodeText, to_right: bool) -> bool
+    fn insert_in_place(&mut self, at: usize, added: &ShortText<'_>, to_right: bool) -> bool
         requires children { AreChildren (breaks_of self.old) (height_of self.old) self.old }
         requires within { at ≤ length (joined self.old) }
         requires some { 1 ≤ length added.now }
@@ -45,7 +45,7 @@ impl Node {
     /// Puts a text before the character `at`, where no node on the way is shared and the leaf has room; whether it did. It
     /// takes no memory.
     #[cycle(in_place)]
-    pub fn insert_in_place(&mut self, at: usize, added: &NodeText, to_right: bool) -> bool
+    pub fn insert_in_place(&mut self, at: usize, added: &ShortText<'_>, to_right: bool) -> bool
         requires within { at ≤ length (text self.old) }
         requires some { 1 ≤ length added.now }
         requires fits { byte_len (text self.old) + byte_len added.now < 2 ^ 63 }
@@ -58,8 +58,7 @@ impl Node {
                 if leaf.len() + added.len() > MAX_BYTES {
                     return false;
                 }
-                self.info = info_with(self.info, leaf, at, added, self.breaks);
-                leaf.insert_str(at, added.as_str());
+                self.info = put_in(leaf, at, added, self.info, self.breaks);
                 let _ = leaf.as_str();
                 true
             }

@@ -179,8 +179,8 @@ Children::insert_in_place-returns-clause-done t c = λ yes.
 pub Node::insert_in_place-invariant_of-self-in-Leaf :
     goal.Node::insert_in_place-invariant_of-self-in-Leaf
 Node::insert_in_place-invariant_of-self-in-Leaf t c =
-    leaf_after c.self.inside c.args.self.now c.in-Leaf.leaf c.insert_str.new.self c.args.at c.args.added.now c.self.invariant c.in-Leaf.is c.self.view_is c.requires.some
-    (c.insert_str.ensures.value ∙ ap (inserted c.in-Leaf.leaf c.args.at) c.as_str.ensures.chars) c.as_str-in-Leaf.ensures.fits c.as_str-in-Leaf.ensures.scalars c.info_with-self-inside.result c.info_with-self-inside.ensures
+    leaf_after c.self.inside c.args.self.now c.in-Leaf.leaf c.put_in-self-inside.new.leaf c.args.at c.args.added.now c.self.invariant c.in-Leaf.is c.self.view_is c.requires.some
+    c.put_in-self-inside.ensures.text c.as_str.ensures.fits c.as_str.ensures.scalars c.put_in-self-inside.result c.put_in-self-inside.ensures.info
 
 pub Node::insert_in_place-insert_in_place-requires :
     goal.Node::insert_in_place-insert_in_place-requires
@@ -200,8 +200,8 @@ Node::insert_in_place-invariant_of-self-in-Inner t c =
 pub Node::insert_in_place-returns-else-len-gt-MAX_BYTES-clause-done :
     goal.Node::insert_in_place-returns-else-len-gt-MAX_BYTES-clause-done
 Node::insert_in_place-returns-else-len-gt-MAX_BYTES-clause-done t c = λ yes.
-    leaf_inserted c.self.inside c.args.self.now c.in-Leaf.leaf c.insert_str.new.self c.args.at c.args.added.now c.self.invariant c.in-Leaf.is c.self.view_is c.requires.some
-    (c.insert_str.ensures.value ∙ ap (inserted c.in-Leaf.leaf c.args.at) c.as_str.ensures.chars) c.as_str-in-Leaf.ensures.fits c.as_str-in-Leaf.ensures.scalars c.info_with-self-inside.result c.info_with-self-inside.ensures
+    leaf_inserted c.self.inside c.args.self.now c.in-Leaf.leaf c.put_in-self-inside.new.leaf c.args.at c.args.added.now c.self.invariant c.in-Leaf.is c.self.view_is c.requires.some
+    c.put_in-self-inside.ensures.text c.as_str.ensures.fits c.as_str.ensures.scalars c.put_in-self-inside.result c.put_in-self-inside.ensures.info
 
 pub Node::insert_in_place-returns-else-not-insert_in_place-clause-done :
     goal.Node::insert_in_place-returns-else-not-insert_in_place-clause-done

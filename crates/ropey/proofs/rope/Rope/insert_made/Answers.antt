@@ -11,7 +11,7 @@ use Rattle.rope_text.proofs.Apart.{has_chars}
 use Rattle.rope_text.proofs.Walks.{byte_len-chars}
 use Rattle.rope_tree.proofs.BuildLaws.{no_chars}
 use Rattle.ropey.proofs.Refusals.{insert_error-none, insert_error-long, inserted_none}
-use Rattle.ropey.proofs.rope.Rope.try_insert.Goals as goal
+use Rattle.ropey.proofs.rope.Rope.insert_made.Goals as goal
 
 pub returns-then-text-bytes-clause-refused : goal.returns-then-text-bytes-clause-refused
 returns-then-text-bytes-clause-refused c =
@@ -44,14 +44,14 @@ returns-clause-ok c =
     let text = c.args.self.now.text in
     let new = c.args.text.now in
     let none = insert_error-none text c.args.char_idx (chars new) (omega arith) (omega (arith, byte_len-chars new c.utf8.text, c.len_bytes-bytes.ensures.value, c.len_bytes-bytes.ensures.kept.content.fits)) in
-    on_ok_weaker c.insert_at.result (λ same. (none, same)) c.insert_at.ensures.ok
+    on_ok_weaker c.insert_some.result (λ same. (none, same)) c.insert_some.ensures.ok
 
 pub returns-clause-refused : goal.returns-clause-refused
 returns-clause-refused c =
     let text = c.args.self.now.text in
     let new = c.args.text.now in
     let none = insert_error-none text c.args.char_idx (chars new) (omega arith) (omega (arith, byte_len-chars new c.utf8.text, c.len_bytes-bytes.ensures.value, c.len_bytes-bytes.ensures.kept.content.fits)) in
-    subst (λ o. IfErr c.insert_at.result (IsRefusal o)) (sym none) c.insert_at.ensures.refused
+    subst (λ o. IfErr c.insert_some.result (IsRefusal o)) (sym none) c.insert_some.ensures.refused
 
 pub returns-clause-empty : goal.returns-clause-empty
 returns-clause-empty c = λ none _.

@@ -1,6 +1,6 @@
 -- Each tree is a rope.
 use Rattle.ropey.proofs.Ropes.{rope_of}
-use Rattle.ropey.proofs.rope.Rope.insert_at.Goals as goal
+use Rattle.ropey.proofs.rope.Rope.insert_short.Goals as goal
 
 pub returns-in_err-insert_at-clause-kept : goal.returns-in_err-insert_at-clause-kept
 returns-in_err-insert_at-clause-kept c = rope_of c.insert_at.new.root.value c.insert_at.ensures.tree

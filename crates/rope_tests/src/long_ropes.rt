@@ -1,0 +1,102 @@
+//! Ropes as long as a text may be, whose parts are shared.
+use crate::edits::repeated;
+use ropey::{Error, Rope, Steps};
+use std::alloc::Global;
+use std::process::Abort;
+use std::test::Fail;
+
+/// Half of the longest text made by doubling, and its double.
+const HALF: usize = 1 << 61;
+
+const WHOLE: usize = 1 << 62;
+
+/// A text that is joined to itself so many times.
+fn doubled(alloc: Global, text: &str, times: usize) -> Result<Rope, Fail> {
+    let mut rope = Rope::from_str(alloc, text)?;
+    for _ in 0..times {
+        let copy = rope.clone()?;
+        rope.append(copy)?;
+    }
+    Ok(rope)
+}
+
+/// The rope has the character before the end, by each look-up that takes a character's index.
+fn assert_char(rt: &impl Abort, rope: &Rope, char_idx: usize, c: char) {
+    assert!(rt; char_idx < rope.len_chars());
+    assert!(rt; rope.char(char_idx) == c);
+    assert!(rt; rope.get_char(char_idx) == Some(c));
+    let mut steps = Steps::new();
+    assert!(rt; rope.char_counted(char_idx, &mut steps) == c);
+}
+
+#[test]
+fn letters_doubled(rt: HostRuntime) -> Result<(), Fail> {
+    let mut rope = doubled(rt.alloc(), "a", 62)?;
+    assert_eq!(rt; (rope.len_bytes(), rope.len_lines()), (WHOLE, 1));
+    let copy = rope.clone()?;
+    assert!(rt; rope.append(copy) == Err(Error::TooLong));
+    assert_eq!(rt; rope.len_bytes(), WHOLE);
+    Ok(())
+}
+
+#[test]
+fn the_longest_text(rt: HostRuntime) -> Result<(), Fail> {
+    let mut rope = doubled(rt.alloc(), "a", 62)?;
+    let mut first = rope.clone()?;
+    let rest = first.try_split_off(1)?;
+    assert_eq!(rt;
+        (first.len_bytes(), rest.len_bytes()),
+        (1, 4_611_686_018_427_387_903)
+    );
+    rope.append(rest)?;
+    assert!(rt; rope.len_bytes() == isize::MAX as usize);
+    assert!(rt; rope.try_insert_char(0, 'x') == Err(Error::TooLong));
+    rope.try_insert(0, "")?;
+    assert!(rt; rope.len_bytes() == isize::MAX as usize);
+    assert!(rt; rope.depth() <= 18);
+    Ok(())
+}
+
+#[test]
+fn edits_in_the_middle(rt: HostRuntime) -> Result<(), Fail> {
+    let whole = doubled(rt.alloc(), "a", 62)?;
+    let mut rope = whole.clone()?;
+    rope.try_insert_char(HALF, 'x')?;
+    assert_char(&rt, &rope, HALF, 'x');
+    rope.try_insert(HALF, "yz")?;
+    assert_char(&rt, &rope, HALF, 'y');
+    assert_eq!(rt; rope.len_bytes(), 4_611_686_018_427_387_907);
+    rope.try_remove(1..4_611_686_018_427_387_906)?;
+    assert_eq!(rt; rope.len_bytes(), 2);
+    assert_char(&rt, &rope, 0, 'a');
+    assert_char(&rt, &rope, 1, 'a');
+    assert_eq!(rt; whole.len_bytes(), WHOLE);
+    Ok(())
+}
+
+#[test]
+fn a_long_text_in_the_middle(rt: HostRuntime) -> Result<(), Fail> {
+    let mut rope = doubled(rt.alloc(), "a", 62)?;
+    rope.try_insert(HALF, repeated(rt.alloc(), "z", 6_000)?.as_str())?;
+    assert_eq!(rt; rope.len_bytes(), 4_611_686_018_427_393_904);
+    assert_char(&rt, &rope, 2_305_843_009_213_699_951, 'z');
+    assert_char(&rt, &rope, 2_305_843_009_213_699_952, 'a');
+    Ok(())
+}
+
+#[test]
+fn pairs_doubled(rt: HostRuntime) -> Result<(), Fail> {
+    let rope = doubled(rt.alloc(), "\r\n", 61)?;
+    assert_eq!(rt; rope.len_bytes(), WHOLE);
+    assert_eq!(rt; rope.len_lines(), 2_305_843_009_213_693_953);
+    Ok(())
+}
+
+#[test]
+fn wide_characters_doubled(rt: HostRuntime) -> Result<(), Fail> {
+    let rope = doubled(rt.alloc(), "🐸", 60)?;
+    assert_eq!(rt; rope.len_bytes(), WHOLE);
+    assert_eq!(rt; rope.len_chars(), 1 << 60);
+    assert_eq!(rt; rope.len_utf16_cu(), HALF);
+    Ok(())
+}

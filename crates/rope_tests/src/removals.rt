@@ -1,0 +1,145 @@
+//! Ropes with a part taken out, split and joined again, against rows that were worked by hand.
+use crate::edits::{chars_of, compare, lie_together, repeated};
+use ropey::{Error, Rope, Steps};
+use std::alloc::Global;
+use std::test::Fail;
+
+/// A million letters.
+fn million(alloc: Global) -> Result<Rope, Fail> {
+    Ok(Rope::from_str(alloc, repeated(alloc, "a", 1_000_000)?.as_str())?)
+}
+
+#[test]
+fn all_pairs_but_the_ends(rt: HostRuntime) -> Result<(), Fail> {
+    let mut rope = Rope::from_str(rt.alloc(), repeated(rt.alloc(), "\r\n", 1_000)?.as_str())?;
+    assert!(rt; rope.len_chars() == 2_000);
+    rope.remove(1..1_999)?;
+    compare(&rt, &rope, &chars_of(rt.alloc(), "\r\n")?);
+    assert_eq!(rt; rope.len_lines(), 2);
+    assert_eq!(rt;
+        (rope.chunks().count(), rope.depth(), rope.capacity()),
+        (1, 0, 984)
+    );
+    Ok(())
+}
+
+#[test]
+fn nearly_all_of_a_million(rt: HostRuntime) -> Result<(), Fail> {
+    let whole = million(rt.alloc())?;
+    let mut rope = whole.clone()?;
+    rope.try_remove(0..999_999)?;
+    compare(&rt, &rope, &['a']);
+    assert_eq!(rt; (rope.chunks().count(), rope.depth()), (1, 0));
+    let mut rope = whole.clone()?;
+    rope.try_remove(10..999_990)?;
+    compare(&rt, &rope, &['a'; 20]);
+    assert!(rt; rope.depth() <= 1);
+    assert_eq!(rt; whole.len_bytes(), 1_000_000);
+    Ok(())
+}
+
+#[test]
+fn splits_of_a_million(rt: HostRuntime) -> Result<(), Fail> {
+    let whole = million(rt.alloc())?;
+    for (char_idx, rest) in [
+        (1, 999_999),
+        (983, 999_017),
+        (984, 999_016),
+        (985, 999_015),
+        (500_000, 500_000),
+        (999_999, 1),
+    ] {
+        let mut front = whole.clone()?;
+        let back = front.try_split_off(char_idx)?;
+        assert_eq!(rt; (front.len_bytes(), back.len_bytes()), (char_idx, rest));
+        front.append(back)?;
+        assert_eq!(rt; front.len_bytes(), 1_000_000);
+        assert!(rt; front.depth() == 3 || front.depth() == 4);
+    }
+    assert_eq!(rt; (whole.len_bytes(), whole.depth()), (1_000_000, 3));
+    Ok(())
+}
+
+#[test]
+fn nodes_made_by_removal(rt: HostRuntime) -> Result<(), Fail> {
+    let mut rope = million(rt.alloc())?;
+    assert!(rt; rope.len_chars() == 1_000_000);
+    let mut steps = Steps::new();
+    rope.remove_counted(10..999_990, &mut steps)?;
+    assert_eq!(rt; rope.len_bytes(), 20);
+    assert!(rt; steps.made >= 1 && steps.made <= 80);
+    Ok(())
+}
+
+#[test]
+fn nodes_made_by_splits(rt: HostRuntime) -> Result<(), Fail> {
+    let mut front = million(rt.alloc())?;
+    assert!(rt; front.len_chars() == 1_000_000);
+    let mut steps = Steps::new();
+    let back = front.split_off_counted(500_000, &mut steps)?;
+    assert_eq!(rt; (front.len_bytes(), back.len_bytes()), (500_000, 500_000));
+    assert!(rt; steps.made >= 2 && steps.made <= 80);
+    front.append_counted(back, &mut steps)?;
+    assert_eq!(rt; front.len_bytes(), 1_000_000);
+    assert!(rt; steps.made >= 1 && steps.made <= 80);
+    Ok(())
+}
+
+#[test]
+fn a_pair_that_meets_by_removal(rt: HostRuntime) -> Result<(), Fail> {
+    let mut text = repeated(rt.alloc(), "a", 983)?;
+    text.push('\r')?;
+    text.push_str(repeated(rt.alloc(), "x", 984)?.as_str())?;
+    text.push('\n')?;
+    text.push_str(repeated(rt.alloc(), "b", 984)?.as_str())?;
+    let mut rope = Rope::from_str(rt.alloc(), text.as_str())?;
+    rope.try_remove(984..1_968)?;
+    assert_eq!(rt; (rope.len_bytes(), rope.len_lines()), (1_969, 2));
+    assert!(rt; lie_together(&rope, 983));
+    Ok(())
+}
+
+#[test]
+fn a_pair_that_meets_by_append(rt: HostRuntime) -> Result<(), Fail> {
+    let mut text = repeated(rt.alloc(), "a", 983)?;
+    text.push('\r')?;
+    let mut rope = Rope::from_str(rt.alloc(), text.as_str())?;
+    rope.append(Rope::from_str(rt.alloc(), "\n")?)?;
+    assert_eq!(rt; (rope.len_bytes(), rope.len_lines()), (985, 2));
+    assert_eq!(rt; rope.try_char_to_line(984)?, 0);
+    assert_eq!(rt; rope.try_char_to_line(985)?, 1);
+    assert!(rt; rope.chunks().count() >= 2);
+    assert!(rt; lie_together(&rope, 983));
+    text.push('\n')?;
+    compare(&rt, &rope, &chars_of(rt.alloc(), text.as_str())?);
+    Ok(())
+}
+
+#[test]
+fn refused_ranges(rt: HostRuntime) -> Result<(), Fail> {
+    let text = chars_of(rt.alloc(), "Hello!")?;
+    let mut rope = Rope::from_str(rt.alloc(), "Hello!")?;
+    let refused = rope.try_remove(9..7);
+    assert!(rt; refused == Err(Error::CharRangeOutOfBounds(Some(9), Some(7), 6)));
+    assert!(rt; rope.try_remove(4..2) == Err(Error::CharRangeInvalid(4, 2)));
+    let refused = rope.try_remove(..=usize::MAX);
+    assert!(rt; refused == Err(Error::CharRangeOutOfBounds(None, Some(usize::MAX), 6)));
+    rope.try_remove(6..6)?;
+    compare(&rt, &rope, &text);
+    rope.try_insert(6, "x")?;
+    compare(&rt, &rope, &chars_of(rt.alloc(), "Hello!x")?);
+    Ok(())
+}
+
+#[test]
+fn refused_splits(rt: HostRuntime) -> Result<(), Fail> {
+    let mut rope = Rope::from_str(rt.alloc(), "Hello!")?;
+    let Err(refused) = rope.try_split_off(7) else {
+        return Err(Fail::from("a split past the end was done"));
+    };
+    assert!(rt; refused == Error::CharIndexOutOfBounds(7, 6));
+    let back = rope.try_split_off(6)?;
+    compare(&rt, &back, &[]);
+    compare(&rt, &rope, &chars_of(rt.alloc(), "Hello!")?);
+    Ok(())
+}

@@ -1,0 +1,58 @@
+use Rattle.std.proofs.Common.{◌≡◌, ◌+◌, ◌++◌, List, ℕ, length, take, drop, refl, sym, ap, ap₂, ◌∙◌, arith}
+use Rattle.std.proofs.lemmas.List.{take_at, drop_at}
+use Rattle.std.specs.Str.{chars}
+use Rattle.rope_text.specs.Edit.{inserted}
+use Rattle.rope_text.specs.TextInfo.{info_of, info_sum}
+use Rattle.rope_text.proofs.Walks.{byte_len-chars}
+use Rattle.rope_tree.specs.Search.{IsSmall}
+use Rattle.rope_tree.proofs.Infos.{small_info}
+use Rattle.rope_tree.proofs.InsertTrees.{inserted_is}
+use Rattle.rope_tree.proofs.CountLaws.{Corrects, corrects}
+use Rattle.rope_tree.proofs.counts.info_between.Goals.{After-from_str, After-shared_breaks-2}
+use Rattle.rope_tree.proofs.counts.info_between.Goals as goal
+
+old : (c : After-from_str) → IsSmall c.args.info
+old c = rw c.requires.info (small_info c.args.set (chars c.args.front.now ++ chars c.args.back.now) (omega (arith, ap (λ i. i.bytes) c.requires.info, c.requires.fits)))
+
+new : (c : After-from_str) → IsSmall c.from_str.result
+new c = rw c.from_str.ensures (small_info c.args.set (chars c.args.added.now) (omega (arith, byte_len-chars c.args.added.now c.utf8.added, c.requires.short)))
+
+pub plus-more-requires-clause-chars : goal.plus-more-requires-clause-chars
+plus-more-requires-clause-chars c = let o = old c in let n = new c in omega (arith, o.chars, o.bytes, n.chars, n.bytes)
+
+pub plus-more-requires-clause-utf16_surrogates : goal.plus-more-requires-clause-utf16_surrogates
+plus-more-requires-clause-utf16_surrogates c = let o = old c in let n = new c in omega (arith, o.chars, o.bytes, n.chars, n.bytes, o.surrogates, n.surrogates)
+
+pub plus-more-requires-clause-line_breaks : goal.plus-more-requires-clause-line_breaks
+plus-more-requires-clause-line_breaks c = let o = old c in let n = new c in omega (arith, o.chars, o.bytes, n.chars, n.bytes, o.breaks, n.breaks)
+
+-- the place between the front and the back
+pub between : (front a back : List ℕ) → inserted (front ++ back) (length front) a ≡ front ++ (a ++ back)
+between front a back = inserted_is (front ++ back) (length front) a ∙ ap₂ (λ x y. x ++ (a ++ y)) (take_at front back _ refl) (drop_at front back _ refl)
+
+met : (c : After-shared_breaks-2) → Corrects c.args.set (chars c.args.front.now ++ chars c.args.back.now) (chars c.args.added.now) (length (chars c.args.front.now)) c.plus-more.result c.shared_breaks-apart.result (c.shared_breaks.result + c.shared_breaks-2.result)
+met c =
+    let front = chars c.args.front.now in
+    let back = chars c.args.back.now in
+    corrects c.args.set (front ++ back) (chars c.args.added.now) front back (length front) c.plus-more.result c.shared_breaks-apart.result c.shared_breaks.result c.shared_breaks-2.result c.requires.some
+    (sym (take_at front back _ refl))
+    (sym (drop_at front back _ refl))
+    (c.plus-more.ensures.sum ∙ ap₂ info_sum c.requires.info c.from_str.ensures)
+    c.shared_breaks-apart.ensures c.shared_breaks.ensures c.shared_breaks-2.ensures
+
+pub overflow_add-result : goal.overflow_add-result
+overflow_add-result c =
+    let e = (goal.at.overflow_add-result c).After-from_str in
+    let o = old e in
+    let n = new e in
+    let m = met (goal.at.overflow_add-result c).After-shared_breaks-2 in
+    omega (arith, o.chars, o.bytes, n.chars, n.bytes, o.breaks, n.breaks, m.apart_le, ap (λ i. i.line_breaks) c.plus-more.ensures.sum)
+
+pub overflow_sub-result : goal.overflow_sub-result
+overflow_sub-result c = (met (goal.at.overflow_sub-result c).After-shared_breaks-2).met_le
+
+pub returns : goal.returns
+returns c = (met (goal.at.returns c).After-shared_breaks-2).whole ∙ ap (info_of c.args.set) (between (chars c.args.front.now) (chars c.args.added.now) (chars c.args.back.now))
+
+pub plus-more-requires-clause-bytes : goal.plus-more-requires-clause-bytes
+plus-more-requires-clause-bytes c = let o = old c in let n = new c in omega (arith, o.bytes, n.bytes)

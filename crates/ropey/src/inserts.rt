@@ -1,0 +1,181 @@
+//! Texts and characters put into ropes.
+ghost use Rattle.std.specs.Prelude.{◌≡◌, ◌+◌, ◌*◌, ◌<◌, ◌≤◌, ◌^◌, [], ◌∷◌, length, None, IsOk, IfErr, OnOk, OnErr};
+ghost use Rattle.std.specs.Str.{chars};
+ghost use Rattle.rope_text.specs.declared.error.Error.TheVariants.{OutOfMemory};
+ghost use Rattle.rope_text.specs.Text.{byte_len};
+ghost use Rattle.rope_text.specs.Edit.{inserted, insert_error, IsRefusal};
+ghost use Rattle.ropey.specs.View.{IsRope};
+
+use crate::rope::{MAX_TEXT_BYTES, Rope};
+use rope_join::edit::insert;
+use rope_text::{Error, Result, Steps};
+use rope_tree::edit::{MAX_SHORT_BYTES, insert_at};
+
+impl Rope {
+    // Puts a short text in.
+    fn insert_short(&mut self, char_idx: usize, text: &str, made: &mut u64) -> Result<()>
+        requires within { char_idx ≤ length self.old.text }
+        requires fits { byte_len self.old.text + length text.now < 2 ^ 63 }
+        requires some { 0 < length text.now }
+        requires short { length text.now ≤ 981 }
+        ensures ok { OnOk result (self.new.text ≡ inserted self.old.text char_idx (chars text.now)) }
+        ensures refused { IfErr result (λ e. e ≡ OutOfMemory) }
+        ensures err { OnErr result (self.new ≡ self.old) }
+        ensures breaks { self.new.breaks ≡ self.old.breaks }
+        ensures kept { IsRope self.new }
+        ensures made { made.new ≤ made.old + 2 * self.old.depth + 3 }
+    {
+        insert_at(self.alloc, &mut self.root, char_idx, text, made)?;
+        Ok(())
+    }
+
+    // Puts a text of any length in.
+    fn insert_long(&mut self, char_idx: usize, text: &str, made: &mut u64) -> Result<()>
+        requires within { char_idx ≤ length self.old.text }
+        requires fits { byte_len self.old.text + length text.now < 2 ^ 63 }
+        ensures ok { OnOk result (self.new.text ≡ inserted self.old.text char_idx (chars text.now)) }
+        ensures refused { IfErr result (λ e. e ≡ OutOfMemory) }
+        ensures err { OnErr result (self.new ≡ self.old) }
+        ensures breaks { self.new.breaks ≡ self.old.breaks }
+        ensures kept { IsRope self.new }
+    {
+        let root = insert(self.alloc, &self.root, char_idx, text, made)?;
+        let _ = root.height();
+        self.root = root;
+        Ok(())
+    }
+
+    // Puts a text that isn't empty where only want of memory refuses it, and counts the nodes that are made.
+    fn insert_some(&mut self, char_idx: usize, text: &str, made: &mut u64) -> Result<()>
+        requires within { char_idx ≤ length self.old.text }
+        requires fits { byte_len self.old.text + length text.now < 2 ^ 63 }
+        requires some { 0 < length text.now }
+        ensures ok { OnOk result (self.new.text ≡ inserted self.old.text char_idx (chars text.now)) }
+        ensures refused { IfErr result (λ e. e ≡ OutOfMemory) }
+        ensures err { OnErr result (self.new ≡ self.old) }
+        ensures breaks { self.new.breaks ≡ self.old.breaks }
+        ensures kept { IsRope self.new }
+        ensures made { length text.now ≤ 981 → made.new ≤ made.old + 2 * self.old.depth + 3 }
+    {
+        if text.len() > MAX_SHORT_BYTES {
+            return self.insert_long(char_idx, text, made);
+        }
+        self.insert_short(char_idx, text, made)
+    }
+
+    // Puts a text before a character, and counts the nodes that are made.
+    fn insert_made(&mut self, char_idx: usize, text: &str, made: &mut u64) -> Result<()>
+        ensures ok { OnOk result ((insert_error self.old.text char_idx (chars text.now) ≡ None)
+            × (self.new.text ≡ inserted self.old.text char_idx (chars text.now))) }
+        ensures refused { IfErr result (IsRefusal (insert_error self.old.text char_idx (chars text.now))) }
+        ensures err { OnErr result (self.new ≡ self.old) }
+        ensures empty { length (chars text.now) ≡ 0 → insert_error self.old.text char_idx (chars text.now) ≡ None
+            → IsOk result × (self.new ≡ self.old) }
+        ensures breaks { self.new.breaks ≡ self.old.breaks }
+        ensures kept { IsRope self.new }
+        ensures made { length text.now ≤ 981 → made.new ≤ made.old + 2 * self.old.depth + 3 }
+    {
+        let bytes = self.len_bytes();
+        let len = self.len_chars();
+        if char_idx > len {
+            return Err(Error::CharIndexOutOfBounds(char_idx, len));
+        }
+        if text.len() > MAX_TEXT_BYTES - bytes {
+            return Err(Error::TooLong);
+        }
+        if text.is_empty() {
+            return Ok(());
+        }
+        self.insert_some(char_idx, text, made)
+    }
+
+    // Puts a character before another, and counts the nodes that are made.
+    fn insert_char_made(&mut self, char_idx: usize, c: char, made: &mut u64) -> Result<()>
+        ensures ok { OnOk result ((insert_error self.old.text char_idx (c ∷ []) ≡ None)
+            × (self.new.text ≡ inserted self.old.text char_idx (c ∷ []))) }
+        ensures refused { IfErr result (IsRefusal (insert_error self.old.text char_idx (c ∷ []))) }
+        ensures err { OnErr result (self.new ≡ self.old) }
+        ensures breaks { self.new.breaks ≡ self.old.breaks }
+        ensures kept { IsRope self.new }
+        ensures made { made.new ≤ made.old + 2 * self.old.depth + 3 }
+    {
+        let mut buffer = [0; 4];
+        self.insert_made(char_idx, c.encode_utf8(&mut buffer), made)
+    }
+
+    /// Puts `text` before the character `char_idx`, or at the end.
+    ///
+    /// It refuses a character past the end, then a text longer than `isize::MAX` bytes, then for want of memory, and
+    /// leaves the rope as it was where it refuses. An empty text takes no memory.
+    pub fn try_insert(&mut self, char_idx: usize, text: &str) -> Result<()>
+        ensures ok { OnOk result ((insert_error self.old.text char_idx (chars text.now) ≡ None)
+            × (self.new.text ≡ inserted self.old.text char_idx (chars text.now))) }
+        ensures refused { IfErr result (IsRefusal (insert_error self.old.text char_idx (chars text.now))) }
+        ensures err { OnErr result (self.new ≡ self.old) }
+        ensures empty { length (chars text.now) ≡ 0 → insert_error self.old.text char_idx (chars text.now) ≡ None
+            → IsOk result × (self.new ≡ self.old) }
+        ensures breaks { self.new.breaks ≡ self.old.breaks }
+        ensures kept { IsRope self.new }
+    {
+        self.insert_made(char_idx, text, &mut 0)
+    }
+
+    /// Puts `text` before a character of the rope, or at the end, as `try_insert` does.
+    pub fn insert(&mut self, char_idx: usize, text: &str) -> Result<()>
+        requires { char_idx ≤ length self.old.text }
+        ensures ok { OnOk result ((insert_error self.old.text char_idx (chars text.now) ≡ None)
+            × (self.new.text ≡ inserted self.old.text char_idx (chars text.now))) }
+        ensures refused { IfErr result (IsRefusal (insert_error self.old.text char_idx (chars text.now))) }
+        ensures err { OnErr result (self.new ≡ self.old) }
+        ensures empty { length (chars text.now) ≡ 0 → insert_error self.old.text char_idx (chars text.now) ≡ None
+            → IsOk result × (self.new ≡ self.old) }
+        ensures breaks { self.new.breaks ≡ self.old.breaks }
+        ensures kept { IsRope self.new }
+    {
+        self.try_insert(char_idx, text)
+    }
+
+    /// Puts the character `c` before the character `char_idx`, or at the end.
+    ///
+    /// It refuses a character past the end, then a text longer than `isize::MAX` bytes, then for want of memory, and
+    /// leaves the rope as it was where it refuses.
+    pub fn try_insert_char(&mut self, char_idx: usize, c: char) -> Result<()>
+        ensures ok { OnOk result ((insert_error self.old.text char_idx (c ∷ []) ≡ None)
+            × (self.new.text ≡ inserted self.old.text char_idx (c ∷ []))) }
+        ensures refused { IfErr result (IsRefusal (insert_error self.old.text char_idx (c ∷ []))) }
+        ensures err { OnErr result (self.new ≡ self.old) }
+        ensures breaks { self.new.breaks ≡ self.old.breaks }
+        ensures kept { IsRope self.new }
+    {
+        self.insert_char_made(char_idx, c, &mut 0)
+    }
+
+    /// Puts the character `c` before a character of the rope, or at the end, as `try_insert_char` does. The index is at
+    /// most `len_chars()`.
+    pub fn insert_char(&mut self, char_idx: usize, c: char) -> Result<()>
+        requires { char_idx ≤ length self.old.text }
+        ensures ok { OnOk result ((insert_error self.old.text char_idx (c ∷ []) ≡ None)
+            × (self.new.text ≡ inserted self.old.text char_idx (c ∷ []))) }
+        ensures refused { IfErr result (IsRefusal (insert_error self.old.text char_idx (c ∷ []))) }
+        ensures err { OnErr result (self.new ≡ self.old) }
+        ensures breaks { self.new.breaks ≡ self.old.breaks }
+        ensures kept { IsRope self.new }
+    {
+        self.try_insert_char(char_idx, c)
+    }
+
+    /// Does what `insert_char` does, and counts the nodes that it makes; all counts are 0 before.
+    pub fn insert_char_counted(&mut self, char_idx: usize, c: char, steps: &mut Steps) -> Result<()>
+        requires { char_idx ≤ length self.old.text }
+        ensures ok { OnOk result ((insert_error self.old.text char_idx (c ∷ []) ≡ None)
+            × (self.new.text ≡ inserted self.old.text char_idx (c ∷ []))) }
+        ensures refused { IfErr result (IsRefusal (insert_error self.old.text char_idx (c ∷ []))) }
+        ensures err { OnErr result (self.new ≡ self.old) }
+        ensures breaks { self.new.breaks ≡ self.old.breaks }
+        ensures kept { IsRope self.new }
+        ensures made { steps.new.made ≤ 8 * self.old.depth + 16 }
+    {
+        *steps = Steps::new();
+        self.insert_char_made(char_idx, c, &mut steps.made)
+    }
+}
