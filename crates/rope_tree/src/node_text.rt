@@ -54,7 +54,7 @@ pub struct NodeText {
 impl Model for NodeText {
     ghost use Rattle.std.specs.Prelude.{◌≡◌, ℕ, List, true, ◌≤◌, length};
     ghost use Rattle.std.specs.List.{insert_slice};
-ghost use Rattle.std.specs.Str.{chars, is_utf8};
+    ghost use Rattle.std.specs.Str.{chars, is_utf8};
 
     ghost Value = { List ℕ };
 

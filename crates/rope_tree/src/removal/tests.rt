@@ -1,10 +1,9 @@
 use super::*;
 use crate::build::build;
 use crate::children::share;
-use crate::edit::is_lf;
 use rope_text::LineBreaks;
 
-// Removes where the characters are there and no LF follows them.
+// Removes where the characters are there.
 fn remove(
     alloc: Global,
     root: &mut Rc<Node>,
@@ -12,7 +11,7 @@ fn remove(
     end: usize,
     made: &mut u64,
 ) -> Result<bool, AllocError> {
-    if start < end && end <= root.info().chars && !is_lf(root, end) {
+    if start < end && end <= root.info().chars {
         return Ok(remove_at(alloc, root, start, end, made)?);
     }
     Ok(false)
@@ -50,4 +49,21 @@ fn removes_in_one_leaf_alone(rt: HostRuntime) {
     assert!(rt; !remove(rt.alloc(), &mut leaf, 0, 6, &mut made).expect(&rt, "memory"));
     assert!(rt; remove(rt.alloc(), &mut leaf, 1, 6, &mut made).expect(&rt, "memory"));
     assert_eq!(rt; leaf.info().bytes, 1);
+}
+
+// Leaves of 984 bytes: at a leaf's ends no LF may come first and no CR last; inside they may meet.
+#[test]
+fn bares_no_end_of_a_leaf(rt: HostRuntime) {
+    let text = "Hello!\r\n".repeat(rt.alloc(), 1000).expect(&rt, "memory");
+    let mut made = 0;
+    let mut root = build(rt.alloc(), text.as_str(), LineBreaks::Unicode, &mut made).expect(
+        &rt, "memory",
+    );
+    assert!(rt; !remove(rt.alloc(), &mut root, 983, 984, &mut made).expect(&rt, "memory"));
+    assert!(rt; !remove(rt.alloc(), &mut root, 984, 991, &mut made).expect(&rt, "memory"));
+    assert!(rt; remove(rt.alloc(), &mut root, 982, 984, &mut made).expect(&rt, "memory"));
+    assert_eq!(rt; root.info().line_breaks, 999);
+    assert!(rt; remove(rt.alloc(), &mut root, 7, 15, &mut made).expect(&rt, "memory"));
+    assert_eq!(rt; root.info().line_breaks, 998);
+    assert_eq!(rt; root.info().chars, 7990);
 }

@@ -5,6 +5,8 @@ use Rattle.std.proofs.lemmas.List.{take-append-drop, drop-drop, length-append, l
 use Rattle.std.proofs.lemmas.Str.{chars-append, IsUtf8-take}
 use Rattle.rope_text.specs.Text.{byte_len}
 use Rattle.rope_text.specs.TextInfo.{info_of}
+use Rattle.rope_text.specs.Edit.{removed}
+use Rattle.rope_tree.specs.Removal.{KeepsEnds}
 use Rattle.rope_text.proofs.Measures.{size_le, IsMeasure-byte_len}
 use Rattle.rope_text.proofs.TextParts.{chars_front, chars_back}
 use Rattle.rope_tree.proofs.counts.take_out.Goals.{After-as_str-text, After-range_from-back}
@@ -75,11 +77,6 @@ info_without-info-requires-clause-info c =
 pub info_without-info-requires-clause-some : goal.info_without-info-requires-clause-some
 info_without-info-requires-clause-some c = (parts (goal.at.info_without-info-requires-clause-some c).After-range_from-back).some
 
-pub info_without-info-requires-clause-apart : goal.info_without-info-requires-clause-apart
-info_without-info-requires-clause-apart c =
-    let p = parts (goal.at.info_without-info-requires-clause-apart c).After-range_from-back in
-    rw (p.front_is, p.back_is) c.requires.apart
-
 pub returns-clause-text : goal.returns-clause-text
 returns-clause-text c =
     let e = (goal.at.returns-clause-text c).After-as_str-text in
@@ -95,3 +92,15 @@ pub returns-clause-info : goal.returns-clause-info
 returns-clause-info c =
     let p = parts (goal.at.returns-clause-info c).After-range_from-back in
     c.info_without-info.ensures ∙ ap (info_of c.args.set) (ap₂ (λ x y. x ++ y) p.front_is p.back_is)
+
+pub returns-clause-some : goal.returns-clause-some
+returns-clause-some c =
+    let p = parts (goal.at.returns-clause-some c).After-range_from-back in
+    rw (p.front_is, p.back_is) at (c.bares_an_end.ensures.some c.if-bares_an_end.false)
+
+pub returns-clause-ends : goal.returns-clause-ends
+returns-clause-ends c =
+    let p = parts (goal.at.returns-clause-ends c).After-range_from-back in
+    let ends = c.bares_an_end.ensures.ends c.if-bares_an_end.false (chars c.range-part.result.now) in
+    subst (λ x. KeepsEnds x (removed c.args.leaf.now c.args.start c.args.end)) p.whole
+    (subst (KeepsEnds (chars c.range-front.result.now ++ (chars c.range-part.result.now ++ chars c.range_from-back.result.now))) (ap₂ (λ x y. x ++ y) p.front_is p.back_is) ends)
