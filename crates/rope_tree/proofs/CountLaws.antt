@@ -1,5 +1,5 @@
 -- The counts of a text with another put into it, or without a part.
-use Rattle.std.proofs.Common.{◌≡◌, ℕ, ◌+◌, ◌-◌, ◌≤◌, Bool, true, false, ◌&&◌, cond, List, [], ◌∷◌, ◌++◌, length, take, drop, refl, sym, ap, ◌∙◌, arith}
+use Rattle.std.proofs.Common.{◌≡◌, ℕ, ◌+◌, ◌-◌, ◌≤◌, true, false, ◌&&◌, cond, List, [], ◌∷◌, ◌++◌, length, take, drop, refl, sym, ap, ◌∙◌, arith}
 use Rattle.std.proofs.lemmas.List.{take-append-drop, length-append}
 use Rattle.rope_text.specs.declared.line_breaks.LineBreaks.{LineBreaks}
 use Rattle.rope_text.specs.declared.text_info.TextInfo.{TextInfo}
@@ -11,7 +11,6 @@ use Rattle.rope_text.specs.TextInfo.{info_of, info_sum, shared_breaks}
 use Rattle.rope_text.proofs.BreakLaws.{break_count-append}
 use Rattle.rope_text.proofs.InfoLaws.{surrogate_count-append}
 use Rattle.rope_text.proofs.Measures.{IsMeasure-byte_len}
-use Rattle.rope_tree.specs.Leaves.{IsSeam}
 use Rattle.rope_tree.proofs.InsertTrees.{inserted_is, byte_len-inserted, length-inserted}
 
 shared_first : (set : LineBreaks) (f a b : List ℕ) → 1 ≤ length a → shared_breaks set f (a ++ b) ≡ shared_breaks set f a

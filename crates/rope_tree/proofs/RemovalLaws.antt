@@ -4,7 +4,7 @@ use Rattle.std.specs.List.{concat}
 use Rattle.std.specs.Str.{all_scalars}
 use Rattle.std.specs.declared.alloc.Global.{Global}
 use Rattle.std.specs.declared.rc.Rc.{Rc}
-use Rattle.std.proofs.lemmas.List.{append_assoc, length-append, length-set, length-take-le, length-drop, take-append-drop}
+use Rattle.std.proofs.lemmas.List.{append_assoc, length-append, length-set, take-append-drop}
 use Rattle.std.proofs.lemmas.List.Elements.{All-set}
 use Rattle.rope_text.specs.declared.line_breaks.LineBreaks.{LineBreaks}
 use Rattle.rope_text.specs.declared.text_info.TextInfo.{TextInfo}

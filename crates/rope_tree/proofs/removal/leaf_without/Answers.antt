@@ -1,7 +1,6 @@
-use Rattle.std.proofs.Common.{◌≡◌, ap, subst, ◌∙◌, sym, arith}
+use Rattle.std.proofs.Common.{ap, ◌∙◌}
 use Rattle.rope_text.specs.Edit.{removed}
 use Rattle.rope_tree.specs.Tree.{leaf_tree}
-use Rattle.rope_tree.specs.Removal.{KeepsEnds}
 use Rattle.rope_tree.proofs.RemovalLaws.{leaf_removed}
 use Rattle.rope_tree.proofs.removal.leaf_without.Goals as goal
 
