@@ -1,5 +1,5 @@
 -- Edits of one rope of a list, as its contents show it.
-use Rattle.std.proofs.Common.{◌≡◌, ℕ, ◌+◌, ◌^◌, ◌<◌, List, [], ◌∷◌, ◌++◌, All, length, take, drop, get_or, slice_set, map, Option, None, Bool, true, Result, Ok, Err, IsOk, OnOk, OnErr, IfErr, refl, ap, sym, ◌∙◌, inl, inr, arith}
+use Rattle.std.proofs.Common.{◌≡◌, ℕ, ◌+◌, ◌^◌, ◌<◌, List, [], ◌∷◌, ◌++◌, All, length, take, drop, get_or, slice_set, map, Option, None, Bool, true, Result, Ok, Err, IsOk, OnOk, OnErr, IfErr, IfOk, refl, ap, sym, ◌∙◌, inl, inr, arith}
 use Rattle.std.proofs.lemmas.Bool.Decides.{nat_tests}
 use Rattle.std.proofs.lemmas.List.{map-set, map-append, length-map, length-set, set-get_or, get_or_default}
 use Rattle.std.proofs.lemmas.List.Elements.{All-get_or}
@@ -11,9 +11,11 @@ use Rattle.rope_text.specs.Content.{Content}
 use Rattle.rope_text.specs.Edit.{IsRefusal, char_index_error, append_error}
 use Rattle.rope_text.specs.Text.{byte_len}
 use Rattle.ropey.specs.View.{RopeView, IsRope, content}
+use Rattle.rope_script.specs.declared.script.Command.{Command}
 use Rattle.rope_script.specs.declared.script.Reply.{Reply}
 use Rattle.rope_script.specs.declared.script.Reply.TheVariants.{Made, Refused}
-use Rattle.rope_script.specs.Step.{OfRope, Unless, OrNoMemory, HasUnicode, AddsSame, Changes, KeepsChunks, Edits, Cuts, Joins, edit_reply}
+use Rattle.rope_script.specs.Step.{OfRope, Unless, OrNoMemory, HasUnicode, AddsSame, Changes, KeepsChunks, Edits, Cuts, Joins, Step, edit_reply}
+use Rattle.rope_script.proofs.RunLaws.{step_keeps_unicode}
 use Rattle.rope_script.proofs.Edits.{of_rope, is_rope_of, unless_refused, edits_by, changes_by, keeps_chunks}
 
 -- one of the ropes
@@ -123,3 +125,9 @@ unjoined_of old r s rope other h e j f u fits =
 -- a rope that was read where another was is that one
 pub same_place : (old : List RopeView) (r : ℕ) (a b : RopeView) → r < length old → a ≡ get_or old r a → b ≡ get_or old r b → a ≡ b
 same_place old r a b h e f = e ∙ get_or_default old r a b h ∙ sym f
+
+-- a command leaves the ropes with the one set of line breaks
+pub unicode_after : (result : Result Reply Error) (old new : List RopeView) (command : Command) → All HasUnicode (map content old)
+    → IfOk result (λ reply. Step (map content old) command reply (map content new)) → OnErr result (new ≡ old) → All HasUnicode (map content new)
+unicode_after (Ok reply) old new command k step same = step_keeps_unicode (map content old) (map content new) command reply k step
+unicode_after (Err error) old new command k step same = rw same k

@@ -1,5 +1,6 @@
 //! Ropes by number, and runs of commands on them.
-ghost use Rattle.std.specs.Prelude.{◌≡◌, ℕ, ◌+◌, ◌<◌, ◌++◌, ◌∷◌, List, [], None, length, All, OnOk, OnErr, IfErr, IfOk, MatchOption, vec_len, vec_capacity, map};
+ghost use Rattle.std.specs.Prelude.{◌≡◌, ℕ, ◌+◌, ◌<◌, ◌++◌, ◌∷◌, List, [], None, true, false, length, All, OnOk, OnErr, IfErr, IfOk, MatchOption, vec_len, vec_capacity, map};
+ghost use Rattle.std.specs.List.{concat};
 ghost use Rattle.std.specs.Str.{chars};
 ghost use Rattle.std.specs.String.{string_bytes};
 ghost use Rattle.rope_text.specs.declared.error.Error.TheVariants.{OutOfMemory};
@@ -294,10 +295,24 @@ fn text_of(alloc: Global, rope: &Rope) -> Result<String>
 {
     let mut text = String::with_capacity(alloc, rope.len_bytes())?;
     let mut chunks = rope.chunks();
-    while let Some(chunk) = chunks.next() {
-        text.push_str(chunk)?;
-    }
+    while push_next(&mut text, &mut chunks)? {}
     Ok(text)
+}
+
+/// Puts the next chunk behind a text, and answers whether there was one.
+fn push_next(text: &mut String, chunks: &mut Chunks<'_>) -> Result<bool>
+    ensures text { OnOk result (chars (string_bytes text.new) ++ concat (ahead chunks.new) ≡ chars (string_bytes text.old) ++ concat (ahead chunks.old)) }
+    ensures found { IfOk result (λ found. found ≡ true → length (ahead chunks.new) < length (ahead chunks.old)) }
+    ensures end { IfOk result (λ found. found ≡ false → ahead chunks.new ≡ []) }
+    ensures memory { IfErr result (λ e. e ≡ OutOfMemory) }
+{
+    match chunks.next() {
+        Some(chunk) => {
+            text.push_str(chunk)?;
+            Ok(true)
+        }
+        None => Ok(false),
+    }
 }
 
 /// The chunks of a rope, each copied.
