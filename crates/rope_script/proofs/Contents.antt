@@ -71,9 +71,14 @@ pub cut_of : (old new : List RopeView) (r i : ℕ) (rope front back : RopeView) 
     → Cuts r i (map content old) reply (map content new)
 cut_of old new r i rope front back reply h e fine f b fs bs k l reply_is new_is =
     of_content _ old (map content new) r rope reply h e
-    (rw fine (inl (content front, content back, is_rope_of (take i rope.text) rope.breaks (content front) f fs k.content, is_rope_of (drop i rope.text) rope.breaks (content back) b bs l.content,
-    reply_is ∙ ap Made (length-set old r front ∙ sym (length-map old content)),
-    pushed (slice_set old r front) new back new_is ∙ ap (λ cs. cs ++ content back ∷ []) (map-set content old r front))))
+    (rw fine (inl (
+      content front,
+      content back,
+      is_rope_of (take i rope.text) rope.breaks (content front) f fs k.content,
+      is_rope_of (drop i rope.text) rope.breaks (content back) b bs l.content,
+      reply_is ∙ ap Made (length-set old r front ∙ sym (length-map old content)),
+      pushed (slice_set old r front) new back new_is ∙ ap (λ cs. cs ++ content back ∷ []) (map-set content old r front),
+    )))
 
 -- a cut is refused
 pub uncut_of : (old : List RopeView) (r i : ℕ) (rope after : RopeView) (error : Error) → r < length old → rope ≡ get_or old r rope

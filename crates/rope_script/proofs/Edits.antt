@@ -12,7 +12,7 @@ use Rattle.std.specs.List.{concat}
 use Rattle.std.proofs.lemmas.List.Elements.{All-head}
 use Rattle.rope_text.specs.Edit.{IsRefusal}
 use Rattle.rope_script.specs.declared.script.Reply.{Reply}
-use Rattle.rope_script.specs.declared.script.Reply.TheVariants.{Done, Refused}
+use Rattle.rope_script.specs.declared.script.Reply.TheVariants.{Refused}
 use Rattle.rope_script.specs.Step.{OfRope, Unless, OrNoMemory, IsRopeOf, Changes, KeepsChunks, Edits, edit_reply}
 
 -- of a rope that is there
@@ -82,8 +82,9 @@ no_chunks rope k e = none rope.chunks (ap length k.cut.joined ∙ e) k.cut.sized
 pub keeps_chunks : (rope other after : Content) → IsRope rope → IsRope other → (length other.text ≡ 0 → after ≡ rope) → (length rope.text ≡ 0 → 0 < length other.text → after ≡ other)
     → KeepsChunks rope other after
 keeps_chunks rope other after k l right left = (
-    λ e. elim (zero_or_more (length other.text)) [
-      | inl z ↦ ap (λ c. c.chunks) (right z) ∙ no_chunks rope k e ∙ sym (no_chunks other l z)
-      | inr p ↦ ap (λ c. c.chunks) (left e p)
-    ],
-    λ e. ap (λ c. c.chunks) (right e))
+  λ e. elim (zero_or_more (length other.text)) [
+    | inl z ↦ ap (λ c. c.chunks) (right z) ∙ no_chunks rope k e ∙ sym (no_chunks other l z)
+    | inr p ↦ ap (λ c. c.chunks) (left e p)
+  ],
+  λ e. ap (λ c. c.chunks) (right e),
+)

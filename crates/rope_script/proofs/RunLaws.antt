@@ -54,7 +54,7 @@ added_keep P old rope k p = All-append P old (rope ∷ []) k (one P rope p)
 found : (P : Content → Type 0) (old : List Content) (r : ℕ) (A : Type 0) (Q : Content → Type 0) → All P old → MatchOption (slice_get old r) A Q → A ⊎ ((rope : Content) × P rope × Q rope)
 found P old r A Q k m = elim (slice_get_cases old r).1 [
   | inl there ↦ let p : P (get_or old r there.0) = All-get_or P old r there.0 there.1 k in
-  inr (there.0, rw there.3 at p, rw there.2 at m)
+      inr (there.0, rw there.3 at p, rw there.2 at m)
   | inr past ↦ inl (rw past.1 at m)
 ]
 
@@ -97,7 +97,7 @@ module _ (P : Content → Type 0) (kept : IsKept P) where
   removes_keep old new r start end reply k s = elim (found P old r _ _ k s) [
     | inl none ↦ rw none.1 k
     | inr some ↦ let len = length some.0.text in
-    edits_keep old new r some.0 (char_range_error start end len) (range_start start == range_end end len) (removed some.0.text (range_start start) (range_end end len)) reply k some.1 some.2
+        edits_keep old new r some.0 (char_range_error start end len) (range_start start == range_end end len) (removed some.0.text (range_start start) (range_end end len)) reply k some.1 some.2
   ]
 
   splits_keep : (old new : List Content) (r i : ℕ) (rope : Content) (reply : Reply) → All P old → P rope → Splits r i rope old reply new → All P new
@@ -119,13 +119,13 @@ module _ (P : Content → Type 0) (kept : IsKept P) where
     | inr first ↦ elim (found P old s _ _ k first.2) [
       | inl none ↦ rw none.1 k
       | inr second ↦ let rope = first.0 in let other = second.0 in
-      elim (allowed (append_error rope.breaks other.breaks rope.text other.text) _ old new reply second.2) [
-        | inl refused ↦ rw refused k
-        | inr fine ↦ elim fine [
-          | inl changed ↦ changes_keep old new r rope (rope.text ++ other.text) (KeepsChunks rope other) reply k first.1 changed
-          | inr memory ↦ rw memory.1 k
-        ]
-      ]
+          elim (allowed (append_error rope.breaks other.breaks rope.text other.text) _ old new reply second.2) [
+            | inl refused ↦ rw refused k
+            | inr fine ↦ elim fine [
+              | inl changed ↦ changes_keep old new r rope (rope.text ++ other.text) (KeepsChunks rope other) reply k first.1 changed
+              | inr memory ↦ rw memory.1 k
+            ]
+          ]
     ]
   ]
 

@@ -81,12 +81,12 @@ impl Session {
         ensures err { OnErr result (self.new ≡ self.old) }
         ensures memory { IfErr result (λ e. e ≡ OutOfMemory) }
     {
-        obey(self.alloc, &mut self.ropes, command)
+        run_command(self.alloc, &mut self.ropes, command)
     }
 }
 
 /// Does one command on ropes, and answers its reply. A refusal for memory has done nothing.
-fn obey(alloc: Global, ropes: &mut Vec<Rope>, command: &Command) -> Result<Reply>
+fn run_command(alloc: Global, ropes: &mut Vec<Rope>, command: &Command) -> Result<Reply>
     requires whole { AsksWhole command.now }
     requires unicode { All HasUnicode (map content ropes.old.items) }
     ensures step { IfOk result (λ reply. Step (map content ropes.old.items) command.now reply (map content ropes.new.items)) }
