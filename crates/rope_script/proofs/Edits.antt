@@ -1,6 +1,8 @@
 -- What an edit of one rope of a list does, from what the rope's own edit did.
 use Rattle.std.proofs.Common.{◌≡◌, ℕ, zero, suc, ◌<◌, ◌⊎◌, List, [], ◌∷◌, All, length, arith, get_or, slice_set, MatchBool, Option, Some, None, Bool, true, false, Result, Ok, Err, IsOk, OnOk, OnErr, IfErr, refl, sym, ap, ◌∙◌, inl, inr, true≢false}
+use Rattle.std.specs.List.{concat}
 use Rattle.std.proofs.lemmas.List.{set-get_or}
+use Rattle.std.proofs.lemmas.List.Elements.{All-head}
 use Rattle.std.proofs.lemmas.Option.{slice_get_read}
 use Rattle.rope_text.specs.declared.error.Error.{Error}
 use Rattle.rope_text.specs.declared.error.Error.TheVariants.{OutOfMemory}
@@ -8,8 +10,6 @@ use Rattle.rope_text.specs.declared.line_breaks.LineBreaks.{LineBreaks}
 use Rattle.rope_text.specs.Content.{Content, IsRope}
 use Rattle.rope_text.specs.Cutting.{IsChunkSize}
 use Rattle.rope_text.specs.Text.{byte_len}
-use Rattle.std.specs.List.{concat}
-use Rattle.std.proofs.lemmas.List.Elements.{All-head}
 use Rattle.rope_text.specs.Edit.{IsRefusal}
 use Rattle.rope_script.specs.declared.script.Reply.{Reply}
 use Rattle.rope_script.specs.declared.script.Reply.TheVariants.{Refused}
