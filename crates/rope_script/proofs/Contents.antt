@@ -1,36 +1,138 @@
--- An insert into one rope of a list, as its contents show it.
-use Rattle.std.proofs.Common.{◌≡◌, ℕ, ◌<◌, List, length, get_or, slice_set, map, None, ap, sym, ◌∙◌, subst, arith}
-use Rattle.std.proofs.lemmas.List.{map-set, length-map}
+-- Edits of one rope of a list, as its contents show it.
+use Rattle.std.proofs.Common.{◌≡◌, ℕ, ◌+◌, ◌^◌, ◌<◌, List, [], ◌∷◌, ◌++◌, All, length, take, drop, get_or, slice_set, map, Option, None, Bool, true, Result, Ok, Err, IsOk, OnOk, OnErr, IfErr, IfOk, refl, ap, sym, ◌∙◌, inl, inr, arith}
+use Rattle.std.proofs.lemmas.Bool.Decides.{nat_tests}
+use Rattle.std.proofs.lemmas.List.{map-set, map-append, length-map, length-set, set-get_or, get_or_default}
+use Rattle.std.proofs.lemmas.List.Elements.{All-get_or}
 use Rattle.std.proofs.Math.ListN.{get_or-map}
 use Rattle.rope_text.specs.declared.error.Error.{Error}
-use Rattle.rope_text.specs.Edit.{inserted, insert_error, IsRefusal}
+use Rattle.rope_text.specs.declared.error.Error.TheVariants.{OutOfMemory}
+use Rattle.rope_text.specs.declared.line_breaks.LineBreaks.TheVariants.{Unicode}
+use Rattle.rope_text.specs.Content.{Content}
+use Rattle.rope_text.specs.Edit.{IsRefusal, char_index_error, append_error}
+use Rattle.rope_text.specs.Text.{byte_len}
 use Rattle.ropey.specs.View.{RopeView, IsRope, content}
+use Rattle.rope_script.specs.declared.script.Command.{Command}
 use Rattle.rope_script.specs.declared.script.Reply.{Reply}
-use Rattle.rope_script.specs.declared.script.Reply.TheVariants.{Done, Refused}
-use Rattle.rope_script.specs.Step.{Inserts}
-use Rattle.rope_script.proofs.Edits.{insert_done, insert_refused}
+use Rattle.rope_script.specs.declared.script.Reply.TheVariants.{Made, Refused}
+use Rattle.rope_script.specs.Step.{OfRope, Unless, OrNoMemory, HasUnicode, AddsSame, Changes, KeepsChunks, Edits, Cuts, Joins, Step, edit_reply}
+use Rattle.rope_script.proofs.RunLaws.{step_keeps_unicode}
+use Rattle.rope_script.proofs.Edits.{of_rope, is_rope_of, unless_refused, edits_by, changes_by, keeps_chunks}
 
 -- one of the ropes
-inside : (old : List RopeView) (r : ℕ) → r < length old → r < length (map content old)
+pub inside : (old : List RopeView) (r : ℕ) → r < length old → r < length (map content old)
 inside old r h = omega (arith, length-map old content)
 
-read_at : (old : List RopeView) (r : ℕ) (rope : RopeView) → rope ≡ get_or old r rope → content rope ≡ get_or (map content old) r (content rope)
+pub read_at : (old : List RopeView) (r : ℕ) (rope : RopeView) → rope ≡ get_or old r rope → content rope ≡ get_or (map content old) r (content rope)
 read_at old r rope e = ap content e ∙ sym (get_or-map content old r rope)
 
-written_at : (old : List RopeView) (r i : ℕ) (text : List ℕ) (reply : Reply) (after : RopeView) → Inserts r i text (map content old) reply (slice_set (map content old) r (content after))
-    → Inserts r i text (map content old) reply (map content (slice_set old r after))
-written_at old r i text reply after p = subst (Inserts r i text (map content old) reply) (sym (map-set content old r after)) p
+pub of_content : (P : Content → Type 0) (old : List RopeView) (new : List Content) (r : ℕ) (rope : RopeView) (reply : Reply)
+    → r < length old → rope ≡ get_or old r rope → P (content rope) → OfRope r P (map content old) reply new
+of_content P old new r rope reply h e p = of_rope P (map content old) new r (content rope) reply (inside old r h) (read_at old r rope e) p
 
-pub contents_done : (old : List RopeView) (r i : ℕ) (text : List ℕ) (rope after : RopeView) → r < length old → rope ≡ get_or old r rope
-    → insert_error rope.text i text ≡ None → after.text ≡ inserted rope.text i text → after.breaks ≡ rope.breaks → IsRope after
-    → (length text ≡ 0 → after ≡ rope) → Inserts r i text (map content old) Done (map content (slice_set old r after))
-contents_done old r i text rope after h e fine text_is breaks_are kept empty =
-    written_at old r i text Done after
-    (insert_done (map content old) r i text (content rope) (content after) (inside old r h) (read_at old r rope e) fine text_is breaks_are kept.content (λ z. ap content (empty z)))
+same_content : {T : Type 0} (result : Result T Error) (rope after : RopeView) → OnErr result (after ≡ rope) → OnErr result (content after ≡ content rope)
+same_content (Ok done) rope after h = tt
+same_content (Err error) rope after h = ap content h
 
-pub contents_refused : (old : List RopeView) (r i : ℕ) (text : List ℕ) (rope after : RopeView) (error : Error) → r < length old → rope ≡ get_or old r rope
-    → IsRefusal (insert_error rope.text i text) error → after ≡ rope → (length text ≡ 0 → insert_error rope.text i text ≡ None → ⊥)
-    → Inserts r i text (map content old) (Refused error) (map content (slice_set old r after))
-contents_refused old r i text rope after error h e refusal same some =
-    written_at old r i text (Refused error) after
-    (insert_refused (map content old) r i text (content rope) (content after) error (inside old r h) (read_at old r rope e) refusal (ap content same) some)
+-- the edit of one of the ropes is told by the result of the rope's own edit
+pub edit_of : {T : Type 0} (result : Result T Error) (old : List RopeView) (r : ℕ) (rope after : RopeView) (error : Option Error) (idle : Bool) (text : List ℕ)
+    → rope ≡ get_or old r rope → OnOk result ((error ≡ None) × (after.text ≡ text)) → IfErr result (IsRefusal error) → OnErr result (after ≡ rope)
+    → (idle ≡ true → error ≡ None → IsOk result × (after ≡ rope)) → after.breaks ≡ rope.breaks → IsRope after
+    → Edits r rope.breaks error idle text (map content old) (edit_reply result) (map content (slice_set old r after))
+edit_of result old r rope after error idle text e ok refusal same still breaks_are kept =
+    rw (map-set content old r after)
+    (edits_by result (map content old) r (content rope) (content after) error idle text (read_at old r rope e) ok refusal (same_content result rope after same)
+    (λ z fine. let s = still z fine in (s.0, ap content s.1)) breaks_are kept.content)
+
+-- a rope more
+pushed : (old new : List RopeView) (rope : RopeView) → new ≡ old ++ rope ∷ [] → map content new ≡ map content old ++ content rope ∷ []
+pushed old new rope e = ap (map content) e ∙ map-append content old (rope ∷ [])
+
+made : (old : List RopeView) (reply : Reply) → reply ≡ Made (length old) → reply ≡ Made (length (map content old))
+made old reply e = e ∙ ap Made (sym (length-map old content))
+
+-- a clone of one of the ropes is added
+pub clone_of : (old new : List RopeView) (r : ℕ) (rope clone : RopeView) (reply : Reply) → r < length old → rope ≡ get_or old r rope
+    → clone ≡ rope → reply ≡ Made (length old) → new ≡ old ++ clone ∷ []
+    → OfRope r (λ cloned. OrNoMemory (AddsSame cloned (map content old) reply (map content new)) (map content old) reply (map content new)) (map content old) reply (map content new)
+clone_of old new r rope clone reply h e same reply_is new_is =
+    of_content _ old (map content new) r rope reply h e
+    (inl (made old reply reply_is, pushed old new clone new_is ∙ ap (λ c. map content old ++ content c ∷ []) same))
+
+-- memory for a clone is refused
+pub unmade_of : (old : List RopeView) (r : ℕ) (rope : RopeView) → r < length old → rope ≡ get_or old r rope
+    → OfRope r (λ cloned. OrNoMemory (AddsSame cloned (map content old) (Refused OutOfMemory) (map content old)) (map content old) (Refused OutOfMemory) (map content old))
+    (map content old) (Refused OutOfMemory) (map content old)
+unmade_of old r rope h e = of_content _ old (map content old) r rope (Refused OutOfMemory) h e (inr (refl, refl))
+
+-- one of the ropes is cut, and its back added
+pub cut_of : (old new : List RopeView) (r i : ℕ) (rope front back : RopeView) (reply : Reply) → r < length old → rope ≡ get_or old r rope
+    → char_index_error i (length rope.text) ≡ None → front.text ≡ take i rope.text → back.text ≡ drop i rope.text → front.breaks ≡ rope.breaks → back.breaks ≡ rope.breaks
+    → IsRope front → IsRope back → reply ≡ Made (length (slice_set old r front)) → new ≡ slice_set old r front ++ back ∷ []
+    → Cuts r i (map content old) reply (map content new)
+cut_of old new r i rope front back reply h e fine f b fs bs k l reply_is new_is =
+    of_content _ old (map content new) r rope reply h e
+    (rw fine (inl (
+      content front,
+      content back,
+      is_rope_of (take i rope.text) rope.breaks (content front) f fs k.content,
+      is_rope_of (drop i rope.text) rope.breaks (content back) b bs l.content,
+      reply_is ∙ ap Made (length-set old r front ∙ sym (length-map old content)),
+      pushed (slice_set old r front) new back new_is ∙ ap (λ cs. cs ++ content back ∷ []) (map-set content old r front),
+    )))
+
+-- a cut is refused
+pub uncut_of : (old : List RopeView) (r i : ℕ) (rope after : RopeView) (error : Error) → r < length old → rope ≡ get_or old r rope
+    → IsRefusal (char_index_error i (length rope.text)) error → after ≡ rope → Cuts r i (map content old) (Refused error) (map content (slice_set old r after))
+uncut_of old r i rope after error h e refusal same =
+    let back : map content (slice_set old r after) ≡ map content old = ap (map content) (ap (slice_set old r) (same ∙ e) ∙ set-get_or old r rope) in
+    of_content _ old _ r rope (Refused error) h e
+    (unless_refused (char_index_error i (length rope.text)) error _ (map content old) _ refusal back (λ fine memory. inr (ap Refused memory, back)))
+
+-- the text of one of the ropes is put behind that of another, as the result of the rope's own append tells
+pub join_of : {T : Type 0} (result : Result T Error) (old : List RopeView) (r s : ℕ) (rope other after : RopeView)
+    → r < length old → rope ≡ get_or old r rope → s < length old → other ≡ get_or old s other
+    → OnOk result ((append_error rope.breaks other.breaks rope.text other.text ≡ None) × (after.text ≡ rope.text ++ other.text))
+    → IfErr result (IsRefusal (append_error rope.breaks other.breaks rope.text other.text)) → OnErr result (after ≡ rope)
+    → (append_error rope.breaks other.breaks rope.text other.text ≡ None → length other.text ≡ 0 → IsOk result × (after ≡ rope))
+    → (append_error rope.breaks other.breaks rope.text other.text ≡ None → length rope.text ≡ 0 → 0 < length other.text → IsOk result × (after ≡ other))
+    → IsRope rope → IsRope other → after.breaks ≡ rope.breaks → IsRope after
+    → Joins r s (map content old) (edit_reply result) (map content (slice_set old r after))
+join_of result old r s rope other after h e j f ok refusal same right left k l breaks_are kept =
+    let error = append_error rope.breaks other.breaks rope.text other.text in
+    let joined : Unless error
+    (OrNoMemory (Changes r rope.breaks (rope.text ++ other.text) (KeepsChunks (content rope) (content other)) (map content old) (edit_reply result) (slice_set (map content old) r (content after)))
+    (map content old) (edit_reply result) (slice_set (map content old) r (content after)))
+    (map content old) (edit_reply result) (slice_set (map content old) r (content after)) =
+    changes_by result (map content old) r (content rope) (content after) error (rope.text ++ other.text) (KeepsChunks (content rope) (content other))
+    (read_at old r rope e) ok refusal (same_content result rope after same)
+    (λ fine. keeps_chunks (content rope) (content other) (content after) k.content l.content (λ z. ap content (right fine z).1) (λ z p. ap content (left fine z p).1))
+    breaks_are kept.content in
+    rw (map-set content old r after) (of_content _ old _ r rope _ h e (of_content _ old _ s other _ j f joined))
+
+-- the set of line breaks of one of the ropes
+unicode_at : (old : List RopeView) (r : ℕ) (rope : RopeView) → r < length old → rope ≡ get_or old r rope → All HasUnicode (map content old) → rope.breaks ≡ Unicode
+unicode_at old r rope h e u =
+    let p : HasUnicode (get_or (map content old) r (content rope)) = All-get_or HasUnicode (map content old) r (content rope) (inside old r h) u in
+    rw (sym (read_at old r rope e)) at p
+
+-- nothing is wrong with an append of ropes of one set of line breaks whose texts fit
+no_error : (old : List RopeView) (r s : ℕ) (rope other : RopeView) → r < length old → rope ≡ get_or old r rope → s < length old → other ≡ get_or old s other
+    → All HasUnicode (map content old) → byte_len rope.text + byte_len other.text < 2 ^ 63 → append_error rope.breaks other.breaks rope.text other.text ≡ None
+no_error old r s rope other h e j f u fits = rw (unicode_at old r rope h e u, unicode_at old s other j f u) (grind (arith, nat_tests))
+
+-- so only memory is refused
+pub unjoined_of : (old : List RopeView) (r s : ℕ) (rope other : RopeView) → r < length old → rope ≡ get_or old r rope → s < length old → other ≡ get_or old s other
+    → All HasUnicode (map content old) → byte_len rope.text + byte_len other.text < 2 ^ 63
+    → Joins r s (map content old) (Refused OutOfMemory) (map content old)
+unjoined_of old r s rope other h e j f u fits =
+    of_content _ old _ r rope _ h e (of_content _ old _ s other _ j f (rw (no_error old r s rope other h e j f u fits) (inr (refl, refl))))
+
+-- a rope that was read where another was is that one
+pub same_place : (old : List RopeView) (r : ℕ) (a b : RopeView) → r < length old → a ≡ get_or old r a → b ≡ get_or old r b → a ≡ b
+same_place old r a b h e f = e ∙ get_or_default old r a b h ∙ sym f
+
+-- a command leaves the ropes with the one set of line breaks
+pub unicode_after : (result : Result Reply Error) (old new : List RopeView) (command : Command) → All HasUnicode (map content old)
+    → IfOk result (λ reply. Step (map content old) command reply (map content new)) → OnErr result (new ≡ old) → All HasUnicode (map content new)
+unicode_after (Ok reply) old new command k step same = step_keeps_unicode (map content old) (map content new) command reply k step
+unicode_after (Err error) old new command k step same = rw same k

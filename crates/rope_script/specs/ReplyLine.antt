@@ -6,7 +6,7 @@ use Rattle.std.specs.Str.{chars}
 use Rattle.std.specs.String.{string_bytes}
 use Rattle.rope_text.specs.ErrorText.{error_text}
 use Rattle.rope_script.specs.declared.script.Reply.{Reply}
-use Rattle.rope_script.specs.declared.script.Reply.TheVariants.{Done, Made, NoRope, Refused, Lens, Texts}
+use Rattle.rope_script.specs.declared.script.Reply.TheVariants.{Done, Made, NoRope, Refused, Lens, Text, Texts}
 
 -- whether a reply writes the character by its number: those below U+0020, DEL, NEL, LS and PS
 abbrev pub is_control : ℕ → Bool
@@ -33,6 +33,7 @@ reply_words (Made n) = codes "rope " ++ decimal n
 reply_words NoRope = codes "no rope"
 reply_words (Refused e) = codes "error: " ++ error_text e
 reply_words (Lens bytes characters lines units) = decimal bytes ++ (codes " " ++ (decimal characters ++ (codes " " ++ (decimal lines ++ (codes " " ++ decimal units)))))
+reply_words (Text s) = quoted (chars (string_bytes s))
 reply_words (Texts v) = decimal (length v.items) ++ flat_map (λ s. codes " " ++ quoted (chars (string_bytes s))) v.items
 
 -- its line, the LF with it

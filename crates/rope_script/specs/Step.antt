@@ -1,5 +1,5 @@
 -- One command on a list of ropes, and runs of commands.
-use Rattle.std.specs.Prelude.{◌≡◌, ℕ, ◌==◌, ◌⊎◌, ⊤, List, [], ◌∷◌, ◌++◌, length, take, All, slice_get, slice_set, MatchOption, MatchBool, Option, Some, None}
+use Rattle.std.specs.Prelude.{◌≡◌, ℕ, Bool, ◌==◌, ◌⊎◌, ⊤, List, [], ◌∷◌, ◌++◌, length, take, drop, All, slice_get, slice_set, MatchOption, MatchBool, Option, Some, None, Result, Ok, Err}
 use Rattle.std.specs.Str.{chars}
 use Rattle.std.specs.String.{string_bytes}
 use Rattle.rope_text.specs.declared.error.Error.{Error}
@@ -7,7 +7,7 @@ use Rattle.rope_text.specs.declared.error.Error.TheVariants.{OutOfMemory}
 use Rattle.rope_text.specs.declared.line_breaks.LineBreaks.{LineBreaks}
 use Rattle.rope_text.specs.declared.line_breaks.LineBreaks.TheVariants.{Unicode}
 use Rattle.rope_text.specs.Content.{Content, IsRope, HasFewChunks}
-use Rattle.rope_text.specs.Edit.{inserted, insert_error}
+use Rattle.rope_text.specs.Edit.{inserted, insert_error, removed, range_start, range_end, char_range_error, char_index_error, append_error}
 use Rattle.rope_script.specs.declared.script.Command.{Command}
 use Rattle.rope_script.specs.declared.script.Command.TheVariants as command
 use Rattle.rope_script.specs.declared.script.Reply.{Reply}
@@ -32,6 +32,10 @@ Adds text breaks P old reply new = (rope : Content) × IsRopeOf text breaks rope
 abbrev pub Changes : ℕ → LineBreaks → List ℕ → (Content → Type 0) → List Content → Reply → List Content → Type 0
 Changes r breaks text P old reply new = (rope : Content) × IsRopeOf text breaks rope × P rope × (reply ≡ Done) × (new ≡ slice_set old r rope)
 
+-- the set of line breaks that every rope of a session has
+abbrev pub HasUnicode : Content → Type 0
+HasUnicode rope = rope.breaks ≡ Unicode
+
 -- no condition on the cutting
 abbrev pub Any : Content → Type 0
 Any rope = ⊤
@@ -48,17 +52,63 @@ Unless error P old reply new = MatchOption error P (λ e. Unchanged (Refused e) 
 abbrev pub OfRope : ℕ → (Content → Type 0) → List Content → Reply → List Content → Type 0
 OfRope r P old reply new = MatchOption (slice_get old r) (Unchanged NoRope old reply new) P
 
--- an insert: of the empty text it succeeds and changes nothing
+-- the reply to an edit
+abbrev pub edit_reply : {T : Type 0} → Result T Error → Reply
+edit_reply (Ok done) = Done
+edit_reply (Err error) = Refused error
+
+-- an edit that gives the rope r this text: it is refused as its arguments say, and else done, unless memory is refused; an idle one succeeds and changes nothing
+abbrev pub Edits : ℕ → LineBreaks → Option Error → Bool → List ℕ → List Content → Reply → List Content → Type 0
+Edits r breaks error idle text old reply new =
+    Unless error (MatchBool idle (Unchanged Done old reply new) (OrNoMemory (Changes r breaks text Any old reply new) old reply new)) old reply new
+
+-- an insert: that of the empty text is idle
 abbrev pub Inserts : ℕ → ℕ → List ℕ → List Content → Reply → List Content → Type 0
 Inserts r i text old reply new =
-    OfRope r (λ rope. Unless (insert_error rope.text i text)
-    (MatchBool (length text == 0) (Unchanged Done old reply new) (OrNoMemory (Changes r rope.breaks (inserted rope.text i text) Any old reply new) old reply new))
-    old reply new) old reply new
+    OfRope r (λ rope. Edits r rope.breaks (insert_error rope.text i text) (length text == 0) (inserted rope.text i text) old reply new) old reply new
+
+-- a removal: that of an empty range is idle
+abbrev pub Removes : ℕ → Option ℕ → Option ℕ → List Content → Reply → List Content → Type 0
+Removes r start end old reply new =
+    OfRope r (λ rope. let len = length rope.text in let a = range_start start in let b = range_end end len in
+    Edits r rope.breaks (char_range_error start end len) (a == b) (removed rope.text a b) old reply new) old reply new
+
+-- this very rope is added, its cutting with it
+abbrev pub AddsSame : Content → List Content → Reply → List Content → Type 0
+AddsSame rope old reply new = (reply ≡ Made (length old)) × (new ≡ old ++ rope ∷ [])
+
+-- the rope r keeps the first i characters, and those behind them are added as a rope, each with some cutting
+abbrev pub Splits : ℕ → ℕ → Content → List Content → Reply → List Content → Type 0
+Splits r i rope old reply new =
+    (front : Content) × (back : Content) × IsRopeOf (take i rope.text) rope.breaks front × IsRopeOf (drop i rope.text) rope.breaks back
+    × (reply ≡ Made (length old)) × (new ≡ slice_set old r front ++ back ∷ [])
+
+-- a rope is cut in two
+abbrev pub Cuts : ℕ → ℕ → List Content → Reply → List Content → Type 0
+Cuts r i old reply new =
+    OfRope r (λ rope. Unless (char_index_error i (length rope.text)) (OrNoMemory (Splits r i rope old reply new) old reply new) old reply new) old reply new
+
+-- where one side is empty, what is joined has the other's chunks
+abbrev pub KeepsChunks : Content → Content → Content → Type 0
+KeepsChunks rope other joined = (length rope.text ≡ 0 → joined.chunks ≡ other.chunks) × (length other.text ≡ 0 → joined.chunks ≡ rope.chunks)
+
+-- the text of the rope s is put behind that of the rope r; s stays, unless it is r
+abbrev pub Joins : ℕ → ℕ → List Content → Reply → List Content → Type 0
+Joins r s old reply new =
+    OfRope r (λ rope. OfRope s (λ other. Unless (append_error rope.breaks other.breaks rope.text other.text)
+    (OrNoMemory (Changes r rope.breaks (rope.text ++ other.text) (KeepsChunks rope other) old reply new) old reply new)
+    old reply new) old reply new) old reply new
 
 -- from the ropes old the command may be replied so, and leave the ropes new
 abbrev pub Step : List Content → Command → Reply → List Content → Type 0
+Step old command.New reply new = OrNoMemory (Adds [] Unicode HasFewChunks old reply new) old reply new
 Step old (command.Text s) reply new = OrNoMemory (Adds (chars (string_bytes s)) Unicode HasFewChunks old reply new) old reply new
+Step old (command.Clone r) reply new = OfRope r (λ rope. OrNoMemory (AddsSame rope old reply new) old reply new) old reply new
 Step old (command.Insert r i s) reply new = Inserts r i (chars (string_bytes s)) old reply new
+Step old (command.InsertChar r i c) reply new = Inserts r i (c ∷ []) old reply new
+Step old (command.Remove r start end) reply new = Removes r start end old reply new
+Step old (command.Cut r i) reply new = Cuts r i old reply new
+Step old (command.Join r s) reply new = Joins r s old reply new
 Step old (command.Ask r None query) reply new = OfRope r (λ rope. Answers rope query reply × (new ≡ old)) old reply new
 Step old (command.Ask r (Some range) query) reply new = ⊥
 

@@ -13,20 +13,38 @@ use std::fmt::Write as _;
 
 /// The command of a line without its end, or `None` where the line is bad.
 ///
-/// A line is words, each parted from the next by one space: `text TEXT`, `ins ROPE INDEX TEXT`,
-/// `len ROPE` or `chunks ROPE`. A TEXT is the rest of the line and may be empty.
+/// A line is words, each parted from the next by one space: `new`, `text TEXT`, `clone ROPE`,
+/// `ins ROPE INDEX TEXT`, `insc ROPE INDEX CHAR`, `del ROPE BOUND BOUND`, `cut ROPE INDEX`,
+/// `join ROPE ROPE`, `len ROPE`, `show ROPE` or `chunks ROPE`. A TEXT is the rest of the line and
+/// may be empty, a CHAR is a TEXT of one character, and a BOUND is a number, or `-` where it is open.
 pub(crate) fn parse(alloc: Global, line: &str) -> Result<Option<Command>, AllocError>
     ensures { IfOk result (λ found. IfSome found AsksWhole) }
 {
-    let Some((name, rest)) = line.split_once(' ') else {
-        return Ok(None);
+    let Some((name, words)) = line.split_once(' ') else {
+        return Ok(lone(line));
     };
     match name {
-        "text" => make(alloc, rest),
-        "ins" => insert(alloc, rest),
-        "len" => Ok(ask(rest, Query::Lens)),
-        "chunks" => Ok(ask(rest, Query::Chunks)),
+        "text" => make(alloc, words),
+        "clone" => Ok(clone(words)),
+        "ins" => insert(alloc, words),
+        "insc" => insert_char(alloc, words),
+        "del" => Ok(remove(words)),
+        "cut" => Ok(cut(words)),
+        "join" => Ok(join(words)),
+        "len" => Ok(ask(words, Query::Lens)),
+        "show" => Ok(ask(words, Query::Show)),
+        "chunks" => Ok(ask(words, Query::Chunks)),
         _ => Ok(None),
+    }
+}
+
+/// The command that is one word.
+fn lone(word: &str) -> Option<Command>
+    ensures { IfSome result AsksWhole }
+{
+    match word {
+        "new" => Some(Command::New),
+        _ => None,
     }
 }
 
@@ -40,17 +58,18 @@ fn make(alloc: Global, words: &str) -> Result<Option<Command>, AllocError>
     }
 }
 
+/// `ROPE`, of a clone.
+fn clone(words: &str) -> Option<Command>
+    ensures { IfSome result AsksWhole }
+{
+    Some(Command::Clone(number(words)?))
+}
+
 /// `ROPE INDEX TEXT`, of an insert.
 fn insert(alloc: Global, words: &str) -> Result<Option<Command>, AllocError>
     ensures { IfOk result (λ found. IfSome found AsksWhole) }
 {
-    let Some((rope, words)) = words.split_once(' ') else {
-        return Ok(None);
-    };
-    let Some((char_idx, text)) = words.split_once(' ') else {
-        return Ok(None);
-    };
-    let (Some(rope), Some(char_idx)) = (number(rope), number(char_idx)) else {
+    let Some((rope, char_idx, text)) = place(words) else {
         return Ok(None);
     };
     match unescape(alloc, text)? {
@@ -59,11 +78,77 @@ fn insert(alloc: Global, words: &str) -> Result<Option<Command>, AllocError>
     }
 }
 
+/// `ROPE INDEX CHAR`, of an insert.
+fn insert_char(alloc: Global, words: &str) -> Result<Option<Command>, AllocError>
+    ensures { IfOk result (λ found. IfSome found AsksWhole) }
+{
+    let Some((rope, char_idx, text)) = place(words) else {
+        return Ok(None);
+    };
+    let Some(text) = unescape(alloc, text)? else {
+        return Ok(None);
+    };
+    match only_char(text.as_str()) {
+        Some(c) => Ok(Some(Command::InsertChar(rope, char_idx, c))),
+        None => Ok(None),
+    }
+}
+
+/// `ROPE BOUND BOUND`, of a removal.
+fn remove(words: &str) -> Option<Command>
+    ensures { IfSome result AsksWhole }
+{
+    let (rope, bounds) = words.split_once(' ')?;
+    let (start, end) = bounds.split_once(' ')?;
+    Some(Command::Remove(number(rope)?, bound(start)?, bound(end)?))
+}
+
+/// `ROPE INDEX`, of a cut.
+fn cut(words: &str) -> Option<Command>
+    ensures { IfSome result AsksWhole }
+{
+    let (rope, char_idx) = words.split_once(' ')?;
+    Some(Command::Cut(number(rope)?, number(char_idx)?))
+}
+
+/// `ROPE ROPE`, of ropes to be joined.
+fn join(words: &str) -> Option<Command>
+    ensures { IfSome result AsksWhole }
+{
+    let (rope, other) = words.split_once(' ')?;
+    Some(Command::Join(number(rope)?, number(other)?))
+}
+
 /// `ROPE`, of a query.
 fn ask(words: &str, query: Query) -> Option<Command>
     ensures { IfSome result AsksWhole }
 {
     Some(Command::Ask(number(words)?, None, query))
+}
+
+/// `ROPE INDEX`, and what follows one more space.
+fn place(words: &str) -> Option<(usize, usize, &str)> {
+    let (rope, words) = words.split_once(' ')?;
+    let (char_idx, rest) = words.split_once(' ')?;
+    Some((number(rope)?, number(char_idx)?, rest))
+}
+
+/// The bound that a word stands for, `None` inside where it is open.
+fn bound(word: &str) -> Option<Option<usize>> {
+    match word {
+        "-" => Some(None),
+        _ => Some(Some(number(word)?)),
+    }
+}
+
+/// The character of a text that has one character.
+fn only_char(text: &str) -> Option<char> {
+    let mut chars = text.chars();
+    let c = chars.next()?;
+    match chars.next() {
+        None => Some(c),
+        Some(_) => None,
+    }
 }
 
 /// The value of a word of decimal digits alone, where a `usize` holds it.
@@ -174,6 +259,7 @@ fn write_reply(out: &mut String, reply: &Reply) -> Result<(), AllocError>
         Reply::Lens(bytes, chars, lines, units) => {
             write!(out, "{bytes} {chars} {lines} {units}")?;
         }
+        Reply::Text(text) => quote(out, text.as_str())?,
         Reply::Texts(texts) => write_texts(out, texts)?,
     }
     out.push('\n')

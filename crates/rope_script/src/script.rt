@@ -3,14 +3,28 @@ use ropey::Error;
 
 /// What a session may be told to do.
 ///
-/// Ropes are numbered from 0, in the order in which they were made. A command that names a rope
-/// which does not exist is replied [`Reply::NoRope`], before anything else is tested.
+/// Ropes are numbered from 0, in the order in which they were made, and have Unicode's line breaks.
+/// A command that names a rope which does not exist is replied [`Reply::NoRope`], before anything
+/// else is tested. Indices count characters.
 #[derive(Drop)]
 pub enum Command {
+    /// Makes an empty rope.
+    New,
     /// Makes a rope of this text.
     Text(String),
+    /// Makes a clone of a rope, in the same chunks.
+    Clone(usize),
     /// In a rope, before the character of this index, inserts a text.
     Insert(usize, usize, String),
+    /// In a rope, before the character of this index, inserts a character.
+    InsertChar(usize, usize, char),
+    /// From a rope, removes the characters from a start up to an end, each `None` where it is open.
+    Remove(usize, Option<usize>, Option<usize>),
+    /// Leaves a rope so many characters, and makes a rope of those behind them.
+    Cut(usize, usize),
+    /// Puts the text of a second rope behind that of the first. The second stays as it is, and it
+    /// may be the first.
+    Join(usize, usize),
     /// Asks a rope. The range is `None`, for the whole rope: a part cannot be asked.
     Ask(usize, Option<(usize, usize)>, Query),
 }
@@ -20,6 +34,8 @@ pub enum Command {
 pub enum Query {
     /// Its lengths.
     Lens,
+    /// Its text.
+    Show,
     /// Its chunks.
     Chunks,
 }
@@ -37,6 +53,8 @@ pub enum Reply {
     Refused(Error),
     /// How many bytes, characters, lines and UTF-16 code units the rope has.
     Lens(usize, usize, usize, usize),
+    /// The text of the rope.
+    Text(String),
     /// The chunks, in order.
     Texts(Vec<String>),
 }

@@ -1,5 +1,6 @@
 //! Ropes by number, and runs of commands on them.
-ghost use Rattle.std.specs.Prelude.{◌≡◌, ℕ, ◌+◌, ◌<◌, ◌++◌, ◌∷◌, List, [], None, length, All, OnOk, OnErr, IfErr, IfOk, MatchOption, vec_len, vec_capacity, map};
+ghost use Rattle.std.specs.Prelude.{◌≡◌, ℕ, ◌+◌, ◌<◌, ◌++◌, ◌∷◌, List, [], None, true, false, length, All, OnOk, OnErr, IfErr, IfOk, MatchOption, vec_len, vec_capacity, map};
+ghost use Rattle.std.specs.List.{concat};
 ghost use Rattle.std.specs.Str.{chars};
 ghost use Rattle.std.specs.String.{string_bytes};
 ghost use Rattle.rope_text.specs.declared.error.Error.TheVariants.{OutOfMemory};
@@ -8,15 +9,17 @@ ghost use Rattle.rope_text.specs.Content.{HasFewChunks};
 ghost use Rattle.rope_text.specs.Sides.{ahead};
 ghost use Rattle.ropey.specs.View.{content};
 ghost use Rattle.rope_script.specs.Ask.{Answers};
-ghost use Rattle.rope_script.specs.Step.{Adds, OrNoMemory, OfRope, Inserts, Step, Ran, AsksWhole};
+ghost use Rattle.rope_script.specs.Step.{Adds, AddsSame, OrNoMemory, OfRope, HasUnicode, edit_reply, Inserts, Removes, Cuts, Joins, Step, Ran, AsksWhole};
 
 use crate::script::{Command, Query, Reply};
+use rope_text::range::IndexRange;
 use ropey::iter::Chunks;
 use ropey::{Error, Result, Rope};
 use std::alloc::Global;
 use std::marker::Model;
 
-/// A list of ropes that only grows, numbered from 0 in the order in which they were made.
+/// A list of ropes that only grows, numbered from 0 in the order in which they were made. All of them
+/// have Unicode's line breaks.
 #[derive(Drop)]
 pub struct Session {
     alloc: Global,
@@ -24,13 +27,16 @@ pub struct Session {
 }
 
 impl Model for Session {
-    ghost use Rattle.std.specs.Prelude.{List, map};
+    ghost use Rattle.std.specs.Prelude.{List, All, map};
     ghost use Rattle.rope_text.specs.Content.{Content};
     ghost use Rattle.ropey.specs.View.{content};
+    ghost use Rattle.rope_script.specs.Step.{HasUnicode};
 
     ghost Value = { List Content };
 
     ghost view = { λ s. map content s.ropes.items };
+
+    ghost invariant = { λ s. All HasUnicode (map content s.ropes.items) };
 }
 
 impl Session {
@@ -75,14 +81,44 @@ impl Session {
         ensures err { OnErr result (self.new ≡ self.old) }
         ensures memory { IfErr result (λ e. e ≡ OutOfMemory) }
     {
-        match command {
-            Command::Text(text) => make_text(self.alloc, &mut self.ropes, text.as_str()),
-            Command::Insert(rope, char_idx, text) => {
-                Ok(insert(&mut self.ropes, *rope, *char_idx, text.as_str()))
-            }
-            Command::Ask(rope, None, query) => ask(self.alloc, &self.ropes, *rope, query),
-            Command::Ask(_, Some(_), _) => unreachable!(),
+        run_command(self.alloc, &mut self.ropes, command)
+    }
+}
+
+/// Does one command on ropes, and answers its reply. A refusal for memory has done nothing.
+fn run_command(alloc: Global, ropes: &mut Vec<Rope>, command: &Command) -> Result<Reply>
+    requires whole { AsksWhole command.now }
+    requires unicode { All HasUnicode (map content ropes.old.items) }
+    ensures step { IfOk result (λ reply. Step (map content ropes.old.items) command.now reply (map content ropes.new.items)) }
+    ensures err { OnErr result (ropes.new.items ≡ ropes.old.items) }
+    ensures memory { IfErr result (λ e. e ≡ OutOfMemory) }
+{
+    match command {
+        Command::New => make_empty(alloc, ropes),
+        Command::Text(text) => make_text(alloc, ropes, text.as_str()),
+        Command::Clone(rope) => make_clone(ropes, *rope),
+        Command::Insert(rope, char_idx, text) => {
+            Ok(insert(ropes, *rope, *char_idx, text.as_str()))
         }
+        Command::InsertChar(rope, char_idx, c) => Ok(insert_char(ropes, *rope, *char_idx, *c)),
+        Command::Remove(rope, start, end) => Ok(remove(ropes, *rope, *start, *end)),
+        Command::Cut(rope, char_idx) => cut(ropes, *rope, *char_idx),
+        Command::Join(rope, other) => Ok(join(ropes, *rope, *other)),
+        Command::Ask(rope, None, query) => ask(alloc, ropes, *rope, query),
+        Command::Ask(_, Some(_), _) => unreachable!(),
+    }
+}
+
+/// Adds an empty rope.
+fn make_empty(alloc: Global, ropes: &mut Vec<Rope>) -> Result<Reply>
+    ensures step { IfOk result (λ reply. OrNoMemory (Adds [] Unicode HasFewChunks (map content ropes.old.items) reply (map content ropes.new.items)) (map content ropes.old.items) reply (map content ropes.new.items)) }
+    ensures err { OnErr result (ropes.new.items ≡ ropes.old.items) }
+    ensures memory { IfErr result (λ e. e ≡ OutOfMemory) }
+{
+    ropes.reserve(1)?;
+    match Rope::new(alloc) {
+        Ok(rope) => Ok(add(ropes, rope)),
+        Err(error) => Ok(Reply::Refused(error)),
     }
 }
 
@@ -96,6 +132,22 @@ fn make_text(alloc: Global, ropes: &mut Vec<Rope>, text: &str) -> Result<Reply>
     match Rope::from_str(alloc, text) {
         Ok(rope) => Ok(add(ropes, rope)),
         Err(error) => Ok(Reply::Refused(error)),
+    }
+}
+
+/// Adds a clone of a rope.
+fn make_clone(ropes: &mut Vec<Rope>, rope: usize) -> Result<Reply>
+    ensures step { IfOk result (λ reply. OfRope rope (λ cloned. OrNoMemory (AddsSame cloned (map content ropes.old.items) reply (map content ropes.new.items)) (map content ropes.old.items) reply (map content ropes.new.items)) (map content ropes.old.items) reply (map content ropes.new.items)) }
+    ensures err { OnErr result (ropes.new.items ≡ ropes.old.items) }
+    ensures memory { IfErr result (λ e. e ≡ OutOfMemory) }
+{
+    if rope >= ropes.len() {
+        return Ok(Reply::NoRope);
+    }
+    ropes.reserve(1)?;
+    match ropes[rope].clone() {
+        Ok(clone) => Ok(add(ropes, clone)),
+        Err(_) => Ok(Reply::Refused(Error::OutOfMemory)),
     }
 }
 
@@ -117,7 +169,92 @@ fn insert(ropes: &mut Vec<Rope>, rope: usize, char_idx: usize, text: &str) -> Re
     if rope >= ropes.len() {
         return Reply::NoRope;
     }
-    match ropes[rope].try_insert(char_idx, text) {
+    reply_to_edit(ropes[rope].try_insert(char_idx, text))
+}
+
+/// Inserts a character into a rope.
+fn insert_char(ropes: &mut Vec<Rope>, rope: usize, char_idx: usize, c: char) -> Reply
+    ensures { Inserts rope char_idx (c ∷ []) (map content ropes.old.items) result (map content ropes.new.items) }
+{
+    if rope >= ropes.len() {
+        return Reply::NoRope;
+    }
+    reply_to_edit(ropes[rope].try_insert_char(char_idx, c))
+}
+
+/// A range by its two bounds, each `None` where it is open.
+#[derive(Clone, Copy)]
+struct Bounds {
+    start: Option<usize>,
+    end: Option<usize>,
+}
+
+impl IndexRange for Bounds {
+    ghost told_start = { λ bounds. bounds.start };
+
+    ghost told_end = { λ bounds. bounds.end };
+
+    fn start(&self) -> Option<usize> {
+        self.start
+    }
+
+    fn end(&self) -> Option<usize> {
+        self.end
+    }
+}
+
+/// Removes characters from a rope.
+fn remove(ropes: &mut Vec<Rope>, rope: usize, start: Option<usize>, end: Option<usize>) -> Reply
+    ensures { Removes rope start end (map content ropes.old.items) result (map content ropes.new.items) }
+{
+    if rope >= ropes.len() {
+        return Reply::NoRope;
+    }
+    reply_to_edit(ropes[rope].try_remove(Bounds { start, end }))
+}
+
+/// Cuts a rope in two.
+fn cut(ropes: &mut Vec<Rope>, rope: usize, char_idx: usize) -> Result<Reply>
+    ensures step { IfOk result (λ reply. Cuts rope char_idx (map content ropes.old.items) reply (map content ropes.new.items)) }
+    ensures err { OnErr result (ropes.new.items ≡ ropes.old.items) }
+    ensures memory { IfErr result (λ e. e ≡ OutOfMemory) }
+{
+    if rope >= ropes.len() {
+        return Ok(Reply::NoRope);
+    }
+    ropes.reserve(1)?;
+    match ropes[rope].try_split_off(char_idx) {
+        Ok(back) => Ok(add(ropes, back)),
+        Err(error) => Ok(Reply::Refused(error)),
+    }
+}
+
+/// The most bytes that a text may have.
+const MAX_TEXT_BYTES: usize = isize::MAX as usize;
+
+/// Puts the text of one rope behind that of another. All ropes have one set of line breaks, and a
+/// text that would be too long is refused before a clone is made, so that this takes no memory.
+fn join(ropes: &mut Vec<Rope>, rope: usize, other: usize) -> Reply
+    requires unicode { All HasUnicode (map content ropes.old.items) }
+    ensures { Joins rope other (map content ropes.old.items) result (map content ropes.new.items) }
+{
+    if rope >= ropes.len() || other >= ropes.len() {
+        return Reply::NoRope;
+    }
+    if ropes[other].len_bytes() > MAX_TEXT_BYTES - ropes[rope].len_bytes() {
+        return Reply::Refused(Error::TooLong);
+    }
+    match ropes[other].clone() {
+        Ok(clone) => reply_to_edit(ropes[rope].append(clone)),
+        Err(_) => Reply::Refused(Error::OutOfMemory),
+    }
+}
+
+/// The reply to an edit that was done or refused.
+fn reply_to_edit(edit: Result<()>) -> Reply
+    ensures { result ≡ edit_reply edit }
+{
+    match edit {
         Ok(()) => Reply::Done,
         Err(error) => Reply::Refused(error),
     }
@@ -146,7 +283,35 @@ fn answer(alloc: Global, rope: &Rope, query: &Query) -> Result<Reply>
             rope.len_lines(),
             rope.len_utf16_cu(),
         )),
+        Query::Show => Ok(Reply::Text(text_of(alloc, rope)?)),
         Query::Chunks => Ok(Reply::Texts(chunk_texts(alloc, rope)?)),
+    }
+}
+
+/// A copy of the text of a rope.
+fn text_of(alloc: Global, rope: &Rope) -> Result<String>
+    ensures text { IfOk result (λ text. chars (string_bytes text) ≡ rope.now.text) }
+    ensures memory { IfErr result (λ e. e ≡ OutOfMemory) }
+{
+    let mut text = String::with_capacity(alloc, rope.len_bytes())?;
+    let mut chunks = rope.chunks();
+    while push_next(&mut text, &mut chunks)? {}
+    Ok(text)
+}
+
+/// Puts the next chunk behind a text, and answers whether there was one.
+fn push_next(text: &mut String, chunks: &mut Chunks<'_>) -> Result<bool>
+    ensures text { OnOk result (chars (string_bytes text.new) ++ concat (ahead chunks.new) ≡ chars (string_bytes text.old) ++ concat (ahead chunks.old)) }
+    ensures found { IfOk result (λ found. found ≡ true → length (ahead chunks.new) < length (ahead chunks.old)) }
+    ensures end { IfOk result (λ found. found ≡ false → ahead chunks.new ≡ []) }
+    ensures memory { IfErr result (λ e. e ≡ OutOfMemory) }
+{
+    match chunks.next() {
+        Some(chunk) => {
+            text.push_str(chunk)?;
+            Ok(true)
+        }
+        None => Ok(false),
     }
 }
 

@@ -40,9 +40,45 @@ fn inserts(rt: HostRuntime) -> Result<(), Fail> {
 }
 
 #[test]
+fn characters(rt: HostRuntime) -> Result<(), Fail> {
+    for (line, character) in [
+        ("insc 3 5 a", 'a'),
+        ("insc 3 5  ", ' '),
+        ("insc 3 5 \\u{3053}", 'こ'),
+        ("insc 3 5 \\\\", '\\'),
+    ] {
+        let found = parse(rt.alloc(), line)?;
+        match &found {
+            Some(Command::InsertChar(3, 5, c)) => assert_eq!(rt; *c, character, "at {line}"),
+            _ => assert!(rt; false, "at {line}"),
+        }
+    }
+    Ok(())
+}
+
+#[test]
+fn numbers(rt: HostRuntime) -> Result<(), Fail> {
+    let new = parse(rt.alloc(), "new")?;
+    assert!(rt; matches!(&new, Some(Command::New)));
+    let clone = parse(rt.alloc(), "clone 3")?;
+    assert!(rt; matches!(&clone, Some(Command::Clone(3))));
+    let closed = parse(rt.alloc(), "del 1 2 3")?;
+    assert!(rt; matches!(&closed, Some(Command::Remove(1, Some(2), Some(3)))));
+    let open = parse(rt.alloc(), "del 1 - -")?;
+    assert!(rt; matches!(&open, Some(Command::Remove(1, None, None))));
+    let cut = parse(rt.alloc(), "cut 4 5")?;
+    assert!(rt; matches!(&cut, Some(Command::Cut(4, 5))));
+    let join = parse(rt.alloc(), "join 6 7")?;
+    assert!(rt; matches!(&join, Some(Command::Join(6, 7))));
+    Ok(())
+}
+
+#[test]
 fn queries(rt: HostRuntime) -> Result<(), Fail> {
     let lens = parse(rt.alloc(), "len 0012")?;
     assert!(rt; matches!(&lens, Some(Command::Ask(12, None, Query::Lens))));
+    let show = parse(rt.alloc(), "show 0")?;
+    assert!(rt; matches!(&show, Some(Command::Ask(0, None, Query::Show))));
     let chunks = parse(rt.alloc(), "chunks 0")?;
     assert!(rt; matches!(&chunks, Some(Command::Ask(0, None, Query::Chunks))));
     Ok(())
@@ -57,8 +93,12 @@ fn bad_lines(rt: HostRuntime) -> Result<(), Fail> {
         " text a",
         "Text a",
         "frob 0",
-        "new",
-        "show 0",
+        "new ",
+        "new 0",
+        "clone",
+        "clone 0 0",
+        "show",
+        "show 0 0",
         "len",
         "len ",
         "len 0 ",
@@ -79,6 +119,24 @@ fn bad_lines(rt: HostRuntime) -> Result<(), Fail> {
         "ins a 0 x",
         "ins 0 a x",
         "ins 0 0 \\x",
+        "insc 0 0",
+        "insc 0 0 ",
+        "insc 0 0 ab",
+        "insc 0 0 a ",
+        "insc 0 0 \\x",
+        "insc 0 - a",
+        "del 0",
+        "del 0 0",
+        "del 0 0 ",
+        "del 0 0 --",
+        "del - 0 0",
+        "del 0 0 0 0",
+        "cut 0",
+        "cut 0 -",
+        "cut 0 0 0",
+        "join 0",
+        "join 0 -",
+        "join 0 0 0",
         "text \\",
         "text \\N",
         "text \\\"",

@@ -103,6 +103,21 @@ fn ends(rt: HostRuntime) -> Result<(), Fail> {
             Ended::Done,
             "rope 0\nok\nerror: Char index out of bounds: char index 1, Rope/RopeSlice char length 0\n0\nrope 1\nno rope\n",
         ),
+        (
+            b"text abc\nclone 0\ndel 0 1 -\nshow 0\nshow 1\ndel 0 0 -\nshow 0\njoin 1 1\ncut 1 4\nshow 1\nshow 2\n".as_slice(),
+            Ended::Done,
+            "rope 0\nrope 1\nok\n\"a\"\n\"abc\"\nok\n\"\"\nok\nrope 2\n\"abca\"\n\"bc\"\n",
+        ),
+        (
+            b"text abc\ndel 0 2 1\ndel 0 1 1\ndel 0 - 9\n".as_slice(),
+            Ended::Done,
+            "rope 0\nerror: Invalid char range 2..1: start must be <= end\nok\nerror: Char range out of bounds: char range ..9, Rope/RopeSlice char length 3\n",
+        ),
+        (
+            b"new\ninsc 0 0 \\n\nclone 1\njoin 0 1\njoin 1 0\ncut 0 2\ncut 1 0\nchunks 0\n".as_slice(),
+            Ended::Done,
+            "rope 0\nok\nno rope\nno rope\nno rope\nerror: Char index out of bounds: char index 2, Rope/RopeSlice char length 1\nno rope\n1 \"\\n\"\n",
+        ),
     ] {
         let (slowly, by_bytes) = told(&rt, input, 1)?;
         let (at_once, by_blocks) = told(&rt, input, 4096)?;
@@ -111,6 +126,24 @@ fn ends(rt: HostRuntime) -> Result<(), Fail> {
         assert_eq!(rt; by_bytes.as_str(), output);
         assert_eq!(rt; by_blocks.as_str(), output);
     }
+    Ok(())
+}
+
+#[test]
+fn longest_text(rt: HostRuntime) -> Result<(), Fail> {
+    let mut input = String::from_str(rt.alloc(), "text a\n")?;
+    let mut replies = String::from_str(rt.alloc(), "rope 0\n")?;
+    for _ in 0..62 {
+        input.push_str("join 0 0\n")?;
+        replies.push_str("ok\n")?;
+    }
+    input.push_str("len 0\njoin 0 0\nlen 0\n")?;
+    replies.push_str("4611686018427387904 4611686018427387904 1 4611686018427387904\n")?;
+    replies.push_str("error: Text would be longer than isize::MAX bytes\n")?;
+    replies.push_str("4611686018427387904 4611686018427387904 1 4611686018427387904\n")?;
+    let (ended, output) = told(&rt, input.as_bytes(), 4096)?;
+    assert_eq!(rt; ended, Ended::Done);
+    assert_eq!(rt; output.as_str(), replies.as_str());
     Ok(())
 }
 

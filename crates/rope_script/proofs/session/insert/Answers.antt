@@ -1,16 +1,13 @@
 use Rattle.std.proofs.Common.{arith}
-use Rattle.std.specs.Str.{chars}
-use Rattle.rope_script.proofs.Contents.{contents_done, contents_refused}
+use Rattle.std.proofs.lemmas.Bool.{eqb-true}
+use Rattle.rope_script.proofs.Contents.{of_content, edit_of}
 use Rattle.rope_script.proofs.session.insert.Goals as goal
 
-pub returns-in-Ok : goal.returns-in-Ok
-returns-in-Ok c =
-    contents_done c.args.ropes.now.items c.args.rope c.args.char_idx (chars c.args.text.now) c.index_mut.result.now c.try_insert.new.self
-    (omega (arith, c.args.ropes.now.ok.0)) c.index_mut.ensures.value c.in-Ok.ensures.ok.0 c.in-Ok.ensures.ok.1 c.try_insert.ensures.breaks c.try_insert.ensures.kept
-    (λ e. (c.try_insert.ensures.empty e c.in-Ok.ensures.ok.0).1)
-
-pub returns-in-Err : goal.returns-in-Err
-returns-in-Err c =
-    contents_refused c.args.ropes.now.items c.args.rope c.args.char_idx (chars c.args.text.now) c.index_mut.result.now c.try_insert.new.self c.in-Err.error
-    (omega (arith, c.args.ropes.now.ok.0)) c.index_mut.ensures.value c.in-Err.ensures.refused c.in-Err.ensures.err
-    (λ e fine. let p = rw c.in-Err.is at (c.try_insert.ensures.empty e fine).0 in cc)
+pub returns : goal.returns
+returns c =
+    let old = c.args.ropes.now.items in
+    let rope = c.index_mut.result.now in
+    rw c.reply_to_edit.ensures
+    (of_content _ old _ c.args.rope rope _ (omega (arith, c.args.ropes.now.ok.0)) c.index_mut.ensures.value
+    (edit_of c.try_insert.result old c.args.rope rope c.try_insert.new.self _ _ _ c.index_mut.ensures.value
+    c.try_insert.ensures.ok c.try_insert.ensures.refused c.try_insert.ensures.err (λ z fine. c.try_insert.ensures.empty (eqb-true _ _ z) fine) c.try_insert.ensures.breaks c.try_insert.ensures.kept))
