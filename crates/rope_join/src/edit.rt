@@ -1,12 +1,12 @@
 //! Trees split, with a part taken out or put in, and put one behind the other. Where a CR and an LF would meet at a seam, the two
 //! become a leaf of their own between what stands before and what follows, so that no CR LF lies across two leaves.
-ghost use Rattle.std.specs.Prelude.{◌≡◌, ◌+◌, ◌*◌, ◌<◌, ◌≤◌, ◌^◌, ◌∷◌, ◌++◌, length, take, drop, max, IfOk};
+ghost use Rattle.std.specs.Prelude.{◌≡◌, ◌+◌, ◌*◌, ◌<◌, ◌≤◌, ◌^◌, ◌∷◌, ◌++◌, length, take, drop, max, IfOk, OnOk, OnErr};
 ghost use Rattle.std.specs.Str.{chars};
 ghost use Rattle.rope_text.specs.Text.{byte_len};
 ghost use Rattle.rope_text.specs.Breaks.{ends_in_cr};
 ghost use Rattle.rope_text.specs.Cutting.{parts_crlf};
 ghost use Rattle.rope_text.specs.Edit.{inserted, removed};
-ghost use Rattle.rope_tree.specs.Tree.{text};
+ghost use Rattle.rope_tree.specs.Tree.{text, IsTree};
 ghost use Rattle.rope_join.specs.Cut.{IsFront, IsBack};
 
 use crate::cut::{back, front};
@@ -18,6 +18,7 @@ use rope_tree::insert::leaf_of;
 use rope_tree::lookup::char_at;
 use rope_tree::node::Node;
 use rope_tree::node_text::NodeText;
+use rope_tree::removal::remove_at;
 use std::alloc::{AllocError, Global};
 use std::rc::Rc;
 
@@ -117,8 +118,8 @@ pub fn append(
     Ok(join(alloc, left, right, made)?)
 }
 
-/// The text without the characters from `start` up to `end`.
-pub fn remove(
+/// The tree without the characters from `start` up to `end`: its front joined to its back.
+fn without(
     alloc: Global,
     node: &Rc<Node>,
     start: usize,
@@ -140,6 +141,34 @@ pub fn remove(
     let first = front_or_none(alloc, node, start, made)?;
     let second = back_or_none(alloc, node, end, made)?;
     Ok(join(alloc, &first, &second, made)?)
+}
+
+/// Takes the characters from `start` up to `end` out, at least one: where they lie in one leaf that keeps others and no CR
+/// meets an LF, in that leaf alone; else by a front and a back that are joined. A new tree takes the old one's place last of
+/// all.
+pub fn remove(
+    alloc: Global,
+    root: &mut Rc<Node>,
+    start: usize,
+    end: usize,
+    made: &mut u64,
+) -> Result<(), AllocError>
+    requires ordered { start < end }
+    requires within { end ≤ length (text root.old.value) }
+    ensures text { OnOk result (text root.new.value ≡ removed (text root.old.value) start end) }
+    ensures breaks { root.new.value.breaks ≡ root.old.value.breaks }
+    ensures tree { IsTree root.new.value }
+    ensures err { OnErr result (root.new ≡ root.old) }
+    ensures made { made.new ≤ made.old + 17 * root.old.value.height + 12 }
+{
+    let _ = root.height();
+    if !pair_meets(root, start, root, end) && remove_at(alloc, root, start, end, made)? {
+        return Ok(());
+    }
+    let new = without(alloc, root, start, end, made)?;
+    let _ = new.height();
+    *root = new;
+    Ok(())
 }
 
 /// Two trees of one.

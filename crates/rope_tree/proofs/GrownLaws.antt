@@ -26,7 +26,7 @@ use Rattle.rope_tree.proofs.InsertLeaves.{one_inserted}
 use Rattle.rope_tree.proofs.InsertTrees.{new_text, new_siblings, length-inserted}
 
 -- the list with the new child in the old one's place
-set_parts : (ts : List Tree) (k : ℕ) (u : Tree) → k < length ts → set ts k u ≡ take k ts ++ (u ∷ [] ++ drop (k + 1) ts)
+pub set_parts : (ts : List Tree) (k : ℕ) (u : Tree) → k < length ts → set ts k u ≡ take k ts ++ (u ∷ [] ++ drop (k + 1) ts)
 set_parts ts k u lt = set_split ts k u lt ∙ ap (λ n. take k ts ++ (u ∷ [] ++ drop n ts)) (sym (add-one k))
 
 pub same_set : (ts : List Tree) (k : ℕ) (c : Tree) → k < length ts → get_or ts k c ≡ c → set ts k c ≡ ts

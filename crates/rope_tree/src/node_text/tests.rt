@@ -18,7 +18,8 @@ fn edits(rt: HostRuntime) {
     text.push_str("oz");
     assert_eq!(rt; text.as_str(), "Hello!oz");
     let mut text = hello();
-    text.remove_range(2, 4);
+    let range = text.byte_range(2, 4);
+    text.remove_bytes(range);
     assert_eq!(rt; text.as_str(), "Heo!");
     let mut text = hello();
     text.truncate(4);

@@ -1,12 +1,9 @@
--- The tree is a rope.
-use Rattle.std.proofs.Common.{subst}
-use Rattle.rope_tree.specs.Tree.{IsTree}
-use Rattle.ropey.specs.View.{IsRope}
+-- Each tree is a rope.
 use Rattle.ropey.proofs.Ropes.{rope_of}
 use Rattle.ropey.proofs.rope.Rope.remove_chars.Goals as goal
 
-pub returns-in_err-root-clause-kept : goal.returns-in_err-root-clause-kept
-returns-in_err-root-clause-kept c = subst IsRope c.self.view_is (rope_of c.self.inside.root.value c.self.invariant)
+pub returns-in_err-remove-clause-kept : goal.returns-in_err-remove-clause-kept
+returns-in_err-remove-clause-kept c = rope_of c.remove.new.root.value c.remove.ensures.tree
 
 pub returns-clause-kept : goal.returns-clause-kept
-returns-clause-kept c = rope_of c.in_ok-root.root.value (subst IsTree c.deref-2.ensures c.height-2.ensures.tree)
+returns-clause-kept c = rope_of c.remove.new.root.value c.remove.ensures.tree

@@ -3,7 +3,7 @@ use Rattle.std.proofs.lemmas.Str.{length-le-encodes}
 use Rattle.rope_text.specs.Text.{byte_len}
 use Rattle.rope_tree.specs.Tree.{text}
 use Rattle.rope_join.proofs.Seams.{parts_can_join, join_text, meets, left_le}
-use Rattle.rope_join.proofs.edit.remove.Goals as goal
+use Rattle.rope_join.proofs.edit.without.Goals as goal
 
 pub overflow_add-end : goal.overflow_add-end
 overflow_add-end c =

@@ -1,0 +1,239 @@
+-- Characters that are taken out of one leaf below a node.
+use Rattle.std.proofs.Common.{◌≡◌, ℕ, ◌+◌, ◌-◌, ◌*◌, ◌^◌, ◌<◌, ◌≤◌, true, List, [], ◌∷◌, ◌++◌, length, get_or, set, take, drop, refl, sym, ap, ap₂, subst, ◌∙◌, arith}
+use Rattle.std.specs.List.{concat}
+use Rattle.std.specs.Str.{all_scalars}
+use Rattle.std.specs.declared.alloc.Global.{Global}
+use Rattle.std.specs.declared.rc.Rc.{Rc}
+use Rattle.std.proofs.lemmas.List.{append_assoc, append-nil, length-append, length-set, length-take-le, length-drop, take-append-drop}
+use Rattle.std.proofs.lemmas.List.Elements.{All-set}
+use Rattle.rope_text.specs.declared.line_breaks.LineBreaks.{LineBreaks}
+use Rattle.rope_text.specs.declared.text_info.TextInfo.{TextInfo}
+use Rattle.rope_text.specs.Text.{byte_len}
+use Rattle.rope_text.specs.Edit.{removed}
+use Rattle.rope_text.specs.TextInfo.{info_of}
+use Rattle.rope_text.proofs.Measures.{IsMeasure-byte_len, size_le}
+use Rattle.rope_text.proofs.CuttingLaws.{concat-append}
+use Rattle.rope_tree.specs.declared.search.Unit.TheVariants.{Char}
+use Rattle.rope_tree.specs.declared.node.Node.{Node}
+use Rattle.rope_tree.specs.declared.node.Node.TheInside.{Inside}
+use Rattle.rope_tree.specs.declared.node.Body.TheVariants.{Leaf, Inner}
+use Rattle.rope_tree.specs.Shape.{body_leaves, tree_of, IsNode}
+use Rattle.rope_tree.specs.Leaves.{AreLeaves, IsSeam}
+use Rattle.rope_tree.specs.Tree.{Tree, text, joined, one_leaf, leaves_of, height_of, breaks_of, tree_over, IsTree, IsWide, IsChild, AreChildren}
+use Rattle.rope_tree.specs.Listed.{trees, HasTotals}
+use Rattle.rope_tree.specs.Removal.{IsRemoved, AreRemoved}
+use Rattle.rope_tree.proofs.LeafLaws.{lone_leaf, leaves-append, leaves_left, leaves_right, seam_of_left, seam_of_right, seam_right_longer, seam_left_longer, seam-take, seam-drop}
+use Rattle.rope_tree.proofs.TreeLaws.{height_of_is, breaks_of_is}
+use Rattle.rope_tree.proofs.NodeLaws.{leaves_of-append, child_at, more_at, leaf_text, tree_of_inner}
+use Rattle.rope_tree.proofs.Descents.{Descends}
+use Rattle.rope_tree.proofs.GrownLaws.{set_parts, IsInner}
+use Rattle.rope_tree.proofs.InsertLaws.{front_of, rest_of}
+use Rattle.rope_tree.proofs.InsertTrees.{around, around_child, text_around, seam_before, seam_after}
+
+pub byte_len-removed : (xs : List ℕ) (a b : ℕ) → a ≤ b → byte_len (removed xs a b) ≤ byte_len xs
+byte_len-removed xs a b order =
+    omega (
+      arith,
+      IsMeasure-byte_len.joined (take a xs) (drop b xs),
+      IsMeasure-byte_len.joined (take b xs) (drop b xs),
+      ap byte_len (take-append-drop b xs),
+      size_le byte_len IsMeasure-byte_len xs a b order,
+    )
+
+-- as many leaves under as many nodes are a tree
+pub tree_removed : (old new : Tree) (a b : ℕ) → a ≤ b → IsTree old → IsRemoved old new a b → IsTree new
+tree_removed old new a b order t r = record {
+  lone = λ z. omega (arith, t.lone (omega (arith, r.same_height)), r.as_many);
+  at_least_two = λ p. omega (arith, t.at_least_two (omega (arith, r.same_height)), r.same_width);
+  at_most_24 = omega (arith, t.at_most_24, r.same_width);
+  least_leaves = rw (r.same_height, r.same_width, r.as_many) t.least_leaves;
+  most_leaves = rw (r.same_height, r.same_width, r.as_many) t.most_leaves;
+  leaves = r.leaves;
+  fits = omega (arith, ap byte_len r.text_is, byte_len-removed (text old) a b order, t.fits);
+}
+
+pub child_removed : (br : LineBreaks) (h : ℕ) (old new : Tree) (a b : ℕ) → a ≤ b → IsChild br h old → IsRemoved old new a b → IsChild br h new
+child_removed br h old new a b order c r = record {
+  same_breaks = r.same_breaks ∙ c.same_breaks;
+  at_height = r.same_height ∙ c.at_height;
+  wide = λ p. omega (arith, c.wide p, r.same_width);
+  some = omega (arith, c.some, r.as_many);
+  tree = tree_removed old new a b order c.tree r;
+}
+
+-- characters of the middle one of three texts
+module _ (p c n : List ℕ) (i j start end : ℕ) (first : start ≡ length p + i) (last : end ≡ length p + j) (order : i ≤ j) (within : j ≤ length c) where
+  front_is : take start (p ++ (c ++ n)) ≡ p ++ take i c
+  front_is = front_of p c n [] i start first (omega arith)
+
+  back_is : drop end (p ++ (c ++ n)) ≡ drop j c ++ n
+  back_is = rest_of p c n [] j end last within
+
+  pub removed_middle : p ++ (removed c i j ++ n) ≡ removed (p ++ (c ++ n)) start end
+  removed_middle = rw (front_is, back_is) (simp append_assoc)
+
+  -- no CR meets an LF at the ends of what is left of the middle
+  module _ (apart : IsSeam (take start (p ++ (c ++ n))) (drop end (p ++ (c ++ n)))) where
+    ends : IsSeam (take i c) (drop j c ++ n)
+    ends = seam_of_right p (take i c) (drop j c ++ n) (rw (front_is, back_is) at apart)
+
+    pub ends_of_middle : IsSeam (take i c) (drop j c)
+    ends_of_middle = seam_of_left (take i c) (drop j c) n ends
+
+    pub seam_after_removed : IsSeam c n → IsSeam (removed c i j) n
+    seam_after_removed seam = seam_left_longer (take i c) (drop j c) n ends (seam-drop j c n seam)
+
+    pub seam_before_removed : IsSeam p c → IsSeam p (removed c i j ++ n)
+    seam_before_removed seam =
+        let s = seam_right_longer p (take i c) (drop j c ++ n) (seam-take i p c seam) (rw (front_is, back_is) at apart) in
+        rw append_assoc s
+
+-- the child at k has the characters from start up to end, as its characters from i up to j
+pub record Holds (ts : List Tree) (k : ℕ) (c : Tree) (i j start end : ℕ) : Type 0 where
+  pub first : start ≡ length (joined (take k ts)) + i
+  pub last : end ≡ length (joined (take k ts)) + j
+  pub order : i < j
+  pub within : j ≤ length (text c)
+
+-- the child in which they start, where they end by its total
+pub holds : (br : LineBreaks) (ts : List Tree) (k : ℕ) (c : Tree) (front : TextInfo) (start end : ℕ) (totals : List TextInfo) (d : TextInfo)
+    → Descends br Char start ts k c front → HasTotals br totals ts → start < end → end ≤ (get_or totals k d).chars → (front.chars ≤ start) × Holds ts k c (start - front.chars) (end - front.chars) start end
+holds br ts k c front start end totals d way h order le =
+    let total = ap (λ x. x.chars) (h.total_at k d way.within ∙ more_at br (height_of ts) ts k c way.children way.within way.child_is) in
+    let before = ap (λ x. x.chars) way.front_is in
+    let past : front.chars ≤ start = way.not_past in
+    (past, record { first = omega arith; last = omega arith; order = omega arith; within = omega (arith, total, before, le, order) })
+
+-- a child without some characters, in the old one's place
+module _ (br : LineBreaks) (h : ℕ) (ts : List Tree) (k : ℕ) (c : Tree) (a : AreChildren br h ts) (lt : k < length ts) (here : get_or ts k c ≡ c)
+    (i j start end : ℕ) (held : Holds ts k c i j start end) (apart : IsSeam (take start (joined ts)) (drop end (joined ts))) where
+  before : i ≤ j
+  before = omega (arith, held.order)
+
+  abbrev left : List (List ℕ)
+  left = leaves_of (take k ts)
+
+  abbrev right : List (List ℕ)
+  right = leaves_of (drop (k + 1) ts)
+
+  parted : joined ts ≡ joined (take k ts) ++ (text c ++ joined (drop (k + 1) ts))
+  parted = text_around br h ts k c a lt here
+
+  apart_parted : IsSeam (take start (joined (take k ts) ++ (text c ++ joined (drop (k + 1) ts)))) (drop end (joined (take k ts) ++ (text c ++ joined (drop (k + 1) ts))))
+  apart_parted = subst (λ x. IsSeam (take start x) (drop end x)) parted apart
+
+  pub child_apart : IsSeam (take i (text c)) (drop j (text c))
+  child_apart = ends_of_middle (joined (take k ts)) (text c) (joined (drop (k + 1) ts)) i j start end held.first held.last before held.within apart_parted
+
+  module _ (u : Tree) (r : IsRemoved c u i j) where
+    own : IsChild br h c
+    own = child_at br h ts k c a lt here
+
+    new_leaves : leaves_of (set ts k u) ≡ left ++ (u.leaves ++ right)
+    new_leaves = ap leaves_of (set_parts ts k u lt) ∙ leaves_of-append (take k ts) (u ∷ drop (k + 1) ts)
+
+    old_leaves : leaves_of ts ≡ left ++ (c.leaves ++ right)
+    old_leaves = around_child br h ts k c a lt here
+
+    below : concat (u.leaves ++ right) ≡ removed (text c) i j ++ concat right
+    below = concat-append u.leaves right ∙ ap (λ x. x ++ concat right) r.text_is
+
+    new_text : joined (set ts k u) ≡ removed (joined ts) start end
+    new_text =
+        ap concat new_leaves ∙ concat-append left (u.leaves ++ right) ∙ ap (λ x. concat left ++ x) below
+        ∙ removed_middle (joined (take k ts)) (text c) (joined (drop (k + 1) ts)) i j start end held.first held.last before held.within ∙ ap (λ x. removed x start end) (sym parted)
+
+    are_leaves : AreLeaves (leaves_of (set ts k u))
+    are_leaves =
+        let old : AreLeaves (left ++ (c.leaves ++ right)) = subst AreLeaves old_leaves a.leaves in
+        let front : AreLeaves left = leaves_left left (c.leaves ++ right) old in
+        let back : AreLeaves right = leaves_right c.leaves right (leaves_right left (c.leaves ++ right) old) in
+        let seam_right : IsSeam (text u) (concat right) =
+        subst (λ x. IsSeam x (concat right)) (sym r.text_is)
+        (seam_after_removed (joined (take k ts)) (text c) (joined (drop (k + 1) ts)) i j start end held.first held.last before held.within apart_parted (seam_after br h ts k c a lt here)) in
+        let seam_left : IsSeam (concat left) (concat (u.leaves ++ right)) =
+        subst (IsSeam (concat left)) (sym below)
+        (seam_before_removed (joined (take k ts)) (text c) (joined (drop (k + 1) ts)) i j start end held.first held.last before held.within apart_parted (seam_before br h ts k c a lt here)) in
+        subst AreLeaves (sym new_leaves) (leaves-append left (u.leaves ++ right) front (leaves-append u.leaves right r.leaves back seam_right) seam_left)
+
+    new_children : AreChildren br h (set ts k u)
+    new_children =
+        let many = length-set ts k u in
+        record {
+          at_least_two = omega (arith, many, a.at_least_two);
+          at_most_24 = omega (arith, many, a.at_most_24);
+          each = All-set (IsChild br h) ts k u (child_removed br h c u i j before own r) a.each;
+          leaves = are_leaves;
+          fits = omega (arith, ap byte_len new_text, byte_len-removed (joined ts) start end (omega (arith, held.first, held.last, before)), a.fits);
+        }
+
+    pub children_removed : br ≡ breaks_of ts → h ≡ height_of ts → AreRemoved ts (set ts k u) start end
+    children_removed br_is h_is = record {
+      text_is = new_text;
+      as_many = length-set ts k u;
+      as_many_leaves = omega (arith, ap length new_leaves, ap length old_leaves, length-append left (u.leaves ++ right), length-append left (c.leaves ++ right), length-append u.leaves right, length-append c.leaves right, r.as_many);
+      children = rw (sym br_is, sym h_is) new_children;
+    }
+
+-- the slices around a child, with the new one between them
+pub spliced_removed : (rcs : List (Rc Node Global)) (k : ℕ) (c u : Tree) (vs : List Tree) → AreChildren (breaks_of (trees rcs)) (height_of (trees rcs)) (trees rcs) → k < length (trees rcs) → get_or (trees rcs) k c ≡ c
+    → (i j start end : ℕ) → Holds (trees rcs) k c i j start end → IsSeam (take start (joined (trees rcs))) (drop end (joined (trees rcs))) → IsRemoved c u i j
+    → vs ≡ trees (take k rcs) ++ (u ∷ [] ++ trees (take (length rcs - (k + 1)) (drop (k + 1) rcs))) → AreRemoved (trees rcs) vs start end
+spliced_removed rcs k c u vs a lt here i j start end held apart r is =
+    let ts = trees rcs in
+    rw (around rcs k (u ∷ []) vs is ∙ sym (set_parts ts k u lt)) (children_removed (breaks_of ts) (height_of ts) ts k c a lt here i j start end held apart u r refl refl)
+
+-- a node over the children that are left is the old one without the characters
+pub over_removed : (t x : Tree) (ts us : List Tree) (start end : ℕ) → t ≡ tree_over ts → x ≡ tree_over us → AreRemoved ts us start end → IsRemoved t x start end
+over_removed t x ts us start end is x_is r =
+    let some : 1 ≤ length us = omega (arith, r.children.at_least_two) in
+    let sets : breaks_of us ≡ breaks_of ts = breaks_of_is (breaks_of ts) (height_of ts) us some r.children.each in
+    let heights : height_of us ≡ height_of ts = height_of_is (breaks_of ts) (height_of ts) us some r.children.each in
+    rw (is, x_is) (record {
+      text_is = r.text_is;
+      same_breaks = sets;
+      same_height = ap (λ n. n + 1) heights;
+      same_width = r.as_many;
+      as_many = r.as_many_leaves;
+      leaves = r.children.leaves;
+    })
+
+-- an inner node over them
+pub over_left : (a : Inside) (t : Tree) (ts us : List Tree) (start end : ℕ) → IsInner a t ts → AreRemoved ts us start end → (info : TextInfo) → info ≡ info_of (breaks_of us) (joined us)
+    → IsNode (record { height = a.height; breaks = a.breaks; info = info; body = Inner us }) × IsRemoved t (tree_of (record { height = a.height; breaks = a.breaks; info = info; body = Inner us })) start end
+over_left a t ts us start end f r info counted =
+    let e : height_of ts ≡ a.height - 1 = omega (arith, f.above) in
+    let below : AreChildren a.breaks (a.height - 1) us = rw (sym e, f.same_breaks) r.children in
+    let sets : breaks_of us ≡ a.breaks = breaks_of_is a.breaks (a.height - 1) us (omega (arith, below.at_least_two)) below.each in
+    let high : 1 ≤ a.height = omega (arith, f.above) in (
+      record { body = (high, below); counted = counted ∙ ap (λ b. info_of b (joined us)) sets },
+      over_removed t (tree_of (record { height = a.height; breaks = a.breaks; info = info; body = Inner us })) ts us start end f.is (tree_of_inner a.breaks a.height us (length us) high below refl) r,
+    )
+
+one_leaf_some : (leaf : List ℕ) → 1 ≤ length leaf → one_leaf leaf ≡ leaf ∷ []
+one_leaf_some [] some = absurd (omega arith)
+one_leaf_some (c ∷ cs) some = refl
+
+length-removed : (xs : List ℕ) (a b : ℕ) → a ≤ b → b ≤ length xs → length (removed xs a b) + (b - a) ≡ length xs
+length-removed xs a b order within = omega (arith, length-append (take a xs) (drop b xs), length-take-le a xs (omega arith), length-drop b xs)
+
+-- a leaf that keeps some of its characters
+pub leaf_left : (a : Inside) (t : Tree) (l new : List ℕ) (start end : ℕ) → IsNode a → a.body ≡ Leaf l → tree_of a ≡ t → new ≡ removed l start end → start < end → end ≤ length (text t) → (end - start ≡ a.info.chars → ⊥)
+    → byte_len new ≤ 984 → all_scalars new ≡ true → (info : TextInfo) → IsRemoved t (tree_of (record { height = a.height; breaks = a.breaks; info = info; body = Leaf new })) start end
+leaf_left a t l new start end i e view is order within others fits scalars info =
+    let same : tree_of a ≡ tree_of (record { height = a.height; breaks = a.breaks; info = a.info; body = Leaf l }) = ap (λ b. tree_of (record { height = a.height; breaks = a.breaks; info = a.info; body = b })) e in
+    let t_is : t ≡ tree_of (record { height = a.height; breaks = a.breaks; info = a.info; body = Leaf l }) = sym view ∙ same in
+    let text_is : text t ≡ l = ap text t_is ∙ leaf_text l in
+    let count : a.info.chars ≡ length l = ap (λ x. x.chars) i.counted ∙ ap (λ b. length (concat (body_leaves b))) e ∙ ap length (leaf_text l) in
+    let size = length-removed l start end (omega arith) (omega (arith, ap length text_is)) in
+    let some : 1 ≤ length new = omega (arith, ap length is, size, count, others, ap length text_is) in
+    let old : one_leaf l ≡ l ∷ [] = one_leaf_some l (omega (arith, ap length is, size)) in
+    let now : one_leaf new ≡ new ∷ [] = one_leaf_some new some in
+    rw t_is (record {
+      text_is = leaf_text new ∙ is ∙ ap (λ x. removed x start end) (sym (leaf_text l));
+      same_breaks = refl;
+      same_height = refl;
+      same_width = refl;
+      as_many = rw (old, now) refl;
+      leaves = rw now (lone_leaf new (record { some = some; fits = fits; scalars = scalars }));
+    })

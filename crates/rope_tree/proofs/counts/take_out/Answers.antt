@@ -1,0 +1,114 @@
+use Rattle.std.proofs.Common.{◌≡◌, ℕ, ◌+◌, ◌-◌, ◌<◌, ◌≤◌, ◌++◌, true, List, length, take, drop, refl, sym, ap, ap₂, subst, ◌∙◌, arith}
+use Rattle.std.specs.List.{remove_range}
+use Rattle.std.specs.Str.{chars, IsUtf8, IsCharBoundary, encode_utf8_all, all_scalars}
+use Rattle.std.proofs.lemmas.List.{take-append-drop, drop-drop, length-append, length-drop}
+use Rattle.std.proofs.lemmas.Str.{chars-append, IsUtf8-take, IsUtf8-drop}
+use Rattle.rope_text.specs.Text.{byte_len}
+use Rattle.rope_text.specs.Edit.{removed}
+use Rattle.rope_text.specs.TextInfo.{info_of}
+use Rattle.rope_text.proofs.Measures.{size_le, IsMeasure-byte_len}
+use Rattle.rope_text.proofs.TextParts.{chars_front, chars_back, byte_len_boundary}
+use Rattle.rope_tree.specs.Leaves.{IsSeam}
+use Rattle.rope_tree.proofs.counts.take_out.Goals.{After-as_str-text, After-range_from-back}
+use Rattle.rope_tree.proofs.counts.take_out.Goals as goal
+
+-- the three parts of a text, cut at the bytes of two characters
+record IsParted (cs front part back : List ℕ) (start end : ℕ) : Type 0 where
+  front_is : chars front ≡ take start cs
+  back_is : chars back ≡ drop end cs
+  whole : chars front ++ (chars part ++ chars back) ≡ cs
+  some : 1 ≤ length (chars part)
+
+parted : (bs cs front part back : List ℕ) (start end from to : ℕ) → IsUtf8 bs → IsUtf8 part → chars bs ≡ cs → from ≡ byte_len (take start cs) → to ≡ byte_len (take end cs) → start < end → end ≤ length cs
+    → front ≡ take (from - 0) bs → part ≡ take (to - from) (drop from bs) → back ≡ drop to bs → IsParted cs front part back start end
+parted bs cs front part back start end from to u v same from_is to_is order within front_cut part_cut back_cut =
+    let first : from ≡ byte_len (take start (chars bs)) = from_is ∙ ap (λ l. byte_len (take start l)) (sym same) in
+    let last : to ≡ byte_len (take end (chars bs)) = to_is ∙ ap (λ l. byte_len (take end l)) (sym same) in
+    let le : from ≤ to = omega (arith, first, last, size_le byte_len IsMeasure-byte_len (chars bs) start end (omega arith)) in
+    let f : chars front ≡ take start cs = chars_front bs front cs start from u same first front_cut in
+    let b : chars back ≡ drop end cs = chars_back bs back cs end to u same last back_cut in
+    let rest : chars (drop from bs) ≡ drop start cs = chars_back bs (drop from bs) cs start from u same first refl in
+    let sum : from + (to - from) ≡ to = omega arith in
+    let behind : drop (to - from) (drop from bs) ≡ back = drop-drop (to - from) from bs ∙ ap (λ n. drop n bs) sum ∙ sym back_cut in
+    let both : chars part ++ chars back ≡ drop start cs =
+    sym (chars-append part back v) ∙ ap chars (ap₂ (λ x y. x ++ y) part_cut (sym behind) ∙ take-append-drop (to - from) (drop from bs)) ∙ rest in
+    record {
+      front_is = f;
+      back_is = b;
+      whole = ap₂ (λ x y. x ++ y) f both ∙ take-append-drop start cs;
+      some = omega (arith, ap length both, length-append (chars part) (chars back), ap length b, length-drop start cs, length-drop end cs);
+    }
+
+-- the places of the bytes, by the characters of the bytes
+from_place : (c : After-as_str-text) → c.byte_range-range.result.from ≡ byte_len (take c.args.start (chars c.as_str-text.result.now))
+from_place c = c.byte_range-range.ensures.from ∙ ap (λ l. byte_len (take c.args.start l)) (sym c.as_str-text.ensures.chars)
+
+to_place : (c : After-as_str-text) → c.byte_range-range.result.to ≡ byte_len (take c.args.end (chars c.as_str-text.result.now))
+to_place c = c.byte_range-range.ensures.to ∙ ap (λ l. byte_len (take c.args.end l)) (sym c.as_str-text.ensures.chars)
+
+from_boundary : (c : After-as_str-text) → IsCharBoundary c.as_str-text.result.now c.byte_range-range.result.from
+from_boundary c = subst (IsCharBoundary c.as_str-text.result.now) (sym (from_place c)) (byte_len_boundary c.as_str-text.result.now c.args.start c.as_str-text.utf8)
+
+to_boundary : (c : After-as_str-text) → IsCharBoundary c.as_str-text.result.now c.byte_range-range.result.to
+to_boundary c = subst (IsCharBoundary c.as_str-text.result.now) (sym (to_place c)) (byte_len_boundary c.as_str-text.result.now c.args.end c.as_str-text.utf8)
+
+ordered : (c : After-as_str-text) → c.byte_range-range.result.from ≤ c.byte_range-range.result.to
+ordered c =
+    omega (arith, from_place c, to_place c, size_le byte_len IsMeasure-byte_len (chars c.as_str-text.result.now) c.args.start c.args.end (omega (arith, c.requires.ordered)))
+
+parts : (c : After-range_from-back) → IsParted c.args.leaf.now c.range-front.result.now c.range-part.result.now c.range_from-back.result.now c.args.start c.args.end
+parts c =
+    parted c.as_str-text.result.now c.args.leaf.now c.range-front.result.now c.range-part.result.now c.range_from-back.result.now c.args.start c.args.end c.byte_range-range.result.from c.byte_range-range.result.to
+    c.as_str-text.utf8 c.range-part.utf8 c.as_str-text.ensures.chars c.byte_range-range.ensures.from c.byte_range-range.ensures.to c.requires.ordered c.requires.within
+    c.range-front.ensures.value c.range-part.ensures.value c.range_from-back.ensures.value
+
+pub range-front-requires-clause-end_boundary : goal.range-front-requires-clause-end_boundary
+range-front-requires-clause-end_boundary c = from_boundary (goal.at.range-front-requires-clause-end_boundary c).After-as_str-text
+
+pub range-part-requires-clause-start_le_end : goal.range-part-requires-clause-start_le_end
+range-part-requires-clause-start_le_end c = ordered (goal.at.range-part-requires-clause-start_le_end c).After-as_str-text
+
+pub range-part-requires-clause-start_boundary : goal.range-part-requires-clause-start_boundary
+range-part-requires-clause-start_boundary c = λ _. from_boundary (goal.at.range-part-requires-clause-start_boundary c).After-as_str-text
+
+pub range-part-requires-clause-end_boundary : goal.range-part-requires-clause-end_boundary
+range-part-requires-clause-end_boundary c = to_boundary (goal.at.range-part-requires-clause-end_boundary c).After-as_str-text
+
+pub range_from-back-requires : goal.range_from-back-requires
+range_from-back-requires c = λ _. to_boundary (goal.at.range_from-back-requires c).After-as_str-text
+
+pub info_without-info-requires-clause-info : goal.info_without-info-requires-clause-info
+info_without-info-requires-clause-info c =
+    c.requires.info ∙ ap (info_of c.args.set) (sym (parts (goal.at.info_without-info-requires-clause-info c).After-range_from-back).whole)
+
+pub info_without-info-requires-clause-some : goal.info_without-info-requires-clause-some
+info_without-info-requires-clause-some c = (parts (goal.at.info_without-info-requires-clause-some c).After-range_from-back).some
+
+pub info_without-info-requires-clause-apart : goal.info_without-info-requires-clause-apart
+info_without-info-requires-clause-apart c =
+    let p = parts (goal.at.info_without-info-requires-clause-apart c).After-range_from-back in
+    rw (p.front_is, p.back_is) c.requires.apart
+
+pub remove_bytes-requires-clause-from : goal.remove_bytes-requires-clause-from
+remove_bytes-requires-clause-from c =
+    subst (λ bs. IsCharBoundary bs c.byte_range-range.result.from) c.as_str-text.ensures.bytes (from_boundary (goal.at.remove_bytes-requires-clause-from c).After-as_str-text)
+
+pub remove_bytes-requires-clause-to : goal.remove_bytes-requires-clause-to
+remove_bytes-requires-clause-to c =
+    subst (λ bs. IsCharBoundary bs c.byte_range-range.result.to) c.as_str-text.ensures.bytes (to_boundary (goal.at.remove_bytes-requires-clause-to c).After-as_str-text)
+
+pub returns-clause-text : goal.returns-clause-text
+returns-clause-text c =
+    let e = (goal.at.returns-clause-text c).After-as_str-text in
+    let bs = c.as_str-text.result.now in
+    let range = c.byte_range-range.result in
+    let u = c.as_str-text.utf8 in
+    let front = chars_front bs (take range.from bs) c.args.leaf.now c.args.start range.from u c.as_str-text.ensures.chars (from_place e) (ap (λ n. take n bs) (omega arith)) in
+    let back = chars_back bs (drop range.to bs) c.args.leaf.now c.args.end range.to u c.as_str-text.ensures.chars (to_place e) refl in
+    c.remove_bytes.ensures ∙ ap (λ l. chars (remove_range l range.from range.to)) (sym c.as_str-text.ensures.bytes)
+    ∙ chars-append (take range.from bs) (drop range.to bs) (IsUtf8-take bs range.from u (from_boundary e)) ∙ ap₂ (λ x y. x ++ y) front back
+
+pub returns-clause-info : goal.returns-clause-info
+returns-clause-info c =
+    let p = parts (goal.at.returns-clause-info c).After-range_from-back in
+    c.info_without-info.ensures ∙ ap (info_of c.args.set) (ap₂ (λ x y. x ++ y) p.front_is p.back_is)

@@ -1,0 +1,20 @@
+use Rattle.std.proofs.Common.{◌≡◌, ◌+◌, ◌-◌, ◌++◌, take, drop, sym, ap, ◌∙◌, arith}
+use Rattle.std.specs.Str.{chars}
+use Rattle.std.proofs.Math.Seq.{take-add}
+use Rattle.rope_text.specs.Text.{byte_len}
+use Rattle.rope_text.proofs.Measures.{IsMeasure-byte_len}
+use Rattle.rope_text.proofs.TextParts.{chars_back}
+use Rattle.rope_tree.proofs.node_text.NodeText.byte_range.Goals as goal
+
+pub returns-clause-to : goal.returns-clause-to
+returns-clause-to c =
+    let cs = c.args.self.now in
+    let more = c.args.end - c.args.start in
+    let old = c.as_str-text in
+    let from = c.char_to_byte_idx-from.ensures.value in
+    let back = chars_back old.result.now _ _ c.args.start _ old.utf8 old.ensures.chars from c.range_from.ensures.value in
+    let first = from ∙ ap (λ l. byte_len (take c.args.start l)) old.ensures.chars in
+    let second = c.char_to_byte_idx.ensures.value ∙ ap (λ l. byte_len (take more l)) back in
+    let order : c.args.start + more ≡ c.args.end = omega arith in
+    let parts = ap (λ n. byte_len (take n cs)) (sym order) ∙ ap byte_len (take-add c.args.start more cs) in
+    omega (arith, first, second, parts, IsMeasure-byte_len.joined (take c.args.start cs) (take more (drop c.args.start cs)))

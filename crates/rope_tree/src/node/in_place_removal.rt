@@ -1,0 +1,73 @@
+//! Removals of characters from one leaf where the nodes stand: they take no memory.
+ghost use Rattle.std.specs.Prelude.{◌≡◌, ◌<◌, ◌≤◌, true, false, length, take, drop};
+ghost use Rattle.rope_tree.specs.Leaves.{IsSeam};
+ghost use Rattle.rope_tree.specs.Tree.{text, joined, breaks_of, height_of, AreChildren};
+ghost use Rattle.rope_tree.specs.Removal.{IsRemoved, AreRemoved};
+
+use super::{Body, Children, Node};
+use crate::counts::take_out;
+use crate::lookup::total_before;
+use crate::search::{Unit, place_of, retotal};
+use rope_text::Steps;
+use std::rc::Rc;
+
+impl Children {
+    /// Takes the characters from `start` up to `end` out, where they lie in one leaf that keeps others and no node on the way
+    /// is shared; whether it did.
+    #[cycle(in_place_removal)]
+    fn remove_in_place(&mut self, start: usize, end: usize) -> bool
+        requires children { AreChildren (breaks_of self.old) (height_of self.old) self.old }
+        requires ordered { start < end }
+        requires within { end ≤ length (joined self.old) }
+        requires apart { IsSeam (take start (joined self.old)) (drop end (joined self.old)) }
+        ensures done { result ≡ true → AreRemoved self.old self.new start end }
+        ensures kept { result ≡ false → self.new ≡ self.old }
+    {
+        let place = place_of(self.totals.as_slice(), Unit::Char, start, &mut Steps::new());
+        if self.totals[place].chars < end {
+            return false;
+        }
+        let before = total_before(self.totals.as_slice(), place).chars;
+        let Some(node) = Rc::get_mut(&mut self.nodes[place]) else {
+            return false;
+        };
+        let old = node.info();
+        if !node.remove_in_place(start - before, end - before) {
+            return false;
+        }
+        let new = node.info();
+        retotal(self.totals.as_mut_slice(), place, old, new);
+        true
+    }
+}
+
+impl Node {
+    /// Takes the characters from `start` up to `end` out, where they lie in one leaf that keeps others and no node on the way
+    /// is shared; whether it did. It takes no memory.
+    #[cycle(in_place_removal)]
+    pub fn remove_in_place(&mut self, start: usize, end: usize) -> bool
+        requires ordered { start < end }
+        requires within { end ≤ length (text self.old) }
+        requires apart { IsSeam (take start (text self.old)) (drop end (text self.old)) }
+        ensures done { result ≡ true → IsRemoved self.old self.new start end }
+        ensures kept { result ≡ false → self.new ≡ self.old }
+    {
+        match &mut self.body {
+            Body::Leaf(leaf) => {
+                if end - start == self.info.chars {
+                    return false;
+                }
+                self.info = take_out(leaf, start, end, self.info, self.breaks);
+                let _ = leaf.as_str();
+                true
+            }
+            Body::Inner(children) => {
+                if !children.remove_in_place(start, end) {
+                    return false;
+                }
+                self.info = children.total();
+                true
+            }
+        }
+    }
+}

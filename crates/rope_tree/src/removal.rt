@@ -1,0 +1,124 @@
+//! Removals of characters that lie in one leaf, which keeps others.
+ghost use Rattle.std.specs.Prelude.{◌≡◌, ◌+◌, ◌<◌, ◌≤◌, true, false, length, take, drop, IfOk, OnErr, IfSome};
+ghost use Rattle.rope_text.specs.Cutting.{parts_crlf};
+ghost use Rattle.rope_text.specs.Edit.{removed};
+ghost use Rattle.rope_tree.specs.Leaves.{IsSeam};
+ghost use Rattle.rope_tree.specs.Tree.{text, leaf_tree, IsTree};
+ghost use Rattle.rope_tree.specs.Removal.{IsRemoved};
+
+use crate::children::splice;
+use crate::counts::take_out;
+use crate::lookup::total_before;
+use crate::node::{Node, Nodes, View, make_inner, make_leaf};
+use crate::node_text::NodeText;
+use crate::search::{Unit, place_of};
+use rope_text::Steps;
+use std::alloc::{AllocError, Global};
+use std::rc::Rc;
+
+/// The leaf without the characters from `start` up to `end`; none where it has no others.
+fn leaf_without(
+    alloc: Global,
+    node: &Node,
+    leaf: &NodeText,
+    start: usize,
+    end: usize,
+    made: &mut u64,
+) -> Result<Option<Rc<Node>>, AllocError>
+    requires leaf { node.now ≡ leaf_tree node.now.breaks leaf.now }
+    requires ordered { start < end }
+    requires within { end ≤ length leaf.now }
+    requires apart { IsSeam (take start leaf.now) (drop end leaf.now) }
+    ensures ok { IfOk result (λ found. IfSome found (λ new. IsRemoved node.now new.value start end)) }
+    ensures made { made.new ≤ made.old + 1 }
+{
+    let info = node.info();
+    if end - start == info.chars {
+        return Ok(None);
+    }
+    let breaks = node.line_breaks();
+    let mut rest = NodeText::from_str(leaf.as_str());
+    let info = take_out(&mut rest, start, end, info, breaks);
+    Ok(Some(make_leaf(alloc, breaks, rest, info, made)?))
+}
+
+/// The tree without the characters from `start` up to `end`, by copies of the nodes on the way down; none where they don't
+/// lie in one leaf that keeps others. The old tree stays as it is; what both have in common is shared.
+pub fn without(
+    alloc: Global,
+    node: &Node,
+    start: usize,
+    end: usize,
+    made: &mut u64,
+) -> Result<Option<Rc<Node>>, AllocError>
+    requires ordered { start < end }
+    requires within { end ≤ length (text node.now) }
+    requires apart { IsSeam (take start (text node.now)) (drop end (text node.now)) }
+    ensures ok { IfOk result (λ found. IfSome found (λ new. IsRemoved node.now new.value start end)) }
+    ensures made { made.new ≤ made.old + node.now.height + 1 }
+{
+    let _ = node.height();
+    match node.view() {
+        View::Leaf(leaf) => leaf_without(alloc, node, leaf, start, end, made),
+        View::Inner(children, totals) => {
+            let place = place_of(totals, Unit::Char, start, &mut Steps::new());
+            if totals[place].chars < end {
+                return Ok(None);
+            }
+            let before = total_before(totals, place).chars;
+            let child = &children[place];
+            let Some(middle) = without(alloc, child, start - before, end - before, made)? else {
+                return Ok(None);
+            };
+            let middle = Nodes::One(middle);
+            let nodes = splice(alloc, &children[..place], middle, &children[place + 1..])?;
+            Ok(Some(make_inner(alloc, nodes, made)?))
+        }
+    }
+}
+
+/// Takes the characters from `start` up to `end` out where the nodes stand, if they lie in one leaf that keeps others and no
+/// node on the way is shared; whether it did. It takes no memory.
+fn remove_in_place(root: &mut Rc<Node>, start: usize, end: usize) -> bool
+    requires ordered { start < end }
+    requires within { end ≤ length (text root.old.value) }
+    requires apart { IsSeam (take start (text root.old.value)) (drop end (text root.old.value)) }
+    ensures done { result ≡ true → IsRemoved root.old.value root.new.value start end }
+    ensures kept { result ≡ false → root.new ≡ root.old }
+{
+    match Rc::get_mut(root) {
+        Some(node) => node.remove_in_place(start, end),
+        None => false,
+    }
+}
+
+/// Takes the characters from `start` up to `end` out where they lie in one leaf that keeps others; whether it did. Where no
+/// node on the way is shared, that takes no memory; else a tree with copies of those nodes takes the old one's place last of
+/// all. No CR before them may meet an LF behind them.
+pub fn remove_at(
+    alloc: Global,
+    root: &mut Rc<Node>,
+    start: usize,
+    end: usize,
+    made: &mut u64,
+) -> Result<bool, AllocError>
+    requires ordered { start < end }
+    requires within { end ≤ length (text root.old.value) }
+    requires apart { parts_crlf (take start (text root.old.value)) (drop end (text root.old.value)) ≡ false }
+    ensures done { IfOk result (λ did. did ≡ true → text root.new.value ≡ removed (text root.old.value) start end) }
+    ensures not_done { IfOk result (λ did. did ≡ false → root.new ≡ root.old) }
+    ensures breaks { root.new.value.breaks ≡ root.old.value.breaks }
+    ensures tree { IsTree root.new.value }
+    ensures err { OnErr result (root.new ≡ root.old) }
+    ensures made { made.new ≤ made.old + root.old.value.height + 1 }
+{
+    let _ = root.height();
+    if remove_in_place(root, start, end) {
+        return Ok(true);
+    }
+    let Some(new) = without(alloc, root, start, end, made)? else {
+        return Ok(false);
+    };
+    *root = new;
+    Ok(true)
+}
