@@ -143,9 +143,8 @@ fn without(
     Ok(join(alloc, &first, &second, made)?)
 }
 
-/// Takes the characters from `start` up to `end` out, at least one: where they lie in one leaf that keeps others and no CR
-/// meets an LF, in that leaf alone; else by a front and a back that are joined. A new tree takes the old one's place last of
-/// all.
+/// Takes the characters from `start` up to `end` out, at least one: where they lie in one leaf that may do without them, in
+/// that leaf alone; else by a front and a back that are joined. A new tree takes the old one's place last of all.
 pub fn remove(
     alloc: Global,
     root: &mut Rc<Node>,
@@ -162,7 +161,7 @@ pub fn remove(
     ensures made { made.new ≤ made.old + 17 * root.old.value.height + 12 }
 {
     let _ = root.height();
-    if !pair_meets(root, start, root, end) && remove_at(alloc, root, start, end, made)? {
+    if remove_at(alloc, root, start, end, made)? {
         return Ok(());
     }
     let new = without(alloc, root, start, end, made)?;

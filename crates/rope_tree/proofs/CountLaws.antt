@@ -1,5 +1,5 @@
 -- The counts of a text with another put into it, or without a part.
-use Rattle.std.proofs.Common.{◌≡◌, ℕ, ◌+◌, ◌-◌, ◌≤◌, Bool, true, false, ◌&&◌, cond, List, [], ◌∷◌, ◌++◌, length, take, drop, refl, sym, ap, ◌∙◌, arith}
+use Rattle.std.proofs.Common.{◌≡◌, ℕ, ◌+◌, ◌-◌, ◌≤◌, true, false, ◌&&◌, cond, List, [], ◌∷◌, ◌++◌, length, take, drop, refl, sym, ap, ◌∙◌, arith}
 use Rattle.std.proofs.lemmas.List.{take-append-drop, length-append}
 use Rattle.rope_text.specs.declared.line_breaks.LineBreaks.{LineBreaks}
 use Rattle.rope_text.specs.declared.text_info.TextInfo.{TextInfo}
@@ -11,7 +11,6 @@ use Rattle.rope_text.specs.TextInfo.{info_of, info_sum, shared_breaks}
 use Rattle.rope_text.proofs.BreakLaws.{break_count-append}
 use Rattle.rope_text.proofs.InfoLaws.{surrogate_count-append}
 use Rattle.rope_text.proofs.Measures.{IsMeasure-byte_len}
-use Rattle.rope_tree.specs.Leaves.{IsSeam}
 use Rattle.rope_tree.proofs.InsertTrees.{inserted_is, byte_len-inserted, length-inserted}
 
 shared_first : (set : LineBreaks) (f a b : List ℕ) → 1 ≤ length a → shared_breaks set f (a ++ b) ≡ shared_breaks set f a
@@ -64,22 +63,20 @@ corrects set text a front back at more apart first second some is_front is_back 
       whole = info_inserted set text a at more n some sums (rw (sym is_front, sym is_back) (omega (arith, left, apart_is, first_is, second_is)));
     }
 
-no_shared : (set : LineBreaks) (f b : List ℕ) → IsSeam f b → shared_breaks set f b ≡ 0
-no_shared set f b seam = ap (λ (x : Bool). cond {A = ℕ} (x && is_break_char set 13) 1 0) seam.apart
-
-pub record Uncounts (set : LineBreaks) (front back : List ℕ) (info less : TextInfo) (met : ℕ) : Type 0 where
+pub record Uncounts (set : LineBreaks) (front back : List ℕ) (info less : TextInfo) (met meeting : ℕ) : Type 0 where
   pub bytes_le : less.bytes ≤ info.bytes
   pub chars_le : less.chars ≤ info.chars
   pub pairs_le : less.utf16_surrogates ≤ info.utf16_surrogates
   pub breaks_le : less.line_breaks ≤ info.line_breaks + met
+  pub meeting_le : meeting ≤ info.line_breaks + met - less.line_breaks
   pub met_le : met ≤ 2
-  pub whole : ◌≡◌ {A = TextInfo} (record { bytes = info.bytes - less.bytes; chars = info.chars - less.chars; utf16_surrogates = info.utf16_surrogates - less.utf16_surrogates; line_breaks = info.line_breaks + met - less.line_breaks })
+  pub whole : ◌≡◌ {A = TextInfo} (record { bytes = info.bytes - less.bytes; chars = info.chars - less.chars; utf16_surrogates = info.utf16_surrogates - less.utf16_surrogates; line_breaks = info.line_breaks + met - less.line_breaks - meeting })
       (info_of set (front ++ back))
 
--- the counts of a text less those of a part in it, with the breaks corrected where the part met the ends around it
-pub uncounts : (set : LineBreaks) (front part back : List ℕ) (info less : TextInfo) (first second : ℕ) → 1 ≤ length part → info ≡ info_of set (front ++ (part ++ back)) → less ≡ info_of set part
-    → first ≡ shared_breaks set front part → second ≡ shared_breaks set part back → IsSeam front back → Uncounts set front back info less (first + second)
-uncounts set front part back info less first second some all own first_is second_is apart =
+-- the counts of a text less those of a part in it, with the breaks corrected where the part met what stood around it, and where that meets
+pub uncounts : (set : LineBreaks) (front part back : List ℕ) (info less : TextInfo) (first second meeting : ℕ) → 1 ≤ length part → info ≡ info_of set (front ++ (part ++ back)) → less ≡ info_of set part
+    → first ≡ shared_breaks set front part → second ≡ shared_breaks set part back → meeting ≡ shared_breaks set front back → Uncounts set front back info less (first + second) meeting
+uncounts set front part back info less first second meeting some all own first_is second_is meeting_is =
     let bytes = ap (λ i. i.bytes) all in
     let chars = ap (λ i. i.chars) all in
     let pairs = ap (λ i. i.utf16_surrogates) all in
@@ -90,21 +87,21 @@ uncounts set front part back info less first second some all own first_is second
     let less_breaks = ap (λ i. i.line_breaks) own in
     let joined = IsMeasure-byte_len.joined front (part ++ back) in
     let even = breaks_inserted set front part back some in
-    let none = no_shared set front back apart in
     let b : info.bytes ≡ less.bytes + byte_len (front ++ back) = omega (arith, bytes, less_bytes, joined, IsMeasure-byte_len.joined part back, IsMeasure-byte_len.joined front back) in
     let c : info.chars ≡ less.chars + length (front ++ back) = omega (arith, chars, less_chars, length-append front (part ++ back), length-append part back, length-append front back) in
     let p : info.utf16_surrogates ≡ less.utf16_surrogates + surrogate_count (front ++ back) =
     omega (arith, pairs, less_pairs, surrogate_count-append front (part ++ back), surrogate_count-append part back, surrogate_count-append front back) in
-    let l : info.line_breaks + (first + second) ≡ less.line_breaks + break_count set (front ++ back) = omega (arith, breaks, less_breaks, even, none, first_is, second_is) in
+    let l : info.line_breaks + (first + second) ≡ less.line_breaks + break_count set (front ++ back) + meeting = omega (arith, breaks, less_breaks, even, first_is, second_is, meeting_is) in
     let bytes_left : info.bytes - less.bytes ≡ byte_len (front ++ back) = omega (arith, b) in
     let chars_left : info.chars - less.chars ≡ length (front ++ back) = omega (arith, c) in
     let pairs_left : info.utf16_surrogates - less.utf16_surrogates ≡ surrogate_count (front ++ back) = omega (arith, p) in
-    let breaks_left : info.line_breaks + (first + second) - less.line_breaks ≡ break_count set (front ++ back) = omega (arith, l) in
+    let breaks_left : info.line_breaks + (first + second) - less.line_breaks - meeting ≡ break_count set (front ++ back) = omega (arith, l) in
     record {
       bytes_le = omega (arith, b);
       chars_le = omega (arith, c);
       pairs_le = omega (arith, p);
       breaks_le = omega (arith, l);
+      meeting_le = omega (arith, l);
       met_le = omega (arith, first_is, second_is, shared_le set front part, shared_le set part back);
       whole = cc;
     }

@@ -29,7 +29,7 @@ first_false : (x y : Bool) → (x && y) ≡ false → y ≡ true → x ≡ false
 first_false true y e f = cc
 first_false false y e f = refl
 
-no_cr : (p r : List ℕ) → ends_in_cr p ≡ false → IsSeam p r
+pub no_cr : (p r : List ℕ) → ends_in_cr p ≡ false → IsSeam p r
 no_cr p r e = record { apart = rw e refl }
 
 module _ (p c n s : List ℕ) (i at : ℕ) (place : at ≡ length p + i) (within : i ≤ length c) where

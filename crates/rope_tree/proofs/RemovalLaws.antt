@@ -1,10 +1,10 @@
 -- Characters that are taken out of one leaf below a node.
-use Rattle.std.proofs.Common.{◌≡◌, ℕ, ◌+◌, ◌-◌, ◌*◌, ◌^◌, ◌<◌, ◌≤◌, true, List, [], ◌∷◌, ◌++◌, length, get_or, set, take, drop, refl, sym, ap, ap₂, subst, ◌∙◌, arith}
+use Rattle.std.proofs.Common.{◌≡◌, ℕ, ◌+◌, ◌-◌, ◌<◌, ◌≤◌, true, List, [], ◌∷◌, ◌++◌, length, get_or, set, take, drop, refl, sym, ap, subst, ◌∙◌, arith}
 use Rattle.std.specs.List.{concat}
 use Rattle.std.specs.Str.{all_scalars}
 use Rattle.std.specs.declared.alloc.Global.{Global}
 use Rattle.std.specs.declared.rc.Rc.{Rc}
-use Rattle.std.proofs.lemmas.List.{append_assoc, append-nil, length-append, length-set, length-take-le, length-drop, take-append-drop}
+use Rattle.std.proofs.lemmas.List.{append_assoc, length-append, length-set, take-append-drop}
 use Rattle.std.proofs.lemmas.List.Elements.{All-set}
 use Rattle.rope_text.specs.declared.line_breaks.LineBreaks.{LineBreaks}
 use Rattle.rope_text.specs.declared.text_info.TextInfo.{TextInfo}
@@ -17,17 +17,18 @@ use Rattle.rope_tree.specs.declared.search.Unit.TheVariants.{Char}
 use Rattle.rope_tree.specs.declared.node.Node.{Node}
 use Rattle.rope_tree.specs.declared.node.Node.TheInside.{Inside}
 use Rattle.rope_tree.specs.declared.node.Body.TheVariants.{Leaf, Inner}
-use Rattle.rope_tree.specs.Shape.{body_leaves, tree_of, IsNode}
+use Rattle.rope_tree.specs.Shape.{tree_of, IsBody, IsNode}
 use Rattle.rope_tree.specs.Leaves.{AreLeaves, IsSeam}
-use Rattle.rope_tree.specs.Tree.{Tree, text, joined, one_leaf, leaves_of, height_of, breaks_of, tree_over, IsTree, IsWide, IsChild, AreChildren}
+use Rattle.rope_tree.specs.Tree.{Tree, text, joined, one_leaf, leaf_tree, leaves_of, height_of, breaks_of, tree_over, IsTree, IsChild, AreChildren}
 use Rattle.rope_tree.specs.Listed.{trees, HasTotals}
-use Rattle.rope_tree.specs.Removal.{IsRemoved, AreRemoved}
-use Rattle.rope_tree.proofs.LeafLaws.{lone_leaf, leaves-append, leaves_left, leaves_right, seam_of_left, seam_of_right, seam_right_longer, seam_left_longer, seam-take, seam-drop}
+use Rattle.rope_tree.specs.Removal.{KeepsEnds, IsRemoved, AreRemoved}
+use Rattle.rope_tree.proofs.LeafLaws.{lone_leaf, leaves-append, leaves_left, leaves_right, leaves_le}
 use Rattle.rope_tree.proofs.TreeLaws.{height_of_is, breaks_of_is}
 use Rattle.rope_tree.proofs.NodeLaws.{leaves_of-append, child_at, more_at, leaf_text, tree_of_inner}
 use Rattle.rope_tree.proofs.Descents.{Descends}
 use Rattle.rope_tree.proofs.GrownLaws.{set_parts, IsInner}
-use Rattle.rope_tree.proofs.InsertLaws.{front_of, rest_of}
+use Rattle.rope_tree.proofs.InsertLaws.{front_of, rest_of, seam_begins}
+use Rattle.rope_tree.proofs.RemovalEnds.{ends_around}
 use Rattle.rope_tree.proofs.InsertTrees.{around, around_child, text_around, seam_before, seam_after}
 
 pub byte_len-removed : (xs : List ℕ) (a b : ℕ) → a ≤ b → byte_len (removed xs a b) ≤ byte_len xs
@@ -72,22 +73,6 @@ module _ (p c n : List ℕ) (i j start end : ℕ) (first : start ≡ length p + 
   pub removed_middle : p ++ (removed c i j ++ n) ≡ removed (p ++ (c ++ n)) start end
   removed_middle = rw (front_is, back_is) (simp append_assoc)
 
-  -- no CR meets an LF at the ends of what is left of the middle
-  module _ (apart : IsSeam (take start (p ++ (c ++ n))) (drop end (p ++ (c ++ n)))) where
-    ends : IsSeam (take i c) (drop j c ++ n)
-    ends = seam_of_right p (take i c) (drop j c ++ n) (rw (front_is, back_is) at apart)
-
-    pub ends_of_middle : IsSeam (take i c) (drop j c)
-    ends_of_middle = seam_of_left (take i c) (drop j c) n ends
-
-    pub seam_after_removed : IsSeam c n → IsSeam (removed c i j) n
-    seam_after_removed seam = seam_left_longer (take i c) (drop j c) n ends (seam-drop j c n seam)
-
-    pub seam_before_removed : IsSeam p c → IsSeam p (removed c i j ++ n)
-    seam_before_removed seam =
-        let s = seam_right_longer p (take i c) (drop j c ++ n) (seam-take i p c seam) (rw (front_is, back_is) at apart) in
-        rw append_assoc s
-
 -- the child at k has the characters from start up to end, as its characters from i up to j
 pub record Holds (ts : List Tree) (k : ℕ) (c : Tree) (i j start end : ℕ) : Type 0 where
   pub first : start ≡ length (joined (take k ts)) + i
@@ -106,7 +91,7 @@ holds br ts k c front start end totals d way h order le =
 
 -- a child without some characters, in the old one's place
 module _ (br : LineBreaks) (h : ℕ) (ts : List Tree) (k : ℕ) (c : Tree) (a : AreChildren br h ts) (lt : k < length ts) (here : get_or ts k c ≡ c)
-    (i j start end : ℕ) (held : Holds ts k c i j start end) (apart : IsSeam (take start (joined ts)) (drop end (joined ts))) where
+    (i j start end : ℕ) (held : Holds ts k c i j start end) where
   before : i ≤ j
   before = omega (arith, held.order)
 
@@ -119,15 +104,12 @@ module _ (br : LineBreaks) (h : ℕ) (ts : List Tree) (k : ℕ) (c : Tree) (a : 
   parted : joined ts ≡ joined (take k ts) ++ (text c ++ joined (drop (k + 1) ts))
   parted = text_around br h ts k c a lt here
 
-  apart_parted : IsSeam (take start (joined (take k ts) ++ (text c ++ joined (drop (k + 1) ts)))) (drop end (joined (take k ts) ++ (text c ++ joined (drop (k + 1) ts))))
-  apart_parted = subst (λ x. IsSeam (take start x) (drop end x)) parted apart
-
-  pub child_apart : IsSeam (take i (text c)) (drop j (text c))
-  child_apart = ends_of_middle (joined (take k ts)) (text c) (joined (drop (k + 1) ts)) i j start end held.first held.last before held.within apart_parted
-
   module _ (u : Tree) (r : IsRemoved c u i j) where
     own : IsChild br h c
     own = child_at br h ts k c a lt here
+
+    some_text : 1 ≤ length (text u)
+    some_text = omega (arith, own.some, r.as_many, leaves_le u.leaves r.leaves.each)
 
     new_leaves : leaves_of (set ts k u) ≡ left ++ (u.leaves ++ right)
     new_leaves = ap leaves_of (set_parts ts k u lt) ∙ leaves_of-append (take k ts) (u ∷ drop (k + 1) ts)
@@ -143,17 +125,19 @@ module _ (br : LineBreaks) (h : ℕ) (ts : List Tree) (k : ℕ) (c : Tree) (a : 
         ap concat new_leaves ∙ concat-append left (u.leaves ++ right) ∙ ap (λ x. concat left ++ x) below
         ∙ removed_middle (joined (take k ts)) (text c) (joined (drop (k + 1) ts)) i j start end held.first held.last before held.within ∙ ap (λ x. removed x start end) (sym parted)
 
+    new_ends : KeepsEnds (joined ts) (joined (set ts k u))
+    new_ends =
+        let now : joined (set ts k u) ≡ concat left ++ (text u ++ concat right) = ap concat new_leaves ∙ concat-append left (u.leaves ++ right) ∙ ap (λ x. concat left ++ x) (concat-append u.leaves right) in
+        rw (parted, now) (ends_around (concat left) (text c) (text u) (concat right) some_text r.ends)
+
     are_leaves : AreLeaves (leaves_of (set ts k u))
     are_leaves =
         let old : AreLeaves (left ++ (c.leaves ++ right)) = subst AreLeaves old_leaves a.leaves in
         let front : AreLeaves left = leaves_left left (c.leaves ++ right) old in
         let back : AreLeaves right = leaves_right c.leaves right (leaves_right left (c.leaves ++ right) old) in
-        let seam_right : IsSeam (text u) (concat right) =
-        subst (λ x. IsSeam x (concat right)) (sym r.text_is)
-        (seam_after_removed (joined (take k ts)) (text c) (joined (drop (k + 1) ts)) i j start end held.first held.last before held.within apart_parted (seam_after br h ts k c a lt here)) in
+        let seam_right : IsSeam (text u) (concat right) = r.ends.behind (concat right) (seam_after br h ts k c a lt here) in
         let seam_left : IsSeam (concat left) (concat (u.leaves ++ right)) =
-        subst (IsSeam (concat left)) (sym below)
-        (seam_before_removed (joined (take k ts)) (text c) (joined (drop (k + 1) ts)) i j start end held.first held.last before held.within apart_parted (seam_before br h ts k c a lt here)) in
+        subst (IsSeam (concat left)) (sym (concat-append u.leaves right)) (seam_begins (concat left) (text u) (concat right) some_text (r.ends.before (concat left) (seam_before br h ts k c a lt here))) in
         subst AreLeaves (sym new_leaves) (leaves-append left (u.leaves ++ right) front (leaves-append u.leaves right r.leaves back seam_right) seam_left)
 
     new_children : AreChildren br h (set ts k u)
@@ -170,6 +154,7 @@ module _ (br : LineBreaks) (h : ℕ) (ts : List Tree) (k : ℕ) (c : Tree) (a : 
     pub children_removed : br ≡ breaks_of ts → h ≡ height_of ts → AreRemoved ts (set ts k u) start end
     children_removed br_is h_is = record {
       text_is = new_text;
+      ends = new_ends;
       as_many = length-set ts k u;
       as_many_leaves = omega (arith, ap length new_leaves, ap length old_leaves, length-append left (u.leaves ++ right), length-append left (c.leaves ++ right), length-append u.leaves right, length-append c.leaves right, r.as_many);
       children = rw (sym br_is, sym h_is) new_children;
@@ -177,11 +162,11 @@ module _ (br : LineBreaks) (h : ℕ) (ts : List Tree) (k : ℕ) (c : Tree) (a : 
 
 -- the slices around a child, with the new one between them
 pub spliced_removed : (rcs : List (Rc Node Global)) (k : ℕ) (c u : Tree) (vs : List Tree) → AreChildren (breaks_of (trees rcs)) (height_of (trees rcs)) (trees rcs) → k < length (trees rcs) → get_or (trees rcs) k c ≡ c
-    → (i j start end : ℕ) → Holds (trees rcs) k c i j start end → IsSeam (take start (joined (trees rcs))) (drop end (joined (trees rcs))) → IsRemoved c u i j
+    → (i j start end : ℕ) → Holds (trees rcs) k c i j start end → IsRemoved c u i j
     → vs ≡ trees (take k rcs) ++ (u ∷ [] ++ trees (take (length rcs - (k + 1)) (drop (k + 1) rcs))) → AreRemoved (trees rcs) vs start end
-spliced_removed rcs k c u vs a lt here i j start end held apart r is =
+spliced_removed rcs k c u vs a lt here i j start end held r is =
     let ts = trees rcs in
-    rw (around rcs k (u ∷ []) vs is ∙ sym (set_parts ts k u lt)) (children_removed (breaks_of ts) (height_of ts) ts k c a lt here i j start end held apart u r refl refl)
+    rw (around rcs k (u ∷ []) vs is ∙ sym (set_parts ts k u lt)) (children_removed (breaks_of ts) (height_of ts) ts k c a lt here i j start end held u r refl refl)
 
 -- a node over the children that are left is the old one without the characters
 pub over_removed : (t x : Tree) (ts us : List Tree) (start end : ℕ) → t ≡ tree_over ts → x ≡ tree_over us → AreRemoved ts us start end → IsRemoved t x start end
@@ -191,6 +176,7 @@ over_removed t x ts us start end is x_is r =
     let heights : height_of us ≡ height_of ts = height_of_is (breaks_of ts) (height_of ts) us some r.children.each in
     rw (is, x_is) (record {
       text_is = r.text_is;
+      ends = r.ends;
       same_breaks = sets;
       same_height = ap (λ n. n + 1) heights;
       same_width = r.as_many;
@@ -214,26 +200,33 @@ one_leaf_some : (leaf : List ℕ) → 1 ≤ length leaf → one_leaf leaf ≡ le
 one_leaf_some [] some = absurd (omega arith)
 one_leaf_some (c ∷ cs) some = refl
 
-length-removed : (xs : List ℕ) (a b : ℕ) → a ≤ b → b ≤ length xs → length (removed xs a b) + (b - a) ≡ length xs
-length-removed xs a b order within = omega (arith, length-append (take a xs) (drop b xs), length-take-le a xs (omega arith), length-drop b xs)
-
 -- a leaf that keeps some of its characters
-pub leaf_left : (a : Inside) (t : Tree) (l new : List ℕ) (start end : ℕ) → IsNode a → a.body ≡ Leaf l → tree_of a ≡ t → new ≡ removed l start end → start < end → end ≤ length (text t) → (end - start ≡ a.info.chars → ⊥)
-    → byte_len new ≤ 984 → all_scalars new ≡ true → (info : TextInfo) → IsRemoved t (tree_of (record { height = a.height; breaks = a.breaks; info = info; body = Leaf new })) start end
-leaf_left a t l new start end i e view is order within others fits scalars info =
-    let same : tree_of a ≡ tree_of (record { height = a.height; breaks = a.breaks; info = a.info; body = Leaf l }) = ap (λ b. tree_of (record { height = a.height; breaks = a.breaks; info = a.info; body = b })) e in
-    let t_is : t ≡ tree_of (record { height = a.height; breaks = a.breaks; info = a.info; body = Leaf l }) = sym view ∙ same in
-    let text_is : text t ≡ l = ap text t_is ∙ leaf_text l in
-    let count : a.info.chars ≡ length l = ap (λ x. x.chars) i.counted ∙ ap (λ b. length (concat (body_leaves b))) e ∙ ap length (leaf_text l) in
-    let size = length-removed l start end (omega arith) (omega (arith, ap length text_is)) in
-    let some : 1 ≤ length new = omega (arith, ap length is, size, count, others, ap length text_is) in
-    let old : one_leaf l ≡ l ∷ [] = one_leaf_some l (omega (arith, ap length is, size)) in
-    let now : one_leaf new ≡ new ∷ [] = one_leaf_some new some in
-    rw t_is (record {
-      text_is = leaf_text new ∙ is ∙ ap (λ x. removed x start end) (sym (leaf_text l));
+pub leaf_removed : (br : LineBreaks) (l new : List ℕ) (t x : Tree) (start end : ℕ) → t ≡ leaf_tree br l → x ≡ leaf_tree br new → new ≡ removed l start end → start < end → end ≤ length l → 1 ≤ length (removed l start end) → KeepsEnds l (removed l start end) → AreLeaves x.leaves
+    → IsRemoved t x start end
+leaf_removed br l new t x start end t_is x_is is order within some ends leaves =
+    let old : one_leaf l ≡ l ∷ [] = one_leaf_some l (omega arith) in
+    let now : one_leaf new ≡ new ∷ [] = one_leaf_some new (omega (arith, ap length is, some)) in
+    let own : AreLeaves (one_leaf new) = subst AreLeaves (ap (λ u. u.leaves) x_is) leaves in
+    rw (t_is, x_is) (record {
+      text_is = leaf_text new ∙ is ∙ ap (λ y. removed y start end) (sym (leaf_text l));
+      ends = rw (leaf_text l, leaf_text new, is) ends;
       same_breaks = refl;
       same_height = refl;
       same_width = refl;
       as_many = rw (old, now) refl;
-      leaves = rw now (lone_leaf new (record { some = some; fits = fits; scalars = scalars }));
+      leaves = own;
     })
+
+-- where it stands
+pub leaf_left : (a : Inside) (t : Tree) (l new : List ℕ) (start end : ℕ) → IsNode a → a.body ≡ Leaf l → tree_of a ≡ t → new ≡ removed l start end → start < end → end ≤ length (text t) → 1 ≤ length (removed l start end) → KeepsEnds l (removed l start end)
+    → byte_len new ≤ 984 → all_scalars new ≡ true → (info : TextInfo) → IsRemoved t (tree_of (record { height = a.height; breaks = a.breaks; info = info; body = Leaf new })) start end
+leaf_left a t l new start end i e view is order within some ends fits scalars info =
+    let body : IsBody a.breaks a.height (Leaf l) = subst (IsBody a.breaks a.height) e i.body in
+    let low : a.height ≡ 0 = body.0 in
+    let same : tree_of a ≡ tree_of (record { height = a.height; breaks = a.breaks; info = a.info; body = Leaf l }) = ap (λ b. tree_of (record { height = a.height; breaks = a.breaks; info = a.info; body = b })) e in
+    let old : tree_of (record { height = a.height; breaks = a.breaks; info = a.info; body = Leaf l }) ≡ leaf_tree a.breaks l = rw low refl in
+    let t_is : t ≡ leaf_tree a.breaks l = sym view ∙ same ∙ old in
+    let now : one_leaf new ≡ new ∷ [] = one_leaf_some new (omega (arith, ap length is, some)) in
+    let x_is : tree_of (record { height = a.height; breaks = a.breaks; info = info; body = Leaf new }) ≡ leaf_tree a.breaks new = rw low refl in
+    leaf_removed a.breaks l new t (tree_of (record { height = a.height; breaks = a.breaks; info = info; body = Leaf new })) start end t_is x_is is order (omega (arith, within, ap length (ap text t_is ∙ leaf_text l))) some ends
+    (rw now (lone_leaf new (record { some = omega (arith, ap length is, some); fits = fits; scalars = scalars })))

@@ -1,11 +1,11 @@
 //! Counts of a text after an edit, by sums and differences.
-ghost use Rattle.std.specs.Prelude.{◌≡◌, ◌+◌, ◌<◌, ◌≤◌, ◌^◌, ◌++◌, length, take, drop};
+ghost use Rattle.std.specs.Prelude.{◌≡◌, ◌+◌, ◌<◌, ◌≤◌, ◌++◌, ℕ, List, false, length, IfSome, IfNone};
 ghost use Rattle.std.specs.Str.{chars, IsCharBoundary};
 ghost use Rattle.rope_text.specs.Text.{byte_len};
 ghost use Rattle.rope_text.specs.TextInfo.{info_of, shared_breaks};
 ghost use Rattle.rope_text.specs.Edit.{inserted, removed};
 ghost use Rattle.rope_text.specs.Breaks.{begins_with_lf, ends_in_cr};
-ghost use Rattle.rope_tree.specs.Leaves.{IsSeam};
+ghost use Rattle.rope_tree.specs.Removal.{KeepsEnds};
 
 use crate::node_text::NodeText;
 use crate::short_text::ShortText;
@@ -97,46 +97,65 @@ pub fn put_in(
 }
 
 /// The counts of a text without the part between its front and its back, by the counts of the whole: only the part is gone
-/// over, and the ends. No CR of the front may meet an LF of the back.
+/// over, and the ends.
 fn info_without(info: TextInfo, front: &str, part: &str, back: &str, set: LineBreaks) -> TextInfo
     requires info { info ≡ info_of set (chars front.now ++ (chars part.now ++ chars back.now)) }
     requires fits { info.bytes ≤ 984 }
     requires some { 1 ≤ length (chars part.now) }
-    requires apart { IsSeam (chars front.now) (chars back.now) }
     ensures { result ≡ info_of set (chars front.now ++ chars back.now) }
 {
     let less = TextInfo::from_str(part, set);
     let met = shared_breaks(front, part, set) + shared_breaks(part, back, set);
+    let meeting = shared_breaks(front, back, set);
     TextInfo {
         bytes: info.bytes - less.bytes,
         chars: info.chars - less.chars,
         utf16_surrogates: info.utf16_surrogates - less.utf16_surrogates,
-        line_breaks: info.line_breaks + met - less.line_breaks,
+        line_breaks: info.line_breaks + met - less.line_breaks - meeting,
     }
 }
 
-/// Takes the characters from `start` up to `end` out of a leaf, and tells the counts of what stays, by those of what was.
-/// No CR before them may meet an LF behind them.
+/// Whether the front and the back of a text, with nothing between them, are empty, begin with an LF that wasn't first, or end
+/// in a CR that wasn't last.
+fn bares_an_end(front: &str, back: &str) -> bool
+    ensures some { result ≡ false → 1 ≤ length (chars front.now ++ chars back.now) }
+    ensures ends { result ≡ false → (part : List ℕ) → KeepsEnds (chars front.now ++ (part ++ chars back.now)) (chars front.now ++ chars back.now) }
+{
+    if front.is_empty() {
+        back.is_empty() || begins_with_lf(back)
+    } else {
+        back.is_empty() && ends_in_cr(front)
+    }
+}
+
+/// Takes the characters from `start` up to `end` out of a leaf, and tells the counts of what stays, by those of what was. None,
+/// and the leaf as it was, where nothing would stay, or where what stays could not stand between the same neighbours with no
+/// CR before an LF.
 pub fn take_out(
     leaf: &mut NodeText,
     start: usize,
     end: usize,
     info: TextInfo,
     set: LineBreaks,
-) -> TextInfo
+) -> Option<TextInfo>
     requires info { info ≡ info_of set leaf.old }
     requires ordered { start < end }
     requires within { end ≤ length leaf.old }
-    requires apart { IsSeam (take start leaf.old) (drop end leaf.old) }
-    ensures text { leaf.new ≡ removed leaf.old start end }
-    ensures info { result ≡ info_of set (removed leaf.old start end) }
+    ensures text { IfSome result (λ _. leaf.new ≡ removed leaf.old start end) }
+    ensures info { IfSome result (λ left. left ≡ info_of set (removed leaf.old start end)) }
+    ensures some { IfSome result (λ _. 1 ≤ length (removed leaf.old start end)) }
+    ensures ends { IfSome result (λ _. KeepsEnds leaf.old (removed leaf.old start end)) }
+    ensures kept { IfNone result (leaf.new ≡ leaf.old) }
 {
     let range = leaf.byte_range(start, end);
     let text = leaf.as_str();
     let front = &text[..range.from];
     let part = &text[range.from..range.to];
     let back = &text[range.to..];
+    if bares_an_end(front, back) {
+        return None;
+    }
     let info = info_without(info, front, part, back, set);
     leaf.remove_bytes(range);
-    info
+    Some(info)
 }

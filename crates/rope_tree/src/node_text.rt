@@ -54,7 +54,7 @@ pub struct NodeText {
 impl Model for NodeText {
     ghost use Rattle.std.specs.Prelude.{◌≡◌, ℕ, List, true, ◌≤◌, length};
     ghost use Rattle.std.specs.List.{insert_slice};
-ghost use Rattle.std.specs.Str.{chars, is_utf8};
+    ghost use Rattle.std.specs.Str.{chars, is_utf8};
 
     ghost Value = { List ℕ };
 
@@ -153,6 +153,9 @@ impl NodeText {
         requires { start ≤ end }
         ensures from { result.from ≡ byte_len (take start self.now) }
         ensures to { result.to ≡ byte_len (take end self.now) }
+        ensures ordered { result.from ≤ result.to }
+        ensures from_boundary { IsCharBoundary (encode_utf8_all self.now) result.from }
+        ensures to_boundary { IsCharBoundary (encode_utf8_all self.now) result.to }
     {
         let text = self.as_str();
         let from = char_to_byte_idx(text, start);

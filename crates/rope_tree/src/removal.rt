@@ -1,8 +1,7 @@
-//! Removals of characters that lie in one leaf, which keeps others.
-ghost use Rattle.std.specs.Prelude.{◌≡◌, ◌+◌, ◌<◌, ◌≤◌, true, false, length, take, drop, IfOk, OnErr, IfSome};
-ghost use Rattle.rope_text.specs.Cutting.{parts_crlf};
+//! Removals of characters that lie in one leaf, which may do without them: it has others, no LF comes first in it that wasn't,
+//! and no CR last. So no CR LF can lie across two leaves, whatever stands beside it.
+ghost use Rattle.std.specs.Prelude.{◌≡◌, ◌+◌, ◌<◌, ◌≤◌, true, false, length, IfOk, OnErr, IfSome};
 ghost use Rattle.rope_text.specs.Edit.{removed};
-ghost use Rattle.rope_tree.specs.Leaves.{IsSeam};
 ghost use Rattle.rope_tree.specs.Tree.{text, leaf_tree, IsTree};
 ghost use Rattle.rope_tree.specs.Removal.{IsRemoved};
 
@@ -16,7 +15,7 @@ use rope_text::Steps;
 use std::alloc::{AllocError, Global};
 use std::rc::Rc;
 
-/// The leaf without the characters from `start` up to `end`; none where it has no others.
+/// The leaf without the characters from `start` up to `end`; none where it can't do without them.
 fn leaf_without(
     alloc: Global,
     node: &Node,
@@ -28,22 +27,19 @@ fn leaf_without(
     requires leaf { node.now ≡ leaf_tree node.now.breaks leaf.now }
     requires ordered { start < end }
     requires within { end ≤ length leaf.now }
-    requires apart { IsSeam (take start leaf.now) (drop end leaf.now) }
     ensures ok { IfOk result (λ found. IfSome found (λ new. IsRemoved node.now new.value start end)) }
     ensures made { made.new ≤ made.old + 1 }
 {
-    let info = node.info();
-    if end - start == info.chars {
-        return Ok(None);
-    }
     let breaks = node.line_breaks();
     let mut rest = NodeText::from_str(leaf.as_str());
-    let info = take_out(&mut rest, start, end, info, breaks);
+    let Some(info) = take_out(&mut rest, start, end, node.info(), breaks) else {
+        return Ok(None);
+    };
     Ok(Some(make_leaf(alloc, breaks, rest, info, made)?))
 }
 
 /// The tree without the characters from `start` up to `end`, by copies of the nodes on the way down; none where they don't
-/// lie in one leaf that keeps others. The old tree stays as it is; what both have in common is shared.
+/// lie in one leaf that may do without them. The old tree stays as it is; what both have in common is shared.
 pub fn without(
     alloc: Global,
     node: &Node,
@@ -53,7 +49,6 @@ pub fn without(
 ) -> Result<Option<Rc<Node>>, AllocError>
     requires ordered { start < end }
     requires within { end ≤ length (text node.now) }
-    requires apart { IsSeam (take start (text node.now)) (drop end (text node.now)) }
     ensures ok { IfOk result (λ found. IfSome found (λ new. IsRemoved node.now new.value start end)) }
     ensures made { made.new ≤ made.old + node.now.height + 1 }
 {
@@ -77,12 +72,11 @@ pub fn without(
     }
 }
 
-/// Takes the characters from `start` up to `end` out where the nodes stand, if they lie in one leaf that keeps others and no
-/// node on the way is shared; whether it did. It takes no memory.
+/// Takes the characters from `start` up to `end` out where the nodes stand, if they lie in one leaf that may do without them
+/// and no node on the way is shared; whether it did. It takes no memory.
 fn remove_in_place(root: &mut Rc<Node>, start: usize, end: usize) -> bool
     requires ordered { start < end }
     requires within { end ≤ length (text root.old.value) }
-    requires apart { IsSeam (take start (text root.old.value)) (drop end (text root.old.value)) }
     ensures done { result ≡ true → IsRemoved root.old.value root.new.value start end }
     ensures kept { result ≡ false → root.new ≡ root.old }
 {
@@ -92,9 +86,9 @@ fn remove_in_place(root: &mut Rc<Node>, start: usize, end: usize) -> bool
     }
 }
 
-/// Takes the characters from `start` up to `end` out where they lie in one leaf that keeps others; whether it did. Where no
-/// node on the way is shared, that takes no memory; else a tree with copies of those nodes takes the old one's place last of
-/// all. No CR before them may meet an LF behind them.
+/// Takes the characters from `start` up to `end` out where they lie in one leaf that may do without them; whether it did. Where
+/// no node on the way is shared, that takes no memory; else a tree with copies of those nodes takes the old one's place last of
+/// all.
 pub fn remove_at(
     alloc: Global,
     root: &mut Rc<Node>,
@@ -104,7 +98,6 @@ pub fn remove_at(
 ) -> Result<bool, AllocError>
     requires ordered { start < end }
     requires within { end ≤ length (text root.old.value) }
-    requires apart { parts_crlf (take start (text root.old.value)) (drop end (text root.old.value)) ≡ false }
     ensures done { IfOk result (λ did. did ≡ true → text root.new.value ≡ removed (text root.old.value) start end) }
     ensures not_done { IfOk result (λ did. did ≡ false → root.new ≡ root.old) }
     ensures breaks { root.new.value.breaks ≡ root.old.value.breaks }
@@ -122,3 +115,6 @@ pub fn remove_at(
     *root = new;
     Ok(true)
 }
+
+#[cfg(test)]
+mod tests;

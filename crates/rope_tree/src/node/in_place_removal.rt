@@ -1,6 +1,5 @@
 //! Removals of characters from one leaf where the nodes stand: they take no memory.
-ghost use Rattle.std.specs.Prelude.{◌≡◌, ◌<◌, ◌≤◌, true, false, length, take, drop};
-ghost use Rattle.rope_tree.specs.Leaves.{IsSeam};
+ghost use Rattle.std.specs.Prelude.{◌≡◌, ◌<◌, ◌≤◌, true, false, length};
 ghost use Rattle.rope_tree.specs.Tree.{text, joined, breaks_of, height_of, AreChildren};
 ghost use Rattle.rope_tree.specs.Removal.{IsRemoved, AreRemoved};
 
@@ -12,14 +11,13 @@ use rope_text::Steps;
 use std::rc::Rc;
 
 impl Children {
-    /// Takes the characters from `start` up to `end` out, where they lie in one leaf that keeps others and no node on the way
-    /// is shared; whether it did.
+    /// Takes the characters from `start` up to `end` out, where they lie in one leaf that may do without them and no node on
+    /// the way is shared; whether it did.
     #[cycle(in_place_removal)]
     fn remove_in_place(&mut self, start: usize, end: usize) -> bool
         requires children { AreChildren (breaks_of self.old) (height_of self.old) self.old }
         requires ordered { start < end }
         requires within { end ≤ length (joined self.old) }
-        requires apart { IsSeam (take start (joined self.old)) (drop end (joined self.old)) }
         ensures done { result ≡ true → AreRemoved self.old self.new start end }
         ensures kept { result ≡ false → self.new ≡ self.old }
     {
@@ -42,22 +40,21 @@ impl Children {
 }
 
 impl Node {
-    /// Takes the characters from `start` up to `end` out, where they lie in one leaf that keeps others and no node on the way
-    /// is shared; whether it did. It takes no memory.
+    /// Takes the characters from `start` up to `end` out, where they lie in one leaf that may do without them and no node on
+    /// the way is shared; whether it did. It takes no memory.
     #[cycle(in_place_removal)]
     pub fn remove_in_place(&mut self, start: usize, end: usize) -> bool
         requires ordered { start < end }
         requires within { end ≤ length (text self.old) }
-        requires apart { IsSeam (take start (text self.old)) (drop end (text self.old)) }
         ensures done { result ≡ true → IsRemoved self.old self.new start end }
         ensures kept { result ≡ false → self.new ≡ self.old }
     {
         match &mut self.body {
             Body::Leaf(leaf) => {
-                if end - start == self.info.chars {
+                let Some(info) = take_out(leaf, start, end, self.info, self.breaks) else {
                     return false;
-                }
-                self.info = take_out(leaf, start, end, self.info, self.breaks);
+                };
+                self.info = info;
                 let _ = leaf.as_str();
                 true
             }

@@ -1,14 +1,14 @@
-use Rattle.std.proofs.Common.{◌≡◌, ℕ, ◌+◌, ◌-◌, ◌<◌, ◌≤◌, ◌++◌, true, List, length, take, drop, refl, sym, ap, ap₂, subst, ◌∙◌, arith}
+use Rattle.std.proofs.Common.{◌≡◌, ℕ, ◌+◌, ◌-◌, ◌<◌, ◌≤◌, ◌++◌, List, length, take, drop, refl, sym, ap, ap₂, subst, ◌∙◌, arith}
 use Rattle.std.specs.List.{remove_range}
-use Rattle.std.specs.Str.{chars, IsUtf8, IsCharBoundary, encode_utf8_all, all_scalars}
+use Rattle.std.specs.Str.{chars, IsUtf8, IsCharBoundary}
 use Rattle.std.proofs.lemmas.List.{take-append-drop, drop-drop, length-append, length-drop}
-use Rattle.std.proofs.lemmas.Str.{chars-append, IsUtf8-take, IsUtf8-drop}
+use Rattle.std.proofs.lemmas.Str.{chars-append, IsUtf8-take}
 use Rattle.rope_text.specs.Text.{byte_len}
-use Rattle.rope_text.specs.Edit.{removed}
 use Rattle.rope_text.specs.TextInfo.{info_of}
+use Rattle.rope_text.specs.Edit.{removed}
+use Rattle.rope_tree.specs.Removal.{KeepsEnds}
 use Rattle.rope_text.proofs.Measures.{size_le, IsMeasure-byte_len}
-use Rattle.rope_text.proofs.TextParts.{chars_front, chars_back, byte_len_boundary}
-use Rattle.rope_tree.specs.Leaves.{IsSeam}
+use Rattle.rope_text.proofs.TextParts.{chars_front, chars_back}
 use Rattle.rope_tree.proofs.counts.take_out.Goals.{After-as_str-text, After-range_from-back}
 use Rattle.rope_tree.proofs.counts.take_out.Goals as goal
 
@@ -47,14 +47,10 @@ to_place : (c : After-as_str-text) → c.byte_range-range.result.to ≡ byte_len
 to_place c = c.byte_range-range.ensures.to ∙ ap (λ l. byte_len (take c.args.end l)) (sym c.as_str-text.ensures.chars)
 
 from_boundary : (c : After-as_str-text) → IsCharBoundary c.as_str-text.result.now c.byte_range-range.result.from
-from_boundary c = subst (IsCharBoundary c.as_str-text.result.now) (sym (from_place c)) (byte_len_boundary c.as_str-text.result.now c.args.start c.as_str-text.utf8)
+from_boundary c = subst (λ bs. IsCharBoundary bs c.byte_range-range.result.from) (sym c.as_str-text.ensures.bytes) c.byte_range-range.ensures.from_boundary
 
 to_boundary : (c : After-as_str-text) → IsCharBoundary c.as_str-text.result.now c.byte_range-range.result.to
-to_boundary c = subst (IsCharBoundary c.as_str-text.result.now) (sym (to_place c)) (byte_len_boundary c.as_str-text.result.now c.args.end c.as_str-text.utf8)
-
-ordered : (c : After-as_str-text) → c.byte_range-range.result.from ≤ c.byte_range-range.result.to
-ordered c =
-    omega (arith, from_place c, to_place c, size_le byte_len IsMeasure-byte_len (chars c.as_str-text.result.now) c.args.start c.args.end (omega (arith, c.requires.ordered)))
+to_boundary c = subst (λ bs. IsCharBoundary bs c.byte_range-range.result.to) (sym c.as_str-text.ensures.bytes) c.byte_range-range.ensures.to_boundary
 
 parts : (c : After-range_from-back) → IsParted c.args.leaf.now c.range-front.result.now c.range-part.result.now c.range_from-back.result.now c.args.start c.args.end
 parts c =
@@ -64,9 +60,6 @@ parts c =
 
 pub range-front-requires-clause-end_boundary : goal.range-front-requires-clause-end_boundary
 range-front-requires-clause-end_boundary c = from_boundary (goal.at.range-front-requires-clause-end_boundary c).After-as_str-text
-
-pub range-part-requires-clause-start_le_end : goal.range-part-requires-clause-start_le_end
-range-part-requires-clause-start_le_end c = ordered (goal.at.range-part-requires-clause-start_le_end c).After-as_str-text
 
 pub range-part-requires-clause-start_boundary : goal.range-part-requires-clause-start_boundary
 range-part-requires-clause-start_boundary c = λ _. from_boundary (goal.at.range-part-requires-clause-start_boundary c).After-as_str-text
@@ -84,19 +77,6 @@ info_without-info-requires-clause-info c =
 pub info_without-info-requires-clause-some : goal.info_without-info-requires-clause-some
 info_without-info-requires-clause-some c = (parts (goal.at.info_without-info-requires-clause-some c).After-range_from-back).some
 
-pub info_without-info-requires-clause-apart : goal.info_without-info-requires-clause-apart
-info_without-info-requires-clause-apart c =
-    let p = parts (goal.at.info_without-info-requires-clause-apart c).After-range_from-back in
-    rw (p.front_is, p.back_is) c.requires.apart
-
-pub remove_bytes-requires-clause-from : goal.remove_bytes-requires-clause-from
-remove_bytes-requires-clause-from c =
-    subst (λ bs. IsCharBoundary bs c.byte_range-range.result.from) c.as_str-text.ensures.bytes (from_boundary (goal.at.remove_bytes-requires-clause-from c).After-as_str-text)
-
-pub remove_bytes-requires-clause-to : goal.remove_bytes-requires-clause-to
-remove_bytes-requires-clause-to c =
-    subst (λ bs. IsCharBoundary bs c.byte_range-range.result.to) c.as_str-text.ensures.bytes (to_boundary (goal.at.remove_bytes-requires-clause-to c).After-as_str-text)
-
 pub returns-clause-text : goal.returns-clause-text
 returns-clause-text c =
     let e = (goal.at.returns-clause-text c).After-as_str-text in
@@ -112,3 +92,15 @@ pub returns-clause-info : goal.returns-clause-info
 returns-clause-info c =
     let p = parts (goal.at.returns-clause-info c).After-range_from-back in
     c.info_without-info.ensures ∙ ap (info_of c.args.set) (ap₂ (λ x y. x ++ y) p.front_is p.back_is)
+
+pub returns-clause-some : goal.returns-clause-some
+returns-clause-some c =
+    let p = parts (goal.at.returns-clause-some c).After-range_from-back in
+    rw (p.front_is, p.back_is) at (c.bares_an_end.ensures.some c.if-bares_an_end.false)
+
+pub returns-clause-ends : goal.returns-clause-ends
+returns-clause-ends c =
+    let p = parts (goal.at.returns-clause-ends c).After-range_from-back in
+    let ends = c.bares_an_end.ensures.ends c.if-bares_an_end.false (chars c.range-part.result.now) in
+    subst (λ x. KeepsEnds x (removed c.args.leaf.now c.args.start c.args.end)) p.whole
+    (subst (KeepsEnds (chars c.range-front.result.now ++ (chars c.range-part.result.now ++ chars c.range_from-back.result.now))) (ap₂ (λ x y. x ++ y) p.front_is p.back_is) ends)

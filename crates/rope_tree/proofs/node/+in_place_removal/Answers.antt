@@ -1,12 +1,9 @@
-use Rattle.std.proofs.Common.{◌≡◌, ℕ, ◌+◌, ◌-◌, ◌<◌, ◌≤◌, [], ◌∷◌, length, ◌++◌, set, take, drop, sym, ap, subst, refl, ◌∙◌, arith}
+use Rattle.std.proofs.Common.{◌≡◌, ℕ, ◌-◌, ◌<◌, ◌≤◌, length, set, sym, ap, subst, refl, ◌∙◌, arith}
 use Rattle.std.specs.Rc.{rc_with_value}
-use Rattle.rope_text.specs.Text.{byte_len}
-use Rattle.rope_text.specs.Edit.{removed}
 use Rattle.rope_text.specs.TextInfo.{info_of}
 use Rattle.rope_tree.specs.declared.search.Unit.TheVariants.{Char}
 use Rattle.rope_tree.specs.Falls.{tallest_below}
-use Rattle.rope_tree.specs.Leaves.{IsSeam}
-use Rattle.rope_tree.specs.Tree.{Tree, text, joined, height_of, breaks_of, tree_over, AreChildren}
+use Rattle.rope_tree.specs.Tree.{Tree, text, joined, height_of, breaks_of, AreChildren}
 use Rattle.rope_tree.specs.Listed.{trees, HasTotals}
 use Rattle.rope_tree.specs.Removal.{IsRemoved, AreRemoved}
 use Rattle.rope_tree.proofs.NodeLaws.{small_totals}
@@ -16,7 +13,7 @@ use Rattle.rope_tree.proofs.Descents.{Descends, descends}
 use Rattle.rope_tree.proofs.InsertDescents.{last_total}
 use Rattle.rope_tree.proofs.TotalLaws.{has_part, totals_after}
 use Rattle.rope_tree.proofs.GrownLaws.{same_set, trees_set, totals_seen, tallest_above, refill_all, inner_of}
-use Rattle.rope_tree.proofs.RemovalLaws.{Holds, holds, child_apart, children_removed, child_removed, over_left, leaf_left}
+use Rattle.rope_tree.proofs.RemovalLaws.{Holds, holds, children_removed, child_removed, over_left, leaf_left}
 use Rattle.rope_tree.proofs.node.+in_place_removal.Goals as goal
 use Rattle.rope_tree.proofs.node.+in_place_removal.Goals.{Children::remove_in_place-In-Some}
 
@@ -69,7 +66,7 @@ Children::remove_in_place-remove_in_place-requires t c =
     let k = c.place_of-place.result in
     let child = c.in-Some.node.now in
     let low = rw d.child_is at (tallest_above ts k child d.within) in
-    (omega (arith, c.decreases, low), (g.order, (g.within, child_apart (breaks_of ts) (height_of ts) ts k child d.children d.within d.child_is _ _ c.args.start c.args.end g c.requires.apart)))
+    (omega (arith, c.decreases, low), (g.order, g.within))
 
 -- the children where nothing was taken out
 kept : (t : ℕ) (c : goal.Children::remove_in_place-After-self-then-not-remove_in_place-1 t) → trees (set c.self.inside.nodes.items c.place_of-place.result (rc_with_value c.index_mut.result.now c.remove_in_place.new.self)) ≡ c.args.self.now
@@ -93,7 +90,7 @@ left : (t : ℕ) (c : Children::remove_in_place-In-Some t) (u : Tree) → IsRemo
 left t c u done =
     let ts = c.args.self.now in
     let d = down t c in
-    children_removed (breaks_of ts) (height_of ts) ts c.place_of-place.result c.in-Some.node.now d.children d.within d.child_is _ _ c.args.start c.args.end (held t c).1 c.requires.apart u done refl refl
+    children_removed (breaks_of ts) (height_of ts) ts c.place_of-place.result c.in-Some.node.now d.children d.within d.child_is _ _ c.args.start c.args.end (held t c).1 u done refl refl
 
 pub Children::remove_in_place-retotal-requires-clause-small :
     goal.Children::remove_in_place-retotal-requires-clause-small
@@ -160,7 +157,7 @@ Node::remove_in_place-remove_in_place-requires t c =
     let f = inner_of c.self.inside c.args.self.now c.in-Inner.children c.self.invariant c.in-Inner.is c.self.view_is in
     let whole : text c.args.self.now ≡ joined c.in-Inner.children = ap text f.is in (
       omega (arith, c.decreases, ap (λ u. u.height) f.is, tallest_below (breaks_of c.in-Inner.children) (height_of c.in-Inner.children) c.in-Inner.children f.children.each),
-      (f.children, (c.requires.ordered, (rw (sym whole) c.requires.within, subst (λ x. IsSeam (take c.args.start x) (drop c.args.end x)) whole c.requires.apart))),
+      (f.children, (c.requires.ordered, rw (sym whole) c.requires.within)),
     )
 
 pub Node::remove_in_place-invariant_of-self-in-Inner :
@@ -175,8 +172,8 @@ Node::remove_in_place-returns-else-not-remove_in_place-clause-done t c = λ yes.
     let f = inner_of c.self.inside c.args.self.now c.in-Inner.children c.self.invariant c.in-Inner.is c.self.view_is in
     (over_left c.self.inside c.args.self.now c.in-Inner.children c.remove_in_place.new.self c.args.start c.args.end f (c.remove_in_place.ensures.done c.if-not-remove_in_place.false) c.total-self-inside.result c.total-self-inside.ensures).1
 
-pub Node::remove_in_place-returns-else-end-start-clause-done :
-    goal.Node::remove_in_place-returns-else-end-start-clause-done
-Node::remove_in_place-returns-else-end-start-clause-done t c = λ yes.
-    leaf_left c.self.inside c.args.self.now c.in-Leaf.leaf c.take_out-self-inside.new.leaf c.args.start c.args.end c.self.invariant c.in-Leaf.is c.self.view_is c.take_out-self-inside.ensures.text
-    c.requires.ordered c.requires.within c.if-end-start.false c.as_str.ensures.fits c.as_str.ensures.scalars c.take_out-self-inside.result
+pub Node::remove_in_place-returns-in-Some-clause-done :
+    goal.Node::remove_in_place-returns-in-Some-clause-done
+Node::remove_in_place-returns-in-Some-clause-done t c = λ yes.
+    leaf_left c.self.inside c.args.self.now c.in-Leaf.leaf c.take_out.new.leaf c.args.start c.args.end c.self.invariant c.in-Leaf.is c.self.view_is c.in-Some.ensures.text
+    c.requires.ordered c.requires.within c.in-Some.ensures.some c.in-Some.ensures.ends c.as_str.ensures.fits c.as_str.ensures.scalars c.in-Some.info

@@ -1,10 +1,9 @@
-use Rattle.std.proofs.Common.{◌≡◌, ℕ, ◌+◌, ◌-◌, ◌<◌, ◌≤◌, length, take, drop, ap, subst, ◌∙◌, arith}
-use Rattle.rope_tree.specs.Leaves.{IsSeam}
+use Rattle.std.proofs.Common.{◌≡◌, ℕ, ◌+◌, ◌-◌, ◌≤◌, length, ap, arith}
 use Rattle.rope_tree.specs.declared.search.Unit.TheVariants.{Char}
-use Rattle.rope_tree.specs.Tree.{text, joined, height_of, breaks_of}
+use Rattle.rope_tree.specs.Tree.{text, height_of, breaks_of}
 use Rattle.rope_tree.specs.Listed.{trees}
 use Rattle.rope_tree.proofs.NodeLaws.{small_totals, children_of_first}
-use Rattle.rope_tree.proofs.RemovalLaws.{Holds, holds, child_apart, spliced_removed, over_removed}
+use Rattle.rope_tree.proofs.RemovalLaws.{Holds, holds, spliced_removed, over_removed}
 use Rattle.rope_tree.proofs.Descents.{Descends, descends}
 use Rattle.rope_tree.proofs.InsertDescents.{last_total}
 use Rattle.rope_tree.proofs.removal.+without.Goals.{After-deref}
@@ -31,9 +30,6 @@ held t c =
     let ts = trees c.in-Inner.children.now in
     holds (breaks_of ts) ts c.place_of-place.result c.deref.result.now c.total_before-before.result c.args.start c.args.end c.in-Inner.totals.now _ (down t c) c.in-Inner.ensures.totals_right c.requires.ordered c.if-totals-place.false
 
-apart : (t : ℕ) (c : After-deref t) → IsSeam (take c.args.start (joined (trees c.in-Inner.children.now))) (drop c.args.end (joined (trees c.in-Inner.children.now)))
-apart t c = subst (λ u. IsSeam (take c.args.start (text u)) (drop c.args.end (text u))) c.in-Inner.ensures.is c.requires.apart
-
 below : (t : ℕ) (c : After-deref t) → c.deref.result.now.height + 1 ≡ c.args.node.now.height
 below t c = omega (arith, ap (λ u. u.height) c.in-Inner.ensures.is, (down t c).own.at_height)
 
@@ -49,7 +45,7 @@ without-requires t c =
     let d = down t e in
     let g = (held t e).1 in
     let ts = trees c.in-Inner.children.now in
-    (omega (arith, c.decreases, below t e), (g.order, (g.within, child_apart (breaks_of ts) (height_of ts) ts c.place_of-place.result c.deref.result.now d.children d.within d.child_is _ _ c.args.start c.args.end g (apart t e))))
+    (omega (arith, c.decreases, below t e), (g.order, g.within))
 
 pub returns-in_err-middle-in-Inner-clause-made : goal.returns-in_err-middle-in-Inner-clause-made
 returns-in_err-middle-in-Inner-clause-made t c = omega (arith, below t (goal.at.returns-in_err-middle-in-Inner-clause-made t c).After-deref, c.without.ensures.made)
@@ -75,13 +71,13 @@ make_inner-requires t c =
     let e = (goal.at.make_inner-requires t c).After-deref in
     let ts = trees c.in-Inner.children.now in
     let left = spliced_removed c.in-Inner.children.now c.place_of-place.result c.deref.result.now c.in-Some.middle.value (trees c.in_ok-nodes-in-Inner.nodes.items) (down t e).children (down t e).within (down t e).child_is
-    _ _ c.args.start c.args.end (held t e).1 (apart t e) (rw c.in-Some.is at c.in_ok-middle-in-Inner.ensures.ok) c.in_ok-nodes-in-Inner.ensures in
+    _ _ c.args.start c.args.end (held t e).1 (rw c.in-Some.is at c.in_ok-middle-in-Inner.ensures.ok) c.in_ok-nodes-in-Inner.ensures in
     children_of_first (breaks_of ts) (height_of ts) (trees c.in_ok-nodes-in-Inner.nodes.items) left.children
 
 pub returns-in_ok-make_inner-in-Inner-clause-ok : goal.returns-in_ok-make_inner-in-Inner-clause-ok
 returns-in_ok-make_inner-in-Inner-clause-ok t c =
     let e = (goal.at.returns-in_ok-make_inner-in-Inner-clause-ok t c).After-deref in
     let left = spliced_removed c.in-Inner.children.now c.place_of-place.result c.deref.result.now c.in-Some.middle.value (trees c.in_ok-nodes-in-Inner.nodes.items) (down t e).children (down t e).within (down t e).child_is
-    _ _ c.args.start c.args.end (held t e).1 (apart t e) (rw c.in-Some.is at c.in_ok-middle-in-Inner.ensures.ok) c.in_ok-nodes-in-Inner.ensures in
+    _ _ c.args.start c.args.end (held t e).1 (rw c.in-Some.is at c.in_ok-middle-in-Inner.ensures.ok) c.in_ok-nodes-in-Inner.ensures in
     over_removed c.args.node.now c.in_ok-make_inner-in-Inner.field-0.value (trees c.in-Inner.children.now) (trees c.in_ok-nodes-in-Inner.nodes.items) c.args.start c.args.end
     c.in-Inner.ensures.is c.in_ok-make_inner-in-Inner.ensures.ok left

@@ -1,5 +1,6 @@
-use Rattle.std.proofs.Common.{◌≡◌, ◌+◌, ◌-◌, ◌++◌, take, drop, sym, ap, ◌∙◌, arith}
-use Rattle.std.specs.Str.{chars}
+use Rattle.std.proofs.Common.{◌≡◌, ◌+◌, ◌-◌, take, drop, sym, ap, subst, ◌∙◌, arith}
+use Rattle.std.specs.Str.{IsCharBoundary}
+use Rattle.std.proofs.lemmas.Str.{IsCharBoundary-from_rest}
 use Rattle.std.proofs.Math.Seq.{take-add}
 use Rattle.rope_text.specs.Text.{byte_len}
 use Rattle.rope_text.proofs.Measures.{IsMeasure-byte_len}
@@ -18,3 +19,13 @@ returns-clause-to c =
     let order : c.args.start + more ≡ c.args.end = omega arith in
     let parts = ap (λ n. byte_len (take n cs)) (sym order) ∙ ap byte_len (take-add c.args.start more cs) in
     omega (arith, first, second, parts, IsMeasure-byte_len.joined (take c.args.start cs) (take more (drop c.args.start cs)))
+
+pub returns-clause-from_boundary : goal.returns-clause-from_boundary
+returns-clause-from_boundary c = subst (λ bs. IsCharBoundary bs c.char_to_byte_idx-from.result) c.as_str-text.ensures.bytes c.char_to_byte_idx-from.ensures.boundary
+
+pub returns-clause-to_boundary : goal.returns-clause-to_boundary
+returns-clause-to_boundary c =
+    let bs = c.as_str-text.result.now in
+    let from = c.char_to_byte_idx-from.result in
+    let rest : IsCharBoundary (drop from bs) c.char_to_byte_idx.result = subst (λ x. IsCharBoundary x c.char_to_byte_idx.result) c.range_from.ensures.value c.char_to_byte_idx.ensures.boundary in
+    subst (λ x. IsCharBoundary x (from + c.char_to_byte_idx.result)) c.as_str-text.ensures.bytes (IsCharBoundary-from_rest bs from c.char_to_byte_idx.result c.char_to_byte_idx-from.ensures.boundary.0 rest)

@@ -1,0 +1,52 @@
+-- What may stand beside a text that a part was taken out of.
+use Rattle.std.proofs.Common.{◌≡◌, ℕ, ◌≤◌, Bool, true, false, ◌&&◌, List, [], ◌∷◌, ◌++◌, length, refl, arith}
+use Rattle.std.proofs.lemmas.List.{append-nil, length-append}
+use Rattle.rope_text.specs.Breaks.{begins_with_lf, ends_in_cr}
+use Rattle.rope_tree.specs.Leaves.{IsSeam}
+use Rattle.rope_tree.specs.Removal.{KeepsEnds}
+use Rattle.rope_tree.proofs.LeafLaws.{seam_of_left, seam_of_right}
+use Rattle.rope_tree.proofs.InsertLaws.{no_cr, seam_begins, seam_ends}
+
+and_false : (b : Bool) → (b && false) ≡ false
+and_false true = refl
+and_false false = refl
+
+no_lf : (p r : List ℕ) → begins_with_lf r ≡ false → IsSeam p r
+no_lf p r e = record { apart = rw e (and_false (ends_in_cr p)) }
+
+first_kept : (f x y p : List ℕ) → 1 ≤ length f → IsSeam p (f ++ x) → IsSeam p (f ++ y)
+first_kept [] x y p some s = absurd (omega arith)
+first_kept (c ∷ cs) x y p some s = record { apart = s.apart }
+
+last_kept : (f part b n : List ℕ) → 1 ≤ length b → IsSeam (f ++ (part ++ b)) n → IsSeam (f ++ b) n
+last_kept f part b n some s = seam_ends f b n some (seam_of_right part b n (seam_of_right f (part ++ b) n s))
+
+-- out of the middle
+pub ends_of_both : (f part b : List ℕ) → 1 ≤ length f → 1 ≤ length b → KeepsEnds (f ++ (part ++ b)) (f ++ b)
+ends_of_both f part b front back = record { before = λ p s. first_kept f (part ++ b) b p front s; behind = λ n s. last_kept f part b n back s }
+
+-- from the beginning, up to no LF
+pub ends_of_back : (f part b : List ℕ) → f ≡ [] → 1 ≤ length b → begins_with_lf b ≡ false → KeepsEnds (f ++ (part ++ b)) (f ++ b)
+ends_of_back f part b none back lf = rw none (record { before = λ p s. no_lf p b lf; behind = λ n s. seam_of_right part b n s })
+
+-- to the end, from behind no CR
+pub ends_of_front : (f part b : List ℕ) → 1 ≤ length f → b ≡ [] → ends_in_cr f ≡ false → KeepsEnds (f ++ (part ++ b)) (f ++ b)
+ends_of_front f part b front none cr = record {
+  before = λ p s. first_kept f (part ++ b) b p front s;
+  behind = λ n s. rw (none, append-nil) (no_cr f n cr);
+}
+
+-- the ends of a text with a middle that keeps its own
+pub ends_around : (l c u r : List ℕ) → 1 ≤ length u → KeepsEnds c u → KeepsEnds (l ++ (c ++ r)) (l ++ (u ++ r))
+ends_around l c u r some k = record { before = λ p s. before l p s; behind = λ n s. behind r n s } where
+  before : (l p : List ℕ) → IsSeam p (l ++ (c ++ r)) → IsSeam p (l ++ (u ++ r))
+  before [] p s = seam_begins p u r some (k.before p (seam_of_left p c r s))
+  before (x ∷ xs) p s = record { apart = s.apart }
+
+  behind : (r n : List ℕ) → IsSeam (l ++ (c ++ r)) n → IsSeam (l ++ (u ++ r)) n
+  behind [] n s =
+      let own : IsSeam c n = rw append-nil at (seam_of_right l (c ++ []) n s) in
+      rw append-nil (seam_ends l u n some (k.behind n own))
+  behind (x ∷ xs) n s =
+      let own = seam_of_right c (x ∷ xs) n (seam_of_right l (c ++ (x ∷ xs)) n s) in
+      seam_ends l (u ++ (x ∷ xs)) n (omega (arith, length-append u (x ∷ xs))) (seam_ends u (x ∷ xs) n (omega arith) own)
