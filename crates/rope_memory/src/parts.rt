@@ -46,7 +46,7 @@ fn split_off(rope: &mut Rope, char_idx: usize) -> Option<Part> {
     None
 }
 
-/// Takes parts of a rope out and joins them again, prints the rope after each edit, and answers how many refusals or edits
+/// Takes a rope apart and joins its parts, prints it after each edit, and answers how many refusals or edits
 /// changed what they had to leave.
 pub fn run(rt: &impl Print, alloc: Global) -> Option<usize> {
     let lines = repeated(alloc, "12345678\r\n", 3_000)?;
@@ -65,11 +65,15 @@ pub fn run(rt: &impl Print, alloc: Global) -> Option<usize> {
     faults = faults.saturating_add(apply(&mut rope, Edit::Append(&back.rope))?);
     let double = clone(&rope)?;
     faults = faults.saturating_add(double.faults);
+    // At last the rope shares its nodes with another, and lines go in between a CR and an LF.
+    let more = repeated(alloc, "\n12345678\r", 300)?;
     for step in [
         Edit::Append(&double.rope),
         Edit::Remove(100, 103),
         Edit::Remove(0, 20_017),
         Edit::Append(&kept.rope),
+        Edit::InsertChar(15_000, 'x'),
+        Edit::Insert(9, more.as_str()),
     ] {
         faults = faults.saturating_add(apply(&mut rope, step)?);
         show(rt, &rope)?;

@@ -1,5 +1,5 @@
 //! Ropes as long as a text may be, whose parts are shared.
-use crate::edits::repeated;
+use crate::edits::{compare, repeated};
 use ropey::{Error, Rope, Steps};
 use std::alloc::Global;
 use std::process::Abort;
@@ -44,10 +44,7 @@ fn the_longest_text(rt: HostRuntime) -> Result<(), Fail> {
     let mut rope = doubled(rt.alloc(), "a", 62)?;
     let mut first = rope.clone()?;
     let rest = first.try_split_off(1)?;
-    assert_eq!(rt;
-        (first.len_bytes(), rest.len_bytes()),
-        (1, 4_611_686_018_427_387_903)
-    );
+    assert_eq!(rt; (first.len_bytes(), rest.len_bytes()), (1, WHOLE - 1));
     rope.append(rest)?;
     assert!(rt; rope.len_bytes() == isize::MAX as usize);
     assert!(rt; rope.try_insert_char(0, 'x') == Err(Error::TooLong));
@@ -61,16 +58,31 @@ fn the_longest_text(rt: HostRuntime) -> Result<(), Fail> {
 fn edits_in_the_middle(rt: HostRuntime) -> Result<(), Fail> {
     let whole = doubled(rt.alloc(), "a", 62)?;
     let mut rope = whole.clone()?;
-    rope.try_insert_char(HALF, 'x')?;
+    assert!(rt; rope.len_chars() == WHOLE);
+    rope.insert_char(HALF, 'x')?;
+    assert_char(&rt, &rope, HALF, 'x');
+    assert!(rt; rope.len_chars() == WHOLE + 1);
+    rope.insert(HALF, "yz")?;
+    assert_char(&rt, &rope, HALF, 'y');
+    assert!(rt; rope.len_chars() == WHOLE + 3);
+    rope.remove(1..WHOLE + 2)?;
+    compare(&rt, &rope, &['a', 'a']);
+    assert_eq!(rt; whole.len_bytes(), WHOLE);
+    Ok(())
+}
+
+#[test]
+fn counted_edits_in_the_middle(rt: HostRuntime) -> Result<(), Fail> {
+    let mut rope = doubled(rt.alloc(), "a", 62)?;
+    assert!(rt; rope.len_chars() == WHOLE);
+    let mut steps = Steps::new();
+    rope.insert_char_counted(HALF, 'x', &mut steps)?;
     assert_char(&rt, &rope, HALF, 'x');
     rope.try_insert(HALF, "yz")?;
     assert_char(&rt, &rope, HALF, 'y');
-    assert_eq!(rt; rope.len_bytes(), 4_611_686_018_427_387_907);
-    rope.try_remove(1..4_611_686_018_427_387_906)?;
-    assert_eq!(rt; rope.len_bytes(), 2);
-    assert_char(&rt, &rope, 0, 'a');
-    assert_char(&rt, &rope, 1, 'a');
-    assert_eq!(rt; whole.len_bytes(), WHOLE);
+    assert!(rt; rope.len_chars() == WHOLE + 3);
+    rope.remove_counted(1..WHOLE + 2, &mut steps)?;
+    compare(&rt, &rope, &['a', 'a']);
     Ok(())
 }
 
@@ -78,9 +90,9 @@ fn edits_in_the_middle(rt: HostRuntime) -> Result<(), Fail> {
 fn a_long_text_in_the_middle(rt: HostRuntime) -> Result<(), Fail> {
     let mut rope = doubled(rt.alloc(), "a", 62)?;
     rope.try_insert(HALF, repeated(rt.alloc(), "z", 6_000)?.as_str())?;
-    assert_eq!(rt; rope.len_bytes(), 4_611_686_018_427_393_904);
-    assert_char(&rt, &rope, 2_305_843_009_213_699_951, 'z');
-    assert_char(&rt, &rope, 2_305_843_009_213_699_952, 'a');
+    assert_eq!(rt; rope.len_bytes(), WHOLE + 6_000);
+    assert_char(&rt, &rope, HALF + 5_999, 'z');
+    assert_char(&rt, &rope, HALF + 6_000, 'a');
     Ok(())
 }
 

@@ -161,6 +161,12 @@ fn edit(pairs: &mut Vec<Pair>, alloc: Global, state: &mut u64, edits: usize) -> 
     Ok(())
 }
 
+fn compare_all(rt: &impl Abort, pairs: &[Pair]) {
+    for pair in pairs {
+        pair.compare(rt);
+    }
+}
+
 /// Edits of several ropes, which are compared after each hundred of them, and the clones made before it too.
 fn edit_and_compare(
     rt: &impl Abort,
@@ -179,9 +185,8 @@ fn edit_and_compare(
     for _ in 0..rounds {
         let clones = copies(&pairs, alloc)?;
         edit(&mut pairs, alloc, state, BETWEEN)?;
-        for pair in pairs.iter().chain(clones.iter()) {
-            pair.compare(rt);
-        }
+        compare_all(rt, &pairs);
+        compare_all(rt, &clones);
     }
     Ok(())
 }

@@ -61,26 +61,45 @@ fn splits_of_a_million(rt: HostRuntime) -> Result<(), Fail> {
 }
 
 #[test]
+fn nodes_made_by_inserts(rt: HostRuntime) -> Result<(), Fail> {
+    let whole = million(rt.alloc())?;
+    let mut rope = whole.clone()?;
+    assert!(rt; rope.len_chars() == 1_000_000);
+    let mut steps = Steps::new();
+    rope.insert_char_counted(500_000, 'x', &mut steps)?;
+    assert_eq!(rt; rope.len_bytes(), 1_000_001);
+    assert!(rt; rope.get_char(500_000) == Some('x'));
+    assert!(rt; steps.made >= 4 && steps.made <= 40);
+    assert!(rt; whole.get_char(500_000) == Some('a'));
+    Ok(())
+}
+
+#[test]
 fn nodes_made_by_removal(rt: HostRuntime) -> Result<(), Fail> {
-    let mut rope = million(rt.alloc())?;
+    let whole = million(rt.alloc())?;
+    let mut rope = whole.clone()?;
     assert!(rt; rope.len_chars() == 1_000_000);
     let mut steps = Steps::new();
     rope.remove_counted(10..999_990, &mut steps)?;
-    assert_eq!(rt; rope.len_bytes(), 20);
+    assert_eq!(rt; (rope.len_bytes(), whole.len_bytes()), (20, 1_000_000));
     assert!(rt; steps.made >= 1 && steps.made <= 80);
     Ok(())
 }
 
 #[test]
 fn nodes_made_by_splits(rt: HostRuntime) -> Result<(), Fail> {
-    let mut front = million(rt.alloc())?;
+    let whole = million(rt.alloc())?;
+    let mut front = whole.clone()?;
     assert!(rt; front.len_chars() == 1_000_000);
     let mut steps = Steps::new();
     let back = front.split_off_counted(500_000, &mut steps)?;
     assert_eq!(rt; (front.len_bytes(), back.len_bytes()), (500_000, 500_000));
     assert!(rt; steps.made >= 2 && steps.made <= 80);
     front.append_counted(back, &mut steps)?;
-    assert_eq!(rt; front.len_bytes(), 1_000_000);
+    assert_eq!(rt;
+        (front.len_bytes(), whole.len_bytes()),
+        (1_000_000, 1_000_000)
+    );
     assert!(rt; steps.made >= 1 && steps.made <= 80);
     Ok(())
 }
