@@ -1,5 +1,5 @@
 -- A text put in at the byte where a character starts, by characters.
-use Rattle.std.proofs.Common.{◌≡◌, ℕ, ◌+◌, ◌++◌, List, length, take, drop, sym, ap, ap₂, subst, ◌∙◌, refl, arith}
+use Rattle.std.proofs.Common.{◌≡◌, ℕ, ◌++◌, List, take, drop, sym, ap, ap₂, subst, ◌∙◌, refl, arith}
 use Rattle.std.specs.List.{insert_slice}
 use Rattle.std.specs.Str.{chars, IsUtf8, IsCharBoundary}
 use Rattle.std.proofs.lemmas.Str.{chars-append, IsUtf8-take, IsUtf8-append}

@@ -1,4 +1,4 @@
-use Rattle.std.proofs.Common.{ap, ◌∙◌, arith}
+use Rattle.std.proofs.Common.{ap, arith}
 use Rattle.rope_text.specs.Text.{byte_len}
 use Rattle.rope_text.proofs.Measures.{IsMeasure-byte_len}
 use Rattle.rope_text.proofs.Walks.{byte_len-chars}
@@ -13,5 +13,14 @@ append-requires-clause-fits c =
 
 pub append-requires-2-clause-fits : goal.append-requires-2-clause-fits
 append-requires-2-clause-fits c =
-    omega (arith, c.requires.fits, byte_len-parts c.args.at (text c.args.node.now.value), ap byte_len c.in_ok-front.ensures.front.text_is, ap byte_len c.in_ok-front.ensures.back.text_is, ap byte_len c.in_ok-middle.ensures.text, byte_len-chars c.args.added.now c.utf8.added,
-      ap byte_len c.in_ok-first.ensures.text, IsMeasure-byte_len.joined (text c.in_ok-front.field-0.front.value) (text c.in_ok-middle.middle.value))
+    omega (
+      arith,
+      c.requires.fits,
+      byte_len-parts c.args.at (text c.args.node.now.value),
+      ap byte_len c.in_ok-front.ensures.front.text_is,
+      ap byte_len c.in_ok-front.ensures.back.text_is,
+      ap byte_len c.in_ok-middle.ensures.text,
+      byte_len-chars c.args.added.now c.utf8.added,
+      ap byte_len c.in_ok-first.ensures.text,
+      IsMeasure-byte_len.joined (text c.in_ok-front.field-0.front.value) (text c.in_ok-middle.middle.value),
+    )

@@ -1,4 +1,4 @@
-use Rattle.std.proofs.Common.{◌≡◌, ◌++◌, ap, ap₂, sym, take, drop, ◌∙◌, take-append-drop, arith}
+use Rattle.std.proofs.Common.{◌≡◌, ◌++◌, ap, ap₂, sym, take, drop, ◌∙◌, take-append-drop}
 use Rattle.std.specs.Str.{chars}
 use Rattle.rope_text.specs.TextInfo.{info_of}
 use Rattle.rope_text.proofs.TextParts.{chars_front, chars_back}

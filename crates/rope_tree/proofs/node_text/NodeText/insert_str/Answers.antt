@@ -1,6 +1,6 @@
 -- The text of a leaf with another put into it.
-use Rattle.std.proofs.Common.{◌≡◌, ◌++◌, refl, ap, ap₂, sym, take, drop, ◌∙◌, subst}
-use Rattle.std.specs.Str.{chars, IsCharBoundary}
+use Rattle.std.proofs.Common.{◌∙◌, subst}
+use Rattle.std.specs.Str.{IsCharBoundary}
 use Rattle.rope_tree.proofs.NodeTexts.{inserted_chars, boundary_at}
 use Rattle.rope_tree.proofs.node_text.NodeText.insert_str.Goals as goal
 
