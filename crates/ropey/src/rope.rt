@@ -15,12 +15,12 @@ use rope_text::{LineBreaks, MAX_BYTES, Result};
 use rope_tree::build::build;
 use rope_tree::lookup::leaf_count;
 use rope_tree::node::Node;
-use std::alloc::Global;
+use std::alloc::{AllocError, Global};
 use std::marker::Model;
 use std::rc::Rc;
 
 /// A text of at most `isize::MAX` bytes, cut into chunks of 1 to `MAX_BYTES` bytes, which are the leaves of a tree.
-#[derive(Clone, Drop)]
+#[derive(Drop)]
 pub struct Rope {
     pub(crate) root: Rc<Node>,
     pub(crate) alloc: Global,
@@ -35,6 +35,21 @@ impl Model for Rope {
     ghost view = { λ r. view_of r.root.value };
 
     ghost invariant = { λ r. IsTree r.root.value };
+}
+
+/// A clone has its original's text, chunks, set of line breaks and depth: it shares all nodes with it until one of the two is
+/// edited, which leaves the other as it was. It may be refused for want of memory.
+impl Clone for Rope {
+    ghost use Rattle.std.specs.Prelude.{◌≡◌};
+
+    ghost is_clone = { λ rope clone. clone ≡ rope };
+
+    fn clone(&self) -> std::result::Result<Self, AllocError> {
+        Ok(Rope {
+            root: self.root.clone()?,
+            alloc: self.alloc,
+        })
+    }
 }
 
 // The bytes that a text has at the most.

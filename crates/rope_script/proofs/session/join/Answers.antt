@@ -1,17 +1,16 @@
 use Rattle.std.proofs.Common.{◌≡◌, ◌<◌, length, get_or, arith, sym, ◌∙◌, ap, subst}
-use Rattle.ropey.specs.View.{IsRope, view_of}
+use Rattle.ropey.specs.View.{IsRope}
 use Rattle.rope_script.proofs.Contents.{join_of, unjoined_of, same_place}
 use Rattle.rope_script.proofs.session.join.Goals as goal
 
 pub returns-in-Ok : goal.returns-in-Ok
 returns-in-Ok c =
-    let p = c.in-Ok.ensures.cases in
     let old = c.args.ropes.now.items in
     let rope = c.index_mut.result.now in
     let clone = c.in-Ok.clone in
     let at_rope : c.args.rope < length old = omega (arith, c.args.ropes.now.ok.0) in
     let at_other : c.args.other < length old = omega (arith, c.args.ropes.now.ok.0) in
-    let same : clone ≡ c.index-3.result.now = sym p.3 ∙ ap view_of p.4.0 ∙ p.2 in
+    let same : clone ≡ c.index-3.result.now = c.in-Ok.ensures.cases in
     let read : clone ≡ get_or old c.args.other clone = same ∙ c.index-3.ensures ∙ ap (get_or old c.args.other) (sym same) in
     rw c.reply_to_edit.ensures
     (join_of c.append.result old c.args.rope c.args.other rope clone c.append.new.self at_rope c.index_mut.ensures.value at_other read
