@@ -8,7 +8,7 @@ use Rattle.std.proofs.Math.Nat.{mul-le-mul_right, mul-suc, mod-lt, div-mul-le_se
 use Rattle.std.proofs.lemmas.Nat.{le-div, div-add-mod'}
 use Rattle.std.proofs.lemmas.Bool.{cases_lt}
 use Rattle.std.proofs.lemmas.List.{append-nil, length-append, length-take-le, length-drop, length-map, take-map, drop-map, map-append, take_all}
-use Rattle.std.proofs.lemmas.Str.{chars-append, chars-nil, scalars-chars}
+use Rattle.std.proofs.lemmas.Str.{chars-append, chars-nil, scalars-chars, length-le-encodes}
 use Rattle.std.proofs.lemmas.List.Elements.{All-nil, All-push, All-get_or, All-head, All-tail}
 use Rattle.rope_text.specs.declared.line_breaks.LineBreaks.{LineBreaks}
 use Rattle.rope_text.specs.Text.{byte_len}
@@ -22,17 +22,12 @@ use Rattle.rope_tree.specs.Leaves.{AreLeaves, IsLeafText, IsSeam}
 use Rattle.rope_tree.specs.Tree.{Tree, leaves_of, joined, height_of, breaks_of, one_leaf, leaf_tree, tree_over, IsTree, IsChild, AreChildren}
 use Rattle.rope_tree.specs.Listed.{trees}
 use Rattle.rope_tree.specs.Siblings.{AreSiblings}
+use Rattle.rope_tree.specs.Fronts.{AreFronts, AreFrontNodes}
 use Rattle.rope_tree.proofs.LeafLaws.{no_leaves, lone_leaf, leaves-append, nil-seam, seam-nil, seam_of_left, seam_left_longer}
 use Rattle.rope_tree.proofs.TreeLaws.{is_wide_over, height_of_is, breaks_of_is}
 use Rattle.rope_tree.proofs.NodeLaws.{leaves_of-append}
 use Rattle.rope_tree.proofs.SiblingLaws.{siblings_left, siblings_right, children_of}
 use Rattle.rope_tree.proofs.InsertLeaves.{wide_leaf}
-
--- the leaves so far, and the rest of the text
-pub record AreFronts (text : List ℕ) (leaves : List (List ℕ)) (rest : List ℕ) : Type 0 where
-  pub whole : concat leaves ++ rest ≡ text
-  pub are_leaves : AreLeaves leaves
-  pub apart : IsSeam (concat leaves) rest
 
 -- one leaf more, from the front of the rest
 fronts_more : (text : List ℕ) (leaves : List (List ℕ)) (rest x y : List ℕ) → AreFronts text leaves rest → x ++ y ≡ rest → IsLeafText x → IsSeam x y → AreFronts text (leaves ++ x ∷ []) y
@@ -44,11 +39,6 @@ fronts_more text leaves rest x y fronts parts leaf seam =
       are_leaves = leaves-append leaves (x ∷ []) fronts.are_leaves (lone_leaf x leaf) (subst (IsSeam (concat leaves)) (sym (append-nil x)) (seam_of_left (concat leaves) x y before));
       apart = subst (λ t. IsSeam t y) (sym all) (seam_left_longer (concat leaves) x y before seam);
     }
-
--- leaf nodes side by side, and the rest of the text
-pub record AreFrontNodes (set : LineBreaks) (text : List ℕ) (ts : List Tree) (rest : List ℕ) : Type 0 where
-  pub each : All (IsChild set 0) ts
-  pub fronts : AreFronts text (leaves_of ts) rest
 
 pub no_nodes : (set : LineBreaks) (text : List ℕ) → AreFrontNodes set text [] text
 no_nodes set text = record { each = All-nil (IsChild set 0); fronts = record { whole = refl; are_leaves = no_leaves; apart = nil-seam text } }
@@ -72,6 +62,15 @@ nodes_more set text ts rest x y t a parts leaf seam is tree = record {
 some_chars : (x : List ℕ) → 1 ≤ byte_len x → 1 ≤ length x
 some_chars [] some = absurd (omega arith)
 some_chars (c ∷ x) some = omega arith
+
+-- one node more, for the front of the rest
+pub nodes_front : (set : LineBreaks) (text : List ℕ) (ts : List Tree) (rest x y : List ℕ) (t : Tree) → AreFrontNodes set text ts rest → x ++ y ≡ rest → 1 ≤ byte_len x → IsSeam x y
+    → t ≡ leaf_tree set x → IsTree t → AreFrontNodes set text (ts ++ t ∷ []) y × (length (leaves_of (ts ++ t ∷ [])) ≡ length (leaves_of ts) + 1)
+nodes_front set text ts rest x y t a parts some seam is tree =
+    let inside : 1 ≤ length x = some_chars x some in
+    let lone : t.leaves ≡ x ∷ [] = ap (λ u. u.leaves) is ∙ one_leaf_is x inside in
+    let i : IsLeafText x = All-head IsLeafText x [] (subst (All IsLeafText) lone tree.leaves.each) in
+    (nodes_more set text ts rest x y t a parts i seam is tree, ap length (leaves_more set ts t x inside is) ∙ length-append (leaves_of ts) (x ∷ []))
 
 -- bytes of a text that fit in a leaf
 leaf_of_bytes : (bs : List ℕ) → IsUtf8 bs → 0 < length bs → length bs ≤ 984 → IsLeafText (chars bs)
@@ -112,6 +111,11 @@ nodes_whole set text ts a = sym (append-nil (joined ts)) ∙ a.fronts.whole
 
 pub siblings_whole : (set : LineBreaks) (text : List ℕ) (ts : List Tree) → AreFrontNodes set text ts [] → byte_len text < 2 ^ 63 → AreSiblings set 0 ts
 siblings_whole set text ts a few = record { each = a.each; leaves = a.fronts.are_leaves; fits = omega (arith, ap byte_len (nodes_whole set text ts a)) }
+
+-- one leaf alone, or none
+pub leaf_few : (x : List ℕ) → length (one_leaf x) ≤ (byte_len x + 980) / 981
+leaf_few [] = omega arith
+leaf_few (c ∷ x) = omega (arith, length-le-encodes (c ∷ x))
 
 pub trees_push : (rcs : List (Rc Node Global)) (rc : Rc Node Global) → trees (rcs ++ rc ∷ []) ≡ trees rcs ++ rc.value ∷ []
 trees_push rcs rc = map-append (λ (r : Rc Node Global). r.value) rcs (rc ∷ [])

@@ -20,4 +20,5 @@ pub mod InsertDescents
 pub mod ChunksFound
 pub mod InsertRoots
 pub mod BuildLaws
+pub mod FrontLaws
 pub mod NodeTexts

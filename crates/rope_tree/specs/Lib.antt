@@ -6,6 +6,7 @@ pub mod Shape
 pub mod Falls
 pub mod View
 pub mod Siblings
+pub mod Fronts
 pub mod Found
 pub mod StepBounds
 pub mod Insert

@@ -80,7 +80,11 @@ fn level_over(
 }
 
 /// The tree over the nodes, level by level up to one root.
-fn root_over(alloc: Global, nodes: Vec<Rc<Node>>, made: &mut u64) -> Result<Rc<Node>, AllocError>
+pub(crate) fn root_over(
+    alloc: Global,
+    nodes: Vec<Rc<Node>>,
+    made: &mut u64,
+) -> Result<Rc<Node>, AllocError>
     requires siblings { AreSiblings (breaks_of (trees nodes.items)) (height_of (trees nodes.items)) (trees nodes.items) }
     requires some { 1 ≤ length (trees nodes.items) }
     ensures leaves { IfOk result (λ node. node.value.leaves ≡ leaves_of (trees nodes.items)) }

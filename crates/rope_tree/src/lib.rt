@@ -2,6 +2,7 @@
 #![tactic(auto)]
 
 pub mod build;
+pub mod builder;
 pub mod children;
 pub mod chunk_lookup;
 pub mod conversions;

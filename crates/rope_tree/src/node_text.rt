@@ -14,7 +14,7 @@ use rope_text::str_utils::{char_to_byte_idx, count_chars};
 use std::marker::Model;
 
 // One text of three.
-fn join_parts<const N: usize>(first: &str, second: &str, third: &str) -> ArrayString<N>
+pub(crate) fn join_parts<const N: usize>(first: &str, second: &str, third: &str) -> ArrayString<N>
     requires { (length first.now + length second.now) + length third.now ≤ N }
     ensures { result.bytes ≡ first.now ++ (second.now ++ third.now) }
 {

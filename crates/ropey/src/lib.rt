@@ -9,9 +9,11 @@ mod inserts;
 pub mod iter;
 mod lookups;
 mod rope;
+mod rope_builder;
 pub mod str_utils;
 
 pub use rope::Rope;
+pub use rope_builder::RopeBuilder;
 pub use rope_text::{
     Error, LineBreaks, MAX_BYTES, MAX_CHILDREN, MIN_BYTES, MIN_CHILDREN, Result, Steps,
 };

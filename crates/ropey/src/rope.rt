@@ -1,5 +1,5 @@
 //! The rope.
-ghost use Rattle.std.specs.Prelude.{◌≡◌, ℕ, ◌+◌, ◌-◌, ◌*◌, ◌<◌, ◌≤◌, [], ◌∷◌, length, ◌^◌, min, None, IsOk, IfOk, IfErr, OnOk, OnErr};
+ghost use Rattle.std.specs.Prelude.{◌≡◌, ℕ, ◌+◌, ◌-◌, ◌*◌, ◌<◌, ◌≤◌, [], ◌∷◌, ◌++◌, length, ◌^◌, min, None, IsOk, IfOk, IfErr, OnOk, OnErr};
 ghost use Rattle.std.specs.Str.{chars};
 ghost use Rattle.rope_text.specs.declared.error.Error.TheVariants.{OutOfMemory};
 ghost use Rattle.rope_text.specs.declared.line_breaks.LineBreaks.TheVariants.{Unicode};
@@ -13,6 +13,7 @@ ghost use Rattle.ropey.specs.View.{IsRope, HasFewChunks};
 use crate::iter::Chunks;
 use rope_text::{LineBreaks, MAX_BYTES, Result};
 use rope_tree::build::build;
+use rope_tree::builder::Builder;
 use rope_tree::lookup::leaf_count;
 use rope_tree::node::Node;
 use std::alloc::{AllocError, Global};
@@ -55,6 +56,17 @@ impl Clone for Rope {
 // The bytes that a text has at the most.
 pub(crate) const MAX_TEXT_BYTES: usize = isize::MAX as usize;
 
+// Hands a chunk in, whose bytes are counted by its characters.
+fn append_chunk(builder: &mut Builder, chunk: &str) -> Result<()>
+    requires { byte_len builder.old.text + byte_len (chars chunk.now) < 2 ^ 63 }
+    ensures ok { OnOk result (builder.new.text ≡ builder.old.text ++ chars chunk.now) }
+    ensures breaks { builder.new.breaks ≡ builder.old.breaks }
+    ensures refused { IfErr result (λ e. e ≡ OutOfMemory) }
+{
+    builder.append(chunk)?;
+    Ok(())
+}
+
 impl Rope {
     /// The empty text, with Unicode's line breaks, in no chunk. It takes memory, and refuses for want of it alone.
     pub fn new(alloc: Global) -> Result<Rope>
@@ -64,7 +76,7 @@ impl Rope {
         ensures kept { IfOk result IsRope }
         ensures err { IfErr result (λ e. e ≡ OutOfMemory) }
     {
-        Rope::from_str(alloc, "")
+        Rope::new_with(alloc, LineBreaks::Unicode)
     }
 
     /// A copy of the text, with Unicode's line breaks, in at most one chunk for each 981 bytes and one more for the rest.
@@ -76,11 +88,23 @@ impl Rope {
         ensures few { IfOk result HasFewChunks }
         ensures err { IfErr result (λ e. e ≡ OutOfMemory) }
     {
-        Rope::with_breaks(alloc, text, LineBreaks::Unicode)
+        Rope::from_str_with(alloc, text, LineBreaks::Unicode)
     }
 
-    // A copy of the text with this set of line breaks.
-    fn with_breaks(alloc: Global, text: &str, breaks: LineBreaks) -> Result<Rope>
+    /// The empty text with these line breaks, in no chunk, as `new` makes it.
+    pub fn new_with(alloc: Global, breaks: LineBreaks) -> Result<Rope>
+        ensures text { IfOk result (λ rope. rope.text ≡ []) }
+        ensures chunks { IfOk result (λ rope. rope.chunks ≡ []) }
+        ensures breaks { IfOk result (λ rope. rope.breaks ≡ breaks) }
+        ensures kept { IfOk result IsRope }
+        ensures err { IfErr result (λ e. e ≡ OutOfMemory) }
+    {
+        Rope::from_str_with(alloc, "", breaks)
+    }
+
+    /// A copy of the text with these line breaks, in chunks as `from_str` makes them.
+    /// It takes memory, and refuses for want of it alone.
+    pub fn from_str_with(alloc: Global, text: &str, breaks: LineBreaks) -> Result<Rope>
         ensures text { IfOk result (λ rope. rope.text ≡ chars text.now) }
         ensures breaks { IfOk result (λ rope. rope.breaks ≡ breaks) }
         ensures kept { IfOk result IsRope }
@@ -102,6 +126,13 @@ impl Rope {
         let node: &Node = &self.root;
         let _ = node.height();
         node
+    }
+
+    /// The set of line breaks.
+    pub fn line_breaks(&self) -> LineBreaks
+        ensures { result ≡ self.now.breaks }
+    {
+        self.root.line_breaks()
     }
 
     /// The length in bytes. No text is read.
@@ -149,6 +180,36 @@ impl Rope {
         ensures { result ≡ min (984 * length self.now.chunks) (2 ^ 64 - 1) }
     {
         leaf_count(&self.root).saturating_mul(MAX_BYTES)
+    }
+
+    /// Cuts the text anew, into at most one chunk for each 981 bytes and one more for the rest.
+    ///
+    /// It takes memory for all of the text, refuses for want of it alone, and leaves the rope as it was where it refuses.
+    pub fn shrink_to_fit(&mut self) -> Result<()>
+        ensures text { self.new.text ≡ self.old.text }
+        ensures breaks { self.new.breaks ≡ self.old.breaks }
+        ensures kept { IsRope self.new }
+        ensures few { OnOk result (HasFewChunks self.new) }
+        ensures refused { IfErr result (λ e. e ≡ OutOfMemory) }
+        ensures err { OnErr result (self.new ≡ self.old) }
+    {
+        let builder = self.with_chunks()?;
+        let root = builder.finish(&mut 0)?;
+        self.root = root;
+        Ok(())
+    }
+
+    // A builder to which the chunks were handed in.
+    fn with_chunks(&self) -> Result<Builder>
+        ensures text { IfOk result (λ builder. builder.text ≡ self.now.text) }
+        ensures breaks { IfOk result (λ builder. builder.breaks ≡ self.now.breaks) }
+        ensures refused { IfErr result (λ e. e ≡ OutOfMemory) }
+    {
+        let mut builder = Builder::new(self.alloc, self.line_breaks());
+        for chunk in self.chunks() {
+            append_chunk(&mut builder, chunk)?;
+        }
+        Ok(builder)
     }
 
     /// The chunks of the text, in order.

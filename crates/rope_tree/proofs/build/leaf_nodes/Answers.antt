@@ -6,7 +6,8 @@ use Rattle.rope_text.specs.Text.{byte_len}
 use Rattle.rope_text.proofs.Walks.{byte_len-chars}
 use Rattle.rope_tree.specs.Tree.{leaves_of}
 use Rattle.rope_tree.specs.Listed.{trees}
-use Rattle.rope_tree.proofs.BuildLaws.{AreFrontNodes, nodes_cut, nodes_last, nodes_whole, siblings_whole, trees_push}
+use Rattle.rope_tree.specs.Fronts.{AreFrontNodes}
+use Rattle.rope_tree.proofs.BuildLaws.{nodes_cut, nodes_last, nodes_whole, siblings_whole, trees_push}
 use Rattle.rope_tree.proofs.build.leaf_nodes.Goals.{In_ok-push-2}
 use Rattle.rope_tree.proofs.build.leaf_nodes.Goals as goal
 

@@ -5,7 +5,7 @@ use denote.Shadow.{shadow}
 use Rattle.std.specs.Str.{chars}
 use Rattle.rope_tree.specs.Tree.{leaves_of}
 use Rattle.rope_tree.specs.Listed.{trees}
-use Rattle.rope_tree.proofs.BuildLaws.{AreFrontNodes}
+use Rattle.rope_tree.specs.Fronts.{AreFrontNodes}
 use Rattle.rope_tree.proofs.build.leaf_nodes.Given as goal
 
 abbrev pub invariant-loop-rest : goal.invariant-loop-rest

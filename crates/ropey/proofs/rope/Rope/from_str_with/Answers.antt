@@ -3,7 +3,7 @@ use Rattle.std.proofs.Common.{◌≤◌, ◌/◌, ◌+◌, length, ap, sym, subs
 use Rattle.rope_text.proofs.Walks.{byte_len-chars}
 use Rattle.rope_text.specs.Text.{byte_len}
 use Rattle.ropey.proofs.Ropes.{rope_of}
-use Rattle.ropey.proofs.rope.Rope.with_breaks.Goals as goal
+use Rattle.ropey.proofs.rope.Rope.from_str_with.Goals as goal
 
 pub returns-clause-kept : goal.returns-clause-kept
 returns-clause-kept c = rope_of c.in_ok-root.root.value c.in_ok-root.ensures.tree

@@ -1,0 +1,89 @@
+-- The first leaf of a text of two parts.
+use Rattle.std.proofs.Common.{◌≡◌, ℕ, ◌+◌, ◌-◌, ◌<◌, ◌≤◌, ◌||◌, true, false, List, [], ◌++◌, length, take, drop, get_or, ap, ap₂, sym, subst, ◌∙◌, arith, take-append-drop}
+use Rattle.std.specs.Prelude.{◌==◌}
+use Rattle.std.specs.Str.{chars, IsUtf8, IsCharBoundary}
+use Rattle.std.proofs.Math.Seq.{take-append-add, drop-append-add}
+use Rattle.std.proofs.lemmas.Bool.Decides.{nat_tests}
+use Rattle.std.proofs.lemmas.List.{append-nil, length-append, length-take-le, get_or-take, take-take, take-append-le, nil_from_length}
+use Rattle.std.proofs.lemmas.Str.{chars-append, length-le-encodes, IsUtf8-append, IsUtf8-take, IsUtf8-drop, IsCharBoundary-from_drop, IsCharBoundary-from_take}
+use Rattle.rope_text.specs.Text.{byte_len}
+use Rattle.rope_text.specs.Cuts.{is_cut, is_cut_between}
+use Rattle.rope_text.specs.Cutting.{parts_crlf}
+use Rattle.rope_text.proofs.Apart.{apart_at_cut}
+use Rattle.rope_text.proofs.CutFacts.{boundary_of_cut}
+
+-- a text cut in two, by characters
+pub record IsCutOff (bs : List ℕ) (r : ℕ) : Type 0 where
+  pub front : IsUtf8 (take r bs)
+  pub back : IsUtf8 (drop r bs)
+  pub whole : chars (take r bs) ++ chars (drop r bs) ≡ chars bs
+  pub apart : parts_crlf (chars (take r bs)) (chars (drop r bs)) ≡ false
+
+pub cut_off : (bs : List ℕ) (r : ℕ) → IsUtf8 bs → 0 < r → r < length bs → is_cut bs r ≡ true → IsCutOff bs r
+cut_off bs r u some inside cut =
+    let at : IsCharBoundary bs r = boundary_of_cut bs r u (omega arith) cut in
+    let v = IsUtf8-take bs r u at in
+    let w = IsUtf8-drop bs r u at in
+    record {
+      front = v;
+      back = w;
+      whole = sym (chars-append (take r bs) (drop r bs) v) ∙ ap chars (take-append-drop r bs);
+      apart = apart_at_cut bs r v w some inside cut;
+    }
+
+-- the leaf, and what follows it
+pub cut_whole : (bs : List ℕ) (r : ℕ) (leaf more whole : List ℕ) → IsCutOff bs r → leaf ≡ chars (take r bs) → more ≡ chars (drop r bs) → chars bs ≡ whole → leaf ++ more ≡ whole
+cut_whole bs r leaf more whole off is_leaf is_more is_whole = ap₂ (λ x y. x ++ y) is_leaf is_more ∙ off.whole ∙ is_whole
+
+pub cut_apart : (bs : List ℕ) (r : ℕ) (leaf more : List ℕ) → IsCutOff bs r → leaf ≡ chars (take r bs) → more ≡ chars (drop r bs) → parts_crlf leaf more ≡ false
+cut_apart bs r leaf more off is_leaf is_more = ap₂ parts_crlf is_leaf is_more ∙ off.apart
+
+inner_cut : (bs : List ℕ) (r : ℕ) → 0 < r → r < length bs → is_cut bs r ≡ is_cut_between (get_or bs (r - 1) 0) (get_or bs r 0)
+inner_cut bs r some inside =
+    let start : (r == 0) ≡ false = grind (arith, nat_tests) in
+    let end : (r == length bs) ≡ false = grind (arith, nat_tests) in
+    ap₂ (λ a b. (a || b) || is_cut_between (get_or bs (r - 1) 0) (get_or bs r 0)) start end
+
+-- a cut within the front of a text is one of the text
+cut_of_front : (bs : List ℕ) (n r : ℕ) → 0 < r → r < n → n ≤ length bs → is_cut (take n bs) r ≡ is_cut bs r
+cut_of_front bs n r some inside within =
+    inner_cut (take n bs) r some (omega (arith, length-take-le n bs within))
+    ∙ ap₂ is_cut_between (get_or-take n bs (r - 1) 0 (omega arith)) (get_or-take n bs r 0 inside)
+    ∙ sym (inner_cut bs r some (omega arith))
+
+-- a leaf that has all of the first part
+pub all_taken : (rest text : List ℕ) (r : ℕ) → length rest ≤ r → drop r (rest ++ text) ≡ drop (r - length rest) text
+all_taken rest text r le = ap (λ k. drop k (rest ++ text)) (let e : r ≡ length rest + (r - length rest) = omega arith in e) ∙ drop-append-add rest text (r - length rest)
+
+-- where a text goes on
+module _ (rest text front ahead : List ℕ) (p r : ℕ) (u : IsUtf8 rest) (v : IsUtf8 text) (within : p ≤ length text) (is_front : front ≡ take (p - 0) text) (is_ahead : ahead ≡ rest ++ (front ++ []))
+    (some : 0 < r) (inside : r < length rest + p) (cut : is_cut ahead r ≡ true) where
+  ahead_is : ahead ≡ take (length rest + p) (rest ++ text)
+  ahead_is = is_ahead ∙ ap (λ x. rest ++ x) (append-nil front ∙ is_front ∙ ap (λ k. take k text) (omega arith)) ∙ sym (take-append-add rest text p)
+
+  whole_len : length (rest ++ text) ≡ length rest + length text
+  whole_len = length-append rest text
+
+  ahead_len : length ahead ≡ length rest + p
+  ahead_len = ap length ahead_is ∙ length-take-le (length rest + p) (rest ++ text) (omega (arith, whole_len))
+
+  pub two_parts : IsCutOff (rest ++ text) r
+  two_parts =
+      let same = cut_of_front (rest ++ text) (length rest + p) r some (omega (arith, ahead_len)) (omega (arith, whole_len)) in
+      cut_off (rest ++ text) r (IsUtf8-append rest text u v) some (omega (arith, ahead_len, whole_len)) (sym same ∙ ap (λ bs. is_cut bs r) (sym ahead_is) ∙ cut)
+
+  -- the leaf at the front
+  pub leaf_part : take (r - 0) ahead ≡ take r (rest ++ text)
+  leaf_part =
+      ap₂ take (let e : r - 0 ≡ r = omega arith in e) ahead_is ∙ take-take r (length rest + p) (rest ++ text) (omega (arith, ahead_len))
+
+  -- whole characters are taken, and whole characters left
+  pub taken_boundary : length rest ≤ r → IsCharBoundary text (r - length rest)
+  taken_boundary le = IsCharBoundary-from_drop text (r - length rest) (omega (arith, ahead_len)) (subst IsUtf8 (all_taken rest text r le) two_parts.back)
+
+  pub boundary_within : r < length rest → IsCharBoundary rest r
+  boundary_within lt = IsCharBoundary-from_take rest r u (omega arith) (subst IsUtf8 (take-append-le r rest text (omega arith)) two_parts.front)
+
+-- a text of no bytes
+pub no_bytes : (cs : List ℕ) → byte_len cs ≡ 0 → cs ≡ []
+no_bytes cs none = nil_from_length cs (omega (arith, length-le-encodes cs))

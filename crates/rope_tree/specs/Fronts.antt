@@ -1,0 +1,36 @@
+-- Leaves cut off the front of a text, and the rest of it.
+use Rattle.std.specs.Prelude.{◌≡◌, ℕ, ◌+◌, ◌*◌, ◌<◌, ◌≤◌, ◌^◌, List, ◌++◌, length}
+use Rattle.std.specs.List.{All, concat}
+use Rattle.rope_text.specs.declared.line_breaks.LineBreaks.{LineBreaks}
+use Rattle.rope_text.specs.Text.{byte_len}
+use Rattle.rope_tree.specs.Leaves.{AreLeaves, IsSeam}
+use Rattle.rope_tree.specs.Tree.{Tree, joined, leaves_of, IsChild}
+use Rattle.rope_tree.specs.Listed.{trees}
+use Rattle.rope_tree.specs.declared.builder.Builder.TheInside.{Inside}
+
+-- the leaves so far, and the rest of the text
+pub record AreFronts (text : List ℕ) (leaves : List (List ℕ)) (rest : List ℕ) : Type 0 where
+  pub whole : concat leaves ++ rest ≡ text
+  pub are_leaves : AreLeaves leaves
+  pub apart : IsSeam (concat leaves) rest
+
+-- leaf nodes side by side, and the rest of the text
+pub record AreFrontNodes (set : LineBreaks) (text : List ℕ) (ts : List Tree) (rest : List ℕ) : Type 0 where
+  pub each : All (IsChild set 0) ts
+  pub fronts : AreFronts text (leaves_of ts) rest
+
+-- the text handed in so far, and the set of line breaks of the tree to come
+pub record Building : Type 0 where
+  pub text : List ℕ
+  pub breaks : LineBreaks
+
+abbrev pub building_of : Inside → Building
+building_of a = record { text = joined (trees a.leaves.items) ++ a.rest; breaks = a.breaks }
+
+-- the leaves are cut off the front of the text, each of 981 bytes or more, and something follows them that is in no leaf yet
+pub record IsBuilding (a : Inside) : Type 0 where
+  pub nodes : AreFrontNodes a.breaks (joined (trees a.leaves.items) ++ a.rest) (trees a.leaves.items) a.rest
+  pub long : 981 * length (leaves_of (trees a.leaves.items)) + byte_len a.rest ≤ a.bytes
+  pub followed : 0 < length (trees a.leaves.items) → 0 < byte_len a.rest
+  pub counted : a.bytes ≡ byte_len (joined (trees a.leaves.items) ++ a.rest)
+  pub fits : a.bytes < 2 ^ 63

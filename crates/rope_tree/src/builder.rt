@@ -1,0 +1,202 @@
+//! Trees of texts that are handed in one after the other.
+ghost use Rattle.std.specs.Prelude.{◌≡◌, ◌+◌, ◌-◌, ◌*◌, ◌/◌, ◌<◌, ◌≤◌, ◌^◌, ◌++◌, [], false, length, drop, min, IsOk, IfOk, IfErr, OnOk, OnErr};
+ghost use Rattle.std.specs.Str.{chars, IsCharBoundary};
+ghost use Rattle.rope_text.specs.Text.{byte_len};
+ghost use Rattle.rope_text.specs.Cutting.{parts_crlf};
+ghost use Rattle.rope_tree.specs.Tree.{text, joined, leaves_of, IsTree};
+ghost use Rattle.rope_tree.specs.Listed.{trees};
+ghost use Rattle.rope_tree.specs.Fronts.{AreFrontNodes};
+
+use crate::build::root_over;
+use crate::insert::leaf_of;
+use crate::node::Node;
+use crate::node_text::{NodeText, first_leaf_len, join_parts};
+use rope_text::crlf::prev_break;
+use rope_text::{LineBreaks, MAX_BYTES};
+use std::alloc::{AllocError, Global};
+use std::marker::Model;
+use std::rc::Rc;
+
+// More bytes than a leaf can have, even where the last of them begin a character or are a CR.
+const MAX_AHEAD_BYTES: usize = MAX_BYTES + 4;
+
+// How many bytes of a text are looked at for the end of a leaf that begins before it.
+fn ahead_len(text: &str) -> usize
+    ensures boundary { IsCharBoundary text.now result }
+    ensures short { result ≤ 988 }
+    ensures long { min 985 (length text.now) ≤ result }
+    ensures within { result ≤ length text.now }
+{
+    if text.len() <= MAX_AHEAD_BYTES {
+        text.len()
+    } else {
+        prev_break(text.as_bytes(), MAX_AHEAD_BYTES + 1)
+    }
+}
+
+// The leaf at the front of a text of two parts, what of the first part is behind the leaf, and how many bytes of the second
+// part are in it.
+#[derive(Drop)]
+struct Front {
+    leaf: NodeText,
+    rest: NodeText,
+    taken: usize,
+}
+
+// Cuts the first leaf off a text that begins with `rest` and goes on with `text`. The text is copied into no more than the
+// leaf where `rest` is empty.
+fn cut_front(rest: &NodeText, text: &str) -> Front
+    requires { 984 < byte_len rest.now + length text.now }
+    ensures boundary { IsCharBoundary text.now result.taken }
+    ensures whole { result.leaf ++ (result.rest ++ chars (drop result.taken text.now)) ≡ rest.now ++ chars text.now }
+    ensures apart { parts_crlf result.leaf (result.rest ++ chars (drop result.taken text.now)) ≡ false }
+    ensures long { 981 ≤ byte_len result.leaf }
+    ensures short { byte_len result.leaf ≤ 984 }
+    ensures left { byte_len result.leaf + (byte_len result.rest + (length text.now - result.taken)) ≡ byte_len rest.now + length text.now }
+{
+    if rest.len() == 0 {
+        let taken = first_leaf_len(text);
+        return Front {
+            leaf: NodeText::from_str(&text[..taken]),
+            rest: NodeText::new(),
+            taken,
+        };
+    }
+    let first = rest.as_str();
+    let ahead = join_parts::<1972>(first, &text[..ahead_len(text)], "");
+    let ahead = ahead.as_str();
+    let len = first_leaf_len(ahead);
+    let leaf = NodeText::from_str(&ahead[..len]);
+    if len < first.len() {
+        return Front {
+            leaf,
+            rest: NodeText::from_str(&first[len..]),
+            taken: 0,
+        };
+    }
+    Front {
+        leaf,
+        rest: NodeText::new(),
+        taken: len - first.len(),
+    }
+}
+
+// Cuts leaves off the front of `rest` and the text behind it, until what is left fits into one.
+fn append_to(
+    alloc: Global,
+    breaks: LineBreaks,
+    leaves: &mut Vec<Rc<Node>>,
+    rest: &mut NodeText,
+    text: &str,
+) -> Result<(), AllocError>
+    requires some { 0 < length text.now }
+    requires nodes { AreFrontNodes breaks (joined (trees leaves.old.items) ++ (rest.old ++ chars text.now)) (trees leaves.old.items) (rest.old ++ chars text.now) }
+    ensures nodes { IfOk result (λ _. AreFrontNodes breaks (joined (trees leaves.old.items) ++ (rest.old ++ chars text.now)) (trees leaves.new.items) rest.new) }
+    ensures long { IfOk result (λ _. 981 * length (leaves_of (trees leaves.new.items)) + byte_len rest.new
+        ≤ 981 * length (leaves_of (trees leaves.old.items)) + byte_len rest.old + length text.now) }
+    ensures followed { IfOk result (λ _. 0 < byte_len rest.new) }
+{
+    let mut left = text;
+    while rest.len() + left.len() > MAX_BYTES {
+        let front = cut_front(rest, left);
+        leaves.push(leaf_of(alloc, breaks, front.leaf, &mut 0)?)?;
+        *rest = front.rest;
+        left = &left[front.taken..];
+    }
+    rest.push_str(left);
+    Ok(())
+}
+
+/// Builds a tree of texts that are handed in one after the other. It is seen as the text so far and the set of line breaks.
+#[derive(Drop)]
+pub struct Builder {
+    alloc: Global,
+    breaks: LineBreaks,
+    leaves: Vec<Rc<Node>>,
+    rest: NodeText,
+    bytes: usize,
+}
+
+impl Model for Builder {
+    ghost use Rattle.rope_tree.specs.Fronts.{Building, building_of, IsBuilding};
+
+    ghost Value = { Building };
+
+    ghost view = { building_of };
+
+    ghost invariant = { IsBuilding };
+}
+
+impl Builder {
+    /// Nothing is handed in yet. It takes no memory.
+    pub fn new(alloc: Global, breaks: LineBreaks) -> Builder
+        ensures text { result.text ≡ [] }
+        ensures breaks { result.breaks ≡ breaks }
+    {
+        Builder {
+            alloc,
+            breaks,
+            leaves: Vec::new(alloc),
+            rest: NodeText::new(),
+            bytes: 0,
+        }
+    }
+
+    /// How many bytes were handed in.
+    pub fn len_bytes(&self) -> usize
+        ensures value { result ≡ byte_len self.now.text }
+        ensures fits { byte_len self.now.text < 2 ^ 63 }
+    {
+        self.bytes
+    }
+
+    /// Puts a text behind what was handed in. Where memory is refused, it is as if nothing had been handed in. An empty
+    /// text takes no memory.
+    pub fn append(&mut self, text: &str) -> Result<(), AllocError>
+        requires { byte_len self.old.text + length text.now < 2 ^ 63 }
+        ensures ok { OnOk result (self.new.text ≡ self.old.text ++ chars text.now) }
+        ensures err { OnErr result (self.new.text ≡ []) }
+        ensures empty { length text.now ≡ 0 → IsOk result }
+        ensures breaks { self.new.breaks ≡ self.old.breaks }
+    {
+        if text.is_empty() {
+            return Ok(());
+        }
+        let appended = append_to(
+            self.alloc,
+            self.breaks,
+            &mut self.leaves,
+            &mut self.rest,
+            text,
+        );
+        if let Err(refused) = appended {
+            self.leaves = Vec::new(self.alloc);
+            self.rest = NodeText::new();
+            self.bytes = 0;
+            return Err(refused);
+        }
+        self.bytes += text.len();
+        Ok(())
+    }
+
+    /// The tree of what was handed in, with at most one leaf for each 981 bytes and one for the rest. The nodes that it
+    /// makes are counted, and those that were made before are not.
+    pub fn finish(self, made: &mut u64) -> Result<Rc<Node>, AllocError>
+        ensures text { IfOk result (λ node. text node.value ≡ self.text) }
+        ensures breaks { IfOk result (λ node. node.value.breaks ≡ self.breaks) }
+        ensures tree { IfOk result (λ node. IsTree node.value) }
+        ensures few { IfOk result (λ node. length node.value.leaves ≤ (byte_len self.text + 980) / 981) }
+        ensures made { IfOk result (λ node. made.new ≤ made.old + length node.value.leaves + 1) }
+    {
+        let rest = leaf_of(self.alloc, self.breaks, self.rest, made)?;
+        if self.leaves.is_empty() {
+            return Ok(rest);
+        }
+        let mut leaves = self.leaves;
+        leaves.push(rest)?;
+        Ok(root_over(self.alloc, leaves, made)?)
+    }
+}
+
+#[cfg(test)]
+mod tests;

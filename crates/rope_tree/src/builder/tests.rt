@@ -1,0 +1,25 @@
+use super::*;
+
+#[test]
+fn pieces(rt: HostRuntime) {
+    let mut builder = Builder::new(rt.alloc(), LineBreaks::Unicode);
+    for _ in 0..1000 {
+        for piece in ["a\r", "\nbä", "", "日本", "𝄞"] {
+            assert!(rt; builder.len_bytes() < 16_000);
+            builder.append(piece).expect(&rt, "memory");
+        }
+    }
+    let node = builder.finish(&mut 0).expect(&rt, "memory");
+    assert_eq!(rt; node.info().bytes, 16_000);
+    assert_eq!(rt; node.info().line_breaks, 1000);
+    assert_eq!(rt; node.height(), 1);
+}
+
+#[test]
+fn nothing(rt: HostRuntime) {
+    let node = Builder::new(rt.alloc(), LineBreaks::Unicode)
+        .finish(&mut 0)
+        .expect(&rt, "memory");
+    assert_eq!(rt; node.height(), 0);
+    assert_eq!(rt; node.info().bytes, 0);
+}
