@@ -31,14 +31,14 @@ impl Rope {
     }
 
     /// A copy of the text, borrowed or owned, as `from_str` makes it.
-    pub fn from_cow(alloc: Global, text: CowStr<'_>) -> Result<Rope>
-        ensures text { IfOk result (λ rope. rope.text ≡ chars (cow_str_bytes text.entry)) }
+    pub fn from_cow(alloc: Global, cow: CowStr<'_>) -> Result<Rope>
+        ensures text { IfOk result (λ rope. rope.text ≡ chars (cow_str_bytes cow.entry)) }
         ensures breaks { IfOk result (λ rope. rope.breaks ≡ Unicode) }
         ensures kept { IfOk result IsRope }
         ensures few { IfOk result HasFewChunks }
         ensures err { IfErr result (λ e. e ≡ OutOfMemory) }
     {
-        Rope::from_str(alloc, text.as_str())
+        Rope::from_str(alloc, cow.as_str())
     }
 
     /// The texts that the iterator gives, one after the other, with Unicode's line breaks, in at most one chunk for each 981
