@@ -43,9 +43,22 @@ struct Front {
     taken: usize,
 }
 
-// Cuts the first leaf off a text that begins with `rest` and goes on with `text`. The text is copied into no more than the
-// leaf where `rest` is empty.
-fn cut_front(rest: &NodeText, text: &str) -> Front
+// The fewest bytes of a leaf that is cut off a longer text.
+const MIN_CUT_BYTES: usize = MAX_BYTES - 3;
+
+// The leaf of a text and what follows it.
+fn leaf_of_two(rest: &NodeText, text: &str) -> NodeText
+    requires { byte_len rest.now + length text.now ≤ 984 }
+    ensures value { result ≡ rest.now ++ chars text.now }
+    ensures len { byte_len result ≡ byte_len rest.now + length text.now }
+{
+    let mut leaf = NodeText::from_str(rest.as_str());
+    leaf.push_str(text);
+    leaf
+}
+
+// Cuts the first leaf off a text that begins with `rest` and goes on with `text`, wherever it ends.
+fn cut_at_seam(rest: &NodeText, text: &str) -> Front
     requires { 984 < byte_len rest.now + length text.now }
     ensures boundary { IsCharBoundary text.now result.taken }
     ensures whole { result.leaf ++ (result.rest ++ chars (drop result.taken text.now)) ≡ rest.now ++ chars text.now }
@@ -54,14 +67,6 @@ fn cut_front(rest: &NodeText, text: &str) -> Front
     ensures short { byte_len result.leaf ≤ 984 }
     ensures left { byte_len result.leaf + (byte_len result.rest + (length text.now - result.taken)) ≡ byte_len rest.now + length text.now }
 {
-    if rest.len() == 0 {
-        let taken = first_leaf_len(text);
-        return Front {
-            leaf: NodeText::from_str(&text[..taken]),
-            rest: NodeText::new(),
-            taken,
-        };
-    }
     let first = rest.as_str();
     let ahead = join_parts::<1972>(first, &text[..ahead_len(text)], "");
     let ahead = ahead.as_str();
@@ -78,6 +83,29 @@ fn cut_front(rest: &NodeText, text: &str) -> Front
         leaf,
         rest: NodeText::new(),
         taken: len - first.len(),
+    }
+}
+
+// Cuts the first leaf off a text that begins with `rest` and goes on with `text`. Mostly it ends within `text`, and then the
+// two are copied into the leaf alone.
+fn cut_front(rest: &NodeText, text: &str) -> Front
+    requires { 984 < byte_len rest.now + length text.now }
+    ensures boundary { IsCharBoundary text.now result.taken }
+    ensures whole { result.leaf ++ (result.rest ++ chars (drop result.taken text.now)) ≡ rest.now ++ chars text.now }
+    ensures apart { parts_crlf result.leaf (result.rest ++ chars (drop result.taken text.now)) ≡ false }
+    ensures long { 981 ≤ byte_len result.leaf }
+    ensures short { byte_len result.leaf ≤ 984 }
+    ensures left { byte_len result.leaf + (byte_len result.rest + (length text.now - result.taken)) ≡ byte_len rest.now + length text.now }
+{
+    let room = MAX_BYTES - rest.len();
+    let taken = prev_break(text.as_bytes(), room + 1);
+    if taken < MIN_CUT_BYTES.saturating_sub(rest.len()).max(1) {
+        return cut_at_seam(rest, text);
+    }
+    Front {
+        leaf: leaf_of_two(rest, &text[..taken]),
+        rest: NodeText::new(),
+        taken,
     }
 }
 
