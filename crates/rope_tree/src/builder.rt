@@ -225,6 +225,3 @@ impl Builder {
         Ok(root_over(self.alloc, leaves, made)?)
     }
 }
-
-#[cfg(test)]
-mod tests;
