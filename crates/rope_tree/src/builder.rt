@@ -110,7 +110,8 @@ fn cut_front(rest: &NodeText, text: &str) -> Front
 }
 
 // Cuts leaves off the front of `rest` and the text behind it, until what is left fits into one.
-fn append_to(
+#[inline(never)]
+fn cut_leaves(
     alloc: Global,
     breaks: LineBreaks,
     leaves: &mut Vec<Rc<Node>>,
@@ -132,6 +133,28 @@ fn append_to(
         left = &left[front.taken..];
     }
     rest.push_str(left);
+    Ok(())
+}
+
+// Puts a text behind `rest`, and cuts leaves off the front of the two where they don't fit into one.
+fn append_to(
+    alloc: Global,
+    breaks: LineBreaks,
+    leaves: &mut Vec<Rc<Node>>,
+    rest: &mut NodeText,
+    text: &str,
+) -> Result<(), AllocError>
+    requires some { 0 < length text.now }
+    requires nodes { AreFrontNodes breaks (joined (trees leaves.old.items) ++ (rest.old ++ chars text.now)) (trees leaves.old.items) (rest.old ++ chars text.now) }
+    ensures nodes { IfOk result (λ _. AreFrontNodes breaks (joined (trees leaves.old.items) ++ (rest.old ++ chars text.now)) (trees leaves.new.items) rest.new) }
+    ensures long { IfOk result (λ _. 981 * length (leaves_of (trees leaves.new.items)) + byte_len rest.new
+        ≤ 981 * length (leaves_of (trees leaves.old.items)) + byte_len rest.old + length text.now) }
+    ensures followed { IfOk result (λ _. 0 < byte_len rest.new) }
+{
+    if rest.len() + text.len() > MAX_BYTES {
+        return Ok(cut_leaves(alloc, breaks, leaves, rest, text)?);
+    }
+    rest.push_str(text);
     Ok(())
 }
 

@@ -5,7 +5,7 @@ use Rattle.rope_text.specs.Cutting.{parts_crlf}
 use Rattle.rope_tree.specs.Tree.{leaves_of}
 use Rattle.rope_tree.specs.Listed.{trees}
 use Rattle.rope_tree.proofs.BuildLaws.{nodes_front, trees_push}
-use Rattle.rope_tree.proofs.builder.append_to.Goals as goal
+use Rattle.rope_tree.proofs.builder.cut_leaves.Goals as goal
 
 pub overflow_add-len : goal.overflow_add-len
 overflow_add-len c = omega (arith, c.len.ensures.fits, c.loop-left.invariant.within)
