@@ -1,5 +1,5 @@
 -- One text more of an iterator.
-use Rattle.std.proofs.Common.{◌≡◌, ℕ, ◌+◌, ◌<◌, ◌^◌, List, [], ◌∷◌, ◌++◌, map, length, refl, ap, ap₂, subst, sym, ◌∙◌, append-nil, true, false, arith}
+use Rattle.std.proofs.Common.{◌≡◌, ℕ, ◌+◌, List, [], ◌∷◌, ◌++◌, map, refl, ap, ap₂, subst, sym, ◌∙◌, append-nil}
 use Rattle.std.proofs.Output.{concat-append}
 use Rattle.std.proofs.lemmas.List.{map_push}
 use Rattle.std.specs.Prelude.{Option, Some, None, Result, Ok, Err, IfErr}

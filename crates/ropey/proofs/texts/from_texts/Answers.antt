@@ -17,12 +17,13 @@ loop-text-preserved g c =
     let more = chars c.as_str.result.now in
     let is_text = c.in_ok-append.ensures.ok.1 in
     let size = sym (byte_len-chars c.as_str.result.now c.as_str.utf8) in
+    let whole : had ++ more ≡ joined_texts g.T.AsStr.text (c.loop-text.yielded ++ c.in-Some.text ∷ []) =
+    ap (λ t. t ++ more) c.loop-text.invariant.text ∙ ap (λ b. joined_texts g.T.AsStr.text c.loop-text.yielded ++ chars b) c.as_str.ensures
+    ∙ sym (joined_push g.T.AsStr.text c.loop-text.yielded c.in-Some.text) in
     record {
       can_next = goes.0;
       is_finite = goes.1;
-      text = is_text ∙ ap (λ t. t ++ more) c.loop-text.invariant.text
-          ∙ ap (λ b. joined_texts g.T.AsStr.text c.loop-text.yielded ++ chars b) c.as_str.ensures
-          ∙ sym (joined_push g.T.AsStr.text c.loop-text.yielded c.in-Some.text);
+      text = is_text ∙ whole;
       breaks = c.append.ensures.breaks ∙ c.loop-text.invariant.breaks;
       failed = c.in_ok-append.ensures.ok.2;
       fits = sym (error_of_whole c.loop-text.builder.failed (byte_len had) _ had more c.append.new.self.text c.loop-text.invariant.failed refl size is_text) ∙ c.in_ok-append.ensures.ok.0;
