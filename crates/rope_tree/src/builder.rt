@@ -15,6 +15,7 @@ use rope_text::crlf::prev_break;
 use rope_text::{LineBreaks, MAX_BYTES};
 use std::alloc::{AllocError, Global};
 use std::marker::Model;
+use std::mem;
 use std::rc::Rc;
 
 // More bytes than a leaf can have, even where the last of them begin a character or are a CR.
@@ -46,15 +47,11 @@ struct Front {
 // The fewest bytes of a leaf that is cut off a longer text.
 const MIN_CUT_BYTES: usize = MAX_BYTES - 3;
 
-// The leaf of a text and what follows it.
-fn leaf_of_two(rest: &NodeText, text: &str) -> NodeText
-    requires { byte_len rest.now + length text.now ≤ 984 }
-    ensures value { result ≡ rest.now ++ chars text.now }
-    ensures len { byte_len result ≡ byte_len rest.now + length text.now }
-{
-    let mut leaf = NodeText::from_str(rest.as_str());
-    leaf.push_str(text);
-    leaf
+// The leaf at the front of a text of two parts, and how many bytes of the second part are in it.
+#[derive(Drop)]
+struct First {
+    leaf: NodeText,
+    taken: usize,
 }
 
 // Cuts the first leaf off a text that begins with `rest` and goes on with `text`, wherever it ends.
@@ -86,27 +83,30 @@ fn cut_at_seam(rest: &NodeText, text: &str) -> Front
     }
 }
 
-// Cuts the first leaf off a text that begins with `rest` and goes on with `text`. Mostly it ends within `text`, and then the
-// two are copied into the leaf alone.
-fn cut_front(rest: &NodeText, text: &str) -> Front
-    requires { 984 < byte_len rest.now + length text.now }
+// Cuts the first leaf off a text that begins with `rest` and goes on with `text`, and leaves what of `rest` is behind it.
+// Mostly the leaf ends within `text`, and then that is copied once.
+fn cut_front(rest: &mut NodeText, text: &str) -> First
+    requires { 984 < byte_len rest.old + length text.now }
     ensures boundary { IsCharBoundary text.now result.taken }
-    ensures whole { result.leaf ++ (result.rest ++ chars (drop result.taken text.now)) ≡ rest.now ++ chars text.now }
-    ensures apart { parts_crlf result.leaf (result.rest ++ chars (drop result.taken text.now)) ≡ false }
+    ensures whole { result.leaf ++ (rest.new ++ chars (drop result.taken text.now)) ≡ rest.old ++ chars text.now }
+    ensures apart { parts_crlf result.leaf (rest.new ++ chars (drop result.taken text.now)) ≡ false }
     ensures long { 981 ≤ byte_len result.leaf }
     ensures short { byte_len result.leaf ≤ 984 }
-    ensures left { byte_len result.leaf + (byte_len result.rest + (length text.now - result.taken)) ≡ byte_len rest.now + length text.now }
+    ensures left { byte_len result.leaf + (byte_len rest.new + (length text.now - result.taken)) ≡ byte_len rest.old + length text.now }
 {
     let room = MAX_BYTES - rest.len();
     let taken = prev_break(text.as_bytes(), room + 1);
     if taken < MIN_CUT_BYTES.saturating_sub(rest.len()).max(1) {
-        return cut_at_seam(rest, text);
+        let front = cut_at_seam(rest, text);
+        *rest = front.rest;
+        return First {
+            leaf: front.leaf,
+            taken: front.taken,
+        };
     }
-    Front {
-        leaf: leaf_of_two(rest, &text[..taken]),
-        rest: NodeText::new(),
-        taken,
-    }
+    rest.push_str(&text[..taken]);
+    let leaf = mem::replace(rest, NodeText::new());
+    First { leaf, taken }
 }
 
 // Cuts leaves off the front of `rest` and the text behind it, until what is left fits into one.
@@ -129,7 +129,6 @@ fn cut_leaves(
     while rest.len() + left.len() > MAX_BYTES {
         let front = cut_front(rest, left);
         leaves.push(leaf_of(alloc, breaks, front.leaf, &mut 0)?)?;
-        *rest = front.rest;
         left = &left[front.taken..];
     }
     rest.push_str(left);

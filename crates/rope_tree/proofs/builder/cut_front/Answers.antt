@@ -1,5 +1,5 @@
 -- The leaf ends at a cut of the second part.
-use Rattle.std.proofs.Common.{◌<◌, arith, length, IsTrue, subst}
+use Rattle.std.proofs.Common.{◌∙◌, ◌<◌, arith, length, IsTrue, subst}
 use Rattle.rope_text.specs.Cuts.{is_cut}
 use Rattle.rope_tree.proofs.FrontLaws.{IsCutOff, cut_off, longer_whole, longer_apart}
 use Rattle.rope_tree.proofs.builder.cut_front.Goals.{After-new}
@@ -17,9 +17,9 @@ off c = cut_off c.args.text.now c.prev_break-taken.result c.utf8.text (some c) (
 pub returns-clause-whole : goal.returns-clause-whole
 returns-clause-whole c =
     let e = (goal.at.returns-clause-whole c).After-new in
-    longer_whole c.args.text.now c.prev_break-taken.result c.args.rest.now _ _ _ (some e) (off e) c.leaf_of_two.ensures.value c.range.ensures.value c.new.ensures
+    longer_whole c.args.text.now c.prev_break-taken.result c.args.rest.now _ _ _ (some e) (off e) (c.replace-leaf.ensures.value ∙ c.push_str.ensures.value) c.range.ensures.value (c.replace-leaf.ensures.after ∙ c.new.ensures)
 
 pub returns-clause-apart : goal.returns-clause-apart
 returns-clause-apart c =
     let e = (goal.at.returns-clause-apart c).After-new in
-    longer_apart c.args.text.now c.prev_break-taken.result c.args.rest.now _ _ _ (some e) (off e) c.leaf_of_two.ensures.value c.range.ensures.value c.new.ensures (omega (arith, inside e))
+    longer_apart c.args.text.now c.prev_break-taken.result c.args.rest.now _ _ _ (some e) (off e) (c.replace-leaf.ensures.value ∙ c.push_str.ensures.value) c.range.ensures.value (c.replace-leaf.ensures.after ∙ c.new.ensures) (omega (arith, inside e))
