@@ -1,0 +1,5 @@
+pub mod Stretches
+pub mod Measured
+pub mod StretchLaws
+pub mod Edges
+pub mod Clips

@@ -1,0 +1,4 @@
+pub mod Edge
+pub mod Stretch
+pub mod Plain
+pub mod Part

@@ -1,0 +1,11 @@
+//! Parts of a rope's text, or of a plain text: borrowed, with lengths, lines and chunks of their own. No call takes memory.
+#![tactic(auto)]
+
+mod edge;
+pub mod part;
+mod part_lookups;
+mod plain;
+mod stretch;
+mod stretch_lookups;
+
+pub use part::Part;
