@@ -3,3 +3,8 @@ pub mod Measured
 pub mod StretchLaws
 pub mod Edges
 pub mod Clips
+pub mod ClippedChunks
+pub mod ChunkParts
+pub mod LeafParts
+pub mod Lookups
+pub mod Kept

@@ -27,6 +27,7 @@ pub record Measured (set : LineBreaks) (text : List ℕ) (start end : TextInfo) 
   pub start_bytes : start.bytes ≡ byte_len (take start.chars text)
   pub end_bytes : end.bytes ≡ byte_len (take end.chars text)
   pub bytes : end.bytes ≡ start.bytes + byte_len (slice_range text start.chars end.chars)
+  pub some_bytes : start.bytes < end.bytes
   pub all_bytes : end.bytes ≤ byte_len text
   pub start_units : start.chars + start.utf16_surrogates ≡ utf16_len (take start.chars text)
   pub surrogates : end.utf16_surrogates ≡ start.utf16_surrogates + surrogate_count (slice_range text start.chars end.chars)
@@ -89,6 +90,7 @@ measured set text start end s =
       start_bytes = start_bytes;
       end_bytes = end_bytes;
       bytes = omega (arith, size_part byte_len IsMeasure-byte_len text a b (omega arith));
+      some_bytes = omega (arith, size_part byte_len IsMeasure-byte_len text a b (omega arith), length_part text a b within, length-le-encodes (slice_range text a b));
       all_bytes = omega (arith, size_le_all byte_len IsMeasure-byte_len text b);
       start_units = omega arith;
       surrogates = omega (arith, ap surrogate_count (front_and_part text a b (omega arith)), surrogate_count-append (take a text) (slice_range text a b));

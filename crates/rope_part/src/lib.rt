@@ -3,9 +3,11 @@
 
 mod edge;
 pub mod part;
+mod part_chunks;
 mod part_lookups;
 mod plain;
 mod stretch;
+mod stretch_chunks;
 mod stretch_lookups;
 
 pub use part::Part;

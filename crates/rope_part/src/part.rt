@@ -1,5 +1,5 @@
 //! A part of a text.
-ghost use Rattle.std.specs.Prelude.{◌≡◌, ◌≤◌, ◌<◌, ◌^◌, [], length};
+ghost use Rattle.std.specs.Prelude.{◌≡◌, ◌≤◌, [], length};
 ghost use Rattle.std.specs.List.{slice_range};
 ghost use Rattle.std.specs.Str.{chars};
 ghost use Rattle.rope_text.specs.Text.{byte_len, utf16_len};
@@ -28,7 +28,8 @@ pub enum Part<'a> {
 }
 
 impl<'a> Part<'a> {
-    ghost use Rattle.rope_part.specs.Part.{text_of, chunks_of, breaks_of};
+    ghost use Rattle.rope_part.specs.Kept.{IsPart};
+    ghost use Rattle.rope_part.specs.Part.{content_of, text_of, chunks_of, breaks_of};
 
     /// A plain text. It is gone over once, to be counted.
     pub fn from_str_with(text: &'a str, breaks: LineBreaks) -> Part<'a>
@@ -74,7 +75,7 @@ impl<'a> Part<'a> {
     /// The counts of its text. No text is read.
     pub fn info(&self) -> TextInfo
         ensures value { result ≡ info_of (breaks_of self.now) (text_of self.now) }
-        ensures fits { byte_len (text_of self.now) < 2 ^ 63 }
+        ensures kept { IsPart (content_of self.now) }
     {
         match self {
             Part::InTree(stretch) => stretch.info(),

@@ -1,5 +1,5 @@
 //! A plain text as a part.
-ghost use Rattle.std.specs.Prelude.{◌≡◌, ◌≤◌, ◌<◌, ◌^◌, length, slice_get, Some};
+ghost use Rattle.std.specs.Prelude.{◌≡◌, ◌≤◌, ◌<◌, length, slice_get, Some};
 ghost use Rattle.std.specs.List.{slice_range};
 ghost use Rattle.std.specs.Str.{chars, encode_utf8_all};
 ghost use Rattle.rope_text.specs.TextInfo.{info_of};
@@ -30,7 +30,8 @@ fn first_char(text: &str) -> char
 }
 
 impl<'a> Plain<'a> {
-    ghost use Rattle.rope_part.specs.Plain.{text_of, chunks_of};
+    ghost use Rattle.rope_part.specs.Kept.{IsPart};
+    ghost use Rattle.rope_part.specs.Plain.{content_of, text_of};
 
     /// A text. It is gone over once, to be counted.
     pub fn new(text: &'a str, breaks: LineBreaks) -> Plain<'a>
@@ -47,7 +48,7 @@ impl<'a> Plain<'a> {
     /// The counts of the text.
     pub fn info(&self) -> TextInfo
         ensures value { result ≡ info_of self.now.breaks (text_of self.now) }
-        ensures fits { byte_len (text_of self.now) < 2 ^ 63 }
+        ensures kept { IsPart (content_of self.now) }
     {
         let text = self.as_str();
         let _ = text.as_bytes();

@@ -1,5 +1,5 @@
 //! Characters of a tree's text, one at least.
-ghost use Rattle.std.specs.Prelude.{◌≡◌, ◌+◌, ◌≤◌, ◌<◌, ◌^◌, length};
+ghost use Rattle.std.specs.Prelude.{◌≡◌, ◌+◌, ◌≤◌, ◌<◌, length};
 ghost use Rattle.std.specs.List.{slice_range};
 ghost use Rattle.rope_text.specs.TextInfo.{info_of};
 ghost use Rattle.rope_text.specs.Text.{byte_len, utf16_len};
@@ -28,7 +28,8 @@ pub struct Stretch<'a> {
 }
 
 impl<'a> Stretch<'a> {
-    ghost use Rattle.rope_part.specs.Stretch.{text_of, chunks_of, breaks_of};
+    ghost use Rattle.rope_part.specs.Kept.{IsPart};
+    ghost use Rattle.rope_part.specs.Stretch.{content_of, text_of, chunks_of, breaks_of};
 
     /// The whole text of a tree.
     pub fn whole(node: &'a Node) -> Stretch<'a>
@@ -55,7 +56,7 @@ impl<'a> Stretch<'a> {
     /// The counts of its text.
     pub fn info(&self) -> TextInfo
         ensures value { result ≡ info_of (breaks_of self.now) (text_of self.now) }
-        ensures fits { byte_len (text_of self.now) < 2 ^ 63 }
+        ensures kept { IsPart (content_of self.now) }
     {
         let _ = self.node.height();
         self.end.minus(self.start)

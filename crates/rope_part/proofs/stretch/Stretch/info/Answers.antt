@@ -1,5 +1,6 @@
 use Rattle.std.proofs.Common.{arith}
 use Rattle.rope_part.proofs.Measured.{measured, info_part}
+use Rattle.rope_part.proofs.Kept.{stretch_kept}
 use Rattle.rope_part.proofs.stretch.Stretch.info.Goals as goal
 
 pub minus-requires-clause-bytes : goal.minus-requires-clause-bytes
@@ -14,5 +15,5 @@ minus-requires-clause-line_breaks c = let m = measured _ _ _ _ c.args.self.now.i
 pub returns-clause-value : goal.returns-clause-value
 returns-clause-value c = info_part _ _ _ _ _ c.args.self.now.is_stretch c.minus.ensures.sum
 
-pub returns-clause-fits : goal.returns-clause-fits
-returns-clause-fits c = let m = measured _ _ _ _ c.args.self.now.is_stretch in omega (arith, c.height.ensures.tree.fits)
+pub returns-clause-kept : goal.returns-clause-kept
+returns-clause-kept c = stretch_kept c.args.self.now.node.now c.args.self.now.start c.args.self.now.end c.height.ensures.tree c.args.self.now.is_stretch
