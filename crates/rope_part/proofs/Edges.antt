@@ -1,0 +1,58 @@
+-- The counts up to a place, from the leaf that holds it.
+use Rattle.std.proofs.Common.{◌≡◌, ℕ, zero, suc, ◌+◌, ◌-◌, ◌<◌, Bool, true, false, ◌&&◌, List, [], ◌∷◌, ◌++◌, length, take, drop, refl, sym, ap, ◌∙◌, arith}
+use Rattle.std.specs.List.{concat}
+use Rattle.std.proofs.lemmas.List.{take-append-drop, length-take-le, append_cancel_left, length-append}
+use Rattle.rope_text.specs.declared.text_info.TextInfo.{TextInfo}
+use Rattle.rope_text.specs.Text.{surrogate_count}
+use Rattle.rope_text.specs.TextInfo.{info_of}
+use Rattle.rope_text.specs.Breaks.{ends_in_cr}
+use Rattle.rope_text.specs.Cutting.{parts_crlf}
+use Rattle.rope_text.specs.Conversions.{char_to_byte, char_to_line}
+use Rattle.rope_text.proofs.CuttingLaws.{concat-append}
+use Rattle.rope_text.proofs.ChunkLaws.{before, after, KeepsCrlf_before}
+use Rattle.rope_tree.specs.declared.search.Unit.TheVariants.{Char}
+use Rattle.rope_tree.specs.Tree.{Tree, text, IsTree}
+use Rattle.rope_tree.specs.Found.{IsFound}
+use Rattle.rope_tree.proofs.FoundLaws.{lies_at, front_in, found_char, found_char_to_byte, found_char_to_utf16, found_char_to_line}
+use Rattle.rope_tree.proofs.LeafLaws.{nonempty_leaves}
+use Rattle.rope_part.specs.Edge.{start_info, end_info}
+use Rattle.rope_part.proofs.Measured.{same_info}
+
+front_apart : (s leaf rest : List ℕ) (k : ℕ) → 0 < length leaf → parts_crlf s (leaf ++ rest) ≡ false → parts_crlf s (take k leaf) ≡ false
+front_apart s [] rest k some apart = absurd (omega arith)
+front_apart s (c ∷ leaf) rest zero some apart = never (ends_in_cr s)
+  where
+    never : (x : Bool) → (x && false) ≡ false
+    never true = refl
+    never false = refl
+front_apart s (c ∷ leaf) rest (suc k) some apart = apart
+
+module _ (i : ℕ) (t : Tree) (leaf : List ℕ) (front : TextInfo) (tree : IsTree t) (f : IsFound Char i t leaf front) where
+  pub start_found : (bytes pairs lines : ℕ) → bytes ≡ char_to_byte leaf (i - front.chars) → pairs ≡ surrogate_count (take (i - front.chars) leaf) → lines ≡ char_to_line t.breaks leaf (i - front.chars)
+      → record { bytes = front.bytes + bytes; chars = i; utf16_surrogates = front.utf16_surrogates + pairs; line_breaks = front.line_breaks + lines } ≡ start_info t.breaks (text t) i
+  start_found bytes pairs lines b p l =
+      let k : ℕ = i - front.chars in
+      let within = (found_char i t leaf front f).0 in
+      let at = lies_at Char i t leaf front f in
+      let whole = ap length at.around in
+      let long = length-take-le i (text t) (omega (arith, f.not_past, whole, at.chars, length-append (before t.leaves f.index) (leaf ++ after t.leaves f.index), length-append leaf (after t.leaves f.index))) in
+      let short = length-take-le k leaf (omega arith) in
+      let units = found_char_to_utf16 i t leaf front tree f in
+      same_info (record { bytes = front.bytes + bytes; chars = i; utf16_surrogates = front.utf16_surrogates + pairs; line_breaks = front.line_breaks + lines }) (start_info t.breaks (text t) i)
+      (omega (arith, found_char_to_byte i t leaf front tree f, b)) refl (omega (arith, units, long, short, p, f.not_past)) (omega (arith, found_char_to_line i t leaf front tree f, l))
+
+  pub seam_before : parts_crlf (before t.leaves f.index) (take (i - front.chars) leaf) ≡ false
+  seam_before =
+      let at = lies_at Char i t leaf front f in
+      let within = (found_char i t leaf front f).0 in
+      let rest : concat (drop f.index t.leaves) ≡ leaf ++ after t.leaves f.index =
+      append_cancel_left (before t.leaves f.index) (concat (drop f.index t.leaves)) (leaf ++ after t.leaves f.index)
+      (sym (concat-append (take f.index t.leaves) (drop f.index t.leaves)) ∙ ap concat (take-append-drop f.index t.leaves) ∙ at.around) in
+      front_apart (before t.leaves f.index) leaf (after t.leaves f.index) (i - front.chars) (omega arith)
+      (ap (parts_crlf (before t.leaves f.index)) (sym rest) ∙ KeepsCrlf_before t.leaves f.index (nonempty_leaves t.leaves tree.leaves.each) tree.leaves.whole)
+
+  pub end_found : (info : TextInfo) → info ≡ info_of t.breaks (before t.leaves f.index ++ take (i - front.chars) leaf) → info ≡ end_info t.breaks (text t) i
+  end_found info e =
+      let at = lies_at Char i t leaf front f in
+      let within = (found_char i t leaf front f).0 in
+      e ∙ ap (info_of t.breaks) (sym (front_in i t leaf front tree f.index at f.not_past (omega (arith, f.not_past))))

@@ -1,0 +1,10 @@
+pub mod Stretches
+pub mod Measured
+pub mod StretchLaws
+pub mod Edges
+pub mod Clips
+pub mod ClippedChunks
+pub mod ChunkParts
+pub mod LeafParts
+pub mod Lookups
+pub mod Kept

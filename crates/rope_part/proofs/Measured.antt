@@ -1,0 +1,140 @@
+-- What the counts at the two ends of a stretch tell of its text.
+use Rattle.std.proofs.Common.{◌≡◌, ℕ, ◌+◌, ◌*◌, ◌<◌, ◌≤◌, Bool, true, false, ◌&&◌, cond, List, [], length, take, drop, refl, sym, ap, ◌∙◌, arith, inl, inr}
+use Rattle.std.specs.List.{slice_range}
+use Rattle.std.proofs.lemmas.List.{take-append-drop, length-take-le, take_all}
+use Rattle.std.proofs.lemmas.Str.{length-le-encodes}
+use Rattle.rope_text.specs.declared.line_breaks.LineBreaks.{LineBreaks}
+use Rattle.rope_text.specs.declared.text_info.TextInfo.{TextInfo}
+use Rattle.rope_text.specs.Text.{byte_len, utf16_len, surrogate_count}
+use Rattle.rope_text.specs.TextInfo.{info_of, info_sum}
+use Rattle.rope_text.specs.Breaks.{is_break_char, begins_with_lf, ends_in_cr, ends_break, break_count}
+use Rattle.rope_text.specs.Conversions.{char_to_line}
+use Rattle.rope_text.proofs.Measures.{IsMeasure-byte_len, IsMeasure-utf16_len, size_le_all}
+use Rattle.rope_text.proofs.ConversionLaws.{utf16_len-le, char_to_line_start}
+use Rattle.rope_text.proofs.BreakLaws.{break_count-append, break_count-cons, break_ends-nil, joins_break}
+use Rattle.rope_text.proofs.TextParts.{lf_first}
+use Rattle.std.proofs.lemmas.Bool.{cases_Bool}
+use Rattle.rope_text.specs.declared.line_breaks.LineBreaks.TheVariants.{Lf, CrLf, Unicode}
+use Rattle.rope_text.proofs.InfoLaws.{surrogate_count-append}
+use Rattle.rope_tree.proofs.Infos.{break_count-le-length}
+use Rattle.rope_part.specs.Edge.{start_info, end_info, IsStretch}
+use Rattle.rope_part.proofs.Stretches.{length_part, size_part, break_count_part, front_and_part}
+
+pub record Measured (set : LineBreaks) (text : List ℕ) (start end : TextInfo) : Type 0 where
+  pub some : start.chars < end.chars
+  pub within : end.chars ≤ length text
+  pub chars : end.chars ≡ start.chars + length (slice_range text start.chars end.chars)
+  pub start_bytes : start.bytes ≡ byte_len (take start.chars text)
+  pub end_bytes : end.bytes ≡ byte_len (take end.chars text)
+  pub bytes : end.bytes ≡ start.bytes + byte_len (slice_range text start.chars end.chars)
+  pub some_bytes : start.bytes < end.bytes
+  pub all_bytes : end.bytes ≤ byte_len text
+  pub start_units : start.chars + start.utf16_surrogates ≡ utf16_len (take start.chars text)
+  pub surrogates : end.utf16_surrogates ≡ start.utf16_surrogates + surrogate_count (slice_range text start.chars end.chars)
+  pub all_units : end.chars + end.utf16_surrogates ≤ utf16_len text
+  pub start_breaks : start.line_breaks ≡ char_to_line set text start.chars
+  pub breaks : end.line_breaks ≡ start.line_breaks + break_count set (slice_range text start.chars end.chars)
+  pub all_breaks : end.line_breaks ≤ break_count set text
+  pub few_chars : length text ≤ byte_len text
+  pub few_units : utf16_len text ≤ 2 * byte_len text
+  pub few_breaks : break_count set text ≤ length text
+
+lf_ends : (set : LineBreaks) (rest : List ℕ) → ends_break set 10 rest ≡ true
+lf_ends Lf rest = refl
+lf_ends CrLf rest = refl
+lf_ends Unicode rest = refl
+
+never : (x y : Bool) → cond {A = ℕ} ((x && false) && y) 1 0 ≡ 0
+never true y = refl
+never false y = refl
+
+at_most_one : (b : Bool) → cond {A = ℕ} b 1 0 ≤ 1
+at_most_one true = omega arith
+at_most_one false = omega arith
+
+-- the LF behind a CR ends a break
+shared_le : (set : LineBreaks) (s t : List ℕ) → cond {A = ℕ} (joins_break set s t) 1 0 ≤ break_count set t
+shared_le set s t = elim (cases_Bool (begins_with_lf t)) [
+  | inl lf ↦
+      let one : break_count set t ≡ 1 + break_count set (drop 1 t) =
+      ap (break_count set) (lf_first t lf) ∙ break_count-cons set 10 (drop 1 t) ∙ ap (λ (b : Bool). cond {A = ℕ} b 1 0 + break_count set (drop 1 t)) (lf_ends set (drop 1 t)) in
+      omega (arith, at_most_one (joins_break set s t))
+  | inr other ↦
+      let none : cond {A = ℕ} (joins_break set s t) 1 0 ≡ 0 = ap (λ (b : Bool). cond {A = ℕ} ((ends_in_cr s && b) && is_break_char set 13) 1 0) other ∙ never (ends_in_cr s) (is_break_char set 13) in
+      omega arith
+]
+
+-- a front by itself has no more breaks than the text
+pub break_count-front : (set : LineBreaks) (text : List ℕ) (i : ℕ) → break_count set (take i text) ≤ break_count set text
+break_count-front set text i =
+    omega (arith, break_count-append set (take i text) (drop i text), ap (break_count set) (take-append-drop i text), shared_le set (take i text) (drop i text))
+
+pub measured : (set : LineBreaks) (text : List ℕ) (start end : TextInfo) → IsStretch set text start end → Measured set text start end
+measured set text start end s =
+    let a : ℕ = start.chars in
+    let b : ℕ = end.chars in
+    let less : a < b = s.some in
+    let within : b ≤ length text = s.within in
+    let front = length-take-le a text (omega arith) in
+    let all = length-take-le b text within in
+    let start_bytes : start.bytes ≡ byte_len (take a text) = ap (λ x. x.bytes) s.start_is in
+    let end_bytes : end.bytes ≡ byte_len (take b text) = ap (λ x. x.bytes) s.end_is in
+    let start_pairs : start.utf16_surrogates ≡ surrogate_count (take a text) = ap (λ x. x.utf16_surrogates) s.start_is in
+    let end_pairs : end.utf16_surrogates ≡ surrogate_count (take b text) = ap (λ x. x.utf16_surrogates) s.end_is in
+    let start_breaks : start.line_breaks ≡ char_to_line set text a = ap (λ x. x.line_breaks) s.start_is in
+    let end_breaks : end.line_breaks ≡ break_count set (take b text) = ap (λ x. x.line_breaks) s.end_is in
+    record {
+      some = less;
+      within = within;
+      chars = omega (arith, length_part text a b within);
+      start_bytes = start_bytes;
+      end_bytes = end_bytes;
+      bytes = omega (arith, size_part byte_len IsMeasure-byte_len text a b (omega arith));
+      some_bytes = omega (arith, size_part byte_len IsMeasure-byte_len text a b (omega arith), length_part text a b within, length-le-encodes (slice_range text a b));
+      all_bytes = omega (arith, size_le_all byte_len IsMeasure-byte_len text b);
+      start_units = omega arith;
+      surrogates = omega (arith, ap surrogate_count (front_and_part text a b (omega arith)), surrogate_count-append (take a text) (slice_range text a b));
+      all_units = omega (arith, size_le_all utf16_len IsMeasure-utf16_len text b);
+      start_breaks = start_breaks;
+      breaks = omega (arith, break_count_part set text a b less within);
+      all_breaks = omega (arith, break_count-front set text b);
+      few_chars = length-le-encodes text;
+      few_units = utf16_len-le text;
+      few_breaks = break_count-le-length set text;
+    }
+
+-- four counts that are the same
+pub same_info : (x y : TextInfo) → x.bytes ≡ y.bytes → x.chars ≡ y.chars → x.utf16_surrogates ≡ y.utf16_surrogates → x.line_breaks ≡ y.line_breaks → x ≡ y
+same_info x y bytes chars pairs breaks =
+    let first : x ≡ record { bytes = y.bytes; chars = x.chars; utf16_surrogates = x.utf16_surrogates; line_breaks = x.line_breaks } =
+    ap (λ (n : ℕ). (let r : TextInfo = record { bytes = n; chars = x.chars; utf16_surrogates = x.utf16_surrogates; line_breaks = x.line_breaks } in r)) bytes in
+    let second : record { bytes = y.bytes; chars = x.chars; utf16_surrogates = x.utf16_surrogates; line_breaks = x.line_breaks } ≡ record { bytes = y.bytes; chars = y.chars; utf16_surrogates = x.utf16_surrogates; line_breaks = x.line_breaks } =
+    ap (λ (n : ℕ). (let r : TextInfo = record { bytes = y.bytes; chars = n; utf16_surrogates = x.utf16_surrogates; line_breaks = x.line_breaks } in r)) chars in
+    let third : record { bytes = y.bytes; chars = y.chars; utf16_surrogates = x.utf16_surrogates; line_breaks = x.line_breaks } ≡ record { bytes = y.bytes; chars = y.chars; utf16_surrogates = y.utf16_surrogates; line_breaks = x.line_breaks } =
+    ap (λ (n : ℕ). (let r : TextInfo = record { bytes = y.bytes; chars = y.chars; utf16_surrogates = n; line_breaks = x.line_breaks } in r)) pairs in
+    let fourth : record { bytes = y.bytes; chars = y.chars; utf16_surrogates = y.utf16_surrogates; line_breaks = x.line_breaks } ≡ y =
+    ap (λ (n : ℕ). (let r : TextInfo = record { bytes = y.bytes; chars = y.chars; utf16_surrogates = y.utf16_surrogates; line_breaks = n } in r)) breaks in
+    first ∙ second ∙ third ∙ fourth
+
+-- the counts of the text of a stretch are the differences
+pub info_part : (set : LineBreaks) (text : List ℕ) (start end info : TextInfo) → IsStretch set text start end → info_sum start info ≡ end → info ≡ info_of set (slice_range text start.chars end.chars)
+info_part set text start end info s sum =
+    let m = measured set text start end s in
+    let bytes : info.bytes ≡ byte_len (slice_range text start.chars end.chars) = omega (arith, ap (λ x. x.bytes) sum) in
+    let chars : info.chars ≡ length (slice_range text start.chars end.chars) = omega (arith, ap (λ x. x.chars) sum) in
+    let pairs : info.utf16_surrogates ≡ surrogate_count (slice_range text start.chars end.chars) = omega (arith, ap (λ x. x.utf16_surrogates) sum) in
+    let breaks : info.line_breaks ≡ break_count set (slice_range text start.chars end.chars) = omega (arith, ap (λ x. x.line_breaks) sum) in
+    same_info info (info_of set (slice_range text start.chars end.chars)) bytes chars pairs breaks
+
+-- a whole text as a stretch
+pub whole_stretch : (set : LineBreaks) (text : List ℕ) (start end : TextInfo) → 0 < length text → start ≡ info_of set [] → end ≡ info_of set text → IsStretch set text start end
+whole_stretch set text start end some first last =
+    let none : start.chars ≡ 0 = ap (λ x. x.chars) first in
+    let all : end.chars ≡ length text = ap (λ x. x.chars) last in
+    let no_break : break_count set [] ≡ char_to_line set text 0 = ap length (break_ends-nil set) ∙ sym (char_to_line_start set text) in
+    record {
+      some = omega arith;
+      within = omega arith;
+      start_is = first ∙ same_info (info_of set []) (start_info set text 0) refl refl refl no_break ∙ sym (ap (start_info set text) none);
+      end_is = last ∙ sym (ap (end_info set text) all ∙ ap (info_of set) (take_all (length text) text (omega arith)));
+    }

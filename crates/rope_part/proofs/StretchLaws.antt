@@ -1,0 +1,112 @@
+-- The conversions of a stretch are those of the text, from its start on.
+use Rattle.std.proofs.Common.{◌≡◌, ℕ, ◌+◌, ◌<◌, ◌≤◌, min, List, ◌++◌, length, take, drop, sym, ap, ◌∙◌, arith, inl, inr, slice_get, Some}
+use Rattle.std.specs.List.{slice_range}
+use Rattle.std.specs.Str.{encode_utf8_all}
+use Rattle.std.proofs.lemmas.Bool.{cases_lt}
+use Rattle.std.proofs.lemmas.List.{length-take-le, length-append, get_or-append-add, get_or_append_left}
+use Rattle.std.proofs.lemmas.Option.{slice_get-get_or}
+use Rattle.std.proofs.lemmas.Str.{encodes-append}
+use Rattle.rope_text.specs.declared.line_breaks.LineBreaks.{LineBreaks}
+use Rattle.rope_text.specs.declared.text_info.TextInfo.{TextInfo}
+use Rattle.rope_text.specs.Text.{byte_len, utf16_len}
+use Rattle.rope_text.specs.Lines.{line_start}
+use Rattle.rope_text.specs.Conversions.{byte_to_char, utf16_to_char, char_to_byte, char_to_utf16, char_to_line, byte_to_line, line_to_byte, line_to_char}
+use Rattle.rope_text.proofs.Measures.{IsMeasure-byte_len, IsMeasure-utf16_len, size_le}
+use Rattle.rope_text.proofs.ConversionLaws.{char_to_line_past}
+use Rattle.rope_text.proofs.LineLaws.{line_start-le-length}
+use Rattle.rope_tree.proofs.FoundLaws.{byte_to_line_end}
+use Rattle.rope_part.specs.Edge.{IsStretch}
+use Rattle.rope_part.proofs.Measured.{measured}
+use Rattle.rope_part.proofs.Stretches.{around_part, byte_to_char_part, utf16_to_char_part, size_of_front, char_to_line_part, byte_to_line_part, line_start_part}
+
+-- an element of three lists in a row that lies in the second
+within_middle : (xs ys zs : List ℕ) (i : ℕ) → i < length ys → slice_get (xs ++ (ys ++ zs)) (length xs + i) ≡ slice_get ys i
+within_middle xs ys zs i lt =
+    slice_get-get_or (xs ++ (ys ++ zs)) (length xs + i) 0 (omega (arith, length-append xs (ys ++ zs), length-append ys zs))
+    ∙ ap (λ x. Some x) (get_or-append-add xs (ys ++ zs) i 0 ∙ get_or_append_left ys zs 0 i lt)
+    ∙ sym (slice_get-get_or ys i 0 lt)
+
+-- the bytes up to the earlier of two places are the fewer
+bytes_of_min : (text : List ℕ) (i j : ℕ) → byte_len (take (min i j) text) ≡ min (byte_len (take i text)) (byte_len (take j text))
+bytes_of_min text i j = elim (cases_lt i j) [
+  | inl less ↦ let same : min i j ≡ i = omega arith in rw same (omega (arith, size_le byte_len IsMeasure-byte_len text i j (omega arith)))
+  | inr more ↦ let same : min i j ≡ j = omega arith in rw same (omega (arith, size_le byte_len IsMeasure-byte_len text j i more))
+]
+
+module _ (set : LineBreaks) (text : List ℕ) (start end : TextInfo) (s : IsStretch set text start end) where
+  pub stretch_byte_to_char : (n : ℕ) → n ≤ byte_len (slice_range text start.chars end.chars) → byte_to_char text (start.bytes + n) ≡ start.chars + byte_to_char (slice_range text start.chars end.chars) n
+  stretch_byte_to_char n fits =
+      let m = measured set text start end s in
+      ap (λ k. byte_to_char text (k + n)) m.start_bytes ∙ byte_to_char_part text start.chars end.chars n (omega arith) m.within fits
+
+  pub stretch_utf16_to_char : (n : ℕ) → n ≤ utf16_len (slice_range text start.chars end.chars)
+      → utf16_to_char text ((start.chars + start.utf16_surrogates) + n) ≡ start.chars + utf16_to_char (slice_range text start.chars end.chars) n
+  stretch_utf16_to_char n fits =
+      let m = measured set text start end s in
+      ap (λ k. utf16_to_char text (k + n)) m.start_units ∙ utf16_to_char_part text start.chars end.chars n (omega arith) m.within fits
+
+  pub stretch_char_to_byte : (i : ℕ) → i ≤ length (slice_range text start.chars end.chars) → char_to_byte text (start.chars + i) ≡ start.bytes + char_to_byte (slice_range text start.chars end.chars) i
+  stretch_char_to_byte i fits =
+      let m = measured set text start end s in
+      size_of_front byte_len IsMeasure-byte_len text start.chars end.chars i (omega arith) ∙ ap (λ k. k + byte_len (take i (slice_range text start.chars end.chars))) (sym m.start_bytes)
+
+  pub stretch_char_to_utf16 : (i : ℕ) → i ≤ length (slice_range text start.chars end.chars)
+      → char_to_utf16 text (start.chars + i) ≡ (start.chars + start.utf16_surrogates) + char_to_utf16 (slice_range text start.chars end.chars) i
+  stretch_char_to_utf16 i fits =
+      let m = measured set text start end s in
+      size_of_front utf16_len IsMeasure-utf16_len text start.chars end.chars i (omega arith) ∙ ap (λ k. k + utf16_len (take i (slice_range text start.chars end.chars))) (sym m.start_units)
+
+  pub stretch_char_to_line : (i : ℕ) → start.chars + i < end.chars → char_to_line set text (start.chars + i) ≡ start.line_breaks + char_to_line set (slice_range text start.chars end.chars) i
+  stretch_char_to_line i less =
+      let m = measured set text start end s in
+      char_to_line_part set text start.chars end.chars m.some m.within i (omega arith) ∙ ap (λ k. k + char_to_line set (slice_range text start.chars end.chars) i) (sym m.start_breaks)
+
+  pub stretch_char_to_line_end : (i : ℕ) → start.chars + i ≡ end.chars → end.line_breaks ≡ start.line_breaks + char_to_line set (slice_range text start.chars end.chars) i
+  stretch_char_to_line_end i e =
+      let m = measured set text start end s in
+      omega (arith, char_to_line_past set (slice_range text start.chars end.chars) i (omega arith))
+
+  pub stretch_byte_to_line : (n : ℕ) → start.bytes + n < end.bytes → byte_to_line set text (start.bytes + n) ≡ start.line_breaks + byte_to_line set (slice_range text start.chars end.chars) n
+  stretch_byte_to_line n less =
+      let m = measured set text start end s in
+      ap (λ k. byte_to_line set text (k + n)) m.start_bytes ∙ byte_to_line_part set text start.chars end.chars m.some m.within n (omega arith)
+      ∙ ap (λ k. k + byte_to_line set (slice_range text start.chars end.chars) n) (sym m.start_breaks)
+
+  pub stretch_byte_to_line_end : (n : ℕ) → start.bytes + n ≡ end.bytes → end.line_breaks ≡ start.line_breaks + byte_to_line set (slice_range text start.chars end.chars) n
+  stretch_byte_to_line_end n e =
+      let m = measured set text start end s in
+      let whole : n ≡ byte_len (slice_range text start.chars end.chars) = omega arith in
+      omega (arith, ap (byte_to_line set (slice_range text start.chars end.chars)) whole, byte_to_line_end set (slice_range text start.chars end.chars))
+
+  pub stretch_line_to_char : (l : ℕ) → 0 < l → min (line_to_char set text (start.line_breaks + l)) end.chars ≡ start.chars + line_to_char set (slice_range text start.chars end.chars) l
+  stretch_line_to_char l later =
+      let m = measured set text start end s in
+      ap (λ k. min (line_start set text (k + l)) end.chars) m.start_breaks ∙ sym (line_start_part set text start.chars end.chars m.some m.within l later)
+
+  pub stretch_line_to_byte : (l : ℕ) → 0 < l → min (line_to_byte set text (start.line_breaks + l)) end.bytes ≡ start.bytes + line_to_byte set (slice_range text start.chars end.chars) l
+  stretch_line_to_byte l later =
+      let m = measured set text start end s in
+      let place : ℕ = line_start set text (start.line_breaks + l) in
+      let here : ℕ = line_start set (slice_range text start.chars end.chars) l in
+      let short = line_start-le-length set (slice_range text start.chars end.chars) l in
+      ap (min (byte_len (take place text))) m.end_bytes ∙ sym (bytes_of_min text place end.chars)
+      ∙ ap (λ k. byte_len (take k text)) (stretch_line_to_char l later) ∙ stretch_char_to_byte here short
+
+  pub stretch_byte : (n : ℕ) → n < byte_len (slice_range text start.chars end.chars) → slice_get (encode_utf8_all text) (start.bytes + n) ≡ slice_get (encode_utf8_all (slice_range text start.chars end.chars)) n
+  stretch_byte n less =
+      let m = measured set text start end s in
+      let before : List ℕ = take start.chars text in
+      let rest : List ℕ = drop end.chars text in
+      ap (λ k. slice_get (encode_utf8_all text) (k + n)) m.start_bytes
+      ∙ ap (λ bs. slice_get bs (byte_len before + n)) (ap encode_utf8_all (around_part text start.chars end.chars (omega arith)) ∙ encodes-append before (slice_range text start.chars end.chars ++ rest)
+      ∙ ap (λ bs. encode_utf8_all before ++ bs) (encodes-append (slice_range text start.chars end.chars) rest))
+      ∙ within_middle (encode_utf8_all before) (encode_utf8_all (slice_range text start.chars end.chars)) (encode_utf8_all rest) n less
+
+  pub stretch_char : (i : ℕ) → i < length (slice_range text start.chars end.chars) → slice_get text (start.chars + i) ≡ slice_get (slice_range text start.chars end.chars) i
+  stretch_char i less =
+      let m = measured set text start end s in
+      let before : List ℕ = take start.chars text in
+      let size : length before ≡ start.chars = length-take-le start.chars text (omega arith) in
+      ap (λ k. slice_get text (k + i)) (sym size)
+      ∙ ap (λ cs. slice_get cs (length before + i)) (around_part text start.chars end.chars (omega arith))
+      ∙ within_middle before (slice_range text start.chars end.chars) (drop end.chars text) i less

@@ -1,0 +1,9 @@
+use Rattle.std.proofs.Common.{ap, arith}
+use Rattle.rope_tree.proofs.Infos.{small_info}
+use Rattle.rope_part.specs.Part.{text_of, breaks_of}
+use Rattle.rope_part.proofs.part.Part.len_lines.Goals as goal
+
+pub overflow_add-result : goal.overflow_add-result
+overflow_add-result c =
+    let small = small_info (breaks_of c.args.self.now) (text_of c.args.self.now) c.info.ensures.kept.fits in
+    omega (arith, ap (λ x. x.line_breaks) c.info.ensures.value)

@@ -1,0 +1,37 @@
+-- The counts of a text up to the two ends of a part.
+use Rattle.std.specs.Prelude.{◌≡◌, ℕ, ◌≤◌, ◌<◌, List, length, take}
+use Rattle.std.proofs.Props.{props}
+use Rattle.rope_text.specs.declared.line_breaks.LineBreaks.{LineBreaks}
+use Rattle.rope_text.specs.declared.text_info.TextInfo.{TextInfo}
+use Rattle.rope_text.specs.Text.{byte_len, surrogate_count}
+use Rattle.rope_text.specs.TextInfo.{info_of}
+use Rattle.rope_text.specs.Conversions.{char_to_line}
+
+-- the counts of the text before a part's start. Its breaks are those that end there or before: the CR of a CR LF that the
+-- start lies in is none of them, since the LF is a break of the part
+abbrev pub start_info : LineBreaks → List ℕ → ℕ → TextInfo
+start_info set text i = record {
+  bytes = byte_len (take i text);
+  chars = i;
+  utf16_surrogates = surrogate_count (take i text);
+  line_breaks = char_to_line set text i;
+}
+
+-- the counts of the text before a part's end. Its breaks are those of that text by itself: the CR of a CR LF that the
+-- end lies in is one of them, since it is a break of the part
+abbrev pub end_info : LineBreaks → List ℕ → ℕ → TextInfo
+end_info set text i = info_of set (take i text)
+
+-- characters of a text, one at least, with the counts up to their start and up to their end
+pub record IsStretch (set : LineBreaks) (text : List ℕ) (start end : TextInfo) : Type 0 where
+  pub some : start.chars < end.chars
+  pub within : end.chars ≤ length text
+  pub start_is : start ≡ start_info set text start.chars
+  pub end_is : end ≡ end_info set text end.chars
+
+-- there is at most one proof of it
+pub IsStretch-prop : (set : LineBreaks) (text : List ℕ) (start end : TextInfo) → IsProp (IsStretch set text start end)
+IsStretch-prop set text start end = hlevel props
+
+pub IsInfo-prop : (set : LineBreaks) (text : List ℕ) (info : TextInfo) → IsProp (info ≡ info_of set text)
+IsInfo-prop set text info = hlevel props

@@ -1,0 +1,13 @@
+//! Parts of a rope's text, or of a plain text: borrowed, with lengths, lines and chunks of their own. No call takes memory.
+#![tactic(auto)]
+
+mod edge;
+pub mod part;
+mod part_chunks;
+mod part_lookups;
+mod plain;
+mod stretch;
+mod stretch_chunks;
+mod stretch_lookups;
+
+pub use part::Part;

@@ -1,0 +1,241 @@
+//! A part of a text.
+ghost use Rattle.std.specs.Prelude.{◌≡◌, ◌≤◌, [], length};
+ghost use Rattle.std.specs.List.{slice_range};
+ghost use Rattle.std.specs.Str.{chars};
+ghost use Rattle.rope_text.specs.Text.{byte_len, utf16_len};
+ghost use Rattle.rope_text.specs.TextInfo.{info_of};
+ghost use Rattle.rope_text.specs.Lines.{line_count};
+ghost use Rattle.rope_text.specs.Conversions.{byte_to_char, byte_to_line, char_to_byte, char_to_line, char_to_utf16, line_to_byte, line_to_char, utf16_to_char};
+ghost use Rattle.rope_text.specs.Cutting.{clip, single_chunk};
+ghost use Rattle.rope_text.specs.Edit.{is_char_boundary};
+ghost use Rattle.rope_tree.specs.Tree.{text};
+
+use crate::plain::Plain;
+use crate::stretch::Stretch;
+use rope_text::{LineBreaks, TextInfo, str_utils};
+use rope_tree::node::Node;
+
+/// A part of a rope's text, or of a plain text. It counts its own text: one that ends after the CR of a CR LF has that CR
+/// as a line break, and one that starts at the LF has that LF, where they are breaks of its set.
+///
+/// Its chunks are those of the rope, clipped, empty parts dropped; a plain text is one chunk, or none.
+#[derive(Clone, Copy)]
+pub enum Part<'a> {
+    /// One character or more of a tree's text.
+    InTree(Stretch<'a>),
+    /// A plain text.
+    Alone(Plain<'a>),
+}
+
+impl<'a> Part<'a> {
+    ghost use Rattle.rope_part.specs.Kept.{IsPart};
+    ghost use Rattle.rope_part.specs.Part.{content_of, text_of, chunks_of, breaks_of};
+
+    /// A plain text. It is gone over once, to be counted.
+    pub fn from_str_with(text: &'a str, breaks: LineBreaks) -> Part<'a>
+        ensures text { text_of result ≡ chars text.now }
+        ensures chunks { chunks_of result ≡ single_chunk (chars text.now) }
+        ensures breaks { breaks_of result ≡ breaks }
+    {
+        Part::Alone(Plain::new(text, breaks))
+    }
+
+    // The empty text.
+    fn empty(breaks: LineBreaks) -> Part<'a>
+        ensures text { text_of result ≡ [] }
+        ensures chunks { chunks_of result ≡ [] }
+        ensures breaks { breaks_of result ≡ breaks }
+    {
+        Part::from_str_with("", breaks)
+    }
+
+    /// The whole text of a tree.
+    pub fn of_node(node: &'a Node) -> Part<'a>
+        ensures text { text_of result ≡ text node.now }
+        ensures chunks { chunks_of result ≡ node.now.leaves }
+        ensures breaks { breaks_of result ≡ node.now.breaks }
+    {
+        let _ = node.height();
+        if node.info().chars == 0 {
+            return Part::empty(node.line_breaks());
+        }
+        Part::InTree(Stretch::whole(node))
+    }
+
+    /// The set of line breaks.
+    pub fn line_breaks(&self) -> LineBreaks
+        ensures { result ≡ breaks_of self.now }
+    {
+        match self {
+            Part::InTree(stretch) => stretch.line_breaks(),
+            Part::Alone(plain) => plain.breaks,
+        }
+    }
+
+    /// The counts of its text. No text is read.
+    pub fn info(&self) -> TextInfo
+        ensures value { result ≡ info_of (breaks_of self.now) (text_of self.now) }
+        ensures kept { IsPart (content_of self.now) }
+    {
+        match self {
+            Part::InTree(stretch) => stretch.info(),
+            Part::Alone(plain) => plain.info(),
+        }
+    }
+
+    /// The length in bytes. No text is read.
+    pub fn len_bytes(&self) -> usize
+        ensures { result ≡ byte_len (text_of self.now) }
+    {
+        self.info().bytes
+    }
+
+    /// The length in characters. No text is read.
+    pub fn len_chars(&self) -> usize
+        ensures { result ≡ length (text_of self.now) }
+    {
+        self.info().chars
+    }
+
+    /// The number of lines: one more than there are line breaks. No text is read.
+    pub fn len_lines(&self) -> usize
+        ensures { result ≡ line_count (breaks_of self.now) (text_of self.now) }
+    {
+        self.info().line_breaks + 1
+    }
+
+    /// The length in code units of UTF-16. No text is read.
+    pub fn len_utf16_cu(&self) -> usize
+        ensures { result ≡ utf16_len (text_of self.now) }
+    {
+        let info = self.info();
+        info.chars + info.utf16_surrogates
+    }
+
+    /// Its characters from `start` up to `end`, with its set of line breaks: its text and its chunks, clipped.
+    pub fn char_range(&self, start: usize, end: usize) -> Part<'a>
+        requires ordered { start ≤ end }
+        requires within { end ≤ length (text_of self.now) }
+        ensures text { text_of result ≡ slice_range (text_of self.now) start end }
+        ensures chunks { chunks_of result ≡ clip (chunks_of self.now) start end }
+        ensures breaks { breaks_of result ≡ breaks_of self.now }
+    {
+        if start == end {
+            return Part::empty(self.line_breaks());
+        }
+        match self {
+            Part::InTree(stretch) => Part::InTree(stretch.range(start, end)),
+            Part::Alone(plain) => Part::Alone(plain.range(start, end)),
+        }
+    }
+
+    /// Its characters from the one that holds the byte `start` up to the one that holds the byte `end`, as `char_range`
+    /// gives them.
+    pub fn byte_range(&self, start: usize, end: usize) -> Part<'a>
+        requires ordered { start ≤ end }
+        requires within { end ≤ byte_len (text_of self.now) }
+        ensures text { text_of result ≡ slice_range (text_of self.now)
+            (byte_to_char (text_of self.now) start) (byte_to_char (text_of self.now) end) }
+        ensures chunks { chunks_of result ≡ clip (chunks_of self.now)
+            (byte_to_char (text_of self.now) start) (byte_to_char (text_of self.now) end) }
+        ensures breaks { breaks_of result ≡ breaks_of self.now }
+    {
+        self.char_range(self.byte_to_char(start), self.byte_to_char(end))
+    }
+
+    /// The character that holds a byte; at the end of the text the end.
+    pub fn byte_to_char(&self, byte_idx: usize) -> usize
+        requires { byte_idx ≤ byte_len (text_of self.now) }
+        ensures { result ≡ byte_to_char (text_of self.now) byte_idx }
+    {
+        match self {
+            Part::InTree(stretch) => stretch.byte_to_char(byte_idx),
+            Part::Alone(plain) => str_utils::byte_to_char_idx(plain.text, byte_idx),
+        }
+    }
+
+    /// The line that a byte lies on.
+    pub fn byte_to_line(&self, byte_idx: usize) -> usize
+        requires { byte_idx ≤ byte_len (text_of self.now) }
+        ensures { result ≡ byte_to_line (breaks_of self.now) (text_of self.now) byte_idx }
+    {
+        match self {
+            Part::InTree(stretch) => stretch.byte_to_line(byte_idx),
+            Part::Alone(plain) => str_utils::byte_to_line_with(plain.text, byte_idx, plain.breaks),
+        }
+    }
+
+    /// The byte at which a character starts; at the end of the text its length.
+    pub fn char_to_byte(&self, char_idx: usize) -> usize
+        requires { char_idx ≤ length (text_of self.now) }
+        ensures { result ≡ char_to_byte (text_of self.now) char_idx }
+    {
+        match self {
+            Part::InTree(stretch) => stretch.char_to_byte(char_idx),
+            Part::Alone(plain) => str_utils::char_to_byte_idx(plain.text, char_idx),
+        }
+    }
+
+    /// The line that a character lies on.
+    pub fn char_to_line(&self, char_idx: usize) -> usize
+        requires { char_idx ≤ length (text_of self.now) }
+        ensures { result ≡ char_to_line (breaks_of self.now) (text_of self.now) char_idx }
+    {
+        match self {
+            Part::InTree(stretch) => stretch.char_to_line(char_idx),
+            Part::Alone(plain) => str_utils::char_to_line_with(plain.text, char_idx, plain.breaks),
+        }
+    }
+
+    /// The code unit at which a character starts; at the end of the text its length in code units.
+    pub fn char_to_utf16(&self, char_idx: usize) -> usize
+        requires { char_idx ≤ length (text_of self.now) }
+        ensures { result ≡ char_to_utf16 (text_of self.now) char_idx }
+    {
+        match self {
+            Part::InTree(stretch) => stretch.char_to_utf16(char_idx),
+            Part::Alone(plain) => str_utils::char_to_utf16_idx(plain.text, char_idx),
+        }
+    }
+
+    /// The character that holds a code unit; at the end of the text the end.
+    pub fn utf16_to_char(&self, utf16_idx: usize) -> usize
+        requires { utf16_idx ≤ utf16_len (text_of self.now) }
+        ensures { result ≡ utf16_to_char (text_of self.now) utf16_idx }
+    {
+        match self {
+            Part::InTree(stretch) => stretch.utf16_to_char(utf16_idx),
+            Part::Alone(plain) => str_utils::utf16_to_char_idx(plain.text, utf16_idx),
+        }
+    }
+
+    /// The character at which a line starts; past the last line the end of the text.
+    pub fn line_to_char(&self, line_idx: usize) -> usize
+        requires { line_idx ≤ line_count (breaks_of self.now) (text_of self.now) }
+        ensures { result ≡ line_to_char (breaks_of self.now) (text_of self.now) line_idx }
+    {
+        match self {
+            Part::InTree(stretch) => stretch.line_to_char(line_idx),
+            Part::Alone(plain) => str_utils::line_to_char_with(plain.text, line_idx, plain.breaks),
+        }
+    }
+
+    /// The byte at which a line starts; past the last line the end of the text.
+    pub fn line_to_byte(&self, line_idx: usize) -> usize
+        requires { line_idx ≤ line_count (breaks_of self.now) (text_of self.now) }
+        ensures { result ≡ line_to_byte (breaks_of self.now) (text_of self.now) line_idx }
+    {
+        match self {
+            Part::InTree(stretch) => stretch.line_to_byte(line_idx),
+            Part::Alone(plain) => str_utils::line_to_byte_with(plain.text, line_idx, plain.breaks),
+        }
+    }
+
+    /// Whether a character begins at a byte, or the text ends there.
+    pub fn is_char_boundary(&self, byte_idx: usize) -> bool
+        requires { byte_idx ≤ byte_len (text_of self.now) }
+        ensures { result ≡ is_char_boundary (text_of self.now) byte_idx }
+    {
+        self.char_to_byte(self.byte_to_char(byte_idx)) == byte_idx
+    }
+}

@@ -1,0 +1,77 @@
+//! Chunks of a part.
+ghost use Rattle.std.specs.Prelude.{◌≡◌, ◌≤◌, ◌<◌, length, OnSome, IfSome, IfNone};
+ghost use Rattle.std.specs.Str.{chars};
+ghost use Rattle.rope_text.specs.Text.{byte_len};
+ghost use Rattle.rope_text.specs.Lines.{line_count};
+ghost use Rattle.rope_text.specs.Lookup.{found_chunk, chunk_index_at_byte, chunk_index_at_char, chunk_index_at_line_break};
+ghost use Rattle.rope_part.specs.Found.{IsFoundChunk};
+ghost use Rattle.rope_part.specs.Part.{text_of, chunks_of, breaks_of};
+
+use crate::part::Part;
+
+// The length of a text in bytes, by its characters.
+fn byte_len_of(text: &str) -> usize
+    ensures { result ≡ byte_len (chars text.now) }
+{
+    text.len()
+}
+
+impl<'a> Part<'a> {
+    /// The chunk that holds a byte; at the end of the text the last chunk. With it the bytes, the characters and the line
+    /// breaks that end before it. With no chunk it is `("", 0, 0, 0)`.
+    pub fn chunk_at_byte(&self, byte_idx: usize) -> (&'a str, usize, usize, usize)
+        requires { byte_idx ≤ byte_len (text_of self.now) }
+        ensures { IsFoundChunk (found_chunk (breaks_of self.now) (chunks_of self.now)
+            (chunk_index_at_byte (chunks_of self.now) byte_idx))
+            (chars result.0.now) result.1 result.2 result.3 }
+    {
+        match self {
+            Part::InTree(stretch) => stretch.chunk_at_byte(byte_idx),
+            Part::Alone(plain) => (plain.text, 0, 0, 0),
+        }
+    }
+
+    /// The chunk that holds a character; at the end of the text the last chunk. With it the bytes, the characters and the
+    /// line breaks that end before it. With no chunk it is `("", 0, 0, 0)`.
+    pub fn chunk_at_char(&self, char_idx: usize) -> (&'a str, usize, usize, usize)
+        requires { char_idx ≤ length (text_of self.now) }
+        ensures { IsFoundChunk (found_chunk (breaks_of self.now) (chunks_of self.now)
+            (chunk_index_at_char (chunks_of self.now) char_idx))
+            (chars result.0.now) result.1 result.2 result.3 }
+    {
+        match self {
+            Part::InTree(stretch) => stretch.chunk_at_char(char_idx),
+            Part::Alone(plain) => (plain.text, 0, 0, 0),
+        }
+    }
+
+    /// The first chunk by whose end so many line breaks have ended; where there are fewer, the last chunk. With it the bytes,
+    /// the characters and the line breaks that end before it. With no chunk it is `("", 0, 0, 0)`.
+    ///
+    /// That chunk holds the last character of the last of these breaks.
+    pub fn chunk_at_line_break(&self, line_break_idx: usize) -> (&'a str, usize, usize, usize)
+        requires { line_break_idx ≤ line_count (breaks_of self.now) (text_of self.now) }
+        ensures { IsFoundChunk (found_chunk (breaks_of self.now) (chunks_of self.now)
+            (chunk_index_at_line_break (breaks_of self.now) (chunks_of self.now) line_break_idx))
+            (chars result.0.now) result.1 result.2 result.3 }
+    {
+        let _ = self.info();
+        let end = self.line_to_char(line_break_idx);
+        self.chunk_at_char(end.saturating_sub(1))
+    }
+
+    /// The text, where it is one chunk or none.
+    pub fn as_str(&self) -> Option<&'a str>
+        ensures one { OnSome result (length (chunks_of self.now) ≤ 1) }
+        ensures more { IfNone result (1 < length (chunks_of self.now)) }
+        ensures value { IfSome result (λ s. chars s.now ≡ text_of self.now) }
+    {
+        let len = self.info().bytes;
+        let (chunk, _, _, _) = self.chunk_at_char(0);
+        if byte_len_of(chunk) == len {
+            Some(chunk)
+        } else {
+            None
+        }
+    }
+}

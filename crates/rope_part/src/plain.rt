@@ -1,0 +1,96 @@
+//! A plain text as a part.
+ghost use Rattle.std.specs.Prelude.{◌≡◌, ◌≤◌, ◌<◌, length, slice_get, Some};
+ghost use Rattle.std.specs.List.{slice_range};
+ghost use Rattle.std.specs.Str.{chars, encode_utf8_all};
+ghost use Rattle.rope_text.specs.TextInfo.{info_of};
+ghost use Rattle.rope_text.specs.Text.{byte_len};
+ghost use Rattle.rope_part.specs.Edge.{IsInfo-prop};
+
+use rope_text::str_utils::char_to_byte_idx;
+use rope_text::{LineBreaks, TextInfo};
+
+/// A plain text, with its counts by a set of line breaks.
+#[derive(Clone, Copy)]
+pub struct Plain<'a> {
+    pub(crate) text: &'a str,
+    pub(crate) info: TextInfo,
+    pub(crate) breaks: LineBreaks,
+    ghost counted: { info ≡ info_of breaks (chars text.now) } by { IsInfo-prop breaks (chars text.now) info },
+}
+
+// The first character of a text that is not empty.
+fn first_char(text: &str) -> char
+    requires { 0 < length (chars text.now) }
+    ensures { slice_get (chars text.now) 0 ≡ Some result }
+{
+    match text.chars().next() {
+        Some(first) => first,
+        None => unreachable!(),
+    }
+}
+
+impl<'a> Plain<'a> {
+    ghost use Rattle.rope_part.specs.Kept.{IsPart};
+    ghost use Rattle.rope_part.specs.Plain.{content_of, text_of};
+
+    /// A text. It is gone over once, to be counted.
+    pub fn new(text: &'a str, breaks: LineBreaks) -> Plain<'a>
+        ensures text { text_of result ≡ chars text.now }
+        ensures breaks { result.breaks ≡ breaks }
+    {
+        Plain {
+            text,
+            info: TextInfo::from_str(text, breaks),
+            breaks,
+        }
+    }
+
+    /// The counts of the text.
+    pub fn info(&self) -> TextInfo
+        ensures value { result ≡ info_of self.now.breaks (text_of self.now) }
+        ensures kept { IsPart (content_of self.now) }
+    {
+        let text = self.as_str();
+        let _ = text.as_bytes();
+        self.info
+    }
+
+    /// The text.
+    pub fn as_str(&self) -> &'a str
+        ensures { chars result.now ≡ text_of self.now }
+    {
+        self.text
+    }
+
+    /// The text from a character on up to another.
+    pub fn range(&self, start: usize, end: usize) -> Plain<'a>
+        requires ordered { start ≤ end }
+        ensures text { text_of result ≡ slice_range (text_of self.now) start end }
+        ensures breaks { result.breaks ≡ self.now.breaks }
+    {
+        let text = self.as_str();
+        let rest = &text[char_to_byte_idx(text, start)..];
+        let len = char_to_byte_idx(rest, end - start);
+        Plain::new(&rest[..len], self.breaks)
+    }
+
+    /// The byte at a place.
+    pub fn byte(&self, byte_idx: usize) -> u8
+        requires { byte_idx < byte_len (text_of self.now) }
+        ensures { slice_get (encode_utf8_all (text_of self.now)) byte_idx ≡ Some result }
+    {
+        let text = self.as_str();
+        let bytes = text.as_bytes();
+        bytes[byte_idx]
+    }
+
+    /// The character at a place.
+    pub fn char(&self, char_idx: usize) -> char
+        requires { char_idx < length (text_of self.now) }
+        ensures { slice_get (text_of self.now) char_idx ≡ Some result }
+    {
+        let text = self.as_str();
+        let at = char_to_byte_idx(text, char_idx);
+        first_char(&text[at..])
+    }
+}

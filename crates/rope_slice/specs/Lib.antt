@@ -1,0 +1,3 @@
+pub mod Answer
+pub mod Sliced
+pub mod Slice

@@ -1,0 +1,62 @@
+//! The bounds of a range of bytes.
+ghost use Rattle.std.specs.Prelude.{◌≡◌, ◌≤◌, ℕ, not, false, nat_lt, Ok, Err, MatchOption};
+ghost use Rattle.rope_text.specs.Text.{byte_len};
+ghost use Rattle.rope_text.specs.Edit.{range_start, range_end, given, invalid_range, is_char_boundary, byte_range_error};
+ghost use Rattle.rope_slice.specs.Slice.{text_of};
+
+use crate::slice::RopeSlice;
+use rope_text::{Error, IndexRange, Result};
+
+// What is wrong with a range whose bounds are both given.
+fn invalid(start: Option<usize>, end: Option<usize>) -> Option<Error>
+    ensures { result ≡ invalid_range start end }
+{
+    match (start, end) {
+        (Some(a), Some(b)) if a > b => Some(Error::ByteRangeInvalid(a, b)),
+        _ => None,
+    }
+}
+
+// Whether a given bound is past the end.
+fn is_past(bound: Option<usize>, len: usize) -> bool
+    ensures { result ≡ given (nat_lt len) bound }
+{
+    match bound {
+        Some(b) => b > len,
+        None => false,
+    }
+}
+
+impl<'a> RopeSlice<'a> {
+    // Whether a given bound lies inside a character.
+    fn is_in_char(&self, bound: Option<usize>) -> bool
+        requires { given (nat_lt (byte_len (text_of self.now))) bound ≡ false }
+        ensures { result ≡ given (λ b. not (is_char_boundary (text_of self.now) b)) bound }
+    {
+        match bound {
+            Some(b) => !self.part.is_char_boundary(b),
+            None => false,
+        }
+    }
+
+    // The bounds of a range of bytes, or what is wrong with it.
+    pub(crate) fn byte_bounds<R: IndexRange>(&self, range: &R) -> Result<(usize, usize)>
+        ensures { MatchOption (byte_range_error (text_of self.now) (R.told_start range.now) (R.told_end range.now))
+            (result ≡ Ok (range_start (R.told_start range.now), range_end (R.told_end range.now) (byte_len (text_of self.now))))
+            (λ fault. result ≡ Err fault) }
+    {
+        let start = range.start();
+        let end = range.end();
+        if let Some(fault) = invalid(start, end) {
+            return Err(fault);
+        }
+        let len = self.len_bytes();
+        if is_past(start, len) || is_past(end, len) {
+            return Err(Error::ByteRangeOutOfBounds(start, end, len));
+        }
+        if self.is_in_char(start) || self.is_in_char(end) {
+            return Err(Error::ByteRangeNotCharBoundary(start, end));
+        }
+        Ok((start.unwrap_or(0), end.unwrap_or(len)))
+    }
+}

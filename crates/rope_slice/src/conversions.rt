@@ -1,0 +1,226 @@
+//! Conversions between the indices of a slice: bytes, characters, code units of UTF-16 and lines.
+ghost use Rattle.std.specs.Prelude.{◌≡◌, ◌≤◌, length};
+ghost use Rattle.rope_text.specs.Text.{byte_len, utf16_len};
+ghost use Rattle.rope_text.specs.Lines.{line_count};
+ghost use Rattle.rope_text.specs.Conversions.{byte_to_char, byte_to_line, char_to_byte, char_to_line, char_to_utf16, line_to_byte, line_to_char, utf16_to_char};
+ghost use Rattle.rope_text.specs.Edit.{byte_index_error, char_index_error, line_index_error, utf16_index_error};
+ghost use Rattle.rope_slice.specs.Answer.{checked};
+ghost use Rattle.rope_slice.specs.Slice.{text_of, breaks_of};
+
+use crate::slice::RopeSlice;
+use rope_text::{Error, Result};
+
+impl<'a> RopeSlice<'a> {
+    /// The character, counted from 0, that holds the byte `byte_idx`, also where that is inside the character; at the end of
+    /// the text the number of characters.
+    ///
+    /// The index is at most `len_bytes()`. No memory is taken.
+    pub fn byte_to_char(&self, byte_idx: usize) -> usize
+        requires { byte_idx ≤ byte_len (text_of self.now) }
+        ensures { result ≡ byte_to_char (text_of self.now) byte_idx }
+    {
+        self.part.byte_to_char(byte_idx)
+    }
+
+    /// What `byte_to_char` answers. No memory is taken.
+    ///
+    /// # Errors
+    ///
+    /// `ByteIndexOutOfBounds`, with the index and the number of bytes, where the index is past `len_bytes()`.
+    pub fn try_byte_to_char(&self, byte_idx: usize) -> Result<usize>
+        ensures { result ≡ checked (byte_index_error byte_idx (byte_len (text_of self.now)))
+            (byte_to_char (text_of self.now) byte_idx) }
+    {
+        let len = self.len_bytes();
+        if byte_idx > len {
+            return Err(Error::ByteIndexOutOfBounds(byte_idx, len));
+        }
+        Ok(self.byte_to_char(byte_idx))
+    }
+
+    /// The line, counted from 0, that the byte `byte_idx` lies on: how many line breaks end at or before it. A byte inside a
+    /// break of several bytes, as between CR and LF, lies on the line that the break ends.
+    ///
+    /// The index is at most `len_bytes()`. No memory is taken.
+    pub fn byte_to_line(&self, byte_idx: usize) -> usize
+        requires { byte_idx ≤ byte_len (text_of self.now) }
+        ensures { result ≡ byte_to_line (breaks_of self.now) (text_of self.now) byte_idx }
+    {
+        self.part.byte_to_line(byte_idx)
+    }
+
+    /// What `byte_to_line` answers. No memory is taken.
+    ///
+    /// # Errors
+    ///
+    /// `ByteIndexOutOfBounds`, with the index and the number of bytes, where the index is past `len_bytes()`.
+    pub fn try_byte_to_line(&self, byte_idx: usize) -> Result<usize>
+        ensures { result ≡ checked (byte_index_error byte_idx (byte_len (text_of self.now)))
+            (byte_to_line (breaks_of self.now) (text_of self.now) byte_idx) }
+    {
+        let len = self.len_bytes();
+        if byte_idx > len {
+            return Err(Error::ByteIndexOutOfBounds(byte_idx, len));
+        }
+        Ok(self.byte_to_line(byte_idx))
+    }
+
+    /// The byte, counted from 0, at which the character `char_idx` starts; at the end of the text the number of bytes.
+    ///
+    /// The index is at most `len_chars()`. No memory is taken.
+    pub fn char_to_byte(&self, char_idx: usize) -> usize
+        requires { char_idx ≤ length (text_of self.now) }
+        ensures { result ≡ char_to_byte (text_of self.now) char_idx }
+    {
+        self.part.char_to_byte(char_idx)
+    }
+
+    /// What `char_to_byte` answers. No memory is taken.
+    ///
+    /// # Errors
+    ///
+    /// `CharIndexOutOfBounds`, with the index and the number of characters, where the index is past `len_chars()`.
+    pub fn try_char_to_byte(&self, char_idx: usize) -> Result<usize>
+        ensures { result ≡ checked (char_index_error char_idx (length (text_of self.now)))
+            (char_to_byte (text_of self.now) char_idx) }
+    {
+        let len = self.len_chars();
+        if char_idx > len {
+            return Err(Error::CharIndexOutOfBounds(char_idx, len));
+        }
+        Ok(self.char_to_byte(char_idx))
+    }
+
+    /// The line, counted from 0, that the character `char_idx` lies on: how many line breaks end at or before it. The place
+    /// between CR and LF lies on the line that the pair ends.
+    ///
+    /// The index is at most `len_chars()`. No memory is taken.
+    pub fn char_to_line(&self, char_idx: usize) -> usize
+        requires { char_idx ≤ length (text_of self.now) }
+        ensures { result ≡ char_to_line (breaks_of self.now) (text_of self.now) char_idx }
+    {
+        self.part.char_to_line(char_idx)
+    }
+
+    /// What `char_to_line` answers. No memory is taken.
+    ///
+    /// # Errors
+    ///
+    /// `CharIndexOutOfBounds`, with the index and the number of characters, where the index is past `len_chars()`.
+    pub fn try_char_to_line(&self, char_idx: usize) -> Result<usize>
+        ensures { result ≡ checked (char_index_error char_idx (length (text_of self.now)))
+            (char_to_line (breaks_of self.now) (text_of self.now) char_idx) }
+    {
+        let len = self.len_chars();
+        if char_idx > len {
+            return Err(Error::CharIndexOutOfBounds(char_idx, len));
+        }
+        Ok(self.char_to_line(char_idx))
+    }
+
+    /// The UTF-16 code unit, counted from 0, at which the character `char_idx` starts; at the end of the text the number of
+    /// code units.
+    ///
+    /// The index is at most `len_chars()`. No memory is taken.
+    pub fn char_to_utf16_cu(&self, char_idx: usize) -> usize
+        requires { char_idx ≤ length (text_of self.now) }
+        ensures { result ≡ char_to_utf16 (text_of self.now) char_idx }
+    {
+        self.part.char_to_utf16(char_idx)
+    }
+
+    /// What `char_to_utf16_cu` answers. No memory is taken.
+    ///
+    /// # Errors
+    ///
+    /// `CharIndexOutOfBounds`, with the index and the number of characters, where the index is past `len_chars()`.
+    pub fn try_char_to_utf16_cu(&self, char_idx: usize) -> Result<usize>
+        ensures { result ≡ checked (char_index_error char_idx (length (text_of self.now)))
+            (char_to_utf16 (text_of self.now) char_idx) }
+    {
+        let len = self.len_chars();
+        if char_idx > len {
+            return Err(Error::CharIndexOutOfBounds(char_idx, len));
+        }
+        Ok(self.char_to_utf16_cu(char_idx))
+    }
+
+    /// The character, counted from 0, that holds the UTF-16 code unit `utf16_cu_idx`, also where that is inside its surrogate
+    /// pair; at the end of the text the number of characters.
+    ///
+    /// The index is at most `len_utf16_cu()`. No memory is taken.
+    pub fn utf16_cu_to_char(&self, utf16_cu_idx: usize) -> usize
+        requires { utf16_cu_idx ≤ utf16_len (text_of self.now) }
+        ensures { result ≡ utf16_to_char (text_of self.now) utf16_cu_idx }
+    {
+        self.part.utf16_to_char(utf16_cu_idx)
+    }
+
+    /// What `utf16_cu_to_char` answers. No memory is taken.
+    ///
+    /// # Errors
+    ///
+    /// `Utf16IndexOutOfBounds`, with the index and the number of code units, where the index is past `len_utf16_cu()`.
+    pub fn try_utf16_cu_to_char(&self, utf16_cu_idx: usize) -> Result<usize>
+        ensures { result ≡ checked (utf16_index_error utf16_cu_idx (utf16_len (text_of self.now)))
+            (utf16_to_char (text_of self.now) utf16_cu_idx) }
+    {
+        let len = self.len_utf16_cu();
+        if utf16_cu_idx > len {
+            return Err(Error::Utf16IndexOutOfBounds(utf16_cu_idx, len));
+        }
+        Ok(self.utf16_cu_to_char(utf16_cu_idx))
+    }
+
+    /// The byte, counted from 0, at which the line `line_idx` starts; for `len_lines()` the end of the text.
+    ///
+    /// The index is at most `len_lines()`. No memory is taken.
+    pub fn line_to_byte(&self, line_idx: usize) -> usize
+        requires { line_idx ≤ line_count (breaks_of self.now) (text_of self.now) }
+        ensures { result ≡ line_to_byte (breaks_of self.now) (text_of self.now) line_idx }
+    {
+        self.part.line_to_byte(line_idx)
+    }
+
+    /// What `line_to_byte` answers. No memory is taken.
+    ///
+    /// # Errors
+    ///
+    /// `LineIndexOutOfBounds`, with the index and the number of lines, where the index is past `len_lines()`.
+    pub fn try_line_to_byte(&self, line_idx: usize) -> Result<usize>
+        ensures { result ≡ checked (line_index_error line_idx (line_count (breaks_of self.now) (text_of self.now)))
+            (line_to_byte (breaks_of self.now) (text_of self.now) line_idx) }
+    {
+        let len = self.len_lines();
+        if line_idx > len {
+            return Err(Error::LineIndexOutOfBounds(line_idx, len));
+        }
+        Ok(self.line_to_byte(line_idx))
+    }
+
+    /// The character, counted from 0, at which the line `line_idx` starts; for `len_lines()` the end of the text.
+    ///
+    /// The index is at most `len_lines()`. No memory is taken.
+    pub fn line_to_char(&self, line_idx: usize) -> usize
+        requires { line_idx ≤ line_count (breaks_of self.now) (text_of self.now) }
+        ensures { result ≡ line_to_char (breaks_of self.now) (text_of self.now) line_idx }
+    {
+        self.part.line_to_char(line_idx)
+    }
+
+    /// What `line_to_char` answers. No memory is taken.
+    ///
+    /// # Errors
+    ///
+    /// `LineIndexOutOfBounds`, with the index and the number of lines, where the index is past `len_lines()`.
+    pub fn try_line_to_char(&self, line_idx: usize) -> Result<usize>
+        ensures { result ≡ checked (line_index_error line_idx (line_count (breaks_of self.now) (text_of self.now)))
+            (line_to_char (breaks_of self.now) (text_of self.now) line_idx) }
+    {
+        let len = self.len_lines();
+        if line_idx > len {
+            return Err(Error::LineIndexOutOfBounds(line_idx, len));
+        }
+        Ok(self.line_to_char(line_idx))
+    }
+}

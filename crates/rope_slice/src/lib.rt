@@ -1,0 +1,10 @@
+//! Borrowed slices of ropes and of plain texts. No call takes memory.
+#![tactic(auto)]
+
+mod bounds;
+mod conversions;
+mod lookups;
+pub mod slice;
+mod slicing;
+
+pub use slice::RopeSlice;

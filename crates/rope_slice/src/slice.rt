@@ -1,0 +1,98 @@
+//! The slice, and its lengths.
+ghost use Rattle.std.specs.Prelude.{◌≡◌, length};
+ghost use Rattle.std.specs.Str.{chars};
+ghost use Rattle.rope_text.specs.declared.line_breaks.LineBreaks.TheVariants.{Unicode};
+ghost use Rattle.rope_text.specs.Text.{byte_len, utf16_len};
+ghost use Rattle.rope_text.specs.Lines.{line_count};
+ghost use Rattle.rope_text.specs.Cutting.{single_chunk};
+ghost use Rattle.rope_tree.specs.Tree.{text};
+ghost use Rattle.rope_part.specs.Kept.{IsPart};
+
+use rope_part::Part;
+use rope_text::LineBreaks;
+use rope_tree::node::Node;
+
+/// A part of a rope's text, or a plain text, borrowed for `'a`.
+///
+/// It counts its own text: one that ends after the CR of a CR LF has that CR as a line break, and one that starts at the LF
+/// has that LF, where they are breaks of its set. Its chunks are the rope's, clipped to it, empty parts dropped; a plain text
+/// is one chunk of any length, or none.
+#[derive(Clone, Copy)]
+pub struct RopeSlice<'a> {
+    pub(crate) part: Part<'a>,
+}
+
+impl<'a> RopeSlice<'a> {
+    ghost use Rattle.rope_slice.specs.Slice.{content_of, text_of, chunks_of, breaks_of};
+
+    /// A plain text with these line breaks. It is gone over once, to be counted.
+    pub fn from_str_with(text: &'a str, breaks: LineBreaks) -> RopeSlice<'a>
+        ensures text { text_of result ≡ chars text.now }
+        ensures chunks { chunks_of result ≡ single_chunk (chars text.now) }
+        ensures breaks { breaks_of result ≡ breaks }
+    {
+        RopeSlice {
+            part: Part::from_str_with(text, breaks),
+        }
+    }
+
+    /// The whole text of a tree.
+    pub fn of_node(node: &'a Node) -> RopeSlice<'a>
+        ensures text { text_of result ≡ text node.now }
+        ensures chunks { chunks_of result ≡ node.now.leaves }
+        ensures breaks { breaks_of result ≡ node.now.breaks }
+    {
+        RopeSlice {
+            part: Part::of_node(node),
+        }
+    }
+
+    /// The set of line breaks.
+    pub fn line_breaks(&self) -> LineBreaks
+        ensures { result ≡ breaks_of self.now }
+    {
+        self.part.line_breaks()
+    }
+
+    /// The length in bytes. No text is read.
+    pub fn len_bytes(&self) -> usize
+        ensures value { result ≡ byte_len (text_of self.now) }
+        ensures kept { IsPart (content_of self.now) }
+    {
+        self.part.info().bytes
+    }
+
+    /// The length in characters. No text is read.
+    pub fn len_chars(&self) -> usize
+        ensures { result ≡ length (text_of self.now) }
+    {
+        self.part.len_chars()
+    }
+
+    /// The number of lines: one more than there are line breaks. No text is read.
+    pub fn len_lines(&self) -> usize
+        ensures { result ≡ line_count (breaks_of self.now) (text_of self.now) }
+    {
+        self.part.len_lines()
+    }
+
+    /// The length in code units of UTF-16. No text is read.
+    pub fn len_utf16_cu(&self) -> usize
+        ensures { result ≡ utf16_len (text_of self.now) }
+    {
+        self.part.len_utf16_cu()
+    }
+}
+
+impl<'a> From<&'a str> for RopeSlice<'a> {
+    ghost use Rattle.rope_slice.specs.Slice.{text_of, chunks_of, breaks_of};
+
+    /// A plain text, with Unicode's line breaks.
+    fn from(text: &'a str) -> RopeSlice<'a>
+        ensures text { text_of result ≡ chars text.now }
+        ensures chunks { chunks_of result ≡ single_chunk (chars text.now) }
+        ensures breaks { breaks_of result ≡ Unicode }
+    {
+        RopeSlice::from_str_with(text, LineBreaks::Unicode)
+    }
+}
