@@ -10,11 +10,13 @@ pub mod iter;
 mod lookups;
 mod rope;
 mod rope_builder;
+mod slices;
 pub mod str_utils;
 mod texts;
 
 pub use rope::Rope;
 pub use rope_builder::RopeBuilder;
+pub use rope_slice::RopeSlice;
 pub use rope_text::{
     Error, IndexRange, LineBreaks, MAX_BYTES, MAX_CHILDREN, MIN_BYTES, MIN_CHILDREN, Result, Steps,
 };

@@ -1,0 +1,80 @@
+//! Slices of a rope.
+ghost use Rattle.std.specs.Prelude.{◌≡◌, ◌≢◌, length, None, Some, IfOk, IfErr, MatchOption};
+ghost use Rattle.rope_text.specs.Text.{byte_len};
+ghost use Rattle.rope_text.specs.Conversions.{byte_to_char};
+ghost use Rattle.rope_text.specs.Edit.{range_start, range_end, char_range_error, byte_range_error};
+ghost use Rattle.rope_slice.specs.Sliced.{IsSlice};
+ghost use Rattle.rope_slice.specs.Slice.{content_of};
+ghost use Rattle.ropey.specs.View.{content};
+
+use crate::rope::Rope;
+use rope_slice::RopeSlice;
+use rope_text::{IndexRange, Result};
+
+impl Rope {
+    // All of it.
+    fn whole(&self) -> RopeSlice<'_>
+        ensures { content_of result ≡ content self.now }
+    {
+        RopeSlice::of_node(self.root())
+    }
+
+    /// The characters of a range, as a slice that lends them: their text, the chunks clipped to them, the same set of line
+    /// breaks.
+    ///
+    /// The range's bounds are at most `len_chars()`, and its start is at most its end. No memory is taken.
+    pub fn slice<R: IndexRange + Drop>(&self, range: R) -> RopeSlice<'_>
+        requires { char_range_error (R.told_start range) (R.told_end range) (length self.now.text) ≡ None }
+        ensures { IsSlice (content self.now) (range_start (R.told_start range)) (range_end (R.told_end range) (length self.now.text))
+            (content_of result) }
+    {
+        self.whole().slice(range)
+    }
+
+    /// What `slice` answers, or none where the range's start is past its end or a bound is past `len_chars()`. No memory is
+    /// taken.
+    pub fn get_slice<R: IndexRange + Drop>(&self, range: R) -> Option<RopeSlice<'_>>
+        ensures { MatchOption result (char_range_error (R.told_start range) (R.told_end range) (length self.now.text) ≢ None)
+            (λ slice. (char_range_error (R.told_start range) (R.told_end range) (length self.now.text) ≡ None)
+            × IsSlice (content self.now) (range_start (R.told_start range)) (range_end (R.told_end range) (length self.now.text))
+            (content_of slice)) }
+    {
+        self.whole().get_slice(range)
+    }
+
+    /// The bytes of a range, as a slice that lends them, as `slice` does.
+    ///
+    /// The range is within the text, and its bounds lie at characters' starts or the end. No memory is taken.
+    pub fn byte_slice<R: IndexRange + Drop>(&self, range: R) -> RopeSlice<'_>
+        requires { byte_range_error self.now.text (R.told_start range) (R.told_end range) ≡ None }
+        ensures { IsSlice (content self.now) (byte_to_char self.now.text (range_start (R.told_start range)))
+            (byte_to_char self.now.text (range_end (R.told_end range) (byte_len self.now.text))) (content_of result) }
+    {
+        self.whole().byte_slice(range)
+    }
+
+    /// What `byte_slice` answers. No memory is taken.
+    ///
+    /// # Errors
+    ///
+    /// First `ByteRangeInvalid` where both bounds are given and the start is past the end, then `ByteRangeOutOfBounds` where a
+    /// given bound is past `len_bytes()`, then `ByteRangeNotCharBoundary` where a given bound lies inside a character.
+    pub fn try_byte_slice<R: IndexRange + Drop>(&self, range: R) -> Result<RopeSlice<'_>>
+        ensures ok { IfOk result (λ slice. (byte_range_error self.now.text (R.told_start range) (R.told_end range) ≡ None)
+            × IsSlice (content self.now) (byte_to_char self.now.text (range_start (R.told_start range)))
+            (byte_to_char self.now.text (range_end (R.told_end range) (byte_len self.now.text))) (content_of slice)) }
+        ensures refused { IfErr result (λ fault. byte_range_error self.now.text (R.told_start range) (R.told_end range) ≡ Some fault) }
+    {
+        self.whole().try_byte_slice(range)
+    }
+
+    /// What `byte_slice` answers, or none where `try_byte_slice` refuses. No memory is taken.
+    pub fn get_byte_slice<R: IndexRange + Drop>(&self, range: R) -> Option<RopeSlice<'_>>
+        ensures { MatchOption result (byte_range_error self.now.text (R.told_start range) (R.told_end range) ≢ None)
+            (λ slice. (byte_range_error self.now.text (R.told_start range) (R.told_end range) ≡ None)
+            × IsSlice (content self.now) (byte_to_char self.now.text (range_start (R.told_start range)))
+            (byte_to_char self.now.text (range_end (R.told_end range) (byte_len self.now.text))) (content_of slice)) }
+    {
+        self.whole().get_byte_slice(range)
+    }
+}
