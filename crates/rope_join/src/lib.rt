@@ -5,3 +5,4 @@ pub mod cut;
 pub mod edit;
 pub mod gather;
 pub mod join;
+pub mod part;

@@ -4,3 +4,4 @@ pub mod Kept
 pub mod Stretch
 pub mod Plain
 pub mod Part
+pub mod Origin

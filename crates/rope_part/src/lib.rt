@@ -2,6 +2,7 @@
 #![tactic(auto)]
 
 mod edge;
+pub mod origin;
 pub mod part;
 mod part_chunks;
 mod part_lookups;
@@ -10,4 +11,5 @@ mod stretch;
 mod stretch_chunks;
 mod stretch_lookups;
 
+pub use origin::Origin;
 pub use part::Part;

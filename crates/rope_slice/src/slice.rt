@@ -7,8 +7,9 @@ ghost use Rattle.rope_text.specs.Lines.{line_count};
 ghost use Rattle.rope_text.specs.Cutting.{single_chunk};
 ghost use Rattle.rope_tree.specs.Tree.{text};
 ghost use Rattle.rope_part.specs.Kept.{IsPart};
+ghost use Rattle.rope_part.specs.Origin.{IsOrigin};
 
-use rope_part::Part;
+use rope_part::{Origin, Part};
 use rope_text::LineBreaks;
 use rope_tree::node::Node;
 
@@ -45,6 +46,13 @@ impl<'a> RopeSlice<'a> {
         RopeSlice {
             part: Part::of_node(node),
         }
+    }
+
+    /// What it is a slice of.
+    pub fn origin(&self) -> Origin<'a>
+        ensures { IsOrigin (content_of self.now) result }
+    {
+        self.part.origin()
     }
 
     /// The set of line breaks.

@@ -1,4 +1,3 @@
 pub mod View
-pub mod Answer
 pub mod Building
 pub mod Texts

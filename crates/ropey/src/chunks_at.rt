@@ -4,7 +4,7 @@ ghost use Rattle.std.specs.Str.{chars};
 ghost use Rattle.rope_text.specs.Text.{byte_len};
 ghost use Rattle.rope_text.specs.Lines.{line_count};
 ghost use Rattle.rope_text.specs.Lookup.{found_chunk, chunk_index_at_byte, chunk_index_at_char, chunk_index_at_line_break};
-ghost use Rattle.ropey.specs.Answer.{IsFoundChunk};
+ghost use Rattle.rope_part.specs.Found.{IsFoundChunk};
 
 use crate::rope::Rope;
 use rope_tree::chunk_lookup;

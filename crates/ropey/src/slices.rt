@@ -4,12 +4,16 @@ ghost use Rattle.rope_text.specs.Text.{byte_len};
 ghost use Rattle.rope_text.specs.Conversions.{byte_to_char};
 ghost use Rattle.rope_text.specs.Edit.{range_start, range_end, char_range_error, byte_range_error};
 ghost use Rattle.rope_slice.specs.Sliced.{IsSlice};
-ghost use Rattle.rope_slice.specs.Slice.{content_of};
-ghost use Rattle.ropey.specs.View.{content};
+ghost use Rattle.rope_text.specs.declared.error.Error.TheVariants.{OutOfMemory};
+ghost use Rattle.rope_slice.specs.Slice.{content_of, text_of, breaks_of};
+ghost use Rattle.ropey.specs.View.{content, IsRope};
 
 use crate::rope::Rope;
+use rope_join::part::between;
+use rope_part::Origin;
 use rope_slice::RopeSlice;
 use rope_text::{IndexRange, Result};
+use std::alloc::Global;
 
 impl Rope {
     // All of it.
@@ -76,5 +80,24 @@ impl Rope {
             (byte_to_char self.now.text (range_end (R.told_end range) (byte_len self.now.text))) (content_of slice)) }
     {
         self.whole().get_byte_slice(range)
+    }
+
+    /// A rope of the slice's text, with its set of line breaks. It shares what of a rope's tree lies within the slice; a plain
+    /// text is copied.
+    ///
+    /// It takes memory, and refuses for want of it alone.
+    pub fn from_slice(alloc: Global, slice: RopeSlice<'_>) -> Result<Rope>
+        ensures text { IfOk result (λ rope. rope.text ≡ text_of slice.entry) }
+        ensures breaks { IfOk result (λ rope. rope.breaks ≡ breaks_of slice.entry) }
+        ensures kept { IfOk result IsRope }
+        ensures err { IfErr result (λ e. e ≡ OutOfMemory) }
+    {
+        match slice.origin() {
+            Origin::Tree(node, start, end) => {
+                let root = between(alloc, node, start, end, &mut 0)?;
+                Ok(Rope { root, alloc })
+            }
+            Origin::Text(text) => Rope::from_str_with(alloc, text, slice.line_breaks()),
+        }
     }
 }
