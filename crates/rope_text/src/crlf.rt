@@ -137,6 +137,3 @@ pub fn find_good_split(at: usize, text: &[u8], bias_left: bool) -> usize
         before
     }
 }
-
-#[cfg(test)]
-mod tests;

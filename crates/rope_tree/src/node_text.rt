@@ -244,6 +244,3 @@ pub fn first_leaf_len(text: &str) -> usize
 {
     prev_break(text.as_bytes(), MAX_BYTES + 1)
 }
-
-#[cfg(test)]
-mod tests;

@@ -115,6 +115,3 @@ pub fn remove_at(
     *root = new;
     Ok(true)
 }
-
-#[cfg(test)]
-mod tests;

@@ -1,3 +1,4 @@
 pub mod ChunkSteps
 pub mod Refusals
 pub mod Ropes
+pub mod TextsGiven

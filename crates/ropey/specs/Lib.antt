@@ -1,3 +1,4 @@
 pub mod View
 pub mod Answer
 pub mod Building
+pub mod Texts

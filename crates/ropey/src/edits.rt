@@ -83,6 +83,7 @@ impl Rope {
         ensures breaks { self.new.breaks ≡ self.old.breaks }
         ensures kept { IsRope self.new }
         ensures made { steps.new.made ≤ 16 * self.old.depth + 32 }
+        ensures only_made { (steps.new.nodes ≡ 0) × (steps.new.compares ≡ 0) }
     {
         *steps = Steps::new();
         self.split_at(char_idx, &mut steps.made)
@@ -167,6 +168,7 @@ impl Rope {
         ensures breaks { self.new.breaks ≡ self.old.breaks }
         ensures kept { IsRope self.new }
         ensures made { steps.new.made ≤ 16 * self.old.depth + 32 }
+        ensures only_made { (steps.new.nodes ≡ 0) × (steps.new.compares ≡ 0) }
     {
         *steps = Steps::new();
         self.remove_range(range, &mut steps.made)
@@ -246,6 +248,7 @@ impl Rope {
         ensures breaks { self.new.breaks ≡ self.old.breaks }
         ensures kept { IsRope self.new }
         ensures made { steps.new.made ≤ 16 * max self.old.depth other.depth + 32 }
+        ensures only_made { (steps.new.nodes ≡ 0) × (steps.new.compares ≡ 0) }
     {
         *steps = Steps::new();
         self.append_made(other, &mut steps.made)

@@ -174,6 +174,7 @@ impl Rope {
         ensures breaks { self.new.breaks ≡ self.old.breaks }
         ensures kept { IsRope self.new }
         ensures made { steps.new.made ≤ 8 * self.old.depth + 16 }
+        ensures only_made { (steps.new.nodes ≡ 0) × (steps.new.compares ≡ 0) }
     {
         *steps = Steps::new();
         self.insert_char_made(char_idx, c, &mut steps.made)

@@ -11,9 +11,11 @@ mod lookups;
 mod rope;
 mod rope_builder;
 pub mod str_utils;
+mod texts;
 
 pub use rope::Rope;
 pub use rope_builder::RopeBuilder;
 pub use rope_text::{
-    Error, LineBreaks, MAX_BYTES, MAX_CHILDREN, MIN_BYTES, MIN_CHILDREN, Result, Steps,
+    Error, IndexRange, LineBreaks, MAX_BYTES, MAX_CHILDREN, MIN_BYTES, MIN_CHILDREN, Result, Steps,
 };
+pub use std::borrow::CowStr;

@@ -47,11 +47,20 @@ impl RopeBuilder {
         ensures breaks { IfOk result (λ builder. builder.breaks ≡ breaks) }
         ensures failed { IfOk result (λ builder. builder.failed ≡ None) }
     {
-        Ok(RopeBuilder {
+        Ok(RopeBuilder::empty(alloc, breaks))
+    }
+
+    // Nothing is handed in yet.
+    pub(crate) fn empty(alloc: Global, breaks: LineBreaks) -> RopeBuilder
+        ensures text { result.text ≡ [] }
+        ensures breaks { result.breaks ≡ breaks }
+        ensures failed { result.failed ≡ None }
+    {
+        RopeBuilder {
             builder: Builder::new(alloc, breaks),
             failed: None,
             alloc,
-        })
+        }
     }
 
     /// Puts a text behind those that were handed in.

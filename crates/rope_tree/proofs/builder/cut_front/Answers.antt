@@ -1,79 +1,25 @@
--- The leaf ends at a cut of the two parts' bytes.
-use Rattle.std.proofs.Common.{◌≡◌, ◌-◌, ◌++◌, take, drop, length, ap, sym, ◌∙◌, arith}
-use Rattle.std.proofs.lemmas.List.{drop-append-le}
-use Rattle.std.proofs.lemmas.Str.{chars-append, IsCharBoundary-start}
-use Rattle.std.specs.Str.{chars}
-use Rattle.rope_tree.proofs.FrontLaws.{IsCutOff, cut_off, cut_whole, cut_apart, two_parts, leaf_part, all_taken, no_bytes}
-use Rattle.rope_tree.proofs.builder.cut_front.Goals.{After-from_str-leaf, After-from_str-then-len-first, After-new-2}
+-- The leaf ends at a cut of the second part.
+use Rattle.std.proofs.Common.{◌∙◌, ◌<◌, arith, length, IsTrue, subst}
+use Rattle.rope_text.specs.Cuts.{is_cut}
+use Rattle.rope_tree.proofs.FrontLaws.{IsCutOff, cut_off, longer_whole, longer_apart}
+use Rattle.rope_tree.proofs.builder.cut_front.Goals.{After-new}
 use Rattle.rope_tree.proofs.builder.cut_front.Goals as goal
 
-pub returns-then-len-eq0-clause-whole : goal.returns-then-len-eq0-clause-whole
-returns-then-len-eq0-clause-whole c =
-    let text = c.args.text.now in
-    let r = c.first_leaf_len-taken in
-    let off = cut_off text r.result c.utf8.text (omega (arith, r.ensures.long)) (omega (arith, r.ensures.short, c.requires, c.len.ensures.value, c.if-len-eq0.true)) r.ensures.cut in
-    cut_whole text r.result _ _ _ off (c.from_str.ensures.value ∙ ap chars (c.range.ensures.value ∙ ap (λ k. take k text) (omega arith))) (ap (λ n. n ++ chars (drop r.result text)) c.new.ensures)
-    (ap (λ n. n ++ chars text) (sym (no_bytes c.args.rest.now (omega (arith, c.len.ensures.value, c.if-len-eq0.true)))))
+some : (c : After-new) → 0 < c.prev_break-taken.result
+some c = omega (arith, c.if-taken-max.false, c.max.ensures)
 
-pub returns-then-len-eq0-clause-apart : goal.returns-then-len-eq0-clause-apart
-returns-then-len-eq0-clause-apart c =
-    let text = c.args.text.now in
-    let r = c.first_leaf_len-taken in
-    let off = cut_off text r.result c.utf8.text (omega (arith, r.ensures.long)) (omega (arith, r.ensures.short, c.requires, c.len.ensures.value, c.if-len-eq0.true)) r.ensures.cut in
-    cut_apart text r.result _ _ off (c.from_str.ensures.value ∙ ap chars (c.range.ensures.value ∙ ap (λ k. take k text) (omega arith))) (ap (λ n. n ++ chars (drop r.result text)) c.new.ensures)
+inside : (c : After-new) → c.prev_break-taken.result < length c.args.text.now
+inside c = omega (arith, c.prev_break-taken.ensures.before (omega (arith, c.len-room.ensures.fits)), c.requires, c.len-room.ensures.value)
 
-off : (c : After-from_str-leaf) → IsCutOff (c.as_str-first.result.now ++ c.args.text.now) c.first_leaf_len-len.result
-off c =
-    let p = c.ahead_len in
-    let r = c.first_leaf_len-len in
-    two_parts c.as_str-first.result.now c.args.text.now c.range-2.result.now c.as_str-ahead.result.now p.result r.result c.as_str-first.utf8 c.utf8.text p.ensures.within c.range-2.ensures.value
-    (c.as_str-ahead.ensures.value ∙ c.join_parts-ahead.ensures) (omega (arith, r.ensures.long)) (omega (arith, r.ensures.short, ap length c.as_str-first.ensures.bytes, p.ensures.long, c.requires)) r.ensures.cut
-
-leaf_is : (c : After-from_str-leaf) → c.from_str-leaf.result ≡ chars (take c.first_leaf_len-len.result (c.as_str-first.result.now ++ c.args.text.now))
-leaf_is c =
-    let p = c.ahead_len in
-    let r = c.first_leaf_len-len in
-    c.from_str-leaf.ensures.value
-    ∙ ap chars
-    (c.range-3.ensures.value
-    ∙ leaf_part c.as_str-first.result.now c.args.text.now c.range-2.result.now c.as_str-ahead.result.now p.result r.result c.as_str-first.utf8 c.utf8.text p.ensures.within c.range-2.ensures.value
-    (c.as_str-ahead.ensures.value ∙ c.join_parts-ahead.ensures) (omega (arith, r.ensures.long)) (omega (arith, r.ensures.short, ap length c.as_str-first.ensures.bytes, p.ensures.long, c.requires)) r.ensures.cut)
-
-whole_is : (c : After-from_str-leaf) → chars (c.as_str-first.result.now ++ c.args.text.now) ≡ c.args.rest.now ++ chars c.args.text.now
-whole_is c = chars-append c.as_str-first.result.now c.args.text.now c.as_str-first.utf8 ∙ ap (λ x. x ++ chars c.args.text.now) c.as_str-first.ensures.chars
-
-pub returns-then-len-first-clause-boundary : goal.returns-then-len-first-clause-boundary
-returns-then-len-first-clause-boundary c = IsCharBoundary-start c.args.text.now c.utf8.text
-
-some_is : (c : After-from_str-then-len-first) → c.from_str-then-len-first.result ++ chars c.args.text.now ≡ chars (drop c.first_leaf_len-len.result (c.as_str-first.result.now ++ c.args.text.now))
-some_is c =
-    let first = c.as_str-first.result.now in
-    ap (λ x. x ++ chars c.args.text.now) c.from_str-then-len-first.ensures.value ∙ sym (chars-append c.range_from.result.now c.args.text.now c.range_from.utf8)
-    ∙ ap chars (ap (λ x. x ++ c.args.text.now) c.range_from.ensures.value ∙ sym (drop-append-le c.first_leaf_len-len.result first c.args.text.now (omega (arith, c.if-len-first.true))))
-
-pub returns-then-len-first-clause-whole : goal.returns-then-len-first-clause-whole
-returns-then-len-first-clause-whole c =
-    let b = (goal.at.returns-then-len-first-clause-whole c).After-from_str-leaf in
-    cut_whole _ _ _ _ _ (off b) (leaf_is b) (some_is (goal.at.returns-then-len-first-clause-whole c).After-from_str-then-len-first) (whole_is b)
-
-pub returns-then-len-first-clause-apart : goal.returns-then-len-first-clause-apart
-returns-then-len-first-clause-apart c =
-    let b = (goal.at.returns-then-len-first-clause-apart c).After-from_str-leaf in
-    cut_apart _ _ _ _ (off b) (leaf_is b) (some_is (goal.at.returns-then-len-first-clause-apart c).After-from_str-then-len-first)
-
-none_is : (c : After-new-2) → c.new-2.result ++ chars (drop (c.first_leaf_len-len.result - length c.as_str-first.result.now) c.args.text.now) ≡ chars (drop c.first_leaf_len-len.result (c.as_str-first.result.now ++ c.args.text.now))
-none_is c =
-    let first = c.as_str-first.result.now in
-    let text = c.args.text.now in
-    let r = c.first_leaf_len-len.result in
-    ap (λ x. x ++ chars (drop (r - length first) text)) c.new-2.ensures ∙ ap chars (sym (all_taken first text r c.if-len-first.false))
+off : (c : After-new) → IsCutOff c.args.text.now c.prev_break-taken.result
+off c = cut_off c.args.text.now c.prev_break-taken.result c.utf8.text (some c) (inside c) (subst (λ bs. IsTrue (is_cut bs c.prev_break-taken.result)) c.as_bytes.ensures.value c.prev_break-taken.ensures.cut)
 
 pub returns-clause-whole : goal.returns-clause-whole
 returns-clause-whole c =
-    let b = (goal.at.returns-clause-whole c).After-from_str-leaf in
-    cut_whole _ _ _ _ _ (off b) (leaf_is b) (none_is (goal.at.returns-clause-whole c).After-new-2) (whole_is b)
+    let e = (goal.at.returns-clause-whole c).After-new in
+    longer_whole c.args.text.now c.prev_break-taken.result c.args.rest.now _ _ _ (some e) (off e) (c.replace-leaf.ensures.value ∙ c.push_str.ensures.value) c.range.ensures.value (c.replace-leaf.ensures.after ∙ c.new.ensures)
 
 pub returns-clause-apart : goal.returns-clause-apart
 returns-clause-apart c =
-    let b = (goal.at.returns-clause-apart c).After-from_str-leaf in
-    cut_apart _ _ _ _ (off b) (leaf_is b) (none_is (goal.at.returns-clause-apart c).After-new-2)
+    let e = (goal.at.returns-clause-apart c).After-new in
+    longer_apart c.args.text.now c.prev_break-taken.result c.args.rest.now _ _ _ (some e) (off e) (c.replace-leaf.ensures.value ∙ c.push_str.ensures.value) c.range.ensures.value (c.replace-leaf.ensures.after ∙ c.new.ensures) (omega (arith, inside e))

@@ -1,4 +1,6 @@
-use super::*;
+//! Trees of texts.
+use rope_text::LineBreaks;
+use rope_tree::build::build;
 
 #[test]
 fn levels(rt: HostRuntime) {

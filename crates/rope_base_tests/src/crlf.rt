@@ -1,4 +1,7 @@
-use super::*;
+//! Places where a text may be cut.
+use rope_text::crlf::{
+    find_good_split, is_break, nearest_internal_break, next_break, prev_break, seam_is_break,
+};
 
 #[test]
 fn seams(rt: HostRuntime) {

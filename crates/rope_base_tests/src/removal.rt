@@ -1,7 +1,11 @@
-use super::*;
-use crate::build::build;
-use crate::children::share;
+//! Characters taken out of one leaf.
 use rope_text::LineBreaks;
+use rope_tree::build::build;
+use rope_tree::children::share;
+use rope_tree::node::Node;
+use rope_tree::removal::remove_at;
+use std::alloc::{AllocError, Global};
+use std::rc::Rc;
 
 // Removes where the characters are there.
 fn remove(

@@ -1,7 +1,8 @@
+//! The text of a leaf.
 ghost use Rattle.std.specs.Prelude.{◌≡◌};
 ghost use Rattle.rope_text.specs.Text.{byte_len};
 
-use super::*;
+use rope_tree::node_text::NodeText;
 
 fn hello() -> NodeText
     ensures { byte_len result ≡ 6 }

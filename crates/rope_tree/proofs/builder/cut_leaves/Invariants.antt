@@ -7,7 +7,7 @@ use Rattle.rope_text.specs.Text.{byte_len}
 use Rattle.rope_tree.specs.Tree.{joined, leaves_of}
 use Rattle.rope_tree.specs.Listed.{trees}
 use Rattle.rope_tree.specs.Fronts.{AreFrontNodes}
-use Rattle.rope_tree.proofs.builder.append_to.Given as goal
+use Rattle.rope_tree.proofs.builder.cut_leaves.Given as goal
 
 abbrev pub invariant-loop-left : goal.invariant-loop-left
 invariant-loop-left l = record {

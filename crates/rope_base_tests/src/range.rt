@@ -1,4 +1,6 @@
-use super::*;
+//! Index ranges.
+use rope_text::range::char_bounds;
+use rope_text::{Error, IndexRange};
 use std::test::Fail;
 
 fn told<R: IndexRange>(range: &R) -> (Option<usize>, Option<usize>) {

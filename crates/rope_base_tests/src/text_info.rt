@@ -1,8 +1,9 @@
-use super::*;
-use crate::str_utils::{
+//! Counts at each place of a text.
+use rope_text::str_utils::{
     byte_to_char_idx, byte_to_surrogates, char_to_byte_idx, char_to_line_idx, char_to_utf16_idx,
     count_utf16, line_to_byte_idx, utf16_to_char_idx,
 };
+use rope_text::{LineBreaks, TextInfo};
 use std::alloc::{AllocError, Global};
 use std::process::Abort;
 

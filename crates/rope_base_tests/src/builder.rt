@@ -1,4 +1,6 @@
-use super::*;
+//! Trees of texts that are handed in one after the other.
+use rope_text::LineBreaks;
+use rope_tree::builder::Builder;
 
 #[test]
 fn pieces(rt: HostRuntime) {

@@ -1,0 +1,64 @@
+-- The leaf ends at a cut of the two parts' bytes.
+use Rattle.std.proofs.Common.{◌≡◌, ◌-◌, ◌++◌, take, drop, length, ap, sym, ◌∙◌, arith}
+use Rattle.std.proofs.lemmas.List.{drop-append-le}
+use Rattle.std.proofs.lemmas.Str.{chars-append, IsCharBoundary-start}
+use Rattle.std.specs.Str.{chars}
+use Rattle.rope_tree.proofs.FrontLaws.{IsCutOff, cut_whole, cut_apart, two_parts, leaf_part, all_taken}
+use Rattle.rope_tree.proofs.builder.cut_at_seam.Goals.{After-from_str-leaf, After-from_str, After-new}
+use Rattle.rope_tree.proofs.builder.cut_at_seam.Goals as goal
+
+off : (c : After-from_str-leaf) → IsCutOff (c.as_str-first.result.now ++ c.args.text.now) c.first_leaf_len-len.result
+off c =
+    let p = c.ahead_len in
+    let r = c.first_leaf_len-len in
+    two_parts c.as_str-first.result.now c.args.text.now c.range.result.now c.as_str-ahead.result.now p.result r.result c.as_str-first.utf8 c.utf8.text p.ensures.within c.range.ensures.value
+    (c.as_str-ahead.ensures.value ∙ c.join_parts-ahead.ensures) (omega (arith, r.ensures.long)) (omega (arith, r.ensures.short, ap length c.as_str-first.ensures.bytes, p.ensures.long, c.requires)) r.ensures.cut
+
+leaf_is : (c : After-from_str-leaf) → c.from_str-leaf.result ≡ chars (take c.first_leaf_len-len.result (c.as_str-first.result.now ++ c.args.text.now))
+leaf_is c =
+    let p = c.ahead_len in
+    let r = c.first_leaf_len-len in
+    c.from_str-leaf.ensures.value
+    ∙ ap chars
+    (c.range-2.ensures.value
+    ∙ leaf_part c.as_str-first.result.now c.args.text.now c.range.result.now c.as_str-ahead.result.now p.result r.result c.as_str-first.utf8 c.utf8.text p.ensures.within c.range.ensures.value
+    (c.as_str-ahead.ensures.value ∙ c.join_parts-ahead.ensures) (omega (arith, r.ensures.long)) (omega (arith, r.ensures.short, ap length c.as_str-first.ensures.bytes, p.ensures.long, c.requires)) r.ensures.cut)
+
+whole_is : (c : After-from_str-leaf) → chars (c.as_str-first.result.now ++ c.args.text.now) ≡ c.args.rest.now ++ chars c.args.text.now
+whole_is c = chars-append c.as_str-first.result.now c.args.text.now c.as_str-first.utf8 ∙ ap (λ x. x ++ chars c.args.text.now) c.as_str-first.ensures.chars
+
+pub returns-then-len-first-clause-boundary : goal.returns-then-len-first-clause-boundary
+returns-then-len-first-clause-boundary c = IsCharBoundary-start c.args.text.now c.utf8.text
+
+some_is : (c : After-from_str) → c.from_str.result ++ chars c.args.text.now ≡ chars (drop c.first_leaf_len-len.result (c.as_str-first.result.now ++ c.args.text.now))
+some_is c =
+    let first = c.as_str-first.result.now in
+    ap (λ x. x ++ chars c.args.text.now) c.from_str.ensures.value ∙ sym (chars-append c.range_from.result.now c.args.text.now c.range_from.utf8)
+    ∙ ap chars (ap (λ x. x ++ c.args.text.now) c.range_from.ensures.value ∙ sym (drop-append-le c.first_leaf_len-len.result first c.args.text.now (omega (arith, c.if-len-first.true))))
+
+pub returns-then-len-first-clause-whole : goal.returns-then-len-first-clause-whole
+returns-then-len-first-clause-whole c =
+    let b = (goal.at.returns-then-len-first-clause-whole c).After-from_str-leaf in
+    cut_whole _ _ _ _ _ (off b) (leaf_is b) (some_is (goal.at.returns-then-len-first-clause-whole c).After-from_str) (whole_is b)
+
+pub returns-then-len-first-clause-apart : goal.returns-then-len-first-clause-apart
+returns-then-len-first-clause-apart c =
+    let b = (goal.at.returns-then-len-first-clause-apart c).After-from_str-leaf in
+    cut_apart _ _ _ _ (off b) (leaf_is b) (some_is (goal.at.returns-then-len-first-clause-apart c).After-from_str)
+
+none_is : (c : After-new) → c.new.result ++ chars (drop (c.first_leaf_len-len.result - length c.as_str-first.result.now) c.args.text.now) ≡ chars (drop c.first_leaf_len-len.result (c.as_str-first.result.now ++ c.args.text.now))
+none_is c =
+    let first = c.as_str-first.result.now in
+    let text = c.args.text.now in
+    let r = c.first_leaf_len-len.result in
+    ap (λ x. x ++ chars (drop (r - length first) text)) c.new.ensures ∙ ap chars (sym (all_taken first text r c.if-len-first.false))
+
+pub returns-clause-whole : goal.returns-clause-whole
+returns-clause-whole c =
+    let b = (goal.at.returns-clause-whole c).After-from_str-leaf in
+    cut_whole _ _ _ _ _ (off b) (leaf_is b) (none_is (goal.at.returns-clause-whole c).After-new) (whole_is b)
+
+pub returns-clause-apart : goal.returns-clause-apart
+returns-clause-apart c =
+    let b = (goal.at.returns-clause-apart c).After-from_str-leaf in
+    cut_apart _ _ _ _ (off b) (leaf_is b) (none_is (goal.at.returns-clause-apart c).After-new)

@@ -1,0 +1,18 @@
+-- The texts that an iterator gives, joined.
+use Rattle.std.specs.Prelude.{◌≡◌, ℕ, List, map, Option}
+use Rattle.std.specs.List.{concat}
+use Rattle.std.specs.Str.{chars}
+use Rattle.std.specs.Iterator.{Yields, Drains}
+
+-- the characters of texts, one text after the other
+abbrev pub joined_texts : {A : Type 0} → (A → List ℕ) → List A → List ℕ
+joined_texts bytes texts = concat (map (λ x. chars (bytes x)) texts)
+
+module _ {U S A : Type 0} (becomes : U → S → Type 0) (steps : S → Option A → S → Type 0) (bytes : A → List ℕ) where
+  -- all that the source gives until it ends
+  abbrev pub IsAllOf : U → List ℕ → Type 0
+  IsAllOf source text = (it : S) × (texts : List A) × becomes source it × Drains steps it texts × (text ≡ joined_texts bytes texts)
+
+  -- what the source gives up to some point
+  abbrev pub IsBeginningOf : U → List ℕ → Type 0
+  IsBeginningOf source text = (it : S) × (texts : List A) × (rest : S) × becomes source it × Yields steps it texts rest × (text ≡ joined_texts bytes texts)

@@ -1,0 +1,104 @@
+//! Ropes of texts that are owned, or that an iterator gives.
+ghost use Rattle.std.specs.Prelude.{◌≡◌, List, ℕ, IfOk, IfErr};
+ghost use Rattle.std.specs.Str.{chars};
+ghost use Rattle.std.specs.String.{string_bytes};
+ghost use Rattle.std.specs.Cow.{cow_str_bytes};
+ghost use Rattle.std.specs.Iterator.{IsFiniteIterable};
+ghost use Rattle.rope_text.specs.declared.error.Error.TheVariants.{OutOfMemory};
+ghost use Rattle.rope_text.specs.declared.line_breaks.LineBreaks.TheVariants.{Unicode};
+ghost use Rattle.rope_text.specs.Text.{byte_len};
+ghost use Rattle.rope_text.specs.Edit.{size_error, IsRefusal};
+ghost use Rattle.ropey.specs.View.{IsRope, HasFewChunks};
+ghost use Rattle.ropey.specs.Texts.{IsAllOf, IsBeginningOf};
+
+use crate::rope::Rope;
+use crate::rope_builder::RopeBuilder;
+use rope_text::{LineBreaks, Result};
+use std::alloc::Global;
+use std::borrow::CowStr;
+use std::convert::AsStr;
+
+impl Rope {
+    /// A copy of the text, as `from_str` makes it.
+    pub fn from_string(alloc: Global, text: String) -> Result<Rope>
+        ensures text { IfOk result (λ rope. rope.text ≡ chars (string_bytes text)) }
+        ensures breaks { IfOk result (λ rope. rope.breaks ≡ Unicode) }
+        ensures kept { IfOk result IsRope }
+        ensures few { IfOk result HasFewChunks }
+        ensures err { IfErr result (λ e. e ≡ OutOfMemory) }
+    {
+        Rope::from_str(alloc, text.as_str())
+    }
+
+    /// A copy of the text, borrowed or owned, as `from_str` makes it.
+    pub fn from_cow(alloc: Global, cow: CowStr<'_>) -> Result<Rope>
+        ensures text { IfOk result (λ rope. rope.text ≡ chars (cow_str_bytes cow.entry)) }
+        ensures breaks { IfOk result (λ rope. rope.breaks ≡ Unicode) }
+        ensures kept { IfOk result IsRope }
+        ensures few { IfOk result HasFewChunks }
+        ensures err { IfErr result (λ e. e ≡ OutOfMemory) }
+    {
+        Rope::from_str(alloc, cow.as_str())
+    }
+
+    /// The texts that the iterator gives, one after the other, with Unicode's line breaks, in at most one chunk for each 981
+    /// bytes and one more for the rest. The iterator must end.
+    ///
+    /// It refuses texts of more than `isize::MAX` bytes so far, then for want of memory, and takes no text after that.
+    pub fn from_str_iter<'a, I: IntoIterator<Item = &'a str>>(
+        alloc: Global,
+        iter: I,
+    ) -> Result<Rope>
+        requires ends { IsFiniteIterable I.into_iter_gives I.IntoIter.can_next I.IntoIter.remaining iter }
+        ensures text { IfOk result (λ rope. IsAllOf I.into_iter_gives I.IntoIter.next_gives (λ x. x.now) iter rope.text) }
+        ensures breaks { IfOk result (λ rope. rope.breaks ≡ Unicode) }
+        ensures kept { IfOk result IsRope }
+        ensures few { IfOk result HasFewChunks }
+        ensures refused { IfErr result (λ e. (text : List ℕ) × IsBeginningOf I.into_iter_gives I.IntoIter.next_gives (λ x. x.now) iter text × IsRefusal (size_error (byte_len text)) e) }
+    {
+        from_texts(alloc, iter)
+    }
+
+    /// As `from_str_iter`, of owned texts.
+    pub fn from_string_iter<I: IntoIterator<Item = String>>(alloc: Global, iter: I) -> Result<Rope>
+        requires ends { IsFiniteIterable I.into_iter_gives I.IntoIter.can_next I.IntoIter.remaining iter }
+        ensures text { IfOk result (λ rope. IsAllOf I.into_iter_gives I.IntoIter.next_gives string_bytes iter rope.text) }
+        ensures breaks { IfOk result (λ rope. rope.breaks ≡ Unicode) }
+        ensures kept { IfOk result IsRope }
+        ensures few { IfOk result HasFewChunks }
+        ensures refused { IfErr result (λ e. (text : List ℕ) × IsBeginningOf I.into_iter_gives I.IntoIter.next_gives string_bytes iter text × IsRefusal (size_error (byte_len text)) e) }
+    {
+        from_texts(alloc, iter)
+    }
+
+    /// As `from_str_iter`, of texts that are borrowed or owned.
+    pub fn from_cow_iter<'a, I: IntoIterator<Item = CowStr<'a>>>(
+        alloc: Global,
+        iter: I,
+    ) -> Result<Rope>
+        requires ends { IsFiniteIterable I.into_iter_gives I.IntoIter.can_next I.IntoIter.remaining iter }
+        ensures text { IfOk result (λ rope. IsAllOf I.into_iter_gives I.IntoIter.next_gives cow_str_bytes iter rope.text) }
+        ensures breaks { IfOk result (λ rope. rope.breaks ≡ Unicode) }
+        ensures kept { IfOk result IsRope }
+        ensures few { IfOk result HasFewChunks }
+        ensures refused { IfErr result (λ e. (text : List ℕ) × IsBeginningOf I.into_iter_gives I.IntoIter.next_gives cow_str_bytes iter text × IsRefusal (size_error (byte_len text)) e) }
+    {
+        from_texts(alloc, iter)
+    }
+}
+
+// Hands the texts to a builder, one after the other.
+fn from_texts<T: AsStr + Drop, I: IntoIterator<Item = T>>(alloc: Global, iter: I) -> Result<Rope>
+    requires ends { IsFiniteIterable I.into_iter_gives I.IntoIter.can_next I.IntoIter.remaining iter }
+    ensures text { IfOk result (λ rope. IsAllOf I.into_iter_gives I.IntoIter.next_gives T.text iter rope.text) }
+    ensures breaks { IfOk result (λ rope. rope.breaks ≡ Unicode) }
+    ensures kept { IfOk result IsRope }
+    ensures few { IfOk result HasFewChunks }
+    ensures refused { IfErr result (λ e. (text : List ℕ) × IsBeginningOf I.into_iter_gives I.IntoIter.next_gives T.text iter text × IsRefusal (size_error (byte_len text)) e) }
+{
+    let mut builder = RopeBuilder::empty(alloc, LineBreaks::Unicode);
+    for text in iter {
+        builder.append(text.as_str())?;
+    }
+    builder.finish()
+}
