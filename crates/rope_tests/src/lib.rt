@@ -10,4 +10,6 @@ mod counted;
 #[cfg(test)]
 mod lookups;
 #[cfg(test)]
+mod makers;
+#[cfg(test)]
 mod sets;
