@@ -1,22 +1,16 @@
 -- Edits of one rope of a list, as its contents show it.
-use Rattle.std.proofs.Common.{◌≡◌, ℕ, ◌+◌, ◌^◌, ◌<◌, List, [], ◌∷◌, ◌++◌, All, length, take, drop, get_or, slice_set, map, Option, None, Bool, true, Result, Ok, Err, IsOk, OnOk, OnErr, IfErr, IfOk, refl, ap, sym, ◌∙◌, inl, inr, arith}
-use Rattle.std.proofs.lemmas.Bool.Decides.{nat_tests}
+use Rattle.std.proofs.Common.{◌≡◌, ℕ, ◌<◌, List, [], ◌∷◌, ◌++◌, length, take, drop, get_or, slice_set, map, Option, None, Bool, true, Result, Ok, Err, IsOk, OnOk, OnErr, IfErr, refl, ap, sym, ◌∙◌, inl, inr, arith}
 use Rattle.std.proofs.lemmas.List.{map-set, map-append, length-map, length-set, set-get_or, get_or_default}
-use Rattle.std.proofs.lemmas.List.Elements.{All-get_or}
 use Rattle.std.proofs.Math.ListN.{get_or-map}
 use Rattle.rope_text.specs.declared.error.Error.{Error}
 use Rattle.rope_text.specs.declared.error.Error.TheVariants.{OutOfMemory}
-use Rattle.rope_text.specs.declared.line_breaks.LineBreaks.TheVariants.{Unicode}
 use Rattle.rope_text.specs.Content.{Content}
 use Rattle.rope_text.specs.Edit.{IsRefusal, char_index_error, append_error}
-use Rattle.rope_text.specs.Text.{byte_len}
-use Rattle.ropey.specs.View.{RopeView, IsRope, content}
-use Rattle.rope_script.specs.declared.script.Command.{Command}
+use Rattle.ropey.specs.View.{RopeView, IsRope, HasFewChunks, content}
 use Rattle.rope_script.specs.declared.script.Reply.{Reply}
 use Rattle.rope_script.specs.declared.script.Reply.TheVariants.{Made, Refused}
-use Rattle.rope_script.specs.Step.{OfRope, Unless, OrNoMemory, HasUnicode, AddsSame, Changes, KeepsChunks, Edits, Cuts, Joins, Step, edit_reply}
-use Rattle.rope_script.proofs.RunLaws.{step_keeps_unicode}
-use Rattle.rope_script.proofs.Edits.{of_rope, is_rope_of, unless_refused, edits_by, changes_by, keeps_chunks}
+use Rattle.rope_script.specs.Step.{OfRope, Unless, OrNoMemory, AddsSame, Changes, KeepsChunks, Edits, Cuts, Joins, Shrinks, edit_reply}
+use Rattle.rope_script.proofs.Edits.{of_rope, is_rope_of, unless_refused, edits_by, changes_by, shrinks_by, keeps_chunks}
 
 -- one of the ropes
 pub inside : (old : List RopeView) (r : ℕ) → r < length old → r < length (map content old)
@@ -109,30 +103,22 @@ join_of result old r s rope other after h e j f ok refusal same right left k l b
     breaks_are kept.content in
     rw (map-set content old r after) (of_content _ old _ r rope _ h e (of_content _ old _ s other _ j f joined))
 
--- the set of line breaks of one of the ropes
-unicode_at : (old : List RopeView) (r : ℕ) (rope : RopeView) → r < length old → rope ≡ get_or old r rope → All HasUnicode (map content old) → rope.breaks ≡ Unicode
-unicode_at old r rope h e u =
-    let p : HasUnicode (get_or (map content old) r (content rope)) = All-get_or HasUnicode (map content old) r (content rope) (inside old r h) u in
-    rw (sym (read_at old r rope e)) at p
+-- a join is refused by what its ropes say, or where they say nothing for want of memory
+pub unjoined_of : (old : List RopeView) (r s : ℕ) (rope other : RopeView) (found : Option Error) (error : Error) → r < length old → rope ≡ get_or old r rope → s < length old → other ≡ get_or old s other
+    → found ≡ append_error rope.breaks other.breaks rope.text other.text → IsRefusal found error → Joins r s (map content old) (Refused error) (map content old)
+unjoined_of old r s rope other found error h e j f is refusal =
+    of_content _ old _ r rope _ h e (of_content _ old _ s other _ j f
+    (rw (← is) (unless_refused found error _ (map content old) (map content old) refusal refl (λ fine memory. inr (ap Refused memory, refl)))))
 
--- nothing is wrong with an append of ropes of one set of line breaks whose texts fit
-no_error : (old : List RopeView) (r s : ℕ) (rope other : RopeView) → r < length old → rope ≡ get_or old r rope → s < length old → other ≡ get_or old s other
-    → All HasUnicode (map content old) → byte_len rope.text + byte_len other.text < 2 ^ 63 → append_error rope.breaks other.breaks rope.text other.text ≡ None
-no_error old r s rope other h e j f u fits = rw (unicode_at old r rope h e u, unicode_at old s other j f u) (grind (arith, nat_tests))
-
--- so only memory is refused
-pub unjoined_of : (old : List RopeView) (r s : ℕ) (rope other : RopeView) → r < length old → rope ≡ get_or old r rope → s < length old → other ≡ get_or old s other
-    → All HasUnicode (map content old) → byte_len rope.text + byte_len other.text < 2 ^ 63
-    → Joins r s (map content old) (Refused OutOfMemory) (map content old)
-unjoined_of old r s rope other h e j f u fits =
-    of_content _ old _ r rope _ h e (of_content _ old _ s other _ j f (rw (no_error old r s rope other h e j f u fits) (inr (refl, refl))))
+-- one of the ropes is cut anew, as the result of the rope's own shrinking tells
+pub shrink_of : {T : Type 0} (result : Result T Error) (old : List RopeView) (r : ℕ) (rope after : RopeView) → r < length old → rope ≡ get_or old r rope
+    → after.text ≡ rope.text → after.breaks ≡ rope.breaks → IsRope after → OnOk result (HasFewChunks after) → IfErr result (λ e. e ≡ OutOfMemory) → OnErr result (after ≡ rope)
+    → Shrinks r (map content old) (edit_reply result) (map content (slice_set old r after))
+shrink_of result old r rope after h e text_is breaks_are kept few memory same =
+    rw (map-set content old r after)
+    (of_content _ old _ r rope _ h e
+    (shrinks_by result (map content old) r (content rope) (content after) (read_at old r rope e) text_is breaks_are kept.content few memory (same_content result rope after same)))
 
 -- a rope that was read where another was is that one
 pub same_place : (old : List RopeView) (r : ℕ) (a b : RopeView) → r < length old → a ≡ get_or old r a → b ≡ get_or old r b → a ≡ b
 same_place old r a b h e f = e ∙ get_or_default old r a b h ∙ sym f
-
--- a command leaves the ropes with the one set of line breaks
-pub unicode_after : (result : Result Reply Error) (old new : List RopeView) (command : Command) → All HasUnicode (map content old)
-    → IfOk result (λ reply. Step (map content old) command reply (map content new)) → OnErr result (new ≡ old) → All HasUnicode (map content new)
-unicode_after (Ok reply) old new command k step same = step_keeps_unicode (map content old) (map content new) command reply k step
-unicode_after (Err error) old new command k step same = rw same k

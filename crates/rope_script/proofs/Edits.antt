@@ -7,7 +7,7 @@ use Rattle.std.proofs.lemmas.Option.{slice_get_read}
 use Rattle.rope_text.specs.declared.error.Error.{Error}
 use Rattle.rope_text.specs.declared.error.Error.TheVariants.{OutOfMemory}
 use Rattle.rope_text.specs.declared.line_breaks.LineBreaks.{LineBreaks}
-use Rattle.rope_text.specs.Content.{Content, IsRope}
+use Rattle.rope_text.specs.Content.{Content, IsRope, HasFewChunks}
 use Rattle.rope_text.specs.Cutting.{IsChunkSize}
 use Rattle.rope_text.specs.Text.{byte_len}
 use Rattle.rope_text.specs.Edit.{IsRefusal}
@@ -63,6 +63,16 @@ changes_by (Ok done) old r rope after error text Q e ok refusal same q breaks_ar
 changes_by (Err fault) old r rope after error text Q e ok refusal same q breaks_are kept =
     let back = written_back old r rope after e same in
     unless_refused error fault _ old (slice_set old r after) refusal back (λ fine memory. inr (ap Refused memory, back))
+
+-- a shrinking is told by the result of the rope's own
+pub shrinks_by : {T : Type 0} (result : Result T Error) (old : List Content) (r : ℕ) (rope after : Content)
+    → rope ≡ get_or old r rope → after.text ≡ rope.text → after.breaks ≡ rope.breaks → IsRope after
+    → OnOk result (HasFewChunks after) → IfErr result (λ e. e ≡ OutOfMemory) → OnErr result (after ≡ rope)
+    → OrNoMemory (Changes r rope.breaks rope.text HasFewChunks old (edit_reply result) (slice_set old r after)) old (edit_reply result) (slice_set old r after)
+shrinks_by (Ok done) old r rope after e text_is breaks_are kept few memory same =
+    inl (after, is_rope_of rope.text rope.breaks after text_is breaks_are kept, few, refl, refl)
+shrinks_by (Err fault) old r rope after e text_is breaks_are kept few memory same =
+    inr (ap Refused memory, written_back old r rope after e same)
 
 zero_or_more : (n : ℕ) → (n ≡ 0) ⊎ (0 < n)
 zero_or_more zero = inl refl

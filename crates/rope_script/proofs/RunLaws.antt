@@ -1,18 +1,19 @@
 -- Runs go on, and every rope that they make or change keeps what a rope keeps.
-use Rattle.std.proofs.Common.{◌≡◌, ℕ, ◌+◌, ◌<◌, zero, suc, ◌==◌, ◌⊎◌, Bool, true, false, MatchBool, List, [], ◌∷◌, ◌++◌, length, take, drop, get_or, slice_get, slice_set, MatchOption, Option, Some, None, All, refl, sym, ap, subst, ◌∙◌, inl, inr, arith, append_assoc, length-append}
+use Rattle.std.proofs.Common.{◌≡◌, ℕ, ◌+◌, ◌<◌, zero, suc, ◌==◌, ◌⊎◌, Bool, true, false, MatchBool, List, [], ◌∷◌, ◌++◌, length, take, get_or, slice_get, slice_set, MatchOption, Option, Some, None, All, refl, sym, ap, subst, ◌∙◌, inl, inr, arith, append_assoc, length-append}
 use Rattle.std.proofs.lemmas.List.{take_more}
 use Rattle.std.proofs.lemmas.List.Elements.{All-append, All-set, All-get_or}
 use Rattle.std.proofs.lemmas.Option.{slice_get_cases}
 use Rattle.rope_text.specs.Content.{Content, IsRope, HasFewChunks}
 use Rattle.rope_text.specs.Edit.{inserted, insert_error, removed, range_start, range_end, char_range_error, char_index_error, append_error}
 use Rattle.rope_text.specs.declared.error.Error.{Error}
+use Rattle.rope_text.specs.declared.line_breaks.LineBreaks.{LineBreaks}
 use Rattle.rope_text.specs.declared.line_breaks.LineBreaks.TheVariants.{Unicode}
 use Rattle.std.specs.Str.{chars}
 use Rattle.std.specs.String.{string_bytes}
 use Rattle.rope_script.specs.declared.script.Command.{Command}
 use Rattle.rope_script.specs.declared.script.Command.TheVariants as command
 use Rattle.rope_script.specs.declared.script.Reply.{Reply}
-use Rattle.rope_script.specs.Step.{IsRopeOf, HasUnicode, Any, KeepsChunks, OrNoMemory, Unless, Adds, AddsSame, Changes, Edits, Splits, Step, Inserts, Removes, Cuts, Joins, Runs}
+use Rattle.rope_script.specs.Step.{Any, KeepsChunks, OrNoMemory, Unless, Adds, AddsSame, Changes, Edits, Splits, Step, Inserts, Removes, Cuts, Joins, Shrinks, Runs}
 
 pub Runs-push : (old mid new : List Content) (commands : List Command) (replies : List Reply) (command : Command) (reply : Reply)
     → Runs old commands replies mid → Step mid command reply new → Runs old (commands ++ command ∷ []) (replies ++ reply ∷ []) new
@@ -42,18 +43,18 @@ running_more old mid new commands before after done command reply l e r s = reco
 -- ---- every rope of a run keeps what a rope keeps
 
 -- the one element of a list
-one : (P : Content → Type 0) (x : Content) → P x → All P (x ∷ [])
-one P x p zero d h = p
-one P x p (suc i) d h = absurd (omega arith)
+one : (x : Content) → IsRope x → All IsRope (x ∷ [])
+one x p zero d h = p
+one x p (suc i) d h = absurd (omega arith)
 
 -- one more rope
-added_keep : (P : Content → Type 0) (old : List Content) (rope : Content) → All P old → P rope → All P (old ++ rope ∷ [])
-added_keep P old rope k p = All-append P old (rope ∷ []) k (one P rope p)
+added_keep : (old : List Content) (rope : Content) → All IsRope old → IsRope rope → All IsRope (old ++ rope ∷ [])
+added_keep old rope k p = All-append IsRope old (rope ∷ []) k (one rope p)
 
 -- there is no such rope, or it is found
-found : (P : Content → Type 0) (old : List Content) (r : ℕ) (A : Type 0) (Q : Content → Type 0) → All P old → MatchOption (slice_get old r) A Q → A ⊎ ((rope : Content) × P rope × Q rope)
-found P old r A Q k m = elim (slice_get_cases old r).1 [
-  | inl there ↦ let p : P (get_or old r there.0) = All-get_or P old r there.0 there.1 k in
+found : (old : List Content) (r : ℕ) (A : Type 0) (Q : Content → Type 0) → All IsRope old → MatchOption (slice_get old r) A Q → A ⊎ ((rope : Content) × IsRope rope × Q rope)
+found old r A Q k m = elim (slice_get_cases old r).1 [
+  | inl there ↦ let p : IsRope (get_or old r there.0) = All-get_or IsRope old r there.0 there.1 k in
       inr (there.0, rw there.3 at p, rw there.2 at m)
   | inr past ↦ inl (rw past.1 at m)
 ]
@@ -68,100 +69,91 @@ either : (b : Bool) (P Q : Type 0) → MatchBool b P Q → P ⊎ Q
 either true P Q m = inl m
 either false P Q m = inr m
 
--- what holds of every rope that a session makes, and of what an edit or a cut makes of a rope of which it holds
-pub record IsKept (P : Content → Type 0) : Type 0 where
-  pub made : (text : List ℕ) (rope : Content) → IsRopeOf text Unicode rope → P rope
-  pub changed : (text : List ℕ) (before rope : Content) → P before → IsRopeOf text before.breaks rope → P rope
+changes_keep : (old new : List Content) (r : ℕ) (set : LineBreaks) (text : List ℕ) (Q : Content → Type 0) (reply : Reply) → All IsRope old → Changes r set text Q old reply new → All IsRope new
+changes_keep old new r set text Q reply k s = rw s.4 (All-set IsRope old r s.0 s.1.kept k)
 
-module _ (P : Content → Type 0) (kept : IsKept P) where
-  changes_keep : (old new : List Content) (r : ℕ) (rope : Content) (text : List ℕ) (Q : Content → Type 0) (reply : Reply) → All P old → P rope → Changes r rope.breaks text Q old reply new → All P new
-  changes_keep old new r rope text Q reply k p s = rw s.4 (All-set P old r s.0 (kept.changed text rope s.0 p s.1) k)
+edits_keep : (old new : List Content) (r : ℕ) (set : LineBreaks) (error : Option Error) (idle : Bool) (text : List ℕ) (reply : Reply) → All IsRope old
+    → Edits r set error idle text old reply new → All IsRope new
+edits_keep old new r set error idle text reply k s = elim (allowed error _ old new reply s) [
+  | inl refused ↦ rw refused k
+  | inr fine ↦ elim (either idle _ _ fine) [
+    | inl still ↦ rw still.1 k
+    | inr full ↦ elim full [ inl changed ↦ changes_keep old new r set text Any reply k changed | inr memory ↦ rw memory.1 k ]
+  ]
+]
 
-  edits_keep : (old new : List Content) (r : ℕ) (rope : Content) (error : Option Error) (idle : Bool) (text : List ℕ) (reply : Reply) → All P old → P rope
-      → Edits r rope.breaks error idle text old reply new → All P new
-  edits_keep old new r rope error idle text reply k p s = elim (allowed error _ old new reply s) [
+inserts_keep : (old new : List Content) (r i : ℕ) (text : List ℕ) (reply : Reply) → All IsRope old → Inserts r i text old reply new → All IsRope new
+inserts_keep old new r i text reply k s = elim (found old r _ _ k s) [
+  | inl none ↦ rw none.1 k
+  | inr some ↦ edits_keep old new r some.0.breaks (insert_error some.0.text i text) (length text == 0) (inserted some.0.text i text) reply k some.2
+]
+
+removes_keep : (old new : List Content) (r : ℕ) (start end : Option ℕ) (reply : Reply) → All IsRope old → Removes r start end old reply new → All IsRope new
+removes_keep old new r start end reply k s = elim (found old r _ _ k s) [
+  | inl none ↦ rw none.1 k
+  | inr some ↦ let len = length some.0.text in
+      edits_keep old new r some.0.breaks (char_range_error start end len) (range_start start == range_end end len) (removed some.0.text (range_start start) (range_end end len)) reply k some.2
+]
+
+splits_keep : (old new : List Content) (r i : ℕ) (rope : Content) (reply : Reply) → All IsRope old → Splits r i rope old reply new → All IsRope new
+splits_keep old new r i rope reply k s =
+    rw s.5 (added_keep (slice_set old r s.0) s.1 (All-set IsRope old r s.0 s.2.kept k) s.3.kept)
+
+cuts_keep : (old new : List Content) (r i : ℕ) (reply : Reply) → All IsRope old → Cuts r i old reply new → All IsRope new
+cuts_keep old new r i reply k s = elim (found old r _ _ k s) [
+  | inl none ↦ rw none.1 k
+  | inr some ↦ elim (allowed (char_index_error i (length some.0.text)) _ old new reply some.2) [
     | inl refused ↦ rw refused k
-    | inr fine ↦ elim (either idle _ _ fine) [
-      | inl still ↦ rw still.1 k
-      | inr full ↦ elim full [ inl changed ↦ changes_keep old new r rope text Any reply k p changed | inr memory ↦ rw memory.1 k ]
-    ]
+    | inr fine ↦ elim fine [ inl split ↦ splits_keep old new r i some.0 reply k split | inr memory ↦ rw memory.1 k ]
   ]
+]
 
-  inserts_keep : (old new : List Content) (r i : ℕ) (text : List ℕ) (reply : Reply) → All P old → Inserts r i text old reply new → All P new
-  inserts_keep old new r i text reply k s = elim (found P old r _ _ k s) [
+joins_keep : (old new : List Content) (r s : ℕ) (reply : Reply) → All IsRope old → Joins r s old reply new → All IsRope new
+joins_keep old new r s reply k j = elim (found old r _ _ k j) [
+  | inl none ↦ rw none.1 k
+  | inr first ↦ elim (found old s _ _ k first.2) [
     | inl none ↦ rw none.1 k
-    | inr some ↦ edits_keep old new r some.0 (insert_error some.0.text i text) (length text == 0) (inserted some.0.text i text) reply k some.1 some.2
-  ]
-
-  removes_keep : (old new : List Content) (r : ℕ) (start end : Option ℕ) (reply : Reply) → All P old → Removes r start end old reply new → All P new
-  removes_keep old new r start end reply k s = elim (found P old r _ _ k s) [
-    | inl none ↦ rw none.1 k
-    | inr some ↦ let len = length some.0.text in
-        edits_keep old new r some.0 (char_range_error start end len) (range_start start == range_end end len) (removed some.0.text (range_start start) (range_end end len)) reply k some.1 some.2
-  ]
-
-  splits_keep : (old new : List Content) (r i : ℕ) (rope : Content) (reply : Reply) → All P old → P rope → Splits r i rope old reply new → All P new
-  splits_keep old new r i rope reply k p s =
-      rw s.5 (added_keep P (slice_set old r s.0) s.1 (All-set P old r s.0 (kept.changed (take i rope.text) rope s.0 p s.2) k) (kept.changed (drop i rope.text) rope s.1 p s.3))
-
-  cuts_keep : (old new : List Content) (r i : ℕ) (reply : Reply) → All P old → Cuts r i old reply new → All P new
-  cuts_keep old new r i reply k s = elim (found P old r _ _ k s) [
-    | inl none ↦ rw none.1 k
-    | inr some ↦ elim (allowed (char_index_error i (length some.0.text)) _ old new reply some.2) [
-      | inl refused ↦ rw refused k
-      | inr fine ↦ elim fine [ inl split ↦ splits_keep old new r i some.0 reply k some.1 split | inr memory ↦ rw memory.1 k ]
-    ]
-  ]
-
-  joins_keep : (old new : List Content) (r s : ℕ) (reply : Reply) → All P old → Joins r s old reply new → All P new
-  joins_keep old new r s reply k j = elim (found P old r _ _ k j) [
-    | inl none ↦ rw none.1 k
-    | inr first ↦ elim (found P old s _ _ k first.2) [
-      | inl none ↦ rw none.1 k
-      | inr second ↦ let rope = first.0 in let other = second.0 in
-          elim (allowed (append_error rope.breaks other.breaks rope.text other.text) _ old new reply second.2) [
-            | inl refused ↦ rw refused k
-            | inr fine ↦ elim fine [
-              | inl changed ↦ changes_keep old new r rope (rope.text ++ other.text) (KeepsChunks rope other) reply k first.1 changed
-              | inr memory ↦ rw memory.1 k
-            ]
+    | inr second ↦ let rope = first.0 in let other = second.0 in
+        elim (allowed (append_error rope.breaks other.breaks rope.text other.text) _ old new reply second.2) [
+          | inl refused ↦ rw refused k
+          | inr fine ↦ elim fine [
+            | inl changed ↦ changes_keep old new r rope.breaks (rope.text ++ other.text) (KeepsChunks rope other) reply k changed
+            | inr memory ↦ rw memory.1 k
           ]
-    ]
+        ]
   ]
+]
 
-  adds_keep : (old new : List Content) (text : List ℕ) (Q : Content → Type 0) (reply : Reply) → All P old → OrNoMemory (Adds text Unicode Q old reply new) old reply new → All P new
-  adds_keep old new text Q reply k (inl s) = rw s.4 (added_keep P old s.0 k (kept.made text s.0 s.1))
-  adds_keep old new text Q reply k (inr s) = rw s.1 k
+shrinks_keep : (old new : List Content) (r : ℕ) (reply : Reply) → All IsRope old → Shrinks r old reply new → All IsRope new
+shrinks_keep old new r reply k s = elim (found old r _ _ k s) [
+  | inl none ↦ rw none.1 k
+  | inr some ↦ elim some.2 [ inl changed ↦ changes_keep old new r some.0.breaks some.0.text HasFewChunks reply k changed | inr memory ↦ rw memory.1 k ]
+]
 
-  clones_keep : (old new : List Content) (rope : Content) (reply : Reply) → All P old → P rope → OrNoMemory (AddsSame rope old reply new) old reply new → All P new
-  clones_keep old new rope reply k p (inl s) = rw s.1 (added_keep P old rope k p)
-  clones_keep old new rope reply k p (inr s) = rw s.1 k
+adds_keep : (old new : List Content) (text : List ℕ) (set : LineBreaks) (Q : Content → Type 0) (reply : Reply) → All IsRope old → OrNoMemory (Adds text set Q old reply new) old reply new → All IsRope new
+adds_keep old new text set Q reply k (inl s) = rw s.4 (added_keep old s.0 k s.1.kept)
+adds_keep old new text set Q reply k (inr s) = rw s.1 k
 
-  pub step_keeps : (old new : List Content) (command : Command) (reply : Reply) → All P old → Step old command reply new → All P new
-  step_keeps old new command.New reply k s = adds_keep old new [] HasFewChunks reply k s
-  step_keeps old new (command.Text t) reply k s = adds_keep old new (chars (string_bytes t)) HasFewChunks reply k s
-  step_keeps old new (command.Clone r) reply k s = elim (found P old r _ _ k s) [ inl none ↦ rw none.1 k | inr some ↦ clones_keep old new some.0 reply k some.1 some.2 ]
-  step_keeps old new (command.Insert r i t) reply k s = inserts_keep old new r i (chars (string_bytes t)) reply k s
-  step_keeps old new (command.InsertChar r i c) reply k s = inserts_keep old new r i (c ∷ []) reply k s
-  step_keeps old new (command.Remove r start end) reply k s = removes_keep old new r start end reply k s
-  step_keeps old new (command.Cut r i) reply k s = cuts_keep old new r i reply k s
-  step_keeps old new (command.Join r s) reply k j = joins_keep old new r s reply k j
-  step_keeps old new (command.Ask r None query) reply k s = elim (found P old r _ _ k s) [ inl none ↦ rw none.1 k | inr some ↦ rw some.2.1 k ]
-  step_keeps old new (command.Ask r (Some range) query) reply k s = absurd s
+clones_keep : (old new : List Content) (rope : Content) (reply : Reply) → All IsRope old → IsRope rope → OrNoMemory (AddsSame rope old reply new) old reply new → All IsRope new
+clones_keep old new rope reply k p (inl s) = rw s.1 (added_keep old rope k p)
+clones_keep old new rope reply k p (inr s) = rw s.1 k
 
--- all of them are ropes
-ropes_kept : IsKept IsRope
-ropes_kept = record { made = λ text rope is. is.kept; changed = λ text before rope p is. is.kept }
-
--- all of them have one set of line breaks
-unicode_kept : IsKept HasUnicode
-unicode_kept = record { made = λ text rope is. is.breaks_are; changed = λ text before rope p is. is.breaks_are ∙ p }
-
-pub step_keeps_unicode : (old new : List Content) (command : Command) (reply : Reply) → All HasUnicode old → Step old command reply new → All HasUnicode new
-step_keeps_unicode = step_keeps HasUnicode unicode_kept
+step_keeps : (old new : List Content) (command : Command) (reply : Reply) → All IsRope old → Step old command reply new → All IsRope new
+step_keeps old new command.New reply k s = adds_keep old new [] Unicode HasFewChunks reply k s
+step_keeps old new (command.Text t) reply k s = adds_keep old new (chars (string_bytes t)) Unicode HasFewChunks reply k s
+step_keeps old new (command.TextWith set t) reply k s = adds_keep old new (chars (string_bytes t)) set HasFewChunks reply k s
+step_keeps old new (command.Clone r) reply k s = elim (found old r _ _ k s) [ inl none ↦ rw none.1 k | inr some ↦ clones_keep old new some.0 reply k some.1 some.2 ]
+step_keeps old new (command.Insert r i t) reply k s = inserts_keep old new r i (chars (string_bytes t)) reply k s
+step_keeps old new (command.InsertChar r i c) reply k s = inserts_keep old new r i (c ∷ []) reply k s
+step_keeps old new (command.Remove r start end) reply k s = removes_keep old new r start end reply k s
+step_keeps old new (command.Cut r i) reply k s = cuts_keep old new r i reply k s
+step_keeps old new (command.Join r s) reply k j = joins_keep old new r s reply k j
+step_keeps old new (command.Shrink r) reply k s = shrinks_keep old new r reply k s
+step_keeps old new (command.Ask r None query) reply k s = elim (found old r _ _ k s) [ inl none ↦ rw none.1 k | inr some ↦ rw some.2.1 k ]
+step_keeps old new (command.Ask r (Some range) query) reply k s = absurd s
 
 pub runs_keep : (old new : List Content) (commands : List Command) (replies : List Reply) → All IsRope old → Runs old commands replies new → All IsRope new
 runs_keep old new [] [] k s = rw s k
 runs_keep old new [] (r ∷ replies) k s = absurd s
 runs_keep old new (c ∷ commands) [] k s = absurd s
-runs_keep old new (c ∷ commands) (r ∷ replies) k s = runs_keep s.0 new commands replies (step_keeps IsRope ropes_kept old s.0 c r k s.1) s.2
+runs_keep old new (c ∷ commands) (r ∷ replies) k s = runs_keep s.0 new commands replies (step_keeps old s.0 c r k s.1) s.2

@@ -20,8 +20,9 @@ abbrev pub IsTextsReply : Reply → List (List ℕ) → Type 0
 IsTextsReply (reply.Texts v) texts = map (λ s. chars (string_bytes s)) v.items ≡ texts
 IsTextsReply _ texts = ⊥
 
--- a rope may be replied so to a query: its lengths in bytes, characters, lines and code units; its text; its chunks, in order
+-- a rope may be replied so to a query: its lengths in bytes, characters, lines and code units; its text; its chunks, in order; its set of line breaks
 abbrev pub Answers : Content → Query → Reply → Type 0
 Answers rope query.Lens r = r ≡ reply.Lens (byte_len rope.text) (length rope.text) (line_count rope.breaks rope.text) (utf16_len rope.text)
 Answers rope query.Show r = IsTextReply r rope.text
 Answers rope query.Chunks r = IsTextsReply r rope.chunks
+Answers rope query.Breaks r = r ≡ reply.Breaks rope.breaks

@@ -5,8 +5,10 @@ use Rattle.std.specs.Fmt.{decimal, digits}
 use Rattle.std.specs.Str.{chars}
 use Rattle.std.specs.String.{string_bytes}
 use Rattle.rope_text.specs.ErrorText.{error_text}
+use Rattle.rope_text.specs.declared.line_breaks.LineBreaks.{LineBreaks}
+use Rattle.rope_text.specs.declared.line_breaks.LineBreaks.TheVariants.{Lf, CrLf, Unicode}
 use Rattle.rope_script.specs.declared.script.Reply.{Reply}
-use Rattle.rope_script.specs.declared.script.Reply.TheVariants.{Done, Made, NoRope, Refused, Lens, Text, Texts}
+use Rattle.rope_script.specs.declared.script.Reply.TheVariants.{Done, Made, NoRope, Refused, Lens, Text, Texts, Breaks}
 
 -- whether a reply writes the character by its number: those below U+0020, DEL, NEL, LS and PS
 abbrev pub is_control : ℕ → Bool
@@ -26,6 +28,12 @@ quoted_char c =
 abbrev pub quoted : List ℕ → List ℕ
 quoted text = codes "\"" ++ (flat_map quoted_char text ++ codes "\"")
 
+-- the word that names a set of line breaks
+abbrev pub breaks_word : LineBreaks → List ℕ
+breaks_word Lf = codes "lf"
+breaks_word CrLf = codes "crlf"
+breaks_word Unicode = codes "unicode"
+
 -- the words of a reply
 abbrev pub reply_words : Reply → List ℕ
 reply_words Done = codes "ok"
@@ -35,6 +43,7 @@ reply_words (Refused e) = codes "error: " ++ error_text e
 reply_words (Lens bytes characters lines units) = decimal bytes ++ (codes " " ++ (decimal characters ++ (codes " " ++ (decimal lines ++ (codes " " ++ decimal units)))))
 reply_words (Text s) = quoted (chars (string_bytes s))
 reply_words (Texts v) = decimal (length v.items) ++ flat_map (λ s. codes " " ++ quoted (chars (string_bytes s))) v.items
+reply_words (Breaks set) = breaks_word set
 
 -- its line, the LF with it
 abbrev pub reply_line : Reply → List ℕ

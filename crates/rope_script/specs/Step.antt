@@ -32,10 +32,6 @@ Adds text breaks P old reply new = (rope : Content) × IsRopeOf text breaks rope
 abbrev pub Changes : ℕ → LineBreaks → List ℕ → (Content → Type 0) → List Content → Reply → List Content → Type 0
 Changes r breaks text P old reply new = (rope : Content) × IsRopeOf text breaks rope × P rope × (reply ≡ Done) × (new ≡ slice_set old r rope)
 
--- the set of line breaks that every rope of a session has
-abbrev pub HasUnicode : Content → Type 0
-HasUnicode rope = rope.breaks ≡ Unicode
-
 -- no condition on the cutting
 abbrev pub Any : Content → Type 0
 Any rope = ⊤
@@ -99,16 +95,23 @@ Joins r s old reply new =
     (OrNoMemory (Changes r rope.breaks (rope.text ++ other.text) (KeepsChunks rope other) old reply new) old reply new)
     old reply new) old reply new) old reply new
 
+-- a rope keeps its text, which is cut anew, into few chunks
+abbrev pub Shrinks : ℕ → List Content → Reply → List Content → Type 0
+Shrinks r old reply new =
+    OfRope r (λ rope. OrNoMemory (Changes r rope.breaks rope.text HasFewChunks old reply new) old reply new) old reply new
+
 -- from the ropes old the command may be replied so, and leave the ropes new
 abbrev pub Step : List Content → Command → Reply → List Content → Type 0
 Step old command.New reply new = OrNoMemory (Adds [] Unicode HasFewChunks old reply new) old reply new
 Step old (command.Text s) reply new = OrNoMemory (Adds (chars (string_bytes s)) Unicode HasFewChunks old reply new) old reply new
+Step old (command.TextWith set s) reply new = OrNoMemory (Adds (chars (string_bytes s)) set HasFewChunks old reply new) old reply new
 Step old (command.Clone r) reply new = OfRope r (λ rope. OrNoMemory (AddsSame rope old reply new) old reply new) old reply new
 Step old (command.Insert r i s) reply new = Inserts r i (chars (string_bytes s)) old reply new
 Step old (command.InsertChar r i c) reply new = Inserts r i (c ∷ []) old reply new
 Step old (command.Remove r start end) reply new = Removes r start end old reply new
 Step old (command.Cut r i) reply new = Cuts r i old reply new
 Step old (command.Join r s) reply new = Joins r s old reply new
+Step old (command.Shrink r) reply new = Shrinks r old reply new
 Step old (command.Ask r None query) reply new = OfRope r (λ rope. Answers rope query reply × (new ≡ old)) old reply new
 Step old (command.Ask r (Some range) query) reply new = ⊥
 

@@ -4,19 +4,21 @@ ghost use Rattle.std.specs.Fmt.{decimal};
 ghost use Rattle.std.specs.List.{flat_map};
 ghost use Rattle.std.specs.Str.{chars};
 ghost use Rattle.std.specs.String.{string_bytes};
-ghost use Rattle.rope_script.specs.ReplyLine.{quoted_char, quoted, reply_line, reply_lines};
+ghost use Rattle.rope_script.specs.ReplyLine.{breaks_word, quoted_char, quoted, reply_line, reply_lines};
 ghost use Rattle.rope_script.specs.Step.{AsksWhole};
 
 use crate::script::{Command, Query, Reply};
+use ropey::LineBreaks;
 use std::alloc::{AllocError, Global};
 use std::fmt::Write as _;
 
 /// The command of a line without its end, or `None` where the line is bad.
 ///
-/// A line is words, each parted from the next by one space: `new`, `text TEXT`, `clone ROPE`,
-/// `ins ROPE INDEX TEXT`, `insc ROPE INDEX CHAR`, `del ROPE BOUND BOUND`, `cut ROPE INDEX`,
-/// `join ROPE ROPE`, `len ROPE`, `show ROPE` or `chunks ROPE`. A TEXT is the rest of the line and
-/// may be empty, a CHAR is a TEXT of one character, and a BOUND is a number, or `-` where it is open.
+/// A line is words, each parted from the next by one space: `new`, `text TEXT`, `textb SET TEXT`,
+/// `clone ROPE`, `ins ROPE INDEX TEXT`, `insc ROPE INDEX CHAR`, `del ROPE BOUND BOUND`,
+/// `cut ROPE INDEX`, `join ROPE ROPE`, `fit ROPE`, `len ROPE`, `show ROPE`, `chunks ROPE` or
+/// `breaks ROPE`. A SET is `lf`, `crlf` or `unicode`, a TEXT is the rest of the line and may be
+/// empty, a CHAR is a TEXT of one character, and a BOUND is a number, or `-` where it is open.
 pub(crate) fn parse(alloc: Global, line: &str) -> Result<Option<Command>, AllocError>
     ensures { IfOk result (λ found. IfSome found AsksWhole) }
 {
@@ -25,15 +27,18 @@ pub(crate) fn parse(alloc: Global, line: &str) -> Result<Option<Command>, AllocE
     };
     match name {
         "text" => make(alloc, words),
+        "textb" => make_with(alloc, words),
         "clone" => Ok(clone(words)),
         "ins" => insert(alloc, words),
         "insc" => insert_char(alloc, words),
         "del" => Ok(remove(words)),
         "cut" => Ok(cut(words)),
         "join" => Ok(join(words)),
+        "fit" => Ok(shrink(words)),
         "len" => Ok(ask(words, Query::Lens)),
         "show" => Ok(ask(words, Query::Show)),
         "chunks" => Ok(ask(words, Query::Chunks)),
+        "breaks" => Ok(ask(words, Query::Breaks)),
         _ => Ok(None),
     }
 }
@@ -54,6 +59,22 @@ fn make(alloc: Global, words: &str) -> Result<Option<Command>, AllocError>
 {
     match unescape(alloc, words)? {
         Some(text) => Ok(Some(Command::Text(text))),
+        None => Ok(None),
+    }
+}
+
+/// `SET TEXT`, of a rope to be made.
+fn make_with(alloc: Global, words: &str) -> Result<Option<Command>, AllocError>
+    ensures { IfOk result (λ found. IfSome found AsksWhole) }
+{
+    let Some((set, text)) = words.split_once(' ') else {
+        return Ok(None);
+    };
+    let Some(breaks) = line_breaks(set) else {
+        return Ok(None);
+    };
+    match unescape(alloc, text)? {
+        Some(text) => Ok(Some(Command::TextWith(breaks, text))),
         None => Ok(None),
     }
 }
@@ -119,6 +140,13 @@ fn join(words: &str) -> Option<Command>
     Some(Command::Join(number(rope)?, number(other)?))
 }
 
+/// `ROPE`, of a rope whose text is to be cut anew.
+fn shrink(words: &str) -> Option<Command>
+    ensures { IfSome result AsksWhole }
+{
+    Some(Command::Shrink(number(words)?))
+}
+
 /// `ROPE`, of a query.
 fn ask(words: &str, query: Query) -> Option<Command>
     ensures { IfSome result AsksWhole }
@@ -131,6 +159,18 @@ fn place(words: &str) -> Option<(usize, usize, &str)> {
     let (rope, words) = words.split_once(' ')?;
     let (char_idx, rest) = words.split_once(' ')?;
     Some((number(rope)?, number(char_idx)?, rest))
+}
+
+/// The set of line breaks that a word names.
+fn line_breaks(word: &str) -> Option<LineBreaks>
+    ensures { IfSome result (λ breaks. word.now ≡ breaks_word breaks) }
+{
+    match word {
+        "lf" => Some(LineBreaks::Lf),
+        "crlf" => Some(LineBreaks::CrLf),
+        "unicode" => Some(LineBreaks::Unicode),
+        _ => None,
+    }
 }
 
 /// The bound that a word stands for, `None` inside where it is open.
@@ -261,8 +301,20 @@ fn write_reply(out: &mut String, reply: &Reply) -> Result<(), AllocError>
         }
         Reply::Text(text) => quote(out, text.as_str())?,
         Reply::Texts(texts) => write_texts(out, texts)?,
+        Reply::Breaks(breaks) => out.push_str(word_of(*breaks))?,
     }
     out.push('\n')
+}
+
+/// The word that names a set of line breaks.
+fn word_of(breaks: LineBreaks) -> &'static str
+    ensures { result.now ≡ breaks_word breaks }
+{
+    match breaks {
+        LineBreaks::Lf => "lf",
+        LineBreaks::CrLf => "crlf",
+        LineBreaks::Unicode => "unicode",
+    }
 }
 
 /// How many texts there are, and each of them quoted.

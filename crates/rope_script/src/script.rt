@@ -1,17 +1,19 @@
 //! Commands, queries and replies.
-use ropey::Error;
+use ropey::{Error, LineBreaks};
 
 /// What a session may be told to do.
 ///
-/// Ropes are numbered from 0, in the order in which they were made, and have Unicode's line breaks.
-/// A command that names a rope which does not exist is replied [`Reply::NoRope`], before anything
-/// else is tested. Indices count characters.
+/// Ropes are numbered from 0, in the order in which they were made, and each has its set of line
+/// breaks. A command that names a rope which does not exist is replied [`Reply::NoRope`], before
+/// anything else is tested. Indices count characters.
 #[derive(Drop)]
 pub enum Command {
-    /// Makes an empty rope.
+    /// Makes an empty rope with Unicode's line breaks.
     New,
-    /// Makes a rope of this text.
+    /// Makes a rope of this text with Unicode's line breaks.
     Text(String),
+    /// Makes a rope of this text with these line breaks.
+    TextWith(LineBreaks, String),
     /// Makes a clone of a rope, in the same chunks.
     Clone(usize),
     /// In a rope, before the character of this index, inserts a text.
@@ -23,8 +25,10 @@ pub enum Command {
     /// Leaves a rope so many characters, and makes a rope of those behind them.
     Cut(usize, usize),
     /// Puts the text of a second rope behind that of the first. The second stays as it is, and it
-    /// may be the first.
+    /// may be the first. Ropes with different line breaks are not joined, also where one is empty.
     Join(usize, usize),
+    /// Cuts the text of a rope anew, into at most one chunk for each 981 bytes and one for the rest.
+    Shrink(usize),
     /// Asks a rope. The range is `None`, for the whole rope: a part cannot be asked.
     Ask(usize, Option<(usize, usize)>, Query),
 }
@@ -38,6 +42,8 @@ pub enum Query {
     Show,
     /// Its chunks.
     Chunks,
+    /// Its line breaks.
+    Breaks,
 }
 
 /// What a command is replied.
@@ -57,4 +63,6 @@ pub enum Reply {
     Text(String),
     /// The chunks, in order.
     Texts(Vec<String>),
+    /// The line breaks of the rope.
+    Breaks(LineBreaks),
 }

@@ -6,20 +6,20 @@ ghost use Rattle.std.specs.String.{string_bytes};
 ghost use Rattle.rope_text.specs.declared.error.Error.TheVariants.{OutOfMemory};
 ghost use Rattle.rope_text.specs.declared.line_breaks.LineBreaks.TheVariants.{Unicode};
 ghost use Rattle.rope_text.specs.Content.{HasFewChunks};
+ghost use Rattle.rope_text.specs.Edit.{append_error};
 ghost use Rattle.rope_text.specs.Sides.{ahead};
-ghost use Rattle.ropey.specs.View.{content};
+ghost use Rattle.ropey.specs.View.{content, IsRope};
 ghost use Rattle.rope_script.specs.Ask.{Answers};
-ghost use Rattle.rope_script.specs.Step.{Adds, AddsSame, OrNoMemory, OfRope, HasUnicode, edit_reply, Inserts, Removes, Cuts, Joins, Step, Ran, AsksWhole};
+ghost use Rattle.rope_script.specs.Step.{Adds, AddsSame, OrNoMemory, OfRope, edit_reply, Inserts, Removes, Cuts, Joins, Shrinks, Step, Ran, AsksWhole};
 
 use crate::script::{Command, Query, Reply};
 use rope_text::range::IndexRange;
 use ropey::iter::Chunks;
-use ropey::{Error, Result, Rope};
+use ropey::{Error, LineBreaks, Result, Rope};
 use std::alloc::Global;
 use std::marker::Model;
 
-/// A list of ropes that only grows, numbered from 0 in the order in which they were made. All of them
-/// have Unicode's line breaks.
+/// A list of ropes that only grows, numbered from 0 in the order in which they were made.
 #[derive(Drop)]
 pub struct Session {
     alloc: Global,
@@ -27,16 +27,13 @@ pub struct Session {
 }
 
 impl Model for Session {
-    ghost use Rattle.std.specs.Prelude.{List, All, map};
+    ghost use Rattle.std.specs.Prelude.{List, map};
     ghost use Rattle.rope_text.specs.Content.{Content};
     ghost use Rattle.ropey.specs.View.{content};
-    ghost use Rattle.rope_script.specs.Step.{HasUnicode};
 
     ghost Value = { List Content };
 
     ghost view = { λ s. map content s.ropes.items };
-
-    ghost invariant = { λ s. All HasUnicode (map content s.ropes.items) };
 }
 
 impl Session {
@@ -88,14 +85,14 @@ impl Session {
 /// Does one command on ropes, and answers its reply. A refusal for memory has done nothing.
 fn run_command(alloc: Global, ropes: &mut Vec<Rope>, command: &Command) -> Result<Reply>
     requires whole { AsksWhole command.now }
-    requires unicode { All HasUnicode (map content ropes.old.items) }
     ensures step { IfOk result (λ reply. Step (map content ropes.old.items) command.now reply (map content ropes.new.items)) }
     ensures err { OnErr result (ropes.new.items ≡ ropes.old.items) }
     ensures memory { IfErr result (λ e. e ≡ OutOfMemory) }
 {
     match command {
         Command::New => make_empty(alloc, ropes),
-        Command::Text(text) => make_text(alloc, ropes, text.as_str()),
+        Command::Text(text) => make_text(alloc, ropes, LineBreaks::Unicode, text.as_str()),
+        Command::TextWith(breaks, text) => make_text(alloc, ropes, *breaks, text.as_str()),
         Command::Clone(rope) => make_clone(ropes, *rope),
         Command::Insert(rope, char_idx, text) => {
             Ok(insert(ropes, *rope, *char_idx, text.as_str()))
@@ -104,12 +101,13 @@ fn run_command(alloc: Global, ropes: &mut Vec<Rope>, command: &Command) -> Resul
         Command::Remove(rope, start, end) => Ok(remove(ropes, *rope, *start, *end)),
         Command::Cut(rope, char_idx) => cut(ropes, *rope, *char_idx),
         Command::Join(rope, other) => Ok(join(ropes, *rope, *other)),
+        Command::Shrink(rope) => Ok(shrink(ropes, *rope)),
         Command::Ask(rope, None, query) => ask(alloc, ropes, *rope, query),
         Command::Ask(_, Some(_), _) => unreachable!(),
     }
 }
 
-/// Adds an empty rope.
+/// Adds an empty rope with Unicode's line breaks.
 fn make_empty(alloc: Global, ropes: &mut Vec<Rope>) -> Result<Reply>
     ensures step { IfOk result (λ reply. OrNoMemory (Adds [] Unicode HasFewChunks (map content ropes.old.items) reply (map content ropes.new.items)) (map content ropes.old.items) reply (map content ropes.new.items)) }
     ensures err { OnErr result (ropes.new.items ≡ ropes.old.items) }
@@ -122,14 +120,14 @@ fn make_empty(alloc: Global, ropes: &mut Vec<Rope>) -> Result<Reply>
     }
 }
 
-/// Adds a rope of this text.
-fn make_text(alloc: Global, ropes: &mut Vec<Rope>, text: &str) -> Result<Reply>
-    ensures step { IfOk result (λ reply. OrNoMemory (Adds (chars text.now) Unicode HasFewChunks (map content ropes.old.items) reply (map content ropes.new.items)) (map content ropes.old.items) reply (map content ropes.new.items)) }
+/// Adds a rope of this text with these line breaks.
+fn make_text(alloc: Global, ropes: &mut Vec<Rope>, breaks: LineBreaks, text: &str) -> Result<Reply>
+    ensures step { IfOk result (λ reply. OrNoMemory (Adds (chars text.now) breaks HasFewChunks (map content ropes.old.items) reply (map content ropes.new.items)) (map content ropes.old.items) reply (map content ropes.new.items)) }
     ensures err { OnErr result (ropes.new.items ≡ ropes.old.items) }
     ensures memory { IfErr result (λ e. e ≡ OutOfMemory) }
 {
     ropes.reserve(1)?;
-    match Rope::from_str(alloc, text) {
+    match Rope::from_str_with(alloc, text, breaks) {
         Ok(rope) => Ok(add(ropes, rope)),
         Err(error) => Ok(Reply::Refused(error)),
     }
@@ -232,22 +230,48 @@ fn cut(ropes: &mut Vec<Rope>, rope: usize, char_idx: usize) -> Result<Reply>
 /// The most bytes that a text may have.
 const MAX_TEXT_BYTES: usize = isize::MAX as usize;
 
-/// Puts the text of one rope behind that of another. All ropes have one set of line breaks, and a
-/// text that would be too long is refused before a clone is made, so that this takes no memory.
+/// Puts the text of one rope behind that of another. What their line breaks or their lengths forbid
+/// is refused before a clone is made, so that this takes no memory.
 fn join(ropes: &mut Vec<Rope>, rope: usize, other: usize) -> Reply
-    requires unicode { All HasUnicode (map content ropes.old.items) }
     ensures { Joins rope other (map content ropes.old.items) result (map content ropes.new.items) }
 {
     if rope >= ropes.len() || other >= ropes.len() {
         return Reply::NoRope;
     }
-    if ropes[other].len_bytes() > MAX_TEXT_BYTES - ropes[rope].len_bytes() {
-        return Reply::Refused(Error::TooLong);
+    if let Some(error) = join_error(&ropes[rope], &ropes[other]) {
+        return Reply::Refused(error);
     }
     match ropes[other].clone() {
         Ok(clone) => reply_to_edit(ropes[rope].append(clone)),
         Err(_) => Reply::Refused(Error::OutOfMemory),
     }
+}
+
+/// Why the text of a second rope may not stand behind that of the first.
+fn join_error(rope: &Rope, other: &Rope) -> Option<Error>
+    ensures error { result ≡ append_error rope.now.breaks other.now.breaks rope.now.text other.now.text }
+    ensures rope { IsRope rope.now }
+    ensures other { IsRope other.now }
+{
+    let bytes = rope.len_bytes();
+    let more = other.len_bytes();
+    if rope.line_breaks() != other.line_breaks() {
+        return Some(Error::LineBreaksDiffer);
+    }
+    if more > MAX_TEXT_BYTES - bytes {
+        return Some(Error::TooLong);
+    }
+    None
+}
+
+/// Cuts the text of a rope anew.
+fn shrink(ropes: &mut Vec<Rope>, rope: usize) -> Reply
+    ensures { Shrinks rope (map content ropes.old.items) result (map content ropes.new.items) }
+{
+    if rope >= ropes.len() {
+        return Reply::NoRope;
+    }
+    reply_to_edit(ropes[rope].shrink_to_fit())
 }
 
 /// The reply to an edit that was done or refused.
@@ -285,6 +309,7 @@ fn answer(alloc: Global, rope: &Rope, query: &Query) -> Result<Reply>
         )),
         Query::Show => Ok(Reply::Text(text_of(alloc, rope)?)),
         Query::Chunks => Ok(Reply::Texts(chunk_texts(alloc, rope)?)),
+        Query::Breaks => Ok(Reply::Breaks(rope.line_breaks())),
     }
 }
 

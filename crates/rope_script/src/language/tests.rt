@@ -25,6 +25,25 @@ fn texts(rt: HostRuntime) -> Result<(), Fail> {
 }
 
 #[test]
+fn texts_with_line_breaks(rt: HostRuntime) -> Result<(), Fail> {
+    for (line, named) in [
+        ("textb lf ", LineBreaks::Lf),
+        ("textb crlf ", LineBreaks::CrLf),
+        ("textb unicode ", LineBreaks::Unicode),
+    ] {
+        let found = parse(rt.alloc(), line)?;
+        match &found {
+            Some(Command::TextWith(breaks, text)) => {
+                assert_eq!(rt; *breaks, named, "at {line}");
+                assert_eq!(rt; text.as_str(), "", "at {line}");
+            }
+            _ => assert!(rt; false, "at {line}"),
+        }
+    }
+    Ok(())
+}
+
+#[test]
 fn inserts(rt: HostRuntime) -> Result<(), Fail> {
     let found = parse(rt.alloc(), "ins 7 18446744073709551615  x\\n")?;
     match &found {
@@ -70,6 +89,8 @@ fn numbers(rt: HostRuntime) -> Result<(), Fail> {
     assert!(rt; matches!(&cut, Some(Command::Cut(4, 5))));
     let join = parse(rt.alloc(), "join 6 7")?;
     assert!(rt; matches!(&join, Some(Command::Join(6, 7))));
+    let shrink = parse(rt.alloc(), "fit 8")?;
+    assert!(rt; matches!(&shrink, Some(Command::Shrink(8))));
     Ok(())
 }
 
@@ -81,6 +102,8 @@ fn queries(rt: HostRuntime) -> Result<(), Fail> {
     assert!(rt; matches!(&show, Some(Command::Ask(0, None, Query::Show))));
     let chunks = parse(rt.alloc(), "chunks 0")?;
     assert!(rt; matches!(&chunks, Some(Command::Ask(0, None, Query::Chunks))));
+    let breaks = parse(rt.alloc(), "breaks 0")?;
+    assert!(rt; matches!(&breaks, Some(Command::Ask(0, None, Query::Breaks))));
     Ok(())
 }
 
@@ -137,6 +160,17 @@ fn bad_lines(rt: HostRuntime) -> Result<(), Fail> {
         "join 0",
         "join 0 -",
         "join 0 0 0",
+        "fit",
+        "fit ",
+        "fit 0 0",
+        "breaks",
+        "breaks 0:1..2",
+        "textb",
+        "textb lf",
+        "textb xx a",
+        "textb LF a",
+        "textb  a",
+        "textb lf \\",
         "text \\",
         "text \\N",
         "text \\\"",
@@ -165,9 +199,12 @@ fn replies(rt: HostRuntime) -> Result<(), Fail> {
     write_reply(&mut out, &Reply::NoRope)?;
     write_reply(&mut out, &Reply::Refused(Error::CharIndexOutOfBounds(3, 2)))?;
     write_reply(&mut out, &Reply::Lens(4, 3, 2, 1))?;
+    write_reply(&mut out, &Reply::Breaks(LineBreaks::Lf))?;
+    write_reply(&mut out, &Reply::Breaks(LineBreaks::CrLf))?;
+    write_reply(&mut out, &Reply::Breaks(LineBreaks::Unicode))?;
     assert_eq!(rt;
         out.as_str(),
-        "ok\nrope 12\nno rope\nerror: Char index out of bounds: char index 3, Rope/RopeSlice char length 2\n4 3 2 1\n"
+        "ok\nrope 12\nno rope\nerror: Char index out of bounds: char index 3, Rope/RopeSlice char length 2\n4 3 2 1\nlf\ncrlf\nunicode\n"
     );
     Ok(())
 }

@@ -118,6 +118,16 @@ fn ends(rt: HostRuntime) -> Result<(), Fail> {
             Ended::Done,
             "rope 0\nok\nno rope\nno rope\nno rope\nerror: Char index out of bounds: char index 2, Rope/RopeSlice char length 1\nno rope\n1 \"\\n\"\n",
         ),
+        (
+            b"textb lf a\\rb\\n\nlen 0\ntext a\\rb\\n\nlen 1\njoin 0 1\nfit 0\nbreaks 0\nbreaks 1\nfit 2\nbreaks 2\nshow 0\n".as_slice(),
+            Ended::Done,
+            "rope 0\n4 4 2 4\nrope 1\n4 4 3 4\nerror: Ropes have different line breaks\nok\nlf\nunicode\nno rope\nno rope\n\"a\\rb\\n\"\n",
+        ),
+        (
+            b"textb crlf a\\r\\n\njoin 0 0\nlen 0\ncut 0 3\nclone 1\nbreaks 2\nnew\njoin 3 2\njoin 2 3\nbreaks 3\n".as_slice(),
+            Ended::Done,
+            "rope 0\nok\n6 6 3 6\nrope 1\nrope 2\ncrlf\nrope 3\nerror: Ropes have different line breaks\nerror: Ropes have different line breaks\nunicode\n",
+        ),
     ] {
         let (slowly, by_bytes) = told(&rt, input, 1)?;
         let (at_once, by_blocks) = told(&rt, input, 4096)?;

@@ -21,3 +21,27 @@ fn replies_are_added(rt: HostRuntime) -> std::result::Result<(), Fail> {
     assert!(rt; matches!(&replies[2], Reply::NoRope));
     Ok(())
 }
+
+#[test]
+fn shrinking_leaves_few_chunks(rt: HostRuntime) -> std::result::Result<(), Fail> {
+    let mut session = Session::new(rt.alloc());
+    let mut replies = Vec::new(rt.alloc());
+    session.run(&[Command::New], &mut replies)?;
+    for _ in 0..5000 {
+        session.run(&[Command::InsertChar(0, 0, 'a')], &mut replies)?;
+    }
+    replies.clear();
+    let commands = [
+        Command::Shrink(0),
+        Command::Ask(0, None, Query::Lens),
+        Command::Ask(0, None, Query::Chunks),
+    ];
+    session.run(&commands, &mut replies)?;
+    assert!(rt; matches!(&replies[0], Reply::Done));
+    assert!(rt; matches!(&replies[1], Reply::Lens(5000, 5000, 1, 5000)));
+    match &replies[2] {
+        Reply::Texts(chunks) => assert_eq!(rt; chunks.len(), 6),
+        _ => assert!(rt; false),
+    }
+    Ok(())
+}

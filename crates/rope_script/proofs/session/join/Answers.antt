@@ -1,7 +1,14 @@
-use Rattle.std.proofs.Common.{◌≡◌, ◌<◌, length, get_or, arith, sym, ◌∙◌, ap, subst}
+use Rattle.std.proofs.Common.{◌≡◌, ◌<◌, length, get_or, None, Some, arith, refl, sym, ◌∙◌, ap, subst}
+use Rattle.rope_text.specs.declared.error.Error.TheVariants.{OutOfMemory}
 use Rattle.ropey.specs.View.{IsRope}
 use Rattle.rope_script.proofs.Contents.{join_of, unjoined_of, same_place}
 use Rattle.rope_script.proofs.session.join.Goals as goal
+
+pub returns-in-Some : goal.returns-in-Some
+returns-in-Some c =
+    unjoined_of c.args.ropes.now.items c.args.rope c.args.other c.index.result.now c.index-2.result.now (Some c.in-Some.error) c.in-Some.error
+    (omega (arith, c.args.ropes.now.ok.0)) c.index.ensures (omega (arith, c.args.ropes.now.ok.0)) c.index-2.ensures
+    (sym c.in-Some.is ∙ c.join_error.ensures.error) refl
 
 pub returns-in-Ok : goal.returns-in-Ok
 returns-in-Ok c =
@@ -15,12 +22,12 @@ returns-in-Ok c =
     rw c.reply_to_edit.ensures
     (join_of c.append.result old c.args.rope c.args.other rope clone c.append.new.self at_rope c.index_mut.ensures.value at_other read
     c.append.ensures.ok c.append.ensures.refused c.append.ensures.err c.append.ensures.empty_other c.append.ensures.empty_self
-    (subst IsRope (same_place old c.args.rope c.index-2.result.now rope at_rope c.index-2.ensures c.index_mut.ensures.value) c.len_bytes-2.ensures.kept)
-    (subst IsRope (same_place old c.args.other c.index.result.now clone at_other c.index.ensures read) c.len_bytes.ensures.kept)
+    (subst IsRope (same_place old c.args.rope c.index.result.now rope at_rope c.index.ensures c.index_mut.ensures.value) c.join_error.ensures.rope)
+    (subst IsRope (same_place old c.args.other c.index-2.result.now clone at_other c.index-2.ensures read) c.join_error.ensures.other)
     c.append.ensures.breaks c.append.ensures.kept)
 
 pub returns-in-Err : goal.returns-in-Err
 returns-in-Err c =
-    unjoined_of c.args.ropes.now.items c.args.rope c.args.other c.index-2.result.now c.index.result.now
-    (omega (arith, c.args.ropes.now.ok.0)) c.index-2.ensures (omega (arith, c.args.ropes.now.ok.0)) c.index.ensures c.requires.unicode
-    (let k = c.len_bytes-2.ensures.kept.content.fits in omega (arith, k, c.len_bytes.ensures.value, c.len_bytes-2.ensures.value))
+    unjoined_of c.args.ropes.now.items c.args.rope c.args.other c.index.result.now c.index-2.result.now None OutOfMemory
+    (omega (arith, c.args.ropes.now.ok.0)) c.index.ensures (omega (arith, c.args.ropes.now.ok.0)) c.index-2.ensures
+    (sym c.in_default.is ∙ c.join_error.ensures.error) refl
