@@ -1,6 +1,6 @@
-//! Removals, splits and clones.
+//! Removals, splits, clones, and a rope that is cut anew.
 use crate::fault::Fault;
-use crate::measure::{Outcome, now, since, whole};
+use crate::measure::{Outcome, lens, now, since, whole};
 use crate::numbers::Numbers;
 use crate::sample::Sample;
 use ropey::Rope;
@@ -118,5 +118,21 @@ pub fn clone_and_insert<C: CpuClock>(clock: &C, sample: &Sample) -> Result<Outco
         operations: count,
         nanos,
         checksum,
+    })
+}
+
+/// A rope of the text ten times, which shares its nodes with the sample's, cut anew.
+pub fn shrink_to_fit<C: CpuClock>(clock: &C, sample: &Sample) -> Result<Outcome, Fault> {
+    let mut rope = sample.rope.clone()?;
+    for _ in 1..10 {
+        rope.append(sample.rope.clone()?)?;
+    }
+    let start = now(clock)?;
+    rope.shrink_to_fit()?;
+    let nanos = since(clock, start)?;
+    Ok(Outcome {
+        operations: 1,
+        nanos,
+        checksum: lens(&rope),
     })
 }

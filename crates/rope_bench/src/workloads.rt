@@ -14,19 +14,22 @@ use std::time::CpuClock;
 #[derive(Clone, Copy)]
 pub enum Workload {
     FromStr,
+    BuilderByLines,
     Insert(Inserts),
     Change(Changes),
     CloneAndInsert,
     Ask(Question),
     IterChunks,
+    ShrinkToFit,
     Count(Counted),
     FromStrSmall,
     TypeFromEmpty,
 }
 
 /// Those that are done on each of the two texts, in order.
-pub const OF_TEXTS: [Workload; 25] = [
+pub const OF_TEXTS: [Workload; 27] = [
     Workload::FromStr,
+    Workload::BuilderByLines,
     Workload::Insert(Inserts::CharsAtRandom),
     Workload::Insert(Inserts::CharsInARow),
     Workload::Insert(Inserts::TextsAtRandom),
@@ -46,6 +49,7 @@ pub const OF_TEXTS: [Workload; 25] = [
     Workload::IterChunks,
     Workload::CloneAndInsert,
     Workload::Change(Changes::Splits),
+    Workload::ShrinkToFit,
     Workload::Count(Counted::Chars),
     Workload::Count(Counted::Breaks(LineBreaks::Unicode)),
     Workload::Count(Counted::Breaks(LineBreaks::Lf)),
@@ -61,11 +65,13 @@ impl Workload {
     pub fn name(self) -> &'static str {
         match self {
             Workload::FromStr => "from_str",
+            Workload::BuilderByLines => "builder_by_lines",
             Workload::Insert(what) => what.name(),
             Workload::Change(what) => what.name(),
             Workload::CloneAndInsert => "clone_and_insert",
             Workload::Ask(what) => what.name(),
             Workload::IterChunks => "iter_chunks_per_byte",
+            Workload::ShrinkToFit => "shrink_to_fit_100MB",
             Workload::Count(what) => what.name(),
             Workload::FromStrSmall => "from_str_small",
             Workload::TypeFromEmpty => "type_from_empty",
@@ -76,11 +82,13 @@ impl Workload {
     pub fn run<C: CpuClock>(self, clock: &C, sample: &Sample) -> Result<Outcome, Fault> {
         match self {
             Workload::FromStr => making::from_str(clock, sample),
+            Workload::BuilderByLines => making::builder_by_lines(clock, sample),
             Workload::Insert(what) => insert(clock, sample, what),
             Workload::Change(what) => change(clock, sample, what),
             Workload::CloneAndInsert => changing::clone_and_insert(clock, sample),
             Workload::Ask(what) => ask(clock, sample, what),
             Workload::IterChunks => reading::iter_chunks(clock, sample),
+            Workload::ShrinkToFit => changing::shrink_to_fit(clock, sample),
             Workload::Count(what) => count(clock, sample, what),
             Workload::FromStrSmall => making::from_str_small(clock, sample),
             Workload::TypeFromEmpty => inserting::type_from_empty(clock, sample),

@@ -67,6 +67,8 @@ pub enum Edit<'a> {
     Remove(usize, usize),
     /// A clone of another rope put behind it.
     Append(&'a Rope),
+    /// The text cut anew.
+    ShrinkToFit,
 }
 
 fn apply_once(rope: &mut Rope, edit: Edit<'_>) -> Result<()> {
@@ -78,6 +80,7 @@ fn apply_once(rope: &mut Rope, edit: Edit<'_>) -> Result<()> {
         }
         Edit::Remove(start, end) => rope.try_remove(start..end),
         Edit::Append(other) => rope.append(other.clone()?),
+        Edit::ShrinkToFit => rope.shrink_to_fit(),
     }
 }
 

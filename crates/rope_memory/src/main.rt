@@ -3,24 +3,30 @@
 #![tactic(auto)]
 
 mod edits;
+mod making;
 mod parts;
 mod sessions;
 
+use std::alloc::Global;
+use std::io::Print;
 use std::process::ExitCode;
 
 /// How often a call is tried: one allocation is refused, so the next try meets no refusal.
 const TRIES: usize = 3;
 
+/// Does all calls, and answers how many refusals changed or forgot something.
+fn run(rt: &impl Print, alloc: Global) -> Option<usize> {
+    let mut faults = edits::run(rt, alloc)?;
+    faults = faults.saturating_add(parts::run(rt, alloc)?);
+    faults = faults.saturating_add(making::run(rt, alloc)?);
+    sessions::run(rt, alloc)?;
+    Some(faults)
+}
+
 fn main(rt: HostRuntime) -> ExitCode {
-    let alloc = rt.alloc();
-    let Some(faults) = edits::run(&rt, alloc) else {
-        return ExitCode::from(2);
-    };
-    let Some(more) = parts::run(&rt, alloc) else {
-        return ExitCode::from(2);
-    };
-    if faults > 0 || more > 0 || sessions::run(&rt, alloc).is_none() {
-        return ExitCode::from(1);
+    match run(&rt, rt.alloc()) {
+        Some(0) => ExitCode::SUCCESS,
+        Some(_) => ExitCode::from(1),
+        None => ExitCode::from(2),
     }
-    ExitCode::SUCCESS
 }

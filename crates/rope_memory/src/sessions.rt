@@ -4,11 +4,12 @@ ghost use Rattle.rope_script.specs.Step.{AsksWhole};
 
 use crate::TRIES;
 use rope_script::{Command, Ended, Query, Reply, Session, serve};
-use ropey::Error;
+use ropey::{Error, LineBreaks};
 use std::alloc::Global;
 use std::io::Print;
 
-const INPUT: &str = "text one\\r\\ntwo\nins 0 3 \\u{85}\nlen 0\nchunks 0\nins 0 99 x\nins 7 0 x\n";
+const INPUT: &str =
+    "text one\\r\\ntwo\nins 0 3 \\u{85}\nlen 0\nchunks 0\nins 0 99 x\nins 7 0 x\ntextb lf a\\r\\nb\nbreaks 1\n";
 
 /// A string, made again where memory was refused.
 fn owned(alloc: Global, text: &str) -> Option<String> {
@@ -53,7 +54,7 @@ fn chunks(alloc: Global, session: &mut Session, rope: usize) -> Option<usize> {
     }
 }
 
-/// Runs commands on two ropes, and prints what they are.
+/// Runs commands on three ropes, and prints what they are.
 fn run_commands(rt: &impl Print, alloc: Global) -> Option<()> {
     let mut session = Session::new(alloc);
     reply_to(alloc, &mut session, Command::Text(owned(alloc, "a\r\nb")?))?;
@@ -68,7 +69,14 @@ fn run_commands(rt: &impl Print, alloc: Global) -> Option<()> {
         &mut session,
         Command::Insert(1, 0, owned(alloc, "y")?),
     )?;
-    for rope in 0..2 {
+    let lines = owned(alloc, "a\rb\n")?;
+    reply_to(
+        alloc,
+        &mut session,
+        Command::TextWith(LineBreaks::Lf, lines),
+    )?;
+    reply_to(alloc, &mut session, Command::Shrink(0))?;
+    for rope in 0..3 {
         let [bytes, chars, lines, units] = lens(alloc, &mut session, rope)?;
         let chunks = chunks(alloc, &mut session, rope)?;
         println!(rt; "{bytes} {chars} {lines} {units} in {chunks}").ok()?;

@@ -1,5 +1,5 @@
 //! The counts and conversions of plain texts against their partners.
-use crate::plain_text;
+use rope_plain::plain_text;
 use rope_text::{LineBreaks, str_utils};
 use std::alloc::Global;
 use std::process::Abort;

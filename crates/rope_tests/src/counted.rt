@@ -1,34 +1,104 @@
 //! What look-ups count in ropes of known depth.
-use crate::edits::repeated;
+use rope_plain::texts::repeated;
 use ropey::{Rope, Steps};
 use std::test::Fail;
 
-/// What a look-up compares at the most, over all places from 0 on before an end.
-macro_rules! most_compares {
-    ($rope:ident, $end:expr, $look_up:ident) => {{
+/// A look-up that counts its steps.
+#[derive(Clone, Copy)]
+enum LookUp {
+    Byte,
+    ByteToChar,
+    ByteToLine,
+    Char,
+    CharToByte,
+    CharToLine,
+    CharToUtf16,
+    LineToByte,
+    LineToChar,
+    Utf16ToChar,
+}
+
+impl LookUp {
+    /// What it answers at a place, or none past the end.
+    fn answer(self, rope: &Rope, place: usize, steps: &mut Steps) -> Option<usize> {
+        match self {
+            LookUp::Byte | LookUp::ByteToChar | LookUp::ByteToLine => {
+                self.answer_at_byte(rope, place, steps)
+            }
+            LookUp::LineToByte | LookUp::LineToChar | LookUp::Utf16ToChar => {
+                self.answer_at_line_or_unit(rope, place, steps)
+            }
+            _ => self.answer_at_char(rope, place, steps),
+        }
+    }
+
+    fn answer_at_byte(self, rope: &Rope, byte_idx: usize, steps: &mut Steps) -> Option<usize> {
+        if byte_idx >= rope.len_bytes() {
+            return None;
+        }
+        match self {
+            LookUp::ByteToChar => Some(rope.byte_to_char_counted(byte_idx, steps)),
+            LookUp::ByteToLine => Some(rope.byte_to_line_counted(byte_idx, steps)),
+            _ => Some(usize::from(rope.byte_counted(byte_idx, steps))),
+        }
+    }
+
+    fn answer_at_char(self, rope: &Rope, char_idx: usize, steps: &mut Steps) -> Option<usize> {
+        if char_idx >= rope.len_chars() {
+            return None;
+        }
+        match self {
+            LookUp::CharToByte => Some(rope.char_to_byte_counted(char_idx, steps)),
+            LookUp::CharToLine => Some(rope.char_to_line_counted(char_idx, steps)),
+            LookUp::CharToUtf16 => Some(rope.char_to_utf16_cu_counted(char_idx, steps)),
+            _ => Some(rope.char_counted(char_idx, steps) as usize),
+        }
+    }
+
+    fn answer_at_line_or_unit(self, rope: &Rope, place: usize, steps: &mut Steps) -> Option<usize> {
+        match self {
+            LookUp::LineToByte if place < rope.len_lines() => {
+                Some(rope.line_to_byte_counted(place, steps))
+            }
+            LookUp::LineToChar if place < rope.len_lines() => {
+                Some(rope.line_to_char_counted(place, steps))
+            }
+            LookUp::Utf16ToChar if place < rope.len_utf16_cu() => {
+                Some(rope.utf16_cu_to_char_counted(place, steps))
+            }
+            _ => None,
+        }
+    }
+
+    /// What it compares at the most, over all places from 0 on before an end; none where one of them has no answer.
+    fn most_compares(self, rope: &Rope, end: usize) -> Option<u64> {
         let mut most = 0;
-        for place in 0..$end {
+        for place in 0..end {
             let mut steps = Steps::new();
-            let _ = $rope.$look_up(place, &mut steps);
+            self.answer(rope, place, &mut steps)?;
             most = most.max(steps.compares);
         }
-        most
-    }};
+        Some(most)
+    }
 }
 
 #[test]
 fn a_byte_in_two_levels(rt: HostRuntime) -> Result<(), Fail> {
     let rope = Rope::from_str(rt.alloc(), repeated(rt.alloc(), "a", 20_000)?.as_str())?;
     assert_eq!(rt;
-        (rope.len_bytes(), rope.chunks().count(), rope.depth()),
-        (20_000, 21, 1)
+        [
+            rope.len_bytes(),
+            rope.chunks().count(),
+            rope.depth(),
+            rope.capacity()
+        ],
+        [20_000, 21, 1, 20_664]
     );
-    assert_eq!(rt; rope.capacity(), 20_664);
-    let mut steps = Steps::new();
     let mut most = 0;
-    for place in 0..rope.len_bytes() {
-        assert_eq!(rt; rope.byte_counted(place, &mut steps), b'a');
-        assert_eq!(rt; steps.nodes, 2);
+    for place in 0..20_000 {
+        let mut steps = Steps::new();
+        let answer = LookUp::Byte.answer(&rope, place, &mut steps);
+        assert!(rt; answer == Some(97) && steps.nodes == 2);
         most = most.max(steps.compares);
     }
     assert_eq!(rt; most, 5);
@@ -36,64 +106,37 @@ fn a_byte_in_two_levels(rt: HostRuntime) -> Result<(), Fail> {
 }
 
 #[test]
-fn bytes_and_chars_in_two_levels(rt: HostRuntime) -> Result<(), Fail> {
+fn look_ups_in_two_levels(rt: HostRuntime) -> Result<(), Fail> {
     let rope = Rope::from_str(rt.alloc(), repeated(rt.alloc(), "a\n", 10_000)?.as_str())?;
     assert_eq!(rt;
-        (rope.len_bytes(), rope.chunks().count(), rope.depth()),
-        (20_000, 21, 1)
+        [rope.len_bytes(), rope.chunks().count(), rope.depth()],
+        [20_000, 21, 1]
     );
-    let end = rope.len_bytes();
-    assert_eq!(rt; most_compares!(rope, end, byte_counted), 5);
-    assert_eq!(rt; most_compares!(rope, end, byte_to_char_counted), 5);
-    assert_eq!(rt; most_compares!(rope, end, byte_to_line_counted), 5);
-    let end = rope.len_chars();
-    assert_eq!(rt; end, 20_000);
-    assert_eq!(rt; most_compares!(rope, end, char_counted), 5);
-    assert_eq!(rt; most_compares!(rope, end, char_to_byte_counted), 5);
+    for (look_up, end) in [
+        (LookUp::Byte, 20_000),
+        (LookUp::ByteToChar, 20_000),
+        (LookUp::ByteToLine, 20_000),
+        (LookUp::Char, 20_000),
+        (LookUp::CharToByte, 20_000),
+        (LookUp::CharToLine, 20_000),
+        (LookUp::CharToUtf16, 20_000),
+        (LookUp::Utf16ToChar, 20_000),
+        (LookUp::LineToByte, 10_000),
+        (LookUp::LineToChar, 10_000),
+    ] {
+        assert!(rt; look_up.most_compares(&rope, end) == Some(5));
+    }
     Ok(())
-}
-
-#[test]
-fn lines_and_units_in_two_levels(rt: HostRuntime) -> Result<(), Fail> {
-    let rope = Rope::from_str(rt.alloc(), repeated(rt.alloc(), "a\n", 10_000)?.as_str())?;
-    let end = rope.len_chars();
-    assert_eq!(rt; most_compares!(rope, end, char_to_line_counted), 5);
-    assert_eq!(rt; most_compares!(rope, end, char_to_utf16_cu_counted), 5);
-    let end = rope.len_utf16_cu();
-    assert_eq!(rt; end, 20_000);
-    assert_eq!(rt; most_compares!(rope, end, utf16_cu_to_char_counted), 5);
-    let end = rope.len_lines().saturating_sub(1);
-    assert_eq!(rt; end, 10_000);
-    assert_eq!(rt; most_compares!(rope, end, line_to_byte_counted), 5);
-    assert_eq!(rt; most_compares!(rope, end, line_to_char_counted), 5);
-    Ok(())
-}
-
-/// What a look-up answers and counts at one place: it compares at most five totals in each of three levels.
-macro_rules! assert_in_three_levels {
-    ($rt:ident, $rope:ident, $place:expr, $end:expr, $look_up:ident, $answer:expr) => {
-        let mut steps = Steps::new();
-        assert!($rt; $place < $end);
-        assert_eq!($rt; $rope.$look_up($place, &mut steps), $answer);
-        assert_eq!($rt; steps.nodes, 4);
-        assert!($rt; steps.compares <= 15);
-    };
 }
 
 #[test]
 fn a_char_in_four_levels(rt: HostRuntime) -> Result<(), Fail> {
     let rope = Rope::from_str(rt.alloc(), repeated(rt.alloc(), "a", 1_000_000)?.as_str())?;
-    let chunks = rope.chunks().count();
-    assert!(rt; chunks >= 1_017 && chunks <= 1_020);
+    assert!(rt; (1_017..=1_020).contains(&rope.chunks().count()));
     assert_eq!(rt; rope.depth(), 3);
-    assert_in_three_levels!(
-        rt,
-        rope,
-        500_000,
-        rope.len_chars(),
-        char_to_byte_counted,
-        500_000
-    );
+    let mut steps = Steps::new();
+    let answer = LookUp::CharToByte.answer(&rope, 500_000, &mut steps);
+    assert!(rt; answer == Some(500_000) && steps.nodes == 4 && steps.compares <= 15);
     Ok(())
 }
 
@@ -101,17 +144,19 @@ fn a_char_in_four_levels(rt: HostRuntime) -> Result<(), Fail> {
 fn conversions_in_four_levels(rt: HostRuntime) -> Result<(), Fail> {
     let rope = Rope::from_str(rt.alloc(), repeated(rt.alloc(), "a\n", 500_000)?.as_str())?;
     assert_eq!(rt; rope.depth(), 3);
-    let bytes = rope.len_bytes();
-    let chars = rope.len_chars();
-    let units = rope.len_utf16_cu();
-    let lines = rope.len_lines();
-    assert_in_three_levels!(rt, rope, 500_000, bytes, byte_to_char_counted, 500_000);
-    assert_in_three_levels!(rt, rope, 500_000, bytes, byte_to_line_counted, 250_000);
-    assert_in_three_levels!(rt, rope, 500_000, chars, char_to_byte_counted, 500_000);
-    assert_in_three_levels!(rt, rope, 500_000, chars, char_to_line_counted, 250_000);
-    assert_in_three_levels!(rt, rope, 500_000, chars, char_to_utf16_cu_counted, 500_000);
-    assert_in_three_levels!(rt, rope, 500_000, units, utf16_cu_to_char_counted, 500_000);
-    assert_in_three_levels!(rt, rope, 250_000, lines, line_to_byte_counted, 500_000);
-    assert_in_three_levels!(rt, rope, 250_000, lines, line_to_char_counted, 500_000);
+    for (look_up, place, expected) in [
+        (LookUp::ByteToChar, 500_000, 500_000),
+        (LookUp::ByteToLine, 500_000, 250_000),
+        (LookUp::CharToByte, 500_000, 500_000),
+        (LookUp::CharToLine, 500_000, 250_000),
+        (LookUp::CharToUtf16, 500_000, 500_000),
+        (LookUp::Utf16ToChar, 500_000, 500_000),
+        (LookUp::LineToByte, 250_000, 500_000),
+        (LookUp::LineToChar, 250_000, 500_000),
+    ] {
+        let mut steps = Steps::new();
+        let answer = look_up.answer(&rope, place, &mut steps);
+        assert!(rt; answer == Some(expected) && steps.nodes == 4 && steps.compares <= 15);
+    }
     Ok(())
 }

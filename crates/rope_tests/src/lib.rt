@@ -1,21 +1,15 @@
-//! Tests that cross crates: worked rows, and comparisons with plain partners over lists of characters.
+//! Tests that cross crates: plain texts and the look-ups of ropes, against worked rows and plain partners.
 #![tactic(auto)]
 
+#[cfg(test)]
+mod builder;
 #[cfg(test)]
 mod conversions;
 #[cfg(test)]
 mod counted;
 #[cfg(test)]
-mod edits;
-#[cfg(test)]
-mod long_ropes;
-#[cfg(test)]
 mod lookups;
 #[cfg(test)]
-mod plain_text;
+mod makers;
 #[cfg(test)]
-mod random_edits;
-#[cfg(test)]
-mod random_inserts;
-#[cfg(test)]
-mod removals;
+mod sets;

@@ -1,13 +1,8 @@
 //! Conversions and look-ups of ropes, against rows that were worked by hand.
-use rope_text::LineBreaks;
+use rope_plain::compare::lens;
+use rope_plain::texts::BREAKS;
 use ropey::{Error, Rope};
-use std::alloc::Global;
-use std::process::Abort;
 use std::test::Fail;
-
-/// Characters of one to four bytes and breaks of every kind, in 48 bytes.
-const BREAKS: &str =
-    "\u{A}Hello\u{D}\u{A}\u{D}せ\u{B}か\u{C}い\u{85}. There\u{2028}is something.\u{2029}";
 
 /// Lines that end in CR LF, in 209 bytes.
 const PAIRS: &str =
@@ -16,21 +11,41 @@ const PAIRS: &str =
 #[test]
 fn empty_ropes(rt: HostRuntime) -> Result<(), Fail> {
     for rope in [Rope::new(rt.alloc())?, Rope::from_str(rt.alloc(), "")?] {
-        assert_eq!(rt; rope.len_bytes(), 0);
-        assert_eq!(rt; rope.len_chars(), 0);
-        assert_eq!(rt; rope.len_lines(), 1);
-        assert_eq!(rt; rope.len_utf16_cu(), 0);
-        assert_eq!(rt; rope.depth(), 0);
-        assert_eq!(rt; rope.capacity(), 0);
-        assert!(rt; rope.chunks().next().is_none());
+        assert_eq!(rt; lens(&rope), [0, 0, 1, 0]);
+        assert_eq!(rt;
+            [rope.depth(), rope.capacity(), rope.chunks().count()],
+            [0, 0, 0]
+        );
         let Some((chunk, bytes, chars, breaks)) = rope.get_chunk_at_byte(0) else {
             return Err(Fail::from("the empty rope has no chunk at 0"));
         };
         assert!(rt; chunk.is_empty());
-        assert_eq!(rt; (bytes, chars, breaks), (0, 0, 0));
+        assert_eq!(rt; [bytes, chars, breaks], [0, 0, 0]);
+    }
+    Ok(())
+}
+
+#[test]
+fn past_the_end_of_empty_ropes(rt: HostRuntime) -> Result<(), Fail> {
+    for rope in [Rope::new(rt.alloc())?, Rope::from_str(rt.alloc(), "")?] {
         assert!(rt; rope.get_chunk_at_byte(1).is_none());
         assert!(rt; rope.get_byte(0).is_none());
         assert!(rt; rope.get_char(0).is_none());
+    }
+    Ok(())
+}
+
+#[test]
+fn worked_lengths(rt: HostRuntime) -> Result<(), Fail> {
+    for (text, expected) in [
+        ("", [0, 0, 1, 0]),
+        ("a\r\nb", [4, 4, 2, 4]),
+        (BREAKS, [48, 37, 9, 37]),
+        (PAIRS, [209, 133, 4, 133]),
+        ("🐸", [4, 1, 1, 2]),
+    ] {
+        let rope = Rope::from_str(rt.alloc(), text)?;
+        assert_eq!(rt; lens(&rope), expected);
     }
     Ok(())
 }

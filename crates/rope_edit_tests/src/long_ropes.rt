@@ -1,5 +1,6 @@
 //! Ropes as long as a text may be, whose parts are shared.
-use crate::edits::{compare, repeated};
+use rope_plain::compare::compare_unicode;
+use rope_plain::texts::repeated;
 use ropey::{Error, Rope, Steps};
 use std::alloc::Global;
 use std::process::Abort;
@@ -23,19 +24,17 @@ fn doubled(alloc: Global, text: &str, times: usize) -> Result<Rope, Fail> {
 /// The rope has the character before the end, by each look-up that takes a character's index.
 fn assert_char(rt: &impl Abort, rope: &Rope, char_idx: usize, c: char) {
     assert!(rt; char_idx < rope.len_chars());
-    assert!(rt; rope.char(char_idx) == c);
-    assert!(rt; rope.get_char(char_idx) == Some(c));
     let mut steps = Steps::new();
-    assert!(rt; rope.char_counted(char_idx, &mut steps) == c);
+    let answers = [rope.char(char_idx), rope.char_counted(char_idx, &mut steps)];
+    assert!(rt; answers == [c, c] && rope.get_char(char_idx) == Some(c));
 }
 
 #[test]
 fn letters_doubled(rt: HostRuntime) -> Result<(), Fail> {
     let mut rope = doubled(rt.alloc(), "a", 62)?;
-    assert_eq!(rt; (rope.len_bytes(), rope.len_lines()), (WHOLE, 1));
+    assert_eq!(rt; [rope.len_bytes(), rope.len_lines()], [WHOLE, 1]);
     let copy = rope.clone()?;
-    assert!(rt; rope.append(copy) == Err(Error::TooLong));
-    assert_eq!(rt; rope.len_bytes(), WHOLE);
+    assert!(rt; rope.append(copy) == Err(Error::TooLong) && rope.len_bytes() == WHOLE);
     Ok(())
 }
 
@@ -44,13 +43,12 @@ fn the_longest_text(rt: HostRuntime) -> Result<(), Fail> {
     let mut rope = doubled(rt.alloc(), "a", 62)?;
     let mut first = rope.clone()?;
     let rest = first.try_split_off(1)?;
-    assert_eq!(rt; (first.len_bytes(), rest.len_bytes()), (1, WHOLE - 1));
+    assert_eq!(rt; [first.len_bytes(), rest.len_bytes()], [1, WHOLE - 1]);
     rope.append(rest)?;
     assert!(rt; rope.len_bytes() == isize::MAX as usize);
     assert!(rt; rope.try_insert_char(0, 'x') == Err(Error::TooLong));
     rope.try_insert(0, "")?;
-    assert!(rt; rope.len_bytes() == isize::MAX as usize);
-    assert!(rt; rope.depth() <= 18);
+    assert!(rt; rope.len_bytes() == isize::MAX as usize && rope.depth() <= 18);
     Ok(())
 }
 
@@ -66,7 +64,7 @@ fn edits_in_the_middle(rt: HostRuntime) -> Result<(), Fail> {
     assert_char(&rt, &rope, HALF, 'y');
     assert!(rt; rope.len_chars() == WHOLE + 3);
     rope.remove(1..WHOLE + 2)?;
-    compare(&rt, &rope, &['a', 'a']);
+    compare_unicode(&rope, &['a', 'a'])?;
     assert_eq!(rt; whole.len_bytes(), WHOLE);
     Ok(())
 }
@@ -82,7 +80,7 @@ fn counted_edits_in_the_middle(rt: HostRuntime) -> Result<(), Fail> {
     assert_char(&rt, &rope, HALF, 'y');
     assert!(rt; rope.len_chars() == WHOLE + 3);
     rope.remove_counted(1..WHOLE + 2, &mut steps)?;
-    compare(&rt, &rope, &['a', 'a']);
+    compare_unicode(&rope, &['a', 'a'])?;
     Ok(())
 }
 
@@ -99,16 +97,19 @@ fn a_long_text_in_the_middle(rt: HostRuntime) -> Result<(), Fail> {
 #[test]
 fn pairs_doubled(rt: HostRuntime) -> Result<(), Fail> {
     let rope = doubled(rt.alloc(), "\r\n", 61)?;
-    assert_eq!(rt; rope.len_bytes(), WHOLE);
-    assert_eq!(rt; rope.len_lines(), 2_305_843_009_213_693_953);
+    assert_eq!(rt;
+        [rope.len_bytes(), rope.len_lines()],
+        [WHOLE, 2_305_843_009_213_693_953]
+    );
     Ok(())
 }
 
 #[test]
 fn wide_characters_doubled(rt: HostRuntime) -> Result<(), Fail> {
     let rope = doubled(rt.alloc(), "🐸", 60)?;
-    assert_eq!(rt; rope.len_bytes(), WHOLE);
-    assert_eq!(rt; rope.len_chars(), 1 << 60);
-    assert_eq!(rt; rope.len_utf16_cu(), HALF);
+    assert_eq!(rt;
+        [rope.len_bytes(), rope.len_chars(), rope.len_utf16_cu()],
+        [WHOLE, 1 << 60, HALF]
+    );
     Ok(())
 }

@@ -1,5 +1,6 @@
 //! Ropes with a part taken out, split and joined again, against rows that were worked by hand.
-use crate::edits::{chars_of, compare, lie_together, repeated};
+use rope_plain::compare::{compare_unicode, lens, lie_together};
+use rope_plain::texts::{chars_of, repeated};
 use ropey::{Error, Rope, Steps};
 use std::alloc::Global;
 use std::test::Fail;
@@ -14,11 +15,15 @@ fn all_pairs_but_the_ends(rt: HostRuntime) -> Result<(), Fail> {
     let mut rope = Rope::from_str(rt.alloc(), repeated(rt.alloc(), "\r\n", 1_000)?.as_str())?;
     assert!(rt; rope.len_chars() == 2_000);
     rope.remove(1..1_999)?;
-    compare(&rt, &rope, &chars_of(rt.alloc(), "\r\n")?);
-    assert_eq!(rt; rope.len_lines(), 2);
+    compare_unicode(&rope, &['\r', '\n'])?;
     assert_eq!(rt;
-        (rope.chunks().count(), rope.depth(), rope.capacity()),
-        (1, 0, 984)
+        [
+            rope.len_lines(),
+            rope.chunks().count(),
+            rope.depth(),
+            rope.capacity()
+        ],
+        [2, 1, 0, 984]
     );
     Ok(())
 }
@@ -28,13 +33,12 @@ fn nearly_all_of_a_million(rt: HostRuntime) -> Result<(), Fail> {
     let whole = million(rt.alloc())?;
     let mut rope = whole.clone()?;
     rope.try_remove(0..999_999)?;
-    compare(&rt, &rope, &['a']);
-    assert_eq!(rt; (rope.chunks().count(), rope.depth()), (1, 0));
+    compare_unicode(&rope, &['a'])?;
+    assert_eq!(rt; [rope.chunks().count(), rope.depth()], [1, 0]);
     let mut rope = whole.clone()?;
     rope.try_remove(10..999_990)?;
-    compare(&rt, &rope, &['a'; 20]);
-    assert!(rt; rope.depth() <= 1);
-    assert_eq!(rt; whole.len_bytes(), 1_000_000);
+    compare_unicode(&rope, &['a'; 20])?;
+    assert!(rt; rope.depth() <= 1 && whole.len_bytes() == 1_000_000);
     Ok(())
 }
 
@@ -51,12 +55,11 @@ fn splits_of_a_million(rt: HostRuntime) -> Result<(), Fail> {
     ] {
         let mut front = whole.clone()?;
         let back = front.try_split_off(char_idx)?;
-        assert_eq!(rt; (front.len_bytes(), back.len_bytes()), (char_idx, rest));
+        assert_eq!(rt; [front.len_bytes(), back.len_bytes()], [char_idx, rest]);
         front.append(back)?;
-        assert_eq!(rt; front.len_bytes(), 1_000_000);
-        assert!(rt; front.depth() == 3 || front.depth() == 4);
+        assert!(rt; front.len_bytes() == 1_000_000 && (3..=4).contains(&front.depth()));
     }
-    assert_eq!(rt; (whole.len_bytes(), whole.depth()), (1_000_000, 3));
+    assert_eq!(rt; [whole.len_bytes(), whole.depth()], [1_000_000, 3]);
     Ok(())
 }
 
@@ -67,10 +70,8 @@ fn nodes_made_by_inserts(rt: HostRuntime) -> Result<(), Fail> {
     assert!(rt; rope.len_chars() == 1_000_000);
     let mut steps = Steps::new();
     rope.insert_char_counted(500_000, 'x', &mut steps)?;
-    assert_eq!(rt; rope.len_bytes(), 1_000_001);
-    assert!(rt; rope.get_char(500_000) == Some('x'));
-    assert!(rt; steps.made >= 4 && steps.made <= 40);
-    assert!(rt; whole.get_char(500_000) == Some('a'));
+    assert!(rt; (4..=40).contains(&steps.made) && rope.len_bytes() == 1_000_001);
+    assert!(rt; rope.get_char(500_000) == Some('x') && whole.get_char(500_000) == Some('a'));
     Ok(())
 }
 
@@ -81,26 +82,30 @@ fn nodes_made_by_removal(rt: HostRuntime) -> Result<(), Fail> {
     assert!(rt; rope.len_chars() == 1_000_000);
     let mut steps = Steps::new();
     rope.remove_counted(10..999_990, &mut steps)?;
-    assert_eq!(rt; (rope.len_bytes(), whole.len_bytes()), (20, 1_000_000));
-    assert!(rt; steps.made >= 1 && steps.made <= 80);
+    assert_eq!(rt; [rope.len_bytes(), whole.len_bytes()], [20, 1_000_000]);
+    assert!(rt; (1..=80).contains(&steps.made));
     Ok(())
 }
 
 #[test]
-fn nodes_made_by_splits(rt: HostRuntime) -> Result<(), Fail> {
+fn nodes_made_by_a_split(rt: HostRuntime) -> Result<(), Fail> {
     let whole = million(rt.alloc())?;
     let mut front = whole.clone()?;
     assert!(rt; front.len_chars() == 1_000_000);
     let mut steps = Steps::new();
     let back = front.split_off_counted(500_000, &mut steps)?;
-    assert_eq!(rt; (front.len_bytes(), back.len_bytes()), (500_000, 500_000));
-    assert!(rt; steps.made >= 2 && steps.made <= 80);
+    assert_eq!(rt; [front.len_bytes(), back.len_bytes()], [500_000, 500_000]);
+    assert!(rt; (2..=80).contains(&steps.made) && whole.len_bytes() == 1_000_000);
+    Ok(())
+}
+
+#[test]
+fn nodes_made_by_an_append(rt: HostRuntime) -> Result<(), Fail> {
+    let mut front = million(rt.alloc())?;
+    let back = front.try_split_off(500_000)?;
+    let mut steps = Steps::new();
     front.append_counted(back, &mut steps)?;
-    assert_eq!(rt;
-        (front.len_bytes(), whole.len_bytes()),
-        (1_000_000, 1_000_000)
-    );
-    assert!(rt; steps.made >= 1 && steps.made <= 80);
+    assert!(rt; (1..=80).contains(&steps.made) && front.len_bytes() == 1_000_000);
     Ok(())
 }
 
@@ -113,40 +118,59 @@ fn a_pair_that_meets_by_removal(rt: HostRuntime) -> Result<(), Fail> {
     text.push_str(repeated(rt.alloc(), "b", 984)?.as_str())?;
     let mut rope = Rope::from_str(rt.alloc(), text.as_str())?;
     rope.try_remove(984..1_968)?;
-    assert_eq!(rt; (rope.len_bytes(), rope.len_lines()), (1_969, 2));
+    assert_eq!(rt; lens(&rope), [1_969, 1_969, 2, 1_969]);
     assert!(rt; lie_together(&rope, 983));
     Ok(())
 }
 
+/// A text of 983 letters and a CR, and one of an LF, joined.
+fn joined(alloc: Global) -> Result<Rope, Fail> {
+    let mut text = repeated(alloc, "a", 983)?;
+    text.push('\r')?;
+    let mut rope = Rope::from_str(alloc, text.as_str())?;
+    rope.append(Rope::from_str(alloc, "\n")?)?;
+    Ok(rope)
+}
+
 #[test]
 fn a_pair_that_meets_by_append(rt: HostRuntime) -> Result<(), Fail> {
+    let rope = joined(rt.alloc())?;
+    assert_eq!(rt; lens(&rope), [985, 985, 2, 985]);
+    assert_eq!(rt;
+        [rope.try_char_to_line(984)?, rope.try_char_to_line(985)?],
+        [0, 1]
+    );
+    assert!(rt; rope.chunks().count() >= 2 && lie_together(&rope, 983));
+    Ok(())
+}
+
+#[test]
+fn the_text_of_a_pair_that_meets(rt: HostRuntime) -> Result<(), Fail> {
+    let rope = joined(rt.alloc())?;
     let mut text = repeated(rt.alloc(), "a", 983)?;
-    text.push('\r')?;
-    let mut rope = Rope::from_str(rt.alloc(), text.as_str())?;
-    rope.append(Rope::from_str(rt.alloc(), "\n")?)?;
-    assert_eq!(rt; (rope.len_bytes(), rope.len_lines()), (985, 2));
-    assert_eq!(rt; rope.try_char_to_line(984)?, 0);
-    assert_eq!(rt; rope.try_char_to_line(985)?, 1);
-    assert!(rt; rope.chunks().count() >= 2);
-    assert!(rt; lie_together(&rope, 983));
-    text.push('\n')?;
-    compare(&rt, &rope, &chars_of(rt.alloc(), text.as_str())?);
+    text.push_str("\r\n")?;
+    compare_unicode(&rope, &chars_of(rt.alloc(), text.as_str())?)?;
     Ok(())
 }
 
 #[test]
 fn refused_ranges(rt: HostRuntime) -> Result<(), Fail> {
-    let text = chars_of(rt.alloc(), "Hello!")?;
     let mut rope = Rope::from_str(rt.alloc(), "Hello!")?;
-    let refused = rope.try_remove(9..7);
-    assert!(rt; refused == Err(Error::CharRangeOutOfBounds(Some(9), Some(7), 6)));
-    assert!(rt; rope.try_remove(4..2) == Err(Error::CharRangeInvalid(4, 2)));
-    let refused = rope.try_remove(..=usize::MAX);
-    assert!(rt; refused == Err(Error::CharRangeOutOfBounds(None, Some(usize::MAX), 6)));
+    let refused = [
+        rope.try_remove(9..7),
+        rope.try_remove(4..2),
+        rope.try_remove(..=usize::MAX),
+    ];
+    let expected = [
+        Err(Error::CharRangeOutOfBounds(Some(9), Some(7), 6)),
+        Err(Error::CharRangeInvalid(4, 2)),
+        Err(Error::CharRangeOutOfBounds(None, Some(usize::MAX), 6)),
+    ];
+    assert!(rt; refused == expected);
     rope.try_remove(6..6)?;
-    compare(&rt, &rope, &text);
+    compare_unicode(&rope, &chars_of(rt.alloc(), "Hello!")?)?;
     rope.try_insert(6, "x")?;
-    compare(&rt, &rope, &chars_of(rt.alloc(), "Hello!x")?);
+    compare_unicode(&rope, &chars_of(rt.alloc(), "Hello!x")?)?;
     Ok(())
 }
 
@@ -158,7 +182,7 @@ fn refused_splits(rt: HostRuntime) -> Result<(), Fail> {
     };
     assert!(rt; refused == Error::CharIndexOutOfBounds(7, 6));
     let back = rope.try_split_off(6)?;
-    compare(&rt, &back, &[]);
-    compare(&rt, &rope, &chars_of(rt.alloc(), "Hello!")?);
+    compare_unicode(&back, &[])?;
+    compare_unicode(&rope, &chars_of(rt.alloc(), "Hello!")?)?;
     Ok(())
 }
