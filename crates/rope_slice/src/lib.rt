@@ -8,3 +8,6 @@ pub mod slice;
 mod slicing;
 
 pub use slice::RopeSlice;
+
+#[cfg(test)]
+mod tests;
