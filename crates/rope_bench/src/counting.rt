@@ -4,6 +4,7 @@ use crate::measure::{Outcome, now, since};
 use crate::sample::Sample;
 use crate::texts::ten_times;
 use rope_text::{LineBreaks, str_utils};
+use ropey::RopeSlice;
 use std::time::CpuClock;
 
 /// What is counted.
@@ -43,6 +44,23 @@ pub fn count<C: CpuClock>(clock: &C, sample: &Sample, what: Counted) -> Result<O
     let text = ten_times(sample.alloc, sample.text.as_str())?;
     let start = now(clock)?;
     let counted = what.count(text.as_str());
+    let nanos = since(clock, start)?;
+    Ok(Outcome {
+        operations: 1,
+        nanos,
+        checksum: counted as u64,
+    })
+}
+
+/// A slice of the text, which is gone over to be counted, and its lengths.
+pub fn slice_from_str<C: CpuClock>(clock: &C, sample: &Sample) -> Result<Outcome, Fault> {
+    let text = ten_times(sample.alloc, sample.text.as_str())?;
+    let start = now(clock)?;
+    let slice = RopeSlice::from(text.as_str());
+    let counted = slice
+        .len_chars()
+        .wrapping_add(slice.len_lines())
+        .wrapping_add(slice.len_utf16_cu());
     let nanos = since(clock, start)?;
     Ok(Outcome {
         operations: 1,

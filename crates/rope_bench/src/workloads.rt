@@ -1,7 +1,7 @@
 //! The workloads by name.
 use crate::asking::{Question, ask};
 use crate::changing::{self, Changes, change};
-use crate::counting::{Counted, count};
+use crate::counting::{Counted, count, slice_from_str};
 use crate::fault::Fault;
 use crate::inserting::{self, Inserts, insert};
 use crate::measure::Outcome;
@@ -22,12 +22,13 @@ pub enum Workload {
     IterChunks,
     ShrinkToFit,
     Count(Counted),
+    SliceFromStr,
     FromStrSmall,
     TypeFromEmpty,
 }
 
 /// Those that are done on each of the two texts, in order.
-pub const OF_TEXTS: [Workload; 27] = [
+pub const OF_TEXTS: [Workload; 28] = [
     Workload::FromStr,
     Workload::BuilderByLines,
     Workload::Insert(Inserts::CharsAtRandom),
@@ -55,6 +56,7 @@ pub const OF_TEXTS: [Workload; 27] = [
     Workload::Count(Counted::Breaks(LineBreaks::Lf)),
     Workload::Count(Counted::Breaks(LineBreaks::CrLf)),
     Workload::Count(Counted::Pairs),
+    Workload::SliceFromStr,
 ];
 
 /// Those of many small ropes, in order.
@@ -73,6 +75,7 @@ impl Workload {
             Workload::IterChunks => "iter_chunks_per_byte",
             Workload::ShrinkToFit => "shrink_to_fit_100MB",
             Workload::Count(what) => what.name(),
+            Workload::SliceFromStr => "slice_from_str_100MB",
             Workload::FromStrSmall => "from_str_small",
             Workload::TypeFromEmpty => "type_from_empty",
         }
@@ -90,6 +93,7 @@ impl Workload {
             Workload::IterChunks => reading::iter_chunks(clock, sample),
             Workload::ShrinkToFit => changing::shrink_to_fit(clock, sample),
             Workload::Count(what) => count(clock, sample, what),
+            Workload::SliceFromStr => slice_from_str(clock, sample),
             Workload::FromStrSmall => making::from_str_small(clock, sample),
             Workload::TypeFromEmpty => inserting::type_from_empty(clock, sample),
         }
