@@ -100,6 +100,18 @@ fn made_by(alloc: Global, maker: Maker, text: &str) -> Option<Rope> {
     None
 }
 
+/// A rope of some characters of another, made again where memory was refused.
+fn sliced(alloc: Global, rope: &Rope, start: usize, end: usize) -> Option<Rope> {
+    for _ in 0..TRIES {
+        match Rope::from_slice(alloc, rope.get_slice(start..end)?) {
+            Ok(part) => return Some(part),
+            Err(Error::OutOfMemory) => {}
+            Err(_) => return None,
+        }
+    }
+    None
+}
+
 /// Makes ropes of pieces and cuts a rope anew, prints what they are, and answers how many refusals changed or forgot something.
 pub fn run(rt: &impl Print, alloc: Global) -> Option<usize> {
     let long = repeated(alloc, "a", 2_500)?;
@@ -118,5 +130,6 @@ pub fn run(rt: &impl Print, alloc: Global) -> Option<usize> {
     show(rt, &rope)?;
     let chunks = rope.chunks().count();
     println!(rt; "in {chunks}").ok()?;
+    show(rt, &sliced(alloc, &rope, 1_200, 9_000)?)?;
     Some(faults)
 }
