@@ -101,11 +101,16 @@ fn nodes_made_by_a_split(rt: HostRuntime) -> Result<(), Fail> {
 
 #[test]
 fn nodes_made_by_an_append(rt: HostRuntime) -> Result<(), Fail> {
-    let mut front = million(rt.alloc())?;
+    let whole = million(rt.alloc())?;
+    let mut front = whole.clone()?;
     let back = front.try_split_off(500_000)?;
     let mut steps = Steps::new();
     front.append_counted(back, &mut steps)?;
-    assert!(rt; (1..=80).contains(&steps.made) && front.len_bytes() == 1_000_000);
+    assert!(rt; (1..=80).contains(&steps.made));
+    assert_eq!(rt;
+        [front.len_bytes(), whole.len_bytes()],
+        [1_000_000, 1_000_000]
+    );
     Ok(())
 }
 

@@ -1,4 +1,5 @@
 //! What look-ups count in ropes of known depth.
+use rope_plain::compare::lens;
 use rope_plain::texts::repeated;
 use ropey::{Rope, Steps};
 use std::test::Fail;
@@ -108,10 +109,8 @@ fn a_byte_in_two_levels(rt: HostRuntime) -> Result<(), Fail> {
 #[test]
 fn look_ups_in_two_levels(rt: HostRuntime) -> Result<(), Fail> {
     let rope = Rope::from_str(rt.alloc(), repeated(rt.alloc(), "a\n", 10_000)?.as_str())?;
-    assert_eq!(rt;
-        [rope.len_bytes(), rope.chunks().count(), rope.depth()],
-        [20_000, 21, 1]
-    );
+    assert_eq!(rt; lens(&rope), [20_000, 20_000, 10_001, 20_000]);
+    assert_eq!(rt; [rope.chunks().count(), rope.depth()], [21, 1]);
     for (look_up, end) in [
         (LookUp::Byte, 20_000),
         (LookUp::ByteToChar, 20_000),
