@@ -1,0 +1,33 @@
+//! Numbers that look random.
+
+/// A row of numbers by a xorshift of 64 bits: the same row each time from one start.
+#[derive(Drop)]
+pub struct Numbers {
+    state: u64,
+}
+
+impl Numbers {
+    /// A row that begins at a number other than 0.
+    pub fn new(start: u64) -> Numbers {
+        Numbers { state: start }
+    }
+
+    /// The next number of the row.
+    pub fn take(&mut self) -> usize {
+        let mut x = self.state;
+        x ^= x << 13;
+        x ^= x >> 7;
+        x ^= x << 17;
+        self.state = x;
+        (x >> 8) as usize
+    }
+
+    /// The next number, brought into the range from 0 to `most` by its remainder.
+    pub fn up_to(&mut self, most: usize) -> usize {
+        let number = self.take();
+        match most.checked_add(1) {
+            Some(count) => number % count,
+            None => number,
+        }
+    }
+}

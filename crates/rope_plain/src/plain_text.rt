@@ -1,0 +1,132 @@
+//! A plain text: a list of characters, whose counts and conversions go over all of it.
+//! It is a partner to compare with, written from the rules alone; nothing of it is proved but that it is safe.
+use rope_text::LineBreaks;
+
+/// Whether the character ends a line break.
+fn is_break(c: char, set: LineBreaks) -> bool {
+    let is_unicode = matches!(c, '\u{B}' | '\u{C}' | '\u{85}' | '\u{2028}' | '\u{2029}');
+    match set {
+        LineBreaks::Lf => c == '\n',
+        LineBreaks::CrLf => c == '\n' || c == '\r',
+        LineBreaks::Unicode => c == '\n' || c == '\r' || is_unicode,
+    }
+}
+
+/// Whether a break ends after `place` characters.
+fn is_break_end(text: &[char], place: usize, set: LineBreaks) -> bool {
+    let Some(before) = place.checked_sub(1) else {
+        return false;
+    };
+    let Some(last) = text.get(before) else {
+        return false;
+    };
+    let parts_pair = *last == '\r' && text.get(place) == Some(&'\n');
+    is_break(*last, set) && !parts_pair
+}
+
+/// The bytes of the first characters.
+pub fn char_to_byte(text: &[char], place: usize) -> usize {
+    let mut bytes: usize = 0;
+    for c in text.iter().take(place) {
+        bytes = bytes.saturating_add(c.len_utf8());
+    }
+    bytes
+}
+
+/// How many of the first characters take two code units.
+pub fn surrogates_before(text: &[char], place: usize) -> usize {
+    text.iter()
+        .take(place)
+        .filter(|c| **c >= '\u{10000}')
+        .count()
+}
+
+/// The code units of the first characters.
+pub fn char_to_utf16(text: &[char], place: usize) -> usize {
+    place
+        .min(text.len())
+        .saturating_add(surrogates_before(text, place))
+}
+
+/// The greatest place whose bytes are at most `byte`.
+pub fn byte_to_char(text: &[char], byte: usize) -> usize {
+    let mut found = 0;
+    for place in 0..=text.len() {
+        if char_to_byte(text, place) <= byte {
+            found = place;
+        }
+    }
+    found
+}
+
+/// The greatest place whose code units are at most `unit`.
+pub fn utf16_to_char(text: &[char], unit: usize) -> usize {
+    let mut found = 0;
+    for place in 0..=text.len() {
+        if char_to_utf16(text, place) <= unit {
+            found = place;
+        }
+    }
+    found
+}
+
+/// How many breaks end at or before a place.
+pub fn char_to_line(text: &[char], place: usize, set: LineBreaks) -> usize {
+    let mut breaks: usize = 0;
+    for end in 1..=place.min(text.len()) {
+        if is_break_end(text, end, set) {
+            breaks = breaks.saturating_add(1);
+        }
+    }
+    breaks
+}
+
+/// Where a line starts; past the last line the end.
+pub fn line_to_char(text: &[char], line: usize, set: LineBreaks) -> usize {
+    if line == 0 {
+        return 0;
+    }
+    let mut breaks: usize = 0;
+    for end in 1..=text.len() {
+        if is_break_end(text, end, set) {
+            breaks = breaks.saturating_add(1);
+            if breaks == line {
+                return end;
+            }
+        }
+    }
+    text.len()
+}
+
+/// A place before a character or at the end, in every unit, and where its line starts.
+#[derive(Clone, Copy)]
+pub struct Place {
+    pub byte: usize,
+    pub unit: usize,
+    pub line: usize,
+    pub line_start_char: usize,
+    pub line_start_byte: usize,
+}
+
+/// The place behind the first characters, by one pass over them.
+pub fn place_of(text: &[char], char_idx: usize, set: LineBreaks) -> Place {
+    let mut place = Place {
+        byte: 0,
+        unit: 0,
+        line: 0,
+        line_start_char: 0,
+        line_start_byte: 0,
+    };
+    let mut passed: usize = 0;
+    for c in text.iter().take(char_idx) {
+        passed = passed.saturating_add(1);
+        place.byte = place.byte.saturating_add(c.len_utf8());
+        place.unit = place.unit.saturating_add(c.len_utf16());
+        if is_break_end(text, passed, set) {
+            place.line = place.line.saturating_add(1);
+            place.line_start_char = passed;
+            place.line_start_byte = place.byte;
+        }
+    }
+    place
+}

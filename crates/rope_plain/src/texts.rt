@@ -1,0 +1,83 @@
+//! Texts, and edits of lists of characters.
+use crate::numbers::Numbers;
+use std::alloc::{AllocError, Global};
+
+/// So many times a text.
+pub fn repeated(alloc: Global, text: &str, count: usize) -> Result<String, AllocError> {
+    let mut all = String::new(alloc);
+    for _ in 0..count {
+        all.push_str(text)?;
+    }
+    Ok(all)
+}
+
+/// A text as a list of characters.
+pub fn chars_of(alloc: Global, text: &str) -> Result<Vec<char>, AllocError> {
+    let mut chars = Vec::new(alloc);
+    for c in text.chars() {
+        chars.push(c)?;
+    }
+    Ok(chars)
+}
+
+/// Characters of one to four bytes and breaks of every kind, in 48 bytes.
+pub const BREAKS: &str =
+    "\u{A}Hello\u{D}\u{A}\u{D}せ\u{B}か\u{C}い\u{85}. There\u{2028}is something.\u{2029}";
+
+const PARTS: [&str; 8] = ["a", "\r", "\n", "\r\n", "é", "こ", "🐸", "\u{2028}"];
+
+/// A text of at most so many bytes and three more, rich in breaks.
+pub fn random_text(
+    alloc: Global,
+    numbers: &mut Numbers,
+    most: usize,
+) -> Result<String, AllocError> {
+    let mut text = String::new(alloc);
+    let len = numbers.up_to(most);
+    for _ in 0..len {
+        if text.as_str().len() >= len {
+            break;
+        }
+        text.push_str(PARTS[numbers.take() % 8])?;
+    }
+    Ok(text)
+}
+
+/// A text to edit with: of at most 12 bytes and three more, and one in four of at most 1,196.
+pub fn random_edit_text(alloc: Global, numbers: &mut Numbers) -> Result<String, AllocError> {
+    let is_long = numbers.take() % 4 == 0;
+    random_text(alloc, numbers, if is_long { 1_196 } else { 12 })
+}
+
+/// The list with a text before the character `at`.
+pub fn inserted(
+    alloc: Global,
+    old: &[char],
+    at: usize,
+    text: &str,
+) -> Result<Vec<char>, AllocError> {
+    let mut new = Vec::new(alloc);
+    new.reserve(old.len().saturating_add(text.len()))?;
+    let (front, back) = old.split_at(at.min(old.len()));
+    new.extend_from_slice(front)?;
+    for c in text.chars() {
+        new.push(c)?;
+    }
+    new.extend_from_slice(back)?;
+    Ok(new)
+}
+
+/// The characters from `start` on.
+pub fn part_from(alloc: Global, text: &[char], start: usize) -> Result<Vec<char>, AllocError> {
+    let (_, back) = text.split_at(start.min(text.len()));
+    Vec::from_slice(alloc, back)
+}
+
+/// A text of so many bytes that begins and ends with these, or these alone where they are longer.
+pub fn padded(alloc: Global, first: &str, bytes: usize, last: &str) -> Result<String, AllocError> {
+    let ends = first.len().saturating_add(last.len());
+    let mut text = String::from_str(alloc, first)?;
+    text.push_str(repeated(alloc, "a", bytes.saturating_sub(ends))?.as_str())?;
+    text.push_str(last)?;
+    Ok(text)
+}
