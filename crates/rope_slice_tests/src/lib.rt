@@ -1,0 +1,19 @@
+//! Tests of slices, against worked rows and plain lists of characters.
+#![tactic(auto)]
+
+#[cfg(test)]
+mod between_cr_and_lf;
+#[cfg(test)]
+mod compare;
+#[cfg(test)]
+mod conversions;
+#[cfg(test)]
+mod cuts;
+#[cfg(test)]
+mod plain_slice;
+#[cfg(test)]
+mod plain_texts;
+#[cfg(test)]
+mod random_slices;
+#[cfg(test)]
+mod refusals;

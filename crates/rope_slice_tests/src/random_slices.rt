@@ -1,0 +1,212 @@
+//! Random slices of slices, of ropes and of plain texts, against their plain partners.
+use crate::compare::{compare_at, compare_whole};
+use crate::cuts::{between, byte_between, byte_part, part};
+use crate::plain_slice::PlainSlice;
+use rope_plain::numbers::Numbers;
+use rope_plain::plain_text::char_to_byte;
+use rope_plain::texts::{chars_of, inserted, part_from, random_edit_text, random_text};
+use ropey::{LineBreaks, Rope, RopeSlice};
+use std::alloc::Global;
+use std::test::Fail;
+
+const SETS: [LineBreaks; 3] = [LineBreaks::Lf, LineBreaks::CrLf, LineBreaks::Unicode];
+
+/// How many inserts and removals a rope gets before it is sliced.
+const EDITS: usize = 12;
+
+/// How many slices lie within each other.
+const DEPTH: usize = 4;
+
+/// How many places of each slice are compared, beside its end.
+const PLACES: usize = 4;
+
+/// A rope, and the list of characters that it has to have.
+#[derive(Drop)]
+struct Pair {
+    rope: Rope,
+    plain: Vec<char>,
+}
+
+impl Pair {
+    /// A rope of a random text.
+    fn new(alloc: Global, numbers: &mut Numbers, set: LineBreaks) -> Result<Pair, Fail> {
+        let text = random_text(alloc, numbers, 4_000)?;
+        Ok(Pair {
+            rope: Rope::from_str_with(alloc, text.as_str(), set)?,
+            plain: chars_of(alloc, text.as_str())?,
+        })
+    }
+
+    fn insert(&mut self, alloc: Global, numbers: &mut Numbers) -> Result<(), Fail> {
+        let at = numbers.up_to(self.plain.len());
+        let text = random_edit_text(alloc, numbers)?;
+        self.rope.try_insert(at, text.as_str())?;
+        self.plain = inserted(alloc, &self.plain, at, text.as_str())?;
+        Ok(())
+    }
+
+    fn remove(&mut self, alloc: Global, numbers: &mut Numbers) -> Result<(), Fail> {
+        let start = numbers.up_to(self.plain.len());
+        let end = start
+            .saturating_add(numbers.up_to(300))
+            .min(self.plain.len());
+        self.rope.try_remove(start..end)?;
+        let back = part_from(alloc, &self.plain, end)?;
+        self.plain.truncate(start);
+        self.plain.extend_from_slice(&back)?;
+        Ok(())
+    }
+}
+
+/// A rope whose chunks are of uneven lengths.
+fn edited(alloc: Global, numbers: &mut Numbers, set: LineBreaks) -> Result<Pair, Fail> {
+    let mut pair = Pair::new(alloc, numbers, set)?;
+    for _ in 0..EDITS {
+        pair.insert(alloc, numbers)?;
+        pair.remove(alloc, numbers)?;
+    }
+    Ok(pair)
+}
+
+/// Where each chunk ends, in characters.
+fn chunk_ends(alloc: Global, rope: &Rope) -> Result<Vec<usize>, Fail> {
+    let mut ends = Vec::new(alloc);
+    let mut end: usize = 0;
+    for chunk in rope.chunks() {
+        end = end.saturating_add(chunk.chars().count());
+        ends.push(end)?;
+    }
+    Ok(ends)
+}
+
+/// A start and an end; of two such ranges one is short and one leaves little out.
+fn random_range(numbers: &mut Numbers, len: usize) -> (usize, usize) {
+    let start = if numbers.up_to(1) == 0 {
+        numbers.up_to(len)
+    } else {
+        numbers.up_to(len / 8)
+    };
+    let rest = len.saturating_sub(start);
+    let left_out = if numbers.up_to(1) == 0 {
+        numbers.up_to(rest)
+    } else {
+        numbers.up_to(rest / 8)
+    };
+    (start, len.saturating_sub(left_out))
+}
+
+/// A range of a rope, told by characters or by bytes.
+fn slice_of<'a>(
+    numbers: &mut Numbers,
+    pair: &'a Pair,
+    start: usize,
+    end: usize,
+) -> Result<RopeSlice<'a>, Fail> {
+    if numbers.up_to(1) == 0 {
+        return between(&pair.rope, start, end);
+    }
+    let start = char_to_byte(&pair.plain, start);
+    let end = char_to_byte(&pair.plain, end);
+    byte_between(&pair.rope, start, end)
+}
+
+/// A range of a slice, told by characters or by bytes.
+fn part_of<'a>(
+    numbers: &mut Numbers,
+    slice: &RopeSlice<'a>,
+    plain: &PlainSlice<'_>,
+    start: usize,
+    end: usize,
+) -> Result<RopeSlice<'a>, Fail> {
+    if numbers.up_to(1) == 0 {
+        return part(slice, start, end);
+    }
+    let start = char_to_byte(plain.text, start);
+    let end = char_to_byte(plain.text, end);
+    byte_part(slice, start, end)
+}
+
+/// A slice in whole, at some places and at its end.
+fn compare_slice(
+    numbers: &mut Numbers,
+    slice: &RopeSlice<'_>,
+    plain: &PlainSlice<'_>,
+) -> Result<(), Fail> {
+    compare_whole(slice, plain)?;
+    for _ in 0..PLACES {
+        compare_at(slice, plain, numbers.up_to(plain.text.len()))?;
+    }
+    compare_at(slice, plain, plain.text.len())?;
+    Ok(())
+}
+
+/// A slice, and slices each within the one before.
+fn compare_nested<'a>(
+    numbers: &mut Numbers,
+    whole: RopeSlice<'a>,
+    all: PlainSlice<'a>,
+) -> Result<(), Fail> {
+    let mut slice = whole;
+    let mut plain = all;
+    for _ in 0..DEPTH {
+        compare_slice(numbers, &slice, &plain)?;
+        let (start, end) = random_range(numbers, plain.text.len());
+        slice = part_of(numbers, &slice, &plain, start, end)?;
+        plain = plain.part(start, end);
+    }
+    compare_slice(numbers, &slice, &plain)
+}
+
+/// Slices of one rope.
+fn compare_rope(alloc: Global, numbers: &mut Numbers, set: LineBreaks) -> Result<(), Fail> {
+    let pair = edited(alloc, numbers, set)?;
+    let ends = chunk_ends(alloc, &pair.rope)?;
+    let all = PlainSlice {
+        text: &pair.plain,
+        before: 0,
+        ends: &ends,
+        set,
+    };
+    for _ in 0..4 {
+        let (start, end) = random_range(numbers, pair.plain.len());
+        let slice = slice_of(numbers, &pair, start, end)?;
+        compare_nested(numbers, slice, all.part(start, end))?;
+    }
+    Ok(())
+}
+
+/// Slices of one plain text.
+fn compare_str(alloc: Global, numbers: &mut Numbers, set: LineBreaks) -> Result<(), Fail> {
+    let text = random_text(alloc, numbers, 2_000)?;
+    let plain = chars_of(alloc, text.as_str())?;
+    let ends = [plain.len()];
+    let all = PlainSlice {
+        text: &plain,
+        before: 0,
+        ends: &ends,
+        set,
+    };
+    compare_nested(numbers, RopeSlice::from_str_with(text.as_str(), set), all)
+}
+
+#[test]
+fn slices_of_ropes(rt: HostRuntime) -> Result<(), Fail> {
+    let mut numbers = Numbers::new(0x9E37_79B9_7F4A_7C15);
+    for _ in 0..40 {
+        for set in SETS {
+            compare_rope(rt.alloc(), &mut numbers, set)?;
+        }
+    }
+    Ok(())
+}
+
+#[test]
+fn slices_of_plain_texts(rt: HostRuntime) -> Result<(), Fail> {
+    let mut numbers = Numbers::new(0xD1B5_4A32_D192_ED03);
+    for _ in 0..100 {
+        for set in SETS {
+            compare_str(rt.alloc(), &mut numbers, set)?;
+        }
+    }
+    Ok(())
+}
