@@ -9,7 +9,11 @@ fn one_pair(rt: HostRuntime) -> Result<(), Fail> {
     let rope = Rope::from_str(rt.alloc(), "a\r\nb")?;
     assert_eq!(rt; front(&rope, 2)?.len_lines(), 2);
     assert_eq!(rt; back(&rope, 2)?.len_lines(), 2);
-    for slice in [rope.get_slice(..=1), rope.get_byte_slice(..=1)] {
+    for slice in [
+        rope.get_slice(..=1),
+        rope.get_slice(0..=1),
+        rope.get_byte_slice(..=1),
+    ] {
         let Some(slice) = slice else {
             return Err(Fail::from("an inclusive end was refused"));
         };

@@ -7,21 +7,32 @@ use ropey::{Error, RopeSlice};
 
 /// The lengths, the set of line breaks, the text where it is one chunk, and the indices past the end.
 pub fn compare_whole(slice: &RopeSlice<'_>, plain: &PlainSlice<'_>) -> Result<(), Difference> {
-    let end = place_of(plain.text, plain.text.len(), plain.set);
-    let expected = [
-        end.byte,
-        plain.text.len(),
-        end.line.saturating_add(1),
-        end.unit,
-    ];
-    if lens(slice) != expected {
-        return Err(Difference::Bytes);
-    }
     if slice.line_breaks() != plain.set {
         return Err(Difference::LineBreaks);
     }
+    compare_lengths(slice, plain)?;
     compare_text(slice, plain)?;
-    compare_past(slice, expected)
+    compare_past(slice)
+}
+
+fn compare_lengths(slice: &RopeSlice<'_>, plain: &PlainSlice<'_>) -> Result<(), Difference> {
+    let chars = plain.text.len();
+    let end = place_of(plain.text, chars, plain.set);
+    for (answer, expected, difference) in [
+        (slice.len_bytes(), end.byte, Difference::Bytes),
+        (slice.len_chars(), chars, Difference::Chars),
+        (slice.len_utf16_cu(), end.unit, Difference::Units),
+        (
+            slice.len_lines(),
+            end.line.saturating_add(1),
+            Difference::Lines,
+        ),
+    ] {
+        if answer != expected {
+            return Err(difference);
+        }
+    }
+    Ok(())
 }
 
 /// `as_str` answers the text where it is one chunk or none, and else nothing.
@@ -38,8 +49,8 @@ fn compare_text(slice: &RopeSlice<'_>, plain: &PlainSlice<'_>) -> Result<(), Dif
 }
 
 /// The first index past the end is refused.
-fn compare_past(slice: &RopeSlice<'_>, lens: [usize; 4]) -> Result<(), Difference> {
-    let [bytes, chars, lines, units] = lens;
+fn compare_past(slice: &RopeSlice<'_>) -> Result<(), Difference> {
+    let [bytes, chars, lines, units] = lens(slice);
     let byte = bytes.saturating_add(1);
     let char_idx = chars.saturating_add(1);
     let line = lines.saturating_add(1);

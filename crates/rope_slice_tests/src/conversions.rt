@@ -1,7 +1,6 @@
 //! Conversions of slices of ropes, against rows that were worked by hand.
 use crate::cuts::{between, lens, part};
 use ropey::{Error, Rope};
-use std::process::Abort;
 use std::test::Fail;
 
 const FROGS: &str =

@@ -1,6 +1,5 @@
 //! Ranges of bytes and of characters that are refused.
 use ropey::{Error, Rope, RopeSlice};
-use std::process::Abort;
 use std::test::Fail;
 
 /// The ranges of the bytes of `é` that are refused.
