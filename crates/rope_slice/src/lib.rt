@@ -9,5 +9,3 @@ mod slicing;
 
 pub use slice::RopeSlice;
 
-#[cfg(test)]
-mod tests;

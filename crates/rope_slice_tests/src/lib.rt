@@ -17,3 +17,5 @@ mod plain_texts;
 mod random_slices;
 #[cfg(test)]
 mod refusals;
+#[cfg(test)]
+mod ropes_of_slices;
