@@ -8,4 +8,3 @@ pub mod slice;
 mod slicing;
 
 pub use slice::RopeSlice;
-
