@@ -32,5 +32,6 @@ pub mod Blocks
 pub mod Marks
 pub mod InfoLaws
 pub mod Fronts
+pub mod CutOff
 pub mod LastBreakLaws
 mod Examples
