@@ -34,3 +34,4 @@ pub mod InfoLaws
 pub mod Fronts
 pub mod LastBreakLaws
 mod Examples
+pub mod LinePartLaws
