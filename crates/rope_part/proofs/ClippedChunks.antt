@@ -15,7 +15,7 @@ cons_nonempty-append : (s : List ℕ) (p q : List (List ℕ)) → cons_nonempty 
 cons_nonempty-append [] p q = refl
 cons_nonempty-append (c ∷ s) p q = refl
 
-cons_some : (s : List ℕ) (p : List (List ℕ)) → 0 < length s → cons_nonempty s p ≡ s ∷ p
+pub cons_some : (s : List ℕ) (p : List (List ℕ)) → 0 < length s → cons_nonempty s p ≡ s ∷ p
 cons_some [] p some = absurd (omega arith)
 cons_some (c ∷ s) p some = refl
 

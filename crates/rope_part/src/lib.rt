@@ -6,10 +6,12 @@ pub mod origin;
 pub mod part;
 mod part_chunks;
 mod part_lookups;
-mod plain;
-mod stretch;
+pub mod plain;
+pub mod stretch;
 mod stretch_chunks;
 mod stretch_lookups;
 
 pub use origin::Origin;
 pub use part::Part;
+pub use plain::Plain;
+pub use stretch::Stretch;

@@ -12,9 +12,9 @@ use rope_text::{LineBreaks, TextInfo};
 /// A plain text, with its counts by a set of line breaks.
 #[derive(Clone, Copy)]
 pub struct Plain<'a> {
-    pub(crate) text: &'a str,
-    pub(crate) info: TextInfo,
-    pub(crate) breaks: LineBreaks,
+    pub text: &'a str,
+    pub info: TextInfo,
+    pub breaks: LineBreaks,
     ghost counted: { info ≡ info_of breaks (chars text.now) } by { IsInfo-prop breaks (chars text.now) info },
 }
 

@@ -21,9 +21,9 @@ use rope_tree::node::Node;
 /// there by itself. So a CR LF that is cut at either end gives a break to either side.
 #[derive(Clone, Copy)]
 pub struct Stretch<'a> {
-    pub(crate) node: &'a Node,
-    pub(crate) start: TextInfo,
-    pub(crate) end: TextInfo,
+    pub node: &'a Node,
+    pub start: TextInfo,
+    pub end: TextInfo,
     ghost is_stretch: { IsStretch node.now.breaks (text node.now) start end } by { IsStretch-prop node.now.breaks (text node.now) start end },
 }
 

@@ -3,8 +3,10 @@
 
 mod bounds;
 mod conversions;
+pub mod lines;
 mod lookups;
 pub mod slice;
 mod slicing;
 
+pub use lines::Lines;
 pub use slice::RopeSlice;

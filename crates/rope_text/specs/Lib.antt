@@ -21,3 +21,4 @@ pub mod Range
 pub mod ByteBreaks
 pub mod TextInfo
 pub mod LastBreak
+pub mod LineParts

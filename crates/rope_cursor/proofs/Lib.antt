@@ -1,0 +1,3 @@
+pub mod Paths
+pub mod Spans
+pub mod LineSteps

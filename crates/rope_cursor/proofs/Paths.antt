@@ -1,0 +1,293 @@
+-- Frames of a path: one more of them, and the steps to the next leaf and to the one before.
+use Rattle.std.proofs.Common.{◌≡◌, ℕ, zero, suc, ◌+◌, ◌-◌, ◌<◌, ◌≤◌, List, [], ◌∷◌, ◌++◌, length, take, drop, get_or, set, refl, ap, sym, ◌∙◌, arith, inl, inr, All, append_assoc}
+use Rattle.std.proofs.lemmas.List.{take-append-drop, drop_more, take_more_set, append-nil, length-append, length-set, length-map, get_or-set_same, get_or-set_other, take-set, take-set-le, take_more, append_cancel_right, append_cancel_left, get_or_default, drop_all}
+use Rattle.std.proofs.lemmas.List.Elements.{All-get_or, All-nil, All-cons, All-head, All-tail}
+use Rattle.std.proofs.lemmas.List.Concat.{flat_map-append}
+use Rattle.std.proofs.lemmas.Bool.{cases_eq}
+use Rattle.std.specs.Borrow.{Bor}
+use Rattle.std.specs.List.{concat}
+use Rattle.std.specs.declared.rc.Rc.{Rc}
+use Rattle.std.specs.declared.alloc.Global.{Global}
+use Rattle.rope_text.specs.declared.line_breaks.LineBreaks.{LineBreaks}
+use Rattle.rope_text.specs.declared.text_info.TextInfo.{TextInfo}
+use Rattle.rope_tree.specs.declared.node.Node.{Node}
+use Rattle.rope_text.proofs.CuttingLaws.{concat-append}
+use Rattle.rope_tree.specs.Tree.{Tree, text, joined, leaves_of, leaf_tree, IsChild}
+use Rattle.rope_tree.proofs.NodeLaws.{leaf_text}
+use Rattle.rope_tree.specs.Listed.{trees}
+use Rattle.rope_tree.specs.View.{IsInnerOf}
+use Rattle.rope_cursor.specs.declared.path.Frame.{Frame}
+use Rattle.rope_cursor.specs.Path.{Place, IsNext, HoldsChar, leaves_below, before_of, after_of, place_of, IsLow, IsFrame, AreFrames, AreFramesOf, around, LeadsTo, HasNextAt, HasPrevAt}
+
+-- the leaves below nodes, by the trees that they are seen as
+pub leaves_below_is : (rcs : List (Rc Node Global)) → leaves_below rcs ≡ leaves_of (trees rcs)
+leaves_below_is [] = refl
+leaves_below_is (rc ∷ rcs) = ap (λ ls. rc.value.leaves ++ ls) (leaves_below_is rcs)
+
+pub all_low : (b : LineBreaks) (h n : ℕ) (rcs : List (Rc Node Global)) → h ≤ n → All (IsChild b h) (trees rcs) → All (λ rc. IsLow rc.value n) rcs
+all_low b h n [] l a = All-nil (λ rc. IsLow rc.value n)
+all_low b h n (rc ∷ rcs) l a =
+    let own = All-head (IsChild b h) rc.value (trees rcs) a in
+    All-cons (λ r. IsLow r.value n) rc rcs (record { levels = omega (arith, own.at_height); some = omega (arith, own.some) }) (all_low b h n rcs l (All-tail (IsChild b h) rc.value (trees rcs) a))
+
+-- the leaves below nodes, parted at the i-th
+pub below_at : (rcs : List (Rc Node Global)) (i : ℕ) (d : Rc Node Global) → i < length rcs
+    → leaves_below rcs ≡ leaves_below (take i rcs) ++ ((get_or rcs i d).value.leaves ++ leaves_below (drop (i + 1) rcs))
+below_at rcs i d l =
+    ap leaves_below (sym (take-append-drop i rcs) ∙ ap (λ r. take i rcs ++ r) (drop_more rcs i d l)) ∙ flat_map-append (λ rc. rc.value.leaves) (take i rcs) (get_or rcs i d ∷ drop (i + 1) rcs)
+
+pub parted_at : (rcs : List (Rc Node Global)) (i : ℕ) (rc : Rc Node Global) (rest : List (List ℕ)) → i < length rcs → rc ≡ get_or rcs i rc
+    → leaves_below (take i rcs) ++ (rc.value.leaves ++ (leaves_below (drop (i + 1) rcs) ++ rest)) ≡ leaves_below rcs ++ rest
+parted_at rcs i rc rest l e =
+    let own : (get_or rcs i rc).value.leaves ≡ rc.value.leaves = ap (λ r. r.value.leaves) (sym e) in
+    let x = leaves_below (take i rcs) in
+    let y = rc.value.leaves in
+    let z = leaves_below (drop (i + 1) rcs) in
+    let whole : leaves_below rcs ≡ x ++ (y ++ z) = below_at rcs i rc l ∙ ap (λ m. x ++ (m ++ z)) own in
+    sym (ap (λ m. m ++ rest) whole ∙ append_assoc x (y ++ z) rest ∙ ap (λ m. x ++ m) (append_assoc y z rest))
+
+pub before_of-append : (xs ys : List Frame) → before_of (xs ++ ys) ≡ before_of xs ++ before_of ys
+before_of-append [] ys = refl
+before_of-append (f ∷ xs) ys =
+    ap (λ r. leaves_below (take f.at f.children.now) ++ r) (before_of-append xs ys) ∙ sym (append_assoc (leaves_below (take f.at f.children.now)) (before_of xs) (before_of ys))
+
+pub after_of-append : (xs ys : List Frame) → after_of (xs ++ ys) ≡ after_of ys ++ after_of xs
+after_of-append [] ys = sym (append-nil (after_of ys))
+after_of-append (f ∷ xs) ys =
+    ap (λ r. r ++ leaves_below (drop (f.at + 1) f.children.now)) (after_of-append xs ys) ∙ append_assoc (after_of ys) (after_of xs) (leaves_below (drop (f.at + 1) f.children.now))
+
+-- the frames up to a level, and one more there
+module _ (frames : List Frame) (level : ℕ) (f : Frame) (l : level < length frames) where
+  pub before_of_more : before_of (take (level + 1) (set frames level f)) ≡ before_of (take level frames) ++ leaves_below (take f.at f.children.now)
+  before_of_more =
+      ap before_of (take_more_set frames level f l) ∙ before_of-append (take level frames) (f ∷ []) ∙ ap (λ r. before_of (take level frames) ++ r) (append-nil (leaves_below (take f.at f.children.now)))
+
+  pub after_of_more : after_of (take (level + 1) (set frames level f)) ≡ leaves_below (drop (f.at + 1) f.children.now) ++ after_of (take level frames)
+  after_of_more = ap after_of (take_more_set frames level f l) ∙ after_of-append (take level frames) (f ∷ [])
+
+-- one more frame, which parts the whole at its own level
+pub AreFrames_more : (frames : List Frame) (level : ℕ) (f : Frame) (whole : List (List ℕ)) → AreFrames frames level whole → level < 18 → IsFrame f (17 - level)
+    → around frames level (leaves_below f.children.now) ≡ whole → AreFrames (set frames level f) (level + 1) whole
+AreFrames_more frames level f whole h l g e =
+    let n : level < length frames = omega (arith, h.len) in
+    record {
+      room = omega arith;
+      len = length-set frames level f ∙ h.len;
+      fit = λ i d p. elim (cases_eq i level) [ inl q ↦ rw (q, get_or-set_same frames level f d n) g | inr q ↦ rw get_or-set_other (h.fit i d (omega arith)) ];
+      parts = λ i d p. elim (cases_eq i level) [
+        | inl q ↦ rw (q, get_or-set_same frames level f d n, take-set frames level f) e
+        | inr q ↦ let o : i ≤ level = omega arith in rw (take-set-le i frames level f o, get_or-set_other frames level i f d q) (h.parts i d (omega arith))
+      ];
+    }
+
+-- the first of the levels, or as many
+pub AreFrames_front : (frames : List Frame) (level i : ℕ) (whole : List (List ℕ)) → AreFrames frames level whole → i ≤ level → AreFrames frames i whole
+AreFrames_front frames level i whole h l = record {
+  room = omega (arith, h.room);
+  len = h.len;
+  fit = λ j d p. h.fit j d (omega arith);
+  parts = λ j d p. h.parts j d (omega arith);
+}
+
+-- what stands around one of a frame's children is what stands around them all
+pub around_more : (frames : List Frame) (level : ℕ) (b : Bor (List (Rc Node Global))) (i : ℕ) (rc : Rc Node Global) → level < length frames → i < length b.now → rc ≡ get_or b.now i rc
+    → around (set frames level record { children = b; at = i }) (level + 1) rc.value.leaves ≡ around frames level (leaves_below b.now)
+around_more frames level b i rc l w e =
+    let f : Frame = record { children = b; at = i } in
+    let parted = parted_at b.now i rc (after_of (take level frames)) w e in
+    rw (before_of_more frames level f l, after_of_more frames level f l)
+    (append_assoc (before_of (take level frames)) (leaves_below (take i b.now)) (rc.value.leaves ++ (leaves_below (drop (i + 1) b.now) ++ after_of (take level frames)))
+    ∙ ap (λ x. before_of (take level frames) ++ x) parted)
+
+-- one level down: to the child at i of those that stand at a level
+pub record GoesDown (frames : List Frame) (level : ℕ) (b : Bor (List (Rc Node Global))) (i : ℕ) (child : Tree) (whole : List (List ℕ)) : Type 0 where
+  pub frames_are : AreFrames (set frames level record { children = b; at = i }) (level + 1) (around (set frames level record { children = b; at = i }) (level + 1) child.leaves)
+  pub whole_is : around (set frames level record { children = b; at = i }) (level + 1) child.leaves ≡ whole
+  pub low : IsLow child (18 - (level + 1))
+  pub before : before_of (take (level + 1) (set frames level record { children = b; at = i })) ≡ before_of (take level frames) ++ leaves_below (take i b.now)
+  pub after : after_of (take (level + 1) (set frames level record { children = b; at = i })) ≡ leaves_below (drop (i + 1) b.now) ++ after_of (take level frames)
+
+pub goes_down : (frames : List Frame) (level : ℕ) (b : Bor (List (Rc Node Global))) (i : ℕ) (rc : Rc Node Global) (child : Tree) (whole : List (List ℕ))
+    → AreFrames frames level whole → level < 18 → All (λ r. IsLow r.value (17 - level)) b.now → length b.now ≤ 24 → i < length b.now → rc ≡ get_or b.now i rc → child ≡ rc.value
+    → around frames level (leaves_below b.now) ≡ whole → GoesDown frames level b i child whole
+goes_down frames level b i rc child whole h l all few w e c q =
+    let n : level < length frames = omega (arith, h.len) in
+    let f : Frame = record { children = b; at = i } in
+    let same : around (set frames level f) (level + 1) child.leaves ≡ whole = ap (λ t. around (set frames level f) (level + 1) t.leaves) c ∙ around_more frames level b i rc n w e ∙ q in
+    let more = AreFrames_more frames level f whole h l (record { within = w; few = few; low = all }) q in
+    let own : IsLow (get_or b.now i rc).value (17 - level) = All-get_or (λ r. IsLow r.value (17 - level)) b.now i rc w all in
+    let levels : 17 - level ≡ 18 - (level + 1) = omega arith in
+    record {
+      frames_are = rw same more;
+      whole_is = same;
+      low = rw (c, e, ← levels) own;
+      before = before_of_more frames level f n;
+      after = after_of_more frames level f n;
+    }
+
+-- an inner node with these children
+pub record IsOpened (frames : List Frame) (level : ℕ) (t : Tree) (b : Bor (List (Rc Node Global))) : Type 0 where
+  pub room : level < 18
+  pub some : 0 < length b.now
+  pub few : length b.now ≤ 24
+  pub low : All (λ rc. IsLow rc.value (17 - level)) b.now
+  pub parts : around frames level (leaves_below b.now) ≡ around frames level t.leaves
+
+pub opened : (frames : List Frame) (level : ℕ) (t : Tree) (b : Bor (List (Rc Node Global))) (totals : List TextInfo) → IsInnerOf t (trees b.now) totals → IsLow t (18 - level) → IsOpened frames level t b
+opened frames level t b totals i low =
+    let above = ap (λ u. u.height) i.is in
+    let long = length-map b.now (λ rc. rc.value) in
+    record {
+      room = omega (arith, above, low.levels);
+      some = omega (arith, long, i.children.at_least_two);
+      few = omega (arith, long, i.children.at_most_24);
+      low = all_low _ _ (17 - level) b.now (omega (arith, above, low.levels)) i.children.each;
+      parts = ap (around frames level) (leaves_below_is b.now ∙ ap (λ u. u.leaves) (sym i.is));
+    }
+
+-- a search upward for a frame with a child after its own, which has come to a level
+after_of_none : (frames : List Frame) (i : ℕ) (f : Frame) → i < length frames → f ≡ get_or frames i f → length f.children.now ≤ f.at + 1 → after_of (take (i + 1) frames) ≡ after_of (take i frames)
+after_of_none frames i f l e h = rw (take_more frames i f l, ← e, after_of-append, drop_all (f.at + 1) f.children.now h) refl
+
+before_of_none : (frames : List Frame) (i : ℕ) (f : Frame) → i < length frames → f ≡ get_or frames i f → f.at ≡ 0 → before_of (take (i + 1) frames) ≡ before_of (take i frames)
+before_of_none frames i f l e h =
+    let none : leaves_below (take f.at f.children.now) ≡ [] = rw h refl in
+    rw (take_more frames i f l, ← e, before_of-append, none) (append-nil (before_of (take i frames)))
+
+module _ (frames : List Frame) (depth level : ℕ) (f : Frame) (h : AreFramesOf frames depth) (p : 0 < level) (l : level ≤ depth) (e : f ≡ get_or frames (level - 1) f) where
+  pub frame_within : f.at < length f.children.now
+  frame_within = rw e ((h.1.fit (level - 1) f (omega arith)).within)
+
+  same_frame : (g : Frame) → g ≡ get_or frames (level - 1) g → g ≡ f
+  same_frame g q = q ∙ get_or_default frames (level - 1) g f (omega (arith, h.1.len, h.1.room)) ∙ sym e
+
+  pub no_next : after_of (take depth frames) ≡ after_of (take level frames) → length f.children.now - f.at ≤ 1 → after_of (take depth frames) ≡ after_of (take (level - 1) frames)
+  no_next same n =
+      let on : level - 1 + 1 ≡ level = omega arith in
+      let w = frame_within in
+      let t = after_of_none frames (level - 1) f (omega (arith, h.1.len, h.1.room)) e (omega arith) in
+      same ∙ (rw on at t)
+
+  pub has_next : after_of (take depth frames) ≡ after_of (take level frames) → 1 < length f.children.now - f.at → HasNextAt frames depth (level - 1)
+  has_next same n =
+      let on : level - 1 + 1 ≡ level = omega arith in
+      record {
+        below = omega arith;
+        more = λ g q. let t = same_frame g q in rw t (omega arith);
+        same = rw on same;
+      }
+
+  pub no_prev : before_of (take depth frames) ≡ before_of (take level frames) → f.at ≤ 0 → before_of (take depth frames) ≡ before_of (take (level - 1) frames)
+  no_prev same n =
+      let on : level - 1 + 1 ≡ level = omega arith in
+      let t = before_of_none frames (level - 1) f (omega (arith, h.1.len, h.1.room)) e (omega arith) in
+      same ∙ (rw on at t)
+
+  pub has_prev : before_of (take depth frames) ≡ before_of (take level frames) → 0 < f.at → HasPrevAt frames depth (level - 1)
+  has_prev same n =
+      let on : level - 1 + 1 ≡ level = omega arith in
+      record {
+        below = omega arith;
+        more = λ g q. let t = same_frame g q in rw t (omega arith);
+        same = rw on same;
+      }
+
+-- the step to the next leaf: frame i stands at f, and rc is the child after its own
+module _ (frames : List Frame) (depth i : ℕ) (f : Frame) (rc : Rc Node Global) (child : Tree) (leaf : List ℕ) (h : AreFrames frames depth (around frames depth (leaf ∷ [])))
+    (n : HasNextAt frames depth i) (e : f ≡ get_or frames i f) (w : rc ≡ get_or f.children.now (f.at + 1) rc) (c : child ≡ rc.value) where
+  fit_here : IsFrame f (17 - i)
+  fit_here = rw e (h.fit i f n.below)
+
+  parts_here : around frames i (leaves_below f.children.now) ≡ around frames depth (leaf ∷ [])
+  parts_here = rw e (h.parts i f n.below)
+
+  pub next_goes : GoesDown frames i f.children (f.at + 1) child (around frames depth (leaf ∷ []))
+  next_goes =
+      let g = fit_here in
+      goes_down frames i f.children (f.at + 1) rc child (around frames depth (leaf ∷ [])) (AreFrames_front frames depth i (around frames depth (leaf ∷ [])) h (omega (arith, n.below)))
+      (omega (arith, n.below, h.room)) g.low g.few (n.more f e) w c parts_here
+
+  after_here : after_of (take depth frames) ≡ child.leaves ++ (leaves_below (drop (f.at + 1 + 1) f.children.now) ++ after_of (take i frames))
+  after_here =
+      let t : after_of (take (i + 1) frames) ≡ leaves_below (drop (f.at + 1) f.children.now) ++ after_of (take i frames) =
+      rw (take_more frames i f (omega (arith, n.below, h.room, h.len)), ← e) (after_of-append (take i frames) (f ∷ [])) in
+      let s = drop_more f.children.now (f.at + 1) rc (n.more f e) in
+      rw (n.same, t, s, ← w, c) (append_assoc rc.value.leaves (leaves_below (drop (f.at + 1 + 1) f.children.now)) (after_of (take i frames)))
+
+  pub next_is : (q : Place) → q.before ≡ before_of (take (i + 1) (set frames i record { children = f.children; at = f.at + 1 }))
+      → q.before ++ (q.here ∷ q.after) ≡ around (set frames i record { children = f.children; at = f.at + 1 }) (i + 1) child.leaves → IsNext (place_of frames depth leaf) q
+  next_is q b a =
+      let d = next_goes in
+      let back : List (List ℕ) = leaves_below (drop (f.at + 1 + 1) f.children.now) ++ after_of (take i frames) in
+      let here : q.here ∷ q.after ≡ child.leaves ++ back =
+      append_cancel_left q.before (q.here ∷ q.after) (child.leaves ++ back) (a ∙ ap (λ x. x ++ (child.leaves ++ after_of (take (i + 1) (set frames i record { children = f.children; at = f.at + 1 })))) (sym b) ∙ ap (λ x. q.before ++ (child.leaves ++ x)) d.after) in
+      let k : after_of (take depth frames) ≡ q.here ∷ q.after = after_here ∙ sym here in
+      let whole : q.before ++ (q.here ∷ q.after) ≡ before_of (take depth frames) ++ (leaf ∷ after_of (take depth frames)) = a ∙ d.whole_is in
+      record {
+        before = append_cancel_right q.before (before_of (take depth frames) ++ leaf ∷ []) (q.here ∷ q.after)
+            (whole ∙ ap (λ x. before_of (take depth frames) ++ leaf ∷ x) k ∙ sym (append_assoc (before_of (take depth frames)) (leaf ∷ []) (q.here ∷ q.after)));
+        after = k;
+      }
+
+-- the step to the leaf before: frame i stands at f, and rc is the child before its own
+module _ (frames : List Frame) (depth i : ℕ) (f : Frame) (rc : Rc Node Global) (child : Tree) (leaf : List ℕ) (h : AreFrames frames depth (around frames depth (leaf ∷ [])))
+    (n : HasPrevAt frames depth i) (e : f ≡ get_or frames i f) (w : rc ≡ get_or f.children.now (f.at - 1) rc) (c : child ≡ rc.value) where
+  fit_there : IsFrame f (17 - i)
+  fit_there = rw e (h.fit i f n.below)
+
+  parts_there : around frames i (leaves_below f.children.now) ≡ around frames depth (leaf ∷ [])
+  parts_there = rw e (h.parts i f n.below)
+
+  pub prev_within : f.at - 1 < length f.children.now
+  prev_within = omega (arith, fit_there.within)
+
+  pub prev_goes : GoesDown frames i f.children (f.at - 1) child (around frames depth (leaf ∷ []))
+  prev_goes =
+      let g = fit_there in
+      goes_down frames i f.children (f.at - 1) rc child (around frames depth (leaf ∷ [])) (AreFrames_front frames depth i (around frames depth (leaf ∷ [])) h (omega (arith, n.below)))
+      (omega (arith, n.below, h.room)) g.low g.few prev_within w c parts_there
+
+  before_here : before_of (take depth frames) ≡ (before_of (take i frames) ++ leaves_below (take (f.at - 1) f.children.now)) ++ child.leaves
+  before_here =
+      let t : before_of (take (i + 1) frames) ≡ before_of (take i frames) ++ leaves_below (take f.at f.children.now) =
+      rw (take_more frames i f (omega (arith, n.below, h.room, h.len)), ← e)
+      (before_of-append (take i frames) (f ∷ []) ∙ ap (λ x. before_of (take i frames) ++ x) (append-nil (leaves_below (take f.at f.children.now)))) in
+      let m = n.more f e in
+      let on : f.at - 1 + 1 ≡ f.at = omega arith in
+      let u = take_more f.children.now (f.at - 1) rc prev_within in
+      let s : take f.at f.children.now ≡ take (f.at - 1) f.children.now ++ rc ∷ [] = (rw on at u) ∙ ap (λ x. take (f.at - 1) f.children.now ++ x ∷ []) (sym w) in
+      let one : leaves_below (take f.at f.children.now) ≡ leaves_below (take (f.at - 1) f.children.now) ++ child.leaves =
+      ap leaves_below s ∙ flat_map-append (λ r. r.value.leaves) (take (f.at - 1) f.children.now) (rc ∷ []) ∙ ap (λ x. leaves_below (take (f.at - 1) f.children.now) ++ x) (append-nil rc.value.leaves ∙ ap (λ r. r.leaves) (sym c)) in
+      n.same ∙ t ∙ ap (λ x. before_of (take i frames) ++ x) one ∙ sym (append_assoc (before_of (take i frames)) (leaves_below (take (f.at - 1) f.children.now)) child.leaves)
+
+  pub prev_is : (q : Place) → q.after ≡ after_of (take (i + 1) (set frames i record { children = f.children; at = f.at - 1 }))
+      → q.before ++ (q.here ∷ q.after) ≡ around (set frames i record { children = f.children; at = f.at - 1 }) (i + 1) child.leaves → IsNext q (place_of frames depth leaf)
+  prev_is q b a =
+      let d = prev_goes in
+      let front : List (List ℕ) = before_of (take i frames) ++ leaves_below (take (f.at - 1) f.children.now) in
+      let there : (q.before ++ q.here ∷ []) ++ q.after ≡ (front ++ child.leaves) ++ q.after =
+      append_assoc q.before (q.here ∷ []) q.after ∙ a
+      ∙ ap (λ x. before_of (take (i + 1) (set frames i record { children = f.children; at = f.at - 1 })) ++ (child.leaves ++ x)) (sym b) ∙ ap (λ x. x ++ (child.leaves ++ q.after)) d.before ∙ sym (append_assoc front child.leaves q.after) in
+      let k : before_of (take depth frames) ≡ q.before ++ q.here ∷ [] = before_here ∙ sym (append_cancel_right (q.before ++ q.here ∷ []) (front ++ child.leaves) q.after there) in
+      let whole : (q.before ++ q.here ∷ []) ++ q.after ≡ before_of (take depth frames) ++ (leaf ∷ after_of (take depth frames)) = append_assoc q.before (q.here ∷ []) q.after ∙ a ∙ d.whole_is in
+      record {
+        before = k;
+        after = append_cancel_left (before_of (take depth frames)) q.after (leaf ∷ after_of (take depth frames)) (ap (λ x. x ++ q.after) k ∙ whole);
+      }
+
+trees-take : (k : ℕ) (rcs : List (Rc Node Global)) → trees (take k rcs) ≡ take k (trees rcs)
+trees-take zero rcs = refl
+trees-take (suc k) [] = refl
+trees-take (suc k) (rc ∷ rcs) = ap (λ ts. rc.value ∷ ts) (trees-take k rcs)
+
+-- the characters before a child
+pub chars_before : (rcs : List (Rc Node Global)) (k n : ℕ) (before more : List (List ℕ)) → more ≡ before ++ leaves_below (take k rcs) → n ≡ length (joined (take k (trees rcs)))
+    → length (concat more) ≡ length (concat before) + n
+chars_before rcs k n before more e f =
+    let below : leaves_below (take k rcs) ≡ leaves_of (take k (trees rcs)) = leaves_below_is (take k rcs) ∙ ap leaves_of (trees-take k rcs) in
+    omega (arith, ap (λ ls. length (concat ls)) (e ∙ ap (λ ls. before ++ ls) below), ap length (concat-append before (leaves_of (take k (trees rcs)))), length-append (concat before) (joined (take k (trees rcs))))
+
+-- a leaf by itself holds each character of the text
+pub held_alone : (before : List (List ℕ)) (t : Tree) (leaf : List ℕ) (at : ℕ) → t ≡ leaf_tree t.breaks leaf → at < length (text t) → HoldsChar (length (concat before) + at) before leaf
+held_alone before t leaf at is l =
+    record { starts = omega arith; ends = omega (arith, ap (λ u. length (text u)) is, ap length (leaf_text leaf)) }

@@ -1,0 +1,90 @@
+-- A way from the root of a tree to a leaf, seen as a place among the leaves.
+use Rattle.std.specs.Prelude.{◌≡◌, ℕ, ◌+◌, ◌-◌, ◌<◌, ◌≤◌, List, [], ◌∷◌, ◌++◌, length, take, drop, get_or, All}
+use Rattle.std.specs.List.{concat, flat_map}
+use Rattle.std.specs.declared.rc.Rc.{Rc}
+use Rattle.std.specs.declared.alloc.Global.{Global}
+use Rattle.rope_tree.specs.Tree.{Tree}
+use Rattle.rope_tree.specs.declared.node.Node.{Node}
+use Rattle.rope_cursor.specs.declared.path.Frame.{Frame}
+
+-- the leaves before a place, the one there, and those after it
+pub record Place : Type 0 where
+  pub before : List (List ℕ)
+  pub here : List ℕ
+  pub after : List (List ℕ)
+
+-- all of them
+abbrev pub leaves : Place → List (List ℕ)
+leaves p = p.before ++ (p.here ∷ p.after)
+
+-- the next place
+pub record IsNext (old new : Place) : Type 0 where
+  pub before : new.before ≡ old.before ++ old.here ∷ []
+  pub after : old.after ≡ new.here ∷ new.after
+
+-- the leaf here holds the character at a place of the text of all the leaves
+pub record HoldsChar (at : ℕ) (before : List (List ℕ)) (here : List ℕ) : Type 0 where
+  pub starts : length (concat before) ≤ at
+  pub ends : at < length (concat before) + length here
+
+-- the leaves below some nodes
+abbrev pub leaves_below : List (Rc Node Global) → List (List ℕ)
+leaves_below rcs = flat_map (λ rc. rc.value.leaves) rcs
+
+-- the leaves before and after a path, by its frames from the root down
+abbrev pub before_of : List Frame → List (List ℕ)
+before_of [] = []
+before_of (f ∷ fs) = leaves_below (take f.at f.children.now) ++ before_of fs
+
+abbrev pub after_of : List Frame → List (List ℕ)
+after_of [] = []
+after_of (f ∷ fs) = after_of fs ++ leaves_below (drop (f.at + 1) f.children.now)
+
+-- the place of a path
+abbrev pub place_of : List Frame → ℕ → List ℕ → Place
+place_of frames depth leaf = record { before = before_of (take depth frames); here = leaf; after = after_of (take depth frames) }
+
+-- a node with a text, and at most n levels below it
+pub record IsLow (t : Tree) (n : ℕ) : Type 0 where
+  pub levels : t.height ≤ n
+  pub some : 0 < length t.leaves
+
+-- a frame stands at one of its nodes, each of which has at most n levels below it
+pub record IsFrame (f : Frame) (n : ℕ) : Type 0 where
+  pub within : f.at < length f.children.now
+  pub few : length f.children.now ≤ 24
+  pub low : All (λ rc. IsLow rc.value n) f.children.now
+
+-- the first `level` of 18 frames: at each of them, what stands before, the leaves below its children, and what stands after
+-- are the whole
+pub record AreFrames (frames : List Frame) (level : ℕ) (whole : List (List ℕ)) : Type 0 where
+  pub room : level ≤ 18
+  pub len : length frames ≡ 18
+  pub fit : (i : ℕ) (d : Frame) → i < level → IsFrame (get_or frames i d) (17 - i)
+  pub parts : (i : ℕ) (d : Frame) → i < level →
+      before_of (take i frames) ++ (leaves_below (get_or frames i d).children.now ++ after_of (take i frames)) ≡ whole
+
+-- the same, whatever the whole is
+abbrev pub AreFramesOf : List Frame → ℕ → Type 0
+AreFramesOf frames level = (whole : List (List ℕ)) × AreFrames frames level whole
+
+-- leaves in the place of a frame that is not there yet
+abbrev pub around : List Frame → ℕ → List (List ℕ) → List (List ℕ)
+around frames level middle = before_of (take level frames) ++ (middle ++ after_of (take level frames))
+
+-- the frames lead to a leaf of the whole
+pub record LeadsTo (frames : List Frame) (depth : ℕ) (leaf : List ℕ) (whole : List (List ℕ)) : Type 0 where
+  pub frames_are : AreFrames frames depth whole
+  pub whole_is : around frames depth (leaf ∷ []) ≡ whole
+
+-- the deepest frame that has a child after its own
+pub record HasNextAt (frames : List Frame) (depth i : ℕ) : Type 0 where
+  pub below : i < depth
+  pub more : (f : Frame) → f ≡ get_or frames i f → f.at + 1 < length f.children.now
+  pub same : after_of (take depth frames) ≡ after_of (take (i + 1) frames)
+
+-- the deepest frame that has a child before its own
+pub record HasPrevAt (frames : List Frame) (depth i : ℕ) : Type 0 where
+  pub below : i < depth
+  pub more : (f : Frame) → f ≡ get_or frames i f → 0 < f.at
+  pub same : before_of (take depth frames) ≡ before_of (take (i + 1) frames)

@@ -1,0 +1,176 @@
+//! A cursor over the lines of a part.
+ghost use Rattle.std.specs.Prelude.{◌≡◌, ◌+◌, ◌≤◌, ◌<◌, ℕ, ⊤, false, length, Some, IfSome};
+ghost use Rattle.std.specs.Iterator.{YieldsFirstBy, MakesProgress, UpTo, item_count};
+ghost use Rattle.std.specs.Iterator.SizeHint.{IsWithinCount};
+ghost use Rattle.rope_text.specs.Lines.{line_count};
+ghost use Rattle.rope_text.specs.LineParts.{line_of, lines_of};
+ghost use Rattle.rope_text.specs.Sides.{ahead, all_items, place, turned, GoesRight, GoesLeft, StepsAhead, StepsBack};
+ghost use Rattle.rope_part.specs.Part.{content_of, text_of, breaks_of};
+
+use rope_part::Part;
+use std::alloc::AllocError;
+use std::iter::ExactSizeIterator;
+use std::marker::Model;
+
+/// A cursor over the lines of a part, each with its break. It takes no memory.
+///
+/// A part has one line more than it has line breaks: after a break at its end there is an empty line.
+#[derive(Drop)]
+pub struct Lines<'a> {
+    part: Part<'a>,
+    line: usize,
+    total: usize,
+    is_backward: bool,
+}
+
+impl<'a> Model for Lines<'a> {
+    ghost use Rattle.rope_text.specs.Content.{Content};
+    ghost use Rattle.rope_text.specs.Sides.{Sides};
+    ghost use Rattle.rope_part.specs.Part.{content_of};
+    ghost use Rattle.rope_cursor.specs.Lines.{at_line, IsLinePlace};
+
+    ghost Value = { Sides Content };
+
+    ghost view = { λ a. at_line (content_of a.part) a.line a.is_backward };
+
+    ghost invariant = { λ a. IsLinePlace (content_of a.part) a.line a.total };
+}
+
+/// A line of a part, its break among its characters.
+pub fn line<'a>(part: &Part<'a>, line_idx: usize) -> Part<'a>
+    requires { line_idx < line_count (breaks_of part.now) (text_of part.now) }
+    ensures { content_of result ≡ line_of (content_of part.now) line_idx }
+{
+    let _ = part.len_lines();
+    part.char_range(part.line_to_char(line_idx), part.line_to_char(line_idx + 1))
+}
+
+impl<'a> Lines<'a> {
+    /// A cursor before a line, facing forward; for the number of lines it stands past the last.
+    pub fn at(part: &Part<'a>, line_idx: usize) -> Lines<'a>
+        requires { line_idx ≤ line_count (breaks_of part.now) (text_of part.now) }
+        ensures items { all_items result ≡ lines_of (content_of part.now) }
+        ensures place { place result ≡ line_idx }
+        ensures forward { result.is_backward ≡ false }
+    {
+        Lines {
+            part: *part,
+            line: line_idx,
+            total: part.len_lines(),
+            is_backward: false,
+        }
+    }
+
+    fn right(&mut self) -> Option<Part<'a>>
+        ensures { GoesRight (λ x. content_of x) self.old result self.new }
+    {
+        if self.line == self.total {
+            return None;
+        }
+        let item = line(&self.part, self.line);
+        self.line += 1;
+        Some(item)
+    }
+
+    fn left(&mut self) -> Option<Part<'a>>
+        ensures { GoesLeft (λ x. content_of x) self.old result self.new }
+    {
+        if self.line == 0 {
+            return None;
+        }
+        self.line -= 1;
+        Some(line(&self.part, self.line))
+    }
+
+    /// The item behind, to which it steps back; or none at that end, where it stays.
+    pub fn prev(&mut self) -> Option<Part<'a>>
+        ensures { StepsBack (λ x. content_of x) self.old result self.new }
+    {
+        if self.is_backward {
+            self.right()
+        } else {
+            self.left()
+        }
+    }
+
+    /// Turns it round where it stands: `next` and `prev` change places.
+    pub fn reverse(&mut self)
+        ensures { self.new ≡ turned self.old }
+    {
+        self.is_backward = !self.is_backward;
+    }
+
+    /// The same cursor turned round.
+    pub fn reversed(self) -> Lines<'a>
+        ensures { result ≡ turned self.entry }
+    {
+        let mut turned = self;
+        turned.reverse();
+        turned
+    }
+
+    // How many lines `next` still gives.
+    fn count_ahead(&self) -> usize
+        ensures { result ≡ length (ahead self.now) }
+    {
+        if self.is_backward {
+            self.line
+        } else {
+            self.total - self.line
+        }
+    }
+}
+
+impl<'a> Iterator for Lines<'a> {
+    type Item = Part<'a>;
+
+    ghost next_gives = { YieldsFirstBy (λ x. content_of x) ahead };
+
+    ghost remaining = { item_count ahead };
+
+    /// The next line, or none at the end, where it stays.
+    fn next(&mut self) -> Option<Part<'a>>
+        ensures steps { YieldsFirstBy (λ x. content_of x) ahead self.old result self.new }
+        ensures goes { MakesProgress (λ _. ⊤) (item_count ahead) self.old result self.new }
+        ensures moves { StepsAhead (λ x. content_of x) self.old result self.new }
+    {
+        if self.is_backward {
+            self.left()
+        } else {
+            self.right()
+        }
+    }
+
+    /// How many lines are still to come, twice.
+    fn size_hint(&self) -> (usize, Option<usize>)
+        ensures lower { IsWithinCount result.0 (item_count ahead self.now) }
+        ensures upper { IfSome result.1 (UpTo (item_count ahead self.now)) }
+        ensures exact { result.0 ≡ length (ahead self.now) }
+        ensures exact_upper { result.1 ≡ Some (length (ahead self.now)) }
+    {
+        let count = self.count_ahead();
+        (count, Some(count))
+    }
+}
+
+impl<'a> ExactSizeIterator for Lines<'a> {
+    /// How many lines are still to come.
+    fn len(&self) -> usize {
+        self.count_ahead()
+    }
+}
+
+impl<'a> Clone for Lines<'a> {
+    ghost is_clone = { λ a b. b ≡ a };
+
+    ghost is_infallible = { λ _. ⊤ };
+
+    fn clone(&self) -> Result<Lines<'a>, AllocError> {
+        Ok(Lines {
+            part: self.part,
+            line: self.line,
+            total: self.total,
+            is_backward: self.is_backward,
+        })
+    }
+}

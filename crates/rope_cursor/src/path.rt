@@ -1,0 +1,263 @@
+//! A way from the root of a tree to one of its leaves, kept in place. No step takes memory.
+ghost use Rattle.std.specs.Prelude.{◌≡◌, ◌+◌, ◌-◌, ◌<◌, ◌≤◌, ◌∷◌, ◌++◌, length, take, [], IfSome, IfNone};
+ghost use Rattle.std.specs.Bool.{OnTrue, OnFalse};
+ghost use Rattle.std.specs.List.{concat};
+ghost use Rattle.std.specs.Str.{chars};
+ghost use Rattle.rope_tree.specs.Tree.{text};
+ghost use Rattle.rope_cursor.specs.Path.{before_of, after_of, around, place_of, AreFrames, AreFramesOf, LeadsTo, HasNextAt, HasPrevAt, IsLow, IsNext, HoldsChar, leaves};
+
+use rope_text::Steps;
+use rope_tree::lookup::total_before;
+use rope_tree::node::{Node, View};
+use rope_tree::search::{Unit, place_of};
+use std::marker::Model;
+use std::rc::Rc;
+
+/// The children of an inner node, and the one that the path goes to.
+#[derive(Clone, Copy)]
+pub struct Frame<'a> {
+    children: &'a [Rc<Node>],
+    at: usize,
+}
+
+/// A way to a leaf, seen as the leaves before it, the leaf, and the leaves after it.
+#[derive(Drop)]
+pub struct Path<'a> {
+    leaf: &'a str,
+    depth: usize,
+    frames: [Frame<'a>; 18],
+}
+
+impl<'a> Model for Path<'a> {
+    ghost use Rattle.std.specs.Prelude.{◌∷◌, []};
+    ghost use Rattle.std.specs.Str.{chars};
+    ghost use Rattle.rope_cursor.specs.Path.{Place, place_of, AreFrames, around};
+
+    ghost Value = { Place };
+
+    ghost view = { λ a. place_of a.frames a.depth (chars a.leaf.now) };
+
+    ghost invariant = { λ a. AreFrames a.frames a.depth (around a.frames a.depth (chars a.leaf.now ∷ [])) };
+}
+
+// Goes down from a node at a level to its first leaf. Answers how many frames lead there, and the leaf's text.
+fn enter_first<'a>(frames: &mut [Frame<'a>; 18], level: usize, node: &'a Node) -> (usize, &'a str)
+    requires frames { AreFrames frames.old level (around frames.old level node.now.leaves) }
+    requires low { IsLow node.now (18 - level) }
+    ensures leads { LeadsTo frames.new result.0 (chars result.1.now) (around frames.old level node.now.leaves) }
+    ensures before { before_of (take result.0 frames.new) ≡ before_of (take level frames.old) }
+{
+    match node.view() {
+        View::Leaf(leaf) => (level, leaf.as_str()),
+        View::Inner(children, _) => {
+            frames[level] = Frame { children, at: 0 };
+            enter_first(frames, level + 1, &children[0])
+        }
+    }
+}
+
+// Goes down from a node at a level to its last leaf.
+fn enter_last<'a>(frames: &mut [Frame<'a>; 18], level: usize, node: &'a Node) -> (usize, &'a str)
+    requires frames { AreFrames frames.old level (around frames.old level node.now.leaves) }
+    requires low { IsLow node.now (18 - level) }
+    ensures leads { LeadsTo frames.new result.0 (chars result.1.now) (around frames.old level node.now.leaves) }
+    ensures after { after_of (take result.0 frames.new) ≡ after_of (take level frames.old) }
+{
+    match node.view() {
+        View::Leaf(leaf) => (level, leaf.as_str()),
+        View::Inner(children, _) => {
+            let at = children.len() - 1;
+            frames[level] = Frame { children, at };
+            enter_last(frames, level + 1, &children[at])
+        }
+    }
+}
+
+// Goes down from a node at a level to the leaf that holds a character of its text.
+fn enter_at<'a>(
+    frames: &mut [Frame<'a>; 18],
+    level: usize,
+    node: &'a Node,
+    char_idx: usize,
+) -> (usize, &'a str)
+    requires frames { AreFrames frames.old level (around frames.old level node.now.leaves) }
+    requires low { IsLow node.now (18 - level) }
+    requires within { char_idx < length (text node.now) }
+    ensures leads { LeadsTo frames.new result.0 (chars result.1.now) (around frames.old level node.now.leaves) }
+    ensures holds { HoldsChar (length (concat (before_of (take level frames.old))) + char_idx) (before_of (take result.0 frames.new)) (chars result.1.now) }
+{
+    match node.view() {
+        View::Leaf(leaf) => (level, leaf.as_str()),
+        View::Inner(children, totals) => {
+            let at = place_of(totals, Unit::Char, char_idx, &mut Steps::new());
+            let front = total_before(totals, at);
+            frames[level] = Frame { children, at };
+            enter_at(frames, level + 1, &children[at], char_idx - front.chars)
+        }
+    }
+}
+
+// The deepest frame that has a child after its own.
+fn level_with_next(frames: &[Frame<'_>; 18], depth: usize) -> Option<usize>
+    requires { AreFramesOf frames.now depth }
+    ensures found { IfSome result (HasNextAt frames.now depth) }
+    ensures none { IfNone result (after_of (take depth frames.now) ≡ []) }
+{
+    let slots = &frames[..];
+    let mut level = depth;
+    while level > 0 {
+        level -= 1;
+        let frame = slots[level];
+        if frame.children.len() - frame.at > 1 {
+            return Some(level);
+        }
+    }
+    None
+}
+
+// The deepest frame that has a child before its own.
+fn level_with_prev(frames: &[Frame<'_>; 18], depth: usize) -> Option<usize>
+    requires { AreFramesOf frames.now depth }
+    ensures found { IfSome result (HasPrevAt frames.now depth) }
+    ensures none { IfNone result (before_of (take depth frames.now) ≡ []) }
+{
+    let slots = &frames[..];
+    let mut level = depth;
+    while level > 0 {
+        level -= 1;
+        let frame = slots[level];
+        if frame.at > 0 {
+            return Some(level);
+        }
+    }
+    None
+}
+
+// Goes on from a leaf to the next one, by the frame at a level.
+fn go_right<'a>(
+    frames: &mut [Frame<'a>; 18],
+    depth: usize,
+    leaf: &'a str,
+    level: usize,
+) -> (usize, &'a str)
+    requires frames { AreFrames frames.old depth (around frames.old depth (chars leaf.now ∷ [])) }
+    requires level { HasNextAt frames.old depth level }
+    ensures leads { LeadsTo frames.new result.0 (chars result.1.now) (around frames.old depth (chars leaf.now ∷ [])) }
+    ensures next { IsNext (place_of frames.old depth (chars leaf.now)) (place_of frames.new result.0 (chars result.1.now)) }
+{
+    let slots = &frames[..];
+    let frame = slots[level];
+    let children = frame.children;
+    let at = frame.at + 1;
+    frames[level] = Frame { children, at };
+    enter_first(frames, level + 1, &children[at])
+}
+
+// Goes back from a leaf to the one before, by the frame at a level.
+fn go_left<'a>(
+    frames: &mut [Frame<'a>; 18],
+    depth: usize,
+    leaf: &'a str,
+    level: usize,
+) -> (usize, &'a str)
+    requires frames { AreFrames frames.old depth (around frames.old depth (chars leaf.now ∷ [])) }
+    requires level { HasPrevAt frames.old depth level }
+    ensures leads { LeadsTo frames.new result.0 (chars result.1.now) (around frames.old depth (chars leaf.now ∷ [])) }
+    ensures next { IsNext (place_of frames.new result.0 (chars result.1.now)) (place_of frames.old depth (chars leaf.now)) }
+{
+    let slots = &frames[..];
+    let frame = slots[level];
+    let children = frame.children;
+    let at = frame.at - 1;
+    frames[level] = Frame { children, at };
+    enter_last(frames, level + 1, &children[at])
+}
+
+impl<'a> Path<'a> {
+    /// The way to the leaf that holds a character of a tree's text.
+    pub fn at(node: &'a Node, char_idx: usize) -> Path<'a>
+        requires { char_idx < length (text node.now) }
+        ensures leaves { leaves result ≡ node.now.leaves }
+        ensures holds { HoldsChar char_idx result.before result.here }
+    {
+        let _ = node.height();
+        let mut frames = [Frame {
+            children: &[],
+            at: 0,
+        }; 18];
+        let (depth, leaf) = enter_at(&mut frames, 0, node, char_idx);
+        Path {
+            leaf,
+            depth,
+            frames,
+        }
+    }
+
+    /// A text as the only leaf.
+    pub fn text(text: &'a str) -> Path<'a>
+        ensures before { result.before ≡ [] }
+        ensures here { result.here ≡ chars text.now }
+        ensures after { result.after ≡ [] }
+    {
+        Path {
+            leaf: text,
+            depth: 0,
+            frames: [Frame {
+                children: &[],
+                at: 0,
+            }; 18],
+        }
+    }
+
+    /// The same way.
+    pub fn copy(&self) -> Path<'a>
+        ensures { result ≡ self.now }
+    {
+        Path {
+            leaf: self.leaf,
+            depth: self.depth,
+            frames: self.frames,
+        }
+    }
+
+    /// The text of the leaf.
+    pub fn leaf(&self) -> &'a str
+        ensures { chars result.now ≡ self.now.here }
+    {
+        self.leaf
+    }
+
+    /// Goes to the next leaf. Answers whether there is one; else it stays.
+    pub fn advance(&mut self) -> bool
+        ensures moved { OnTrue result (IsNext self.old self.new) }
+        ensures stays { OnFalse result (self.new ≡ self.old) }
+        ensures ended { OnFalse result (self.old.after ≡ []) }
+    {
+        let depth = self.depth;
+        let leaf = self.leaf;
+        let Some(level) = level_with_next(&self.frames, depth) else {
+            return false;
+        };
+        let (depth, leaf) = go_right(&mut self.frames, depth, leaf, level);
+        self.depth = depth;
+        self.leaf = leaf;
+        true
+    }
+
+    /// Goes to the leaf before. Answers whether there is one; else it stays.
+    pub fn retreat(&mut self) -> bool
+        ensures moved { OnTrue result (IsNext self.new self.old) }
+        ensures stays { OnFalse result (self.new ≡ self.old) }
+        ensures ended { OnFalse result (self.old.before ≡ []) }
+    {
+        let depth = self.depth;
+        let leaf = self.leaf;
+        let Some(level) = level_with_prev(&self.frames, depth) else {
+            return false;
+        };
+        let (depth, leaf) = go_left(&mut self.frames, depth, leaf, level);
+        self.depth = depth;
+        self.leaf = leaf;
+        true
+    }
+}

@@ -1,0 +1,167 @@
+//! Lines of a slice, and a cursor over them.
+ghost use Rattle.std.specs.Prelude.{◌≡◌, ◌≤◌, ◌<◌, ⊤, false, length, Some, IfSome, MatchOption};
+ghost use Rattle.std.specs.Iterator.{YieldsFirstBy, MakesProgress, UpTo, item_count};
+ghost use Rattle.std.specs.Iterator.SizeHint.{IsWithinCount};
+ghost use Rattle.rope_text.specs.Lines.{line_count};
+ghost use Rattle.rope_text.specs.LineParts.{line_of, lines_of};
+ghost use Rattle.rope_text.specs.Sides.{ahead, all_items, at_start, place, turned, StepsAhead, StepsBack};
+ghost use Rattle.rope_slice.specs.Slice.{content_of, text_of, breaks_of};
+
+use crate::slice::RopeSlice;
+use rope_cursor::lines;
+use std::alloc::AllocError;
+use std::iter::ExactSizeIterator;
+use std::marker::Model;
+
+/// A cursor over the lines of a slice, each a slice with its break. It steps both ways and takes no memory.
+///
+/// There is one line more than there are line breaks: after a break at the end of the text comes an empty line.
+#[derive(Drop)]
+pub struct Lines<'a> {
+    parts: lines::Lines<'a>,
+}
+
+impl<'a> Model for Lines<'a> {
+    ghost use Rattle.rope_text.specs.Content.{Content};
+    ghost use Rattle.rope_text.specs.Sides.{Sides};
+
+    ghost Value = { Sides Content };
+
+    ghost view = { λ a. a.parts };
+}
+
+impl<'a> RopeSlice<'a> {
+    /// The line `line_idx`, counted from 0, with its break. The index is below `len_lines()`. No memory is taken.
+    pub fn line(&self, line_idx: usize) -> RopeSlice<'a>
+        requires { line_idx < line_count (breaks_of self.now) (text_of self.now) }
+        ensures { content_of result ≡ line_of (content_of self.now) line_idx }
+    {
+        RopeSlice {
+            part: lines::line(&self.part, line_idx),
+        }
+    }
+
+    /// The line `line_idx`, counted from 0, with its break, or none where the index is `len_lines()` or past it. No memory is
+    /// taken.
+    pub fn get_line(&self, line_idx: usize) -> Option<RopeSlice<'a>>
+        ensures { MatchOption result (line_count (breaks_of self.now) (text_of self.now) ≤ line_idx)
+            (λ slice. (line_idx < line_count (breaks_of self.now) (text_of self.now))
+            × (content_of slice ≡ line_of (content_of self.now) line_idx)) }
+    {
+        if line_idx < self.len_lines() {
+            Some(self.line(line_idx))
+        } else {
+            None
+        }
+    }
+
+    /// A cursor before the first line, facing forward. No memory is taken.
+    pub fn lines(&self) -> Lines<'a>
+        ensures { result ≡ at_start (lines_of (content_of self.now)) }
+    {
+        self.lines_at(0)
+    }
+
+    /// A cursor before the line `line_idx`, counted from 0, facing forward; for `len_lines()` it stands past the last line.
+    ///
+    /// The index is at most `len_lines()`. No memory is taken.
+    pub fn lines_at(&self, line_idx: usize) -> Lines<'a>
+        requires { line_idx ≤ line_count (breaks_of self.now) (text_of self.now) }
+        ensures items { all_items result ≡ lines_of (content_of self.now) }
+        ensures place { place result ≡ line_idx }
+        ensures forward { result.is_backward ≡ false }
+    {
+        Lines {
+            parts: lines::Lines::at(&self.part, line_idx),
+        }
+    }
+
+    /// What `lines_at` answers, or none where the index is past `len_lines()`. No memory is taken.
+    pub fn get_lines_at(&self, line_idx: usize) -> Option<Lines<'a>>
+        ensures { MatchOption result (line_count (breaks_of self.now) (text_of self.now) < line_idx)
+            (λ lines. (line_idx ≤ line_count (breaks_of self.now) (text_of self.now))
+            × (all_items lines ≡ lines_of (content_of self.now)) × (place lines ≡ line_idx) × (lines.is_backward ≡ false)) }
+    {
+        if line_idx > self.len_lines() {
+            return None;
+        }
+        Some(self.lines_at(line_idx))
+    }
+}
+
+impl<'a> Lines<'a> {
+    /// The item behind, to which it steps back; or none at that end, where it stays. No memory is taken.
+    pub fn prev(&mut self) -> Option<RopeSlice<'a>>
+        ensures { StepsBack (λ x. content_of x) self.old result self.new }
+    {
+        match self.parts.prev() {
+            Some(part) => Some(RopeSlice { part }),
+            None => None,
+        }
+    }
+
+    /// Turns it round where it stands: `next` and `prev` change places.
+    pub fn reverse(&mut self)
+        ensures { self.new ≡ turned self.old }
+    {
+        self.parts.reverse();
+    }
+
+    /// The same cursor turned round.
+    pub fn reversed(self) -> Lines<'a>
+        ensures { result ≡ turned self.entry }
+    {
+        let mut turned = self;
+        turned.reverse();
+        turned
+    }
+}
+
+impl<'a> Iterator for Lines<'a> {
+    type Item = RopeSlice<'a>;
+
+    ghost next_gives = { YieldsFirstBy (λ x. content_of x) ahead };
+
+    ghost remaining = { item_count ahead };
+
+    /// The next line, or none at the end, where it stays. No memory is taken.
+    fn next(&mut self) -> Option<RopeSlice<'a>>
+        ensures steps { YieldsFirstBy (λ x. content_of x) ahead self.old result self.new }
+        ensures goes { MakesProgress (λ _. ⊤) (item_count ahead) self.old result self.new }
+        ensures moves { StepsAhead (λ x. content_of x) self.old result self.new }
+    {
+        match self.parts.next() {
+            Some(part) => Some(RopeSlice { part }),
+            None => None,
+        }
+    }
+
+    /// How many lines are still to come, as both bounds.
+    fn size_hint(&self) -> (usize, Option<usize>)
+        ensures lower { IsWithinCount result.0 (item_count ahead self.now) }
+        ensures upper { IfSome result.1 (UpTo (item_count ahead self.now)) }
+        ensures exact { result.0 ≡ length (ahead self.now) }
+        ensures exact_upper { result.1 ≡ Some (length (ahead self.now)) }
+    {
+        self.parts.size_hint()
+    }
+}
+
+impl<'a> ExactSizeIterator for Lines<'a> {
+    /// How many lines are still to come.
+    fn len(&self) -> usize {
+        self.parts.len()
+    }
+}
+
+impl<'a> Clone for Lines<'a> {
+    ghost is_clone = { λ a b. b ≡ a };
+
+    ghost is_infallible = { λ _. ⊤ };
+
+    fn clone(&self) -> Result<Lines<'a>, AllocError> {
+        Ok(Lines {
+            parts: self.parts.clone()?,
+        })
+    }
+}

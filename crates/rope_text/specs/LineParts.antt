@@ -1,0 +1,18 @@
+-- The lines of a content, as parts of it.
+use Rattle.std.specs.Prelude.{ℕ, ◌+◌, List, map}
+use Rattle.std.specs.List.{range_with_len, slice_range}
+use Rattle.rope_text.specs.Lines.{line_start, line_count}
+use Rattle.rope_text.specs.Cutting.{clip}
+use Rattle.rope_text.specs.Content.{Content}
+
+-- the part from character a up to b: its text, and its chunks, clipped
+abbrev pub part_between : Content → ℕ → ℕ → Content
+part_between c a b = record { text = slice_range c.text a b; chunks = clip c.chunks a b; breaks = c.breaks }
+
+-- line l, its break among its characters
+abbrev pub line_of : Content → ℕ → Content
+line_of c l = part_between c (line_start c.breaks c.text l) (line_start c.breaks c.text (l + 1))
+
+-- all the lines, in order
+unfoldable pub lines_of : Content → List Content
+lines_of c = map (line_of c) (range_with_len 0 (line_count c.breaks c.text))
