@@ -2,4 +2,3 @@
 #![tactic(auto)]
 
 pub mod path;
-pub mod span;
