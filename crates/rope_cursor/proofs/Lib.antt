@@ -1,3 +1,2 @@
 pub mod Paths
-pub mod Spans
 pub mod LineSteps

@@ -1,3 +1,2 @@
 pub mod Path
-pub mod Span
 pub mod Lines
