@@ -4,7 +4,7 @@ ghost use Rattle.std.specs.Iterator.{YieldsFirstBy, MakesProgress, UpTo, item_co
 ghost use Rattle.std.specs.Iterator.SizeHint.{IsWithinCount};
 ghost use Rattle.rope_text.specs.Lines.{line_count};
 ghost use Rattle.rope_text.specs.LineParts.{line_of, lines_of};
-ghost use Rattle.rope_text.specs.Sides.{ahead, all_items, place, turned, GoesRight, GoesLeft, StepsAhead, StepsBack};
+ghost use Rattle.rope_text.specs.Sides.{ahead, at_place, turned, GoesRight, GoesLeft, StepsAhead, StepsBack};
 ghost use Rattle.rope_part.specs.Part.{content_of, text_of, breaks_of};
 
 use rope_part::Part;
@@ -49,9 +49,7 @@ impl<'a> Lines<'a> {
     /// A cursor before a line, facing forward; for the number of lines it stands past the last.
     pub fn at(part: &Part<'a>, line_idx: usize) -> Lines<'a>
         requires { line_idx ≤ line_count (breaks_of part.now) (text_of part.now) }
-        ensures items { all_items result ≡ lines_of (content_of part.now) }
-        ensures place { place result ≡ line_idx }
-        ensures forward { result.is_backward ≡ false }
+        ensures { result ≡ at_place (lines_of (content_of part.now)) line_idx }
     {
         Lines {
             part: *part,

@@ -32,6 +32,7 @@ pub mod Blocks
 pub mod Marks
 pub mod InfoLaws
 pub mod Fronts
+pub mod SidesPlaces
 pub mod CutOff
 pub mod LastBreakLaws
 mod Examples

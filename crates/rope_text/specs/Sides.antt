@@ -1,5 +1,5 @@
 -- A cursor, seen as what stands on its two sides: the form in which steps of code are stated.
-use Rattle.std.specs.Prelude.{◌≡◌, ℕ, Bool, false, not, List, [], ◌∷◌, ◌++◌, length, reverse, Option, MatchOption, if◌then◌else◌}
+use Rattle.std.specs.Prelude.{◌≡◌, ℕ, Bool, false, not, List, [], ◌∷◌, ◌++◌, length, take, drop, reverse, Option, MatchOption, if◌then◌else◌}
 use Rattle.std.specs.Bool.{MatchBool}
 
 pub record Sides (X : Type 0) : Type 0 where
@@ -10,6 +10,10 @@ pub record Sides (X : Type 0) : Type 0 where
 -- before all items, facing forward
 abbrev pub at_start : {X : Type 0} → List X → Sides X
 at_start items = record { left = []; right = items; is_backward = false }
+
+-- before the item at a place, or past the last one at the end, facing forward
+abbrev pub at_place : {X : Type 0} → List X → ℕ → Sides X
+at_place items p = record { left = take p items; right = drop p items; is_backward = false }
 
 -- the list, and the place in it
 abbrev pub all_items : {X : Type 0} → Sides X → List X
