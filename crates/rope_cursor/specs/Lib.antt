@@ -1,1 +1,2 @@
 pub mod Path
+pub mod Span

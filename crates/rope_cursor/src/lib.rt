@@ -2,3 +2,4 @@
 #![tactic(auto)]
 
 pub mod path;
+pub mod span;
