@@ -1,2 +1,3 @@
 pub mod Paths
+pub mod Spans
 pub mod LineSteps

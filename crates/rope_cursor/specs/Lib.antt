@@ -1,2 +1,3 @@
 pub mod Path
+pub mod Span
 pub mod Lines

@@ -16,7 +16,7 @@ use std::rc::Rc;
 
 /// The children of an inner node, and the one that the path goes to.
 #[derive(Clone, Copy)]
-pub struct Frame<'a> {
+struct Frame<'a> {
     children: &'a [Rc<Node>],
     at: usize,
 }
