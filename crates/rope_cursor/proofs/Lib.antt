@@ -1,2 +1,3 @@
+pub mod ChunkStarts
 pub mod Paths
 pub mod Spans

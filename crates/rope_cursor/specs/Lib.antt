@@ -1,2 +1,3 @@
+pub mod Chunks
 pub mod Path
 pub mod Span
