@@ -1,2 +1,5 @@
+pub mod ByteCursors
+pub mod CharCursors
 pub mod Paths
+pub mod Points
 pub mod Spans

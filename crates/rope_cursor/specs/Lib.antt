@@ -1,2 +1,5 @@
+pub mod Bytes
+pub mod Chars
 pub mod Path
+pub mod Point
 pub mod Span
