@@ -1,4 +1,7 @@
 pub mod ChunkStarts
+pub mod ByteCursors
+pub mod CharCursors
 pub mod Paths
+pub mod Points
 pub mod Spans
 pub mod LineSteps
