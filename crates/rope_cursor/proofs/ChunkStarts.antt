@@ -12,12 +12,12 @@ use Rattle.rope_text.specs.Breaks.{break_count}
 use Rattle.rope_text.specs.Cutting.{IsCutting}
 use Rattle.rope_text.specs.Sides.{Sides, all_items, at_start, place}
 use Rattle.rope_text.specs.Lines.{line_start}
-use Rattle.rope_text.specs.Lookup.{found_chunk, front_chunks, chunk_index_at_byte, chunk_index_at_char, chunk_index_at_line_break}
+use Rattle.rope_text.specs.Lookup.{LieBefore, found_chunk, front_chunks, chunk_index_at_byte, chunk_index_at_char, chunk_index_at_line_break}
 use Rattle.rope_text.proofs.Greatest.{greatest-le}
 use Rattle.rope_text.proofs.ConversionLaws.{char_to_line_end}
 use Rattle.rope_part.specs.Found.{IsFoundChunk}
 use Rattle.rope_part.proofs.Lookups.{holds_char, line_break_index}
-use Rattle.rope_cursor.specs.Chunks.{at_chunk, LieBefore}
+use Rattle.rope_cursor.specs.Chunks.{at_chunk}
 use Rattle.rope_text.proofs.CuttingLaws.{concat-append}
 use Rattle.rope_text.proofs.ChunkLaws.{before, before_more}
 use Rattle.rope_text.proofs.LookupLaws.{chunk_index_at_char_is}

@@ -4,7 +4,7 @@ ghost use Rattle.std.specs.Str.{encode_utf8_all};
 ghost use Rattle.std.specs.Iterator.{YieldsFirstBy, MakesProgress, item_count, UpTo};
 ghost use Rattle.std.specs.Iterator.SizeHint.{IsWithinCount};
 ghost use Rattle.rope_text.specs.Text.{byte_len};
-ghost use Rattle.rope_text.specs.Sides.{Sides, ahead, all_items, place, turned, GoesRight, GoesLeft, StepsAhead, StepsBack};
+ghost use Rattle.rope_text.specs.Sides.{ahead, at_place, turned, GoesRight, GoesLeft, StepsAhead, StepsBack};
 ghost use Rattle.rope_part.specs.Part.{text_of};
 
 use crate::point::{next_chunk, prev_chunk};
@@ -41,9 +41,7 @@ impl<'a> Bytes<'a> {
     /// A cursor before the byte at a place, or past the last byte at the end, facing forward.
     pub fn at(part: &Part<'a>, byte_idx: usize) -> Bytes<'a>
         requires { byte_idx ≤ byte_len (text_of part.now) }
-        ensures items { all_items result ≡ encode_utf8_all (text_of part.now) }
-        ensures place { place result ≡ byte_idx }
-        ensures forward { result.is_backward ≡ false }
+        ensures { result ≡ at_place (encode_utf8_all (text_of part.now)) byte_idx }
     {
         let total = part.info().bytes;
         let (span, _) = Span::at(part, part.byte_to_char(byte_idx));

@@ -2,7 +2,7 @@
 ghost use Rattle.std.specs.Prelude.{◌≡◌, ℕ, ◌≤◌, length, false, ⊤, IfSome, Some};
 ghost use Rattle.std.specs.Iterator.{YieldsFirstBy, MakesProgress, item_count, UpTo};
 ghost use Rattle.std.specs.Iterator.SizeHint.{IsWithinCount};
-ghost use Rattle.rope_text.specs.Sides.{Sides, ahead, all_items, place, turned, GoesRight, GoesLeft, StepsAhead, StepsBack};
+ghost use Rattle.rope_text.specs.Sides.{ahead, at_place, turned, GoesRight, GoesLeft, StepsAhead, StepsBack};
 ghost use Rattle.rope_part.specs.Part.{text_of};
 
 use crate::point::{char_after, char_before, next_chunk, prev_chunk};
@@ -40,9 +40,7 @@ impl<'a> Chars<'a> {
     /// A cursor before the character at a place, or past the last one at the end, facing forward.
     pub fn at(part: &Part<'a>, char_idx: usize) -> Chars<'a>
         requires { char_idx ≤ length (text_of part.now) }
-        ensures items { all_items result ≡ text_of part.now }
-        ensures place { place result ≡ char_idx }
-        ensures forward { result.is_backward ≡ false }
+        ensures { result ≡ at_place (text_of part.now) char_idx }
     {
         let total = part.info().chars;
         let (span, within) = Span::at(part, char_idx);

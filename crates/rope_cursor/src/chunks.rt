@@ -1,13 +1,12 @@
 //! A cursor over the chunks of a part.
-ghost use Rattle.std.specs.Prelude.{◌≡◌, ◌≤◌, ◌-◌, ℕ, List, ⊤, false, length};
+ghost use Rattle.std.specs.Prelude.{◌≡◌, ◌≤◌, ◌-◌, ℕ, ⊤, false, length};
 ghost use Rattle.std.specs.Str.{chars};
 ghost use Rattle.std.specs.Iterator.{YieldsFirstBy, MakesProgress, item_count};
 ghost use Rattle.rope_text.specs.Text.{byte_len};
 ghost use Rattle.rope_text.specs.Lines.{line_count};
-ghost use Rattle.rope_text.specs.Lookup.{found_chunk, front_chunks, chunk_place_at_byte, chunk_place_at_char, chunk_place_at_line_break};
-ghost use Rattle.rope_text.specs.Sides.{Sides, ahead, all_items, at_start, place, turned, GoesRight, GoesLeft, StepsAhead, StepsBack};
+ghost use Rattle.rope_text.specs.Lookup.{found_chunk, front_chunks, LieBefore, StandsAt, chunk_place_at_byte, chunk_place_at_char, chunk_place_at_line_break};
+ghost use Rattle.rope_text.specs.Sides.{ahead, all_items, at_start, place, turned, GoesRight, GoesLeft, StepsAhead, StepsBack};
 ghost use Rattle.rope_part.specs.Part.{text_of, chunks_of, breaks_of};
-ghost use Rattle.rope_cursor.specs.Chunks.{LieBefore};
 
 use crate::span::Span;
 use rope_part::Part;
@@ -83,11 +82,8 @@ impl<'a> Chunks<'a> {
     /// bytes, the characters and the line breaks of the text before its place.
     pub fn at_byte(part: &Part<'a>, byte_idx: usize) -> (Chunks<'a>, usize, usize, usize)
         requires { byte_idx ≤ byte_len (text_of part.now) }
-        ensures items { all_items result.0 ≡ chunks_of part.now }
-        ensures place { place result.0 ≡ chunk_place_at_byte (chunks_of part.now) byte_idx }
-        ensures forward { result.0.is_backward ≡ false }
-        ensures before { LieBefore (found_chunk (breaks_of part.now) (chunks_of part.now)
-            (chunk_place_at_byte (chunks_of part.now) byte_idx)) result.1 result.2 result.3 }
+        ensures { StandsAt (breaks_of part.now) (chunks_of part.now) (chunk_place_at_byte (chunks_of part.now) byte_idx)
+            result.0 result.1 result.2 result.3 }
     {
         let _ = part.info();
         if byte_idx == part.len_bytes() {
@@ -102,11 +98,8 @@ impl<'a> Chunks<'a> {
     /// the bytes, the characters and the line breaks of the text before its place.
     pub fn at_char(part: &Part<'a>, char_idx: usize) -> (Chunks<'a>, usize, usize, usize)
         requires { char_idx ≤ length (text_of part.now) }
-        ensures items { all_items result.0 ≡ chunks_of part.now }
-        ensures place { place result.0 ≡ chunk_place_at_char (chunks_of part.now) char_idx }
-        ensures forward { result.0.is_backward ≡ false }
-        ensures before { LieBefore (found_chunk (breaks_of part.now) (chunks_of part.now)
-            (chunk_place_at_char (chunks_of part.now) char_idx)) result.1 result.2 result.3 }
+        ensures { StandsAt (breaks_of part.now) (chunks_of part.now) (chunk_place_at_char (chunks_of part.now) char_idx)
+            result.0 result.1 result.2 result.3 }
     {
         let _ = part.info();
         if char_idx == part.len_chars() {
@@ -124,11 +117,8 @@ impl<'a> Chunks<'a> {
         line_break_idx: usize,
     ) -> (Chunks<'a>, usize, usize, usize)
         requires { line_break_idx ≤ line_count (breaks_of part.now) (text_of part.now) }
-        ensures items { all_items result.0 ≡ chunks_of part.now }
-        ensures place { place result.0 ≡ chunk_place_at_line_break (breaks_of part.now) (chunks_of part.now) line_break_idx }
-        ensures forward { result.0.is_backward ≡ false }
-        ensures before { LieBefore (found_chunk (breaks_of part.now) (chunks_of part.now)
-            (chunk_place_at_line_break (breaks_of part.now) (chunks_of part.now) line_break_idx)) result.1 result.2 result.3 }
+        ensures { StandsAt (breaks_of part.now) (chunks_of part.now) (chunk_place_at_line_break (breaks_of part.now) (chunks_of part.now) line_break_idx)
+            result.0 result.1 result.2 result.3 }
     {
         let _ = part.info();
         if line_break_idx == part.len_lines() {

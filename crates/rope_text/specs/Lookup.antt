@@ -56,10 +56,13 @@ chunk_place_at_char chunks i = if i == length (concat chunks) then length chunks
 abbrev pub chunk_place_at_line_break : LineBreaks → List (List ℕ) → ℕ → ℕ
 chunk_place_at_line_break set chunks k = if k == line_count set (concat chunks) then length chunks else chunk_index_at_line_break set chunks k
 
--- a cursor over the chunks that stands before the k-th, or past the last, and the bytes, characters and breaks of the whole
--- text before it
+-- the bytes, the characters and the breaks of the whole text before a chunk
+pub record LieBefore (found : FoundChunk) (bytes chars breaks : ℕ) : Type 0 where
+  pub bytes_are : bytes ≡ found.bytes
+  pub chars_are : chars ≡ found.chars
+  pub breaks_are : breaks ≡ found.breaks
+
+-- a cursor over the chunks that stands before the k-th, or past the last, with what lies before it
 pub record StandsAt (set : LineBreaks) (chunks : List (List ℕ)) (k : ℕ) (cursor : Sides (List ℕ)) (bytes chars breaks : ℕ) : Type 0 where
   pub cursor_is : cursor ≡ at_place chunks k
-  pub bytes_are : bytes ≡ (found_chunk set chunks k).bytes
-  pub chars_are : chars ≡ (found_chunk set chunks k).chars
-  pub breaks_are : breaks ≡ (found_chunk set chunks k).breaks
+  pub before : LieBefore (found_chunk set chunks k) bytes chars breaks

@@ -1,5 +1,6 @@
-use Rattle.std.proofs.Common.{◌<◌, List, ℕ, All, ap, subst, sym, length}
+use Rattle.std.proofs.Common.{◌<◌, List, ℕ, All, ap, subst, sym, length, refl}
 use Rattle.rope_part.specs.Part.{text_of}
+use Rattle.rope_text.proofs.SidesPlaces.{sides_at}
 use Rattle.rope_cursor.specs.Point.{IsChunkAt}
 use Rattle.rope_cursor.proofs.CharCursors as step
 use Rattle.rope_cursor.proofs.chars.Chars.at.Goals as goal
@@ -13,16 +14,11 @@ invariant_of-result c =
     step.cursor_at t p e.text c.chunk-chunk.result.now chunk c.char_to_byte_idx.result c.at-span.result.1 c.char_to_byte_idx.ensures.value c.args.char_idx c.info-total.result.chars e.place e.within (ap (λ i. i.chars) c.info-total.ensures.value)
     (λ (some : 0 < length t). subst (λ (xs : List (List ℕ)). All (λ leaf. 0 < length leaf) xs) (sym (e.chunks some)) c.info-total.ensures.kept.cut.nonempty)
 
-pub returns-clause-items : goal.returns-clause-items
-returns-clause-items c =
+pub returns : goal.returns
+returns c =
     let e = c.at-span.ensures in
     let p = c.at-span.result.0 in
     let chunk : IsChunkAt p c.chunk-chunk.result.now = record { utf8 = c.chunk-chunk.utf8; here = c.chunk-chunk.ensures } in
-    step.items_at (text_of c.args.part.now) p e.text c.chunk-chunk.result.now chunk c.char_to_byte_idx.result c.at-span.result.1 c.char_to_byte_idx.ensures.value
-
-pub returns-clause-place : goal.returns-clause-place
-returns-clause-place c =
-    let e = c.at-span.ensures in
-    let p = c.at-span.result.0 in
-    let chunk : IsChunkAt p c.chunk-chunk.result.now = record { utf8 = c.chunk-chunk.utf8; here = c.chunk-chunk.ensures } in
-    step.place_at (text_of c.args.part.now) p e.text c.chunk-chunk.result.now chunk c.char_to_byte_idx.result c.at-span.result.1 c.char_to_byte_idx.ensures.value c.args.char_idx e.place e.within
+    let items = step.items_at (text_of c.args.part.now) p e.text c.chunk-chunk.result.now chunk c.char_to_byte_idx.result c.at-span.result.1 c.char_to_byte_idx.ensures.value in
+    let place = step.place_at (text_of c.args.part.now) p e.text c.chunk-chunk.result.now chunk c.char_to_byte_idx.result c.at-span.result.1 c.char_to_byte_idx.ensures.value c.args.char_idx e.place e.within in
+    sides_at _ (text_of c.args.part.now) c.args.char_idx items place refl
