@@ -1,10 +1,10 @@
 //! A cursor over the bytes of a part.
 ghost use Rattle.std.specs.Prelude.{◌≡◌, ℕ, ◌≤◌, length, false, ⊤, IfSome, Some};
 ghost use Rattle.std.specs.Str.{encode_utf8_all};
-ghost use Rattle.std.specs.Iterator.{YieldsFirstBy, MakesProgress, item_count, UpTo};
+ghost use Rattle.std.specs.Iterator.{YieldsFirstBy, item_count, UpTo};
 ghost use Rattle.std.specs.Iterator.SizeHint.{IsWithinCount};
 ghost use Rattle.rope_text.specs.Text.{byte_len};
-ghost use Rattle.rope_text.specs.Sides.{ahead, at_place, turned, GoesRight, GoesLeft, StepsAhead, StepsBack};
+ghost use Rattle.rope_text.specs.Sides.{ahead, at_place, turned, GoesRight, GoesLeft, GoesAhead, StepsBack};
 ghost use Rattle.rope_part.specs.Part.{text_of};
 
 use crate::point::{next_chunk, prev_chunk};
@@ -155,8 +155,7 @@ impl<'a> Iterator for Bytes<'a> {
     /// The next byte, or none at the end, where it stays.
     fn next(&mut self) -> Option<u8>
         ensures steps { YieldsFirstBy (λ x. x) ahead self.old result self.new }
-        ensures goes { MakesProgress (λ _. ⊤) (item_count ahead) self.old result self.new }
-        ensures moves { StepsAhead (λ x. x) self.old result self.new }
+        ensures goes { GoesAhead (λ x. x) self.old result self.new }
     {
         if self.is_backward {
             self.left()

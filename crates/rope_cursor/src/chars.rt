@@ -1,8 +1,8 @@
 //! A cursor over the characters of a part.
 ghost use Rattle.std.specs.Prelude.{◌≡◌, ℕ, ◌≤◌, length, false, ⊤, IfSome, Some};
-ghost use Rattle.std.specs.Iterator.{YieldsFirstBy, MakesProgress, item_count, UpTo};
+ghost use Rattle.std.specs.Iterator.{YieldsFirstBy, item_count, UpTo};
 ghost use Rattle.std.specs.Iterator.SizeHint.{IsWithinCount};
-ghost use Rattle.rope_text.specs.Sides.{ahead, at_place, turned, GoesRight, GoesLeft, StepsAhead, StepsBack};
+ghost use Rattle.rope_text.specs.Sides.{ahead, at_place, turned, GoesRight, GoesLeft, GoesAhead, StepsBack};
 ghost use Rattle.rope_part.specs.Part.{text_of};
 
 use crate::point::{char_after, char_before, next_chunk, prev_chunk};
@@ -155,8 +155,7 @@ impl<'a> Iterator for Chars<'a> {
     /// The next character, or none at the end, where it stays.
     fn next(&mut self) -> Option<char>
         ensures steps { YieldsFirstBy (λ x. x) ahead self.old result self.new }
-        ensures goes { MakesProgress (λ _. ⊤) (item_count ahead) self.old result self.new }
-        ensures moves { StepsAhead (λ x. x) self.old result self.new }
+        ensures goes { GoesAhead (λ x. x) self.old result self.new }
     {
         if self.is_backward {
             self.left()

@@ -1,11 +1,11 @@
 //! A cursor over the chunks of a part.
 ghost use Rattle.std.specs.Prelude.{◌≡◌, ◌≤◌, ◌-◌, ℕ, ⊤, false, length};
 ghost use Rattle.std.specs.Str.{chars};
-ghost use Rattle.std.specs.Iterator.{YieldsFirstBy, MakesProgress, item_count};
+ghost use Rattle.std.specs.Iterator.{YieldsFirstBy, item_count};
 ghost use Rattle.rope_text.specs.Text.{byte_len};
 ghost use Rattle.rope_text.specs.Lines.{line_count};
 ghost use Rattle.rope_text.specs.Lookup.{found_chunk, front_chunks, LieBefore, StandsAt, chunk_place_at_byte, chunk_place_at_char, chunk_place_at_line_break};
-ghost use Rattle.rope_text.specs.Sides.{ahead, all_items, at_start, place, turned, GoesRight, GoesLeft, StepsAhead, StepsBack};
+ghost use Rattle.rope_text.specs.Sides.{ahead, all_items, at_start, place, turned, GoesRight, GoesLeft, GoesAhead, StepsBack};
 ghost use Rattle.rope_part.specs.Part.{text_of, chunks_of, breaks_of};
 
 use crate::span::Span;
@@ -201,8 +201,7 @@ impl<'a> Iterator for Chunks<'a> {
     /// The next chunk, or none at the end, where it stays.
     fn next(&mut self) -> Option<&'a str>
         ensures steps { YieldsFirstBy (λ x. chars x.now) ahead self.old result self.new }
-        ensures goes { MakesProgress (λ _. ⊤) (item_count ahead) self.old result self.new }
-        ensures moves { StepsAhead (λ x. chars x.now) self.old result self.new }
+        ensures goes { GoesAhead (λ x. chars x.now) self.old result self.new }
     {
         if self.is_backward {
             self.left()

@@ -1,10 +1,10 @@
 //! Lines of a slice, and a cursor over them.
 ghost use Rattle.std.specs.Prelude.{◌≡◌, ◌≤◌, ◌<◌, ⊤, length, Some, IfSome, MatchOption};
-ghost use Rattle.std.specs.Iterator.{YieldsFirstBy, MakesProgress, UpTo, item_count};
+ghost use Rattle.std.specs.Iterator.{YieldsFirstBy, UpTo, item_count};
 ghost use Rattle.std.specs.Iterator.SizeHint.{IsWithinCount};
 ghost use Rattle.rope_text.specs.Lines.{line_count};
 ghost use Rattle.rope_text.specs.LineParts.{line_of, lines_of};
-ghost use Rattle.rope_text.specs.Sides.{ahead, at_start, at_place, turned, StepsAhead, StepsBack};
+ghost use Rattle.rope_text.specs.Sides.{ahead, at_start, at_place, turned, GoesAhead, StepsBack};
 ghost use Rattle.rope_slice.specs.Slice.{content_of, text_of, breaks_of};
 
 use crate::slice::RopeSlice;
@@ -125,8 +125,7 @@ impl<'a> Iterator for Lines<'a> {
     /// The next line, or none at the end, where it stays. No memory is taken.
     fn next(&mut self) -> Option<RopeSlice<'a>>
         ensures steps { YieldsFirstBy (λ x. content_of x) ahead self.old result self.new }
-        ensures goes { MakesProgress (λ _. ⊤) (item_count ahead) self.old result self.new }
-        ensures moves { StepsAhead (λ x. content_of x) self.old result self.new }
+        ensures goes { GoesAhead (λ x. content_of x) self.old result self.new }
     {
         match self.parts.next() {
             Some(part) => Some(RopeSlice { part }),

@@ -1,6 +1,7 @@
 -- A cursor, seen as what stands on its two sides: the form in which steps of code are stated.
-use Rattle.std.specs.Prelude.{◌≡◌, ℕ, Bool, false, not, List, [], ◌∷◌, ◌++◌, length, take, drop, reverse, Option, MatchOption, if◌then◌else◌}
+use Rattle.std.specs.Prelude.{◌≡◌, ◌<◌, ℕ, ⊤, OnSome, IfSome, IfNone, Bool, false, not, List, [], ◌∷◌, ◌++◌, length, take, drop, reverse, Option, MatchOption, if◌then◌else◌}
 use Rattle.std.specs.Bool.{MatchBool}
+use Rattle.std.specs.Iterator.{IsFinite, size, item_count}
 
 pub record Sides (X : Type 0) : Type 0 where
   pub left : List X
@@ -47,3 +48,11 @@ module _ {A X : Type 0} (view : A → X) where
 
   abbrev pub StepsBack : Sides X → Option A → Sides X → Type 0
   StepsBack s r t = MatchBool s.is_backward (GoesRight s r t) (GoesLeft s r t)
+
+  -- what a call of `next` did: it stepped ahead, and where it gave an item, less is left. The first three fields are those of
+  -- `MakesProgress`, and are told like that so that a `for` over the cursor is proved to end wherever it stands
+  pub record GoesAhead (s : Sides X) (r : Option A) (t : Sides X) : Type 0 where
+    pub on : IsFinite (item_count ahead s) → OnSome r (⊤ × IsFinite (item_count ahead t) × (size (item_count ahead t) < size (item_count ahead s)))
+    pub keeps : IfSome r (λ _. ⊤)
+    pub rests : IsFinite (item_count ahead s) → IfNone r (IsFinite (item_count ahead t))
+    pub moves : StepsAhead s r t

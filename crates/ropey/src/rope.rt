@@ -206,17 +206,19 @@ impl Rope {
         ensures refused { IfErr result (λ e. e ≡ OutOfMemory) }
     {
         let mut builder = Builder::new(self.alloc, self.line_breaks());
-        for chunk in self.chunks() {
+        let mut chunks = self.chunks();
+        while let Some(chunk) = chunks.next() {
             append_chunk(&mut builder, chunk)?;
         }
         Ok(builder)
     }
 
-    /// The chunks of the text, in order.
+    /// A cursor over the chunks, before the first, facing forward. No memory is taken.
     pub fn chunks(&self) -> Chunks<'_>
         ensures cut { result ≡ at_start self.now.chunks }
         ensures few { length self.now.chunks < 2 ^ 63 }
     {
-        Chunks::new(&self.root)
+        let _ = self.root.height();
+        self.whole().chunks()
     }
 }
