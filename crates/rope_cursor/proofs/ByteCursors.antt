@@ -10,7 +10,7 @@ use Rattle.rope_text.specs.Conversions.{byte_to_char}
 use Rattle.rope_text.proofs.Measures.{IsMeasure-byte_len, front_tells, front_past}
 use Rattle.rope_text.proofs.CuttingLaws.{concat-append}
 use Rattle.rope_cursor.specs.Path.{Place, IsNext, leaves}
-use Rattle.rope_cursor.specs.Point.{IsChunkAt, AreSolid}
+use Rattle.rope_cursor.specs.Point.{IsChunkAt}
 use Rattle.rope_cursor.specs.Bytes.{IsByteCursor}
 use Rattle.rope_cursor.proofs.Points.{leaves_next, here_solid, AreSolid_same, chunk_bytes, chunk_some}
 

@@ -1,4 +1,3 @@
-use Rattle.std.proofs.Common.{arith}
 use Rattle.rope_cursor.proofs.Points.{ascii_after}
 use Rattle.rope_cursor.proofs.point.char_after.Goals as goal
 

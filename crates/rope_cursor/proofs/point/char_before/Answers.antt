@@ -1,4 +1,3 @@
-use Rattle.std.proofs.Common.{arith}
 use Rattle.rope_cursor.proofs.Points.{ascii_before}
 use Rattle.rope_cursor.proofs.point.char_before.Goals as goal
 

@@ -1,6 +1,4 @@
-use Rattle.std.proofs.Common.{◌≡◌, ◌<◌, ◌≤◌, ◌+◌, List, ℕ, All, arith, ap, subst, sym, length, refl}
-use Rattle.std.specs.List.{concat}
-use Rattle.rope_text.specs.Text.{byte_len}
+use Rattle.std.proofs.Common.{◌<◌, List, ℕ, All, ap, subst, sym, length}
 use Rattle.rope_text.proofs.ConversionLaws.{byte_to_char-le-length}
 use Rattle.rope_part.specs.Part.{text_of}
 use Rattle.rope_cursor.specs.Point.{IsChunkAt}

@@ -1,4 +1,4 @@
-use Rattle.std.proofs.Common.{◌≡◌, refl, arith, length}
+use Rattle.std.proofs.Common.{◌≡◌, refl, arith}
 use Rattle.rope_cursor.proofs.ByteCursors.{cursor_prev, prev_some, before_some, passes_last}
 use Rattle.rope_cursor.proofs.bytes.Bytes.left.Goals as goal
 

@@ -1,4 +1,4 @@
-use Rattle.std.proofs.Common.{[], ◌≡◌, refl, ap, sym, ◌∙◌, ◌++◌, take, arith}
+use Rattle.std.proofs.Common.{[], ◌≡◌, refl, ap, ◌∙◌, ◌++◌, take, arith}
 use Rattle.std.specs.List.{concat}
 use Rattle.std.specs.Str.{chars}
 use Rattle.rope_cursor.specs.Chars.{at_char}
