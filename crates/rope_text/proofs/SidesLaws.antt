@@ -6,11 +6,7 @@ use Rattle.std.proofs.lemmas.Bool.{lt-ltb, le-ltb}
 use Rattle.std.proofs.lemmas.List.{same_from_push}
 use Rattle.std.proofs.lemmas.Option.{slice_get_past}
 use Rattle.rope_text.specs.Cursor.{Cursor, item_after, item_before, place_after, place_before, next_item, after_next, prev_item, after_prev, reversed}
-use Rattle.rope_text.specs.Sides.{Sides, all_items, place, turned, GoesRight, GoesLeft, StepsAhead, StepsBack}
-
--- the cursor that two sides show
-abbrev pub cursor_of : {X : Type 0} → Sides X → Cursor X
-cursor_of s = record { items = all_items s; place = place s; forward = not s.is_backward }
+use Rattle.rope_text.specs.Sides.{Sides, all_items, place, turned, cursor_of, GoesRight, GoesLeft, StepsAhead, StepsBack}
 
 cursor_ext : {X : Type 0} (c d : Cursor X) → c.items ≡ d.items → c.place ≡ d.place → c.forward ≡ d.forward → c ≡ d
 cursor_ext {X} c d a b e =
