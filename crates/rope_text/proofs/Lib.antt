@@ -8,6 +8,7 @@ pub mod JoinLaws
 pub mod EditLaws
 pub mod ClipLaws
 pub mod CursorLaws
+pub mod SidesLaws
 pub mod PositionLaws
 pub mod LineLaws
 pub mod CuttingLaws

@@ -2,6 +2,7 @@
 use Rattle.std.specs.Prelude.{◌≡◌, ◌<◌, ℕ, ⊤, OnSome, IfSome, IfNone, Bool, false, not, List, [], ◌∷◌, ◌++◌, length, take, drop, reverse, Option, MatchOption, if◌then◌else◌}
 use Rattle.std.specs.Bool.{MatchBool}
 use Rattle.std.specs.Iterator.{IsFinite, size, item_count}
+use Rattle.rope_text.specs.Cursor.{Cursor}
 
 pub record Sides (X : Type 0) : Type 0 where
   pub left : List X
@@ -33,6 +34,10 @@ behind c = if c.is_backward then c.right else reverse c.left
 -- the same cursor, turned at its place
 abbrev pub turned : {X : Type 0} → Sides X → Sides X
 turned c = record { left = c.left; right = c.right; is_backward = not c.is_backward }
+
+-- the cursor in the list of all items that it shows
+abbrev pub cursor_of : {X : Type 0} → Sides X → Cursor X
+cursor_of c = record { items = all_items c; place = place c; forward = not c.is_backward }
 
 -- a step to the right or to the left, with the item that it passes, or none at the end, where it stays
 module _ {A X : Type 0} (view : A → X) where
