@@ -206,8 +206,7 @@ impl Rope {
         ensures refused { IfErr result (λ e. e ≡ OutOfMemory) }
     {
         let mut builder = Builder::new(self.alloc, self.line_breaks());
-        let mut chunks = self.chunks();
-        while let Some(chunk) = chunks.next() {
+        for chunk in self.chunks() {
             append_chunk(&mut builder, chunk)?;
         }
         Ok(builder)
@@ -218,7 +217,6 @@ impl Rope {
         ensures cut { result ≡ at_start self.now.chunks }
         ensures few { length self.now.chunks < 2 ^ 63 }
     {
-        let _ = self.root.height();
         self.whole().chunks()
     }
 }

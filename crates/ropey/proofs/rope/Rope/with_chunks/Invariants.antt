@@ -6,9 +6,9 @@ use Rattle.ropey.proofs.rope.Rope.with_chunks.Given as goal
 
 abbrev pub invariant-loop-chunk : goal.invariant-loop-chunk
 invariant-loop-chunk l = record {
-  text : l.builder.text ++ concat (ahead l.chunks) ≡ l.self.text;
+  text : l.builder.text ++ concat (ahead l.chunk-iterator) ≡ l.self.text;
   breaks : l.builder.breaks ≡ l.self.breaks;
 }
 
 abbrev pub decreases-loop-chunk : goal.decreases-loop-chunk
-decreases-loop-chunk l = length (ahead l.chunks)
+decreases-loop-chunk l = length (ahead l.chunk-iterator)
