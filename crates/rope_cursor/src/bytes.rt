@@ -18,7 +18,9 @@ use std::marker::Model;
 #[derive(Drop)]
 pub struct Bytes<'a> {
     span: Span<'a>,
+    // the span's chunk, kept here so that a step within it is one read
     chunk: &'a str,
+    // the bytes of the chunk behind it, those before the chunk, and all of them
     at: usize,
     before: usize,
     total: usize,
@@ -57,6 +59,7 @@ impl<'a> Bytes<'a> {
         }
     }
 
+    // One byte to the right.
     fn right(&mut self) -> Option<u8>
         ensures { GoesRight (λ x. x) self.old result self.new }
     {
@@ -81,6 +84,7 @@ impl<'a> Bytes<'a> {
         }
     }
 
+    // One byte to the left.
     fn left(&mut self) -> Option<u8>
         ensures { GoesLeft (λ x. x) self.old result self.new }
     {

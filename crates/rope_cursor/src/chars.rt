@@ -17,7 +17,9 @@ use std::marker::Model;
 #[derive(Drop)]
 pub struct Chars<'a> {
     span: Span<'a>,
+    // the span's chunk, kept here so that a step within it reads no more than the character
     chunk: &'a str,
+    // the bytes of the chunk behind it; the characters of the text behind it, and all of them
     at: usize,
     passed: usize,
     total: usize,
@@ -55,6 +57,7 @@ impl<'a> Chars<'a> {
         }
     }
 
+    // One character to the right.
     fn right(&mut self) -> Option<char>
         ensures { GoesRight (λ x. x) self.old result self.new }
     {
@@ -81,6 +84,7 @@ impl<'a> Chars<'a> {
         }
     }
 
+    // One character to the left.
     fn left(&mut self) -> Option<char>
         ensures { GoesLeft (λ x. x) self.old result self.new }
     {

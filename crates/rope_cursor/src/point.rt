@@ -6,7 +6,7 @@ ghost use Rattle.rope_cursor.specs.Point.{IsChunkAt, IsCharBetween};
 
 use crate::span::Span;
 
-// Goes to the next chunk, if there is one.
+// Goes to the next chunk, if there is one. It is kept out of the callers, whose steps within a chunk are to stay short.
 #[inline(never)]
 pub(crate) fn next_chunk<'a>(span: &mut Span<'a>) -> Option<&'a str>
     ensures moved { IfSome result (λ chunk. IsNext span.old span.new) }
@@ -49,7 +49,7 @@ pub(crate) fn char_after(text: &str, at: usize) -> (char, usize)
     wide_char_after(text, at)
 }
 
-// The same, of any character.
+// The same of any character, as of those of two bytes or more.
 fn wide_char_after(text: &str, at: usize) -> (char, usize)
     requires within { at < length text.now }
     requires cut { IsCharBoundary text.now at }
@@ -75,7 +75,7 @@ pub(crate) fn char_before(text: &str, at: usize) -> (char, usize)
     wide_char_before(text, at)
 }
 
-// The same, of any character.
+// The same of any character, as of those of two bytes or more.
 fn wide_char_before(text: &str, at: usize) -> (char, usize)
     requires some { 0 < at }
     requires cut { IsCharBoundary text.now at }
