@@ -1,3 +1,4 @@
 pub mod ChunkStarts
+pub mod LeafStarts
 pub mod Paths
 pub mod Spans

@@ -1,3 +1,4 @@
 pub mod Chunks
 pub mod Path
 pub mod Span
+pub mod Starts
