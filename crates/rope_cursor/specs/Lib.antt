@@ -5,3 +5,4 @@ pub mod Path
 pub mod Point
 pub mod Span
 pub mod Lines
+pub mod Starts

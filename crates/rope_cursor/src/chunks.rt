@@ -1,11 +1,11 @@
 //! A cursor over the chunks of a part.
-ghost use Rattle.std.specs.Prelude.{◌≡◌, ◌≤◌, ◌-◌, ℕ, ⊤, false, length};
+ghost use Rattle.std.specs.Prelude.{◌≡◌, ◌≤◌, List, ⊤, false, length};
 ghost use Rattle.std.specs.Str.{chars};
 ghost use Rattle.std.specs.Iterator.{YieldsFirstBy, item_count};
 ghost use Rattle.rope_text.specs.Text.{byte_len};
 ghost use Rattle.rope_text.specs.Lines.{line_count};
-ghost use Rattle.rope_text.specs.Lookup.{found_chunk, front_chunks, LieBefore, StandsAt, chunk_place_at_byte, chunk_place_at_char, chunk_place_at_line_break};
-ghost use Rattle.rope_text.specs.Sides.{ahead, all_items, at_start, place, turned, GoesRight, GoesLeft, GoesAhead, StepsBack};
+ghost use Rattle.rope_text.specs.Lookup.{LieBefore, found_chunk, chunk_place_at_byte, chunk_place_at_char, chunk_place_at_line_break};
+ghost use Rattle.rope_text.specs.Sides.{Sides, ahead, all_items, at_start, place, turned, GoesRight, GoesLeft, GoesAhead, StepsBack};
 ghost use Rattle.rope_part.specs.Part.{text_of, chunks_of, breaks_of};
 
 use crate::span::Span;
@@ -35,23 +35,6 @@ impl<'a> Model for Chunks<'a> {
 }
 
 impl<'a> Chunks<'a> {
-    // A cursor before the chunk that starts at a character, facing forward. With no chunk it stands at either end.
-    fn before_chunk(part: &Part<'a>, char_idx: usize) -> Chunks<'a>
-        requires { char_idx ≤ length (text_of part.now) }
-        ensures items { all_items result ≡ chunks_of part.now }
-        ensures place { (k : ℕ) → k ≤ length (chunks_of part.now) - 1 → char_idx ≡ length (front_chunks (chunks_of part.now) k) → place result ≡ k }
-        ensures forward { result.is_backward ≡ false }
-    {
-        let is_empty = part.info().chars == 0;
-        let (span, _) = Span::at(part, char_idx);
-        Chunks {
-            span,
-            is_empty,
-            is_past: false,
-            is_backward: false,
-        }
-    }
-
     // A cursor past the last chunk, facing forward, and the bytes, the characters and the line breaks of the text.
     fn at_end(part: &Part<'a>) -> (Chunks<'a>, usize, usize, usize)
         ensures items { all_items result.0 ≡ chunks_of part.now }
@@ -75,22 +58,38 @@ impl<'a> Chunks<'a> {
     pub fn new(part: &Part<'a>) -> Chunks<'a>
         ensures { result ≡ at_start (chunks_of part.now) }
     {
-        Chunks::before_chunk(part, 0)
+        let is_empty = part.info().chars == 0;
+        let (span, _) = Span::at(part, 0);
+        Chunks {
+            span,
+            is_empty,
+            is_past: false,
+            is_backward: false,
+        }
     }
 
     /// A cursor before the chunk that holds a byte, facing forward; at the end of the text past the last chunk. With it the
     /// bytes, the characters and the line breaks of the text before its place.
     pub fn at_byte(part: &Part<'a>, byte_idx: usize) -> (Chunks<'a>, usize, usize, usize)
         requires { byte_idx ≤ byte_len (text_of part.now) }
-        ensures { StandsAt (breaks_of part.now) (chunks_of part.now) (chunk_place_at_byte (chunks_of part.now) byte_idx)
-            result.0 result.1 result.2 result.3 }
+        ensures items { all_items result.0 ≡ chunks_of part.now }
+        ensures place { place result.0 ≡ chunk_place_at_byte (chunks_of part.now) byte_idx }
+        ensures forward { result.0.is_backward ≡ false }
+        ensures before { LieBefore (found_chunk (breaks_of part.now) (chunks_of part.now)
+            (chunk_place_at_byte (chunks_of part.now) byte_idx)) result.1 result.2 result.3 }
     {
-        let _ = part.info();
-        if byte_idx == part.len_bytes() {
+        let info = part.info();
+        if byte_idx == info.bytes {
             Chunks::at_end(part)
         } else {
-            let (_, bytes, chars, breaks) = part.chunk_at_byte(byte_idx);
-            (Chunks::before_chunk(part, chars), bytes, chars, breaks)
+            let (span, bytes, chars, breaks) = Span::with_byte(part, byte_idx);
+            let chunks = Chunks {
+                span,
+                is_empty: info.chars == 0,
+                is_past: false,
+                is_backward: false,
+            };
+            (chunks, bytes, chars, breaks)
         }
     }
 
@@ -98,15 +97,24 @@ impl<'a> Chunks<'a> {
     /// the bytes, the characters and the line breaks of the text before its place.
     pub fn at_char(part: &Part<'a>, char_idx: usize) -> (Chunks<'a>, usize, usize, usize)
         requires { char_idx ≤ length (text_of part.now) }
-        ensures { StandsAt (breaks_of part.now) (chunks_of part.now) (chunk_place_at_char (chunks_of part.now) char_idx)
-            result.0 result.1 result.2 result.3 }
+        ensures items { all_items result.0 ≡ chunks_of part.now }
+        ensures place { place result.0 ≡ chunk_place_at_char (chunks_of part.now) char_idx }
+        ensures forward { result.0.is_backward ≡ false }
+        ensures before { LieBefore (found_chunk (breaks_of part.now) (chunks_of part.now)
+            (chunk_place_at_char (chunks_of part.now) char_idx)) result.1 result.2 result.3 }
     {
-        let _ = part.info();
-        if char_idx == part.len_chars() {
+        let info = part.info();
+        if char_idx == info.chars {
             Chunks::at_end(part)
         } else {
-            let (_, bytes, chars, breaks) = part.chunk_at_char(char_idx);
-            (Chunks::before_chunk(part, chars), bytes, chars, breaks)
+            let (span, bytes, chars, breaks) = Span::with_char(part, char_idx);
+            let chunks = Chunks {
+                span,
+                is_empty: info.chars == 0,
+                is_past: false,
+                is_backward: false,
+            };
+            (chunks, bytes, chars, breaks)
         }
     }
 
@@ -117,15 +125,25 @@ impl<'a> Chunks<'a> {
         line_break_idx: usize,
     ) -> (Chunks<'a>, usize, usize, usize)
         requires { line_break_idx ≤ line_count (breaks_of part.now) (text_of part.now) }
-        ensures { StandsAt (breaks_of part.now) (chunks_of part.now) (chunk_place_at_line_break (breaks_of part.now) (chunks_of part.now) line_break_idx)
-            result.0 result.1 result.2 result.3 }
+        ensures items { all_items result.0 ≡ chunks_of part.now }
+        ensures place { place result.0 ≡ chunk_place_at_line_break (breaks_of part.now) (chunks_of part.now) line_break_idx }
+        ensures forward { result.0.is_backward ≡ false }
+        ensures before { LieBefore (found_chunk (breaks_of part.now) (chunks_of part.now)
+            (chunk_place_at_line_break (breaks_of part.now) (chunks_of part.now) line_break_idx)) result.1 result.2 result.3 }
     {
-        let _ = part.info();
+        let info = part.info();
         if line_break_idx == part.len_lines() {
             Chunks::at_end(part)
         } else {
-            let (_, bytes, chars, breaks) = part.chunk_at_line_break(line_break_idx);
-            (Chunks::before_chunk(part, chars), bytes, chars, breaks)
+            let end = part.line_to_char(line_break_idx);
+            let (span, bytes, chars, breaks) = Span::with_char(part, end.saturating_sub(1));
+            let chunks = Chunks {
+                span,
+                is_empty: info.chars == 0,
+                is_past: false,
+                is_backward: false,
+            };
+            (chunks, bytes, chars, breaks)
         }
     }
 

@@ -10,7 +10,7 @@ pub returns-clause-place : goal.returns-clause-place
 returns-clause-place c =
     let part = c.args.part.now in
     let chars = ap (λ x. x.chars) c.info-info.ensures.value in
-    ends_here c.at-span.result.0 (text_of part) (chunks_of part) c.info-info.ensures.kept.cut c.at-span.ensures.chunks c.info-info.result.chars c.at-span.result.1 chars
+    ends_here c.at-span.result.0 (text_of part) (chunks_of part) c.info-info.ensures.kept.cut c.at-span.ensures.text c.at-span.ensures.chunks c.info-info.result.chars chars c.at-span.result.1
     (c.at-span.ensures.place ∙ chars) c.at-span.ensures.within
 
 pub returns-clause-before : goal.returns-clause-before
