@@ -11,13 +11,16 @@ use Rattle.std.specs.declared.alloc.Global.{Global}
 use Rattle.rope_text.specs.declared.line_breaks.LineBreaks.{LineBreaks}
 use Rattle.rope_text.specs.declared.text_info.TextInfo.{TextInfo}
 use Rattle.rope_tree.specs.declared.node.Node.{Node}
+use Rattle.rope_text.specs.Text.{byte_len}
+use Rattle.rope_text.specs.TextInfo.{info_of}
 use Rattle.rope_text.proofs.CuttingLaws.{concat-append}
-use Rattle.rope_tree.specs.Tree.{Tree, text, joined, leaves_of, leaf_tree, IsChild}
-use Rattle.rope_tree.proofs.NodeLaws.{leaf_text}
+use Rattle.rope_text.proofs.Measures.{IsMeasure-byte_len}
+use Rattle.rope_tree.specs.Tree.{Tree, text, joined, leaves_of, tree_over, IsChild}
+use Rattle.rope_tree.proofs.NodeLaws.{joined_more, byte_len-joined}
 use Rattle.rope_tree.specs.Listed.{trees}
 use Rattle.rope_tree.specs.View.{IsInnerOf}
 use Rattle.rope_cursor.specs.declared.path.Frame.{Frame}
-use Rattle.rope_cursor.specs.Path.{Place, IsNext, HoldsChar, leaves_below, before_of, after_of, place_of, IsLow, IsFrame, AreFrames, AreFramesOf, around, LeadsTo, HasNextAt, HasPrevAt}
+use Rattle.rope_cursor.specs.Path.{Place, IsNext, leaves_below, before_of, after_of, place_of, IsLow, IsFrame, AreFrames, AreFramesOf, around, HasNextAt, HasPrevAt}
 
 -- the leaves below nodes, by the trees that they are seen as
 pub leaves_below_is : (rcs : List (Rc Node Global)) → leaves_below rcs ≡ leaves_of (trees rcs)
@@ -280,14 +283,21 @@ trees-take zero rcs = refl
 trees-take (suc k) [] = refl
 trees-take (suc k) (rc ∷ rcs) = ap (λ ts. rc.value ∷ ts) (trees-take k rcs)
 
--- the characters before a child
-pub chars_before : (rcs : List (Rc Node Global)) (k n : ℕ) (before more : List (List ℕ)) → more ≡ before ++ leaves_below (take k rcs) → n ≡ length (joined (take k (trees rcs)))
-    → length (concat more) ≡ length (concat before) + n
-chars_before rcs k n before more e f =
-    let below : leaves_below (take k rcs) ≡ leaves_of (take k (trees rcs)) = leaves_below_is (take k rcs) ∙ ap leaves_of (trees-take k rcs) in
-    omega (arith, ap (λ ls. length (concat ls)) (e ∙ ap (λ ls. before ++ ls) below), ap length (concat-append before (leaves_of (take k (trees rcs)))), length-append (concat before) (joined (take k (trees rcs))))
+-- the text before a child of a node, and what is left of the node's text
+pub record BeforeChild (before more : List (List ℕ)) (front : TextInfo) (t child : Tree) : Type 0 where
+  pub chars : length (concat more) ≡ length (concat before) + front.chars
+  pub bytes : byte_len (concat more) ≡ byte_len (concat before) + front.bytes
+  pub room : front.bytes + byte_len (text child) ≤ byte_len (text t)
 
--- a leaf by itself holds each character of the text
-pub held_alone : (before : List (List ℕ)) (t : Tree) (leaf : List ℕ) (at : ℕ) → t ≡ leaf_tree t.breaks leaf → at < length (text t) → HoldsChar (length (concat before) + at) before leaf
-held_alone before t leaf at is l =
-    record { starts = omega arith; ends = omega (arith, ap (λ u. length (text u)) is, ap length (leaf_text leaf)) }
+pub before_child : (set : LineBreaks) (rcs : List (Rc Node Global)) (k : ℕ) (before more : List (List ℕ)) (front : TextInfo) (t child : Tree) → t ≡ tree_over (trees rcs) → k < length (trees rcs)
+    → get_or (trees rcs) k child ≡ child → front ≡ info_of set (joined (take k (trees rcs))) → more ≡ before ++ leaves_below (take k rcs) → BeforeChild before more front t child
+before_child set rcs k before more front t child is l here front_is e =
+    let ts = trees rcs in
+    let below : leaves_below (take k rcs) ≡ leaves_of (take k ts) = leaves_below_is (take k rcs) ∙ ap leaves_of (trees-take k rcs) in
+    let cut : concat more ≡ concat before ++ joined (take k ts) = ap concat (e ∙ ap (λ ls. before ++ ls) below) ∙ concat-append before (leaves_of (take k ts)) in
+    let upto : joined (take (k + 1) ts) ≡ joined (take k ts) ++ text child = joined_more ts k child l ∙ ap (λ u. joined (take k ts) ++ text u) here in
+    record {
+      chars = omega (arith, ap length cut, length-append (concat before) (joined (take k ts)), ap (λ x. x.chars) front_is);
+      bytes = omega (arith, ap byte_len cut, IsMeasure-byte_len.joined (concat before) (joined (take k ts)), ap (λ x. x.bytes) front_is);
+      room = omega (arith, ap byte_len upto, IsMeasure-byte_len.joined (joined (take k ts)) (text child), byte_len-joined ts (k + 1), ap (λ u. byte_len (text u)) is, ap (λ x. x.bytes) front_is);
+    }

@@ -1,6 +1,7 @@
 -- A way from the root of a tree to a leaf, seen as a place among the leaves.
 use Rattle.std.specs.Prelude.{◌≡◌, ℕ, ◌+◌, ◌-◌, ◌<◌, ◌≤◌, List, [], ◌∷◌, ◌++◌, length, take, drop, get_or, All}
 use Rattle.std.specs.List.{concat, flat_map}
+use Rattle.rope_text.specs.Text.{byte_len}
 use Rattle.std.specs.declared.rc.Rc.{Rc}
 use Rattle.std.specs.declared.alloc.Global.{Global}
 use Rattle.rope_tree.specs.Tree.{Tree}
@@ -22,10 +23,11 @@ pub record IsNext (old new : Place) : Type 0 where
   pub before : new.before ≡ old.before ++ old.here ∷ []
   pub after : old.after ≡ new.here ∷ new.after
 
--- the leaf here holds the character at a place of the text of all the leaves
-pub record HoldsChar (at : ℕ) (before : List (List ℕ)) (here : List ℕ) : Type 0 where
-  pub starts : length (concat before) ≤ at
-  pub ends : at < length (concat before) + length here
+-- the leaf here holds a character of the text of all the leaves, at a place of its own text; so many bytes lie before the leaf
+pub record HoldsChar (char_idx : ℕ) (before : List (List ℕ)) (here : List ℕ) (bytes at : ℕ) : Type 0 where
+  pub place_is : length (concat before) + at ≡ char_idx
+  pub within : at < length here
+  pub bytes_are : bytes ≡ byte_len (concat before)
 
 -- the leaves below some nodes
 abbrev pub leaves_below : List (Rc Node Global) → List (List ℕ)

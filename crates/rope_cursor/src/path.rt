@@ -1,8 +1,9 @@
 //! A way from the root of a tree to one of its leaves, kept in place. No step takes memory.
-ghost use Rattle.std.specs.Prelude.{◌≡◌, ◌+◌, ◌-◌, ◌<◌, ◌≤◌, ◌∷◌, ◌++◌, length, take, [], IfSome, IfNone};
+ghost use Rattle.std.specs.Prelude.{◌≡◌, ◌+◌, ◌-◌, ◌<◌, ◌≤◌, ◌^◌, ◌∷◌, ◌++◌, length, take, [], IfSome, IfNone};
 ghost use Rattle.std.specs.Bool.{OnTrue, OnFalse};
 ghost use Rattle.std.specs.List.{concat};
 ghost use Rattle.std.specs.Str.{chars};
+ghost use Rattle.rope_text.specs.Text.{byte_len};
 ghost use Rattle.rope_tree.specs.Tree.{text};
 ghost use Rattle.rope_cursor.specs.Path.{before_of, after_of, around, place_of, AreFrames, AreFramesOf, LeadsTo, HasNextAt, HasPrevAt, IsLow, IsNext, HoldsChar, leaves};
 
@@ -15,7 +16,7 @@ use std::rc::Rc;
 
 /// The children of an inner node, and the one that the path goes to.
 #[derive(Clone, Copy)]
-pub struct Frame<'a> {
+struct Frame<'a> {
     children: &'a [Rc<Node>],
     at: usize,
 }
@@ -73,26 +74,53 @@ fn enter_last<'a>(frames: &mut [Frame<'a>; 18], level: usize, node: &'a Node) ->
     }
 }
 
-// Goes down from a node at a level to the leaf that holds a character of its text.
+// A leaf that holds a character.
+#[derive(Drop)]
+struct Held<'a> {
+    // how many frames lead to it
+    depth: usize,
+    leaf: &'a str,
+    // the bytes before it
+    bytes: usize,
+    // the place of the character within it
+    at: usize,
+}
+
+// Goes down from a node at a level to the leaf that holds a character of its text; `bytes` bytes lie before the node.
 fn enter_at<'a>(
     frames: &mut [Frame<'a>; 18],
     level: usize,
     node: &'a Node,
+    bytes: usize,
     char_idx: usize,
-) -> (usize, &'a str)
+) -> Held<'a>
     requires frames { AreFrames frames.old level (around frames.old level node.now.leaves) }
     requires low { IsLow node.now (18 - level) }
     requires within { char_idx < length (text node.now) }
-    ensures leads { LeadsTo frames.new result.0 (chars result.1.now) (around frames.old level node.now.leaves) }
-    ensures holds { HoldsChar (length (concat (before_of (take level frames.old))) + char_idx) (before_of (take result.0 frames.new)) (chars result.1.now) }
+    requires bytes { bytes ≡ byte_len (concat (before_of (take level frames.old))) }
+    requires room { bytes + byte_len (text node.now) < 2 ^ 64 }
+    ensures leads { LeadsTo frames.new result.depth (chars result.leaf.now) (around frames.old level node.now.leaves) }
+    ensures holds { HoldsChar (length (concat (before_of (take level frames.old))) + char_idx)
+        (before_of (take result.depth frames.new)) (chars result.leaf.now) result.bytes result.at }
 {
     match node.view() {
-        View::Leaf(leaf) => (level, leaf.as_str()),
+        View::Leaf(leaf) => Held {
+            depth: level,
+            leaf: leaf.as_str(),
+            bytes,
+            at: char_idx,
+        },
         View::Inner(children, totals) => {
             let at = place_of(totals, Unit::Char, char_idx, &mut Steps::new());
             let front = total_before(totals, at);
             frames[level] = Frame { children, at };
-            enter_at(frames, level + 1, &children[at], char_idx - front.chars)
+            enter_at(
+                frames,
+                level + 1,
+                &children[at],
+                bytes + front.bytes,
+                char_idx - front.chars,
+            )
         }
     }
 }
@@ -174,23 +202,25 @@ fn go_left<'a>(
 }
 
 impl<'a> Path<'a> {
-    /// The way to the leaf that holds a character of a tree's text.
-    pub fn at(node: &'a Node, char_idx: usize) -> Path<'a>
+    /// The way to the leaf that holds a character of a tree's text, the bytes of the leaves before it, and the place of the
+    /// character within it. It enters each node on the way once.
+    pub fn at(node: &'a Node, char_idx: usize) -> (Path<'a>, usize, usize)
         requires { char_idx < length (text node.now) }
-        ensures leaves { leaves result ≡ node.now.leaves }
-        ensures holds { HoldsChar char_idx result.before result.here }
+        ensures leaves { leaves result.0 ≡ node.now.leaves }
+        ensures holds { HoldsChar char_idx result.0.before result.0.here result.1 result.2 }
     {
         let _ = node.height();
         let mut frames = [Frame {
             children: &[],
             at: 0,
         }; 18];
-        let (depth, leaf) = enter_at(&mut frames, 0, node, char_idx);
-        Path {
-            leaf,
-            depth,
+        let held = enter_at(&mut frames, 0, node, 0, char_idx);
+        let path = Path {
+            leaf: held.leaf,
+            depth: held.depth,
             frames,
-        }
+        };
+        (path, held.bytes, held.at)
     }
 
     /// A text as the only leaf.

@@ -1,14 +1,12 @@
-use Rattle.std.proofs.Common.{◌≡◌, ℕ, ◌+◌, ◌-◌, ap, ◌∙◌, arith, take, length, slice_set}
-use Rattle.std.specs.List.{concat}
+use Rattle.std.proofs.Common.{ℕ, ◌+◌, List, arith, take, slice_set}
 use Rattle.std.proofs.lemmas.List.{length-map}
-use Rattle.std.specs.Str.{chars}
 use Rattle.rope_tree.specs.declared.search.Unit.TheVariants.{Char}
 use Rattle.rope_tree.specs.Tree.{breaks_of}
 use Rattle.rope_tree.specs.Listed.{trees}
 use Rattle.rope_tree.proofs.NodeLaws.{small_totals}
 use Rattle.rope_tree.proofs.Descents.{Descends, descends}
-use Rattle.rope_cursor.specs.Path.{around, before_of, HoldsChar}
-use Rattle.rope_cursor.proofs.Paths.{GoesDown, goes_down, IsOpened, opened, chars_before}
+use Rattle.rope_cursor.specs.Path.{around, before_of}
+use Rattle.rope_cursor.proofs.Paths.{GoesDown, goes_down, IsOpened, opened, BeforeChild, before_child}
 use Rattle.rope_cursor.proofs.path.+enter_at.Goals.{After-deref}
 use Rattle.rope_cursor.proofs.path.+enter_at.Goals as goal
 
@@ -30,6 +28,18 @@ down t c =
 pub place_of-at-requires-clause-small : goal.place_of-at-requires-clause-small
 place_of-at-requires-clause-small t c = small_totals _ c.in-Inner.totals.now (trees c.in-Inner.children.now) c.in-Inner.ensures.totals_right c.in-Inner.ensures.children.fits
 
+abbrev more_frames : (t : ℕ) (c : After-deref t) → List (List ℕ)
+more_frames t c = before_of (take (c.args.level + 1) (slice_set c.args.frames.now c.args.level record { children = c.in-Inner.children; at = c.place_of-at.result }))
+
+counts : (t : ℕ) (c : After-deref t) → BeforeChild (before_of (take c.args.level c.args.frames.now)) (more_frames t c) c.total_before-front.result c.args.node.now c.deref.result.now
+counts t c =
+    let f = found t c in
+    before_child (breaks_of (trees c.in-Inner.children.now)) c.in-Inner.children.now c.place_of-at.result (before_of (take c.args.level c.args.frames.now)) (more_frames t c) c.total_before-front.result
+    c.args.node.now c.deref.result.now c.in-Inner.ensures.is f.within f.child_is f.front_is (down t c).before
+
+pub overflow_add-bytes : goal.overflow_add-bytes
+overflow_add-bytes t c = omega (arith, (counts t (goal.at.overflow_add-bytes t c).After-deref).room, c.requires.room)
+
 pub overflow_sub-char_idx : goal.overflow_sub-char_idx
 overflow_sub-char_idx t c = (found t (goal.at.overflow_sub-char_idx t c).After-deref).not_past
 
@@ -39,7 +49,8 @@ enter_at-requires t c =
     let o = open_at t e in
     let d = down t e in
     let f = found t e in
-    (omega (arith, o.room), (d.frames_are, (d.low, omega (arith, f.past, f.not_past))))
+    let n = counts t e in
+    (omega (arith, o.room), (d.frames_are, (d.low, (omega (arith, f.past, f.not_past), (omega (arith, n.bytes, c.requires.bytes), omega (arith, n.room, c.requires.room))))))
 
 pub returns-in-Inner-clause-leads : goal.returns-in-Inner-clause-leads
 returns-in-Inner-clause-leads t c =
@@ -49,8 +60,6 @@ returns-in-Inner-clause-leads t c =
 pub returns-in-Inner-clause-holds : goal.returns-in-Inner-clause-holds
 returns-in-Inner-clause-holds t c =
     let e = (goal.at.returns-in-Inner-clause-holds t c).After-deref in
-    let d = down t e in
     let f = found t e in
-    let more = chars_before c.in-Inner.children.now c.place_of-at.result c.total_before-front.result.chars (before_of (take c.args.level c.args.frames.now)) (before_of (take (c.args.level + 1) (slice_set c.args.frames.now c.args.level record { children = c.in-Inner.children; at = c.place_of-at.result }))) d.before (ap (λ x. x.chars) f.front_is) in
     let h = c.enter_at.ensures.holds in
-    record { starts = omega (arith, more, h.starts, f.not_past); ends = omega (arith, more, h.ends, f.not_past) }
+    record { place_is = omega (arith, (counts t e).chars, h.place_is, f.not_past); within = h.within; bytes_are = h.bytes_are }
