@@ -1,3 +1,4 @@
 pub mod Paths
 pub mod Spans
 pub mod LineSteps
+pub mod PartsBetween

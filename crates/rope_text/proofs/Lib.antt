@@ -35,3 +35,4 @@ pub mod Fronts
 pub mod LastBreakLaws
 mod Examples
 pub mod LinePartLaws
+pub mod LineSeams
