@@ -2,3 +2,5 @@ pub mod Paths
 pub mod Spans
 pub mod LineSteps
 pub mod PartsBetween
+pub mod Gaps
+pub mod GapSteps

@@ -1,3 +1,4 @@
 pub mod Path
 pub mod Span
 pub mod Lines
+pub mod Gap

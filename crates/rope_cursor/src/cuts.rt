@@ -33,3 +33,10 @@ pub(crate) fn text_after(text: &str, byte: usize) -> &str
 {
     from_byte(text, byte)
 }
+
+/// The length of a text in bytes, by its characters.
+pub(crate) fn byte_len_of(text: &str) -> usize
+    ensures { result ≡ byte_len (chars text.now) }
+{
+    text.len()
+}

@@ -3,6 +3,7 @@
 
 mod between;
 mod cuts;
+pub mod gap;
 pub mod lines;
 pub mod path;
 pub mod span;
