@@ -34,7 +34,7 @@ none_at_all : (text : List ℕ) → length text ≤ 0 → text ≡ []
 none_at_all [] l = refl
 none_at_all (c ∷ text) l = absurd (omega arith)
 
-apart_back : (x y r : List ℕ) → parts_crlf (x ++ y) r ≡ false → parts_crlf y r ≡ false
+pub apart_back : (x y r : List ℕ) → parts_crlf (x ++ y) r ≡ false → parts_crlf y r ≡ false
 apart_back x [] r a = refl
 apart_back x (c ∷ y) r a = sym (parts_crlf-append x c y r) ∙ a
 

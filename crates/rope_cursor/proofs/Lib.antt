@@ -4,3 +4,4 @@ pub mod LineSteps
 pub mod PartsBetween
 pub mod Gaps
 pub mod GapSteps
+pub mod GapsBack

@@ -1,5 +1,5 @@
 -- A place between two characters of a part, seen as the text before it and the text after it.
-use Rattle.std.specs.Prelude.{◌≡◌, ℕ, ◌^◌, ◌<◌, false, List, ◌++◌, take, drop}
+use Rattle.std.specs.Prelude.{◌≡◌, ℕ, ◌+◌, ◌^◌, ◌<◌, false, List, ◌++◌, take, drop}
 use Rattle.std.specs.List.{concat}
 use Rattle.rope_text.specs.declared.line_breaks.LineBreaks.{LineBreaks}
 use Rattle.rope_text.specs.declared.text_info.TextInfo.{TextInfo}
@@ -50,3 +50,21 @@ pub record PassedTexts (set : LineBreaks) (old new : Place) (info : TextInfo) (t
 
 abbrev pub PassedChunks : LineBreaks → Place → Place → TextInfo → Type 0
 PassedChunks set old new info = (text : List ℕ) × PassedTexts set old new info text
+
+-- line breaks were passed backward: up to the start of a line, so many breaks before the last
+pub record PassesBack (set : LineBreaks) (skip : ℕ) (front back : List ℕ) (p : Place) (b : ℕ) (info : TextInfo) : Type 0 where
+  pub gap : IsGap p b
+  pub front_is : (halves_at p b).front ≡ take (last_start set front skip) front
+  pub back_is : (halves_at p b).back ≡ drop (last_start set front skip) front ++ back
+  pub counts : info ≡ info_of set (drop (last_start set front skip) front)
+
+-- texts with too few breaks were passed backward, up to the start of a chunk; so many breaks are left to pass
+pub record PassedBack (set : LineBreaks) (skip : ℕ) (front back : List ℕ) (p : Place) (info : TextInfo) (left : ℕ) (text : List ℕ) : Type 0 where
+  pub chunks : AreChunks p
+  pub front_is : front ≡ concat p.before ++ text
+  pub back_is : p.here ++ concat p.after ≡ text ++ back
+  pub few : break_count set text + left ≡ skip
+  pub counts : info ≡ info_of set text
+
+abbrev pub PassedBackTo : LineBreaks → ℕ → Place → Place → TextInfo → ℕ → Type 0
+PassedBackTo set skip old new info left = (text : List ℕ) × PassedBack set skip (concat old.before) (old.here ++ concat old.after) new info left text

@@ -6,12 +6,12 @@ ghost use Rattle.rope_text.specs.LineParts.{first_line, last_start};
 ghost use Rattle.rope_text.specs.Text.{byte_len};
 ghost use Rattle.rope_text.specs.TextInfo.{info_of};
 ghost use Rattle.rope_part.specs.Part.{text_of};
-ghost use Rattle.rope_cursor.specs.Gap.{AreChunks, PassesLine};
+ghost use Rattle.rope_cursor.specs.Gap.{AreChunks, PassesLine, PassesBack};
 
 use crate::cuts::{byte_len_of, text_after, text_before};
 use crate::span::Span;
 use rope_part::Part;
-use rope_text::str_utils::{char_to_byte_idx, line_to_byte_with};
+use rope_text::str_utils::{char_to_byte_idx, count_breaks, line_to_byte_with};
 use rope_text::{LineBreaks, TextInfo};
 use std::marker::Model;
 
@@ -56,6 +56,34 @@ fn pass_chunks(span: &mut Span<'_>, set: LineBreaks) -> (usize, TextInfo)
     (byte_len_of(span.chunk()), passed)
 }
 
+// The byte at which the last line of a text starts, or the one so many line breaks before it, and the counts from there on.
+fn count_last(text: &str, skip: usize, set: LineBreaks) -> (usize, TextInfo)
+    ensures start { result.0 ≡ byte_len (take (last_start set (chars text.now) skip) (chars text.now)) }
+    ensures counts { result.1 ≡ info_of set (drop (last_start set (chars text.now) skip) (chars text.now)) }
+{
+    let breaks = count_breaks(text, set);
+    let start = line_to_byte_with(text, breaks.saturating_sub(skip), set);
+    (start, TextInfo::from_str(text_after(text, start), set))
+}
+
+// From the start of a chunk back to the start of a line: the place in the last chunk, and the counts of what was passed.
+fn pass_chunks_back(span: &mut Span<'_>, skip: usize, set: LineBreaks) -> (usize, TextInfo)
+    requires { AreChunks span.old }
+    ensures { PassesBack set skip (concat span.old.before) (span.old.here ++ concat span.old.after) span.new result.0 result.1 }
+{
+    let mut passed = TextInfo::new();
+    let mut left = skip;
+    while span.retreat() {
+        let (start, more) = count_last(span.chunk(), left, set);
+        passed = more.plus(passed);
+        if start > 0 {
+            return (start, passed);
+        }
+        left -= more.line_breaks;
+    }
+    (0, passed)
+}
+
 impl<'a> Gap<'a> {
     /// The place before a character; at the end of the text its end.
     pub fn at(part: &Part<'a>, char_idx: usize) -> Gap<'a>
@@ -93,5 +121,22 @@ impl<'a> Gap<'a> {
         let (inside, more) = pass_chunks(&mut self.span, set);
         self.inside = inside;
         first.plus(more)
+    }
+    /// Goes back past so many line breaks, and on to the end of the one before, or to the start. Answers the counts of what it
+    /// passed.
+    pub fn pass_line_back(&mut self, skip: usize, set: LineBreaks) -> TextInfo
+        ensures front { self.new.front ≡ take (last_start set self.old.front skip) self.old.front }
+        ensures back { self.new.back ≡ drop (last_start set self.old.front skip) self.old.front ++ self.old.back }
+        ensures counts { result ≡ info_of set (drop (last_start set self.old.front skip) self.old.front) }
+    {
+        let before = text_before(self.span.chunk(), self.inside);
+        let (start, last) = count_last(before, skip, set);
+        if start > 0 {
+            self.inside = start;
+            return last;
+        }
+        let (inside, more) = pass_chunks_back(&mut self.span, skip - last.line_breaks, set);
+        self.inside = inside;
+        more.plus(last)
     }
 }
