@@ -1,5 +1,5 @@
 -- A place between two characters: where it starts, and a line's step.
-use Rattle.std.proofs.Common.{◌≡◌, ℕ, ◌+◌, ◌-◌, ◌^◌, ◌<◌, ◌≤◌, false, List, [], ◌∷◌, ◌++◌, length, take, drop, refl, sym, ap, subst, ◌∙◌, arith, append_assoc, inl, inr}
+use Rattle.std.proofs.Common.{◌≡◌, ℕ, ◌+◌, ◌^◌, ◌<◌, ◌≤◌, false, List, [], ◌∷◌, ◌++◌, length, take, drop, refl, sym, ap, subst, ◌∙◌, arith, append_assoc, inl, inr}
 use Rattle.std.specs.List.{concat}
 use Rattle.std.proofs.lemmas.Bool.{cases_lt}
 use Rattle.std.proofs.lemmas.List.{take-append-le, drop-append-le, take-append-drop, drop-drop, length-drop}
@@ -9,7 +9,6 @@ use Rattle.rope_text.specs.declared.text_info.TextInfo.{TextInfo}
 use Rattle.rope_text.specs.Content.{Content}
 use Rattle.rope_text.specs.Text.{byte_len}
 use Rattle.rope_text.specs.TextInfo.{info_of, info_sum}
-use Rattle.rope_text.specs.Breaks.{break_count}
 use Rattle.rope_text.specs.Lines.{line_start}
 use Rattle.rope_text.specs.Conversions.{byte_to_char}
 use Rattle.rope_text.specs.Cutting.{parts_crlf, KeepsCrlf}
@@ -21,7 +20,7 @@ use Rattle.rope_text.proofs.LineLaws.{line_start-le-length}
 use Rattle.rope_text.proofs.LineSeams.{parts_crlf-take, first_line-left, first_line-right, first_line-all, no_break_at_all}
 use Rattle.rope_part.specs.Kept.{IsPart}
 use Rattle.rope_cursor.specs.Path.{Place, leaves}
-use Rattle.rope_cursor.specs.Gap.{halves_at, IsBetween, AreChunks, IsGap, PassesLine}
+use Rattle.rope_cursor.specs.Gap.{halves_at, IsGap, PassesLine}
 use Rattle.rope_cursor.proofs.Gaps.{some_break, here_apart, whole_text, size_two, size_front, front_place, half_of, AreHalf}
 
 -- chunks of no text
@@ -79,8 +78,15 @@ module _ (set : LineBreaks) (p : Place) (b : ℕ) (g : IsGap p b) (info : TextIn
   parts_fit : byte_len (take (byte_to_char p.here b) p.here) + (byte_len (drop (byte_to_char p.here b) p.here) + byte_len (concat p.after)) < 2 ^ 63
   parts_fit =
       let j : ℕ = byte_to_char p.here b in
-      omega (arith, g.chunks.fits, ap byte_len (whole_text p), size_two (concat p.before ++ p.here) (concat p.after), size_two (concat p.before) p.here,
-        ap byte_len (take-append-drop j p.here), size_two (take j p.here) (drop j p.here))
+      omega (
+        arith,
+        g.chunks.fits,
+        ap byte_len (whole_text p),
+        size_two (concat p.before ++ p.here) (concat p.after),
+        size_two (concat p.before) p.here,
+        ap byte_len (take-append-drop j p.here),
+        size_two (take j p.here) (drop j p.here),
+      )
 
   pub info_half : AreHalf info
   info_half =
@@ -111,9 +117,9 @@ module _ (set : LineBreaks) (p : Place) (b : ℕ) (g : IsGap p b) (info : TextIn
           chunks = g.chunks;
         };
         front_is = ap (λ m. before ++ take m p.here) place ∙ ap (λ t. before ++ t) (take-add j k p.here) ∙ sym (append_assoc before (take j p.here) (take k back))
-          ∙ ap (λ t. (before ++ take j p.here) ++ t) (sym line);
+            ∙ ap (λ t. (before ++ take j p.here) ++ t) (sym line);
         back_is = ap (λ t. t ++ r) (sym (take-append-drop k back)) ∙ append_assoc (take k back) (drop k back) r ∙ ap (λ t. t ++ (drop k back ++ r)) (sym line)
-          ∙ ap (λ t. first_line set (back ++ r) ++ (t ++ r)) (drop-drop k j p.here) ∙ ap (λ m. first_line set (back ++ r) ++ (drop m p.here ++ r)) (sym place);
+            ∙ ap (λ t. first_line set (back ++ r) ++ (t ++ r)) (drop-drop k j p.here) ∙ ap (λ m. first_line set (back ++ r) ++ (drop m p.here ++ r)) (sym place);
         counts = e ∙ ap (info_of set) (sym line);
       }
 
@@ -134,8 +140,8 @@ module _ (set : LineBreaks) (p : Place) (b : ℕ) (g : IsGap p b) (info : TextIn
         record {
           gap = h.gap;
           front_is = h.front_is ∙ ap (λ t. t ++ first_line set r) (ap (λ t. before ++ t) (sym (take-append-drop j p.here)) ∙ sym (append_assoc before (take j p.here) back))
-            ∙ append_assoc (before ++ take j p.here) back (first_line set r) ∙ ap (λ t. (before ++ take j p.here) ++ t) (sym line);
+              ∙ append_assoc (before ++ take j p.here) back (first_line set r) ∙ ap (λ t. (before ++ take j p.here) ++ t) (sym line);
           back_is = ap (λ t. back ++ t) h.back_is ∙ sym (append_assoc back (first_line set r) (halves_at q d).back) ∙ ap (λ t. t ++ (halves_at q d).back) (sym line);
           counts = sum_is ∙ ap (λ x. info_sum x more) (e ∙ ap (info_of set) all) ∙ ap (λ x. info_sum (info_of set back) x) h.counts
-            ∙ sym (info_of-append_apart set back (first_line set r) apart) ∙ ap (info_of set) (sym line);
+              ∙ sym (info_of-append_apart set back (first_line set r) apart) ∙ ap (info_of set) (sym line);
         }

@@ -1,5 +1,5 @@
 -- Lines that lie over several chunks.
-use Rattle.std.proofs.Common.{◌≡◌, ℕ, zero, suc, ◌+◌, ◌-◌, ◌^◌, ◌<◌, ◌≤◌, Bool, true, false, ◌&&◌, List, [], ◌∷◌, ◌++◌, length, take, drop, refl, sym, ap, subst, ◌∙◌, arith, append_assoc, nat_le, inl, inr}
+use Rattle.std.proofs.Common.{◌≡◌, ℕ, ◌+◌, ◌^◌, ◌<◌, ◌≤◌, false, List, [], ◌∷◌, ◌++◌, length, take, drop, refl, sym, ap, subst, ◌∙◌, arith, append_assoc, nat_le, inl, inr}
 use Rattle.std.specs.List.{concat}
 use Rattle.std.proofs.lemmas.Bool.{cases_lt}
 use Rattle.std.proofs.lemmas.List.{append-nil, take_at, take_all, drop_all, take-append-drop}
@@ -7,7 +7,7 @@ use Rattle.std.proofs.lemmas.List.Sums.{count_by-le-length}
 use Rattle.std.proofs.lemmas.Str.{length-le-encodes}
 use Rattle.rope_text.specs.declared.line_breaks.LineBreaks.{LineBreaks}
 use Rattle.rope_text.specs.declared.text_info.TextInfo.{TextInfo}
-use Rattle.rope_text.specs.Text.{byte_len, surrogate_count}
+use Rattle.rope_text.specs.Text.{byte_len}
 use Rattle.rope_text.specs.TextInfo.{info_of, info_sum}
 use Rattle.rope_text.specs.Breaks.{break_count}
 use Rattle.rope_text.specs.Lines.{line_start}
@@ -24,7 +24,7 @@ use Rattle.rope_text.proofs.LineLaws.{line_start-le-length}
 use Rattle.rope_text.proofs.LineSeams.{parts_crlf-take, first_line-left, first_line-right, first_line-all, no_break_at_all, break_count-apart}
 use Rattle.rope_tree.proofs.Infos.{break_count-le-length}
 use Rattle.rope_cursor.specs.Path.{Place, IsNext, leaves}
-use Rattle.rope_cursor.specs.Gap.{Halves, halves_at, IsBetween, AreChunks, IsGap, PassesLine, PassedTexts, PassedChunks}
+use Rattle.rope_cursor.specs.Gap.{IsBetween, AreChunks, PassesLine, PassedTexts, PassedChunks}
 use Rattle.rope_cursor.proofs.Spans.{leaves_next}
 
 -- no CR meets LF behind joined texts, or before part of a text
@@ -88,14 +88,17 @@ some_break set text info e some = elim (cases_lt 0 (break_count set text)) [
 
 module _ (set : LineBreaks) (old : Place) where
   pub passed_none : (info : TextInfo) → AreChunks old → info ≡ info_of set [] → PassedChunks set old old info
-  passed_none info h e = ([], record {
-    chunks = h;
-    front_is = sym (append-nil (concat old.before ++ old.here));
-    back_is = refl;
-    none = ap length (break_ends-nil set);
-    counts = e;
-    apart = refl;
-  })
+  passed_none info h e = (
+    [],
+    record {
+      chunks = h;
+      front_is = sym (append-nil (concat old.before ++ old.here));
+      back_is = refl;
+      none = ap length (break_ends-nil set);
+      counts = e;
+      apart = refl;
+    },
+  )
 
   module _ (p q : Place) (info : TextInfo) (text : List ℕ) (h : PassedTexts set old p info text) (n : IsNext p q) where
     next_chunks : AreChunks q
@@ -123,15 +126,17 @@ module _ (set : LineBreaks) (old : Place) where
     passed_more more sum e s few =
         let none = no_break_at_all set q.here (let lines = ap (λ x. x.line_breaks) e in omega arith) in
         let all = first_line-all set q.here none in
-        let front = apart_front text q.here (concat q.after) joined_apart in
-        (text ++ q.here, record {
-          chunks = next_chunks;
-          front_is = ap (λ t. t ++ q.here) (front_next ∙ h.front_is) ∙ append_assoc (concat old.before ++ old.here) text q.here;
-          back_is = back_next;
-          none = break_count-apart set text q.here front ∙ (let a = h.none in omega arith);
-          counts = counts_next more sum (line_start set q.here 1) e s ∙ ap (λ t. info_of set (text ++ t)) all;
-          apart = apart_joined text q.here (concat q.after) joined_apart (here_apart q next_chunks);
-        })
+        let front = apart_front text q.here (concat q.after) joined_apart in (
+          text ++ q.here,
+          record {
+            chunks = next_chunks;
+            front_is = ap (λ t. t ++ q.here) (front_next ∙ h.front_is) ∙ append_assoc (concat old.before ++ old.here) text q.here;
+            back_is = back_next;
+            none = break_count-apart set text q.here front ∙ (let a = h.none in omega arith);
+            counts = counts_next more sum (line_start set q.here 1) e s ∙ ap (λ t. info_of set (text ++ t)) all;
+            apart = apart_joined text q.here (concat q.after) joined_apart (here_apart q next_chunks);
+          },
+        )
 
     -- a chunk with a break: the line ends in it
     pub passes_line : (more sum : TextInfo) → more ≡ info_of set (first_line set q.here) → sum ≡ info_sum info more → 0 < more.line_breaks
@@ -151,10 +156,10 @@ module _ (set : LineBreaks) (old : Place) where
             chunks = next_chunks;
           };
           front_is = ap (λ j. concat q.before ++ take j q.here) place ∙ ap (λ t. t ++ take k q.here) (front_next ∙ h.front_is)
-            ∙ append_assoc (concat old.before ++ old.here) text (take k q.here) ∙ ap (λ t. (concat old.before ++ old.here) ++ t) (sym line);
+              ∙ append_assoc (concat old.before ++ old.here) text (take k q.here) ∙ ap (λ t. (concat old.before ++ old.here) ++ t) (sym line);
           back_is = h.back_is ∙ ap (λ t. text ++ t) (ahead_is ∙ ap (λ t. t ++ concat q.after) (sym (take-append-drop k q.here)) ∙ append_assoc (take k q.here) (drop k q.here) (concat q.after))
-            ∙ sym (append_assoc text (take k q.here) (drop k q.here ++ concat q.after))
-            ∙ ap (λ t. t ++ (drop k q.here ++ concat q.after)) (sym line) ∙ ap (λ j. first_line set (concat old.after) ++ (drop j q.here ++ concat q.after)) (sym place);
+              ∙ sym (append_assoc text (take k q.here) (drop k q.here ++ concat q.after))
+              ∙ ap (λ t. t ++ (drop k q.here ++ concat q.after)) (sym line) ∙ ap (λ j. first_line set (concat old.after) ++ (drop j q.here ++ concat q.after)) (sym place);
           counts = counts_next more sum k e s ∙ ap (info_of set) (sym line);
         }
 
@@ -186,7 +191,7 @@ module _ (set : LineBreaks) (old : Place) where
           chunks = h.chunks;
         };
         front_is = ap (λ j. concat p.before ++ take j p.here) place ∙ ap (λ t. concat p.before ++ t) (take_all (length p.here) p.here (omega arith)) ∙ h.front_is
-          ∙ ap (λ t. (concat old.before ++ old.here) ++ t) (sym line);
+            ∙ ap (λ t. (concat old.before ++ old.here) ++ t) (sym line);
         back_is = back ∙ sym (append-nil text) ∙ ap (λ t. t ++ []) (sym line) ∙ ap (λ t. first_line set (concat old.after) ++ t) (sym rest);
         counts = h.counts ∙ ap (info_of set) (sym line);
       }

@@ -1,5 +1,5 @@
 -- Lines that are passed backward, over several chunks.
-use Rattle.std.proofs.Common.{◌≡◌, ℕ, ◌+◌, ◌-◌, ◌^◌, ◌<◌, ◌≤◌, Bool, true, false, ◌&&◌, List, [], ◌∷◌, ◌++◌, length, take, drop, refl, sym, ap, subst, ◌∙◌, arith, append_assoc, length-append, inl, inr}
+use Rattle.std.proofs.Common.{◌≡◌, ℕ, ◌+◌, ◌-◌, ◌<◌, ◌≤◌, Bool, true, false, ◌&&◌, List, [], ◌∷◌, ◌++◌, length, take, drop, refl, sym, ap, subst, ◌∙◌, arith, append_assoc, length-append, inl, inr}
 use Rattle.std.specs.List.{concat}
 use Rattle.std.proofs.lemmas.Bool.{cases_lt}
 use Rattle.std.proofs.lemmas.List.{append-nil, take-append-le, drop-append-le, take-append-drop, length-take-le}
@@ -10,7 +10,7 @@ use Rattle.rope_text.specs.declared.text_info.TextInfo.{TextInfo}
 use Rattle.rope_text.specs.Text.{byte_len}
 use Rattle.rope_text.specs.TextInfo.{info_of, info_sum}
 use Rattle.rope_text.specs.Breaks.{break_count, ends_in_cr}
-use Rattle.rope_text.specs.Lines.{line_start, line_count}
+use Rattle.rope_text.specs.Lines.{line_start}
 use Rattle.rope_text.specs.Conversions.{byte_to_char, char_to_line}
 use Rattle.rope_text.specs.Cutting.{parts_crlf, KeepsCrlf}
 use Rattle.rope_text.specs.LineParts.{last_start}
@@ -22,7 +22,7 @@ use Rattle.rope_text.proofs.LineLaws.{line_start-le-length}
 use Rattle.rope_text.proofs.SliceLaws.{char_to_line_early}
 use Rattle.rope_text.proofs.LineSeams.{break_count-apart, last_start-left, last_start-right}
 use Rattle.rope_part.proofs.Measured.{same_info}
-use Rattle.rope_cursor.specs.Path.{Place, IsNext, leaves}
+use Rattle.rope_cursor.specs.Path.{Place, IsNext}
 use Rattle.rope_cursor.specs.Gap.{halves_at, AreChunks, IsGap, PassesBack, PassedBack, PassedBackTo}
 use Rattle.rope_cursor.proofs.Spans.{leaves_next}
 use Rattle.rope_cursor.proofs.Gaps.{apart_joined, apart_front, here_apart, front_place, half_of, AreHalf, size_two, whole_text}
@@ -115,9 +115,9 @@ module _ (set : LineBreaks) (skip left : ℕ) (front back x y q : List ℕ) (p :
           chunks = chunks;
         };
         front_is = ap (λ m. before ++ take m p.here) place ∙ ap (λ t. before ++ t) (inside ∙ sym (take-append-le k x q within))
-          ∙ sym (take-append-add before (x ++ q) k) ∙ ap (take (length before + k)) (sym whole_is) ∙ ap (λ n. take n front) (sym line);
+            ∙ sym (take-append-add before (x ++ q) k) ∙ ap (take (length before + k)) (sym whole_is) ∙ ap (λ n. take n front) (sym line);
         back_is = ap (λ m. drop m p.here ++ after) place ∙ ap (λ t. drop k t ++ after) here_is ∙ ap (λ t. t ++ after) (drop-append-le k x y within)
-          ∙ append_assoc (drop k x) y after ∙ ap (λ t. drop k x ++ t) behind ∙ sym (append_assoc (drop k x) q back) ∙ ap (λ t. t ++ back) (sym last);
+            ∙ append_assoc (drop k x) y after ∙ ap (λ t. drop k x ++ t) behind ∙ sym (append_assoc (drop k x) q back) ∙ ap (λ t. t ++ back) (sym last);
         counts = sum_is sum s ∙ ap (info_of set) (sym last);
       }
 
@@ -184,13 +184,16 @@ no_breaks set = ap length (break_ends-nil set)
 
 -- nothing was passed yet
 pub none_back : (set : LineBreaks) (skip : ℕ) (old : Place) (info : TextInfo) → AreChunks old → info ≡ info_of set [] → PassedBackTo set skip old old info skip
-none_back set skip old info h e = ([], record {
-  chunks = h;
-  front_is = sym (append-nil (concat old.before));
-  back_is = refl;
-  few = omega (arith, no_breaks set);
-  counts = e;
-})
+none_back set skip old info h e = (
+  [],
+  record {
+    chunks = h;
+    front_is = sym (append-nil (concat old.before));
+    back_is = refl;
+    few = omega (arith, no_breaks set);
+    counts = e;
+  },
+)
 
 -- the start of the text
 pub end_back : (set : LineBreaks) (skip left : ℕ) (front back text : List ℕ) (p q : Place) (info : TextInfo) → PassedBack set skip front back p info left text → q ≡ p → p.before ≡ []

@@ -1,7 +1,7 @@
 -- The counts at the two ends of a part of a part.
-use Rattle.std.proofs.Common.{◌≡◌, ℕ, ◌+◌, ◌-◌, ◌^◌, ◌<◌, ◌≤◌, Bool, false, ◌&&◌, cond, List, ◌++◌, length, take, drop, refl, sym, ap, ◌∙◌, arith}
+use Rattle.std.proofs.Common.{◌≡◌, ℕ, ◌+◌, ◌-◌, ◌^◌, ◌<◌, ◌≤◌, Bool, false, ◌&&◌, cond, List, length, take, drop, refl, sym, ap, ◌∙◌, arith}
 use Rattle.std.specs.List.{slice_range}
-use Rattle.std.proofs.lemmas.List.{length-take-le, length-drop}
+use Rattle.std.proofs.lemmas.List.{length-take-le}
 use Rattle.rope_text.specs.declared.line_breaks.LineBreaks.{LineBreaks}
 use Rattle.rope_text.specs.declared.text_info.TextInfo.{TextInfo}
 use Rattle.rope_text.specs.Content.{Content}
@@ -15,9 +15,9 @@ use Rattle.rope_text.proofs.Measures.{IsMeasure-byte_len}
 use Rattle.rope_text.proofs.BreakLaws.{joins_break}
 use Rattle.rope_text.proofs.InfoLaws.{surrogate_count-append, info_of-append_apart}
 use Rattle.rope_text.proofs.LineSeams.{parts_crlf-take}
-use Rattle.rope_text.proofs.SliceLaws.{char_to_line-drop, char_to_line-take, break_count-take}
+use Rattle.rope_text.proofs.SliceLaws.{break_count-take}
 use Rattle.rope_part.specs.Edge.{start_info, end_info, IsStretch}
-use Rattle.rope_part.proofs.Measured.{Measured, measured, same_info}
+use Rattle.rope_part.proofs.Measured.{measured, same_info}
 use Rattle.rope_part.proofs.Stretches.{front_and_part, length_part, break_count_part, char_to_line_part, size_part}
 use Rattle.rope_part.proofs.Clips.{part_of_part}
 

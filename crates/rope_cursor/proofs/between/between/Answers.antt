@@ -1,4 +1,4 @@
-use Rattle.std.proofs.Common.{◌≡◌, ◌∙◌, [], ap, sym, refl, arith}
+use Rattle.std.proofs.Common.{◌∙◌, ap, sym, arith}
 use Rattle.std.proofs.lemmas.Str.{chars-nil}
 use Rattle.rope_text.specs.Cutting.{single_chunk}
 use Rattle.rope_text.proofs.ClipLaws.{slice_range_empty, clip_empty}

@@ -9,10 +9,8 @@ use Rattle.rope_part.proofs.Stretches.{front_and_part}
 use Rattle.rope_cursor.proofs.PartsBetween.{between_sum, char_at_byte, byte_of_char}
 use Rattle.std.proofs.lemmas.List.{length-drop}
 use Rattle.rope_text.specs.Conversions.{byte_to_char}
-use Rattle.rope_text.specs.Cutting.{parts_crlf}
 use Rattle.rope_text.specs.declared.line_breaks.LineBreaks.{LineBreaks}
 use Rattle.rope_text.specs.declared.text_info.TextInfo.{TextInfo}
-use Rattle.rope_part.specs.declared.plain.Plain.{Plain}
 use Rattle.rope_cursor.proofs.between.in_text.Goals as goal
 
 pub minus-info-requires-clause-bytes : goal.minus-info-requires-clause-bytes
@@ -23,7 +21,6 @@ minus-info-requires-clause-utf16_surrogates c = let e = between_sum c.args.plain
 
 pub minus-info-requires-clause-line_breaks : goal.minus-info-requires-clause-line_breaks
 minus-info-requires-clause-line_breaks c = let e = between_sum c.args.plain.now.breaks (text_of c.args.plain.now) c.args.from c.args.to c.requires.from_is c.requires.to_is c.requires.ordered c.requires.apart in omega (arith, ap (λ x. x.line_breaks) e)
-
 
 pub text_after-rest-requires : goal.text_after-rest-requires
 text_after-rest-requires c =
@@ -49,7 +46,7 @@ text_before-requires c =
     let t = text_of c.args.plain.now in
     let i = c.args.from.chars in
     let rest = rest_is t (chars c.text_after-rest.result.now) (chars c.as_str.result.now) c.args.from.bytes i (omega (arith, c.requires.ordered, c.requires.within)) (ap (λ x. x.bytes) c.requires.from_is)
-      c.as_str.ensures c.text_after-rest.ensures in
+    c.as_str.ensures c.text_after-rest.ensures in
     let bytes = size_is c.args.from c.args.to c.minus-info.result c.args.plain.now.breaks (slice_range t i c.args.to.chars) (between_sum c.args.plain.now.breaks (text_of c.args.plain.now) c.args.from c.args.to c.requires.from_is c.requires.to_is c.requires.ordered c.requires.apart) c.minus-info.ensures.sum in
     rw rest (byte_of_char (drop i t) c.minus-info.result.bytes (c.args.to.chars - i) (omega (arith, length-drop i t, c.requires.within)) bytes)
 
@@ -67,10 +64,10 @@ invariant_of-result c =
     let i = c.args.from.chars in
     let set = c.args.plain.now.breaks in
     let part = part_is t (chars c.text_after-rest.result.now) (chars c.as_str.result.now) (chars c.text_before.result.now) c.args.from.bytes c.minus-info.result.bytes i c.args.to.chars
-      c.requires.ordered c.requires.within (ap (λ x. x.bytes) c.requires.from_is)
-      (size_is c.args.from c.args.to c.minus-info.result set (slice_range t i c.args.to.chars) (between_sum c.args.plain.now.breaks (text_of c.args.plain.now) c.args.from c.args.to c.requires.from_is c.requires.to_is c.requires.ordered c.requires.apart) c.minus-info.ensures.sum)
-      c.as_str.ensures c.text_after-rest.ensures c.text_before.ensures in
+    c.requires.ordered c.requires.within (ap (λ x. x.bytes) c.requires.from_is)
+    (size_is c.args.from c.args.to c.minus-info.result set (slice_range t i c.args.to.chars) (between_sum c.args.plain.now.breaks (text_of c.args.plain.now) c.args.from c.args.to c.requires.from_is c.requires.to_is c.requires.ordered c.requires.apart) c.minus-info.ensures.sum)
+    c.as_str.ensures c.text_after-rest.ensures c.text_before.ensures in
     let counts = c.minus-info.ensures.rest set (take i t) (slice_range t i c.args.to.chars)
-      (c.requires.to_is ∙ ap (info_of set) (sym (front_and_part t i c.args.to.chars c.requires.ordered))) c.requires.from_is
-      (parts_crlf-take (take i t) (drop i t) (c.args.to.chars - i) c.requires.apart) in
+    (c.requires.to_is ∙ ap (info_of set) (sym (front_and_part t i c.args.to.chars c.requires.ordered))) c.requires.from_is
+    (parts_crlf-take (take i t) (drop i t) (c.args.to.chars - i) c.requires.apart) in
     record { counted = counts ∙ ap (info_of set) (sym part) }

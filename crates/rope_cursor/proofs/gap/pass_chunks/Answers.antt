@@ -11,25 +11,25 @@ loop-set-init c = passed_none c.args.set c.args.span.now c.new-passed.result c.r
 pub plus-passed-requires-clause-bytes : goal.plus-passed-requires-clause-bytes
 plus-passed-requires-clause-bytes c =
     let half = more_fits c.args.set c.args.span.now c.loop-set.span c.advance.new.self c.loop-set.passed c.loop-set.invariant.0 c.loop-set.invariant.1 c.loop-set-test.ensures.moved c.count_line-more.result
-      (c.count_line-more.ensures ∙ ap (λ t. info_of c.args.set (first_line c.args.set t)) c.chunk.ensures) in
+    (c.count_line-more.ensures ∙ ap (λ t. info_of c.args.set (first_line c.args.set t)) c.chunk.ensures) in
     omega (arith, half.0.bytes, half.1.bytes)
 
 pub plus-passed-requires-clause-chars : goal.plus-passed-requires-clause-chars
 plus-passed-requires-clause-chars c =
     let half = more_fits c.args.set c.args.span.now c.loop-set.span c.advance.new.self c.loop-set.passed c.loop-set.invariant.0 c.loop-set.invariant.1 c.loop-set-test.ensures.moved c.count_line-more.result
-      (c.count_line-more.ensures ∙ ap (λ t. info_of c.args.set (first_line c.args.set t)) c.chunk.ensures) in
+    (c.count_line-more.ensures ∙ ap (λ t. info_of c.args.set (first_line c.args.set t)) c.chunk.ensures) in
     omega (arith, half.0.chars, half.1.chars)
 
 pub plus-passed-requires-clause-utf16_surrogates : goal.plus-passed-requires-clause-utf16_surrogates
 plus-passed-requires-clause-utf16_surrogates c =
     let half = more_fits c.args.set c.args.span.now c.loop-set.span c.advance.new.self c.loop-set.passed c.loop-set.invariant.0 c.loop-set.invariant.1 c.loop-set-test.ensures.moved c.count_line-more.result
-      (c.count_line-more.ensures ∙ ap (λ t. info_of c.args.set (first_line c.args.set t)) c.chunk.ensures) in
+    (c.count_line-more.ensures ∙ ap (λ t. info_of c.args.set (first_line c.args.set t)) c.chunk.ensures) in
     omega (arith, half.0.utf16_surrogates, half.1.utf16_surrogates)
 
 pub plus-passed-requires-clause-line_breaks : goal.plus-passed-requires-clause-line_breaks
 plus-passed-requires-clause-line_breaks c =
     let half = more_fits c.args.set c.args.span.now c.loop-set.span c.advance.new.self c.loop-set.passed c.loop-set.invariant.0 c.loop-set.invariant.1 c.loop-set-test.ensures.moved c.count_line-more.result
-      (c.count_line-more.ensures ∙ ap (λ t. info_of c.args.set (first_line c.args.set t)) c.chunk.ensures) in
+    (c.count_line-more.ensures ∙ ap (λ t. info_of c.args.set (first_line c.args.set t)) c.chunk.ensures) in
     omega (arith, half.0.line_breaks, half.1.line_breaks)
 
 pub returns-then-more-gt0 : goal.returns-then-more-gt0

@@ -1,4 +1,4 @@
-use Rattle.std.proofs.Common.{◌∷◌, [], ◌++◌, ◌+◌, take, drop, ◌∙◌, length, ap, arith}
+use Rattle.std.proofs.Common.{◌∷◌, [], ◌++◌, take, drop, ◌∙◌, length, ap, arith}
 use Rattle.std.proofs.lemmas.List.{length-append}
 use Rattle.std.specs.List.{concat}
 use Rattle.rope_text.specs.Text.{byte_len}
@@ -62,12 +62,14 @@ pub loop-set-smaller : goal.loop-set-smaller
 loop-set-smaller c = omega (arith, ap length c.loop-set-test.ensures.moved.before, length-append c.retreat.new.self.before (c.retreat.new.self.here ∷ []))
 
 pub loop-set-preserved : goal.loop-set-preserved
-loop-set-preserved c = (c.retreat.new.self.here ++ c.loop-set.invariant.0,
-    chunk_over c.args.set c.args.skip c.loop-set.left (concat c.args.span.now.before) (c.args.span.now.here ++ concat c.args.span.now.after) c.loop-set.invariant.0 c.loop-set.span c.retreat.new.self
-    c.count_last-start.result.0 c.count_last-start.result.1 c.loop-set.passed c.loop-set.invariant.1 c.loop-set-test.ensures.moved
-    (c.count_last-start.ensures.start ∙ ap (λ t. byte_len (take (last_start c.args.set t c.loop-set.left) t)) c.chunk.ensures)
-    (c.count_last-start.ensures.counts ∙ ap (λ t. info_of c.args.set (drop (last_start c.args.set t c.loop-set.left) t)) c.chunk.ensures)
-    c.plus-passed.result c.plus-passed.ensures.sum c.if-start-gt0.false)
+loop-set-preserved c = (
+  c.retreat.new.self.here ++ c.loop-set.invariant.0,
+  chunk_over c.args.set c.args.skip c.loop-set.left (concat c.args.span.now.before) (c.args.span.now.here ++ concat c.args.span.now.after) c.loop-set.invariant.0 c.loop-set.span c.retreat.new.self
+      c.count_last-start.result.0 c.count_last-start.result.1 c.loop-set.passed c.loop-set.invariant.1 c.loop-set-test.ensures.moved
+      (c.count_last-start.ensures.start ∙ ap (λ t. byte_len (take (last_start c.args.set t c.loop-set.left) t)) c.chunk.ensures)
+      (c.count_last-start.ensures.counts ∙ ap (λ t. info_of c.args.set (drop (last_start c.args.set t c.loop-set.left) t)) c.chunk.ensures)
+      c.plus-passed.result c.plus-passed.ensures.sum c.if-start-gt0.false,
+)
 
 pub returns : goal.returns
 returns c =
