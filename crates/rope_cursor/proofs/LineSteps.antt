@@ -1,12 +1,14 @@
 -- Steps of a cursor over lines.
 use Rattle.std.proofs.Common.{◌≡◌, ℕ, ◌+◌, ◌-◌, ◌<◌, ◌≤◌, Bool, true, false, [], ◌∷◌, ◌++◌, length, take, drop, sym, ◌∙◌, ap, arith, length-take, length-drop}
 use Rattle.std.proofs.lemmas.List.{drop_all, length-reverse}
+use Rattle.rope_text.specs.declared.text_info.TextInfo.{TextInfo}
 use Rattle.rope_text.specs.Lines.{line_count}
 use Rattle.rope_text.specs.Content.{Content}
 use Rattle.rope_text.specs.LineParts.{line_of, lines_of}
 use Rattle.rope_text.specs.Sides.{ahead, place}
 use Rattle.rope_text.proofs.LinePartLaws.{length-lines_of, take-lines_of, drop-lines_of}
-use Rattle.rope_cursor.specs.Lines.{at_line, IsLinePlace}
+use Rattle.rope_cursor.specs.Lines.{at_line, IsLineStart}
+use Rattle.rope_cursor.specs.Gap.{Halves}
 
 -- the line that a cursor passes
 pub right_of_line : (c : Content) (l : ℕ) (back : Bool) → l < line_count c.breaks c.text
@@ -20,15 +22,15 @@ left_of_line c l back some within =
     let e : (l - 1) + 1 ≡ l = omega (arith, some) in
     (ap (λ k. take k (lines_of c)) (sym e) ∙ step.1, step.0 ∙ ap (λ k. line_of c (l - 1) ∷ drop k (lines_of c)) e)
 
-pub no_line_right : (c : Content) (l total : ℕ) (back : Bool) → IsLinePlace c l total → l ≡ total → (at_line c l back).right ≡ []
-no_line_right c l total back h e = drop_all l (lines_of c) (omega (arith, length-lines_of c, h.total_is))
+pub no_line_right : (c : Content) (h : Halves) (before : TextInfo) (l total : ℕ) (back : Bool) → IsLineStart c h before l total → l ≡ total → (at_line c l back).right ≡ []
+no_line_right c h before l total back s e = drop_all l (lines_of c) (omega (arith, length-lines_of c, s.total_is))
 
 pub place_of_line : (c : Content) (l : ℕ) (back : Bool) → l ≤ line_count c.breaks c.text → place (at_line c l back) ≡ l
 place_of_line c l back within = omega (arith, length-take l (lines_of c), length-lines_of c)
 
 -- how many lines are ahead
-pub ahead_forward : (c : Content) (l total : ℕ) → IsLinePlace c l total → length (ahead (at_line c l false)) ≡ total - l
-ahead_forward c l total h = omega (arith, length-drop l (lines_of c), length-lines_of c, h.total_is)
+pub ahead_forward : (c : Content) (h : Halves) (before : TextInfo) (l total : ℕ) → IsLineStart c h before l total → length (ahead (at_line c l false)) ≡ total - l
+ahead_forward c h before l total s = omega (arith, length-drop l (lines_of c), length-lines_of c, s.total_is)
 
-pub ahead_backward : (c : Content) (l total : ℕ) → IsLinePlace c l total → length (ahead (at_line c l true)) ≡ l
-ahead_backward c l total h = length-reverse (take l (lines_of c)) ∙ omega (arith, length-take l (lines_of c), length-lines_of c, h.total_is, h.within)
+pub ahead_backward : (c : Content) (h : Halves) (before : TextInfo) (l total : ℕ) → IsLineStart c h before l total → length (ahead (at_line c l true)) ≡ l
+ahead_backward c h before l total s = length-reverse (take l (lines_of c)) ∙ omega (arith, length-take l (lines_of c), length-lines_of c, s.total_is, s.within)

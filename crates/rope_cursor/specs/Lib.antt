@@ -6,3 +6,4 @@ pub mod Point
 pub mod Span
 pub mod Lines
 pub mod Starts
+pub mod Gap

@@ -4,6 +4,9 @@
 pub mod bytes;
 pub mod chars;
 pub mod chunks;
+mod between;
+mod cuts;
+pub mod gap;
 pub mod lines;
 pub mod path;
 mod point;

@@ -7,7 +7,10 @@ ghost use Rattle.rope_text.specs.LineParts.{line_of, lines_of};
 ghost use Rattle.rope_text.specs.Sides.{ahead, at_place, turned, GoesRight, GoesLeft, GoesAhead, StepsBack};
 ghost use Rattle.rope_part.specs.Part.{content_of, text_of, breaks_of};
 
+use crate::between::between;
+use crate::gap::Gap;
 use rope_part::Part;
+use rope_text::TextInfo;
 use std::alloc::AllocError;
 use std::iter::ExactSizeIterator;
 use std::marker::Model;
@@ -18,6 +21,9 @@ use std::marker::Model;
 #[derive(Drop)]
 pub struct Lines<'a> {
     part: Part<'a>,
+    gap: Gap<'a>,
+    // the counts of the text before the line
+    before: TextInfo,
     line: usize,
     total: usize,
     is_backward: bool,
@@ -27,13 +33,13 @@ impl<'a> Model for Lines<'a> {
     ghost use Rattle.rope_text.specs.Content.{Content};
     ghost use Rattle.rope_text.specs.Sides.{Sides};
     ghost use Rattle.rope_part.specs.Part.{content_of};
-    ghost use Rattle.rope_cursor.specs.Lines.{at_line, IsLinePlace};
+    ghost use Rattle.rope_cursor.specs.Lines.{at_line, IsLineStart};
 
     ghost Value = { Sides Content };
 
     ghost view = { λ a. at_line (content_of a.part) a.line a.is_backward };
 
-    ghost invariant = { λ a. IsLinePlace (content_of a.part) a.line a.total };
+    ghost invariant = { λ a. IsLineStart (content_of a.part) a.gap a.before a.line a.total };
 }
 
 /// A line of a part, its break among its characters.
@@ -51,8 +57,12 @@ impl<'a> Lines<'a> {
         requires { line_idx ≤ line_count (breaks_of part.now) (text_of part.now) }
         ensures { result ≡ at_place (lines_of (content_of part.now)) line_idx }
     {
+        let _ = part.info();
+        let start = part.line_to_char(line_idx);
         Lines {
             part: *part,
+            gap: Gap::at(part, start),
+            before: part.char_range(0, start).info(),
             line: line_idx,
             total: part.len_lines(),
             is_backward: false,
@@ -65,7 +75,10 @@ impl<'a> Lines<'a> {
         if self.line == self.total {
             return None;
         }
-        let item = line(&self.part, self.line);
+        let passed = self.gap.pass_line(self.part.line_breaks());
+        let after = self.before.plus(passed);
+        let item = between(&self.part, self.before, after);
+        self.before = after;
         self.line += 1;
         Some(item)
     }
@@ -76,8 +89,14 @@ impl<'a> Lines<'a> {
         if self.line == 0 {
             return None;
         }
-        self.line -= 1;
-        Some(line(&self.part, self.line))
+        let line = self.line - 1;
+        let skip = self.before.line_breaks - line;
+        let passed = self.gap.pass_line_back(skip, self.part.line_breaks());
+        let start = self.before.minus(passed);
+        let item = between(&self.part, start, self.before);
+        self.before = start;
+        self.line = line;
+        Some(item)
     }
 
     /// The item behind, to which it steps back; or none at that end, where it stays.
@@ -165,6 +184,8 @@ impl<'a> Clone for Lines<'a> {
     fn clone(&self) -> Result<Lines<'a>, AllocError> {
         Ok(Lines {
             part: self.part,
+            gap: self.gap.copy(),
+            before: self.before,
             line: self.line,
             total: self.total,
             is_backward: self.is_backward,

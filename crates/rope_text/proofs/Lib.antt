@@ -38,3 +38,4 @@ pub mod CutOff
 pub mod LastBreakLaws
 mod Examples
 pub mod LinePartLaws
+pub mod LineSeams

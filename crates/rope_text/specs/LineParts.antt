@@ -1,6 +1,8 @@
 -- The lines of a content, as parts of it.
-use Rattle.std.specs.Prelude.{ℕ, ◌+◌, List, map}
+use Rattle.std.specs.Prelude.{ℕ, ◌+◌, ◌-◌, List, map, take}
 use Rattle.std.specs.List.{range_with_len, slice_range}
+use Rattle.rope_text.specs.declared.line_breaks.LineBreaks.{LineBreaks}
+use Rattle.rope_text.specs.Breaks.{break_count}
 use Rattle.rope_text.specs.Lines.{line_start, line_count}
 use Rattle.rope_text.specs.Cutting.{clip}
 use Rattle.rope_text.specs.Content.{Content}
@@ -16,3 +18,11 @@ line_of c l = part_between c (line_start c.breaks c.text l) (line_start c.breaks
 -- all the lines, in order
 unfoldable pub lines_of : Content → List Content
 lines_of c = map (line_of c) (range_with_len 0 (line_count c.breaks c.text))
+
+-- the text up to the end of its first line break, or all of it
+abbrev pub first_line : LineBreaks → List ℕ → List ℕ
+first_line set text = take (line_start set text 1) text
+
+-- where the last line starts, or the k-th before it: there, k line breaks end after it
+abbrev pub last_start : LineBreaks → List ℕ → ℕ → ℕ
+last_start set text k = line_start set text (break_count set text - k)

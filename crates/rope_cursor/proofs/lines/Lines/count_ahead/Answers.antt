@@ -6,9 +6,9 @@ use Rattle.rope_cursor.proofs.lines.Lines.count_ahead.Goals as goal
 pub returns-then-self : goal.returns-then-self
 returns-then-self c =
     let s = c.self.inside in
-    rw (← c.self.view_is, c.if-self.true) (sym (ahead_backward (content_of s.part) s.line s.total c.self.invariant))
+    rw (← c.self.view_is, c.if-self.true) (sym (ahead_backward (content_of s.part) s.gap s.before s.line s.total c.self.invariant))
 
 pub returns-else-self : goal.returns-else-self
 returns-else-self c =
     let s = c.self.inside in
-    rw (← c.self.view_is, c.if-self.false) (sym (ahead_forward (content_of s.part) s.line s.total c.self.invariant))
+    rw (← c.self.view_is, c.if-self.false) (sym (ahead_forward (content_of s.part) s.gap s.before s.line s.total c.self.invariant))

@@ -1,0 +1,167 @@
+-- The place and the counts of a cursor over lines, from line to line.
+use Rattle.std.proofs.Common.{◌≡◌, ℕ, ◌+◌, ◌-◌, ◌<◌, ◌≤◌, false, List, ◌++◌, length, take, drop, sym, ap, ◌∙◌, arith}
+use Rattle.std.specs.List.{slice_range}
+use Rattle.std.proofs.lemmas.List.{take-append-drop, length-take-le, take-take, drop-drop}
+use Rattle.std.proofs.Math.Seq.{drop-append_seam}
+use Rattle.rope_text.specs.declared.line_breaks.LineBreaks.{LineBreaks}
+use Rattle.rope_text.specs.declared.text_info.TextInfo.{TextInfo}
+use Rattle.rope_text.specs.Content.{Content}
+use Rattle.rope_text.specs.TextInfo.{info_of, info_sum}
+use Rattle.rope_text.specs.Lines.{line_start, line_count}
+use Rattle.rope_text.specs.Cutting.{parts_crlf}
+use Rattle.rope_text.specs.LineParts.{part_between, line_of, first_line, last_start}
+use Rattle.rope_text.proofs.InfoLaws.{info_of-append_apart}
+use Rattle.rope_text.proofs.LineLaws.{line_start-le-length, line_start_mono}
+use Rattle.rope_text.proofs.LineSeams.{parts_crlf-take, line_start_apart, break_count-front, first_line-drop, last_start-take}
+use Rattle.rope_part.proofs.Measured.{same_info}
+use Rattle.rope_part.proofs.Stretches.{front_and_part, part_of_front, length_part}
+use Rattle.rope_cursor.specs.Gap.{Halves}
+use Rattle.rope_cursor.specs.Lines.{IsLineStart}
+use Rattle.rope_cursor.proofs.Gaps.{AreHalf, half_of, size_front}
+
+-- counts up to a place, told by their own number of characters
+pub counts_at : (set : LineBreaks) (text : List ℕ) (n : ℕ) (info : TextInfo) → n ≤ length text → info ≡ info_of set (take n text) → (info.chars ≡ n) × (info ≡ info_of set (take info.chars text))
+counts_at set text n info within e =
+    let chars : info.chars ≡ n = ap (λ x. x.chars) e ∙ length-take-le n text within in
+    (chars, e ∙ ap (λ k. info_of set (take k text)) (sym chars))
+
+-- from one line's start to the next
+module _ (c : Content) (l : ℕ) (within : l < line_count c.breaks c.text) (from to : TextInfo) (from_is : from ≡ info_of c.breaks (take (line_start c.breaks c.text l) c.text))
+    (to_is : to ≡ info_of c.breaks (take (line_start c.breaks c.text (l + 1)) c.text)) where
+  start_chars : from.chars ≡ line_start c.breaks c.text l
+  start_chars = (counts_at c.breaks c.text (line_start c.breaks c.text l) from (line_start-le-length c.breaks c.text l) from_is).0
+
+  end_chars : to.chars ≡ line_start c.breaks c.text (l + 1)
+  end_chars = (counts_at c.breaks c.text (line_start c.breaks c.text (l + 1)) to (line_start-le-length c.breaks c.text (l + 1)) to_is).0
+
+  pub line_from : from ≡ info_of c.breaks (take from.chars c.text)
+  line_from = (counts_at c.breaks c.text (line_start c.breaks c.text l) from (line_start-le-length c.breaks c.text l) from_is).1
+
+  pub line_to : to ≡ info_of c.breaks (take to.chars c.text)
+  line_to = (counts_at c.breaks c.text (line_start c.breaks c.text (l + 1)) to (line_start-le-length c.breaks c.text (l + 1)) to_is).1
+
+  pub line_ordered : from.chars ≤ to.chars
+  line_ordered = omega (arith, start_chars, end_chars, line_start_mono c.breaks c.text l (l + 1) (omega arith))
+
+  pub line_within : to.chars ≤ length c.text
+  line_within = omega (arith, end_chars, line_start-le-length c.breaks c.text (l + 1))
+
+  pub line_apart : parts_crlf (take from.chars c.text) (drop from.chars c.text) ≡ false
+  line_apart = ap (λ n. parts_crlf (take n c.text) (drop n c.text)) start_chars ∙ line_start_apart c.breaks c.text l
+
+  pub line_is : part_between c from.chars to.chars ≡ line_of c l
+  line_is = ap (λ n. part_between c n to.chars) start_chars ∙ ap (part_between c (line_start c.breaks c.text l)) end_chars
+
+-- the counts up to the next line's start
+next_counts : (set : LineBreaks) (text : List ℕ) (l : ℕ) → l < line_count set text
+    → info_of set (take (line_start set text (l + 1)) text) ≡ info_sum (info_of set (take (line_start set text l) text)) (info_of set (slice_range text (line_start set text l) (line_start set text (l + 1))))
+next_counts set text l within =
+    let s : ℕ = line_start set text l in
+    let e : ℕ = line_start set text (l + 1) in
+    ap (info_of set) (sym (front_and_part text s e (line_start_mono set text l (l + 1) (omega arith))))
+    ∙ info_of-append_apart set (take s text) (slice_range text s e) (parts_crlf-take (take s text) (drop s text) (e - s) (line_start_apart set text l))
+
+-- a step forward
+module _ (c : Content) (h new : Halves) (before passed : TextInfo) (l total : ℕ) (set : LineBreaks) (s : IsLineStart c h before l total) (less : l < total) (same : set ≡ c.breaks)
+    (front : new.front ≡ h.front ++ first_line set h.back) (back : h.back ≡ first_line set h.back ++ new.back) (counts : passed ≡ info_of set (first_line set h.back)) where
+  pub inside : l < line_count c.breaks c.text
+  inside = omega (arith, s.total_is)
+
+  passed_is : first_line set h.back ≡ slice_range c.text (line_start c.breaks c.text l) (line_start c.breaks c.text (l + 1))
+  passed_is = ap (λ b. first_line b h.back) same ∙ ap (first_line c.breaks) s.back_is ∙ first_line-drop c.breaks c.text l inside
+
+  counts_are : passed ≡ info_of c.breaks (slice_range c.text (line_start c.breaks c.text l) (line_start c.breaks c.text (l + 1)))
+  counts_are = counts ∙ ap (λ b. info_of b (first_line set h.back)) same ∙ ap (info_of c.breaks) passed_is
+
+  pub after_is : (after : TextInfo) → after ≡ info_sum before passed → after ≡ info_of c.breaks (take (line_start c.breaks c.text (l + 1)) c.text)
+  after_is after sum =
+      sum ∙ ap (λ x. info_sum x passed) s.before_is ∙ ap (λ x. info_sum (info_of c.breaks (take (line_start c.breaks c.text l) c.text)) x) counts_are
+      ∙ sym (next_counts c.breaks c.text l inside)
+
+  pub next_start : (after : TextInfo) → after ≡ info_sum before passed → IsLineStart c new after (l + 1) total
+  next_start after sum =
+      let a : ℕ = line_start c.breaks c.text l in
+      let b : ℕ = line_start c.breaks c.text (l + 1) in
+      let order = line_start_mono c.breaks c.text l (l + 1) (omega arith) in
+      let long : length (first_line set h.back) ≡ b - a = ap length passed_is ∙ length_part c.text a b (line_start-le-length c.breaks c.text (l + 1)) in
+      let rest : a + (b - a) ≡ b = omega arith in
+      record {
+        within = omega arith;
+        total_is = s.total_is;
+        front_is = front ∙ ap (λ t. t ++ first_line set h.back) s.front_is ∙ ap (λ t. take a c.text ++ t) passed_is ∙ front_and_part c.text a b order;
+        back_is = sym (drop-append_seam (first_line set h.back) new.back) ∙ ap (drop (length (first_line set h.back))) (sym back) ∙ ap (λ n. drop n h.back) long
+            ∙ ap (drop (b - a)) s.back_is ∙ drop-drop (b - a) a c.text ∙ ap (λ n. drop n c.text) rest;
+        before_is = after_is after sum;
+        fits = s.fits;
+      }
+
+  pub next_half : AreHalf before × AreHalf passed
+  next_half =
+      let sum = next_counts c.breaks c.text l inside in
+      let size = ap (λ x. x.bytes) sum in
+      let most = size_front (line_start c.breaks c.text (l + 1)) c.text in (
+        half_of c.breaks (take (line_start c.breaks c.text l) c.text) before s.before_is (omega (arith, s.fits)),
+        half_of c.breaks (slice_range c.text (line_start c.breaks c.text l) (line_start c.breaks c.text (l + 1))) passed counts_are (omega (arith, s.fits)),
+      )
+
+-- how many breaks are to be passed backward
+pub breaks_enough : (c : Content) (h : Halves) (before : TextInfo) (l total : ℕ) → IsLineStart c h before l total → l - 1 ≤ before.line_breaks
+breaks_enough c h before l total s =
+    omega (arith, s.within, s.total_is, ap (λ x. x.line_breaks) s.before_is, break_count-front c.breaks c.text l (omega (arith, s.within, s.total_is)))
+
+-- a step backward
+module _ (c : Content) (h new : Halves) (before passed : TextInfo) (l total skip : ℕ) (set : LineBreaks) (s : IsLineStart c h before l total) (some : 0 < l) (same : set ≡ c.breaks)
+    (skip_is : skip ≡ before.line_breaks - (l - 1)) (front : new.front ≡ take (last_start set h.front skip) h.front) (back : new.back ≡ drop (last_start set h.front skip) h.front ++ h.back)
+    (counts : passed ≡ info_of set (drop (last_start set h.front skip) h.front)) where
+  pub inside_back : l - 1 < line_count c.breaks c.text
+  inside_back = omega (arith, s.total_is, s.within)
+
+  up : (l - 1) + 1 ≡ l
+  up = omega (arith, some)
+
+  order : line_start c.breaks c.text (l - 1) ≤ line_start c.breaks c.text l
+  order = line_start_mono c.breaks c.text (l - 1) l (omega arith)
+
+  last_is : last_start set h.front skip ≡ line_start c.breaks c.text (l - 1)
+  last_is =
+      let known : l ≤ line_count c.breaks c.text = omega (arith, s.total_is, s.within) in
+      let breaks = ap (λ x. x.line_breaks) s.before_is ∙ break_count-front c.breaks c.text l known in
+      ap (λ b. last_start b h.front skip) same ∙ ap (λ t. last_start c.breaks t skip) s.front_is ∙ last_start-take c.breaks c.text l skip some known (omega arith)
+
+  line_back : drop (last_start set h.front skip) h.front ≡ slice_range c.text (line_start c.breaks c.text (l - 1)) (line_start c.breaks c.text l)
+  line_back =
+      ap (λ n. drop n h.front) last_is ∙ ap (drop (line_start c.breaks c.text (l - 1))) s.front_is
+      ∙ sym (part_of_front c.text (line_start c.breaks c.text (l - 1)) (line_start c.breaks c.text l) order)
+
+  counts_back : passed ≡ info_of c.breaks (slice_range c.text (line_start c.breaks c.text (l - 1)) (line_start c.breaks c.text l))
+  counts_back = counts ∙ ap (λ b. info_of b (drop (last_start set h.front skip) h.front)) same ∙ ap (info_of c.breaks) line_back
+
+  pub before_sum : before ≡ info_sum (info_of c.breaks (take (line_start c.breaks c.text (l - 1)) c.text)) passed
+  before_sum =
+      let first : TextInfo = info_of c.breaks (take (line_start c.breaks c.text (l - 1)) c.text) in
+      s.before_is ∙ ap (λ k. info_of c.breaks (take (line_start c.breaks c.text k) c.text)) (sym up) ∙ next_counts c.breaks c.text (l - 1) inside_back
+      ∙ ap (λ k. info_sum first (info_of c.breaks (slice_range c.text (line_start c.breaks c.text (l - 1)) (line_start c.breaks c.text k)))) up ∙ ap (info_sum first) (sym counts_back)
+
+  pub before_up : before ≡ info_of c.breaks (take (line_start c.breaks c.text ((l - 1) + 1)) c.text)
+  before_up = s.before_is ∙ ap (λ k. info_of c.breaks (take (line_start c.breaks c.text k) c.text)) (sym up)
+
+  pub start_is : (start : TextInfo) → info_sum passed start ≡ before → start ≡ info_of c.breaks (take (line_start c.breaks c.text (l - 1)) c.text)
+  start_is start sum =
+      let first : TextInfo = info_of c.breaks (take (line_start c.breaks c.text (l - 1)) c.text) in
+      let both = sum ∙ before_sum in
+      same_info start first (omega (arith, ap (λ x. x.bytes) both)) (omega (arith, ap (λ x. x.chars) both)) (omega (arith, ap (λ x. x.utf16_surrogates) both)) (omega (arith, ap (λ x. x.line_breaks) both))
+
+  pub prev_start : (start : TextInfo) → info_sum passed start ≡ before → IsLineStart c new start (l - 1) total
+  prev_start start sum =
+      let a : ℕ = line_start c.breaks c.text (l - 1) in
+      let b : ℕ = line_start c.breaks c.text l in
+      let rest : a + (b - a) ≡ b = (let o = order in omega arith) in
+      record {
+        within = omega (arith, s.within);
+        total_is = s.total_is;
+        front_is = front ∙ ap (λ n. take n h.front) last_is ∙ ap (take a) s.front_is ∙ take-take a b c.text order;
+        back_is = back ∙ ap (λ t. t ++ h.back) line_back ∙ ap (λ t. slice_range c.text a b ++ t) (s.back_is ∙ ap (λ n. drop n c.text) (sym rest) ∙ sym (drop-drop (b - a) a c.text))
+            ∙ take-append-drop (b - a) (drop a c.text);
+        before_is = start_is start sum;
+        fits = s.fits;
+      }

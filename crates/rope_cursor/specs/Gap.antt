@@ -1,0 +1,70 @@
+-- A place between two characters of a part, seen as the text before it and the text after it.
+use Rattle.std.specs.Prelude.{◌≡◌, ℕ, ◌+◌, ◌^◌, ◌<◌, false, List, ◌++◌, take, drop}
+use Rattle.std.specs.List.{concat}
+use Rattle.rope_text.specs.declared.line_breaks.LineBreaks.{LineBreaks}
+use Rattle.rope_text.specs.declared.text_info.TextInfo.{TextInfo}
+use Rattle.rope_text.specs.Text.{byte_len}
+use Rattle.rope_text.specs.TextInfo.{info_of}
+use Rattle.rope_text.specs.Breaks.{break_count}
+use Rattle.rope_text.specs.Conversions.{byte_to_char}
+use Rattle.rope_text.specs.Cutting.{KeepsCrlf, parts_crlf}
+use Rattle.rope_text.specs.LineParts.{first_line, last_start}
+use Rattle.rope_cursor.specs.Path.{Place, leaves}
+
+pub record Halves : Type 0 where
+  pub front : List ℕ
+  pub back : List ℕ
+
+-- before the byte b of the chunk here, and from it on
+abbrev pub halves_at : Place → ℕ → Halves
+halves_at p b = record { front = concat p.before ++ take (byte_to_char p.here b) p.here; back = drop (byte_to_char p.here b) p.here ++ concat p.after }
+
+-- a character begins at the byte b of the chunk here
+abbrev pub IsBetween : List ℕ → ℕ → Type 0
+IsBetween here b = byte_len (take (byte_to_char here b) here) ≡ b
+
+-- the chunks part no CR LF, and their text is not too long
+pub record AreChunks (p : Place) : Type 0 where
+  pub kept : KeepsCrlf (leaves p)
+  pub fits : byte_len (concat (leaves p)) < 2 ^ 63
+
+pub record IsGap (p : Place) (b : ℕ) : Type 0 where
+  pub between : IsBetween p.here b
+  pub chunks : AreChunks p
+
+-- a line was passed: the text before and after, up to a break and all that follows, and the counts of what was passed
+pub record PassesLine (set : LineBreaks) (front back : List ℕ) (p : Place) (b : ℕ) (info : TextInfo) : Type 0 where
+  pub gap : IsGap p b
+  pub front_is : (halves_at p b).front ≡ front ++ first_line set back
+  pub back_is : back ≡ first_line set back ++ (halves_at p b).back
+  pub counts : info ≡ info_of set (first_line set back)
+
+-- texts without a break were passed, up to the end of a chunk
+pub record PassedTexts (set : LineBreaks) (old new : Place) (info : TextInfo) (text : List ℕ) : Type 0 where
+  pub chunks : AreChunks new
+  pub front_is : concat new.before ++ new.here ≡ (concat old.before ++ old.here) ++ text
+  pub back_is : concat old.after ≡ text ++ concat new.after
+  pub none : break_count set text ≡ 0
+  pub counts : info ≡ info_of set text
+  pub apart : parts_crlf text (concat new.after) ≡ false
+
+abbrev pub PassedChunks : LineBreaks → Place → Place → TextInfo → Type 0
+PassedChunks set old new info = (text : List ℕ) × PassedTexts set old new info text
+
+-- line breaks were passed backward: up to the start of a line, so many breaks before the last
+pub record PassesBack (set : LineBreaks) (skip : ℕ) (front back : List ℕ) (p : Place) (b : ℕ) (info : TextInfo) : Type 0 where
+  pub gap : IsGap p b
+  pub front_is : (halves_at p b).front ≡ take (last_start set front skip) front
+  pub back_is : (halves_at p b).back ≡ drop (last_start set front skip) front ++ back
+  pub counts : info ≡ info_of set (drop (last_start set front skip) front)
+
+-- texts with too few breaks were passed backward, up to the start of a chunk; so many breaks are left to pass
+pub record PassedBack (set : LineBreaks) (skip : ℕ) (front back : List ℕ) (p : Place) (info : TextInfo) (left : ℕ) (text : List ℕ) : Type 0 where
+  pub chunks : AreChunks p
+  pub front_is : front ≡ concat p.before ++ text
+  pub back_is : p.here ++ concat p.after ≡ text ++ back
+  pub few : break_count set text + left ≡ skip
+  pub counts : info ≡ info_of set text
+
+abbrev pub PassedBackTo : LineBreaks → ℕ → Place → Place → TextInfo → ℕ → Type 0
+PassedBackTo set skip old new info left = (text : List ℕ) × PassedBack set skip (concat old.before) (old.here ++ concat old.after) new info left text

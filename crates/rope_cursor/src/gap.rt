@@ -1,0 +1,142 @@
+//! A place between two characters of a part, which goes from line to line.
+ghost use Rattle.std.specs.Prelude.{◌≡◌, ◌≤◌, ◌++◌, length, take, drop};
+ghost use Rattle.std.specs.List.{concat};
+ghost use Rattle.std.specs.Str.{chars};
+ghost use Rattle.rope_text.specs.LineParts.{first_line, last_start};
+ghost use Rattle.rope_text.specs.Text.{byte_len};
+ghost use Rattle.rope_text.specs.TextInfo.{info_of};
+ghost use Rattle.rope_part.specs.Part.{text_of};
+ghost use Rattle.rope_cursor.specs.Gap.{AreChunks, PassesLine, PassesBack};
+
+use crate::cuts::{byte_len_of, text_after, text_before};
+use crate::span::Span;
+use rope_part::Part;
+use rope_text::str_utils::{char_to_byte_idx, count_breaks, line_to_byte_with};
+use rope_text::{LineBreaks, TextInfo};
+use std::marker::Model;
+
+/// A place between two characters of a part: a byte of a chunk.
+#[derive(Drop)]
+pub struct Gap<'a> {
+    span: Span<'a>,
+    inside: usize,
+}
+
+impl<'a> Model for Gap<'a> {
+    ghost use Rattle.rope_cursor.specs.Gap.{Halves, halves_at, IsGap};
+
+    ghost Value = { Halves };
+
+    ghost view = { λ a. halves_at a.span a.inside };
+
+    ghost invariant = { λ a. IsGap a.span a.inside };
+}
+
+// The counts of a text up to the end of its first line break, or of all of it.
+fn count_line(text: &str, set: LineBreaks) -> TextInfo
+    ensures { result ≡ info_of set (first_line set (chars text.now)) }
+{
+    let end = line_to_byte_with(text, 1, set);
+    TextInfo::from_str(text_before(text, end), set)
+}
+
+// From the end of a chunk to the end of a line: the place in the last chunk, and the counts of what was passed.
+fn pass_chunks(span: &mut Span<'_>, set: LineBreaks) -> (usize, TextInfo)
+    requires { AreChunks span.old }
+    ensures { PassesLine set (concat span.old.before ++ span.old.here) (concat span.old.after) span.new result.0 result.1 }
+{
+    let mut passed = TextInfo::new();
+    while span.advance() {
+        let more = count_line(span.chunk(), set);
+        passed = passed.plus(more);
+        if more.line_breaks > 0 {
+            return (more.bytes, passed);
+        }
+    }
+    (byte_len_of(span.chunk()), passed)
+}
+
+// The byte at which the last line of a text starts, or the one so many line breaks before it, and the counts from there on.
+fn count_last(text: &str, skip: usize, set: LineBreaks) -> (usize, TextInfo)
+    ensures start { result.0 ≡ byte_len (take (last_start set (chars text.now) skip) (chars text.now)) }
+    ensures counts { result.1 ≡ info_of set (drop (last_start set (chars text.now) skip) (chars text.now)) }
+{
+    let breaks = count_breaks(text, set);
+    let start = line_to_byte_with(text, breaks.saturating_sub(skip), set);
+    (start, TextInfo::from_str(text_after(text, start), set))
+}
+
+// From the start of a chunk back to the start of a line: the place in the last chunk, and the counts of what was passed.
+fn pass_chunks_back(span: &mut Span<'_>, skip: usize, set: LineBreaks) -> (usize, TextInfo)
+    requires { AreChunks span.old }
+    ensures { PassesBack set skip (concat span.old.before) (span.old.here ++ concat span.old.after) span.new result.0 result.1 }
+{
+    let mut passed = TextInfo::new();
+    let mut left = skip;
+    while span.retreat() {
+        let (start, more) = count_last(span.chunk(), left, set);
+        passed = more.plus(passed);
+        if start > 0 {
+            return (start, passed);
+        }
+        left -= more.line_breaks;
+    }
+    (0, passed)
+}
+
+impl<'a> Gap<'a> {
+    /// The place before a character; at the end of the text its end.
+    pub fn at(part: &Part<'a>, char_idx: usize) -> Gap<'a>
+        requires { char_idx ≤ length (text_of part.now) }
+        ensures front { result.front ≡ take char_idx (text_of part.now) }
+        ensures back { result.back ≡ drop char_idx (text_of part.now) }
+    {
+        let _ = part.info();
+        let (span, at) = Span::at(part, char_idx);
+        let inside = char_to_byte_idx(span.chunk(), at);
+        Gap { span, inside }
+    }
+
+    /// The same place.
+    pub fn copy(&self) -> Gap<'a>
+        ensures { result ≡ self.now }
+    {
+        Gap {
+            span: self.span.copy(),
+            inside: self.inside,
+        }
+    }
+
+    /// Goes on past the next line break, or to the end. Answers the counts of what it passed.
+    pub fn pass_line(&mut self, set: LineBreaks) -> TextInfo
+        ensures front { self.new.front ≡ self.old.front ++ first_line set self.old.back }
+        ensures back { self.old.back ≡ first_line set self.old.back ++ self.new.back }
+        ensures counts { result ≡ info_of set (first_line set self.old.back) }
+    {
+        let first = count_line(text_after(self.span.chunk(), self.inside), set);
+        if first.line_breaks > 0 {
+            self.inside += first.bytes;
+            return first;
+        }
+        let (inside, more) = pass_chunks(&mut self.span, set);
+        self.inside = inside;
+        first.plus(more)
+    }
+    /// Goes back past so many line breaks, and on to the end of the one before, or to the start. Answers the counts of what it
+    /// passed.
+    pub fn pass_line_back(&mut self, skip: usize, set: LineBreaks) -> TextInfo
+        ensures front { self.new.front ≡ take (last_start set self.old.front skip) self.old.front }
+        ensures back { self.new.back ≡ drop (last_start set self.old.front skip) self.old.front ++ self.old.back }
+        ensures counts { result ≡ info_of set (drop (last_start set self.old.front skip) self.old.front) }
+    {
+        let before = text_before(self.span.chunk(), self.inside);
+        let (start, last) = count_last(before, skip, set);
+        if start > 0 {
+            self.inside = start;
+            return last;
+        }
+        let (inside, more) = pass_chunks_back(&mut self.span, skip - last.line_breaks, set);
+        self.inside = inside;
+        more.plus(last)
+    }
+}
