@@ -1,10 +1,10 @@
 //! Cursors over a rope's or a slice's chunks, bytes, characters and lines: both ways, borrowed. No call takes memory.
 #![tactic(auto)]
 
+mod between;
 pub mod bytes;
 pub mod chars;
 pub mod chunks;
-mod between;
 mod cuts;
 pub mod gap;
 pub mod lines;
