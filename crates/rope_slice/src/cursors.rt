@@ -137,7 +137,10 @@ impl<'a> RopeSlice<'a> {
     }
 
     /// What `chunks_at_line_break` answers, or none where the index is past `len_lines()`. No memory is taken.
-    pub fn get_chunks_at_line_break(&self, line_break_idx: usize) -> Option<(Chunks<'a>, usize, usize, usize)>
+    pub fn get_chunks_at_line_break(
+        &self,
+        line_break_idx: usize,
+    ) -> Option<(Chunks<'a>, usize, usize, usize)>
         ensures { MatchOption result (line_count (breaks_of self.now) (text_of self.now) < line_break_idx)
             (λ found. (line_break_idx ≤ line_count (breaks_of self.now) (text_of self.now)) × StandsAt (breaks_of self.now) (chunks_of self.now)
             (chunk_place_at_line_break (breaks_of self.now) (chunks_of self.now) line_break_idx) found.0 found.1 found.2 found.3) }

@@ -82,8 +82,9 @@ fn chunks_at_the_end(rt: HostRuntime) -> Result<(), Fail> {
     let (last, _, _, _) = given(rope.get_chunk_at_byte(20_000))?;
     assert!(rt; chunks.prev() == Some(last));
     assert!(rt; chunks.next() == Some(last) && chunks.next().is_none());
-    let (mut chunks, bytes, chars, breaks) =
-        given(RopeSlice::from("abc").get_chunks_at_line_break(1))?;
+    let (mut chunks, bytes, chars, breaks) = given(RopeSlice::from("abc").get_chunks_at_line_break(
+        1,
+    ))?;
     assert_eq!(rt; [bytes, chars, breaks], [3, 3, 0]);
     assert!(rt; chunks.next().is_none());
     assert!(rt; chunks.prev() == Some("abc") && chunks.prev().is_none());
@@ -107,7 +108,8 @@ fn lines_of_several_chunks(rt: HostRuntime) -> Result<(), Fail> {
     Ok(())
 }
 
-const FOUR_LINES: &str = "Hello there!  How're you doing?\nIt's a fine day, isn't it?\nAren't you glad we're alive?\nこんにちは、みんなさん！";
+const FOUR_LINES: &str =
+    "Hello there!  How're you doing?\nIt's a fine day, isn't it?\nAren't you glad we're alive?\nこんにちは、みんなさん！";
 
 #[test]
 fn lines_of_a_slice(rt: HostRuntime) -> Result<(), Fail> {

@@ -121,7 +121,10 @@ impl Rope {
     }
 
     /// What `chunks_at_line_break` answers, or none where the index is past `len_lines()`. No memory is taken.
-    pub fn get_chunks_at_line_break(&self, line_break_idx: usize) -> Option<(Chunks<'_>, usize, usize, usize)>
+    pub fn get_chunks_at_line_break(
+        &self,
+        line_break_idx: usize,
+    ) -> Option<(Chunks<'_>, usize, usize, usize)>
         ensures { MatchOption result (line_count self.now.breaks self.now.text < line_break_idx)
             (λ found. (line_break_idx ≤ line_count self.now.breaks self.now.text) × StandsAt self.now.breaks self.now.chunks
             (chunk_place_at_line_break self.now.breaks self.now.chunks line_break_idx) found.0 found.1 found.2 found.3) }
