@@ -3,16 +3,16 @@ use Rattle.std.proofs.Common.{◌≡◌, ℕ, ◌+◌, ◌-◌, ◌<◌, ◌≤�
 use Rattle.std.specs.List.{concat, slice_range}
 use Rattle.std.proofs.lemmas.Bool.{cases_lt}
 use Rattle.std.proofs.lemmas.List.{append-nil, length-append, take_all, take_at, take-append-le}
-use Rattle.std.proofs.Math.Seq.{take-append-add}
+use Rattle.std.proofs.Math.Seq.{take-append-add, take-nil, get_or-append_seam}
 use Rattle.rope_text.specs.Text.{byte_len}
 use Rattle.rope_text.specs.Cutting.{clip, cons_nonempty}
 use Rattle.rope_text.proofs.Measures.{IsMeasure-byte_len, size_le, size_lt, size_le_all}
 use Rattle.rope_text.proofs.CuttingLaws.{concat-append}
-use Rattle.rope_text.proofs.ClipLaws.{clip_empty, length-slice_range, slice_range_past}
+use Rattle.rope_text.proofs.ClipLaws.{clip_empty, concat-clip, length-slice_range, slice_range_past}
 use Rattle.rope_cursor.specs.declared.span.Edge.{Edge}
 use Rattle.rope_cursor.specs.Path.{Place, IsNext, leaves}
-use Rattle.rope_cursor.specs.Span.{clipped_place, IsWithin}
-use Rattle.rope_part.proofs.ClippedChunks.{clip-append, cons_some}
+use Rattle.rope_cursor.specs.Span.{clipped_place, IsWithin, IsSpan}
+use Rattle.rope_part.proofs.ClippedChunks.{clip-append, cons_some, size_of_part}
 
 -- the bytes of a text's middle part up to a place of the text
 pub middle_bytes : (x y z : List ℕ) (i : ℕ) → i ≤ length x + length y → byte_len (take (i - length x) y) ≡ byte_len (take i (x ++ (y ++ z))) - byte_len x
@@ -35,6 +35,19 @@ clip_passed [] a b l = refl
 clip_passed (chunk ∷ chunks) a b l =
     let long = length-append chunk (concat chunks) in
     rw (slice_range_past chunk a b (omega arith)) (clip_passed chunks (a - length chunk) (b - length chunk) (omega arith))
+
+-- none of the leaves is empty, so this one is not
+pub some_leaf : (p : Place) → All (λ leaf. 0 < length leaf) (leaves p) → 0 < length p.here
+some_leaf p solid =
+    let at = get_or-append_seam p.before p.here p.after [] in
+    rw at at (solid (length p.before) [] (omega (arith, length-append p.before (p.here ∷ p.after))))
+
+-- where the leaf has a character of the part, the chunks are the leaves, clipped
+pub leaves_clipped : (p : Place) (a b : ℕ) → 0 < length p.here → a < b → length (concat p.before) < b → a < length (concat p.before) + length p.here → leaves (clipped_place p a b) ≡ clip (leaves p) a b
+leaves_clipped p a b some less starts ends =
+    let q = clipped_place p a b in
+    let x : ℕ = length (concat p.before) in
+    sym (clip-append p.before (p.here ∷ p.after) a b ∙ ap (λ ls. q.before ++ ls) (cons_some q.here q.after (omega (arith, length-slice_range p.here (a - x) (b - x)))))
 
 module _ (p : Place) (start : ℕ) (from to : Edge) (w : IsWithin p start from to) where
   text_at : concat (leaves p) ≡ concat p.before ++ (p.here ++ concat p.after)
@@ -81,8 +94,36 @@ module _ (p : Place) (start : ℕ) (from to : Edge) (w : IsWithin p start from t
       let e = ends_here l in
       clip_empty p.after (from.chars - length (concat p.before) - length p.here) (to.chars - length (concat p.before) - length p.here) (omega arith)
 
-  pub some_here : 0 < length (clipped_place p from.chars to.chars).here
-  some_here = omega (arith, length-slice_range p.here (from.chars - length (concat p.before)) (to.chars - length (concat p.before)), w.some, w.starts, w.ends)
+  in_order_within : start ≤ to.bytes
+  in_order_within =
+      let front : take (length (concat p.before)) (concat (leaves p)) ≡ concat p.before =
+      ap (take (length (concat p.before))) text_at ∙ take_at (concat p.before) (p.here ++ concat p.after) (length (concat p.before)) refl in
+      omega (arith, size_le byte_len IsMeasure-byte_len (concat (leaves p)) (length (concat p.before)) to.chars (omega (arith, w.starts)), ap byte_len front, w.start_is, w.to_bytes)
+
+  -- what of the chunks before lies before the leaf
+  pub bytes_before_within : byte_len (concat (clip p.before from.chars to.chars)) ≡ start - from.bytes
+  bytes_before_within =
+      let x : List ℕ = concat p.before in
+      let part = ap byte_len (concat-clip p.before from.chars to.chars) ∙ size_of_part byte_len IsMeasure-byte_len x from.chars to.chars in
+      let all = ap byte_len (take_all to.chars x (omega (arith, w.starts))) in
+      elim (cases_lt from.chars (length x)) [
+        | inl inside ↦
+            let front : take from.chars (concat (leaves p)) ≡ take from.chars x = ap (take from.chars) text_at ∙ take-append-le from.chars x (p.here ++ concat p.after) (omega arith) in
+            omega (arith, part, all, ap byte_len front, w.from_bytes, w.start_is)
+        | inr past ↦
+            let none = ap byte_len (take_all from.chars x past) in
+            let front : take (length x) (concat (leaves p)) ≡ x = ap (take (length x)) text_at ∙ take_at x (p.here ++ concat p.after) (length x) refl in
+            omega (arith, part, all, none, w.from_bytes, w.start_is, ap byte_len front, size_le byte_len IsMeasure-byte_len (concat (leaves p)) (length x) from.chars past)
+      ]
+
+  pub none_before : start ≤ from.bytes → (clipped_place p from.chars to.chars).before ≡ []
+  none_before l = elim (cases_lt from.chars (length (concat p.before))) [
+    | inl inside ↦
+        let front : take (length (concat p.before)) (concat (leaves p)) ≡ concat p.before =
+        ap (take (length (concat p.before))) text_at ∙ take_at (concat p.before) (p.here ++ concat p.after) (length (concat p.before)) refl in
+        absurd (omega (arith, size_lt byte_len IsMeasure-byte_len (concat (leaves p)) from.chars (length (concat p.before)) inside (omega (arith, w.within, w.starts)), ap byte_len front, w.start_is, w.from_bytes))
+    | inr past ↦ clip_passed p.before from.chars to.chars past
+  ]
 
 -- the next leaf
 module _ (p q : Place) (n : IsNext p q) where
@@ -152,3 +193,88 @@ module _ (p q : Place) (n : IsNext p q) where
         starts = omega (arith, chars_next, w.starts);
         ends = omega (arith, chars_next, starts_before start from to w l);
       }
+
+-- a part that may be empty
+module _ (p : Place) (start : ℕ) (from to : Edge) (h : IsSpan p start from to) where
+  pub in_order : start ≤ to.bytes
+  in_order = elim (cases_lt from.chars to.chars) [
+    | inl some ↦ in_order_within p start from to (h.some some)
+    | inr none ↦ let n = h.none none in omega (arith, n.start_is)
+  ]
+
+  low_here : byte_len (take (from.chars - length (concat p.before)) p.here) ≡ from.bytes - start
+  low_here = elim (cases_lt from.chars to.chars) [
+    | inl some ↦ low_bytes p start from to (h.some some)
+    | inr none ↦ let n = h.none none in rw (n.here, n.from_is, take-nil (from.chars - length (concat p.before))) (omega arith)
+  ]
+
+  high_here : byte_len (take (to.chars - length (concat p.before)) p.here) ≡ min (to.bytes - start) (byte_len p.here)
+  high_here = elim (cases_lt from.chars to.chars) [
+    | inl some ↦ high_bytes p start from to (h.some some)
+    | inr none ↦ let n = h.none none in rw (n.here, n.to_is, take-nil (to.chars - length (concat p.before))) (omega arith)
+  ]
+
+  pub bytes_before : byte_len (concat (clip p.before from.chars to.chars)) ≡ start - from.bytes
+  bytes_before = elim (cases_lt from.chars to.chars) [
+    | inl some ↦ bytes_before_within p start from to (h.some some)
+    | inr none ↦ let n = h.none none in rw (n.before, n.start_is) (omega arith)
+  ]
+
+  pub no_next : to.bytes - start ≤ byte_len p.here → (clipped_place p from.chars to.chars).after ≡ []
+  no_next l = elim (cases_lt from.chars to.chars) [
+    | inl some ↦ none_after p start from to (h.some some) l
+    | inr none ↦ let n = h.none none in rw n.after refl
+  ]
+
+  pub no_prev : start ≤ from.bytes → (clipped_place p from.chars to.chars).before ≡ []
+  no_prev l = elim (cases_lt from.chars to.chars) [
+    | inl some ↦ none_before p start from to (h.some some) l
+    | inr none ↦ let n = h.none none in rw n.before refl
+  ]
+
+  -- not the empty text
+  within_span : 0 < start + to.bytes → IsWithin p start from to
+  within_span l = elim (cases_lt from.chars to.chars) [
+    | inl some ↦ h.some some
+    | inr none ↦ let n = h.none none in absurd (omega (arith, n.start_is, n.to_is))
+  ]
+
+-- which bytes of the leaf lie in the part
+pub record IsCut (p : Place) (start : ℕ) (from to : Edge) : Type 0 where
+  pub in_order : start ≤ to.bytes
+  pub ordered : from.chars - length (concat p.before) ≤ to.chars - length (concat p.before)
+  pub low : byte_len (take (from.chars - length (concat p.before)) p.here) ≡ from.bytes - start
+  pub high : byte_len (take (to.chars - length (concat p.before)) p.here) ≡ min (to.bytes - start) (byte_len p.here)
+
+pub cut : (p : Place) (start : ℕ) (from to : Edge) → IsSpan p start from to → IsCut p start from to
+cut p start from to h = record { in_order = in_order p start from to h; ordered = omega (arith, h.ordered); low = low_here p start from to h; high = high_here p start from to h }
+
+-- a step to the next leaf, or to the one before
+pub record Steps (p q : Place) (start : ℕ) (from to : Edge) : Type 0 where
+  pub is_span : IsSpan q start from to
+  pub moved : IsNext (clipped_place p from.chars to.chars) (clipped_place q from.chars to.chars)
+
+pub record StepsBack (p q : Place) (start len : ℕ) (from to : Edge) : Type 0 where
+  pub room : len ≤ start
+  pub is_span : IsSpan p (start - len) from to
+  pub moved : IsNext (clipped_place p from.chars to.chars) (clipped_place q from.chars to.chars)
+
+pub span_next : (p q : Place) (start len : ℕ) (from to : Edge) → IsSpan p start from to → len ≡ byte_len p.here → IsNext p q → len < to.bytes - start → Steps p q (start + len) from to
+span_next p q start len from to h e n l =
+    let w = within_span p start from to h (omega arith) in
+    let more = ends_later p start from to w (omega arith) in
+    let v = within_next p q n start from to w more in
+    record {
+      is_span = record { some = λ _. rw e v; none = λ none. absurd (omega (arith, w.some)); ordered = h.ordered };
+      moved = clipped_next p q n from.chars to.chars w.ends v.starts (some_leaf p w.solid) (some_leaf q v.solid);
+    }
+
+pub span_prev : (p q : Place) (start len : ℕ) (from to : Edge) → IsSpan q start from to → len ≡ byte_len p.here → IsNext p q → from.bytes < start → StepsBack p q start len from to
+span_prev p q start len from to h e n l =
+    let w = within_span q start from to h (omega arith) in
+    let v = within_prev p q n start from to w l in
+    record {
+      room = omega (arith, bytes_next p q n, w.start_is);
+      is_span = record { some = λ _. rw e v; none = λ none. absurd (omega (arith, w.some)); ordered = h.ordered };
+      moved = clipped_next p q n from.chars to.chars v.ends w.starts (some_leaf p v.solid) (some_leaf q w.solid);
+    }

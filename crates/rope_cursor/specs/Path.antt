@@ -3,6 +3,11 @@ use Rattle.std.specs.Prelude.{◌≡◌, ℕ, ◌+◌, ◌-◌, ◌<◌, ◌≤�
 use Rattle.std.specs.List.{concat, flat_map}
 use Rattle.std.specs.declared.rc.Rc.{Rc}
 use Rattle.std.specs.declared.alloc.Global.{Global}
+use Rattle.rope_text.specs.declared.line_breaks.LineBreaks.{LineBreaks}
+use Rattle.rope_text.specs.declared.text_info.TextInfo.{TextInfo}
+use Rattle.rope_text.specs.TextInfo.{info_of}
+use Rattle.rope_tree.specs.declared.search.Unit.{Unit}
+use Rattle.rope_tree.specs.Search.{count_of}
 use Rattle.rope_tree.specs.Tree.{Tree}
 use Rattle.rope_tree.specs.declared.node.Node.{Node}
 use Rattle.rope_cursor.specs.declared.path.Frame.{Frame}
@@ -22,10 +27,11 @@ pub record IsNext (old new : Place) : Type 0 where
   pub before : new.before ≡ old.before ++ old.here ∷ []
   pub after : old.after ≡ new.here ∷ new.after
 
--- the leaf here holds the character at a place of the text of all the leaves
-pub record HoldsChar (at : ℕ) (before : List (List ℕ)) (here : List ℕ) : Type 0 where
-  pub starts : length (concat before) ≤ at
-  pub ends : at < length (concat before) + length here
+-- the leaf here holds a place of the text of all the leaves, counted in a unit; `info` are the counts of the text before it
+pub record HoldsPlace (unit : Unit) (set : LineBreaks) (at : ℕ) (before : List (List ℕ)) (here : List ℕ) (info : TextInfo) : Type 0 where
+  pub info_is : info ≡ info_of set (concat before)
+  pub not_past : count_of unit info ≤ at
+  pub past : at < count_of unit (info_of set (concat before ++ here))
 
 -- the leaves below some nodes
 abbrev pub leaves_below : List (Rc Node Global) → List (List ℕ)

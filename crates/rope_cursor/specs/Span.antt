@@ -1,5 +1,5 @@
 -- A way to a leaf within a part of the text of all the leaves.
-use Rattle.std.specs.Prelude.{◌≡◌, ℕ, ◌+◌, ◌-◌, ◌<◌, ◌≤◌, length, take, All}
+use Rattle.std.specs.Prelude.{◌≡◌, ℕ, ◌+◌, ◌-◌, ◌<◌, ◌≤◌, [], length, take, All}
 use Rattle.std.specs.List.{concat, slice_range}
 use Rattle.rope_text.specs.Text.{byte_len}
 use Rattle.rope_text.specs.Cutting.{clip}
@@ -24,3 +24,18 @@ pub record IsWithin (p : Place) (start : ℕ) (from to : Edge) : Type 0 where
   pub to_bytes : to.bytes ≡ byte_len (take to.chars (concat (leaves p)))
   pub starts : length (concat p.before) < to.chars
   pub ends : from.chars < length (concat p.before) + length p.here
+
+-- the empty text is the only leaf
+pub record IsNothing (p : Place) (start : ℕ) (from to : Edge) : Type 0 where
+  pub before : p.before ≡ []
+  pub here : p.here ≡ []
+  pub after : p.after ≡ []
+  pub start_is : start ≡ 0
+  pub from_is : from.bytes ≡ 0
+  pub to_is : to.bytes ≡ 0
+
+-- a part is within its leaves, or it is empty
+pub record IsSpan (p : Place) (start : ℕ) (from to : Edge) : Type 0 where
+  pub some : from.chars < to.chars → IsWithin p start from to
+  pub none : to.chars ≤ from.chars → IsNothing p start from to
+  pub ordered : from.chars ≤ to.chars

@@ -1,14 +1,16 @@
 //! A cursor over the chunks of a part.
-ghost use Rattle.std.specs.Prelude.{◌≡◌, ◌≤◌, ℕ, List, ⊤, false, length};
-ghost use Rattle.std.specs.List.{concat};
+ghost use Rattle.std.specs.Prelude.{◌≡◌, ◌≤◌, List, ⊤, false, length};
 ghost use Rattle.std.specs.Str.{chars};
 ghost use Rattle.std.specs.Iterator.{YieldsFirstBy, MakesProgress, item_count};
-ghost use Rattle.rope_text.specs.Lookup.{chunk_index_at_char};
-ghost use Rattle.rope_text.specs.Sides.{Sides, ahead, all_items, place, turned, GoesRight, GoesLeft, StepsAhead, StepsBack};
-ghost use Rattle.rope_part.specs.Part.{text_of, chunks_of};
+ghost use Rattle.rope_text.specs.Text.{byte_len};
+ghost use Rattle.rope_text.specs.Lines.{line_count};
+ghost use Rattle.rope_text.specs.Lookup.{found_chunk, chunk_place_at_byte, chunk_place_at_char, chunk_place_at_line_break};
+ghost use Rattle.rope_text.specs.Sides.{Sides, ahead, all_items, at_start, place, turned, GoesRight, GoesLeft, StepsAhead, StepsBack};
+ghost use Rattle.rope_part.specs.Part.{text_of, chunks_of, breaks_of};
+ghost use Rattle.rope_cursor.specs.Chunks.{LieBefore};
 
-use crate::part::Part;
 use crate::span::Span;
+use rope_part::Part;
 use std::alloc::AllocError;
 use std::marker::Model;
 
@@ -34,32 +36,115 @@ impl<'a> Model for Chunks<'a> {
 }
 
 impl<'a> Chunks<'a> {
-    /// A cursor before the chunk that holds a character, facing forward; at the end of the text it stands past the last chunk.
-    pub fn at_char(part: &Part<'a>, char_idx: usize) -> Chunks<'a>
-        requires { char_idx ≤ length (text_of part.now) }
-        ensures items { all_items result ≡ chunks_of part.now }
-        ensures inside { char_idx < length (text_of part.now) → place result ≡ chunk_index_at_char (chunks_of part.now) char_idx }
-        ensures end { char_idx ≡ length (text_of part.now) → place result ≡ length (chunks_of part.now) }
-        ensures forward { result.is_backward ≡ false }
+    // A cursor past the last chunk, facing forward, and the bytes, the characters and the line breaks of the text.
+    fn at_end(part: &Part<'a>) -> (Chunks<'a>, usize, usize, usize)
+        ensures items { all_items result.0 ≡ chunks_of part.now }
+        ensures place { place result.0 ≡ length (chunks_of part.now) }
+        ensures forward { result.0.is_backward ≡ false }
+        ensures before { LieBefore (found_chunk (breaks_of part.now) (chunks_of part.now) (length (chunks_of part.now)))
+            result.1 result.2 result.3 }
     {
-        let len = part.len_chars();
-        if len == 0 {
-            return Chunks {
-                span: Span::of_text("a", 1),
-                is_empty: true,
+        let info = part.info();
+        let (span, _) = Span::at(part, info.chars);
+        let chunks = Chunks {
+            span,
+            is_empty: info.chars == 0,
+            is_past: true,
+            is_backward: false,
+        };
+        (chunks, info.bytes, info.chars, info.line_breaks)
+    }
+
+    /// A cursor before the first chunk, facing forward.
+    pub fn new(part: &Part<'a>) -> Chunks<'a>
+        ensures { result ≡ at_start (chunks_of part.now) }
+    {
+        let is_empty = part.info().chars == 0;
+        let (span, _) = Span::at(part, 0);
+        Chunks {
+            span,
+            is_empty,
+            is_past: false,
+            is_backward: false,
+        }
+    }
+
+    /// A cursor before the chunk that holds a byte, facing forward; at the end of the text past the last chunk. With it the
+    /// bytes, the characters and the line breaks of the text before its place.
+    pub fn at_byte(part: &Part<'a>, byte_idx: usize) -> (Chunks<'a>, usize, usize, usize)
+        requires { byte_idx ≤ byte_len (text_of part.now) }
+        ensures items { all_items result.0 ≡ chunks_of part.now }
+        ensures place { place result.0 ≡ chunk_place_at_byte (chunks_of part.now) byte_idx }
+        ensures forward { result.0.is_backward ≡ false }
+        ensures before { LieBefore (found_chunk (breaks_of part.now) (chunks_of part.now)
+            (chunk_place_at_byte (chunks_of part.now) byte_idx)) result.1 result.2 result.3 }
+    {
+        let info = part.info();
+        if byte_idx == info.bytes {
+            Chunks::at_end(part)
+        } else {
+            let (span, bytes, chars, breaks) = Span::with_byte(part, byte_idx);
+            let chunks = Chunks {
+                span,
+                is_empty: info.chars == 0,
                 is_past: false,
                 is_backward: false,
             };
+            (chunks, bytes, chars, breaks)
         }
-        let span = match part {
-            Part::InTree(stretch) => Span::in_stretch(stretch, char_idx.min(len - 1)),
-            Part::Alone(plain) => Span::of_text(plain.as_str(), len),
-        };
-        Chunks {
-            span,
-            is_empty: false,
-            is_past: char_idx == len,
-            is_backward: false,
+    }
+
+    /// A cursor before the chunk that holds a character, facing forward; at the end of the text past the last chunk. With it
+    /// the bytes, the characters and the line breaks of the text before its place.
+    pub fn at_char(part: &Part<'a>, char_idx: usize) -> (Chunks<'a>, usize, usize, usize)
+        requires { char_idx ≤ length (text_of part.now) }
+        ensures items { all_items result.0 ≡ chunks_of part.now }
+        ensures place { place result.0 ≡ chunk_place_at_char (chunks_of part.now) char_idx }
+        ensures forward { result.0.is_backward ≡ false }
+        ensures before { LieBefore (found_chunk (breaks_of part.now) (chunks_of part.now)
+            (chunk_place_at_char (chunks_of part.now) char_idx)) result.1 result.2 result.3 }
+    {
+        let info = part.info();
+        if char_idx == info.chars {
+            Chunks::at_end(part)
+        } else {
+            let (span, bytes, chars, breaks) = Span::with_char(part, char_idx);
+            let chunks = Chunks {
+                span,
+                is_empty: info.chars == 0,
+                is_past: false,
+                is_backward: false,
+            };
+            (chunks, bytes, chars, breaks)
+        }
+    }
+
+    /// A cursor before the first chunk by whose end so many line breaks have ended, facing forward; one more than there are
+    /// line breaks is past the last chunk. With it the bytes, the characters and the line breaks of the text before its place.
+    pub fn at_line_break(
+        part: &Part<'a>,
+        line_break_idx: usize,
+    ) -> (Chunks<'a>, usize, usize, usize)
+        requires { line_break_idx ≤ line_count (breaks_of part.now) (text_of part.now) }
+        ensures items { all_items result.0 ≡ chunks_of part.now }
+        ensures place { place result.0 ≡ chunk_place_at_line_break (breaks_of part.now) (chunks_of part.now) line_break_idx }
+        ensures forward { result.0.is_backward ≡ false }
+        ensures before { LieBefore (found_chunk (breaks_of part.now) (chunks_of part.now)
+            (chunk_place_at_line_break (breaks_of part.now) (chunks_of part.now) line_break_idx)) result.1 result.2 result.3 }
+    {
+        let info = part.info();
+        if line_break_idx == part.len_lines() {
+            Chunks::at_end(part)
+        } else {
+            let end = part.line_to_char(line_break_idx);
+            let (span, bytes, chars, breaks) = Span::with_char(part, end.saturating_sub(1));
+            let chunks = Chunks {
+                span,
+                is_empty: info.chars == 0,
+                is_past: false,
+                is_backward: false,
+            };
+            (chunks, bytes, chars, breaks)
         }
     }
 

@@ -3,9 +3,11 @@
 
 pub mod bytes;
 pub mod chars;
+pub mod chunks;
 pub mod path;
 mod point;
 pub mod span;
 
 pub use bytes::Bytes;
 pub use chars::Chars;
+pub use chunks::Chunks;

@@ -1,29 +1,33 @@
 //! A way to a leaf within a part of a tree's text: the leaves are seen clipped.
-ghost use Rattle.std.specs.Prelude.{◌≡◌, ◌+◌, ◌-◌, ◌<◌, ◌≤◌, [], length};
+ghost use Rattle.std.specs.Prelude.{◌≡◌, ◌+◌, ◌-◌, ◌<◌, ◌≤◌, min, [], length};
 ghost use Rattle.std.specs.Bool.{OnTrue, OnFalse};
 ghost use Rattle.std.specs.List.{concat, slice_range};
-ghost use Rattle.std.specs.Str.{chars, IsCharBoundary};
-ghost use Rattle.rope_cursor.specs.Path.{IsNext, HoldsChar, leaves};
-ghost use Rattle.rope_part.specs.Part.{text_of, chunks_of};
+ghost use Rattle.std.specs.Str.{chars};
+ghost use Rattle.rope_text.specs.Text.{byte_len};
+ghost use Rattle.rope_text.specs.Cutting.{clip};
+ghost use Rattle.rope_tree.specs.Tree.{text};
+ghost use Rattle.rope_cursor.specs.Path.{IsNext, leaves};
+ghost use Rattle.rope_cursor.specs.Starts.{AreBefore, MeetsLeaf};
+ghost use Rattle.rope_part.specs.Part.{text_of, chunks_of, breaks_of};
 
 use crate::path::Path;
-use rope_part::Part;
-use rope_text::Steps;
-use rope_tree::lookup::leaf_at;
+use rope_part::{Part, Plain, Stretch};
+use rope_text::TextInfo;
 use rope_tree::search::Unit;
 use std::marker::Model;
 
 /// The bytes and the characters before a place of a text.
 #[derive(Clone, Copy)]
-pub struct Edge {
+struct Edge {
     bytes: usize,
     chars: usize,
 }
 
-/// A chunk of a part that is not empty, seen as the chunks before it, the chunk, and the chunks after it.
+/// A chunk of a part, seen as the chunks before it, the chunk, and the chunks after it.
 #[derive(Drop)]
 pub struct Span<'a> {
     path: Path<'a>,
+    // the bytes of the text before the leaf, of which the chunk is a part
     start: usize,
     from: Edge,
     to: Edge,
@@ -31,30 +35,123 @@ pub struct Span<'a> {
 
 impl<'a> Model for Span<'a> {
     ghost use Rattle.rope_cursor.specs.Path.{Place};
-    ghost use Rattle.rope_cursor.specs.Span.{clipped_place, IsWithin};
+    ghost use Rattle.rope_cursor.specs.Span.{clipped_place, IsSpan};
 
     ghost Value = { Place };
 
     ghost view = { λ a. clipped_place a.path a.from.chars a.to.chars };
 
-    ghost invariant = { λ a. IsWithin a.path a.start a.from a.to };
-}
-
-// Of a leaf that starts at a byte of a text, the part from the byte `from` of that text up to the byte `to`.
-fn clipped_leaf<'a>(leaf: &'a str, start: usize, from: usize, to: usize) -> &'a str
-    requires ordered { from ≤ to }
-    requires low { from ≤ start + length leaf.now }
-    requires high { start ≤ to }
-    requires from_cut { start ≤ from → IsCharBoundary leaf.now (from - start) }
-    requires to_cut { to ≤ start + length leaf.now → IsCharBoundary leaf.now (to - start) }
-    ensures { result.now ≡ slice_range leaf.now (from - start) (to - start) }
-{
-    let low = from.saturating_sub(start);
-    let high = (to - start).min(leaf.len());
-    &leaf[low..high]
+    ghost invariant = { λ a. IsSpan a.path a.start a.from a.to };
 }
 
 impl<'a> Span<'a> {
+    // The chunk of a part of a tree that lies in a leaf, and the bytes, the characters and the line breaks of the part before
+    // that chunk. `before` are the counts of the tree's text before the leaf.
+    fn in_leaf(
+        stretch: &Stretch<'a>,
+        path: Path<'a>,
+        before: TextInfo,
+    ) -> (Span<'a>, usize, usize, usize)
+        requires { MeetsLeaf stretch.now path before }
+        ensures chunks { leaves result.0 ≡ clip stretch.now.node.now.leaves stretch.now.start.chars stretch.now.end.chars }
+        ensures before { AreBefore stretch.now.node.now.breaks
+            (slice_range (text stretch.now.node.now) stretch.now.start.chars stretch.now.end.chars)
+            result.0.before result.1 result.2 result.3 }
+        ensures from_bytes { result.1 ≡ before.bytes - stretch.now.start.bytes }
+        ensures from_chars { result.2 ≡ before.chars - stretch.now.start.chars }
+        ensures chars { length (concat result.0.before) + length result.0.here
+            ≡ min (length (concat path.entry.before) + length path.entry.here) stretch.now.end.chars - stretch.now.start.chars }
+        ensures bytes { byte_len (concat result.0.before) + byte_len result.0.here
+            ≡ min (byte_len (concat path.entry.before) + byte_len path.entry.here) stretch.now.end.bytes - stretch.now.start.bytes }
+    {
+        let _ = stretch.node.height();
+        let start = stretch.start;
+        let span = Span {
+            path,
+            start: before.bytes,
+            from: Edge {
+                bytes: start.bytes,
+                chars: start.chars,
+            },
+            to: Edge {
+                bytes: stretch.end.bytes,
+                chars: stretch.end.chars,
+            },
+        };
+        (
+            span,
+            before.bytes.saturating_sub(start.bytes),
+            before.chars.saturating_sub(start.chars),
+            before.line_breaks.saturating_sub(start.line_breaks),
+        )
+    }
+
+    // A plain text as the only chunk.
+    fn of_text(plain: &Plain<'a>) -> Span<'a>
+        ensures before { result.before ≡ [] }
+        ensures here { result.here ≡ chars plain.now.text.now }
+        ensures after { result.after ≡ [] }
+    {
+        Span {
+            path: Path::text(plain.text),
+            start: 0,
+            from: Edge { bytes: 0, chars: 0 },
+            to: Edge {
+                bytes: plain.info.bytes,
+                chars: plain.info.chars,
+            },
+        }
+    }
+
+    /// The chunk of a part that holds a character; at the end of the text the last chunk. With it the bytes, the characters
+    /// and the line breaks of the text before it. An empty part has no chunk: then it is the empty text.
+    pub fn with_char(part: &Part<'a>, char_idx: usize) -> (Span<'a>, usize, usize, usize)
+        requires { char_idx ≤ length (text_of part.now) }
+        ensures text { concat (leaves result.0) ≡ text_of part.now }
+        ensures chunks { 0 < length (text_of part.now) → leaves result.0 ≡ chunks_of part.now }
+        ensures before { AreBefore (breaks_of part.now) (text_of part.now) result.0.before result.1 result.2 result.3 }
+        ensures starts { result.2 ≤ char_idx }
+        ensures within { char_idx ≤ result.2 + length result.0.here }
+        ensures inside { char_idx < length (text_of part.now) → char_idx < result.2 + length result.0.here }
+    {
+        match part {
+            Part::InTree(stretch) => {
+                let node = stretch.node;
+                let _ = node.height();
+                let place = (stretch.start.chars + char_idx).min(stretch.end.chars - 1);
+                let (path, before) = Path::at(node, Unit::Char, place);
+                Span::in_leaf(stretch, path, before)
+            }
+            Part::Alone(plain) => (Span::of_text(plain), 0, 0, 0),
+        }
+    }
+
+    /// The chunk of a part that holds a byte; at the end of the text the last chunk. With it the bytes, the characters and
+    /// the line breaks of the text before it. An empty part has no chunk: then it is the empty text.
+    pub fn with_byte(part: &Part<'a>, byte_idx: usize) -> (Span<'a>, usize, usize, usize)
+        requires { byte_idx ≤ byte_len (text_of part.now) }
+        ensures text { concat (leaves result.0) ≡ text_of part.now }
+        ensures chunks { 0 < length (text_of part.now) → leaves result.0 ≡ chunks_of part.now }
+        ensures before { AreBefore (breaks_of part.now) (text_of part.now) result.0.before result.1 result.2 result.3 }
+        ensures starts { result.1 ≤ byte_idx }
+        ensures within { byte_idx ≤ result.1 + byte_len result.0.here }
+        ensures inside { byte_idx < byte_len (text_of part.now) → byte_idx < result.1 + byte_len result.0.here }
+    {
+        match part {
+            Part::InTree(stretch) => {
+                let node = stretch.node;
+                let _ = node.height();
+                let place = (stretch.start.bytes + byte_idx).min(stretch.end.bytes - 1);
+                let (path, before) = Path::at(node, Unit::Byte, place);
+                Span::in_leaf(stretch, path, before)
+            }
+            Part::Alone(plain) => {
+                let _ = plain.info();
+                (Span::of_text(plain), 0, 0, 0)
+            }
+        }
+    }
+
     /// The chunk of a part that holds a character, and the place of that character within the chunk. At the end of the
     /// text it is the last chunk, and its end. An empty part has no chunk: then it is the empty text.
     pub fn at(part: &Part<'a>, char_idx: usize) -> (Span<'a>, usize)
@@ -65,14 +162,29 @@ impl<'a> Span<'a> {
         ensures within { result.1 ≤ length result.0.here }
         ensures inside { char_idx < length (text_of part.now) → result.1 < length result.0.here }
     {
-        todo
+        let (span, _, chars, _) = Span::with_char(part, char_idx);
+        (span, char_idx - chars)
+    }
+
+    /// The chunk of a part that holds a byte, and the place of that byte within the chunk. At the end of the text it is the
+    /// last chunk, and its end. An empty part has no chunk: then it is the empty text.
+    pub fn at_byte(part: &Part<'a>, byte_idx: usize) -> (Span<'a>, usize)
+        requires { byte_idx ≤ byte_len (text_of part.now) }
+        ensures text { concat (leaves result.0) ≡ text_of part.now }
+        ensures chunks { 0 < length (text_of part.now) → leaves result.0 ≡ chunks_of part.now }
+        ensures place { byte_len (concat result.0.before) + result.1 ≡ byte_idx }
+        ensures within { result.1 ≤ byte_len result.0.here }
+        ensures inside { byte_idx < byte_len (text_of part.now) → result.1 < byte_len result.0.here }
+    {
+        let (span, bytes, _, _) = Span::with_byte(part, byte_idx);
+        (span, byte_idx - bytes)
     }
 
     /// The bytes of the chunks before it.
     pub fn bytes_before(&self) -> usize
         ensures { result ≡ byte_len (concat self.now.before) }
     {
-        todo
+        self.start.saturating_sub(self.from.bytes)
     }
 
     /// The same way.
@@ -91,7 +203,10 @@ impl<'a> Span<'a> {
     pub fn chunk(&self) -> &'a str
         ensures { chars result.now ≡ self.now.here }
     {
-        clipped_leaf(self.path.leaf(), self.start, self.from.bytes, self.to.bytes)
+        let leaf = self.path.leaf();
+        let low = self.from.bytes.saturating_sub(self.start);
+        let high = (self.to.bytes - self.start).min(leaf.len());
+        &leaf[low..high]
     }
 
     /// Goes to the next chunk. Answers whether there is one; else it stays.

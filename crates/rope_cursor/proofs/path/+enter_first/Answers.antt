@@ -1,4 +1,4 @@
-use Rattle.std.proofs.Common.{◌≡◌, ℕ, ap, ◌∙◌, arith, append-nil, take}
+use Rattle.std.proofs.Common.{ℕ, ◌∙◌, arith, append-nil, take}
 use Rattle.rope_cursor.specs.Path.{around, before_of}
 use Rattle.rope_cursor.proofs.Paths.{GoesDown, goes_down, IsOpened, opened}
 use Rattle.rope_cursor.proofs.path.+enter_first.Goals.{After-deref}

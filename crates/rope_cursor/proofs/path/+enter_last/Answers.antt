@@ -1,4 +1,4 @@
-use Rattle.std.proofs.Common.{◌≡◌, ℕ, ap, ◌∙◌, arith, append-nil, take, drop, length, ◌+◌, ◌-◌, ◌++◌, []}
+use Rattle.std.proofs.Common.{ℕ, ap, ◌∙◌, arith, take, length, ◌+◌, ◌-◌, ◌++◌}
 use Rattle.std.proofs.lemmas.List.{drop_all}
 use Rattle.rope_cursor.specs.Path.{around, after_of, leaves_below}
 use Rattle.rope_cursor.proofs.Paths.{GoesDown, goes_down, IsOpened, opened}

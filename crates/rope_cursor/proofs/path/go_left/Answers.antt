@@ -1,4 +1,4 @@
-use Rattle.std.proofs.Common.{◌≡◌, ◌-◌, ◌∷◌, ◌++◌, [], sym, ◌∙◌}
+use Rattle.std.proofs.Common.{◌-◌, ◌∷◌, []}
 use Rattle.std.specs.Str.{chars}
 use Rattle.rope_cursor.specs.Path.{around, place_of}
 use Rattle.rope_cursor.proofs.Paths.{GoesDown, prev_goes, prev_is}
