@@ -48,14 +48,13 @@ impl<'a> Bytes<'a> {
         ensures forward { result.is_backward ≡ false }
     {
         let total = part.info().bytes;
-        let (span, _) = Span::at(part, part.byte_to_char(byte_idx));
+        let (span, at) = Span::at_byte(part, byte_idx);
         let chunk = span.chunk();
-        let before = span.bytes_before();
         Bytes {
             span,
             chunk,
-            at: byte_idx - before,
-            before,
+            at,
+            before: byte_idx - at,
             total,
             is_backward: false,
         }
