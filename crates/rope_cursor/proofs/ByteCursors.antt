@@ -1,13 +1,11 @@
 -- Steps of a cursor over bytes.
-use Rattle.std.proofs.Common.{All, inl, inr, length-take, ◌≡◌, ℕ, ◌+◌, ◌-◌, ◌<◌, ◌≤◌, List, [], ◌∷◌, ◌++◌, length, take, drop, get_or, refl, ap, subst, sym, ◌∙◌, arith, append_assoc, length-append}
-use Rattle.std.proofs.lemmas.List.{take-append-drop, take_at, append-nil, take_all, drop_all, drop_more, take_more}
-use Rattle.std.proofs.lemmas.Bool.{cases_lt}
+use Rattle.std.proofs.Common.{All, length-take, ◌≡◌, ℕ, ◌+◌, ◌-◌, ◌<◌, ◌≤◌, List, [], ◌∷◌, ◌++◌, length, take, drop, get_or, ap, sym, ◌∙◌, arith, append_assoc, length-append}
+use Rattle.std.proofs.lemmas.List.{take-append-drop, append-nil, take_all, drop_all, drop_more, take_more}
 use Rattle.std.proofs.lemmas.Str.{encodes-append}
 use Rattle.std.specs.List.{concat}
 use Rattle.std.specs.Str.{encode_utf8_all}
 use Rattle.rope_text.specs.Text.{byte_len}
-use Rattle.rope_text.specs.Conversions.{byte_to_char}
-use Rattle.rope_text.proofs.Measures.{IsMeasure-byte_len, front_tells, front_past}
+use Rattle.rope_text.proofs.Measures.{IsMeasure-byte_len}
 use Rattle.rope_text.proofs.CuttingLaws.{concat-append}
 use Rattle.rope_cursor.specs.Path.{Place, IsNext, leaves}
 use Rattle.rope_cursor.specs.Point.{IsChunkAt}
@@ -90,72 +88,39 @@ module _ (p q : Place) (chunk next : List ℕ) (n : IsNext p q) (h : IsChunkAt p
         ap (λ x. x ++ encode_utf8_all (concat p.after)) (drop_more chunk last 0 within ∙ ap (λ x. get_or chunk last 0 ∷ x) none) ∙ ap (λ x. get_or chunk last 0 ∷ x) bytes_after,
       )
 
-no_bytes : (text : List ℕ) → length text ≡ 0 → byte_len text ≡ 0
-no_bytes [] e = refl
-no_bytes (c ∷ cs) e = absurd (omega arith)
-
 some_chars : (text : List ℕ) → 0 < byte_len text → 0 < length text
 some_chars [] h = absurd (omega arith)
 some_chars (c ∷ cs) h = omega arith
 
--- the place of a byte in a text that is the leaves of a place, of which a character is the one that holds the byte
-module _ (text : List ℕ) (p : Place) (whole : concat (leaves p) ≡ text) where
+-- the cursor at a byte of a text that is the leaves of a place
+module _ (text : List ℕ) (p : Place) (whole : concat (leaves p) ≡ text) (chunk : List ℕ) (h : IsChunkAt p chunk) (at : ℕ) where
   parts : text ≡ concat p.before ++ (p.here ++ concat p.after)
   parts = sym whole ∙ concat-append p.before (p.here ∷ p.after)
 
-  sizes : length text ≡ length (concat p.before) + (length p.here + length (concat p.after))
-  sizes = ap length parts ∙ length-append (concat p.before) (p.here ++ concat p.after) ∙ ap (λ n. length (concat p.before) + n) (length-append p.here (concat p.after))
-
-  byte_sizes : byte_len text ≡ byte_len (concat p.before) + (byte_len p.here + byte_len (concat p.after))
-  byte_sizes =
+  sizes : byte_len text ≡ byte_len (concat p.before) + (byte_len p.here + byte_len (concat p.after))
+  sizes =
       ap byte_len parts ∙ IsMeasure-byte_len.joined (concat p.before) (p.here ++ concat p.after)
       ∙ ap (λ n. byte_len (concat p.before) + n) (IsMeasure-byte_len.joined p.here (concat p.after))
 
-  module _ (b i r : ℕ) (is : i ≡ byte_to_char text b) (at : length (concat p.before) + r ≡ i) (inside : r ≤ length p.here) where
-    pub byte_starts : byte_len (concat p.before) ≤ b
-    unfolding byte_to_char
-    byte_starts =
-        let n = length (concat p.before) in
-        let front : take n text ≡ concat p.before = ap (take n) parts ∙ take_at (concat p.before) (p.here ++ concat p.after) n refl in
-        subst (λ t. byte_len t ≤ b) front ((front_tells byte_len IsMeasure-byte_len text b n (omega (arith, sizes))).1 (omega arith))
+  same : byte_len p.here ≡ length chunk
+  same = ap length (chunk_bytes p chunk h)
 
-    pub byte_ends : (i < length text → r < length p.here) → b ≤ byte_len text → b ≤ byte_len (concat p.before) + byte_len p.here
-    unfolding byte_to_char
-    byte_ends before_end within =
-        let n = length (concat p.before) + length p.here in
-        let two = concat p.before ++ p.here in
-        let front : take n text ≡ two =
-        ap (take n) (parts ∙ sym (append_assoc (concat p.before) p.here (concat p.after))) ∙ take_at two (concat p.after) n (length-append (concat p.before) p.here) in
-        let size = IsMeasure-byte_len.joined (concat p.before) p.here in
-        elim (cases_lt i (length text)) [
-          | inl less ↦
-              let more = before_end less in
-              let past = front_past byte_len IsMeasure-byte_len text b n (omega arith) (omega (arith, sizes)) in
-              omega (arith, ap byte_len front)
-          | inr most ↦ omega (arith, byte_sizes, sizes, no_bytes (concat p.after))
-        ]
+  pub items_at : (encode_utf8_all (concat p.before) ++ take at chunk) ++ (drop at chunk ++ encode_utf8_all (concat p.after)) ≡ encode_utf8_all text
+  items_at =
+      let before = encode_utf8_all (concat p.before) in
+      let after = encode_utf8_all (concat p.after) in
+      append_assoc before (take at chunk) (drop at chunk ++ after)
+      ∙ ap (λ x. before ++ x) (sym (append_assoc (take at chunk) (drop at chunk) after) ∙ ap (λ x. x ++ after) (take-append-drop at chunk ∙ sym (chunk_bytes p chunk h)) ∙ sym (encodes-append p.here (concat p.after)))
+      ∙ sym (encodes-append (concat p.before) (p.here ++ concat p.after)) ∙ ap encode_utf8_all (sym parts)
 
-  -- the cursor at that byte
-  module _ (chunk : List ℕ) (h : IsChunkAt p chunk) where
-    same : byte_len p.here ≡ length chunk
-    same = ap length (chunk_bytes p chunk h)
+  pub place_at : (idx : ℕ) → byte_len (concat p.before) + at ≡ idx → at ≤ byte_len p.here → length (encode_utf8_all (concat p.before) ++ take at chunk) ≡ idx
+  place_at idx e l = omega (arith, length-append (encode_utf8_all (concat p.before)) (take at chunk), length-take at chunk, same)
 
-    pub cursor_at : (b total : ℕ) → byte_len (concat p.before) ≤ b → b ≤ byte_len (concat p.before) + byte_len p.here → total ≡ byte_len text → (before : ℕ) → before ≡ byte_len (concat p.before) → (0 < length text → All (λ leaf. 0 < length leaf) (leaves p)) → IsByteCursor p chunk (b - before) before total
-    cursor_at b total starts ends all before e solid = record {
-      chunk_is = h;
-      within = omega (arith, same);
-      before_is = e;
-      total_is = omega (arith, byte_sizes, same);
-      solid = λ some. solid (some_chars text (omega arith));
-    }
-
-    pub items_at : (at : ℕ) → (encode_utf8_all (concat p.before) ++ take at chunk) ++ (drop at chunk ++ encode_utf8_all (concat p.after)) ≡ encode_utf8_all text
-    items_at at =
-        let before = encode_utf8_all (concat p.before) in
-        let after = encode_utf8_all (concat p.after) in
-        append_assoc before (take at chunk) (drop at chunk ++ after)
-        ∙ ap (λ x. before ++ x) (sym (append_assoc (take at chunk) (drop at chunk) after) ∙ ap (λ x. x ++ after) (take-append-drop at chunk ∙ sym (chunk_bytes p chunk h)) ∙ sym (encodes-append p.here (concat p.after)))
-        ∙ sym (encodes-append (concat p.before) (p.here ++ concat p.after)) ∙ ap encode_utf8_all (sym parts)
-
-    pub place_at : (b : ℕ) → byte_len (concat p.before) ≤ b → b ≤ byte_len (concat p.before) + byte_len p.here → (before : ℕ) → before ≡ byte_len (concat p.before) → length (encode_utf8_all (concat p.before) ++ take (b - before) chunk) ≡ b
-    place_at b starts ends before e = omega (arith, length-append (encode_utf8_all (concat p.before)) (take (b - before) chunk), length-take (b - before) chunk, same)
+  pub cursor_at : (idx total : ℕ) → byte_len (concat p.before) + at ≡ idx → at ≤ byte_len p.here → total ≡ byte_len text → (0 < length text → All (λ leaf. 0 < length leaf) (leaves p)) → IsByteCursor p chunk at (idx - at) total
+  cursor_at idx total e l all solid = record {
+    chunk_is = h;
+    within = omega (arith, same);
+    before_is = omega arith;
+    total_is = omega (arith, sizes, same);
+    solid = λ some. solid (some_chars text (omega arith));
+  }

@@ -46,14 +46,13 @@ impl<'a> Bytes<'a> {
         ensures { result ≡ at_place (encode_utf8_all (text_of part.now)) byte_idx }
     {
         let total = part.info().bytes;
-        let (span, _) = Span::at(part, part.byte_to_char(byte_idx));
+        let (span, at) = Span::at_byte(part, byte_idx);
         let chunk = span.chunk();
-        let before = span.bytes_before();
         Bytes {
             span,
             chunk,
-            at: byte_idx - before,
-            before,
+            at,
+            before: byte_idx - at,
             total,
             is_backward: false,
         }
