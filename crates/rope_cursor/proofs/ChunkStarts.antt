@@ -149,10 +149,11 @@ module _ (p : Place) (text : List ℕ) (chunks : List (List ℕ)) (cut : IsCutti
   ]
 
 -- the place is past the last chunk at the end of the text, and else that of the chunk that is found
-pub place_found : (i n end found : ℕ) → (i ≡ n → ⊥) → (if i == n then end else found) ≡ found
-place_found i n end found e =
-    let other : (i == n) ≡ false = grind (arith, nat_tests) in
-    rw other refl
+pub placed_inside : (set : LineBreaks) (chunks : List (List ℕ)) (i n k : ℕ) (s : Sides (List ℕ)) (bytes chars breaks : ℕ) → (i ≡ n → ⊥) → IsPlaced set chunks k s bytes chars breaks
+    → IsPlaced set chunks (if i == n then length chunks else k) s bytes chars breaks
+placed_inside set chunks i n k s bytes chars breaks other placed =
+    let e : (i == n) ≡ false = grind (arith, nat_tests) in
+    rw e placed
 
 pub byte_index-le : (chunks : List (List ℕ)) (b : ℕ) → chunk_index_at_byte chunks b ≤ length chunks - 1
 unfolding chunk_index_at_byte
