@@ -2,6 +2,7 @@
 ghost use Rattle.std.specs.Prelude.{◌≡◌, ◌≤◌, ◌++◌, length, take, drop};
 ghost use Rattle.std.specs.List.{concat};
 ghost use Rattle.std.specs.Str.{chars};
+ghost use Rattle.rope_text.specs.Breaks.{break_count};
 ghost use Rattle.rope_text.specs.LineParts.{first_line, last_start};
 ghost use Rattle.rope_text.specs.Text.{byte_len};
 ghost use Rattle.rope_text.specs.TextInfo.{info_of};
@@ -11,7 +12,9 @@ ghost use Rattle.rope_cursor.specs.Gap.{AreChunks, PassesLine, PassesBack};
 use crate::cuts::{byte_len_of, text_after, text_before};
 use crate::span::Span;
 use rope_part::Part;
-use rope_text::str_utils::{char_to_byte_idx, count_breaks, line_to_byte_with};
+use rope_text::str_utils::{
+    byte_to_char_idx, byte_to_surrogates, char_to_byte_idx, count_breaks, line_to_byte_with,
+};
 use rope_text::{LineBreaks, TextInfo};
 use std::marker::Model;
 
@@ -32,12 +35,30 @@ impl<'a> Model for Gap<'a> {
     ghost invariant = { λ a. IsGap a.span a.inside };
 }
 
-// The counts of a text up to the end of its first line break, or of all of it.
+// How many line breaks the first line has, which ends at a byte: one, but for a line that has none and ends with the text.
+fn breaks_of_line(text: &str, end: usize, set: LineBreaks) -> usize
+    requires { end ≡ byte_len (first_line set (chars text.now)) }
+    ensures { result ≡ break_count set (first_line set (chars text.now)) }
+{
+    if end < byte_len_of(text) {
+        1
+    } else {
+        count_breaks(text, set)
+    }
+}
+
+// The counts of a text up to the end of its first line break, or of all of it. They are taken in the text, since one that is
+// cut short has more bytes in no whole block.
 fn count_line(text: &str, set: LineBreaks) -> TextInfo
     ensures { result ≡ info_of set (first_line set (chars text.now)) }
 {
     let end = line_to_byte_with(text, 1, set);
-    TextInfo::from_str(text_before(text, end), set)
+    TextInfo {
+        bytes: end,
+        chars: byte_to_char_idx(text, end),
+        utf16_surrogates: byte_to_surrogates(text, end),
+        line_breaks: breaks_of_line(text, end, set),
+    }
 }
 
 // From the end of a chunk to the end of a line: the place in the last chunk, and the counts of what was passed.
