@@ -53,7 +53,7 @@ line_start_some set text l some within = elim (cases_lt 0 (line_start set text l
 ]
 
 -- too many breaks to pass: the start
-last_start_none : (set : LineBreaks) (text : List ℕ) (k : ℕ) → break_count set text ≤ k → last_start set text k ≡ 0
+pub last_start_none : (set : LineBreaks) (text : List ℕ) (k : ℕ) → break_count set text ≤ k → last_start set text k ≡ 0
 last_start_none set text k few = ap (line_start set text) (let e : break_count set text - k ≡ 0 = omega arith in e) ∙ line_start_zero set text
 
 pub chunks_prev : (p q : Place) → IsNext q p → AreChunks p → AreChunks q

@@ -11,3 +11,4 @@ pub mod PartsBetween
 pub mod Gaps
 pub mod GapSteps
 pub mod GapsBack
+pub mod LineCounts

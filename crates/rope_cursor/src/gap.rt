@@ -1,17 +1,24 @@
 //! A place between two characters of a part, which goes from line to line.
-ghost use Rattle.std.specs.Prelude.{◌≡◌, ◌≤◌, ◌++◌, length, take, drop};
+ghost use Rattle.std.specs.Prelude.{◌≡◌, ◌≤◌, ◌++◌, false, length, take, drop};
+ghost use Rattle.rope_text.specs.Conversions.{byte_to_char};
+ghost use Rattle.rope_text.specs.Cutting.{parts_crlf};
 ghost use Rattle.std.specs.List.{concat};
 ghost use Rattle.std.specs.Str.{chars};
+ghost use Rattle.rope_text.specs.Breaks.{break_count};
 ghost use Rattle.rope_text.specs.LineParts.{first_line, last_start};
 ghost use Rattle.rope_text.specs.Text.{byte_len};
 ghost use Rattle.rope_text.specs.TextInfo.{info_of};
 ghost use Rattle.rope_part.specs.Part.{text_of};
-ghost use Rattle.rope_cursor.specs.Gap.{AreChunks, PassesLine, PassesBack};
+ghost use Rattle.rope_cursor.specs.Gap.{AreChunks, IsBetween, PassesLine, PassesBack};
 
 use crate::cuts::{byte_len_of, text_after, text_before};
 use crate::span::Span;
 use rope_part::Part;
-use rope_text::str_utils::{char_to_byte_idx, count_breaks, line_to_byte_with};
+use rope_text::crlf::prev_break;
+use rope_text::str_utils::{
+    byte_to_char_idx, byte_to_surrogates, char_to_byte_idx, count_breaks, count_chars,
+    count_surrogates, line_to_byte_with,
+};
 use rope_text::{LineBreaks, TextInfo};
 use std::marker::Model;
 
@@ -32,12 +39,30 @@ impl<'a> Model for Gap<'a> {
     ghost invariant = { λ a. IsGap a.span a.inside };
 }
 
-// The counts of a text up to the end of its first line break, or of all of it.
+// How many line breaks the first line has, which ends at a byte: one, but for a line that has none and ends with the text.
+fn breaks_of_line(text: &str, end: usize, set: LineBreaks) -> usize
+    requires { end ≡ byte_len (first_line set (chars text.now)) }
+    ensures { result ≡ break_count set (first_line set (chars text.now)) }
+{
+    if end < byte_len_of(text) {
+        1
+    } else {
+        count_breaks(text, set)
+    }
+}
+
+// The counts of a text up to the end of its first line break, or of all of it. They are taken in the text, since one that is
+// cut short has more bytes in no whole block.
 fn count_line(text: &str, set: LineBreaks) -> TextInfo
     ensures { result ≡ info_of set (first_line set (chars text.now)) }
 {
     let end = line_to_byte_with(text, 1, set);
-    TextInfo::from_str(text_before(text, end), set)
+    TextInfo {
+        bytes: end,
+        chars: byte_to_char_idx(text, end),
+        utf16_surrogates: byte_to_surrogates(text, end),
+        line_breaks: breaks_of_line(text, end, set),
+    }
 }
 
 // From the end of a chunk to the end of a line: the place in the last chunk, and the counts of what was passed.
@@ -57,13 +82,47 @@ fn pass_chunks(span: &mut Span<'_>, set: LineBreaks) -> (usize, TextInfo)
 }
 
 // The byte at which the last line of a text starts, or the one so many line breaks before it, and the counts from there on.
-fn count_last(text: &str, skip: usize, set: LineBreaks) -> (usize, TextInfo)
+// All of the text is gone over.
+fn count_last_of_all(text: &str, skip: usize, set: LineBreaks) -> (usize, TextInfo)
     ensures start { result.0 ≡ byte_len (take (last_start set (chars text.now) skip) (chars text.now)) }
     ensures counts { result.1 ≡ info_of set (drop (last_start set (chars text.now) skip) (chars text.now)) }
 {
     let breaks = count_breaks(text, set);
     let start = line_to_byte_with(text, breaks.saturating_sub(skip), set);
-    (start, TextInfo::from_str(text_after(text, start), set))
+    let rest = text_after(text, start);
+    let info = TextInfo {
+        bytes: byte_len_of(rest),
+        chars: count_chars(rest),
+        utf16_surrogates: count_surrogates(rest),
+        line_breaks: skip.min(breaks),
+    };
+    (start, info)
+}
+
+// Where the last line of a text is looked for first: so many bytes before its end.
+const NEAR_BYTES: usize = 128;
+
+// A place near the end of a text, in no CR LF.
+fn cut_near_end(text: &str) -> usize
+    ensures between { IsBetween (chars text.now) result }
+    ensures apart { parts_crlf (take (byte_to_char (chars text.now) result) (chars text.now)) (drop (byte_to_char (chars text.now) result) (chars text.now)) ≡ false }
+{
+    let bytes = text.as_bytes();
+    prev_break(bytes, bytes.len().saturating_sub(NEAR_BYTES))
+}
+
+// The same, found near the end of the text where it is there.
+fn count_last(text: &str, skip: usize, set: LineBreaks) -> (usize, TextInfo)
+    ensures start { result.0 ≡ byte_len (take (last_start set (chars text.now) skip) (chars text.now)) }
+    ensures counts { result.1 ≡ info_of set (drop (last_start set (chars text.now) skip) (chars text.now)) }
+{
+    let _ = byte_len_of(text);
+    let cut = cut_near_end(text);
+    let (start, last) = count_last_of_all(text_after(text, cut), skip, set);
+    if start > 0 {
+        return (cut + start, last);
+    }
+    count_last_of_all(text, skip, set)
 }
 
 // From the start of a chunk back to the start of a line: the place in the last chunk, and the counts of what was passed.

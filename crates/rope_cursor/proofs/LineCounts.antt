@@ -1,0 +1,112 @@
+-- The counts of one line of a text.
+use Rattle.std.proofs.Common.{◌≡◌, ℕ, ◌+◌, ◌-◌, ◌<◌, ◌≤◌, min, true, false, List, length, take, drop, refl, sym, ap, ◌∙◌, arith, inl, inr}
+use Rattle.std.proofs.lemmas.Bool.{cases_lt}
+use Rattle.std.proofs.lemmas.List.{take_all, length-take-le, take-append-drop, drop-drop}
+use Rattle.std.proofs.Math.Seq.{take-add}
+use Rattle.std.specs.Str.{chars, IsUtf8}
+use Rattle.std.proofs.lemmas.Str.{IsUtf8-take, IsUtf8-drop}
+use Rattle.rope_text.specs.Cuts.{is_cut}
+use Rattle.rope_text.specs.Cutting.{parts_crlf}
+use Rattle.rope_text.proofs.Apart.{apart_at_cut}
+use Rattle.rope_text.proofs.CutFacts.{boundary_of_cut}
+use Rattle.rope_text.proofs.Fronts.{front_at}
+use Rattle.rope_text.proofs.TextParts.{chars_front, chars_back}
+use Rattle.rope_text.proofs.ConversionLaws.{char_to_line-line_start}
+use Rattle.rope_text.proofs.SliceLaws.{break_count-drop}
+use Rattle.rope_cursor.proofs.Gaps.{front_place, size_two}
+use Rattle.rope_cursor.proofs.GapsBack.{last_start_none}
+use Rattle.rope_text.specs.declared.line_breaks.LineBreaks.{LineBreaks}
+use Rattle.rope_text.specs.declared.text_info.TextInfo.{TextInfo}
+use Rattle.rope_text.specs.Text.{byte_len, surrogate_count}
+use Rattle.rope_text.specs.TextInfo.{info_of}
+use Rattle.rope_text.specs.Breaks.{break_count}
+use Rattle.rope_text.specs.Lines.{line_start}
+use Rattle.rope_text.specs.Conversions.{byte_to_char}
+use Rattle.rope_text.specs.LineParts.{first_line, last_start}
+use Rattle.rope_text.proofs.Measures.{size_lt, IsMeasure-byte_len}
+use Rattle.rope_text.proofs.LineLaws.{line_start-le-length}
+use Rattle.rope_text.proofs.LineSeams.{break_count-front, first_line-all, last_start-right}
+use Rattle.rope_part.proofs.Measured.{same_info}
+use Rattle.rope_cursor.proofs.PartsBetween.{char_at_byte}
+
+-- a line that ends before the text does has one break
+pub one_break : (set : LineBreaks) (text : List ℕ) → byte_len (first_line set text) < byte_len text → break_count set (first_line set text) ≡ 1
+one_break set text less = elim (cases_lt 0 (break_count set text)) [
+  | inl some ↦ omega (arith, break_count-front set text 1 (omega arith))
+  | inr none ↦ absurd (let all = ap byte_len (first_line-all set text (omega arith)) in omega arith)
+]
+
+-- a line that ends with the text is the text
+pub only_line : (set : LineBreaks) (text : List ℕ) → byte_len text ≤ byte_len (first_line set text) → first_line set text ≡ text
+only_line set text past = elim (cases_lt (line_start set text 1) (length text)) [
+  | inr end ↦ take_all (line_start set text 1) text end
+  | inl less ↦ absurd (
+      let shorter = size_lt byte_len IsMeasure-byte_len text (line_start set text 1) (length text) less (omega arith) in
+      let all = ap byte_len (take_all (length text) text (omega arith)) in
+      omega arith)
+]
+
+-- the counts, each found by itself
+pub line_counts : (set : LineBreaks) (text : List ℕ) (info : TextInfo) → info.bytes ≡ byte_len (first_line set text) → info.chars ≡ byte_to_char text info.bytes
+    → info.utf16_surrogates ≡ surrogate_count (take (byte_to_char text info.bytes) text) → info.line_breaks ≡ break_count set (first_line set text) → info ≡ info_of set (first_line set text)
+line_counts set text info bytes chars pairs breaks =
+    let n : ℕ = line_start set text 1 in
+    let within = line_start-le-length set text 1 in
+    let place : byte_to_char text info.bytes ≡ n = char_at_byte text info.bytes n within bytes in
+    same_info info (info_of set (first_line set text)) bytes (chars ∙ place ∙ sym (length-take-le n text within)) (pairs ∙ ap (λ k. surrogate_count (take k text)) place) breaks
+
+-- the breaks from a line's start on
+last_breaks : (set : LineBreaks) (text : List ℕ) (k : ℕ) → break_count set (drop (last_start set text k) text) ≡ min k (break_count set text)
+last_breaks set text k =
+    let l : ℕ = break_count set text - k in
+    omega (arith, break_count-drop set text (last_start set text k) (line_start-le-length set text l), char_to_line-line_start set text l (omega arith))
+
+pub last_counts : (set : LineBreaks) (text rest : List ℕ) (k breaks : ℕ) (info : TextInfo) → rest ≡ drop (last_start set text k) text → breaks ≡ break_count set text → info.bytes ≡ byte_len rest
+    → info.chars ≡ length rest → info.utf16_surrogates ≡ surrogate_count rest → info.line_breaks ≡ min k breaks → info ≡ info_of set (drop (last_start set text k) text)
+last_counts set text rest k breaks info same all bytes chars pairs few =
+    same_info info (info_of set (drop (last_start set text k) text)) (bytes ∙ ap byte_len same) (chars ∙ ap length same) (pairs ∙ ap surrogate_count same)
+    (few ∙ ap (min k) all ∙ sym (last_breaks set text k))
+
+-- the last lines of the text behind a place in no CR LF
+module _ (set : LineBreaks) (text : List ℕ) (i skip : ℕ) (within : i ≤ length text) (apart : parts_crlf (take i text) (drop i text) ≡ false) (less : skip < break_count set (drop i text)) where
+  near_start : last_start set text skip ≡ i + last_start set (drop i text) skip
+  near_start =
+      ap (λ t. last_start set t skip) (sym (take-append-drop i text)) ∙ last_start-right set (take i text) (drop i text) skip apart less
+      ∙ ap (λ n. n + last_start set (drop i text) skip) (length-take-le i text within)
+
+  pub near_size : (b start : ℕ) → b ≡ byte_len (take i text) → start ≡ byte_len (take (last_start set (drop i text) skip) (drop i text)) → b + start ≡ byte_len (take (last_start set text skip) text)
+  near_size b start front back =
+      let k : ℕ = last_start set (drop i text) skip in
+      let parts = ap byte_len (take-add i k text) ∙ size_two (take i text) (take k (drop i text)) in
+      omega (arith, ap (λ n. byte_len (take n text)) near_start)
+
+  pub near_rest : drop (last_start set (drop i text) skip) (drop i text) ≡ drop (last_start set text skip) text
+  near_rest = drop-drop (last_start set (drop i text) skip) i text ∙ ap (λ n. drop n text) (sym near_start)
+
+pub near_enough : (set : LineBreaks) (text : List ℕ) (skip start : ℕ) → start ≡ byte_len (take (last_start set text skip) text) → 0 < start → skip < break_count set text
+near_enough set text skip start e some = elim (cases_lt skip (break_count set text)) [
+  | inl less ↦ less
+  | inr past ↦ absurd (let none = ap (λ n. byte_len (take n text)) (last_start_none set text skip past) in omega arith)
+]
+
+-- a byte at which the text may be cut
+pub cut_at : (bs : List ℕ) (r : ℕ) → IsUtf8 bs → is_cut bs r ≡ true → (0 < r → r < length bs)
+    → (byte_len (take (byte_to_char (chars bs) r) (chars bs)) ≡ r) × (parts_crlf (take (byte_to_char (chars bs) r) (chars bs)) (drop (byte_to_char (chars bs) r) (chars bs)) ≡ false)
+cut_at bs r u cut inside = elim (cases_lt 0 r) [
+  | inr none ↦
+      let zero : r ≡ 0 = omega arith in
+      let place : byte_to_char (chars bs) r ≡ 0 = ap (byte_to_char (chars bs)) zero ∙ front_place (chars bs) 0 (omega arith) in
+      (ap (λ k. byte_len (take k (chars bs))) place ∙ sym zero, ap (λ k. parts_crlf (take k (chars bs)) (drop k (chars bs))) place)
+  | inl some ↦
+      let at = boundary_of_cut bs r u (omega (arith, inside some)) cut in
+      let f = front_at bs r u at in
+      let k : ℕ = f.0 in
+      let place : byte_to_char (chars bs) r ≡ k = char_at_byte (chars bs) r k f.1 (sym f.2) in
+      let whole : r ≡ r - 0 = omega arith in
+      let front : chars (take r bs) ≡ take k (chars bs) = chars_front bs (take r bs) (chars bs) k r u refl (sym f.2) (ap (λ n. take n bs) whole) in
+      let back : chars (drop r bs) ≡ drop k (chars bs) = chars_back bs (drop r bs) (chars bs) k r u refl (sym f.2) refl in
+      let apart = apart_at_cut bs r (IsUtf8-take bs r u at) (IsUtf8-drop bs r u at) some (inside some) cut in (
+        ap (λ j. byte_len (take j (chars bs))) place ∙ f.2,
+        ap (λ j. parts_crlf (take j (chars bs)) (drop j (chars bs))) place ∙ ap (λ t. parts_crlf t (drop k (chars bs))) (sym front) ∙ ap (parts_crlf (chars (take r bs))) (sym back) ∙ apart,
+      )
+]
