@@ -1,9 +1,6 @@
 //! Ropes compared with lists of characters.
-ghost use Rattle.std.specs.Prelude.{◌<◌, length, IfSome};
-ghost use Rattle.rope_text.specs.Sides.{ahead};
 
 use crate::plain_text;
-use ropey::iter::Chunks;
 use ropey::{Error, LineBreaks, MAX_BYTES, Rope};
 
 /// Where a rope is not what a list of characters says.
@@ -86,18 +83,10 @@ fn compare_lengths(rope: &Rope, text: &[char], set: LineBreaks) -> Result<(), Di
     Ok(())
 }
 
-/// The next of the chunks: a loop that takes them in turn ends.
-fn next_chunk<'a>(chunks: &mut Chunks<'a>) -> Option<&'a str>
-    ensures { IfSome result (λ _. length (ahead chunks.new) < length (ahead chunks.old)) }
-{
-    chunks.next()
-}
-
 /// Each chunk has 1 to `MAX_BYTES` bytes, and none ends in a CR whose LF begins the next.
 fn compare_chunks(rope: &Rope) -> Result<(), Difference> {
     let mut after_cr = false;
-    let mut chunks = rope.chunks();
-    while let Some(chunk) = next_chunk(&mut chunks) {
+    for chunk in rope.chunks() {
         if chunk.is_empty() || chunk.len() > MAX_BYTES {
             return Err(Difference::Chunk);
         }
@@ -112,8 +101,7 @@ fn compare_chunks(rope: &Rope) -> Result<(), Difference> {
 /// The chunks are the text.
 fn compare_text(rope: &Rope, text: &[char]) -> Result<(), Difference> {
     let mut place: usize = 0;
-    let mut chunks = rope.chunks();
-    while let Some(chunk) = next_chunk(&mut chunks) {
+    for chunk in rope.chunks() {
         for c in chunk.chars() {
             if text.get(place) != Some(&c) {
                 return Err(Difference::Text);
@@ -145,8 +133,7 @@ pub fn lie_together(rope: &Rope, first: usize) -> bool {
 pub fn chunk_of(rope: &Rope, char_idx: usize) -> (&str, usize) {
     let mut found = ("", 0);
     let mut start: usize = 0;
-    let mut chunks = rope.chunks();
-    while let Some(chunk) = next_chunk(&mut chunks) {
+    for chunk in rope.chunks() {
         found = (chunk, start);
         start = start.saturating_add(chunk.chars().count());
         if char_idx < start {
