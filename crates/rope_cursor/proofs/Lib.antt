@@ -7,3 +7,4 @@ pub mod Gaps
 pub mod GapSteps
 pub mod GapsBack
 pub mod LineCounts
+pub mod LineNear
