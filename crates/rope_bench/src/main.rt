@@ -9,10 +9,10 @@ mod inserting;
 mod making;
 mod measure;
 mod numbers;
-mod reading;
 mod report;
 mod sample;
 mod texts;
+mod walking;
 mod workloads;
 
 use fault::Fault;

@@ -4,9 +4,10 @@ use crate::changing::{self, Changes, change};
 use crate::counting::{Counted, count, slice_from_str};
 use crate::fault::Fault;
 use crate::inserting::{self, Inserts, insert};
+use crate::making;
 use crate::measure::Outcome;
 use crate::sample::Sample;
-use crate::{making, reading};
+use crate::walking::{Walk, go_over};
 use rope_text::LineBreaks;
 use std::time::CpuClock;
 
@@ -19,7 +20,7 @@ pub enum Workload {
     Change(Changes),
     CloneAndInsert,
     Ask(Question),
-    IterChunks,
+    Walk(Walk),
     ShrinkToFit,
     Count(Counted),
     SliceFromStr,
@@ -28,7 +29,7 @@ pub enum Workload {
 }
 
 /// Those that are done on each of the two texts, in order.
-pub const OF_TEXTS: [Workload; 28] = [
+pub const OF_TEXTS: [Workload; 36] = [
     Workload::FromStr,
     Workload::BuilderByLines,
     Workload::Insert(Inserts::CharsAtRandom),
@@ -47,9 +48,17 @@ pub const OF_TEXTS: [Workload; 28] = [
     Workload::Ask(Question::Byte),
     Workload::Ask(Question::Char),
     Workload::Ask(Question::ChunkAtChar),
-    Workload::IterChunks,
+    Workload::Walk(Walk::Bytes),
+    Workload::Walk(Walk::Chars),
+    Workload::Walk(Walk::Lines),
+    Workload::Walk(Walk::Chunks),
+    Workload::Walk(Walk::CharsBack),
+    Workload::Walk(Walk::LinesBack),
+    Workload::Walk(Walk::CharsAtAnd10),
     Workload::CloneAndInsert,
     Workload::Change(Changes::Splits),
+    Workload::Walk(Walk::SliceAndLine),
+    Workload::Walk(Walk::Line),
     Workload::ShrinkToFit,
     Workload::Count(Counted::Chars),
     Workload::Count(Counted::Breaks(LineBreaks::Unicode)),
@@ -72,7 +81,7 @@ impl Workload {
             Workload::Change(what) => what.name(),
             Workload::CloneAndInsert => "clone_and_insert",
             Workload::Ask(what) => what.name(),
-            Workload::IterChunks => "iter_chunks_per_byte",
+            Workload::Walk(what) => what.name(),
             Workload::ShrinkToFit => "shrink_to_fit_100MB",
             Workload::Count(what) => what.name(),
             Workload::SliceFromStr => "slice_from_str_100MB",
@@ -90,7 +99,7 @@ impl Workload {
             Workload::Change(what) => change(clock, sample, what),
             Workload::CloneAndInsert => changing::clone_and_insert(clock, sample),
             Workload::Ask(what) => ask(clock, sample, what),
-            Workload::IterChunks => reading::iter_chunks(clock, sample),
+            Workload::Walk(what) => go_over(clock, sample, what),
             Workload::ShrinkToFit => changing::shrink_to_fit(clock, sample),
             Workload::Count(what) => count(clock, sample, what),
             Workload::SliceFromStr => slice_from_str(clock, sample),

@@ -22,7 +22,7 @@ use Rattle.rope_text.proofs.CuttingLaws.{concat-append, parts_crlf-append}
 use Rattle.rope_text.proofs.ChunkLaws.{KeepsCrlf-right}
 use Rattle.rope_text.proofs.LineLaws.{line_start-le-length}
 use Rattle.rope_text.proofs.LineSeams.{parts_crlf-take, first_line-left, first_line-right, first_line-all, no_break_at_all, break_count-apart}
-use Rattle.rope_tree.proofs.Infos.{break_count-le-length}
+use Rattle.rope_text.proofs.InfoLaws.{break_count-le-length}
 use Rattle.rope_cursor.specs.Path.{Place, IsNext, leaves}
 use Rattle.rope_cursor.specs.Gap.{IsBetween, AreChunks, PassesLine, PassedTexts, PassedChunks}
 use Rattle.rope_cursor.proofs.Spans.{leaves_next}

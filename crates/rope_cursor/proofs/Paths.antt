@@ -1,6 +1,6 @@
 -- Frames of a path: one more of them, and the steps to the next leaf and to the one before.
-use Rattle.std.proofs.Common.{◌≡◌, ℕ, zero, suc, ◌+◌, ◌-◌, ◌<◌, ◌≤◌, List, [], ◌∷◌, ◌++◌, length, take, drop, get_or, set, refl, ap, sym, ◌∙◌, arith, inl, inr, All, append_assoc}
-use Rattle.std.proofs.lemmas.List.{take-append-drop, drop_more, take_more_set, append-nil, length-append, length-set, length-map, get_or-set_same, get_or-set_other, take-set, take-set-le, take_more, append_cancel_right, append_cancel_left, get_or_default, drop_all}
+use Rattle.std.proofs.Common.{◌≡◌, ℕ, zero, suc, ◌+◌, ◌-◌, ◌<◌, ◌≤◌, ◌^◌, false, List, [], ◌∷◌, ◌++◌, length, take, drop, get_or, set, refl, ap, sym, subst, ◌∙◌, arith, inl, inr, All, append_assoc}
+use Rattle.std.proofs.lemmas.List.{take-append-drop, drop_more, take_more_set, append-nil, length-set, length-map, get_or-set_same, get_or-set_other, take-set, take-set-le, take_more, append_cancel_right, append_cancel_left, get_or_default, drop_all}
 use Rattle.std.proofs.lemmas.List.Elements.{All-get_or, All-nil, All-cons, All-head, All-tail}
 use Rattle.std.proofs.lemmas.List.Concat.{flat_map-append}
 use Rattle.std.proofs.lemmas.Bool.{cases_eq}
@@ -12,15 +12,23 @@ use Rattle.rope_text.specs.declared.line_breaks.LineBreaks.{LineBreaks}
 use Rattle.rope_text.specs.declared.text_info.TextInfo.{TextInfo}
 use Rattle.rope_tree.specs.declared.node.Node.{Node}
 use Rattle.rope_text.specs.Text.{byte_len}
-use Rattle.rope_text.specs.TextInfo.{info_of}
+use Rattle.rope_text.specs.TextInfo.{info_of, info_sum}
+use Rattle.rope_text.specs.Cutting.{parts_crlf}
 use Rattle.rope_text.proofs.CuttingLaws.{concat-append}
+use Rattle.rope_text.proofs.InfoLaws.{info_of-append_apart}
+use Rattle.rope_tree.specs.declared.search.Unit.{Unit}
+use Rattle.rope_tree.specs.Search.{count_of, IsSmall}
+use Rattle.rope_tree.specs.Leaves.{IsSeam, AreLeaves}
+use Rattle.rope_tree.proofs.LeafLaws.{leaves_seam, seam_of_left}
+use Rattle.rope_tree.proofs.Infos.{small_info}
+use Rattle.rope_tree.proofs.Descents.{Descends, count_of-nil, count_of-sum}
 use Rattle.rope_text.proofs.Measures.{IsMeasure-byte_len}
-use Rattle.rope_tree.specs.Tree.{Tree, text, joined, leaves_of, tree_over, IsChild}
-use Rattle.rope_tree.proofs.NodeLaws.{joined_more, byte_len-joined}
+use Rattle.rope_tree.specs.Tree.{Tree, text, joined, leaves_of, breaks_of, leaf_tree, tree_over, IsChild}
+use Rattle.rope_tree.proofs.NodeLaws.{joined_parts, leaf_text}
 use Rattle.rope_tree.specs.Listed.{trees}
 use Rattle.rope_tree.specs.View.{IsInnerOf}
 use Rattle.rope_cursor.specs.declared.path.Frame.{Frame}
-use Rattle.rope_cursor.specs.Path.{Place, IsNext, leaves_below, before_of, after_of, place_of, IsLow, IsFrame, AreFrames, AreFramesOf, around, HasNextAt, HasPrevAt}
+use Rattle.rope_cursor.specs.Path.{Place, IsNext, HoldsPlace, leaves_below, before_of, after_of, place_of, IsLow, IsFrame, AreFrames, AreFramesOf, around, HasNextAt, HasPrevAt}
 
 -- the leaves below nodes, by the trees that they are seen as
 pub leaves_below_is : (rcs : List (Rc Node Global)) → leaves_below rcs ≡ leaves_of (trees rcs)
@@ -283,21 +291,48 @@ trees-take zero rcs = refl
 trees-take (suc k) [] = refl
 trees-take (suc k) (rc ∷ rcs) = ap (λ ts. rc.value ∷ ts) (trees-take k rcs)
 
--- the text before a child of a node, and what is left of the node's text
-pub record BeforeChild (before more : List (List ℕ)) (front : TextInfo) (t child : Tree) : Type 0 where
-  pub chars : length (concat more) ≡ length (concat before) + front.chars
-  pub bytes : byte_len (concat more) ≡ byte_len (concat before) + front.bytes
-  pub room : front.bytes + byte_len (text child) ≤ byte_len (text t)
+-- leaves among others: no CR LF is parted where their text begins
+seam_at : (before own after : List (List ℕ)) (front rest : List ℕ) → AreLeaves (before ++ (own ++ after)) → concat own ≡ front ++ rest → parts_crlf (concat before) front ≡ false
+seam_at before own after front rest a e =
+    let behind : concat (own ++ after) ≡ front ++ (rest ++ concat after) = concat-append own after ∙ ap (λ s. s ++ concat after) e ∙ append_assoc front rest (concat after) in
+    (seam_of_left (concat before) front (rest ++ concat after) (subst (IsSeam (concat before)) behind (leaves_seam before (own ++ after) a))).apart
 
-pub before_child : (set : LineBreaks) (rcs : List (Rc Node Global)) (k : ℕ) (before more : List (List ℕ)) (front : TextInfo) (t child : Tree) → t ≡ tree_over (trees rcs) → k < length (trees rcs)
-    → get_or (trees rcs) k child ≡ child → front ≡ info_of set (joined (take k (trees rcs))) → more ≡ before ++ leaves_below (take k rcs) → BeforeChild before more front t child
-before_child set rcs k before more front t child is l here front_is e =
+-- the counts of the text before a child of a node, and the place within the child
+pub record EntersChild (unit : Unit) (info front : TextInfo) (at : ℕ) (more : List (List ℕ)) (child : Tree) : Type 0 where
+  pub small : IsSmall info
+  pub sum_is : info_sum info front ≡ info_of child.breaks (concat more)
+  pub within : at - count_of unit front < count_of unit (info_of child.breaks (text child))
+  pub place_is : count_of unit (info_sum info front) + (at - count_of unit front) ≡ count_of unit info + at
+
+pub enters_child : (unit : Unit) (info front : TextInfo) (at : ℕ) (before more after : List (List ℕ)) (t child : Tree) (rcs : List (Rc Node Global)) (k : ℕ) → t ≡ tree_over (trees rcs)
+    → Descends (breaks_of (trees rcs)) unit at (trees rcs) k child front → info ≡ info_of t.breaks (concat before) → more ≡ before ++ leaves_below (take k rcs)
+    → AreLeaves (before ++ (t.leaves ++ after)) → byte_len (concat (before ++ (t.leaves ++ after))) < 2 ^ 63 → EntersChild unit info front at more child
+enters_child unit info front at before more after t child rcs k is d info_is e leaves fits =
     let ts = trees rcs in
     let below : leaves_below (take k rcs) ≡ leaves_of (take k ts) = leaves_below_is (take k rcs) ∙ ap leaves_of (trees-take k rcs) in
     let cut : concat more ≡ concat before ++ joined (take k ts) = ap concat (e ∙ ap (λ ls. before ++ ls) below) ∙ concat-append before (leaves_of (take k ts)) in
-    let upto : joined (take (k + 1) ts) ≡ joined (take k ts) ++ text child = joined_more ts k child l ∙ ap (λ u. joined (take k ts) ++ text u) here in
+    let apart = seam_at before t.leaves after (joined (take k ts)) (joined (drop k ts)) leaves (ap (λ u. concat u.leaves) is ∙ joined_parts ts k) in
+    let sets : t.breaks ≡ breaks_of ts = ap (λ u. u.breaks) is in
+    let own : child.breaks ≡ breaks_of ts = d.own.same_breaks in
+    let before_is : info ≡ info_of (breaks_of ts) (concat before) = info_is ∙ ap (λ b. info_of b (concat before)) sets in
+    let whole = ap byte_len (concat-append before (t.leaves ++ after)) ∙ IsMeasure-byte_len.joined (concat before) (concat (t.leaves ++ after)) in
     record {
-      chars = omega (arith, ap length cut, length-append (concat before) (joined (take k ts)), ap (λ x. x.chars) front_is);
-      bytes = omega (arith, ap byte_len cut, IsMeasure-byte_len.joined (concat before) (joined (take k ts)), ap (λ x. x.bytes) front_is);
-      room = omega (arith, ap byte_len upto, IsMeasure-byte_len.joined (joined (take k ts)) (text child), byte_len-joined ts (k + 1), ap (λ u. byte_len (text u)) is, ap (λ x. x.bytes) front_is);
+      small = rw info_is (small_info t.breaks (concat before) (omega (arith, fits)));
+      sum_is = rw (own, cut, before_is, d.front_is) (sym (info_of-append_apart (breaks_of ts) (concat before) (joined (take k ts)) apart));
+      within = omega (arith, d.past, d.not_past);
+      place_is = omega (arith, count_of-sum unit info front, d.not_past);
     }
+
+-- a leaf by itself holds each place of its text
+pub held_in_leaf : (unit : Unit) (info : TextInfo) (at : ℕ) (before after : List (List ℕ)) (t : Tree) (leaf : List ℕ) → t ≡ leaf_tree t.breaks leaf → at < count_of unit (info_of t.breaks (text t))
+    → info ≡ info_of t.breaks (concat before) → AreLeaves (before ++ (t.leaves ++ after)) → HoldsPlace unit t.breaks (count_of unit info + at) before leaf info
+held_in_leaf unit info at before after t leaf is within info_is leaves =
+    let own : text t ≡ leaf = ap (λ u. text u) is ∙ leaf_text leaf in
+    let apart = seam_at before t.leaves after leaf [] leaves (own ∙ sym (append-nil leaf)) in
+    let sum = ap (count_of unit) (info_of-append_apart t.breaks (concat before) leaf apart) ∙ count_of-sum unit (info_of t.breaks (concat before)) (info_of t.breaks leaf) in
+    record { info_is = info_is; not_past = omega arith; past = omega (arith, sum, ap (count_of unit) info_is, ap (λ s. count_of unit (info_of t.breaks s)) own) }
+
+-- a text that has a place has a leaf
+pub some_leaves : (unit : Unit) (set : LineBreaks) (at : ℕ) (ls : List (List ℕ)) → at < count_of unit (info_of set (concat ls)) → 0 < length ls
+some_leaves unit set at [] l = absurd (omega (arith, count_of-nil unit set))
+some_leaves unit set at (leaf ∷ ls) l = omega arith

@@ -1,4 +1,9 @@
+pub mod Chunks
+pub mod Bytes
+pub mod Chars
 pub mod Path
+pub mod Point
 pub mod Span
 pub mod Lines
+pub mod Starts
 pub mod Gap

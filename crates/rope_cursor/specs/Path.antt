@@ -1,9 +1,13 @@
 -- A way from the root of a tree to a leaf, seen as a place among the leaves.
 use Rattle.std.specs.Prelude.{◌≡◌, ℕ, ◌+◌, ◌-◌, ◌<◌, ◌≤◌, List, [], ◌∷◌, ◌++◌, length, take, drop, get_or, All}
 use Rattle.std.specs.List.{concat, flat_map}
-use Rattle.rope_text.specs.Text.{byte_len}
 use Rattle.std.specs.declared.rc.Rc.{Rc}
 use Rattle.std.specs.declared.alloc.Global.{Global}
+use Rattle.rope_text.specs.declared.line_breaks.LineBreaks.{LineBreaks}
+use Rattle.rope_text.specs.declared.text_info.TextInfo.{TextInfo}
+use Rattle.rope_text.specs.TextInfo.{info_of}
+use Rattle.rope_tree.specs.declared.search.Unit.{Unit}
+use Rattle.rope_tree.specs.Search.{count_of}
 use Rattle.rope_tree.specs.Tree.{Tree}
 use Rattle.rope_tree.specs.declared.node.Node.{Node}
 use Rattle.rope_cursor.specs.declared.path.Frame.{Frame}
@@ -23,11 +27,11 @@ pub record IsNext (old new : Place) : Type 0 where
   pub before : new.before ≡ old.before ++ old.here ∷ []
   pub after : old.after ≡ new.here ∷ new.after
 
--- the leaf here holds a character of the text of all the leaves, at a place of its own text; so many bytes lie before the leaf
-pub record HoldsChar (char_idx : ℕ) (before : List (List ℕ)) (here : List ℕ) (bytes at : ℕ) : Type 0 where
-  pub place_is : length (concat before) + at ≡ char_idx
-  pub within : at < length here
-  pub bytes_are : bytes ≡ byte_len (concat before)
+-- the leaf here holds a place of the text of all the leaves, counted in a unit; `info` are the counts of the text before it
+pub record HoldsPlace (unit : Unit) (set : LineBreaks) (at : ℕ) (before : List (List ℕ)) (here : List ℕ) (info : TextInfo) : Type 0 where
+  pub info_is : info ≡ info_of set (concat before)
+  pub not_past : count_of unit info ≤ at
+  pub past : at < count_of unit (info_of set (concat before ++ here))
 
 -- the leaves below some nodes
 abbrev pub leaves_below : List (Rc Node Global) → List (List ℕ)

@@ -1,9 +1,18 @@
-//! Cursors over a rope's or a slice's chunks, bytes and characters: both ways, borrowed. No call takes memory.
+//! Cursors over a rope's or a slice's chunks, bytes, characters and lines: both ways, borrowed. No call takes memory.
 #![tactic(auto)]
 
 mod between;
+pub mod bytes;
+pub mod chars;
+pub mod chunks;
 mod cuts;
 pub mod gap;
 pub mod lines;
 pub mod path;
+mod point;
 pub mod span;
+
+pub use bytes::Bytes;
+pub use chars::Chars;
+pub use chunks::Chunks;
+pub use lines::Lines;

@@ -1,10 +1,10 @@
 //! A cursor over the lines of a part.
 ghost use Rattle.std.specs.Prelude.{◌≡◌, ◌+◌, ◌≤◌, ◌<◌, ℕ, ⊤, false, length, Some, IfSome};
-ghost use Rattle.std.specs.Iterator.{YieldsFirstBy, MakesProgress, UpTo, item_count};
+ghost use Rattle.std.specs.Iterator.{YieldsFirstBy, UpTo, item_count};
 ghost use Rattle.std.specs.Iterator.SizeHint.{IsWithinCount};
 ghost use Rattle.rope_text.specs.Lines.{line_count};
 ghost use Rattle.rope_text.specs.LineParts.{line_of, lines_of};
-ghost use Rattle.rope_text.specs.Sides.{ahead, all_items, place, turned, GoesRight, GoesLeft, StepsAhead, StepsBack};
+ghost use Rattle.rope_text.specs.Sides.{ahead, at_place, turned, GoesRight, GoesLeft, GoesAhead, StepsBack};
 ghost use Rattle.rope_part.specs.Part.{content_of, text_of, breaks_of};
 
 use crate::between::between;
@@ -55,9 +55,7 @@ impl<'a> Lines<'a> {
     /// A cursor before a line, facing forward; for the number of lines it stands past the last.
     pub fn at(part: &Part<'a>, line_idx: usize) -> Lines<'a>
         requires { line_idx ≤ line_count (breaks_of part.now) (text_of part.now) }
-        ensures items { all_items result ≡ lines_of (content_of part.now) }
-        ensures place { place result ≡ line_idx }
-        ensures forward { result.is_backward ≡ false }
+        ensures { result ≡ at_place (lines_of (content_of part.now)) line_idx }
     {
         let _ = part.info();
         let start = part.line_to_char(line_idx);
@@ -150,8 +148,7 @@ impl<'a> Iterator for Lines<'a> {
     /// The next line, or none at the end, where it stays.
     fn next(&mut self) -> Option<Part<'a>>
         ensures steps { YieldsFirstBy (λ x. content_of x) ahead self.old result self.new }
-        ensures goes { MakesProgress (λ _. ⊤) (item_count ahead) self.old result self.new }
-        ensures moves { StepsAhead (λ x. content_of x) self.old result self.new }
+        ensures goes { GoesAhead (λ x. content_of x) self.old result self.new }
     {
         if self.is_backward {
             self.left()

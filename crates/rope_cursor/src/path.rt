@@ -1,16 +1,19 @@
 //! A way from the root of a tree to one of its leaves, kept in place. No step takes memory.
-ghost use Rattle.std.specs.Prelude.{◌≡◌, ◌+◌, ◌-◌, ◌<◌, ◌≤◌, ◌^◌, ◌∷◌, ◌++◌, length, take, [], IfSome, IfNone};
+ghost use Rattle.std.specs.Prelude.{◌≡◌, ◌+◌, ◌-◌, ◌<◌, ◌^◌, ◌∷◌, take, [], IfSome, IfNone};
 ghost use Rattle.std.specs.Bool.{OnTrue, OnFalse};
 ghost use Rattle.std.specs.List.{concat};
 ghost use Rattle.std.specs.Str.{chars};
 ghost use Rattle.rope_text.specs.Text.{byte_len};
+ghost use Rattle.rope_text.specs.TextInfo.{info_of};
+ghost use Rattle.rope_tree.specs.Search.{count_of};
+ghost use Rattle.rope_tree.specs.Leaves.{AreLeaves};
 ghost use Rattle.rope_tree.specs.Tree.{text};
-ghost use Rattle.rope_cursor.specs.Path.{before_of, after_of, around, place_of, AreFrames, AreFramesOf, LeadsTo, HasNextAt, HasPrevAt, IsLow, IsNext, HoldsChar, leaves};
+ghost use Rattle.rope_cursor.specs.Path.{before_of, after_of, around, place_of, AreFrames, AreFramesOf, LeadsTo, HasNextAt, HasPrevAt, IsLow, IsNext, HoldsPlace, leaves};
 
-use rope_text::Steps;
+use rope_text::{Steps, TextInfo};
 use rope_tree::lookup::total_before;
 use rope_tree::node::{Node, View};
-use rope_tree::search::{Unit, place_of};
+use rope_tree::search::{Unit, count, place_of};
 use std::marker::Model;
 use std::rc::Rc;
 
@@ -74,52 +77,56 @@ fn enter_last<'a>(frames: &mut [Frame<'a>; 18], level: usize, node: &'a Node) ->
     }
 }
 
-// A leaf that holds a character.
+// A leaf that holds a place.
 #[derive(Drop)]
 struct Held<'a> {
     // how many frames lead to it
     depth: usize,
     leaf: &'a str,
-    // the bytes before it
-    bytes: usize,
-    // the place of the character within it
-    at: usize,
+    // the counts of the text before it
+    before: TextInfo,
 }
 
-// Goes down from a node at a level to the leaf that holds a character of its text; `bytes` bytes lie before the node.
+// Goes down from a node at a level to the leaf that holds a place of its text; `before` are the counts of the text before
+// the node.
 fn enter_at<'a>(
     frames: &mut [Frame<'a>; 18],
     level: usize,
     node: &'a Node,
-    bytes: usize,
-    char_idx: usize,
+    before: TextInfo,
+    unit: Unit,
+    at: usize,
 ) -> Held<'a>
     requires frames { AreFrames frames.old level (around frames.old level node.now.leaves) }
     requires low { IsLow node.now (18 - level) }
-    requires within { char_idx < length (text node.now) }
-    requires bytes { bytes ≡ byte_len (concat (before_of (take level frames.old))) }
-    requires room { bytes + byte_len (text node.now) < 2 ^ 64 }
+    requires within { at < count_of unit (info_of node.now.breaks (text node.now)) }
+    requires before { before ≡ info_of node.now.breaks (concat (before_of (take level frames.old))) }
+    requires leaves { AreLeaves (around frames.old level node.now.leaves) }
+    requires fits { byte_len (concat (around frames.old level node.now.leaves)) < 2 ^ 63 }
     ensures leads { LeadsTo frames.new result.depth (chars result.leaf.now) (around frames.old level node.now.leaves) }
-    ensures holds { HoldsChar (length (concat (before_of (take level frames.old))) + char_idx)
-        (before_of (take result.depth frames.new)) (chars result.leaf.now) result.bytes result.at }
+    ensures holds { HoldsPlace unit node.now.breaks (count_of unit before + at) (before_of (take result.depth frames.new))
+        (chars result.leaf.now) result.before }
 {
     match node.view() {
         View::Leaf(leaf) => Held {
             depth: level,
             leaf: leaf.as_str(),
-            bytes,
-            at: char_idx,
+            before,
         },
         View::Inner(children, totals) => {
-            let at = place_of(totals, Unit::Char, char_idx, &mut Steps::new());
-            let front = total_before(totals, at);
-            frames[level] = Frame { children, at };
+            let place = place_of(totals, unit, at, &mut Steps::new());
+            let front = total_before(totals, place);
+            frames[level] = Frame {
+                children,
+                at: place,
+            };
             enter_at(
                 frames,
                 level + 1,
-                &children[at],
-                bytes + front.bytes,
-                char_idx - front.chars,
+                &children[place],
+                before.plus(front),
+                unit,
+                at - count(front, unit),
             )
         }
     }
@@ -202,25 +209,25 @@ fn go_left<'a>(
 }
 
 impl<'a> Path<'a> {
-    /// The way to the leaf that holds a character of a tree's text, the bytes of the leaves before it, and the place of the
-    /// character within it. It enters each node on the way once.
-    pub fn at(node: &'a Node, char_idx: usize) -> (Path<'a>, usize, usize)
-        requires { char_idx < length (text node.now) }
+    /// The way to the leaf that holds a place of a tree's text, and the counts of the text before the leaf. It enters each
+    /// node on the way once.
+    pub fn at(node: &'a Node, unit: Unit, at: usize) -> (Path<'a>, TextInfo)
+        requires { at < count_of unit (info_of node.now.breaks (text node.now)) }
         ensures leaves { leaves result.0 ≡ node.now.leaves }
-        ensures holds { HoldsChar char_idx result.0.before result.0.here result.1 result.2 }
+        ensures holds { HoldsPlace unit node.now.breaks at result.0.before result.0.here result.1 }
     {
         let _ = node.height();
         let mut frames = [Frame {
             children: &[],
             at: 0,
         }; 18];
-        let held = enter_at(&mut frames, 0, node, 0, char_idx);
+        let held = enter_at(&mut frames, 0, node, TextInfo::new(), unit, at);
         let path = Path {
             leaf: held.leaf,
             depth: held.depth,
             frames,
         };
-        (path, held.bytes, held.at)
+        (path, held.before)
     }
 
     /// A text as the only leaf.

@@ -1,5 +1,5 @@
 //! A way to a leaf within a part of a tree's text: the leaves are seen clipped.
-ghost use Rattle.std.specs.Prelude.{◌≡◌, ◌+◌, ◌-◌, ◌<◌, ◌≤◌, [], length};
+ghost use Rattle.std.specs.Prelude.{◌≡◌, ◌+◌, ◌-◌, ◌<◌, ◌≤◌, min, [], length};
 ghost use Rattle.std.specs.Bool.{OnTrue, OnFalse};
 ghost use Rattle.std.specs.List.{concat, slice_range};
 ghost use Rattle.std.specs.Str.{chars};
@@ -7,10 +7,13 @@ ghost use Rattle.rope_text.specs.Text.{byte_len};
 ghost use Rattle.rope_text.specs.Cutting.{clip};
 ghost use Rattle.rope_tree.specs.Tree.{text};
 ghost use Rattle.rope_cursor.specs.Path.{IsNext, leaves};
-ghost use Rattle.rope_part.specs.Part.{text_of, chunks_of};
+ghost use Rattle.rope_cursor.specs.Starts.{AreBefore, MeetsLeaf};
+ghost use Rattle.rope_part.specs.Part.{text_of, chunks_of, breaks_of};
 
 use crate::path::Path;
 use rope_part::{Part, Plain, Stretch};
+use rope_text::TextInfo;
+use rope_tree::search::Unit;
 use std::marker::Model;
 
 /// The bytes and the characters before a place of a text.
@@ -42,34 +45,45 @@ impl<'a> Model for Span<'a> {
 }
 
 impl<'a> Span<'a> {
-    // The chunk of a part of a tree that holds a character, and the place of that character within the chunk; at the end of
-    // the text the last chunk, and its end.
-    fn in_stretch(stretch: &Stretch<'a>, char_idx: usize) -> (Span<'a>, usize)
-        requires { stretch.now.start.chars + char_idx ≤ stretch.now.end.chars }
+    // The chunk of a part of a tree that lies in a leaf, and the bytes, the characters and the line breaks of the part before
+    // that chunk. `before` are the counts of the tree's text before the leaf.
+    fn in_leaf(
+        stretch: &Stretch<'a>,
+        path: Path<'a>,
+        before: TextInfo,
+    ) -> (Span<'a>, usize, usize, usize)
+        requires { MeetsLeaf stretch.now path before }
         ensures chunks { leaves result.0 ≡ clip stretch.now.node.now.leaves stretch.now.start.chars stretch.now.end.chars }
-        ensures place { length (concat result.0.before) + result.1 ≡ char_idx }
-        ensures within { result.1 ≤ length result.0.here }
-        ensures inside { stretch.now.start.chars + char_idx < stretch.now.end.chars → result.1 < length result.0.here }
+        ensures before { AreBefore stretch.now.node.now.breaks
+            (slice_range (text stretch.now.node.now) stretch.now.start.chars stretch.now.end.chars)
+            result.0.before result.1 result.2 result.3 }
+        ensures from_bytes { result.1 ≡ before.bytes - stretch.now.start.bytes }
+        ensures from_chars { result.2 ≡ before.chars - stretch.now.start.chars }
+        ensures chars { length (concat result.0.before) + length result.0.here
+            ≡ min (length (concat path.entry.before) + length path.entry.here) stretch.now.end.chars - stretch.now.start.chars }
+        ensures bytes { byte_len (concat result.0.before) + byte_len result.0.here
+            ≡ min (byte_len (concat path.entry.before) + byte_len path.entry.here) stretch.now.end.bytes - stretch.now.start.bytes }
     {
         let _ = stretch.node.height();
-        let from = Edge {
-            bytes: stretch.start.bytes,
-            chars: stretch.start.chars,
-        };
-        let to = Edge {
-            bytes: stretch.end.bytes,
-            chars: stretch.end.chars,
-        };
-        let held = (from.chars + char_idx).min(to.chars - 1);
-        let (path, start, at) = Path::at(stretch.node, held);
-        let before = (held - at).saturating_sub(from.chars);
+        let start = stretch.start;
         let span = Span {
             path,
-            start,
-            from,
-            to,
+            start: before.bytes,
+            from: Edge {
+                bytes: start.bytes,
+                chars: start.chars,
+            },
+            to: Edge {
+                bytes: stretch.end.bytes,
+                chars: stretch.end.chars,
+            },
         };
-        (span, char_idx - before)
+        (
+            span,
+            before.bytes.saturating_sub(start.bytes),
+            before.chars.saturating_sub(start.chars),
+            before.line_breaks.saturating_sub(start.line_breaks),
+        )
     }
 
     // A plain text as the only chunk.
@@ -89,6 +103,55 @@ impl<'a> Span<'a> {
         }
     }
 
+    /// The chunk of a part that holds a character; at the end of the text the last chunk. With it the bytes, the characters
+    /// and the line breaks of the text before it. An empty part has no chunk: then it is the empty text.
+    pub fn with_char(part: &Part<'a>, char_idx: usize) -> (Span<'a>, usize, usize, usize)
+        requires { char_idx ≤ length (text_of part.now) }
+        ensures text { concat (leaves result.0) ≡ text_of part.now }
+        ensures chunks { 0 < length (text_of part.now) → leaves result.0 ≡ chunks_of part.now }
+        ensures before { AreBefore (breaks_of part.now) (text_of part.now) result.0.before result.1 result.2 result.3 }
+        ensures starts { result.2 ≤ char_idx }
+        ensures within { char_idx ≤ result.2 + length result.0.here }
+        ensures inside { char_idx < length (text_of part.now) → char_idx < result.2 + length result.0.here }
+    {
+        match part {
+            Part::InTree(stretch) => {
+                let node = stretch.node;
+                let _ = node.height();
+                let place = (stretch.start.chars + char_idx).min(stretch.end.chars - 1);
+                let (path, before) = Path::at(node, Unit::Char, place);
+                Span::in_leaf(stretch, path, before)
+            }
+            Part::Alone(plain) => (Span::of_text(plain), 0, 0, 0),
+        }
+    }
+
+    /// The chunk of a part that holds a byte; at the end of the text the last chunk. With it the bytes, the characters and
+    /// the line breaks of the text before it. An empty part has no chunk: then it is the empty text.
+    pub fn with_byte(part: &Part<'a>, byte_idx: usize) -> (Span<'a>, usize, usize, usize)
+        requires { byte_idx ≤ byte_len (text_of part.now) }
+        ensures text { concat (leaves result.0) ≡ text_of part.now }
+        ensures chunks { 0 < length (text_of part.now) → leaves result.0 ≡ chunks_of part.now }
+        ensures before { AreBefore (breaks_of part.now) (text_of part.now) result.0.before result.1 result.2 result.3 }
+        ensures starts { result.1 ≤ byte_idx }
+        ensures within { byte_idx ≤ result.1 + byte_len result.0.here }
+        ensures inside { byte_idx < byte_len (text_of part.now) → byte_idx < result.1 + byte_len result.0.here }
+    {
+        match part {
+            Part::InTree(stretch) => {
+                let node = stretch.node;
+                let _ = node.height();
+                let place = (stretch.start.bytes + byte_idx).min(stretch.end.bytes - 1);
+                let (path, before) = Path::at(node, Unit::Byte, place);
+                Span::in_leaf(stretch, path, before)
+            }
+            Part::Alone(plain) => {
+                let _ = plain.info();
+                (Span::of_text(plain), 0, 0, 0)
+            }
+        }
+    }
+
     /// The chunk of a part that holds a character, and the place of that character within the chunk. At the end of the
     /// text it is the last chunk, and its end. An empty part has no chunk: then it is the empty text.
     pub fn at(part: &Part<'a>, char_idx: usize) -> (Span<'a>, usize)
@@ -99,10 +162,22 @@ impl<'a> Span<'a> {
         ensures within { result.1 ≤ length result.0.here }
         ensures inside { char_idx < length (text_of part.now) → result.1 < length result.0.here }
     {
-        match part {
-            Part::InTree(stretch) => Span::in_stretch(stretch, char_idx),
-            Part::Alone(plain) => (Span::of_text(plain), char_idx),
-        }
+        let (span, _, chars, _) = Span::with_char(part, char_idx);
+        (span, char_idx - chars)
+    }
+
+    /// The chunk of a part that holds a byte, and the place of that byte within the chunk. At the end of the text it is the
+    /// last chunk, and its end. An empty part has no chunk: then it is the empty text.
+    pub fn at_byte(part: &Part<'a>, byte_idx: usize) -> (Span<'a>, usize)
+        requires { byte_idx ≤ byte_len (text_of part.now) }
+        ensures text { concat (leaves result.0) ≡ text_of part.now }
+        ensures chunks { 0 < length (text_of part.now) → leaves result.0 ≡ chunks_of part.now }
+        ensures place { byte_len (concat result.0.before) + result.1 ≡ byte_idx }
+        ensures within { result.1 ≤ byte_len result.0.here }
+        ensures inside { byte_idx < byte_len (text_of part.now) → result.1 < byte_len result.0.here }
+    {
+        let (span, bytes, _, _) = Span::with_byte(part, byte_idx);
+        (span, byte_idx - bytes)
     }
 
     /// The bytes of the chunks before it.

@@ -16,7 +16,7 @@ use Rattle.rope_text.proofs.TextParts.{lf_first}
 use Rattle.std.proofs.lemmas.Bool.{cases_Bool}
 use Rattle.rope_text.specs.declared.line_breaks.LineBreaks.TheVariants.{Lf, CrLf, Unicode}
 use Rattle.rope_text.proofs.InfoLaws.{surrogate_count-append}
-use Rattle.rope_tree.proofs.Infos.{break_count-le-length}
+use Rattle.rope_text.proofs.InfoLaws.{break_count-le-length}
 use Rattle.rope_part.specs.Edge.{start_info, end_info, IsStretch}
 use Rattle.rope_part.proofs.Stretches.{length_part, size_part, break_count_part, front_and_part}
 

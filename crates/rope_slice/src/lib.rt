@@ -3,6 +3,7 @@
 
 mod bounds;
 mod conversions;
+mod cursors;
 pub mod lines;
 mod lookups;
 pub mod slice;

@@ -1,10 +1,10 @@
 //! Lines of a slice, and a cursor over them.
-ghost use Rattle.std.specs.Prelude.{◌≡◌, ◌≤◌, ◌<◌, ⊤, false, length, Some, IfSome, MatchOption};
-ghost use Rattle.std.specs.Iterator.{YieldsFirstBy, MakesProgress, UpTo, item_count};
+ghost use Rattle.std.specs.Prelude.{◌≡◌, ◌≤◌, ◌<◌, ⊤, length, Some, IfSome, MatchOption};
+ghost use Rattle.std.specs.Iterator.{YieldsFirstBy, UpTo, item_count};
 ghost use Rattle.std.specs.Iterator.SizeHint.{IsWithinCount};
 ghost use Rattle.rope_text.specs.Lines.{line_count};
 ghost use Rattle.rope_text.specs.LineParts.{line_of, lines_of};
-ghost use Rattle.rope_text.specs.Sides.{ahead, all_items, at_start, place, turned, StepsAhead, StepsBack};
+ghost use Rattle.rope_text.specs.Sides.{ahead, at_start, at_place, turned, GoesAhead, StepsBack};
 ghost use Rattle.rope_slice.specs.Slice.{content_of, text_of, breaks_of};
 
 use crate::slice::RopeSlice;
@@ -67,9 +67,7 @@ impl<'a> RopeSlice<'a> {
     /// The index is at most `len_lines()`. No memory is taken.
     pub fn lines_at(&self, line_idx: usize) -> Lines<'a>
         requires { line_idx ≤ line_count (breaks_of self.now) (text_of self.now) }
-        ensures items { all_items result ≡ lines_of (content_of self.now) }
-        ensures place { place result ≡ line_idx }
-        ensures forward { result.is_backward ≡ false }
+        ensures { result ≡ at_place (lines_of (content_of self.now)) line_idx }
     {
         Lines {
             parts: lines::Lines::at(&self.part, line_idx),
@@ -80,7 +78,7 @@ impl<'a> RopeSlice<'a> {
     pub fn get_lines_at(&self, line_idx: usize) -> Option<Lines<'a>>
         ensures { MatchOption result (line_count (breaks_of self.now) (text_of self.now) < line_idx)
             (λ lines. (line_idx ≤ line_count (breaks_of self.now) (text_of self.now))
-            × (all_items lines ≡ lines_of (content_of self.now)) × (place lines ≡ line_idx) × (lines.is_backward ≡ false)) }
+            × (lines ≡ at_place (lines_of (content_of self.now)) line_idx)) }
     {
         if line_idx > self.len_lines() {
             return None;
@@ -127,8 +125,7 @@ impl<'a> Iterator for Lines<'a> {
     /// The next line, or none at the end, where it stays. No memory is taken.
     fn next(&mut self) -> Option<RopeSlice<'a>>
         ensures steps { YieldsFirstBy (λ x. content_of x) ahead self.old result self.new }
-        ensures goes { MakesProgress (λ _. ⊤) (item_count ahead) self.old result self.new }
-        ensures moves { StepsAhead (λ x. content_of x) self.old result self.new }
+        ensures goes { GoesAhead (λ x. content_of x) self.old result self.new }
     {
         match self.parts.next() {
             Some(part) => Some(RopeSlice { part }),

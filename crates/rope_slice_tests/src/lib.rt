@@ -1,4 +1,4 @@
-//! Tests of slices, against worked rows and plain lists of characters.
+//! Tests of slices and of cursors, against worked rows and plain lists of characters.
 #![tactic(auto)]
 
 #[cfg(test)]
@@ -8,7 +8,11 @@ mod compare;
 #[cfg(test)]
 mod conversions;
 #[cfg(test)]
+mod cursors;
+#[cfg(test)]
 mod cuts;
+#[cfg(test)]
+mod plain_cursor;
 #[cfg(test)]
 mod plain_slice;
 #[cfg(test)]
@@ -19,3 +23,5 @@ mod random_slices;
 mod refusals;
 #[cfg(test)]
 mod ropes_of_slices;
+#[cfg(test)]
+mod walks;

@@ -9,7 +9,8 @@ use ropey::{LineBreaks, Rope, RopeSlice};
 use std::alloc::Global;
 use std::test::Fail;
 
-const SETS: [LineBreaks; 3] = [LineBreaks::Lf, LineBreaks::CrLf, LineBreaks::Unicode];
+/// Each set of line breaks.
+pub const SETS: [LineBreaks; 3] = [LineBreaks::Lf, LineBreaks::CrLf, LineBreaks::Unicode];
 
 /// How many inserts and removals a rope gets before it is sliced.
 const EDITS: usize = 12;
@@ -22,7 +23,7 @@ const PLACES: usize = 4;
 
 /// A rope, and the list of characters that it has to have.
 #[derive(Drop)]
-struct Pair {
+pub struct Pair {
     rope: Rope,
     plain: Vec<char>,
 }
@@ -35,6 +36,16 @@ impl Pair {
             rope: Rope::from_str_with(alloc, text.as_str(), set)?,
             plain: chars_of(alloc, text.as_str())?,
         })
+    }
+
+    /// Its characters.
+    pub fn plain(&self) -> &[char] {
+        &self.plain
+    }
+
+    /// Where each of its chunks ends, in characters.
+    pub fn chunk_ends(&self, alloc: Global) -> Result<Vec<usize>, Fail> {
+        chunk_ends(alloc, &self.rope)
     }
 
     fn insert(&mut self, alloc: Global, numbers: &mut Numbers) -> Result<(), Fail> {
@@ -59,7 +70,7 @@ impl Pair {
 }
 
 /// A rope whose chunks are of uneven lengths.
-fn edited(alloc: Global, numbers: &mut Numbers, set: LineBreaks) -> Result<Pair, Fail> {
+pub fn edited(alloc: Global, numbers: &mut Numbers, set: LineBreaks) -> Result<Pair, Fail> {
     let mut pair = Pair::new(alloc, numbers, set)?;
     for _ in 0..EDITS {
         pair.insert(alloc, numbers)?;
@@ -80,7 +91,7 @@ fn chunk_ends(alloc: Global, rope: &Rope) -> Result<Vec<usize>, Fail> {
 }
 
 /// A start and an end; of two such ranges one is short and one leaves little out.
-fn random_range(numbers: &mut Numbers, len: usize) -> (usize, usize) {
+pub fn random_range(numbers: &mut Numbers, len: usize) -> (usize, usize) {
     let start = if numbers.up_to(1) == 0 {
         numbers.up_to(len)
     } else {
@@ -96,7 +107,7 @@ fn random_range(numbers: &mut Numbers, len: usize) -> (usize, usize) {
 }
 
 /// A range of a rope, told by characters or by bytes.
-fn slice_of<'a>(
+pub fn slice_of<'a>(
     numbers: &mut Numbers,
     pair: &'a Pair,
     start: usize,

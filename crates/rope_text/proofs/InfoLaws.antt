@@ -1,9 +1,11 @@
 -- The counts of joined texts.
-use Rattle.std.proofs.Common.{◌≡◌, ℕ, ◌+◌, ◌-◌, Bool, false, ◌&&◌, cond, List, ◌++◌, nat_le, refl, ap, ◌∙◌, arith, length-append}
-use Rattle.std.proofs.lemmas.List.Sums.{sum_by-append}
+use Rattle.std.proofs.Common.{◌≡◌, ℕ, ◌+◌, ◌-◌, ◌≤◌, Bool, false, ◌&&◌, cond, List, ◌++◌, length, nat_le, refl, ap, ◌∙◌, arith, length-append}
+use Rattle.std.specs.List.{range_with_len}
+use Rattle.std.proofs.lemmas.List.Sums.{sum_by-append, length-filter, count_by-le-length}
+use Rattle.std.proofs.lemmas.List.FromFn.{length-range_with_len}
 use Rattle.rope_text.specs.declared.line_breaks.LineBreaks.{LineBreaks}
 use Rattle.rope_text.specs.Text.{surrogate_count}
-use Rattle.rope_text.specs.Breaks.{is_break_char, break_count}
+use Rattle.rope_text.specs.Breaks.{is_break_char, is_break_end, break_ends, break_count}
 use Rattle.rope_text.specs.Cutting.{parts_crlf}
 use Rattle.rope_text.specs.TextInfo.{info_of, info_sum, shared_breaks, less_breaks}
 use Rattle.rope_text.proofs.Measures.{IsMeasure-byte_len}
@@ -27,3 +29,9 @@ info_of-append_apart set s t apart =
     let same : (break_count set s + break_count set t) - 0 ≡ break_count set s + break_count set t = omega arith in
     let whole : less_breaks (info_sum (info_of set s) (info_of set t)) 0 ≡ info_sum (info_of set s) (info_of set t) = rw same refl in
     info_of-append set s t ∙ ap (less_breaks (info_sum (info_of set s) (info_of set t))) none ∙ whole
+
+-- no more breaks than characters
+pub break_count-le-length : (set : LineBreaks) (text : List ℕ) → break_count set text ≤ length text
+unfolding break_ends
+break_count-le-length set text =
+    omega (arith, length-filter (is_break_end set text) (range_with_len 1 (length text)), count_by-le-length (is_break_end set text) (range_with_len 1 (length text)), length-range_with_len 1 (length text))

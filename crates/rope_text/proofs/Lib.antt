@@ -8,6 +8,7 @@ pub mod JoinLaws
 pub mod EditLaws
 pub mod ClipLaws
 pub mod CursorLaws
+pub mod SidesLaws
 pub mod PositionLaws
 pub mod LineLaws
 pub mod CuttingLaws
@@ -32,6 +33,8 @@ pub mod Blocks
 pub mod Marks
 pub mod InfoLaws
 pub mod Fronts
+pub mod SidesPlaces
+pub mod CutOff
 pub mod LastBreakLaws
 mod Examples
 pub mod LinePartLaws

@@ -1,12 +1,13 @@
 -- What the definitions give, as statements that the functions of `laws` prove.
-use Rattle.std.specs.Prelude.{◌≡◌, ℕ, ◌+◌, ◌-◌, ◌<◌, ◌≤◌, Bool, true, List, ◌++◌, length, take, drop, Some, None}
+use Rattle.std.specs.Prelude.{Option, ◌≡◌, ℕ, ◌+◌, ◌-◌, ◌<◌, ◌≤◌, Bool, true, List, ◌++◌, length, take, drop, Some, None}
 use Rattle.std.specs.List.{slice_range}
 use Rattle.rope_text.specs.declared.line_breaks.LineBreaks.{LineBreaks}
 use Rattle.rope_text.specs.Text.{greatest}
 use Rattle.rope_text.specs.Lines.{line_start, line_count}
 use Rattle.rope_text.specs.Conversions.{byte_to_char, utf16_to_char, char_to_byte, char_to_utf16, char_to_line}
 use Rattle.rope_text.specs.Cutting.{clip}
-use Rattle.rope_text.specs.Cursor.{Cursor, next_item, after_next, prev_item, after_prev, size_left}
+use Rattle.rope_text.specs.Cursor.{Cursor, next_item, after_next, prev_item, after_prev, reversed, size_left}
+use Rattle.rope_text.specs.Sides.{Sides, turned, cursor_of, StepsAhead, StepsBack}
 use Rattle.rope_text.specs.Edit.{inserted, removed}
 use Rattle.rope_text.specs.TextInfo.{info_of, info_sum, shared_breaks, less_breaks}
 use Rattle.rope_text.specs.Position.{char_to_column, position_to_char}
@@ -50,3 +51,12 @@ abbrev pub StepsUndo : Type 0
 StepsUndo = (c : Cursor (List ℕ)) → c.place ≤ length c.items
     → ((x : List ℕ) → next_item c ≡ Some x → (prev_item (after_next c) ≡ Some x) × (after_prev (after_next c) ≡ c) × (size_left (after_next c) + 1 ≡ size_left c))
     × (next_item c ≡ None → (size_left c ≡ 0) × (after_next c ≡ c))
+
+-- a step of code from the sides s to the sides t, with the item r or none, is the cursor's step, and so is a step back;
+-- turned sides are the cursor turned round; and a step back after a step that gave an item gives it again, where it was
+abbrev pub StepsAreCursors : Type 0
+StepsAreCursors = (s t : Sides (List ℕ)) (r : Option (List ℕ))
+    → (StepsAhead (λ x. x) s r t → (r ≡ next_item (cursor_of s)) × (cursor_of t ≡ after_next (cursor_of s)))
+    × (StepsBack (λ x. x) s r t → (r ≡ prev_item (cursor_of s)) × (cursor_of t ≡ after_prev (cursor_of s)))
+    × (cursor_of (turned s) ≡ reversed (cursor_of s))
+    × ((u : Sides (List ℕ)) (x : List ℕ) → StepsAhead (λ x. x) s (Some x) t → StepsBack (λ x. x) t r u → (r ≡ Some x) × (u ≡ s))

@@ -1,10 +1,11 @@
 -- Which chunk of a cutting a look-up answers, and what lies before it.
-use Rattle.std.specs.Prelude.{ℕ, zero, suc, ◌+◌, ◌-◌, Bool, List, [], length, take, nat_le, ◌==◌, slice_index_or, if◌then◌else◌}
+use Rattle.std.specs.Prelude.{◌≡◌, ℕ, zero, suc, ◌+◌, ◌-◌, Bool, List, [], length, take, nat_le, ◌==◌, slice_index_or, if◌then◌else◌}
 use Rattle.std.specs.List.{concat}
 use Rattle.rope_text.specs.declared.line_breaks.LineBreaks.{LineBreaks}
 use Rattle.rope_text.specs.Text.{byte_len, greatest}
 use Rattle.rope_text.specs.Lines.{line_count}
 use Rattle.rope_text.specs.Conversions.{char_to_line}
+use Rattle.rope_text.specs.Sides.{Sides, at_place}
 
 -- the least number up to n that passes the test, or n
 abbrev pub least : (ℕ → Bool) → ℕ → ℕ
@@ -54,3 +55,14 @@ chunk_place_at_char chunks i = if i == length (concat chunks) then length chunks
 
 abbrev pub chunk_place_at_line_break : LineBreaks → List (List ℕ) → ℕ → ℕ
 chunk_place_at_line_break set chunks k = if k == line_count set (concat chunks) then length chunks else chunk_index_at_line_break set chunks k
+
+-- the bytes, the characters and the breaks of the whole text before a chunk
+pub record LieBefore (found : FoundChunk) (bytes chars breaks : ℕ) : Type 0 where
+  pub bytes_are : bytes ≡ found.bytes
+  pub chars_are : chars ≡ found.chars
+  pub breaks_are : breaks ≡ found.breaks
+
+-- a cursor over the chunks that stands before the k-th, or past the last, with what lies before it
+pub record StandsAt (set : LineBreaks) (chunks : List (List ℕ)) (k : ℕ) (cursor : Sides (List ℕ)) (bytes chars breaks : ℕ) : Type 0 where
+  pub cursor_is : cursor ≡ at_place chunks k
+  pub before : LieBefore (found_chunk set chunks k) bytes chars breaks

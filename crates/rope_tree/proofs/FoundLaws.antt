@@ -24,7 +24,7 @@ use Rattle.rope_tree.specs.declared.search.Unit.TheVariants.{Byte, Char, CodeUni
 use Rattle.rope_tree.specs.Leaves.{AreLeaves}
 use Rattle.rope_tree.specs.Tree.{Tree, text, IsTree}
 use Rattle.rope_tree.specs.Found.{IsFound}
-use Rattle.rope_tree.proofs.Infos.{break_count-le-length}
+use Rattle.rope_text.proofs.InfoLaws.{break_count-le-length}
 use Rattle.rope_tree.proofs.LeafLaws.{nonempty_leaves, leaves_left, leaves_seam}
 
 -- at the end of the text

@@ -1,38 +1,18 @@
 -- The first leaf of a text of two parts.
-use Rattle.std.proofs.Common.{◌≡◌, ℕ, ◌+◌, ◌-◌, ◌<◌, ◌≤◌, ◌||◌, true, false, List, [], ◌++◌, length, take, drop, get_or, ap, ◌∷◌, ap₂, sym, subst, ◌∙◌, arith, take-append-drop, append_assoc}
+use Rattle.std.proofs.Common.{◌≡◌, ℕ, ◌+◌, ◌-◌, ◌<◌, ◌≤◌, ◌||◌, true, false, List, [], ◌++◌, length, take, drop, get_or, ap, ◌∷◌, ap₂, sym, subst, ◌∙◌, arith, append_assoc}
 use Rattle.std.specs.Prelude.{◌==◌}
 use Rattle.std.specs.Str.{chars, IsUtf8, IsCharBoundary}
 use Rattle.std.proofs.Math.Seq.{take-append-add, drop-append-add}
 use Rattle.std.proofs.lemmas.Bool.Decides.{nat_tests}
 use Rattle.std.proofs.lemmas.List.{append-nil, length-append, length-take-le, get_or-take, take-take, take-append-le, nil_from_length}
-use Rattle.std.proofs.lemmas.Str.{chars-append, length-le-encodes, IsUtf8-append, IsUtf8-take, IsUtf8-drop, IsCharBoundary-from_drop, IsCharBoundary-from_take}
+use Rattle.std.proofs.lemmas.Str.{length-le-encodes, IsUtf8-append, IsCharBoundary-from_drop, IsCharBoundary-from_take}
 use Rattle.rope_text.specs.Text.{byte_len}
 use Rattle.rope_text.specs.Cuts.{is_cut, is_cut_between}
 use Rattle.rope_text.specs.Cutting.{parts_crlf}
-use Rattle.rope_text.proofs.Apart.{apart_at_cut}
-use Rattle.rope_text.proofs.CutFacts.{boundary_of_cut}
+use Rattle.rope_text.proofs.CutOff.{IsCutOff, cut_off}
 use Rattle.rope_text.proofs.CuttingLaws.{parts_crlf-append}
 use Rattle.rope_text.proofs.Walks.{byte_len-chars}
 use Rattle.rope_tree.proofs.BuildLaws.{some_chars}
-
--- a text cut in two, by characters
-pub record IsCutOff (bs : List ℕ) (r : ℕ) : Type 0 where
-  pub front : IsUtf8 (take r bs)
-  pub back : IsUtf8 (drop r bs)
-  pub whole : chars (take r bs) ++ chars (drop r bs) ≡ chars bs
-  pub apart : parts_crlf (chars (take r bs)) (chars (drop r bs)) ≡ false
-
-pub cut_off : (bs : List ℕ) (r : ℕ) → IsUtf8 bs → 0 < r → r < length bs → is_cut bs r ≡ true → IsCutOff bs r
-cut_off bs r u some inside cut =
-    let at : IsCharBoundary bs r = boundary_of_cut bs r u (omega arith) cut in
-    let v = IsUtf8-take bs r u at in
-    let w = IsUtf8-drop bs r u at in
-    record {
-      front = v;
-      back = w;
-      whole = sym (chars-append (take r bs) (drop r bs) v) ∙ ap chars (take-append-drop r bs);
-      apart = apart_at_cut bs r v w some inside cut;
-    }
 
 -- the leaf, and what follows it
 pub cut_whole : (bs : List ℕ) (r : ℕ) (leaf more whole : List ℕ) → IsCutOff bs r → leaf ≡ chars (take r bs) → more ≡ chars (drop r bs) → chars bs ≡ whole → leaf ++ more ≡ whole

@@ -1,4 +1,3 @@
-pub mod ChunkSteps
 pub mod Refusals
 pub mod Ropes
 pub mod TextsGiven

@@ -4,6 +4,7 @@
 mod chunks_at;
 mod conversions;
 mod counted;
+mod cursors;
 mod edits;
 mod inserts;
 pub mod iter;

@@ -212,11 +212,12 @@ impl Rope {
         Ok(builder)
     }
 
-    /// The chunks of the text, in order.
+    /// A cursor over the chunks, before the first, facing forward. No memory is taken.
     pub fn chunks(&self) -> Chunks<'_>
         ensures cut { result ≡ at_start self.now.chunks }
         ensures few { length self.now.chunks < 2 ^ 63 }
     {
-        Chunks::new(&self.root)
+        let _ = self.root.info();
+        self.whole().chunks()
     }
 }

@@ -17,7 +17,7 @@ use std::alloc::Global;
 
 impl Rope {
     // All of it.
-    fn whole(&self) -> RopeSlice<'_>
+    pub(crate) fn whole(&self) -> RopeSlice<'_>
         ensures { content_of result ≡ content self.now }
     {
         RopeSlice::of_node(self.root())

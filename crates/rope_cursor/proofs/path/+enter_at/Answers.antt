@@ -1,56 +1,80 @@
-use Rattle.std.proofs.Common.{ℕ, ◌+◌, List, arith, take, slice_set}
+use Rattle.std.proofs.Common.{◌≡◌, ℕ, ◌+◌, List, ap, sym, ◌∙◌, arith, take, slice_set, ◌++◌}
+use Rattle.std.specs.Str.{chars}
+use Rattle.rope_text.specs.TextInfo.{info_of}
+use Rattle.std.specs.List.{concat}
 use Rattle.std.proofs.lemmas.List.{length-map}
-use Rattle.rope_tree.specs.declared.search.Unit.TheVariants.{Char}
-use Rattle.rope_tree.specs.Tree.{breaks_of}
+use Rattle.rope_text.specs.Text.{byte_len}
+use Rattle.rope_tree.specs.Search.{count_of}
+use Rattle.rope_tree.specs.Tree.{breaks_of, leaf_tree}
 use Rattle.rope_tree.specs.Listed.{trees}
 use Rattle.rope_tree.proofs.NodeLaws.{small_totals}
 use Rattle.rope_tree.proofs.Descents.{Descends, descends}
-use Rattle.rope_cursor.specs.Path.{around, before_of}
-use Rattle.rope_cursor.proofs.Paths.{GoesDown, goes_down, IsOpened, opened, BeforeChild, before_child}
+use Rattle.rope_cursor.specs.Path.{around, before_of, after_of}
+use Rattle.rope_cursor.proofs.Paths.{GoesDown, goes_down, IsOpened, opened, EntersChild, enters_child, held_in_leaf}
 use Rattle.rope_cursor.proofs.path.+enter_at.Goals.{After-deref}
 use Rattle.rope_cursor.proofs.path.+enter_at.Goals as goal
 
 open_at : (t : ℕ) (c : After-deref t) → IsOpened c.args.frames.now c.args.level c.args.node.now c.in-Inner.children
 open_at t c = opened c.args.frames.now c.args.level c.args.node.now c.in-Inner.children c.in-Inner.totals.now c.in-Inner.ensures c.requires.low
 
-found : (t : ℕ) (c : After-deref t) → Descends (breaks_of (trees c.in-Inner.children.now)) Char c.args.char_idx (trees c.in-Inner.children.now) c.place_of-at.result c.deref.result.now c.total_before-front.result
+found : (t : ℕ) (c : After-deref t) → Descends (breaks_of (trees c.in-Inner.children.now)) c.args.unit c.args.at (trees c.in-Inner.children.now) c.place_of-place.result c.deref.result.now c.total_before-front.result
 found t c =
-    descends Char c.args.char_idx c.in-Inner.children.now c.in-Inner.totals.now c.place_of-at.result c.index-children-at.result c.deref.result.now c.total_before-front.result
-    c.in-Inner.ensures.children c.in-Inner.ensures.totals_right c.place_of-at.ensures.within c.index-children-at.is c.deref.ensures
-    c.total_before-front.ensures.first c.total_before-front.ensures.later c.place_of-at.ensures.before c.place_of-at.ensures.past
+    descends c.args.unit c.args.at c.in-Inner.children.now c.in-Inner.totals.now c.place_of-place.result c.index-children-place.result c.deref.result.now c.total_before-front.result
+    c.in-Inner.ensures.children c.in-Inner.ensures.totals_right c.place_of-place.ensures.within c.index-children-place.is c.deref.ensures
+    c.total_before-front.ensures.first c.total_before-front.ensures.later c.place_of-place.ensures.before c.place_of-place.ensures.past
 
-down : (t : ℕ) (c : After-deref t) → GoesDown c.args.frames.now c.args.level c.in-Inner.children c.place_of-at.result c.deref.result.now (around c.args.frames.now c.args.level c.args.node.now.leaves)
+down : (t : ℕ) (c : After-deref t) → GoesDown c.args.frames.now c.args.level c.in-Inner.children c.place_of-place.result c.deref.result.now (around c.args.frames.now c.args.level c.args.node.now.leaves)
 down t c =
     let o = open_at t c in
-    goes_down c.args.frames.now c.args.level c.in-Inner.children c.place_of-at.result c.index-children-at.result c.deref.result.now (around c.args.frames.now c.args.level c.args.node.now.leaves)
-    c.requires.frames o.room o.low o.few (omega (arith, (found t c).within, length-map c.in-Inner.children.now (λ rc. rc.value))) c.index-children-at.is c.deref.ensures o.parts
-
-pub place_of-at-requires-clause-small : goal.place_of-at-requires-clause-small
-place_of-at-requires-clause-small t c = small_totals _ c.in-Inner.totals.now (trees c.in-Inner.children.now) c.in-Inner.ensures.totals_right c.in-Inner.ensures.children.fits
+    goes_down c.args.frames.now c.args.level c.in-Inner.children c.place_of-place.result c.index-children-place.result c.deref.result.now (around c.args.frames.now c.args.level c.args.node.now.leaves)
+    c.requires.frames o.room o.low o.few (omega (arith, (found t c).within, length-map c.in-Inner.children.now (λ rc. rc.value))) c.index-children-place.is c.deref.ensures o.parts
 
 abbrev more_frames : (t : ℕ) (c : After-deref t) → List (List ℕ)
-more_frames t c = before_of (take (c.args.level + 1) (slice_set c.args.frames.now c.args.level record { children = c.in-Inner.children; at = c.place_of-at.result }))
+more_frames t c = before_of (take (c.args.level + 1) (slice_set c.args.frames.now c.args.level record { children = c.in-Inner.children; at = c.place_of-place.result }))
 
-counts : (t : ℕ) (c : After-deref t) → BeforeChild (before_of (take c.args.level c.args.frames.now)) (more_frames t c) c.total_before-front.result c.args.node.now c.deref.result.now
-counts t c =
-    let f = found t c in
-    before_child (breaks_of (trees c.in-Inner.children.now)) c.in-Inner.children.now c.place_of-at.result (before_of (take c.args.level c.args.frames.now)) (more_frames t c) c.total_before-front.result
-    c.args.node.now c.deref.result.now c.in-Inner.ensures.is f.within f.child_is f.front_is (down t c).before
+enters : (t : ℕ) (c : After-deref t) → EntersChild c.args.unit c.args.before c.total_before-front.result c.args.at (more_frames t c) c.deref.result.now
+enters t c =
+    enters_child c.args.unit c.args.before c.total_before-front.result c.args.at (before_of (take c.args.level c.args.frames.now)) (more_frames t c) (after_of (take c.args.level c.args.frames.now))
+    c.args.node.now c.deref.result.now c.in-Inner.children.now c.place_of-place.result c.in-Inner.ensures.is (found t c) c.requires.before (down t c).before c.requires.leaves c.requires.fits
 
-pub overflow_add-bytes : goal.overflow_add-bytes
-overflow_add-bytes t c = omega (arith, (counts t (goal.at.overflow_add-bytes t c).After-deref).room, c.requires.room)
+pub place_of-place-requires-clause-small : goal.place_of-place-requires-clause-small
+place_of-place-requires-clause-small t c = small_totals _ c.in-Inner.totals.now (trees c.in-Inner.children.now) c.in-Inner.ensures.totals_right c.in-Inner.ensures.children.fits
 
-pub overflow_sub-char_idx : goal.overflow_sub-char_idx
-overflow_sub-char_idx t c = (found t (goal.at.overflow_sub-char_idx t c).After-deref).not_past
+pub count-requires : goal.count-requires
+count-requires t c = (found t (goal.at.count-requires t c).After-deref).small
+
+pub overflow_sub-at : goal.overflow_sub-at
+overflow_sub-at t c = let d = found t (goal.at.overflow_sub-at t c).After-deref in omega (arith, d.not_past, c.count.ensures)
+
+pub plus-requires-clause-bytes : goal.plus-requires-clause-bytes
+plus-requires-clause-bytes t c = let e = (goal.at.plus-requires-clause-bytes t c).After-deref in omega (arith, (enters t e).small, (found t e).small)
+
+pub plus-requires-clause-chars : goal.plus-requires-clause-chars
+plus-requires-clause-chars t c = let e = (goal.at.plus-requires-clause-chars t c).After-deref in omega (arith, (enters t e).small, (found t e).small)
+
+pub plus-requires-clause-utf16_surrogates : goal.plus-requires-clause-utf16_surrogates
+plus-requires-clause-utf16_surrogates t c = let e = (goal.at.plus-requires-clause-utf16_surrogates t c).After-deref in omega (arith, (enters t e).small, (found t e).small)
+
+pub plus-requires-clause-line_breaks : goal.plus-requires-clause-line_breaks
+plus-requires-clause-line_breaks t c = let e = (goal.at.plus-requires-clause-line_breaks t c).After-deref in omega (arith, (enters t e).small, (found t e).small)
 
 pub enter_at-requires : goal.enter_at-requires
 enter_at-requires t c =
     let e = (goal.at.enter_at-requires t c).After-deref in
     let o = open_at t e in
     let d = down t e in
-    let f = found t e in
-    let n = counts t e in
-    (omega (arith, o.room), (d.frames_are, (d.low, (omega (arith, f.past, f.not_past), (omega (arith, n.bytes, c.requires.bytes), omega (arith, n.room, c.requires.room))))))
+    let n = enters t e in (
+      omega (arith, o.room),
+      (
+        d.frames_are,
+        (d.low, (omega (arith, n.within, c.count.ensures), (c.plus.ensures.sum ∙ n.sum_is, (rw d.whole_is c.requires.leaves, omega (arith, ap (λ ls. byte_len (concat ls)) d.whole_is, c.requires.fits))))),
+      ),
+    )
+
+pub returns-in-Leaf-clause-holds : goal.returns-in-Leaf-clause-holds
+returns-in-Leaf-clause-holds t c =
+    held_in_leaf c.args.unit c.args.before c.args.at (before_of (take c.args.level c.args.frames.now)) (after_of (take c.args.level c.args.frames.now)) c.args.node.now (chars c.as_str.result.now)
+    (c.in-Leaf.ensures.is ∙ ap (leaf_tree c.args.node.now.breaks) (sym c.as_str.ensures.chars)) c.requires.within c.requires.before c.requires.leaves
 
 pub returns-in-Inner-clause-leads : goal.returns-in-Inner-clause-leads
 returns-in-Inner-clause-leads t c =
@@ -60,6 +84,13 @@ returns-in-Inner-clause-leads t c =
 pub returns-in-Inner-clause-holds : goal.returns-in-Inner-clause-holds
 returns-in-Inner-clause-holds t c =
     let e = (goal.at.returns-in-Inner-clause-holds t c).After-deref in
-    let f = found t e in
+    let n = enters t e in
     let h = c.enter_at.ensures.holds in
-    record { place_is = omega (arith, (counts t e).chars, h.place_is, f.not_past); within = h.within; bytes_are = h.bytes_are }
+    let same : c.deref.result.now.breaks ≡ c.args.node.now.breaks = (found t e).own.same_breaks ∙ sym (ap (λ u. u.breaks) c.in-Inner.ensures.is) in
+    let sum = ap (count_of c.args.unit) c.plus.ensures.sum in
+    let more = before_of (take c.enter_at.result.depth c.enter_at.new.frames) in
+    record {
+      info_is = h.info_is ∙ ap (λ b. info_of b (concat more)) same;
+      not_past = omega (arith, n.place_is, h.not_past, sum, c.count.ensures);
+      past = omega (arith, n.place_is, h.past, sum, c.count.ensures, ap (λ b. count_of c.args.unit (info_of b (concat more ++ chars c.enter_at.result.leaf.now))) same);
+    }

@@ -3,7 +3,8 @@ use Rattle.std.proofs.Common.{◌≡◌, ◌-◌, ◌++◌, take, drop, length, 
 use Rattle.std.proofs.lemmas.List.{drop-append-le}
 use Rattle.std.proofs.lemmas.Str.{chars-append, IsCharBoundary-start}
 use Rattle.std.specs.Str.{chars}
-use Rattle.rope_tree.proofs.FrontLaws.{IsCutOff, cut_whole, cut_apart, two_parts, leaf_part, all_taken}
+use Rattle.rope_text.proofs.CutOff.{IsCutOff}
+use Rattle.rope_tree.proofs.FrontLaws.{cut_whole, cut_apart, two_parts, leaf_part, all_taken}
 use Rattle.rope_tree.proofs.builder.cut_at_seam.Goals.{After-from_str-leaf, After-from_str, After-new}
 use Rattle.rope_tree.proofs.builder.cut_at_seam.Goals as goal
 

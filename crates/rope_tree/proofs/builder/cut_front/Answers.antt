@@ -1,7 +1,8 @@
 -- The leaf ends at a cut of the second part.
 use Rattle.std.proofs.Common.{◌∙◌, ◌<◌, arith, length, IsTrue, subst}
 use Rattle.rope_text.specs.Cuts.{is_cut}
-use Rattle.rope_tree.proofs.FrontLaws.{IsCutOff, cut_off, longer_whole, longer_apart}
+use Rattle.rope_text.proofs.CutOff.{IsCutOff, cut_off}
+use Rattle.rope_tree.proofs.FrontLaws.{longer_whole, longer_apart}
 use Rattle.rope_tree.proofs.builder.cut_front.Goals.{After-new}
 use Rattle.rope_tree.proofs.builder.cut_front.Goals as goal
 

@@ -1,11 +1,6 @@
-use Rattle.std.proofs.Common.{false}
 use Rattle.rope_text.proofs.LineLaws.{line_start-le-length}
-use Rattle.rope_part.specs.Part.{content_of, text_of, breaks_of}
-use Rattle.rope_cursor.proofs.LineSteps.{place_of_line}
+use Rattle.rope_part.specs.Part.{text_of, breaks_of}
 use Rattle.rope_cursor.proofs.lines.Lines.at.Goals as goal
-
-pub returns-clause-place : goal.returns-clause-place
-returns-clause-place c = place_of_line (content_of c.args.part.now) c.args.line_idx false c.requires
 
 pub at-requires : goal.at-requires
 at-requires c = rw c.line_to_char-start.ensures (line_start-le-length (breaks_of c.args.part.now) (text_of c.args.part.now) c.args.line_idx)

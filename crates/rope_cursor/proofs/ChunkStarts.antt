@@ -1,0 +1,174 @@
+-- Where a cursor over chunks starts.
+use Rattle.std.proofs.Common.{◌≡◌, ℕ, suc, ◌+◌, ◌-◌, ◌<◌, ◌≤◌, ◌==◌, nat_le, Bool, true, false, List, [], ◌∷◌, ◌++◌, length, get_or, refl, sym, ap, ◌∙◌, arith, inl, inr, All}
+use Rattle.std.specs.Prelude.{if◌then◌else◌}
+use Rattle.std.specs.List.{concat}
+use Rattle.std.proofs.lemmas.Bool.Decides.{nat_tests}
+use Rattle.std.proofs.lemmas.Bool.{cases_eq, cases_lt}
+use Rattle.std.proofs.lemmas.List.{length-append, nil_from_length, take_at, take_all}
+use Rattle.std.proofs.Math.Seq.{get_or-append_seam}
+use Rattle.rope_text.specs.declared.line_breaks.LineBreaks.{LineBreaks}
+use Rattle.rope_text.specs.Text.{byte_len}
+use Rattle.rope_text.specs.Breaks.{break_count}
+use Rattle.rope_text.specs.Cutting.{IsCutting}
+use Rattle.rope_text.specs.Sides.{Sides, all_items, at_start, place}
+use Rattle.rope_text.specs.Lines.{line_start}
+use Rattle.rope_text.specs.Lookup.{LieBefore, found_chunk, front_chunks, chunk_index_at_byte, chunk_index_at_char, chunk_index_at_line_break}
+use Rattle.rope_text.proofs.Greatest.{greatest-le}
+use Rattle.rope_text.proofs.ConversionLaws.{char_to_line_end}
+use Rattle.rope_part.proofs.Lookups.{holds_char, line_break_index}
+use Rattle.rope_cursor.specs.Chunks.{at_chunk}
+use Rattle.rope_text.proofs.CuttingLaws.{concat-append}
+use Rattle.rope_text.proofs.ChunkLaws.{before_more}
+use Rattle.rope_text.proofs.LookupLaws.{chunk_index_at_byte_is, chunk_index_at_char_is}
+use Rattle.rope_text.proofs.Measures.{IsMeasure-byte_len}
+use Rattle.rope_text.specs.Conversions.{char_to_line}
+use Rattle.rope_tree.proofs.LeafLaws.{all_left}
+use Rattle.rope_cursor.specs.Starts.{AreBefore}
+use Rattle.rope_part.proofs.ClippedChunks.{front_less}
+use Rattle.rope_cursor.specs.Path.{Place, leaves}
+
+no_chunks : (chunks : List (List ℕ)) → All (λ chunk. 0 < length chunk) chunks → length (concat chunks) ≡ 0 → length chunks ≡ 0
+no_chunks [] full none = refl
+no_chunks (chunk ∷ chunks) full none = absurd (omega (arith, full 0 [] (omega arith), length-append chunk (concat chunks)))
+
+-- a cursor at place 0 that faces forward is at the start
+pub is_start : {X : Type 0} (s : Sides X) (items : List X) → all_items s ≡ items → place s ≡ 0 → s.is_backward ≡ false → s ≡ at_start items
+is_start {X = X} s items all none forward =
+    let left : s.left ≡ [] = nil_from_length s.left none in
+    let right : s.right ≡ items = ap (λ xs. xs ++ s.right) (sym left) ∙ all in
+    ap (λ (xs : List X). (let r : Sides X = record { left = xs; right = s.right; is_backward = s.is_backward } in r)) left
+    ∙ ap (λ (xs : List X). (let r : Sides X = record { left = []; right = xs; is_backward = s.is_backward } in r)) right
+    ∙ ap (λ (b : Bool). (let r : Sides X = record { left = []; right = items; is_backward = b } in r)) forward
+
+module _ (p : Place) (chunks : List (List ℕ)) (same : leaves p ≡ chunks) (full : All (λ chunk. 0 < length chunk) chunks) where
+  front_here : front_chunks chunks (length p.before) ≡ concat p.before
+  front_here = ap (λ ls. front_chunks ls (length p.before)) (sym same) ∙ ap concat (take_at p.before (p.here ∷ p.after) (length p.before) refl)
+
+  within_here : length p.before < length chunks
+  within_here = omega (arith, ap length same, length-append p.before (p.here ∷ p.after))
+
+  chunk_here : get_or chunks (length p.before) [] ≡ p.here
+  chunk_here = ap (λ ls. get_or ls (length p.before) []) (sym same) ∙ get_or-append_seam p.before p.here p.after []
+
+  upto_here : front_chunks chunks (suc (length p.before)) ≡ concat p.before ++ p.here
+  upto_here = before_more chunks (length p.before) within_here ∙ ap (λ x. x ++ get_or chunks (length p.before) []) front_here ∙ ap (λ x. concat p.before ++ x) chunk_here
+
+  -- the chunk that has the end of the text is the last
+  pub last_place : (at : ℕ) → at ≤ length p.here → length (concat p.before) + at ≡ length (concat chunks) → length (p.before ++ p.here ∷ []) ≡ length chunks
+  last_place at inside e = elim (cases_lt (suc (length p.before)) (length chunks)) [
+    | inl more ↦ absurd (omega (arith, front_less chunks (length p.before) full more, ap length upto_here, length-append (concat p.before) p.here))
+    | inr last ↦ omega (arith, within_here, length-append p.before (p.here ∷ []))
+  ]
+
+  -- the chunk holds the character, or the byte
+  pub index_of_char : (i : ℕ) → length (concat p.before) ≤ i → i < length (concat p.before) + length p.here → chunk_index_at_char chunks i ≡ length p.before
+  index_of_char i low high =
+      chunk_index_at_char_is chunks i (length p.before) within_here (omega (arith, ap length front_here)) (λ _. omega (arith, ap length upto_here, length-append (concat p.before) p.here))
+
+  pub index_of_byte : (b : ℕ) → byte_len (concat p.before) ≤ b → b < byte_len (concat p.before) + byte_len p.here → chunk_index_at_byte chunks b ≡ length p.before
+  index_of_byte b low high =
+      chunk_index_at_byte_is chunks b (length p.before) within_here (omega (arith, ap byte_len front_here))
+      (λ _. omega (arith, ap byte_len upto_here, IsMeasure-byte_len.joined (concat p.before) p.here))
+
+-- a cursor before the k-th chunk, and what lies before that
+pub record IsPlaced (set : LineBreaks) (chunks : List (List ℕ)) (k : ℕ) (s : Sides (List ℕ)) (bytes chars breaks : ℕ) : Type 0 where
+  pub place_is : place s ≡ k
+  pub before : LieBefore (found_chunk set chunks k) bytes chars breaks
+
+-- the chunk that a span stands at
+module _ (p : Place) (text : List ℕ) (chunks : List (List ℕ)) (cut : IsCutting text chunks) (whole : concat (leaves p) ≡ text) (same : 0 < length text → leaves p ≡ chunks) (chars : ℕ) (all : chars ≡ length text) where
+  -- with no text nothing lies before it
+  none_before : length text ≡ 0 → concat p.before ≡ []
+  none_before none =
+      let parts = ap length (sym whole ∙ concat-append p.before (p.here ∷ p.after)) ∙ length-append (concat p.before) (p.here ++ concat p.after) in
+      nil_from_length (concat p.before) (omega arith)
+
+  pub is_placed : (set : LineBreaks) (k bytes cs breaks : ℕ) → AreBefore set text p.before bytes cs breaks → k ≤ length chunks - 1 → (0 < length text → k ≡ length p.before)
+      → IsPlaced set chunks k (at_chunk p (chars == 0) false false) bytes cs breaks
+  unfolding found_chunk
+  is_placed set k bytes cs breaks a least here = elim (cases_eq chars 0) [
+    | inl none ↦
+        let empty : (chars == 0) ≡ true = grind (arith, nat_tests) in
+        let first : k ≡ 0 = omega (arith, no_chunks chunks cut.nonempty (omega (arith, ap length cut.joined))) in
+        let nothing = none_before (omega arith) in
+        rw (first, empty) record {
+          place_is = refl;
+          before = record {
+            bytes_are = a.bytes_are ∙ ap byte_len nothing;
+            chars_are = a.chars_are ∙ ap length nothing;
+            breaks_are = a.breaks_are ∙ ap (char_to_line set text) (a.chars_are ∙ ap length nothing) ∙ ap (λ t. char_to_line set t 0) (sym cut.joined);
+          };
+        }
+    | inr some ↦
+        let other : (chars == 0) ≡ false = grind (arith, nat_tests) in
+        let parts = same (omega arith) in
+        let front : concat p.before ≡ front_chunks chunks k = sym (ap (front_chunks chunks) (here (omega arith)) ∙ front_here p chunks parts cut.nonempty) in
+        rw other record {
+          place_is = sym (here (omega arith));
+          before = record {
+            bytes_are = a.bytes_are ∙ ap byte_len front;
+            chars_are = a.chars_are ∙ ap length front;
+            breaks_are = a.breaks_are ∙ ap (char_to_line set text) (a.chars_are ∙ ap length front) ∙ ap (λ t. char_to_line set t (length (front_chunks chunks k))) (sym cut.joined);
+          };
+        }
+  ]
+
+  pub items_here : all_items (at_chunk p (chars == 0) false false) ≡ chunks
+  items_here = elim (cases_eq chars 0) [
+    | inl none ↦
+        let empty : (chars == 0) ≡ true = grind (arith, nat_tests) in
+        rw empty (sym (nil_from_length chunks (no_chunks chunks cut.nonempty (omega (arith, ap length cut.joined)))))
+    | inr some ↦
+        let other : (chars == 0) ≡ false = grind (arith, nat_tests) in
+        rw other (same (omega arith))
+  ]
+
+  -- it is the first one, where nothing lies before it
+  pub first_here : length (concat p.before) ≡ 0 → at_chunk p (chars == 0) false false ≡ at_start chunks
+  first_here nothing = elim (cases_eq chars 0) [
+    | inl none ↦
+        let empty : (chars == 0) ≡ true = grind (arith, nat_tests) in
+        let no = nil_from_length chunks (no_chunks chunks cut.nonempty (omega (arith, ap length cut.joined))) in
+        rw (empty, no) refl
+    | inr some ↦
+        let other : (chars == 0) ≡ false = grind (arith, nat_tests) in
+        let parts = same (omega arith) in
+        let full : All (λ chunk. 0 < length chunk) p.before = all_left (λ chunk. 0 < length chunk) p.before (p.here ∷ p.after) (rw parts cut.nonempty) in
+        rw other (is_start (record { left = p.before; right = p.here ∷ p.after; is_backward = false }) chunks parts (no_chunks p.before full nothing) refl)
+  ]
+
+  -- it is the last one, where it has the end of the text
+  pub ends_here : (at : ℕ) → length (concat p.before) + at ≡ length text → at ≤ length p.here → place (at_chunk p (chars == 0) true false) ≡ length chunks
+  ends_here at at_is within = elim (cases_eq chars 0) [
+    | inl none ↦
+        let empty : (chars == 0) ≡ true = grind (arith, nat_tests) in
+        rw empty (sym (no_chunks chunks cut.nonempty (omega (arith, ap length cut.joined))))
+    | inr some ↦
+        let other : (chars == 0) ≡ false = grind (arith, nat_tests) in
+        rw other (last_place p chunks (same (omega arith)) cut.nonempty at within (at_is ∙ ap length (sym cut.joined)))
+  ]
+
+-- the place is past the last chunk at the end of the text, and else that of the chunk that is found
+pub placed_inside : (set : LineBreaks) (chunks : List (List ℕ)) (i n k : ℕ) (s : Sides (List ℕ)) (bytes chars breaks : ℕ) → (i ≡ n → ⊥) → IsPlaced set chunks k s bytes chars breaks
+    → IsPlaced set chunks (if i == n then length chunks else k) s bytes chars breaks
+placed_inside set chunks i n k s bytes chars breaks other placed =
+    let e : (i == n) ≡ false = grind (arith, nat_tests) in
+    rw e placed
+
+pub byte_index-le : (chunks : List (List ℕ)) (b : ℕ) → chunk_index_at_byte chunks b ≤ length chunks - 1
+unfolding chunk_index_at_byte
+byte_index-le chunks b = greatest-le (λ k. nat_le (byte_len (front_chunks chunks k)) b) (length chunks - 1)
+
+pub char_index-le : (chunks : List (List ℕ)) (i : ℕ) → chunk_index_at_char chunks i ≤ length chunks - 1
+char_index-le chunks i = (holds_char chunks i).within
+
+pub line_break_index-le : (set : LineBreaks) (chunks : List (List ℕ)) (k : ℕ) → All (λ chunk. 0 < length chunk) chunks → chunk_index_at_line_break set chunks k ≤ length chunks - 1
+line_break_index-le set chunks k full = omega (arith, line_break_index set chunks k full, char_index-le chunks (line_start set (concat chunks) k - 1))
+
+-- the counts of the whole text lie before its end
+pub all_before : (set : LineBreaks) (chunks : List (List ℕ)) (bytes chars breaks : ℕ) → bytes ≡ byte_len (concat chunks) → chars ≡ length (concat chunks) → breaks ≡ break_count set (concat chunks)
+    → LieBefore (found_chunk set chunks (length chunks)) bytes chars breaks
+unfolding found_chunk
+all_before set chunks bytes chars breaks b c l =
+    let all : front_chunks chunks (length chunks) ≡ concat chunks = ap concat (take_all (length chunks) chunks (omega arith)) in
+    rw all (record { bytes_are = b; chars_are = c; breaks_are = l ∙ sym (char_to_line_end set (concat chunks)) })

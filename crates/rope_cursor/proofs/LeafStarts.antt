@@ -1,0 +1,139 @@
+-- The chunk of a stretch that lies in a leaf, and what of the stretch lies before it.
+use Rattle.std.proofs.Common.{◌≡◌, ℕ, suc, ◌+◌, ◌-◌, ◌<◌, min, List, [], ◌∷◌, ◌++◌, length, take, get_or, refl, sym, ap, ◌∙◌, subst, arith, inl, inr, All, append_assoc}
+use Rattle.std.specs.List.{concat, slice_range}
+use Rattle.std.proofs.lemmas.Bool.{cases_lt}
+use Rattle.std.proofs.lemmas.List.{length-append, take_all, take_at, take-append-le}
+use Rattle.std.proofs.Math.Seq.{get_or-append_seam}
+use Rattle.rope_text.specs.declared.text_info.TextInfo.{TextInfo}
+use Rattle.rope_text.specs.Text.{byte_len}
+use Rattle.rope_text.specs.TextInfo.{info_of}
+use Rattle.rope_text.specs.Conversions.{char_to_line}
+use Rattle.rope_text.specs.Cutting.{clip}
+use Rattle.rope_text.specs.Lookup.{found_chunk}
+use Rattle.rope_text.proofs.Measures.{IsMeasure-byte_len, size_le, size_le_all}
+use Rattle.rope_text.proofs.ChunkLaws.{before_more}
+use Rattle.rope_text.proofs.CuttingLaws.{concat-append}
+use Rattle.rope_text.proofs.ClipLaws.{concat-clip, length-slice_range, slice_range-append}
+use Rattle.rope_tree.specs.Tree.{Tree, text, IsTree}
+use Rattle.rope_tree.proofs.LeafLaws.{nonempty_leaves}
+use Rattle.rope_tree.specs.Found.{IsFound}
+use Rattle.rope_tree.specs.declared.search.Unit.{Unit}
+use Rattle.rope_part.specs.Edge.{IsStretch}
+use Rattle.rope_part.proofs.ClippedChunks.{size_of_part}
+use Rattle.rope_part.proofs.Measured.{measured}
+use Rattle.rope_part.proofs.LeafParts.{leaf_in}
+use Rattle.rope_cursor.specs.Path.{Place, leaves, HoldsPlace}
+use Rattle.rope_cursor.specs.Span.{IsWithin}
+use Rattle.rope_cursor.specs.Starts.{AreBefore}
+use Rattle.rope_cursor.proofs.Spans.{bytes_before_within, leaves_clipped, some_leaf}
+
+-- the place of a leaf among the leaves of a tree
+module _ (p : Place) (t : Tree) (e : leaves p ≡ t.leaves) where
+  index_within : length p.before < length t.leaves
+  index_within = omega (arith, ap length e, length-append p.before (p.here ∷ p.after))
+
+  here_is : p.here ≡ get_or t.leaves (length p.before) []
+  here_is = sym (ap (λ ls. get_or ls (length p.before) []) (sym e) ∙ get_or-append_seam p.before p.here p.after [])
+
+  front_is : concat p.before ≡ concat (take (length p.before) t.leaves)
+  front_is = sym (ap (λ ls. concat (take (length p.before) ls)) (sym e) ∙ ap concat (take_at p.before (p.here ∷ p.after) (length p.before) refl))
+
+  text_is : text t ≡ (concat p.before ++ p.here) ++ concat p.after
+  text_is = ap concat (sym e) ∙ concat-append p.before (p.here ∷ p.after) ∙ sym (append_assoc (concat p.before) p.here (concat p.after))
+
+-- the way to the leaf finds it
+pub found_at : (unit : Unit) (at : ℕ) (t : Tree) (p : Place) (info : TextInfo) → leaves p ≡ t.leaves → HoldsPlace unit t.breaks at p.before p.here info → IsFound unit at t p.here info
+found_at unit at t p info e h =
+    let k : ℕ = length p.before in
+    let next : k + 1 ≡ suc k = omega arith in
+    let upto : concat (take (k + 1) t.leaves) ≡ concat p.before ++ p.here =
+    ap (λ n. concat (take n t.leaves)) next ∙ before_more t.leaves k (index_within p t e) ∙ ap (λ x. x ++ get_or t.leaves k []) (sym (front_is p t e)) ∙ ap (λ x. concat p.before ++ x) (sym (here_is p t e)) in
+    record {
+      index = k;
+      within = index_within p t e;
+      leaf_is = here_is p t e;
+      before_is = h.info_is ∙ ap (info_of t.breaks) (front_is p t e);
+      not_past = h.not_past;
+      past = rw upto h.past;
+    }
+
+-- a leaf that has a character of the stretch
+module _ (t : Tree) (start end : TextInfo) (p : Place) (info : TextInfo) (tree : IsTree t) (s : IsStretch t.breaks (text t) start end) (e : leaves p ≡ t.leaves)
+    (i : info ≡ info_of t.breaks (concat p.before)) (starts : info.chars < end.chars) (ends : start.chars < info.chars + length p.here) where
+  chars_are : info.chars ≡ length (concat p.before)
+  chars_are = ap (λ x. x.chars) i
+
+  bytes_are : info.bytes ≡ byte_len (concat p.before)
+  bytes_are = ap (λ x. x.bytes) i
+
+  solid : All (λ leaf. 0 < length leaf) (leaves p)
+  solid = subst (λ ls. All (λ leaf. 0 < length leaf) ls) (sym e) (nonempty_leaves t.leaves tree.leaves.each)
+
+  pub chunks_are : leaves (record { before = clip p.before start.chars end.chars; here = slice_range p.here (start.chars - length (concat p.before)) (end.chars - length (concat p.before)); after = clip p.after (start.chars - length (concat p.before) - length p.here) (end.chars - length (concat p.before) - length p.here) })
+      ≡ clip t.leaves start.chars end.chars
+  chunks_are =
+      leaves_clipped p start.chars end.chars (some_leaf p solid) s.some (omega (arith, chars_are)) (omega (arith, chars_are))
+      ∙ ap (λ ls. clip ls start.chars end.chars) e
+
+  within : IsWithin p info.bytes (record { bytes = start.bytes; chars = start.chars }) (record { bytes = end.bytes; chars = end.chars })
+  within =
+      let m = measured t.breaks (text t) start end s in
+      let same : text t ≡ concat (leaves p) = ap concat (sym e) in
+      record {
+        solid = solid;
+        some = s.some;
+        within = omega (arith, m.within, ap length same);
+        start_is = bytes_are;
+        from_bytes = m.start_bytes ∙ ap (λ x. byte_len (take start.chars x)) same;
+        to_bytes = m.end_bytes ∙ ap (λ x. byte_len (take end.chars x)) same;
+        starts = omega (arith, chars_are);
+        ends = omega (arith, chars_are);
+      }
+
+  lines_before : info.line_breaks - start.line_breaks ≡ char_to_line t.breaks (slice_range (text t) start.chars end.chars) (info.chars - start.chars)
+  unfolding found_chunk
+  lines_before =
+      let part = leaf_in t start end p.here info tree s (length p.before) (index_within p t e) (here_is p t e) (i ∙ ap (info_of t.breaks) (front_is p t e)) starts ends in
+      let f = part.found _ (info.bytes - start.bytes) (info.chars - start.chars) (info.line_breaks - start.line_breaks) refl refl refl refl in
+      f.breaks_are ∙ ap (char_to_line t.breaks (concat (clip t.leaves start.chars end.chars))) (sym f.chars_are)
+      ∙ ap (λ x. char_to_line t.breaks x (info.chars - start.chars)) (concat-clip t.leaves start.chars end.chars)
+
+  pub are_before : AreBefore t.breaks (slice_range (text t) start.chars end.chars) (clip p.before start.chars end.chars) (info.bytes - start.bytes) (info.chars - start.chars) (info.line_breaks - start.line_breaks)
+  are_before = record {
+    bytes_are = sym (bytes_before_within p info.bytes (record { bytes = start.bytes; chars = start.chars }) (record { bytes = end.bytes; chars = end.chars }) within);
+    chars_are = omega (arith, chars_are, s.some, ap length (concat-clip p.before start.chars end.chars), length-slice_range (concat p.before) start.chars end.chars);
+    breaks_are = lines_before;
+  }
+
+  cut_text : concat (clip p.before start.chars end.chars) ++ slice_range p.here (start.chars - length (concat p.before)) (end.chars - length (concat p.before)) ≡ slice_range (concat p.before ++ p.here) start.chars end.chars
+  cut_text =
+      ap (λ x. x ++ slice_range p.here (start.chars - length (concat p.before)) (end.chars - length (concat p.before))) (concat-clip p.before start.chars end.chars)
+      ∙ sym (slice_range-append (concat p.before) p.here start.chars end.chars)
+
+  pub chars_upto : length (concat (clip p.before start.chars end.chars)) + length (slice_range p.here (start.chars - length (concat p.before)) (end.chars - length (concat p.before)))
+      ≡ min (length (concat p.before) + length p.here) end.chars - start.chars
+  chars_upto =
+      let one : List ℕ = concat (clip p.before start.chars end.chars) in
+      let two : List ℕ = slice_range p.here (start.chars - length (concat p.before)) (end.chars - length (concat p.before)) in
+      omega (arith, ap length cut_text, length-append one two, length-slice_range (concat p.before ++ p.here) start.chars end.chars, length-append (concat p.before) p.here, s.some)
+
+  pub bytes_upto : byte_len (concat (clip p.before start.chars end.chars)) + byte_len (slice_range p.here (start.chars - length (concat p.before)) (end.chars - length (concat p.before)))
+      ≡ min (byte_len (concat p.before) + byte_len p.here) end.bytes - start.bytes
+  bytes_upto =
+      let m = measured t.breaks (text t) start end s in
+      let one : List ℕ = concat (clip p.before start.chars end.chars) in
+      let two : List ℕ = slice_range p.here (start.chars - length (concat p.before)) (end.chars - length (concat p.before)) in
+      let x : List ℕ = concat p.before ++ p.here in
+      let long = length-append (concat p.before) p.here in
+      let size = sym (IsMeasure-byte_len.joined one two) ∙ ap byte_len cut_text ∙ size_of_part byte_len IsMeasure-byte_len x start.chars end.chars in
+      let from : byte_len (take start.chars x) ≡ start.bytes = sym (m.start_bytes ∙ ap byte_len (ap (take start.chars) (text_is p t e) ∙ take-append-le start.chars x (concat p.after) (omega (arith, chars_are)))) in
+      let both = IsMeasure-byte_len.joined (concat p.before) p.here in
+      let all : byte_len (take (length x) (text t)) ≡ byte_len x = ap byte_len (ap (take (length x)) (text_is p t e) ∙ take_at x (concat p.after) (length x) refl) in
+      elim (cases_lt (length x) end.chars) [
+        | inl past ↦
+            let whole = ap byte_len (take_all end.chars x (omega arith)) in
+            omega (arith, size, from, both, whole, all, m.end_bytes, size_le byte_len IsMeasure-byte_len (text t) (length x) end.chars (omega arith))
+        | inr inside ↦
+            let cut : byte_len (take end.chars x) ≡ end.bytes = sym (m.end_bytes ∙ ap byte_len (ap (take end.chars) (text_is p t e) ∙ take-append-le end.chars x (concat p.after) inside)) in
+            omega (arith, size, from, both, cut, size_le_all byte_len IsMeasure-byte_len x end.chars)
+      ]

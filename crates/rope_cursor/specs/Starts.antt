@@ -1,0 +1,23 @@
+-- Where a cursor over chunks starts.
+use Rattle.std.specs.Prelude.{◌≡◌, ℕ, ◌+◌, ◌<◌, List, length}
+use Rattle.std.specs.List.{concat}
+use Rattle.rope_text.specs.declared.line_breaks.LineBreaks.{LineBreaks}
+use Rattle.rope_text.specs.declared.text_info.TextInfo.{TextInfo}
+use Rattle.rope_text.specs.Text.{byte_len}
+use Rattle.rope_text.specs.TextInfo.{info_of}
+use Rattle.rope_text.specs.Conversions.{char_to_line}
+use Rattle.rope_part.specs.declared.stretch.Stretch.{Stretch}
+use Rattle.rope_cursor.specs.Path.{Place, leaves}
+
+-- the bytes, the characters and the line breaks of a text that lie in its first chunks; only breaks that end there are counted
+pub record AreBefore (set : LineBreaks) (text : List ℕ) (chunks : List (List ℕ)) (bytes chars breaks : ℕ) : Type 0 where
+  pub bytes_are : bytes ≡ byte_len (concat chunks)
+  pub chars_are : chars ≡ length (concat chunks)
+  pub breaks_are : breaks ≡ char_to_line set text chars
+
+-- a leaf of the tree that has a character of the stretch, and the counts of the text before it
+pub record MeetsLeaf (s : Stretch) (p : Place) (before : TextInfo) : Type 0 where
+  pub leaves_are : leaves p ≡ s.node.now.leaves
+  pub before_is : before ≡ info_of s.node.now.breaks (concat p.before)
+  pub starts : before.chars < s.end.chars
+  pub ends : s.start.chars < before.chars + length p.here

@@ -1,0 +1,204 @@
+//! A cursor over the bytes of a part.
+ghost use Rattle.std.specs.Prelude.{◌≡◌, ℕ, ◌≤◌, length, false, ⊤, IfSome, Some};
+ghost use Rattle.std.specs.Str.{encode_utf8_all};
+ghost use Rattle.std.specs.Iterator.{YieldsFirstBy, item_count, UpTo};
+ghost use Rattle.std.specs.Iterator.SizeHint.{IsWithinCount};
+ghost use Rattle.rope_text.specs.Text.{byte_len};
+ghost use Rattle.rope_text.specs.Sides.{ahead, at_place, turned, GoesRight, GoesLeft, GoesAhead, StepsBack};
+ghost use Rattle.rope_part.specs.Part.{text_of};
+
+use crate::point::{next_chunk, prev_chunk};
+use crate::span::Span;
+use rope_part::Part;
+use std::alloc::AllocError;
+use std::iter::ExactSizeIterator;
+use std::marker::Model;
+
+/// A cursor over the bytes of a part, between two of them. It takes no memory.
+#[derive(Drop)]
+pub struct Bytes<'a> {
+    span: Span<'a>,
+    // the span's chunk, kept here so that a step within it is one read
+    chunk: &'a str,
+    // the bytes of the chunk behind it, those before the chunk, and all of them
+    at: usize,
+    before: usize,
+    total: usize,
+    is_backward: bool,
+}
+
+impl<'a> Model for Bytes<'a> {
+    ghost use Rattle.std.specs.Prelude.{ℕ};
+    ghost use Rattle.rope_text.specs.Sides.{Sides};
+    ghost use Rattle.rope_cursor.specs.Bytes.{at_byte, IsByteCursor};
+
+    ghost Value = { Sides ℕ };
+
+    ghost view = { λ a. at_byte a.span a.chunk.now a.at a.is_backward };
+
+    ghost invariant = { λ a. IsByteCursor a.span a.chunk.now a.at a.before a.total };
+}
+
+impl<'a> Bytes<'a> {
+    /// A cursor before the byte at a place, or past the last byte at the end, facing forward.
+    pub fn at(part: &Part<'a>, byte_idx: usize) -> Bytes<'a>
+        requires { byte_idx ≤ byte_len (text_of part.now) }
+        ensures { result ≡ at_place (encode_utf8_all (text_of part.now)) byte_idx }
+    {
+        let total = part.info().bytes;
+        let (span, at) = Span::at_byte(part, byte_idx);
+        let chunk = span.chunk();
+        Bytes {
+            span,
+            chunk,
+            at,
+            before: byte_idx - at,
+            total,
+            is_backward: false,
+        }
+    }
+
+    // One byte to the right.
+    fn right(&mut self) -> Option<u8>
+        ensures { GoesRight (λ x. x) self.old result self.new }
+    {
+        let at = self.at;
+        if at < self.chunk.len() {
+            self.at = at + 1;
+            return Some(self.chunk.as_bytes()[at]);
+        }
+        let total = self.total;
+        let passed = self.before + at;
+        if passed == total {
+            return None;
+        }
+        match next_chunk(&mut self.span) {
+            Some(chunk) => {
+                self.before = passed;
+                self.chunk = chunk;
+                self.at = 1;
+                Some(chunk.as_bytes()[0])
+            }
+            None => None,
+        }
+    }
+
+    // One byte to the left.
+    fn left(&mut self) -> Option<u8>
+        ensures { GoesLeft (λ x. x) self.old result self.new }
+    {
+        let at = self.at;
+        if at > 0 {
+            self.at = at - 1;
+            return Some(self.chunk.as_bytes()[at - 1]);
+        }
+        if self.before == 0 {
+            return None;
+        }
+        match prev_chunk(&mut self.span) {
+            Some(chunk) => {
+                let last = chunk.len() - 1;
+                self.before -= chunk.len();
+                self.chunk = chunk;
+                self.at = last;
+                Some(chunk.as_bytes()[last])
+            }
+            None => None,
+        }
+    }
+
+    /// The byte behind, to which it steps back; or none at that end, where it stays.
+    pub fn prev(&mut self) -> Option<u8>
+        ensures { StepsBack (λ x. x) self.old result self.new }
+    {
+        if self.is_backward {
+            self.right()
+        } else {
+            self.left()
+        }
+    }
+
+    /// Turns it round where it stands: `next` and `prev` change places.
+    pub fn reverse(&mut self)
+        ensures { self.new ≡ turned self.old }
+    {
+        self.is_backward = !self.is_backward;
+    }
+
+    /// The same cursor turned round.
+    pub fn reversed(self) -> Bytes<'a>
+        ensures { result ≡ turned self.entry }
+    {
+        let mut turned = self;
+        turned.reverse();
+        turned
+    }
+
+    // How many bytes `next` still gives.
+    fn count_ahead(&self) -> usize
+        ensures { result ≡ length (ahead self.now) }
+    {
+        let total = self.total;
+        let passed = self.before + self.at;
+        if self.is_backward {
+            passed
+        } else {
+            total - passed
+        }
+    }
+}
+
+impl<'a> Iterator for Bytes<'a> {
+    type Item = u8;
+
+    ghost next_gives = { YieldsFirstBy (λ x. x) ahead };
+
+    ghost remaining = { item_count ahead };
+
+    /// The next byte, or none at the end, where it stays.
+    fn next(&mut self) -> Option<u8>
+        ensures steps { YieldsFirstBy (λ x. x) ahead self.old result self.new }
+        ensures goes { GoesAhead (λ x. x) self.old result self.new }
+    {
+        if self.is_backward {
+            self.left()
+        } else {
+            self.right()
+        }
+    }
+
+    /// How many bytes it still gives, which is exact.
+    fn size_hint(&self) -> (usize, Option<usize>)
+        ensures lower { IsWithinCount result.0 (item_count ahead self.now) }
+        ensures upper { IfSome result.1 (UpTo (item_count ahead self.now)) }
+        ensures exact { result.0 ≡ length (ahead self.now) }
+        ensures exact_upper { result.1 ≡ Some (length (ahead self.now)) }
+    {
+        let count = self.count_ahead();
+        (count, Some(count))
+    }
+}
+
+impl<'a> ExactSizeIterator for Bytes<'a> {
+    /// How many bytes it still gives.
+    fn len(&self) -> usize {
+        self.count_ahead()
+    }
+}
+
+impl<'a> Clone for Bytes<'a> {
+    ghost is_clone = { λ a b. b ≡ a };
+
+    ghost is_infallible = { λ _. ⊤ };
+
+    fn clone(&self) -> Result<Bytes<'a>, AllocError> {
+        Ok(Bytes {
+            span: self.span.copy(),
+            chunk: self.chunk,
+            at: self.at,
+            before: self.before,
+            total: self.total,
+            is_backward: self.is_backward,
+        })
+    }
+}

@@ -1,0 +1,205 @@
+//! A cursor over the characters of a part.
+ghost use Rattle.std.specs.Prelude.{◌≡◌, ℕ, ◌≤◌, length, false, ⊤, IfSome, Some};
+ghost use Rattle.std.specs.Iterator.{YieldsFirstBy, item_count, UpTo};
+ghost use Rattle.std.specs.Iterator.SizeHint.{IsWithinCount};
+ghost use Rattle.rope_text.specs.Sides.{ahead, at_place, turned, GoesRight, GoesLeft, GoesAhead, StepsBack};
+ghost use Rattle.rope_part.specs.Part.{text_of};
+
+use crate::point::{char_after, char_before, next_chunk, prev_chunk};
+use crate::span::Span;
+use rope_part::Part;
+use rope_text::str_utils::char_to_byte_idx;
+use std::alloc::AllocError;
+use std::iter::ExactSizeIterator;
+use std::marker::Model;
+
+/// A cursor over the characters of a part, between two of them. It takes no memory.
+#[derive(Drop)]
+pub struct Chars<'a> {
+    span: Span<'a>,
+    // the span's chunk, kept here so that a step within it reads no more than the character
+    chunk: &'a str,
+    // the bytes of the chunk behind it; the characters of the text behind it, and all of them
+    at: usize,
+    passed: usize,
+    total: usize,
+    is_backward: bool,
+}
+
+impl<'a> Model for Chars<'a> {
+    ghost use Rattle.std.specs.Prelude.{ℕ};
+    ghost use Rattle.rope_text.specs.Sides.{Sides};
+    ghost use Rattle.rope_cursor.specs.Chars.{at_char, IsCharCursor};
+
+    ghost Value = { Sides ℕ };
+
+    ghost view = { λ a. at_char a.span a.chunk.now a.at a.is_backward };
+
+    ghost invariant = { λ a. IsCharCursor a.span a.chunk.now a.at a.passed a.total };
+}
+
+impl<'a> Chars<'a> {
+    /// A cursor before the character at a place, or past the last one at the end, facing forward.
+    pub fn at(part: &Part<'a>, char_idx: usize) -> Chars<'a>
+        requires { char_idx ≤ length (text_of part.now) }
+        ensures { result ≡ at_place (text_of part.now) char_idx }
+    {
+        let total = part.info().chars;
+        let (span, within) = Span::at(part, char_idx);
+        let chunk = span.chunk();
+        Chars {
+            span,
+            chunk,
+            at: char_to_byte_idx(chunk, within),
+            passed: char_idx,
+            total,
+            is_backward: false,
+        }
+    }
+
+    // One character to the right.
+    fn right(&mut self) -> Option<char>
+        ensures { GoesRight (λ x. x) self.old result self.new }
+    {
+        let at = self.at;
+        let total = self.total;
+        if at < self.chunk.len() {
+            let (c, end) = char_after(self.chunk, at);
+            self.at = end;
+            self.passed += 1;
+            return Some(c);
+        }
+        if self.passed == total {
+            return None;
+        }
+        match next_chunk(&mut self.span) {
+            Some(chunk) => {
+                let (c, end) = char_after(chunk, 0);
+                self.chunk = chunk;
+                self.at = end;
+                self.passed += 1;
+                Some(c)
+            }
+            None => None,
+        }
+    }
+
+    // One character to the left.
+    fn left(&mut self) -> Option<char>
+        ensures { GoesLeft (λ x. x) self.old result self.new }
+    {
+        let at = self.at;
+        if at > 0 {
+            let (c, start) = char_before(self.chunk, at);
+            self.at = start;
+            self.passed -= 1;
+            return Some(c);
+        }
+        if self.passed == 0 {
+            return None;
+        }
+        match prev_chunk(&mut self.span) {
+            Some(chunk) => {
+                let (c, start) = char_before(chunk, chunk.len());
+                self.chunk = chunk;
+                self.at = start;
+                self.passed -= 1;
+                Some(c)
+            }
+            None => None,
+        }
+    }
+
+    /// The character behind, to which it steps back; or none at that end, where it stays.
+    pub fn prev(&mut self) -> Option<char>
+        ensures { StepsBack (λ x. x) self.old result self.new }
+    {
+        if self.is_backward {
+            self.right()
+        } else {
+            self.left()
+        }
+    }
+
+    /// Turns it round where it stands: `next` and `prev` change places.
+    pub fn reverse(&mut self)
+        ensures { self.new ≡ turned self.old }
+    {
+        self.is_backward = !self.is_backward;
+    }
+
+    /// The same cursor turned round.
+    pub fn reversed(self) -> Chars<'a>
+        ensures { result ≡ turned self.entry }
+    {
+        let mut turned = self;
+        turned.reverse();
+        turned
+    }
+
+    // How many characters `next` still gives.
+    fn count_ahead(&self) -> usize
+        ensures { result ≡ length (ahead self.now) }
+    {
+        if self.is_backward {
+            self.passed
+        } else {
+            self.total - self.passed
+        }
+    }
+}
+
+impl<'a> Iterator for Chars<'a> {
+    type Item = char;
+
+    ghost next_gives = { YieldsFirstBy (λ x. x) ahead };
+
+    ghost remaining = { item_count ahead };
+
+    /// The next character, or none at the end, where it stays.
+    fn next(&mut self) -> Option<char>
+        ensures steps { YieldsFirstBy (λ x. x) ahead self.old result self.new }
+        ensures goes { GoesAhead (λ x. x) self.old result self.new }
+    {
+        if self.is_backward {
+            self.left()
+        } else {
+            self.right()
+        }
+    }
+
+    /// How many characters it still gives, which is exact.
+    fn size_hint(&self) -> (usize, Option<usize>)
+        ensures lower { IsWithinCount result.0 (item_count ahead self.now) }
+        ensures upper { IfSome result.1 (UpTo (item_count ahead self.now)) }
+        ensures exact { result.0 ≡ length (ahead self.now) }
+        ensures exact_upper { result.1 ≡ Some (length (ahead self.now)) }
+    {
+        let count = self.count_ahead();
+        (count, Some(count))
+    }
+}
+
+impl<'a> ExactSizeIterator for Chars<'a> {
+    /// How many characters it still gives.
+    fn len(&self) -> usize {
+        self.count_ahead()
+    }
+}
+
+impl<'a> Clone for Chars<'a> {
+    ghost is_clone = { λ a b. b ≡ a };
+
+    ghost is_infallible = { λ _. ⊤ };
+
+    fn clone(&self) -> Result<Chars<'a>, AllocError> {
+        Ok(Chars {
+            span: self.span.copy(),
+            chunk: self.chunk,
+            at: self.at,
+            passed: self.passed,
+            total: self.total,
+            is_backward: self.is_backward,
+        })
+    }
+}

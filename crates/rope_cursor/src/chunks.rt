@@ -1,0 +1,245 @@
+//! A cursor over the chunks of a part.
+ghost use Rattle.std.specs.Prelude.{◌≡◌, ◌≤◌, List, ⊤, false, length};
+ghost use Rattle.std.specs.Str.{chars};
+ghost use Rattle.std.specs.Iterator.{YieldsFirstBy, item_count};
+ghost use Rattle.rope_text.specs.Text.{byte_len};
+ghost use Rattle.rope_text.specs.Lines.{line_count};
+ghost use Rattle.rope_text.specs.Lookup.{LieBefore, found_chunk, chunk_place_at_byte, chunk_place_at_char, chunk_place_at_line_break};
+ghost use Rattle.rope_text.specs.Sides.{Sides, ahead, all_items, at_start, place, turned, GoesRight, GoesLeft, GoesAhead, StepsBack};
+ghost use Rattle.rope_part.specs.Part.{text_of, chunks_of, breaks_of};
+
+use crate::span::Span;
+use rope_part::Part;
+use std::alloc::AllocError;
+use std::marker::Model;
+
+/// A cursor over the chunks of a part. It takes no memory.
+///
+/// It stands at a chunk, before it or past it. An empty part has no chunk: its cursor stands at a text that it never gives.
+#[derive(Drop)]
+pub struct Chunks<'a> {
+    span: Span<'a>,
+    is_empty: bool,
+    is_past: bool,
+    is_backward: bool,
+}
+
+impl<'a> Model for Chunks<'a> {
+    ghost use Rattle.std.specs.Prelude.{ℕ, List};
+    ghost use Rattle.rope_text.specs.Sides.{Sides};
+    ghost use Rattle.rope_cursor.specs.Chunks.{at_chunk};
+
+    ghost Value = { Sides (List ℕ) };
+
+    ghost view = { λ a. at_chunk a.span a.is_empty a.is_past a.is_backward };
+}
+
+impl<'a> Chunks<'a> {
+    // A cursor past the last chunk, facing forward, and the bytes, the characters and the line breaks of the text.
+    fn at_end(part: &Part<'a>) -> (Chunks<'a>, usize, usize, usize)
+        ensures items { all_items result.0 ≡ chunks_of part.now }
+        ensures place { place result.0 ≡ length (chunks_of part.now) }
+        ensures forward { result.0.is_backward ≡ false }
+        ensures before { LieBefore (found_chunk (breaks_of part.now) (chunks_of part.now) (length (chunks_of part.now)))
+            result.1 result.2 result.3 }
+    {
+        let info = part.info();
+        let (span, _) = Span::at(part, info.chars);
+        let chunks = Chunks {
+            span,
+            is_empty: info.chars == 0,
+            is_past: true,
+            is_backward: false,
+        };
+        (chunks, info.bytes, info.chars, info.line_breaks)
+    }
+
+    /// A cursor before the first chunk, facing forward.
+    pub fn new(part: &Part<'a>) -> Chunks<'a>
+        ensures { result ≡ at_start (chunks_of part.now) }
+    {
+        let is_empty = part.info().chars == 0;
+        let (span, _) = Span::at(part, 0);
+        Chunks {
+            span,
+            is_empty,
+            is_past: false,
+            is_backward: false,
+        }
+    }
+
+    /// A cursor before the chunk that holds a byte, facing forward; at the end of the text past the last chunk. With it the
+    /// bytes, the characters and the line breaks of the text before its place.
+    pub fn at_byte(part: &Part<'a>, byte_idx: usize) -> (Chunks<'a>, usize, usize, usize)
+        requires { byte_idx ≤ byte_len (text_of part.now) }
+        ensures items { all_items result.0 ≡ chunks_of part.now }
+        ensures place { place result.0 ≡ chunk_place_at_byte (chunks_of part.now) byte_idx }
+        ensures forward { result.0.is_backward ≡ false }
+        ensures before { LieBefore (found_chunk (breaks_of part.now) (chunks_of part.now)
+            (chunk_place_at_byte (chunks_of part.now) byte_idx)) result.1 result.2 result.3 }
+    {
+        let info = part.info();
+        if byte_idx == info.bytes {
+            Chunks::at_end(part)
+        } else {
+            let (span, bytes, chars, breaks) = Span::with_byte(part, byte_idx);
+            let chunks = Chunks {
+                span,
+                is_empty: info.chars == 0,
+                is_past: false,
+                is_backward: false,
+            };
+            (chunks, bytes, chars, breaks)
+        }
+    }
+
+    /// A cursor before the chunk that holds a character, facing forward; at the end of the text past the last chunk. With it
+    /// the bytes, the characters and the line breaks of the text before its place.
+    pub fn at_char(part: &Part<'a>, char_idx: usize) -> (Chunks<'a>, usize, usize, usize)
+        requires { char_idx ≤ length (text_of part.now) }
+        ensures items { all_items result.0 ≡ chunks_of part.now }
+        ensures place { place result.0 ≡ chunk_place_at_char (chunks_of part.now) char_idx }
+        ensures forward { result.0.is_backward ≡ false }
+        ensures before { LieBefore (found_chunk (breaks_of part.now) (chunks_of part.now)
+            (chunk_place_at_char (chunks_of part.now) char_idx)) result.1 result.2 result.3 }
+    {
+        let info = part.info();
+        if char_idx == info.chars {
+            Chunks::at_end(part)
+        } else {
+            let (span, bytes, chars, breaks) = Span::with_char(part, char_idx);
+            let chunks = Chunks {
+                span,
+                is_empty: info.chars == 0,
+                is_past: false,
+                is_backward: false,
+            };
+            (chunks, bytes, chars, breaks)
+        }
+    }
+
+    /// A cursor before the first chunk by whose end so many line breaks have ended, facing forward; one more than there are
+    /// line breaks is past the last chunk. With it the bytes, the characters and the line breaks of the text before its place.
+    pub fn at_line_break(
+        part: &Part<'a>,
+        line_break_idx: usize,
+    ) -> (Chunks<'a>, usize, usize, usize)
+        requires { line_break_idx ≤ line_count (breaks_of part.now) (text_of part.now) }
+        ensures items { all_items result.0 ≡ chunks_of part.now }
+        ensures place { place result.0 ≡ chunk_place_at_line_break (breaks_of part.now) (chunks_of part.now) line_break_idx }
+        ensures forward { result.0.is_backward ≡ false }
+        ensures before { LieBefore (found_chunk (breaks_of part.now) (chunks_of part.now)
+            (chunk_place_at_line_break (breaks_of part.now) (chunks_of part.now) line_break_idx)) result.1 result.2 result.3 }
+    {
+        let info = part.info();
+        if line_break_idx == part.len_lines() {
+            Chunks::at_end(part)
+        } else {
+            let end = part.line_to_char(line_break_idx);
+            let (span, bytes, chars, breaks) = Span::with_char(part, end.saturating_sub(1));
+            let chunks = Chunks {
+                span,
+                is_empty: info.chars == 0,
+                is_past: false,
+                is_backward: false,
+            };
+            (chunks, bytes, chars, breaks)
+        }
+    }
+
+    fn right(&mut self) -> Option<&'a str>
+        ensures { GoesRight (λ x. chars x.now) self.old result self.new }
+    {
+        if self.is_empty {
+            return None;
+        }
+        if !self.is_past {
+            self.is_past = true;
+            return Some(self.span.chunk());
+        }
+        if self.span.advance() {
+            Some(self.span.chunk())
+        } else {
+            None
+        }
+    }
+
+    fn left(&mut self) -> Option<&'a str>
+        ensures { GoesLeft (λ x. chars x.now) self.old result self.new }
+    {
+        if self.is_empty {
+            return None;
+        }
+        if self.is_past {
+            self.is_past = false;
+            return Some(self.span.chunk());
+        }
+        if self.span.retreat() {
+            Some(self.span.chunk())
+        } else {
+            None
+        }
+    }
+
+    /// The item behind, to which it steps back; or none at that end, where it stays.
+    pub fn prev(&mut self) -> Option<&'a str>
+        ensures { StepsBack (λ x. chars x.now) self.old result self.new }
+    {
+        if self.is_backward {
+            self.right()
+        } else {
+            self.left()
+        }
+    }
+
+    /// Turns it round where it stands: `next` and `prev` change places.
+    pub fn reverse(&mut self)
+        ensures { self.new ≡ turned self.old }
+    {
+        self.is_backward = !self.is_backward;
+    }
+
+    /// The same cursor turned round.
+    pub fn reversed(self) -> Chunks<'a>
+        ensures { result ≡ turned self.entry }
+    {
+        let mut turned = self;
+        turned.reverse();
+        turned
+    }
+}
+
+impl<'a> Iterator for Chunks<'a> {
+    type Item = &'a str;
+
+    ghost next_gives = { YieldsFirstBy (λ x. chars x.now) ahead };
+
+    ghost remaining = { item_count ahead };
+
+    /// The next chunk, or none at the end, where it stays.
+    fn next(&mut self) -> Option<&'a str>
+        ensures steps { YieldsFirstBy (λ x. chars x.now) ahead self.old result self.new }
+        ensures goes { GoesAhead (λ x. chars x.now) self.old result self.new }
+    {
+        if self.is_backward {
+            self.left()
+        } else {
+            self.right()
+        }
+    }
+}
+
+impl<'a> Clone for Chunks<'a> {
+    ghost is_clone = { λ a b. b ≡ a };
+
+    ghost is_infallible = { λ _. ⊤ };
+
+    fn clone(&self) -> Result<Chunks<'a>, AllocError> {
+        Ok(Chunks {
+            span: self.span.copy(),
+            is_empty: self.is_empty,
+            is_past: self.is_past,
+            is_backward: self.is_backward,
+        })
+    }
+}

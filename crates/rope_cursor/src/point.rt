@@ -1,0 +1,89 @@
+//! Steps from a point of a chunk: over a character, or to the chunk beside it.
+ghost use Rattle.std.specs.Prelude.{◌≡◌, ◌<◌, [], length, IfSome, IfNone};
+ghost use Rattle.std.specs.Str.{IsCharBoundary};
+ghost use Rattle.rope_cursor.specs.Path.{IsNext};
+ghost use Rattle.rope_cursor.specs.Point.{IsChunkAt, IsCharBetween};
+
+use crate::span::Span;
+
+// Goes to the next chunk, if there is one. It is kept out of the callers, whose steps within a chunk are to stay short.
+#[inline(never)]
+pub(crate) fn next_chunk<'a>(span: &mut Span<'a>) -> Option<&'a str>
+    ensures moved { IfSome result (λ chunk. IsNext span.old span.new) }
+    ensures chunk { IfSome result (λ chunk. IsChunkAt span.new chunk.now) }
+    ensures stays { IfNone result (span.new ≡ span.old) }
+    ensures ended { IfNone result (span.old.after ≡ []) }
+{
+    if span.advance() {
+        Some(span.chunk())
+    } else {
+        None
+    }
+}
+
+// Goes to the chunk before, if there is one.
+#[inline(never)]
+pub(crate) fn prev_chunk<'a>(span: &mut Span<'a>) -> Option<&'a str>
+    ensures moved { IfSome result (λ chunk. IsNext span.new span.old) }
+    ensures chunk { IfSome result (λ chunk. IsChunkAt span.new chunk.now) }
+    ensures stays { IfNone result (span.new ≡ span.old) }
+    ensures ended { IfNone result (span.old.before ≡ []) }
+{
+    if span.retreat() {
+        Some(span.chunk())
+    } else {
+        None
+    }
+}
+
+// The character at a byte, and where it ends.
+pub(crate) fn char_after(text: &str, at: usize) -> (char, usize)
+    requires within { at < length text.now }
+    requires cut { IsCharBoundary text.now at }
+    ensures { IsCharBetween text.now at result.1 result.0 }
+{
+    let byte = text.as_bytes()[at];
+    if byte < 0x80 {
+        return (byte as char, at + 1);
+    }
+    wide_char_after(text, at)
+}
+
+// The same of any character, as of those of two bytes or more.
+fn wide_char_after(text: &str, at: usize) -> (char, usize)
+    requires within { at < length text.now }
+    requires cut { IsCharBoundary text.now at }
+    ensures { IsCharBetween text.now at result.1 result.0 }
+{
+    let mut rest = text[at..].chars();
+    let Some(c) = rest.next() else {
+        unreachable!();
+    };
+    (c, text.len() - rest.as_str().len())
+}
+
+// The character that ends at a byte, and where it begins.
+pub(crate) fn char_before(text: &str, at: usize) -> (char, usize)
+    requires some { 0 < at }
+    requires cut { IsCharBoundary text.now at }
+    ensures { IsCharBetween text.now result.1 at result.0 }
+{
+    let byte = text.as_bytes()[at - 1];
+    if byte < 0x80 {
+        return (byte as char, at - 1);
+    }
+    wide_char_before(text, at)
+}
+
+// The same of any character, as of those of two bytes or more.
+fn wide_char_before(text: &str, at: usize) -> (char, usize)
+    requires some { 0 < at }
+    requires cut { IsCharBoundary text.now at }
+    ensures { IsCharBetween text.now result.1 at result.0 }
+{
+    let mut front = text[..at].chars();
+    let Some(c) = front.next_back() else {
+        unreachable!();
+    };
+    (c, front.as_str().len())
+}

@@ -1,0 +1,153 @@
+//! Cursors over the bytes, the characters and the chunks of a slice. No call takes memory.
+ghost use Rattle.std.specs.Prelude.{◌≡◌, ◌≤◌, ◌<◌, length, MatchOption};
+ghost use Rattle.std.specs.Str.{encode_utf8_all};
+ghost use Rattle.rope_text.specs.Text.{byte_len};
+ghost use Rattle.rope_text.specs.Lines.{line_count};
+ghost use Rattle.rope_text.specs.Lookup.{StandsAt, chunk_place_at_byte, chunk_place_at_char, chunk_place_at_line_break};
+ghost use Rattle.rope_text.specs.Sides.{at_start, at_place};
+ghost use Rattle.rope_slice.specs.Slice.{text_of, chunks_of, breaks_of};
+
+use crate::slice::RopeSlice;
+use rope_cursor::{Bytes, Chars, Chunks};
+
+impl<'a> RopeSlice<'a> {
+    /// A cursor over the bytes, before the first, facing forward. No memory is taken.
+    pub fn bytes(&self) -> Bytes<'a>
+        ensures { result ≡ at_start (encode_utf8_all (text_of self.now)) }
+    {
+        Bytes::at(&self.part, 0)
+    }
+
+    /// A cursor over the bytes, before the byte `byte_idx`, counted from 0, facing forward; for `len_bytes()` it stands past
+    /// the last byte.
+    ///
+    /// The index is at most `len_bytes()`. No memory is taken.
+    pub fn bytes_at(&self, byte_idx: usize) -> Bytes<'a>
+        requires { byte_idx ≤ byte_len (text_of self.now) }
+        ensures { result ≡ at_place (encode_utf8_all (text_of self.now)) byte_idx }
+    {
+        Bytes::at(&self.part, byte_idx)
+    }
+
+    /// What `bytes_at` answers, or none where the index is past `len_bytes()`. No memory is taken.
+    pub fn get_bytes_at(&self, byte_idx: usize) -> Option<Bytes<'a>>
+        ensures { MatchOption result (byte_len (text_of self.now) < byte_idx)
+            (λ bytes. (byte_idx ≤ byte_len (text_of self.now)) × (bytes ≡ at_place (encode_utf8_all (text_of self.now)) byte_idx)) }
+    {
+        if byte_idx > self.len_bytes() {
+            return None;
+        }
+        Some(self.bytes_at(byte_idx))
+    }
+
+    /// A cursor over the characters, before the first, facing forward. No memory is taken.
+    pub fn chars(&self) -> Chars<'a>
+        ensures { result ≡ at_start (text_of self.now) }
+    {
+        Chars::at(&self.part, 0)
+    }
+
+    /// A cursor over the characters, before the character `char_idx`, counted from 0, facing forward; for `len_chars()` it stands past
+    /// the last character.
+    ///
+    /// The index is at most `len_chars()`. No memory is taken.
+    pub fn chars_at(&self, char_idx: usize) -> Chars<'a>
+        requires { char_idx ≤ length (text_of self.now) }
+        ensures { result ≡ at_place (text_of self.now) char_idx }
+    {
+        Chars::at(&self.part, char_idx)
+    }
+
+    /// What `chars_at` answers, or none where the index is past `len_chars()`. No memory is taken.
+    pub fn get_chars_at(&self, char_idx: usize) -> Option<Chars<'a>>
+        ensures { MatchOption result (length (text_of self.now) < char_idx)
+            (λ chars. (char_idx ≤ length (text_of self.now)) × (chars ≡ at_place (text_of self.now) char_idx)) }
+    {
+        if char_idx > self.len_chars() {
+            return None;
+        }
+        Some(self.chars_at(char_idx))
+    }
+
+    /// A cursor over the chunks, before the first, facing forward. No memory is taken.
+    pub fn chunks(&self) -> Chunks<'a>
+        ensures { result ≡ at_start (chunks_of self.now) }
+    {
+        Chunks::new(&self.part)
+    }
+
+    /// A cursor over the chunks, before the chunk that holds the byte `byte_idx`, facing forward; for `len_bytes()` it stands past the
+    /// last chunk. With it the bytes, the characters and the line breaks that end before it.
+    ///
+    /// The index is at most `len_bytes()`. No memory is taken.
+    pub fn chunks_at_byte(&self, byte_idx: usize) -> (Chunks<'a>, usize, usize, usize)
+        requires { byte_idx ≤ byte_len (text_of self.now) }
+        ensures { StandsAt (breaks_of self.now) (chunks_of self.now) (chunk_place_at_byte (chunks_of self.now) byte_idx)
+            result.0 result.1 result.2 result.3 }
+    {
+        Chunks::at_byte(&self.part, byte_idx)
+    }
+
+    /// What `chunks_at_byte` answers, or none where the index is past `len_bytes()`. No memory is taken.
+    pub fn get_chunks_at_byte(&self, byte_idx: usize) -> Option<(Chunks<'a>, usize, usize, usize)>
+        ensures { MatchOption result (byte_len (text_of self.now) < byte_idx)
+            (λ found. (byte_idx ≤ byte_len (text_of self.now)) × StandsAt (breaks_of self.now) (chunks_of self.now)
+            (chunk_place_at_byte (chunks_of self.now) byte_idx) found.0 found.1 found.2 found.3) }
+    {
+        if byte_idx > self.len_bytes() {
+            return None;
+        }
+        Some(self.chunks_at_byte(byte_idx))
+    }
+
+    /// A cursor over the chunks, before the chunk that holds the character `char_idx`, facing forward; for `len_chars()` it stands past the
+    /// last chunk. With it the bytes, the characters and the line breaks that end before it.
+    ///
+    /// The index is at most `len_chars()`. No memory is taken.
+    pub fn chunks_at_char(&self, char_idx: usize) -> (Chunks<'a>, usize, usize, usize)
+        requires { char_idx ≤ length (text_of self.now) }
+        ensures { StandsAt (breaks_of self.now) (chunks_of self.now) (chunk_place_at_char (chunks_of self.now) char_idx)
+            result.0 result.1 result.2 result.3 }
+    {
+        Chunks::at_char(&self.part, char_idx)
+    }
+
+    /// What `chunks_at_char` answers, or none where the index is past `len_chars()`. No memory is taken.
+    pub fn get_chunks_at_char(&self, char_idx: usize) -> Option<(Chunks<'a>, usize, usize, usize)>
+        ensures { MatchOption result (length (text_of self.now) < char_idx)
+            (λ found. (char_idx ≤ length (text_of self.now)) × StandsAt (breaks_of self.now) (chunks_of self.now)
+            (chunk_place_at_char (chunks_of self.now) char_idx) found.0 found.1 found.2 found.3) }
+    {
+        if char_idx > self.len_chars() {
+            return None;
+        }
+        Some(self.chunks_at_char(char_idx))
+    }
+
+    /// A cursor over the chunks, before the first chunk by whose end so many line breaks have ended, or else before the last, facing forward; for `len_lines()` it stands past the
+    /// last chunk. With it the bytes, the characters and the line breaks that end before it.
+    ///
+    /// The index is at most `len_lines()`. No memory is taken.
+    pub fn chunks_at_line_break(&self, line_break_idx: usize) -> (Chunks<'a>, usize, usize, usize)
+        requires { line_break_idx ≤ line_count (breaks_of self.now) (text_of self.now) }
+        ensures { StandsAt (breaks_of self.now) (chunks_of self.now) (chunk_place_at_line_break (breaks_of self.now) (chunks_of self.now) line_break_idx)
+            result.0 result.1 result.2 result.3 }
+    {
+        Chunks::at_line_break(&self.part, line_break_idx)
+    }
+
+    /// What `chunks_at_line_break` answers, or none where the index is past `len_lines()`. No memory is taken.
+    pub fn get_chunks_at_line_break(
+        &self,
+        line_break_idx: usize,
+    ) -> Option<(Chunks<'a>, usize, usize, usize)>
+        ensures { MatchOption result (line_count (breaks_of self.now) (text_of self.now) < line_break_idx)
+            (λ found. (line_break_idx ≤ line_count (breaks_of self.now) (text_of self.now)) × StandsAt (breaks_of self.now) (chunks_of self.now)
+            (chunk_place_at_line_break (breaks_of self.now) (chunks_of self.now) line_break_idx) found.0 found.1 found.2 found.3) }
+    {
+        if line_break_idx > self.len_lines() {
+            return None;
+        }
+        Some(self.chunks_at_line_break(line_break_idx))
+    }
+}

@@ -1,0 +1,179 @@
+//! Cursors over the bytes, the characters, the chunks and the lines of a rope. No call takes memory.
+ghost use Rattle.std.specs.Prelude.{◌≡◌, ◌≤◌, ◌<◌, ◌^◌, length, MatchOption};
+ghost use Rattle.std.specs.Str.{encode_utf8_all};
+ghost use Rattle.rope_text.specs.Text.{byte_len};
+ghost use Rattle.rope_text.specs.Lines.{line_count};
+ghost use Rattle.rope_text.specs.LineParts.{line_of, lines_of};
+ghost use Rattle.rope_text.specs.Lookup.{StandsAt, chunk_place_at_byte, chunk_place_at_char, chunk_place_at_line_break};
+ghost use Rattle.rope_text.specs.Sides.{at_start, at_place};
+ghost use Rattle.rope_slice.specs.Slice.{content_of};
+ghost use Rattle.ropey.specs.View.{content};
+
+use crate::rope::Rope;
+use rope_cursor::{Bytes, Chars, Chunks};
+use rope_slice::{Lines, RopeSlice};
+
+impl Rope {
+    /// A cursor over the bytes, before the first, facing forward. No memory is taken.
+    pub fn bytes(&self) -> Bytes<'_>
+        ensures { result ≡ at_start (encode_utf8_all self.now.text) }
+    {
+        self.whole().bytes()
+    }
+
+    /// A cursor over the bytes, before the byte `byte_idx`, counted from 0, facing forward; for `len_bytes()` it stands past
+    /// the last byte.
+    ///
+    /// The index is at most `len_bytes()`. No memory is taken.
+    pub fn bytes_at(&self, byte_idx: usize) -> Bytes<'_>
+        requires { byte_idx ≤ byte_len self.now.text }
+        ensures { result ≡ at_place (encode_utf8_all self.now.text) byte_idx }
+    {
+        self.whole().bytes_at(byte_idx)
+    }
+
+    /// What `bytes_at` answers, or none where the index is past `len_bytes()`. No memory is taken.
+    pub fn get_bytes_at(&self, byte_idx: usize) -> Option<Bytes<'_>>
+        ensures { MatchOption result (byte_len self.now.text < byte_idx)
+            (λ bytes. (byte_idx ≤ byte_len self.now.text) × (bytes ≡ at_place (encode_utf8_all self.now.text) byte_idx)) }
+    {
+        self.whole().get_bytes_at(byte_idx)
+    }
+
+    /// A cursor over the characters, before the first, facing forward. No memory is taken.
+    pub fn chars(&self) -> Chars<'_>
+        ensures { result ≡ at_start self.now.text }
+    {
+        self.whole().chars()
+    }
+
+    /// A cursor over the characters, before the character `char_idx`, counted from 0, facing forward; for `len_chars()` it stands past
+    /// the last character.
+    ///
+    /// The index is at most `len_chars()`. No memory is taken.
+    pub fn chars_at(&self, char_idx: usize) -> Chars<'_>
+        requires { char_idx ≤ length self.now.text }
+        ensures { result ≡ at_place self.now.text char_idx }
+    {
+        self.whole().chars_at(char_idx)
+    }
+
+    /// What `chars_at` answers, or none where the index is past `len_chars()`. No memory is taken.
+    pub fn get_chars_at(&self, char_idx: usize) -> Option<Chars<'_>>
+        ensures { MatchOption result (length self.now.text < char_idx)
+            (λ chars. (char_idx ≤ length self.now.text) × (chars ≡ at_place self.now.text char_idx)) }
+    {
+        self.whole().get_chars_at(char_idx)
+    }
+
+    /// A cursor over the chunks, before the chunk that holds the byte `byte_idx`, facing forward; for `len_bytes()` it stands past the
+    /// last chunk. With it the bytes, the characters and the line breaks that end before it.
+    ///
+    /// The index is at most `len_bytes()`. No memory is taken.
+    pub fn chunks_at_byte(&self, byte_idx: usize) -> (Chunks<'_>, usize, usize, usize)
+        requires { byte_idx ≤ byte_len self.now.text }
+        ensures { StandsAt self.now.breaks self.now.chunks (chunk_place_at_byte self.now.chunks byte_idx)
+            result.0 result.1 result.2 result.3 }
+    {
+        self.whole().chunks_at_byte(byte_idx)
+    }
+
+    /// What `chunks_at_byte` answers, or none where the index is past `len_bytes()`. No memory is taken.
+    pub fn get_chunks_at_byte(&self, byte_idx: usize) -> Option<(Chunks<'_>, usize, usize, usize)>
+        ensures { MatchOption result (byte_len self.now.text < byte_idx)
+            (λ found. (byte_idx ≤ byte_len self.now.text) × StandsAt self.now.breaks self.now.chunks
+            (chunk_place_at_byte self.now.chunks byte_idx) found.0 found.1 found.2 found.3) }
+    {
+        self.whole().get_chunks_at_byte(byte_idx)
+    }
+
+    /// A cursor over the chunks, before the chunk that holds the character `char_idx`, facing forward; for `len_chars()` it stands past the
+    /// last chunk. With it the bytes, the characters and the line breaks that end before it.
+    ///
+    /// The index is at most `len_chars()`. No memory is taken.
+    pub fn chunks_at_char(&self, char_idx: usize) -> (Chunks<'_>, usize, usize, usize)
+        requires { char_idx ≤ length self.now.text }
+        ensures { StandsAt self.now.breaks self.now.chunks (chunk_place_at_char self.now.chunks char_idx)
+            result.0 result.1 result.2 result.3 }
+    {
+        self.whole().chunks_at_char(char_idx)
+    }
+
+    /// What `chunks_at_char` answers, or none where the index is past `len_chars()`. No memory is taken.
+    pub fn get_chunks_at_char(&self, char_idx: usize) -> Option<(Chunks<'_>, usize, usize, usize)>
+        ensures { MatchOption result (length self.now.text < char_idx)
+            (λ found. (char_idx ≤ length self.now.text) × StandsAt self.now.breaks self.now.chunks
+            (chunk_place_at_char self.now.chunks char_idx) found.0 found.1 found.2 found.3) }
+    {
+        self.whole().get_chunks_at_char(char_idx)
+    }
+
+    /// A cursor over the chunks, before the first chunk by whose end so many line breaks have ended, or else before the last, facing forward; for `len_lines()` it stands past the
+    /// last chunk. With it the bytes, the characters and the line breaks that end before it.
+    ///
+    /// The index is at most `len_lines()`. No memory is taken.
+    pub fn chunks_at_line_break(&self, line_break_idx: usize) -> (Chunks<'_>, usize, usize, usize)
+        requires { line_break_idx ≤ line_count self.now.breaks self.now.text }
+        ensures { StandsAt self.now.breaks self.now.chunks (chunk_place_at_line_break self.now.breaks self.now.chunks line_break_idx)
+            result.0 result.1 result.2 result.3 }
+    {
+        self.whole().chunks_at_line_break(line_break_idx)
+    }
+
+    /// What `chunks_at_line_break` answers, or none where the index is past `len_lines()`. No memory is taken.
+    pub fn get_chunks_at_line_break(
+        &self,
+        line_break_idx: usize,
+    ) -> Option<(Chunks<'_>, usize, usize, usize)>
+        ensures { MatchOption result (line_count self.now.breaks self.now.text < line_break_idx)
+            (λ found. (line_break_idx ≤ line_count self.now.breaks self.now.text) × StandsAt self.now.breaks self.now.chunks
+            (chunk_place_at_line_break self.now.breaks self.now.chunks line_break_idx) found.0 found.1 found.2 found.3) }
+    {
+        self.whole().get_chunks_at_line_break(line_break_idx)
+    }
+
+    /// The line `line_idx`, counted from 0, with its break, as a slice. The index is below `len_lines()`. No memory is taken.
+    pub fn line(&self, line_idx: usize) -> RopeSlice<'_>
+        requires { line_idx < line_count self.now.breaks self.now.text }
+        ensures { content_of result ≡ line_of (content self.now) line_idx }
+    {
+        self.whole().line(line_idx)
+    }
+
+    /// The line `line_idx`, counted from 0, with its break, or none where the index is `len_lines()` or past it. No memory is
+    /// taken.
+    pub fn get_line(&self, line_idx: usize) -> Option<RopeSlice<'_>>
+        ensures { MatchOption result (line_count self.now.breaks self.now.text ≤ line_idx)
+            (λ slice. (line_idx < line_count self.now.breaks self.now.text)
+            × (content_of slice ≡ line_of (content self.now) line_idx)) }
+    {
+        self.whole().get_line(line_idx)
+    }
+
+    /// A cursor over the lines, before the first, facing forward. No memory is taken.
+    pub fn lines(&self) -> Lines<'_>
+        ensures { result ≡ at_start (lines_of (content self.now)) }
+    {
+        self.whole().lines()
+    }
+
+    /// A cursor over the lines, before the line `line_idx`, counted from 0, facing forward; for `len_lines()` it stands past
+    /// the last line.
+    ///
+    /// The index is at most `len_lines()`. No memory is taken.
+    pub fn lines_at(&self, line_idx: usize) -> Lines<'_>
+        requires { line_idx ≤ line_count self.now.breaks self.now.text }
+        ensures { result ≡ at_place (lines_of (content self.now)) line_idx }
+    {
+        self.whole().lines_at(line_idx)
+    }
+
+    /// What `lines_at` answers, or none where the index is past `len_lines()`. No memory is taken.
+    pub fn get_lines_at(&self, line_idx: usize) -> Option<Lines<'_>>
+        ensures { MatchOption result (line_count self.now.breaks self.now.text < line_idx)
+            (λ lines. (line_idx ≤ line_count self.now.breaks self.now.text)
+            × (lines ≡ at_place (lines_of (content self.now)) line_idx)) }
+    {
+        self.whole().get_lines_at(line_idx)
+    }
+}
