@@ -284,3 +284,9 @@ module _ (set : LineBreaks) (skip : ℕ) (p : Place) (b start : ℕ) (more : Tex
     pub gap_composed : (sum : TextInfo) → sum ≡ info_sum other more → PassesBack set skip (halves_at p b).front (halves_at p b).back new d sum
     gap_composed sum s =
         compose_back set skip (skip - more.line_breaks) (halves_at p b).front (halves_at p b).back (take (byte_to_char p.here b) p.here ++ []) p new d more other sum (gap_over none) r s
+
+-- a place that parts no CR LF of the text parts none of the chunk
+pub gap_apart : (p : Place) (b : ℕ) → parts_crlf (halves_at p b).front (halves_at p b).back ≡ false → parts_crlf (take (byte_to_char p.here b) p.here) (drop (byte_to_char p.here b) p.here) ≡ false
+gap_apart p b apart =
+    let j : ℕ = byte_to_char p.here b in
+    apart_back (concat p.before) (take j p.here) (drop j p.here) (apart_front (concat p.before ++ take j p.here) (drop j p.here) (concat p.after) apart)

@@ -12,3 +12,4 @@ pub mod Gaps
 pub mod GapSteps
 pub mod GapsBack
 pub mod LineCounts
+pub mod LineNear

@@ -56,7 +56,7 @@ line_counts set text info bytes chars pairs breaks =
     same_info info (info_of set (first_line set text)) bytes (chars ∙ place ∙ sym (length-take-le n text within)) (pairs ∙ ap (λ k. surrogate_count (take k text)) place) breaks
 
 -- the breaks from a line's start on
-last_breaks : (set : LineBreaks) (text : List ℕ) (k : ℕ) → break_count set (drop (last_start set text k) text) ≡ min k (break_count set text)
+pub last_breaks : (set : LineBreaks) (text : List ℕ) (k : ℕ) → break_count set (drop (last_start set text k) text) ≡ min k (break_count set text)
 last_breaks set text k =
     let l : ℕ = break_count set text - k in
     omega (arith, break_count-drop set text (last_start set text k) (line_start-le-length set text l), char_to_line-line_start set text l (omega arith))

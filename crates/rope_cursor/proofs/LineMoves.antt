@@ -104,6 +104,10 @@ module _ (c : Content) (h new : Halves) (before passed : TextInfo) (l total : �
         half_of c.breaks (slice_range c.text (line_start c.breaks c.text l) (line_start c.breaks c.text (l + 1))) passed counts_are (omega (arith, s.fits)),
       )
 
+-- a line starts in no CR LF
+pub start_apart : (c : Content) (h : Halves) (before : TextInfo) (l total : ℕ) → IsLineStart c h before l total → parts_crlf h.front h.back ≡ false
+start_apart c h before l total s = ap (λ t. parts_crlf t h.back) s.front_is ∙ ap (parts_crlf (take (line_start c.breaks c.text l) c.text)) s.back_is ∙ line_start_apart c.breaks c.text l
+
 -- how many breaks are to be passed backward
 pub breaks_enough : (c : Content) (h : Halves) (before : TextInfo) (l total : ℕ) → IsLineStart c h before l total → l - 1 ≤ before.line_breaks
 breaks_enough c h before l total s =

@@ -16,8 +16,8 @@ use crate::span::Span;
 use rope_part::Part;
 use rope_text::crlf::prev_break;
 use rope_text::str_utils::{
-    byte_to_char_idx, byte_to_surrogates, char_to_byte_idx, count_breaks, count_chars,
-    count_surrogates, line_to_byte_with,
+    byte_to_char_idx, byte_to_line_with, byte_to_surrogates, char_to_byte_idx, count_breaks,
+    count_chars, count_surrogates, line_to_byte_with,
 };
 use rope_text::{LineBreaks, TextInfo};
 use std::marker::Model;
@@ -100,15 +100,16 @@ fn count_last_of_all(text: &str, skip: usize, set: LineBreaks) -> (usize, TextIn
 }
 
 // Where the last line of a text is looked for first: so many bytes before its end.
-const NEAR_BYTES: usize = 128;
+const NEAR_BYTES: usize = 192;
 
-// A place near the end of a text, in no CR LF.
-fn cut_near_end(text: &str) -> usize
+// A place of a text at or before a byte, some bytes before it, in no CR LF.
+fn cut_before(text: &str, end: usize) -> usize
+    requires { end ≤ length text.now }
     ensures between { IsBetween (chars text.now) result }
     ensures apart { parts_crlf (take (byte_to_char (chars text.now) result) (chars text.now)) (drop (byte_to_char (chars text.now) result) (chars text.now)) ≡ false }
+    ensures before { result ≤ end }
 {
-    let bytes = text.as_bytes();
-    prev_break(bytes, bytes.len().saturating_sub(NEAR_BYTES))
+    prev_break(text.as_bytes(), end.saturating_sub(NEAR_BYTES))
 }
 
 // The same, found near the end of the text where it is there.
@@ -117,12 +118,46 @@ fn count_last(text: &str, skip: usize, set: LineBreaks) -> (usize, TextInfo)
     ensures counts { result.1 ≡ info_of set (drop (last_start set (chars text.now) skip) (chars text.now)) }
 {
     let _ = byte_len_of(text);
-    let cut = cut_near_end(text);
+    let cut = cut_before(text, text.len());
     let (start, last) = count_last_of_all(text_after(text, cut), skip, set);
     if start > 0 {
         return (cut + start, last);
     }
     count_last_of_all(text, skip, set)
+}
+
+// The counts of the first bytes of a text, which have so many line breaks.
+fn count_front(text: &str, bytes: usize, line_breaks: usize, set: LineBreaks) -> TextInfo
+    requires between { IsBetween (chars text.now) bytes }
+    requires breaks { line_breaks ≡ break_count set (take (byte_to_char (chars text.now) bytes) (chars text.now)) }
+    ensures { result ≡ info_of set (take (byte_to_char (chars text.now) bytes) (chars text.now)) }
+{
+    TextInfo {
+        bytes,
+        chars: byte_to_char_idx(text, bytes),
+        utf16_surrogates: byte_to_surrogates(text, bytes),
+        line_breaks,
+    }
+}
+
+// What `count_last` answers of a text's front. What follows it helps to count, since whole blocks are counted at once.
+fn count_last_before(text: &str, end: usize, skip: usize, set: LineBreaks) -> (usize, TextInfo)
+    requires between { IsBetween (chars text.now) end }
+    requires apart { parts_crlf (take (byte_to_char (chars text.now) end) (chars text.now)) (drop (byte_to_char (chars text.now) end) (chars text.now)) ≡ false }
+    ensures start { result.0 ≡ byte_len (take (last_start set (take (byte_to_char (chars text.now) end) (chars text.now)) skip) (take (byte_to_char (chars text.now) end) (chars text.now))) }
+    ensures counts { result.1 ≡ info_of set (drop (last_start set (take (byte_to_char (chars text.now) end) (chars text.now)) skip) (take (byte_to_char (chars text.now) end) (chars text.now))) }
+{
+    let _ = byte_len_of(text);
+    let cut = cut_before(text, end);
+    let near = text_after(text, cut);
+    let len = end - cut;
+    let breaks = byte_to_line_with(near, len, set);
+    if breaks > skip {
+        let start = line_to_byte_with(near, breaks - skip, set);
+        let info = count_front(text_after(near, start), len - start, skip, set);
+        return (cut + start, info);
+    }
+    count_last_of_all(text_before(text, end), skip, set)
 }
 
 // From the start of a chunk back to the start of a line: the place in the last chunk, and the counts of what was passed.
@@ -182,14 +217,14 @@ impl<'a> Gap<'a> {
         first.plus(more)
     }
     /// Goes back past so many line breaks, and on to the end of the one before, or to the start. Answers the counts of what it
-    /// passed.
+    /// passed. It is in no CR LF.
     pub fn pass_line_back(&mut self, skip: usize, set: LineBreaks) -> TextInfo
+        requires { parts_crlf self.old.front self.old.back ≡ false }
         ensures front { self.new.front ≡ take (last_start set self.old.front skip) self.old.front }
         ensures back { self.new.back ≡ drop (last_start set self.old.front skip) self.old.front ++ self.old.back }
         ensures counts { result ≡ info_of set (drop (last_start set self.old.front skip) self.old.front) }
     {
-        let before = text_before(self.span.chunk(), self.inside);
-        let (start, last) = count_last(before, skip, set);
+        let (start, last) = count_last_before(self.span.chunk(), self.inside, skip, set);
         if start > 0 {
             self.inside = start;
             return last;

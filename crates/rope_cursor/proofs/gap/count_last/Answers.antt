@@ -16,19 +16,19 @@ enough set rest tail skip start same e some = near_enough set rest skip start (e
 
 pub overflow_add-result : goal.overflow_add-result
 overflow_add-result c =
-    let size = near_size c.args.set (chars c.args.text.now) (byte_to_char (chars c.args.text.now) c.cut_near_end-cut.result) c.args.skip (byte_to_char-le-length (chars c.args.text.now) c.cut_near_end-cut.result) c.cut_near_end-cut.ensures.apart
-    (enough c.args.set (drop (byte_to_char (chars c.args.text.now) c.cut_near_end-cut.result) (chars c.args.text.now)) (chars c.text_after.result.now) c.args.skip c.count_last_of_all-start.result.0 c.text_after.ensures c.count_last_of_all-start.ensures.start c.if-start-gt0.true)
-    c.cut_near_end-cut.result c.count_last_of_all-start.result.0 (sym c.cut_near_end-cut.ensures.between) (c.count_last_of_all-start.ensures.start ∙ ap (λ t. byte_len (take (last_start c.args.set t c.args.skip) t)) c.text_after.ensures) in
+    let size = near_size c.args.set (chars c.args.text.now) (byte_to_char (chars c.args.text.now) c.cut_before-cut.result) c.args.skip (byte_to_char-le-length (chars c.args.text.now) c.cut_before-cut.result) c.cut_before-cut.ensures.apart
+    (enough c.args.set (drop (byte_to_char (chars c.args.text.now) c.cut_before-cut.result) (chars c.args.text.now)) (chars c.text_after.result.now) c.args.skip c.count_last_of_all-start.result.0 c.text_after.ensures c.count_last_of_all-start.ensures.start c.if-start-gt0.true)
+    c.cut_before-cut.result c.count_last_of_all-start.result.0 (sym c.cut_before-cut.ensures.between) (c.count_last_of_all-start.ensures.start ∙ ap (λ t. byte_len (take (last_start c.args.set t c.args.skip) t)) c.text_after.ensures) in
     omega (arith, size, size_front (last_start c.args.set (chars c.args.text.now) c.args.skip) (chars c.args.text.now), c.byte_len_of.ensures)
 
 pub returns-then-start-gt0-clause-start : goal.returns-then-start-gt0-clause-start
 returns-then-start-gt0-clause-start c =
-    near_size c.args.set (chars c.args.text.now) (byte_to_char (chars c.args.text.now) c.cut_near_end-cut.result) c.args.skip (byte_to_char-le-length (chars c.args.text.now) c.cut_near_end-cut.result) c.cut_near_end-cut.ensures.apart
-    (enough c.args.set (drop (byte_to_char (chars c.args.text.now) c.cut_near_end-cut.result) (chars c.args.text.now)) (chars c.text_after.result.now) c.args.skip c.count_last_of_all-start.result.0 c.text_after.ensures c.count_last_of_all-start.ensures.start c.if-start-gt0.true)
-    c.cut_near_end-cut.result c.count_last_of_all-start.result.0 (sym c.cut_near_end-cut.ensures.between) (c.count_last_of_all-start.ensures.start ∙ ap (λ t. byte_len (take (last_start c.args.set t c.args.skip) t)) c.text_after.ensures)
+    near_size c.args.set (chars c.args.text.now) (byte_to_char (chars c.args.text.now) c.cut_before-cut.result) c.args.skip (byte_to_char-le-length (chars c.args.text.now) c.cut_before-cut.result) c.cut_before-cut.ensures.apart
+    (enough c.args.set (drop (byte_to_char (chars c.args.text.now) c.cut_before-cut.result) (chars c.args.text.now)) (chars c.text_after.result.now) c.args.skip c.count_last_of_all-start.result.0 c.text_after.ensures c.count_last_of_all-start.ensures.start c.if-start-gt0.true)
+    c.cut_before-cut.result c.count_last_of_all-start.result.0 (sym c.cut_before-cut.ensures.between) (c.count_last_of_all-start.ensures.start ∙ ap (λ t. byte_len (take (last_start c.args.set t c.args.skip) t)) c.text_after.ensures)
 
 pub returns-then-start-gt0-clause-counts : goal.returns-then-start-gt0-clause-counts
 returns-then-start-gt0-clause-counts c =
     c.count_last_of_all-start.ensures.counts ∙ ap (λ t. info_of c.args.set (drop (last_start c.args.set t c.args.skip) t)) c.text_after.ensures
-    ∙ ap (info_of c.args.set) (near_rest c.args.set (chars c.args.text.now) (byte_to_char (chars c.args.text.now) c.cut_near_end-cut.result) c.args.skip (byte_to_char-le-length (chars c.args.text.now) c.cut_near_end-cut.result) c.cut_near_end-cut.ensures.apart
-    (enough c.args.set (drop (byte_to_char (chars c.args.text.now) c.cut_near_end-cut.result) (chars c.args.text.now)) (chars c.text_after.result.now) c.args.skip c.count_last_of_all-start.result.0 c.text_after.ensures c.count_last_of_all-start.ensures.start c.if-start-gt0.true))
+    ∙ ap (info_of c.args.set) (near_rest c.args.set (chars c.args.text.now) (byte_to_char (chars c.args.text.now) c.cut_before-cut.result) c.args.skip (byte_to_char-le-length (chars c.args.text.now) c.cut_before-cut.result) c.cut_before-cut.ensures.apart
+    (enough c.args.set (drop (byte_to_char (chars c.args.text.now) c.cut_before-cut.result) (chars c.args.text.now)) (chars c.text_after.result.now) c.args.skip c.count_last_of_all-start.result.0 c.text_after.ensures c.count_last_of_all-start.ensures.start c.if-start-gt0.true))

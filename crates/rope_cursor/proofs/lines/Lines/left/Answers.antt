@@ -1,7 +1,7 @@
 use Rattle.std.proofs.Common.{◌-◌, ◌∙◌, refl, ap, arith}
 use Rattle.rope_part.specs.Part.{content_of}
 use Rattle.rope_cursor.proofs.LineSteps.{left_of_line}
-use Rattle.rope_cursor.proofs.LineMoves.{breaks_enough, inside_back, before_sum, before_up, start_is, prev_start, line_from, line_apart, line_is}
+use Rattle.rope_cursor.proofs.LineMoves.{start_apart, breaks_enough, inside_back, before_sum, before_up, start_is, prev_start, line_from, line_apart, line_is}
 use Rattle.rope_cursor.proofs.lines.Lines.left.Goals as goal
 
 pub overflow_sub-skip : goal.overflow_sub-skip
@@ -72,3 +72,6 @@ returns c =
     (c.self.inside.before.line_breaks - (c.self.inside.line - 1)) c.line_breaks.result c.self.invariant (omega (arith, c.if-self-eq0.false)) c.line_breaks.ensures refl
     c.pass_line_back-passed.ensures.front c.pass_line_back-passed.ensures.back c.pass_line_back-passed.ensures.counts) in
     rw (← c.self.view_is, item) (step.0, step.1, refl)
+
+pub pass_line_back-passed-requires : goal.pass_line_back-passed-requires
+pass_line_back-passed-requires c = start_apart (content_of c.self.inside.part) c.self.inside.gap c.self.inside.before c.self.inside.line c.self.inside.total c.self.invariant

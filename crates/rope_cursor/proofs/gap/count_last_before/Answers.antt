@@ -1,0 +1,56 @@
+use Rattle.std.proofs.Common.{arith}
+use Rattle.std.specs.Str.{chars}
+use Rattle.rope_text.specs.Conversions.{byte_to_char}
+use Rattle.rope_text.proofs.Walks.{byte_len-chars}
+use Rattle.rope_cursor.proofs.Gaps.{size_front}
+use Rattle.rope_cursor.proofs.LineNear.{start_between, start_inside, found_start, found_fits, rest_between, rest_breaks, found_counts}
+use Rattle.rope_cursor.proofs.gap.count_last_before.Goals as goal
+
+pub cut_before-cut-requires : goal.cut_before-cut-requires
+cut_before-cut-requires c =
+    let text = chars c.args.text.now in
+    omega (arith, c.requires.between, size_front (byte_to_char text c.args.end) text, byte_len-chars c.args.text.now c.utf8.text)
+
+pub text_after-requires : goal.text_after-requires
+text_after-requires c =
+    start_between c.args.set (chars c.args.text.now) (chars c.text_after-near.result.now) c.args.skip c.args.end c.cut_before-cut.result c.byte_to_line_with-breaks.result c.line_to_byte_with-start.result
+    c.requires.between c.cut_before-cut.ensures.between c.cut_before-cut.ensures.before c.cut_before-cut.ensures.apart c.requires.apart c.text_after-near.ensures c.byte_to_line_with-breaks.ensures c.if-breaks-skip.true
+    c.line_to_byte_with-start.ensures.value
+
+pub overflow_sub-len-then-breaks-skip : goal.overflow_sub-len-then-breaks-skip
+overflow_sub-len-then-breaks-skip c =
+    start_inside c.args.set (chars c.args.text.now) (chars c.text_after-near.result.now) c.args.skip c.args.end c.cut_before-cut.result c.byte_to_line_with-breaks.result c.line_to_byte_with-start.result
+    c.requires.between c.cut_before-cut.ensures.between c.cut_before-cut.ensures.before c.cut_before-cut.ensures.apart c.requires.apart c.text_after-near.ensures c.byte_to_line_with-breaks.ensures c.if-breaks-skip.true
+    c.line_to_byte_with-start.ensures.value
+
+pub count_front-info-requires-clause-between : goal.count_front-info-requires-clause-between
+count_front-info-requires-clause-between c =
+    rest_between c.args.set (chars c.args.text.now) (chars c.text_after-near.result.now) c.args.skip c.args.end c.cut_before-cut.result c.byte_to_line_with-breaks.result c.line_to_byte_with-start.result
+    c.requires.between c.cut_before-cut.ensures.between c.cut_before-cut.ensures.before c.cut_before-cut.ensures.apart c.requires.apart c.text_after-near.ensures c.byte_to_line_with-breaks.ensures c.if-breaks-skip.true
+    c.line_to_byte_with-start.ensures.value (chars c.text_after.result.now) c.text_after.ensures
+
+pub count_front-info-requires-clause-breaks : goal.count_front-info-requires-clause-breaks
+count_front-info-requires-clause-breaks c =
+    rest_breaks c.args.set (chars c.args.text.now) (chars c.text_after-near.result.now) c.args.skip c.args.end c.cut_before-cut.result c.byte_to_line_with-breaks.result c.line_to_byte_with-start.result
+    c.requires.between c.cut_before-cut.ensures.between c.cut_before-cut.ensures.before c.cut_before-cut.ensures.apart c.requires.apart c.text_after-near.ensures c.byte_to_line_with-breaks.ensures c.if-breaks-skip.true
+    c.line_to_byte_with-start.ensures.value (chars c.text_after.result.now) c.text_after.ensures
+
+pub overflow_add-result : goal.overflow_add-result
+overflow_add-result c =
+    let fits = found_fits c.args.set (chars c.args.text.now) (chars c.text_after-near.result.now) c.args.skip c.args.end c.cut_before-cut.result c.byte_to_line_with-breaks.result c.line_to_byte_with-start.result
+    c.requires.between c.cut_before-cut.ensures.between c.cut_before-cut.ensures.before c.cut_before-cut.ensures.apart c.requires.apart c.text_after-near.ensures c.byte_to_line_with-breaks.ensures c.if-breaks-skip.true
+    c.line_to_byte_with-start.ensures.value in
+    omega (arith, fits, c.byte_len_of.ensures)
+
+pub returns-then-breaks-skip-clause-start : goal.returns-then-breaks-skip-clause-start
+returns-then-breaks-skip-clause-start c =
+    found_start c.args.set (chars c.args.text.now) (chars c.text_after-near.result.now) c.args.skip c.args.end c.cut_before-cut.result c.byte_to_line_with-breaks.result c.line_to_byte_with-start.result
+    c.requires.between c.cut_before-cut.ensures.between c.cut_before-cut.ensures.before c.cut_before-cut.ensures.apart c.requires.apart c.text_after-near.ensures c.byte_to_line_with-breaks.ensures c.if-breaks-skip.true
+    c.line_to_byte_with-start.ensures.value
+
+pub returns-then-breaks-skip-clause-counts : goal.returns-then-breaks-skip-clause-counts
+returns-then-breaks-skip-clause-counts c =
+    found_counts c.args.set (chars c.args.text.now) (chars c.text_after-near.result.now) c.args.skip c.args.end c.cut_before-cut.result c.byte_to_line_with-breaks.result c.line_to_byte_with-start.result
+    c.requires.between c.cut_before-cut.ensures.between c.cut_before-cut.ensures.before c.cut_before-cut.ensures.apart c.requires.apart c.text_after-near.ensures c.byte_to_line_with-breaks.ensures c.if-breaks-skip.true
+    c.line_to_byte_with-start.ensures.value (chars c.text_after.result.now) c.text_after.ensures
+    c.count_front-info.result c.count_front-info.ensures
