@@ -1,5 +1,5 @@
 -- Lines that are passed backward, over several chunks.
-use Rattle.std.proofs.Common.{◌≡◌, ℕ, ◌+◌, ◌-◌, ◌<◌, ◌≤◌, Bool, true, false, ◌&&◌, List, [], ◌∷◌, ◌++◌, length, take, drop, refl, sym, ap, subst, ◌∙◌, arith, append_assoc, length-append, inl, inr}
+use Rattle.std.proofs.Common.{◌≡◌, ℕ, ◌+◌, ◌-◌, ◌<◌, ◌≤◌, false, List, [], ◌∷◌, ◌++◌, length, take, drop, refl, sym, ap, subst, ◌∙◌, arith, append_assoc, length-append, inl, inr}
 use Rattle.std.specs.List.{concat}
 use Rattle.std.proofs.lemmas.Bool.{cases_lt}
 use Rattle.std.proofs.lemmas.List.{append-nil, take-append-le, drop-append-le, take-append-drop, length-take-le}
@@ -20,17 +20,13 @@ use Rattle.rope_text.proofs.InfoLaws.{info_of-append_apart}
 use Rattle.rope_text.proofs.CuttingLaws.{concat-append}
 use Rattle.rope_text.proofs.LineLaws.{line_start-le-length}
 use Rattle.rope_text.proofs.SliceLaws.{char_to_line_early}
-use Rattle.rope_text.proofs.LineSeams.{break_count-apart, last_start-left, last_start-right}
+use Rattle.rope_text.proofs.LineSeams.{never, break_count-apart, last_start-left, last_start-right}
 use Rattle.rope_part.proofs.Measured.{same_info}
 use Rattle.rope_cursor.specs.Path.{Place, IsNext}
 use Rattle.rope_cursor.specs.Gap.{halves_at, AreChunks, IsGap, PassesBack, PassedBack, PassedBackTo}
 use Rattle.rope_cursor.proofs.Spans.{leaves_next}
 use Rattle.rope_cursor.proofs.Gaps.{apart_joined, apart_front, here_apart, front_place, half_of, AreHalf, size_two, whole_text}
 use Rattle.rope_cursor.proofs.GapSteps.{apart_back}
-
-never : (x : Bool) → (x && false) ≡ false
-never true = refl
-never false = refl
 
 -- no CR meets LF between the chunks before and those from here on
 apart_chunks : (p q : List (List ℕ)) → KeepsCrlf (p ++ q) → parts_crlf (concat p) (concat q) ≡ false

@@ -15,13 +15,20 @@ pub record Halves : Type 0 where
   pub front : List ℕ
   pub back : List ℕ
 
+-- the text before the byte b, and from it on
+abbrev pub before_byte : List ℕ → ℕ → List ℕ
+before_byte text b = take (byte_to_char text b) text
+
+abbrev pub after_byte : List ℕ → ℕ → List ℕ
+after_byte text b = drop (byte_to_char text b) text
+
+-- a character begins at the byte b, or the text ends there
+abbrev pub IsBetween : List ℕ → ℕ → Type 0
+IsBetween text b = byte_len (before_byte text b) ≡ b
+
 -- before the byte b of the chunk here, and from it on
 abbrev pub halves_at : Place → ℕ → Halves
-halves_at p b = record { front = concat p.before ++ take (byte_to_char p.here b) p.here; back = drop (byte_to_char p.here b) p.here ++ concat p.after }
-
--- a character begins at the byte b of the chunk here
-abbrev pub IsBetween : List ℕ → ℕ → Type 0
-IsBetween here b = byte_len (take (byte_to_char here b) here) ≡ b
+halves_at p b = record { front = concat p.before ++ before_byte p.here b; back = after_byte p.here b ++ concat p.after }
 
 -- the chunks part no CR LF, and their text is not too long
 pub record AreChunks (p : Place) : Type 0 where

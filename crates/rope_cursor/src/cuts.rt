@@ -2,7 +2,7 @@
 ghost use Rattle.std.specs.Prelude.{◌≡◌, take, drop};
 ghost use Rattle.std.specs.Str.{chars, IsCharBoundary};
 ghost use Rattle.rope_text.specs.Text.{byte_len};
-ghost use Rattle.rope_text.specs.Conversions.{byte_to_char};
+ghost use Rattle.rope_cursor.specs.Gap.{before_byte, after_byte, IsBetween};
 
 fn to_byte(text: &str, byte: usize) -> &str
     requires { IsCharBoundary text.now byte }
@@ -20,16 +20,16 @@ fn from_byte(text: &str, byte: usize) -> &str
 
 /// The text before a byte.
 pub(crate) fn text_before(text: &str, byte: usize) -> &str
-    requires { byte_len (take (byte_to_char (chars text.now) byte) (chars text.now)) ≡ byte }
-    ensures { chars result.now ≡ take (byte_to_char (chars text.now) byte) (chars text.now) }
+    requires { IsBetween (chars text.now) byte }
+    ensures { chars result.now ≡ before_byte (chars text.now) byte }
 {
     to_byte(text, byte)
 }
 
 /// The text from a byte on.
 pub(crate) fn text_after(text: &str, byte: usize) -> &str
-    requires { byte_len (take (byte_to_char (chars text.now) byte) (chars text.now)) ≡ byte }
-    ensures { chars result.now ≡ drop (byte_to_char (chars text.now) byte) (chars text.now) }
+    requires { IsBetween (chars text.now) byte }
+    ensures { chars result.now ≡ after_byte (chars text.now) byte }
 {
     from_byte(text, byte)
 }

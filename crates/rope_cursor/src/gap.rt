@@ -1,6 +1,5 @@
 //! A place between two characters of a part, which goes from line to line.
 ghost use Rattle.std.specs.Prelude.{◌≡◌, ◌≤◌, ◌++◌, false, length, take, drop};
-ghost use Rattle.rope_text.specs.Conversions.{byte_to_char};
 ghost use Rattle.rope_text.specs.Cutting.{parts_crlf};
 ghost use Rattle.std.specs.List.{concat};
 ghost use Rattle.std.specs.Str.{chars};
@@ -9,7 +8,7 @@ ghost use Rattle.rope_text.specs.LineParts.{first_line, last_start};
 ghost use Rattle.rope_text.specs.Text.{byte_len};
 ghost use Rattle.rope_text.specs.TextInfo.{info_of};
 ghost use Rattle.rope_part.specs.Part.{text_of};
-ghost use Rattle.rope_cursor.specs.Gap.{AreChunks, IsBetween, PassesLine, PassesBack};
+ghost use Rattle.rope_cursor.specs.Gap.{before_byte, after_byte, AreChunks, IsBetween, PassesLine, PassesBack};
 
 use crate::cuts::{byte_len_of, text_after, text_before};
 use crate::span::Span;
@@ -81,6 +80,19 @@ fn pass_chunks(span: &mut Span<'_>, set: LineBreaks) -> (usize, TextInfo)
     (byte_len_of(span.chunk()), passed)
 }
 
+// Where the last line of a text is looked for first: so many bytes before its end.
+const NEAR_BYTES: usize = 192;
+
+// A place of a text at or before a byte, some bytes before it, in no CR LF.
+fn cut_before(text: &str, end: usize) -> usize
+    requires { end ≤ length text.now }
+    ensures between { IsBetween (chars text.now) result }
+    ensures apart { parts_crlf (before_byte (chars text.now) result) (after_byte (chars text.now) result) ≡ false }
+    ensures before { result ≤ end }
+{
+    prev_break(text.as_bytes(), end.saturating_sub(NEAR_BYTES))
+}
+
 // The byte at which the last line of a text starts, or the one so many line breaks before it, and the counts from there on.
 // All of the text is gone over.
 fn count_last_of_all(text: &str, skip: usize, set: LineBreaks) -> (usize, TextInfo)
@@ -97,19 +109,6 @@ fn count_last_of_all(text: &str, skip: usize, set: LineBreaks) -> (usize, TextIn
         line_breaks: skip.min(breaks),
     };
     (start, info)
-}
-
-// Where the last line of a text is looked for first: so many bytes before its end.
-const NEAR_BYTES: usize = 192;
-
-// A place of a text at or before a byte, some bytes before it, in no CR LF.
-fn cut_before(text: &str, end: usize) -> usize
-    requires { end ≤ length text.now }
-    ensures between { IsBetween (chars text.now) result }
-    ensures apart { parts_crlf (take (byte_to_char (chars text.now) result) (chars text.now)) (drop (byte_to_char (chars text.now) result) (chars text.now)) ≡ false }
-    ensures before { result ≤ end }
-{
-    prev_break(text.as_bytes(), end.saturating_sub(NEAR_BYTES))
 }
 
 // The same, found near the end of the text where it is there.
@@ -129,8 +128,8 @@ fn count_last(text: &str, skip: usize, set: LineBreaks) -> (usize, TextInfo)
 // The counts of the first bytes of a text, which have so many line breaks.
 fn count_front(text: &str, bytes: usize, line_breaks: usize, set: LineBreaks) -> TextInfo
     requires between { IsBetween (chars text.now) bytes }
-    requires breaks { line_breaks ≡ break_count set (take (byte_to_char (chars text.now) bytes) (chars text.now)) }
-    ensures { result ≡ info_of set (take (byte_to_char (chars text.now) bytes) (chars text.now)) }
+    requires breaks { line_breaks ≡ break_count set (before_byte (chars text.now) bytes) }
+    ensures { result ≡ info_of set (before_byte (chars text.now) bytes) }
 {
     TextInfo {
         bytes,
@@ -143,9 +142,9 @@ fn count_front(text: &str, bytes: usize, line_breaks: usize, set: LineBreaks) ->
 // What `count_last` answers of a text's front. What follows it helps to count, since whole blocks are counted at once.
 fn count_last_before(text: &str, end: usize, skip: usize, set: LineBreaks) -> (usize, TextInfo)
     requires between { IsBetween (chars text.now) end }
-    requires apart { parts_crlf (take (byte_to_char (chars text.now) end) (chars text.now)) (drop (byte_to_char (chars text.now) end) (chars text.now)) ≡ false }
-    ensures start { result.0 ≡ byte_len (take (last_start set (take (byte_to_char (chars text.now) end) (chars text.now)) skip) (take (byte_to_char (chars text.now) end) (chars text.now))) }
-    ensures counts { result.1 ≡ info_of set (drop (last_start set (take (byte_to_char (chars text.now) end) (chars text.now)) skip) (take (byte_to_char (chars text.now) end) (chars text.now))) }
+    requires apart { parts_crlf (before_byte (chars text.now) end) (after_byte (chars text.now) end) ≡ false }
+    ensures start { result.0 ≡ byte_len (take (last_start set (before_byte (chars text.now) end) skip) (before_byte (chars text.now) end)) }
+    ensures counts { result.1 ≡ info_of set (drop (last_start set (before_byte (chars text.now) end) skip) (before_byte (chars text.now) end)) }
 {
     let _ = byte_len_of(text);
     let cut = cut_before(text, end);
@@ -216,6 +215,7 @@ impl<'a> Gap<'a> {
         self.inside = inside;
         first.plus(more)
     }
+
     /// Goes back past so many line breaks, and on to the end of the one before, or to the start. Answers the counts of what it
     /// passed. It is in no CR LF.
     pub fn pass_line_back(&mut self, skip: usize, set: LineBreaks) -> TextInfo

@@ -18,7 +18,7 @@ use Rattle.rope_text.proofs.BreakLaws.{break_count-append, joins_break}
 use Rattle.rope_text.proofs.SliceLaws.{char_to_line_early, line_start-drop, line_start-take, break_count-take}
 use Rattle.rope_text.proofs.JoinLaws.{line_start-append_left, line_start-append_right}
 
-never : (x : Bool) → (x && false) ≡ false
+pub never : (x : Bool) → (x && false) ≡ false
 never true = refl
 never false = refl
 
