@@ -3,6 +3,7 @@
 #![tactic(auto)]
 
 pub mod compare;
+pub mod items;
 pub mod numbers;
 pub mod places;
 pub mod plain_text;

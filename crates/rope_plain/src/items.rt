@@ -1,0 +1,42 @@
+//! What cursors give in all, item by item.
+use ropey::iter::{Bytes, Chars, Chunks, Lines};
+
+/// The bytes of all chunks that a cursor still gives.
+pub fn bytes_of_chunks(chunks: Chunks<'_>) -> usize {
+    let mut bytes: usize = 0;
+    for chunk in chunks {
+        bytes = bytes.saturating_add(chunk.len());
+    }
+    bytes
+}
+
+/// The bytes of all lines that a cursor still gives.
+pub fn bytes_of_lines(lines: Lines<'_>) -> usize {
+    let mut bytes: usize = 0;
+    for line in lines {
+        bytes = bytes.saturating_add(line.len_bytes());
+    }
+    bytes
+}
+
+/// How many of the bytes that a cursor still gives are this one.
+pub fn count_byte(bytes: Bytes<'_>, wanted: u8) -> usize {
+    let mut count: usize = 0;
+    for byte in bytes {
+        if byte == wanted {
+            count = count.saturating_add(1);
+        }
+    }
+    count
+}
+
+/// How many of the characters that a cursor still gives are this one.
+pub fn count_char(chars: Chars<'_>, wanted: char) -> usize {
+    let mut count: usize = 0;
+    for c in chars {
+        if c == wanted {
+            count = count.saturating_add(1);
+        }
+    }
+    count
+}
