@@ -48,7 +48,8 @@ pub fn line<'a>(part: &Part<'a>, line_idx: usize) -> Part<'a>
     ensures { content_of result ≡ line_of (content_of part.now) line_idx }
 {
     let _ = part.len_lines();
-    part.char_range(part.line_to_char(line_idx), part.line_to_char(line_idx + 1))
+    let start = part.before_line(line_idx);
+    between(part, start, part.before_line(line_idx + 1))
 }
 
 impl<'a> Lines<'a> {
@@ -58,11 +59,11 @@ impl<'a> Lines<'a> {
         ensures { result ≡ at_place (lines_of (content_of part.now)) line_idx }
     {
         let _ = part.info();
-        let start = part.line_to_char(line_idx);
+        let before = part.before_line(line_idx);
         Lines {
             part: *part,
-            gap: Gap::at(part, start),
-            before: part.char_range(0, start).info(),
+            gap: Gap::at(part, before.chars),
+            before,
             line: line_idx,
             total: part.len_lines(),
             is_backward: false,

@@ -1,19 +1,23 @@
 -- The counts up to a place, from the leaf that holds it.
-use Rattle.std.proofs.Common.{◌≡◌, ℕ, zero, suc, ◌+◌, ◌-◌, ◌<◌, Bool, true, false, ◌&&◌, List, [], ◌∷◌, ◌++◌, length, take, drop, refl, sym, ap, ◌∙◌, arith}
+use Rattle.std.proofs.Common.{◌≡◌, ℕ, zero, suc, ◌+◌, ◌-◌, ◌<◌, ◌≤◌, Bool, true, false, ◌&&◌, List, [], ◌∷◌, ◌++◌, length, take, drop, refl, sym, ap, ◌∙◌, arith}
 use Rattle.std.specs.List.{concat}
 use Rattle.std.proofs.lemmas.List.{take-append-drop, length-take-le, append_cancel_left, length-append}
 use Rattle.rope_text.specs.declared.text_info.TextInfo.{TextInfo}
 use Rattle.rope_text.specs.Text.{surrogate_count}
 use Rattle.rope_text.specs.TextInfo.{info_of}
-use Rattle.rope_text.specs.Breaks.{ends_in_cr}
+use Rattle.rope_text.specs.Breaks.{ends_in_cr, break_count}
+use Rattle.rope_text.specs.Lines.{line_start}
 use Rattle.rope_text.specs.Cutting.{parts_crlf}
-use Rattle.rope_text.specs.Conversions.{char_to_byte, char_to_line}
+use Rattle.rope_text.specs.Conversions.{char_to_byte, char_to_line, line_to_byte}
 use Rattle.rope_text.proofs.CuttingLaws.{concat-append}
 use Rattle.rope_text.proofs.ChunkLaws.{before, after, KeepsCrlf_before}
-use Rattle.rope_tree.specs.declared.search.Unit.TheVariants.{Char}
+use Rattle.rope_text.proofs.InfoLaws.{surrogate_count-append}
+use Rattle.rope_text.proofs.LineLaws.{line_start-le-length}
+use Rattle.rope_text.proofs.LineSeams.{break_count-front}
+use Rattle.rope_tree.specs.declared.search.Unit.TheVariants.{Char, LineBreak}
 use Rattle.rope_tree.specs.Tree.{Tree, text, IsTree}
 use Rattle.rope_tree.specs.Found.{IsFound}
-use Rattle.rope_tree.proofs.FoundLaws.{lies_at, front_in, found_char, found_char_to_byte, found_char_to_utf16, found_char_to_line}
+use Rattle.rope_tree.proofs.FoundLaws.{lies_at, front_in, found_char, found_char_to_byte, found_char_to_utf16, found_char_to_line, found_line_start, found_line_to_byte}
 use Rattle.rope_tree.proofs.LeafLaws.{nonempty_leaves}
 use Rattle.rope_part.specs.Edge.{start_info, end_info}
 use Rattle.rope_part.proofs.Measured.{same_info}
@@ -56,3 +60,29 @@ module _ (i : ℕ) (t : Tree) (leaf : List ℕ) (front : TextInfo) (tree : IsTre
       let at = lies_at Char i t leaf front f in
       let within = (found_char i t leaf front f).0 in
       e ∙ ap (info_of t.breaks) (sym (front_in i t leaf front tree f.index at f.not_past (omega (arith, f.not_past))))
+
+-- the counts before a line that starts behind a break of the leaf
+module _ (line : ℕ) (t : Tree) (leaf : List ℕ) (front : TextInfo) (tree : IsTree t) (f : IsFound LineBreak (line - 1) t leaf front) (later : 0 < line) (within : line ≤ break_count t.breaks (text t)) where
+  pub line_front : take (line_start t.breaks (text t) line) (text t) ≡ before t.leaves f.index ++ take (line_start t.breaks leaf (line - front.line_breaks)) leaf
+  line_front =
+      let at = lies_at LineBreak (line - 1) t leaf front f in
+      let k : ℕ = line_start t.breaks leaf (line - front.line_breaks) in
+      let short = line_start-le-length t.breaks leaf (line - front.line_breaks) in
+      let back : (front.chars + k) - front.chars ≡ k = omega arith in
+      ap (λ n. take n (text t)) (found_line_start (line - 1) line t leaf front tree f (omega arith))
+      ∙ front_in (front.chars + k) t leaf front tree f.index at (omega arith) (omega arith)
+      ∙ ap (λ n. before t.leaves f.index ++ take n leaf) back
+
+  pub line_found : (bytes chars pairs : ℕ) → bytes ≡ line_to_byte t.breaks leaf (line - front.line_breaks)
+      → chars ≡ length (take (line_start t.breaks leaf (line - front.line_breaks)) leaf)
+      → pairs ≡ surrogate_count (take (line_start t.breaks leaf (line - front.line_breaks)) leaf)
+      → record { bytes = front.bytes + bytes; chars = front.chars + chars; utf16_surrogates = front.utf16_surrogates + pairs; line_breaks = line } ≡ info_of t.breaks (take (line_start t.breaks (text t) line) (text t))
+  line_found bytes chars pairs b n p =
+      let at = lies_at LineBreak (line - 1) t leaf front f in
+      let here : List ℕ = take (line_start t.breaks leaf (line - front.line_breaks)) leaf in
+      same_info (record { bytes = front.bytes + bytes; chars = front.chars + chars; utf16_surrogates = front.utf16_surrogates + pairs; line_breaks = line })
+      (info_of t.breaks (take (line_start t.breaks (text t) line) (text t)))
+      (omega (arith, b, found_line_to_byte (line - 1) line t leaf front tree f (omega arith)))
+      (omega (arith, n, ap length line_front, length-append (before t.leaves f.index) here, at.chars))
+      (omega (arith, p, ap surrogate_count line_front, surrogate_count-append (before t.leaves f.index) here, ap (λ x. x.utf16_surrogates) f.before_is))
+      (omega (arith, break_count-front t.breaks (text t) line (omega arith)))

@@ -1,4 +1,5 @@
 pub mod Stretches
+pub mod StretchLines
 pub mod Measured
 pub mod StretchLaws
 pub mod Edges

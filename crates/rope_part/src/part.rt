@@ -1,10 +1,10 @@
 //! A part of a text.
-ghost use Rattle.std.specs.Prelude.{◌≡◌, ◌≤◌, [], length};
+ghost use Rattle.std.specs.Prelude.{◌≡◌, ◌≤◌, [], length, take};
 ghost use Rattle.std.specs.List.{slice_range};
 ghost use Rattle.std.specs.Str.{chars};
 ghost use Rattle.rope_text.specs.Text.{byte_len, utf16_len};
 ghost use Rattle.rope_text.specs.TextInfo.{info_of};
-ghost use Rattle.rope_text.specs.Lines.{line_count};
+ghost use Rattle.rope_text.specs.Lines.{line_start, line_count};
 ghost use Rattle.rope_text.specs.Conversions.{byte_to_char, byte_to_line, char_to_byte, char_to_line, char_to_utf16, line_to_byte, line_to_char, utf16_to_char};
 ghost use Rattle.rope_text.specs.Cutting.{clip, single_chunk};
 ghost use Rattle.rope_text.specs.Edit.{is_char_boundary};
@@ -228,6 +228,17 @@ impl<'a> Part<'a> {
         match self {
             Part::InTree(stretch) => stretch.line_to_byte(line_idx),
             Part::Alone(plain) => str_utils::line_to_byte_with(plain.text, line_idx, plain.breaks),
+        }
+    }
+
+    /// The counts of its text before a line; past the last line those of all of it. One look-up in a rope's text.
+    pub fn before_line(&self, line_idx: usize) -> TextInfo
+        requires { line_idx ≤ line_count (breaks_of self.now) (text_of self.now) }
+        ensures { result ≡ info_of (breaks_of self.now) (take (line_start (breaks_of self.now) (text_of self.now) line_idx) (text_of self.now)) }
+    {
+        match self {
+            Part::InTree(stretch) => stretch.before_line(line_idx),
+            Part::Alone(plain) => plain.before_line(line_idx),
         }
     }
 

@@ -1,12 +1,13 @@
 //! A plain text as a part.
-ghost use Rattle.std.specs.Prelude.{◌≡◌, ◌≤◌, ◌<◌, length, slice_get, Some};
+ghost use Rattle.std.specs.Prelude.{◌≡◌, ◌≤◌, ◌<◌, length, take, slice_get, Some};
 ghost use Rattle.std.specs.List.{slice_range};
 ghost use Rattle.std.specs.Str.{chars, encode_utf8_all};
 ghost use Rattle.rope_text.specs.TextInfo.{info_of};
 ghost use Rattle.rope_text.specs.Text.{byte_len};
+ghost use Rattle.rope_text.specs.Lines.{line_start};
 ghost use Rattle.rope_part.specs.Edge.{IsInfo-prop};
 
-use rope_text::str_utils::char_to_byte_idx;
+use rope_text::str_utils::{char_to_byte_idx, line_to_byte_with};
 use rope_text::{LineBreaks, TextInfo};
 
 /// A plain text, with its counts by a set of line breaks.
@@ -72,6 +73,15 @@ impl<'a> Plain<'a> {
         let rest = &text[char_to_byte_idx(text, start)..];
         let len = char_to_byte_idx(rest, end - start);
         Plain::new(&rest[..len], self.breaks)
+    }
+
+    /// The counts of the text before a line; past the last line those of all of it.
+    pub fn before_line(&self, line_idx: usize) -> TextInfo
+        ensures { result ≡ info_of self.now.breaks (take (line_start self.now.breaks (text_of self.now) line_idx) (text_of self.now)) }
+    {
+        let text = self.as_str();
+        let bytes = line_to_byte_with(text, line_idx, self.breaks);
+        TextInfo::from_str(&text[..bytes], self.breaks)
     }
 
     /// The byte at a place.

@@ -1,15 +1,15 @@
 //! Characters of a tree's text, one at least.
-ghost use Rattle.std.specs.Prelude.{◌≡◌, ◌+◌, ◌≤◌, ◌<◌, length};
+ghost use Rattle.std.specs.Prelude.{◌≡◌, ◌+◌, ◌≤◌, ◌<◌, length, take};
 ghost use Rattle.std.specs.List.{slice_range};
 ghost use Rattle.rope_text.specs.TextInfo.{info_of};
 ghost use Rattle.rope_text.specs.Text.{byte_len, utf16_len};
-ghost use Rattle.rope_text.specs.Lines.{line_count};
+ghost use Rattle.rope_text.specs.Lines.{line_start, line_count};
 ghost use Rattle.rope_text.specs.Conversions.{byte_to_char, byte_to_line, char_to_byte, char_to_line, char_to_utf16, line_to_byte, line_to_char, utf16_to_char};
 ghost use Rattle.rope_text.specs.Cutting.{clip};
 ghost use Rattle.rope_tree.specs.Tree.{text};
 ghost use Rattle.rope_part.specs.Edge.{start_info, end_info, IsStretch, IsStretch-prop};
 
-use crate::edge::{end_at, start_at};
+use crate::edge::{before_line, end_at, start_at};
 use rope_text::{LineBreaks, Steps, TextInfo};
 use rope_tree::conversions;
 use rope_tree::node::Node;
@@ -196,5 +196,21 @@ impl<'a> Stretch<'a> {
         let line = self.start.line_breaks + line_idx;
         let place = conversions::line_to_byte(self.node, line, &mut Steps::new());
         place.min(self.end.bytes) - self.start.bytes
+    }
+
+    /// The counts of its text before a line; past the last line those of all of it.
+    pub fn before_line(&self, line_idx: usize) -> TextInfo
+        requires { line_idx ≤ line_count (breaks_of self.now) (text_of self.now) }
+        ensures { result ≡ info_of (breaks_of self.now) (take (line_start (breaks_of self.now) (text_of self.now) line_idx) (text_of self.now)) }
+    {
+        if line_idx == 0 {
+            return TextInfo::new();
+        }
+        let _ = self.node.height();
+        let place = before_line(self.node, self.start.line_breaks + line_idx);
+        if place.chars >= self.end.chars {
+            return self.info();
+        }
+        place.minus(self.start)
     }
 }

@@ -1,13 +1,22 @@
-use Rattle.std.proofs.Common.{◌+◌, arith}
-use Rattle.rope_text.proofs.LineLaws.{line_start_mono, line_start-le-length}
-use Rattle.rope_part.specs.Part.{text_of, breaks_of}
+use Rattle.rope_part.specs.Part.{content_of}
+use Rattle.std.proofs.Common.{◌∙◌}
+use Rattle.rope_cursor.proofs.LineMoves.{line_from, line_to, line_ordered, line_within, line_apart, line_is}
 use Rattle.rope_cursor.proofs.lines.line.Goals as goal
 
-pub char_range-requires-clause-ordered : goal.char_range-requires-clause-ordered
-char_range-requires-clause-ordered c =
-    rw (c.line_to_char.ensures, c.line_to_char-2.ensures)
-    (line_start_mono (breaks_of c.args.part.now) (text_of c.args.part.now) c.args.line_idx (c.args.line_idx + 1) (omega arith))
+pub between-requires-clause-from_is : goal.between-requires-clause-from_is
+between-requires-clause-from_is c = line_from (content_of c.args.part.now) c.args.line_idx c.requires c.before_line-start.result c.before_line.result c.before_line-start.ensures c.before_line.ensures
 
-pub char_range-requires-clause-within : goal.char_range-requires-clause-within
-char_range-requires-clause-within c =
-    rw c.line_to_char-2.ensures (line_start-le-length (breaks_of c.args.part.now) (text_of c.args.part.now) (c.args.line_idx + 1))
+pub between-requires-clause-to_is : goal.between-requires-clause-to_is
+between-requires-clause-to_is c = line_to (content_of c.args.part.now) c.args.line_idx c.requires c.before_line-start.result c.before_line.result c.before_line-start.ensures c.before_line.ensures
+
+pub between-requires-clause-ordered : goal.between-requires-clause-ordered
+between-requires-clause-ordered c = line_ordered (content_of c.args.part.now) c.args.line_idx c.requires c.before_line-start.result c.before_line.result c.before_line-start.ensures c.before_line.ensures
+
+pub between-requires-clause-within : goal.between-requires-clause-within
+between-requires-clause-within c = line_within (content_of c.args.part.now) c.args.line_idx c.requires c.before_line-start.result c.before_line.result c.before_line-start.ensures c.before_line.ensures
+
+pub between-requires-clause-apart : goal.between-requires-clause-apart
+between-requires-clause-apart c = line_apart (content_of c.args.part.now) c.args.line_idx c.requires c.before_line-start.result c.before_line.result c.before_line-start.ensures c.before_line.ensures
+
+pub returns : goal.returns
+returns c = c.between.ensures ∙ line_is (content_of c.args.part.now) c.args.line_idx c.requires c.before_line-start.result c.before_line.result c.before_line-start.ensures c.before_line.ensures

@@ -1,9 +1,27 @@
+use Rattle.std.proofs.Common.{◌∙◌, ap, take, drop, arith}
+use Rattle.rope_text.specs.Lines.{line_start}
 use Rattle.rope_text.proofs.LineLaws.{line_start-le-length}
 use Rattle.rope_part.specs.Part.{text_of, breaks_of}
+use Rattle.rope_cursor.proofs.LineMoves.{counts_at}
 use Rattle.rope_cursor.proofs.lines.Lines.at.Goals as goal
 
 pub at-requires : goal.at-requires
-at-requires c = rw c.line_to_char-start.ensures (line_start-le-length (breaks_of c.args.part.now) (text_of c.args.part.now) c.args.line_idx)
+at-requires c =
+    let set = breaks_of c.args.part.now in
+    let t = text_of c.args.part.now in
+    let short = line_start-le-length set t c.args.line_idx in
+    rw (counts_at set t (line_start set t c.args.line_idx) c.before_line-before.result short c.before_line-before.ensures).0 short
 
-pub char_range-requires-clause-within : goal.char_range-requires-clause-within
-char_range-requires-clause-within c = rw c.line_to_char-start.ensures (line_start-le-length (breaks_of c.args.part.now) (text_of c.args.part.now) c.args.line_idx)
+pub invariant_of-result : goal.invariant_of-result
+invariant_of-result c =
+    let set = breaks_of c.args.part.now in
+    let t = text_of c.args.part.now in
+    let e = (counts_at set t (line_start set t c.args.line_idx) c.before_line-before.result (line_start-le-length set t c.args.line_idx) c.before_line-before.ensures).0 in
+    record {
+      within = omega (arith, c.len_lines.ensures, c.requires);
+      total_is = c.len_lines.ensures;
+      front_is = c.at.ensures.front ∙ ap (λ n. take n t) e;
+      back_is = c.at.ensures.back ∙ ap (λ n. drop n t) e;
+      before_is = c.before_line-before.ensures;
+      fits = c.info.ensures.kept.fits;
+    }
