@@ -13,6 +13,7 @@ use Rattle.rope_text.specs.LineParts.{part_between, line_of, first_line, last_st
 use Rattle.rope_text.proofs.InfoLaws.{info_of-append_apart}
 use Rattle.rope_text.proofs.LineLaws.{line_start-le-length, line_start_mono}
 use Rattle.rope_text.proofs.LineSeams.{parts_crlf-take, line_start_apart, break_count-front, first_line-drop, last_start-take}
+use Rattle.rope_part.proofs.LeafLines.{next_counts}
 use Rattle.rope_part.proofs.Measured.{same_info}
 use Rattle.rope_part.proofs.Stretches.{front_and_part, part_of_front, length_part}
 use Rattle.rope_cursor.specs.Gap.{Halves}
@@ -51,15 +52,6 @@ module _ (c : Content) (l : ℕ) (within : l < line_count c.breaks c.text) (from
 
   pub line_is : part_between c from.chars to.chars ≡ line_of c l
   line_is = ap (λ n. part_between c n to.chars) start_chars ∙ ap (part_between c (line_start c.breaks c.text l)) end_chars
-
--- the counts up to the next line's start
-next_counts : (set : LineBreaks) (text : List ℕ) (l : ℕ) → l < line_count set text
-    → info_of set (take (line_start set text (l + 1)) text) ≡ info_sum (info_of set (take (line_start set text l) text)) (info_of set (slice_range text (line_start set text l) (line_start set text (l + 1))))
-next_counts set text l within =
-    let s : ℕ = line_start set text l in
-    let e : ℕ = line_start set text (l + 1) in
-    ap (info_of set) (sym (front_and_part text s e (line_start_mono set text l (l + 1) (omega arith))))
-    ∙ info_of-append_apart set (take s text) (slice_range text s e) (parts_crlf-take (take s text) (drop s text) (e - s) (line_start_apart set text l))
 
 -- a step forward
 module _ (c : Content) (h new : Halves) (before passed : TextInfo) (l total : ℕ) (set : LineBreaks) (s : IsLineStart c h before l total) (less : l < total) (same : set ≡ c.breaks)

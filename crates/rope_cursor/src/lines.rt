@@ -47,9 +47,8 @@ pub fn line<'a>(part: &Part<'a>, line_idx: usize) -> Part<'a>
     requires { line_idx < line_count (breaks_of part.now) (text_of part.now) }
     ensures { content_of result ≡ line_of (content_of part.now) line_idx }
 {
-    let _ = part.len_lines();
-    let start = part.before_line(line_idx);
-    between(part, start, part.before_line(line_idx + 1))
+    let (start, end) = part.around_line(line_idx);
+    between(part, start, end)
 }
 
 impl<'a> Lines<'a> {

@@ -1,7 +1,8 @@
 -- The counts up to a place, from the leaf that holds it.
 use Rattle.std.proofs.Common.{◌≡◌, ℕ, zero, suc, ◌+◌, ◌-◌, ◌<◌, ◌≤◌, Bool, true, false, ◌&&◌, List, [], ◌∷◌, ◌++◌, length, take, drop, refl, sym, ap, ◌∙◌, arith}
 use Rattle.std.specs.List.{concat}
-use Rattle.std.proofs.lemmas.List.{take-append-drop, length-take-le, append_cancel_left, length-append}
+use Rattle.std.proofs.lemmas.List.{take-append-drop, length-take-le, append_cancel_left, length-append, drop-append-le}
+use Rattle.std.proofs.Math.Seq.{drop-append-add}
 use Rattle.rope_text.specs.declared.text_info.TextInfo.{TextInfo}
 use Rattle.rope_text.specs.Text.{surrogate_count}
 use Rattle.rope_text.specs.TextInfo.{info_of}
@@ -9,8 +10,8 @@ use Rattle.rope_text.specs.Breaks.{ends_in_cr, break_count}
 use Rattle.rope_text.specs.Lines.{line_start}
 use Rattle.rope_text.specs.Cutting.{parts_crlf}
 use Rattle.rope_text.specs.Conversions.{char_to_byte, char_to_line, line_to_byte}
-use Rattle.rope_text.proofs.CuttingLaws.{concat-append}
-use Rattle.rope_text.proofs.ChunkLaws.{before, after, KeepsCrlf_before}
+use Rattle.rope_text.proofs.CuttingLaws.{concat-append, parts_crlf-append}
+use Rattle.rope_text.proofs.ChunkLaws.{before, after, KeepsCrlf_before, KeepsCrlf_at}
 use Rattle.rope_text.proofs.InfoLaws.{surrogate_count-append}
 use Rattle.rope_text.proofs.LineLaws.{line_start-le-length}
 use Rattle.rope_text.proofs.LineSeams.{break_count-front}
@@ -19,7 +20,7 @@ use Rattle.rope_tree.specs.Tree.{Tree, text, IsTree}
 use Rattle.rope_tree.specs.Found.{IsFound}
 use Rattle.rope_tree.proofs.FoundLaws.{lies_at, front_in, found_char, found_char_to_byte, found_char_to_utf16, found_char_to_line, found_line_start, found_line_to_byte}
 use Rattle.rope_tree.proofs.LeafLaws.{nonempty_leaves}
-use Rattle.rope_part.specs.Edge.{start_info, end_info}
+use Rattle.rope_part.specs.Edge.{start_info, end_info, IsLeafFrom}
 use Rattle.rope_part.proofs.Measured.{same_info}
 
 front_apart : (s leaf rest : List ℕ) (k : ℕ) → 0 < length leaf → parts_crlf s (leaf ++ rest) ≡ false → parts_crlf s (take k leaf) ≡ false
@@ -30,6 +31,10 @@ front_apart s (c ∷ leaf) rest zero some apart = never (ends_in_cr s)
     never true = refl
     never false = refl
 front_apart s (c ∷ leaf) rest (suc k) some apart = apart
+
+back_apart : (s t rest : List ℕ) → parts_crlf (s ++ t) rest ≡ false → 0 < length t → parts_crlf t rest ≡ false
+back_apart s [] rest apart some = absurd (omega arith)
+back_apart s (c ∷ t) rest apart some = sym (parts_crlf-append s c t rest) ∙ apart
 
 module _ (i : ℕ) (t : Tree) (leaf : List ℕ) (front : TextInfo) (tree : IsTree t) (f : IsFound Char i t leaf front) where
   pub start_found : (bytes pairs lines : ℕ) → bytes ≡ char_to_byte leaf (i - front.chars) → pairs ≡ surrogate_count (take (i - front.chars) leaf) → lines ≡ char_to_line t.breaks leaf (i - front.chars)
@@ -86,3 +91,17 @@ module _ (line : ℕ) (t : Tree) (leaf : List ℕ) (front : TextInfo) (tree : Is
       (omega (arith, n, ap length line_front, length-append (before t.leaves f.index) here, at.chars))
       (omega (arith, p, ap surrogate_count line_front, surrogate_count-append (before t.leaves f.index) here, ap (λ x. x.utf16_surrogates) f.before_is))
       (omega (arith, break_count-front t.breaks (text t) line (omega arith)))
+
+  pub line_rest : IsLeafFrom t (line_start t.breaks (text t) line) (drop (line_start t.breaks leaf (line - front.line_breaks)) leaf)
+  line_rest =
+      let at = lies_at LineBreak (line - 1) t leaf front f in
+      let k : ℕ = line_start t.breaks leaf (line - front.line_breaks) in
+      let short = line_start-le-length t.breaks leaf (line - front.line_breaks) in
+      let next = after t.leaves f.index in
+      let seam : parts_crlf leaf next ≡ false = ap (λ s. parts_crlf s next) (sym at.leaf_is) ∙ KeepsCrlf_at t.leaves f.index f.within tree.leaves.whole in
+      record {
+        more = next;
+        text_is = ap (λ n. drop n (text t)) (found_line_start (line - 1) line t leaf front tree f (omega arith) ∙ ap (λ n. n + k) (sym at.chars))
+            ∙ ap (drop (length (before t.leaves f.index) + k)) at.around ∙ drop-append-add (before t.leaves f.index) (leaf ++ next) k ∙ drop-append-le k leaf next short;
+        apart = back_apart (take k leaf) (drop k leaf) next (ap (λ s. parts_crlf s next) (take-append-drop k leaf) ∙ seam);
+      }

@@ -1,5 +1,6 @@
 pub mod Stretches
 pub mod StretchLines
+pub mod LeafLines
 pub mod Measured
 pub mod StretchLaws
 pub mod Edges

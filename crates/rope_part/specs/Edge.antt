@@ -1,11 +1,13 @@
 -- The counts of a text up to the two ends of a part.
-use Rattle.std.specs.Prelude.{◌≡◌, ℕ, ◌≤◌, ◌<◌, List, length, take}
+use Rattle.std.specs.Prelude.{◌≡◌, ℕ, ◌≤◌, ◌<◌, List, ◌++◌, length, take, drop, false}
 use Rattle.std.proofs.Props.{props}
 use Rattle.rope_text.specs.declared.line_breaks.LineBreaks.{LineBreaks}
 use Rattle.rope_text.specs.declared.text_info.TextInfo.{TextInfo}
 use Rattle.rope_text.specs.Text.{byte_len, surrogate_count}
 use Rattle.rope_text.specs.TextInfo.{info_of}
 use Rattle.rope_text.specs.Conversions.{char_to_line}
+use Rattle.rope_text.specs.Cutting.{parts_crlf}
+use Rattle.rope_tree.specs.Tree.{Tree, text}
 
 -- the counts of the text before a part's start. Its breaks are those that end there or before: the CR of a CR LF that the
 -- start lies in is none of them, since the LF is a break of the part
@@ -35,3 +37,9 @@ IsStretch-prop set text start end = hlevel props
 
 pub IsInfo-prop : (set : LineBreaks) (text : List ℕ) (info : TextInfo) → IsProp (info ≡ info_of set text)
 IsInfo-prop set text info = hlevel props
+
+-- the end of a leaf, from a character of the text on: what follows it follows it in the text, and parts no CR LF from it
+pub record IsLeafFrom (t : Tree) (i : ℕ) (rest : List ℕ) : Type 0 where
+  pub more : List ℕ
+  pub text_is : drop i (text t) ≡ rest ++ more
+  pub apart : 0 < length rest → parts_crlf rest more ≡ false

@@ -1,14 +1,17 @@
 //! The counts of a tree's text up to a place: one way down to the leaf that holds it.
-ghost use Rattle.std.specs.Prelude.{◌≡◌, ◌<◌, ◌≤◌, length, take};
+ghost use Rattle.std.specs.Prelude.{◌≡◌, ◌<◌, ◌≤◌, ◌+◌, length, take, IfSome};
 ghost use Rattle.rope_text.specs.TextInfo.{info_of};
+ghost use Rattle.rope_text.specs.Breaks.{break_count};
 ghost use Rattle.rope_text.specs.Lines.{line_start, line_count};
+ghost use Rattle.rope_text.specs.LineParts.{first_line};
+ghost use Rattle.std.specs.Str.{chars};
 ghost use Rattle.rope_tree.specs.Tree.{text};
-ghost use Rattle.rope_part.specs.Edge.{start_info, end_info};
+ghost use Rattle.rope_part.specs.Edge.{start_info, end_info, IsLeafFrom};
 
 use rope_text::str_utils::{
     char_to_byte_idx, char_to_line_with, count_chars, count_surrogates, line_to_byte_with,
 };
-use rope_text::{Steps, TextInfo};
+use rope_text::{LineBreaks, Steps, TextInfo};
 use rope_tree::lookup::leaf_at;
 use rope_tree::node::Node;
 use rope_tree::search::Unit;
@@ -48,26 +51,79 @@ pub fn end_at(node: &Node, char_idx: usize) -> TextInfo
     found.before.plus(front)
 }
 
+// A line's start, in the leaf where the break before it ends.
+#[derive(Drop)]
+struct LineStart<'a> {
+    // the counts of the text before it
+    before: TextInfo,
+    // the leaf from there on
+    rest: &'a str,
+}
+
+// The start of a line that is not the first.
+fn line_start_at<'a>(node: &'a Node, line_idx: usize) -> LineStart<'a>
+    requires later { 0 < line_idx }
+    requires within { line_idx < line_count node.now.breaks (text node.now) }
+    ensures before { result.before ≡ info_of node.now.breaks (take (line_start node.now.breaks (text node.now) line_idx) (text node.now)) }
+    ensures rest { IsLeafFrom node.now (line_start node.now.breaks (text node.now) line_idx) (chars result.rest.now) }
+{
+    let _ = node.height();
+    let _ = node.info();
+    let found = leaf_at(node, Unit::LineBreak, line_idx - 1, &mut Steps::new());
+    let leaf = found.leaf.as_str();
+    let line = line_idx - found.before.line_breaks;
+    let bytes = line_to_byte_with(leaf, line, node.line_breaks());
+    let front = &leaf[..bytes];
+    let before = TextInfo {
+        bytes: found.before.bytes + bytes,
+        chars: found.before.chars + count_chars(front),
+        utf16_surrogates: found.before.utf16_surrogates + count_surrogates(front),
+        line_breaks: line_idx,
+    };
+    LineStart {
+        before,
+        rest: &leaf[bytes..],
+    }
+}
+
 /// The counts of the text before a line that is not the first; past the last line those of all the text.
 pub fn before_line(node: &Node, line_idx: usize) -> TextInfo
     requires later { 0 < line_idx }
     requires within { line_idx ≤ line_count node.now.breaks (text node.now) }
     ensures { result ≡ info_of node.now.breaks (take (line_start node.now.breaks (text node.now) line_idx) (text node.now)) }
 {
-    let _ = node.height();
     let info = node.info();
     if line_idx > info.line_breaks {
         return info;
     }
-    let found = leaf_at(node, Unit::LineBreak, line_idx - 1, &mut Steps::new());
-    let leaf = found.leaf.as_str();
-    let line = line_idx - found.before.line_breaks;
-    let bytes = line_to_byte_with(leaf, line, node.line_breaks());
-    let front = &leaf[..bytes];
-    TextInfo {
-        bytes: found.before.bytes + bytes,
-        chars: found.before.chars + count_chars(front),
-        utf16_surrogates: found.before.utf16_surrogates + count_surrogates(front),
-        line_breaks: line_idx,
+    let start = line_start_at(node, line_idx);
+    start.before
+}
+
+// The counts of a text's first line, where it ends before the text does.
+fn first_line_info(text: &str, set: LineBreaks) -> Option<TextInfo>
+    ensures { IfSome result (λ info. (0 < break_count set (chars text.now)) × (info ≡ info_of set (first_line set (chars text.now)))) }
+{
+    let bytes = line_to_byte_with(text, 1, set);
+    if bytes == text.len() {
+        return None;
+    }
+    Some(TextInfo::from_str(&text[..bytes], set))
+}
+
+/// The counts of the text before a line that is not the first, and before the next one. It is one look-up where the line
+/// ends before the leaf does.
+pub fn around_line(node: &Node, line_idx: usize) -> (TextInfo, TextInfo)
+    requires later { 0 < line_idx }
+    requires within { line_idx < line_count node.now.breaks (text node.now) }
+    ensures start { result.0 ≡ info_of node.now.breaks (take (line_start node.now.breaks (text node.now) line_idx) (text node.now)) }
+    ensures end { result.1 ≡ info_of node.now.breaks (take (line_start node.now.breaks (text node.now) (line_idx + 1)) (text node.now)) }
+{
+    let _ = node.height();
+    let _ = node.info();
+    let start = line_start_at(node, line_idx);
+    match first_line_info(start.rest, node.line_breaks()) {
+        Some(line) => (start.before, start.before.plus(line)),
+        None => (start.before, before_line(node, line_idx + 1)),
     }
 }

@@ -1,5 +1,5 @@
 //! A part of a text.
-ghost use Rattle.std.specs.Prelude.{◌≡◌, ◌≤◌, [], length, take};
+ghost use Rattle.std.specs.Prelude.{◌≡◌, ◌≤◌, ◌<◌, ◌+◌, [], length, take};
 ghost use Rattle.std.specs.List.{slice_range};
 ghost use Rattle.std.specs.Str.{chars};
 ghost use Rattle.rope_text.specs.Text.{byte_len, utf16_len};
@@ -239,6 +239,20 @@ impl<'a> Part<'a> {
         match self {
             Part::InTree(stretch) => stretch.before_line(line_idx),
             Part::Alone(plain) => plain.before_line(line_idx),
+        }
+    }
+
+    /// The counts of its text before a line, and before the next one; past the last line those of all of it. One look-up in a
+    /// rope's text where the line lies in one chunk, and doesn't end it.
+    pub fn around_line(&self, line_idx: usize) -> (TextInfo, TextInfo)
+        requires { line_idx < line_count (breaks_of self.now) (text_of self.now) }
+        ensures start { result.0 ≡ info_of (breaks_of self.now) (take (line_start (breaks_of self.now) (text_of self.now) line_idx) (text_of self.now)) }
+        ensures end { result.1 ≡ info_of (breaks_of self.now) (take (line_start (breaks_of self.now) (text_of self.now) (line_idx + 1)) (text_of self.now)) }
+    {
+        let _ = self.info();
+        match self {
+            Part::InTree(stretch) => stretch.around_line(line_idx),
+            Part::Alone(plain) => (plain.before_line(line_idx), plain.before_line(line_idx + 1)),
         }
     }
 

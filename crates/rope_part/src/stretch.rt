@@ -1,5 +1,5 @@
 //! Characters of a tree's text, one at least.
-ghost use Rattle.std.specs.Prelude.{◌≡◌, ◌+◌, ◌≤◌, ◌<◌, length, take};
+ghost use Rattle.std.specs.Prelude.{◌≡◌, ◌+◌, ◌-◌, ◌≤◌, ◌<◌, length, take};
 ghost use Rattle.std.specs.List.{slice_range};
 ghost use Rattle.rope_text.specs.TextInfo.{info_of};
 ghost use Rattle.rope_text.specs.Text.{byte_len, utf16_len};
@@ -9,7 +9,7 @@ ghost use Rattle.rope_text.specs.Cutting.{clip};
 ghost use Rattle.rope_tree.specs.Tree.{text};
 ghost use Rattle.rope_part.specs.Edge.{start_info, end_info, IsStretch, IsStretch-prop};
 
-use crate::edge::{before_line, end_at, start_at};
+use crate::edge::{around_line, before_line, end_at, start_at};
 use rope_text::{LineBreaks, Steps, TextInfo};
 use rope_tree::conversions;
 use rope_tree::node::Node;
@@ -198,6 +198,19 @@ impl<'a> Stretch<'a> {
         place.min(self.end.bytes) - self.start.bytes
     }
 
+    // The counts of its text up to a place of the tree's text behind its start; past its end those of all of it.
+    fn counts_to(&self, place: TextInfo) -> TextInfo
+        requires later { self.now.start.chars < place.chars }
+        requires within { place.chars ≤ length (text self.now.node.now) }
+        requires counts { place ≡ end_info (breaks_of self.now) (text self.now.node.now) place.chars }
+        ensures { result ≡ info_of (breaks_of self.now) (take (place.chars - self.now.start.chars) (text_of self.now)) }
+    {
+        if place.chars >= self.end.chars {
+            return self.info();
+        }
+        place.minus(self.start)
+    }
+
     /// The counts of its text before a line; past the last line those of all of it.
     pub fn before_line(&self, line_idx: usize) -> TextInfo
         requires { line_idx ≤ line_count (breaks_of self.now) (text_of self.now) }
@@ -207,10 +220,20 @@ impl<'a> Stretch<'a> {
             return TextInfo::new();
         }
         let _ = self.node.height();
-        let place = before_line(self.node, self.start.line_breaks + line_idx);
-        if place.chars >= self.end.chars {
-            return self.info();
+        self.counts_to(before_line(self.node, self.start.line_breaks + line_idx))
+    }
+
+    /// The counts of its text before a line, and before the next one; past the last line those of all of it.
+    pub fn around_line(&self, line_idx: usize) -> (TextInfo, TextInfo)
+        requires { line_idx < line_count (breaks_of self.now) (text_of self.now) }
+        ensures start { result.0 ≡ info_of (breaks_of self.now) (take (line_start (breaks_of self.now) (text_of self.now) line_idx) (text_of self.now)) }
+        ensures end { result.1 ≡ info_of (breaks_of self.now) (take (line_start (breaks_of self.now) (text_of self.now) (line_idx + 1)) (text_of self.now)) }
+    {
+        if line_idx == 0 {
+            return (TextInfo::new(), self.before_line(1));
         }
-        place.minus(self.start)
+        let _ = self.node.height();
+        let (start, end) = around_line(self.node, self.start.line_breaks + line_idx);
+        (self.counts_to(start), self.counts_to(end))
     }
 }

@@ -4,19 +4,19 @@ use Rattle.rope_cursor.proofs.LineMoves.{line_from, line_to, line_ordered, line_
 use Rattle.rope_cursor.proofs.lines.line.Goals as goal
 
 pub between-requires-clause-from_is : goal.between-requires-clause-from_is
-between-requires-clause-from_is c = line_from (content_of c.args.part.now) c.args.line_idx c.requires c.before_line-start.result c.before_line.result c.before_line-start.ensures c.before_line.ensures
+between-requires-clause-from_is c = line_from (content_of c.args.part.now) c.args.line_idx c.requires c.around_line.result.0 c.around_line.result.1 c.around_line.ensures.start c.around_line.ensures.end
 
 pub between-requires-clause-to_is : goal.between-requires-clause-to_is
-between-requires-clause-to_is c = line_to (content_of c.args.part.now) c.args.line_idx c.requires c.before_line-start.result c.before_line.result c.before_line-start.ensures c.before_line.ensures
+between-requires-clause-to_is c = line_to (content_of c.args.part.now) c.args.line_idx c.requires c.around_line.result.0 c.around_line.result.1 c.around_line.ensures.start c.around_line.ensures.end
 
 pub between-requires-clause-ordered : goal.between-requires-clause-ordered
-between-requires-clause-ordered c = line_ordered (content_of c.args.part.now) c.args.line_idx c.requires c.before_line-start.result c.before_line.result c.before_line-start.ensures c.before_line.ensures
+between-requires-clause-ordered c = line_ordered (content_of c.args.part.now) c.args.line_idx c.requires c.around_line.result.0 c.around_line.result.1 c.around_line.ensures.start c.around_line.ensures.end
 
 pub between-requires-clause-within : goal.between-requires-clause-within
-between-requires-clause-within c = line_within (content_of c.args.part.now) c.args.line_idx c.requires c.before_line-start.result c.before_line.result c.before_line-start.ensures c.before_line.ensures
+between-requires-clause-within c = line_within (content_of c.args.part.now) c.args.line_idx c.requires c.around_line.result.0 c.around_line.result.1 c.around_line.ensures.start c.around_line.ensures.end
 
 pub between-requires-clause-apart : goal.between-requires-clause-apart
-between-requires-clause-apart c = line_apart (content_of c.args.part.now) c.args.line_idx c.requires c.before_line-start.result c.before_line.result c.before_line-start.ensures c.before_line.ensures
+between-requires-clause-apart c = line_apart (content_of c.args.part.now) c.args.line_idx c.requires c.around_line.result.0 c.around_line.result.1 c.around_line.ensures.start c.around_line.ensures.end
 
 pub returns : goal.returns
-returns c = c.between.ensures ∙ line_is (content_of c.args.part.now) c.args.line_idx c.requires c.before_line-start.result c.before_line.result c.before_line-start.ensures c.before_line.ensures
+returns c = c.between.ensures ∙ line_is (content_of c.args.part.now) c.args.line_idx c.requires c.around_line.result.0 c.around_line.result.1 c.around_line.ensures.start c.around_line.ensures.end
