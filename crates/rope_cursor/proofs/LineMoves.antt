@@ -10,9 +10,8 @@ use Rattle.rope_text.specs.TextInfo.{info_of, info_sum}
 use Rattle.rope_text.specs.Lines.{line_start, line_count}
 use Rattle.rope_text.specs.Cutting.{parts_crlf}
 use Rattle.rope_text.specs.LineParts.{part_between, line_of, first_line, last_start}
-use Rattle.rope_text.proofs.InfoLaws.{info_of-append_apart}
 use Rattle.rope_text.proofs.LineLaws.{line_start-le-length, line_start_mono}
-use Rattle.rope_text.proofs.LineSeams.{parts_crlf-take, line_start_apart, break_count-front, first_line-drop, last_start-take}
+use Rattle.rope_text.proofs.LineSeams.{line_start_apart, break_count-front, first_line-drop, last_start-take}
 use Rattle.rope_part.proofs.LeafLines.{next_counts}
 use Rattle.rope_part.proofs.Measured.{same_info}
 use Rattle.rope_part.proofs.Stretches.{front_and_part, part_of_front, length_part}
