@@ -1,5 +1,5 @@
 //! A place between two characters of a part, which goes from line to line.
-ghost use Rattle.std.specs.Prelude.{◌≡◌, ◌≤◌, ◌++◌, false, length, take, drop};
+ghost use Rattle.std.specs.Prelude.{◌≡◌, ◌≤◌, ◌++◌, false, length, take, drop, IfSome};
 ghost use Rattle.rope_text.specs.Cutting.{parts_crlf};
 ghost use Rattle.std.specs.List.{concat};
 ghost use Rattle.std.specs.Str.{chars};
@@ -83,14 +83,14 @@ fn pass_chunks(span: &mut Span<'_>, set: LineBreaks) -> (usize, TextInfo)
 // Where the last line of a text is looked for first: so many bytes before its end.
 const NEAR_BYTES: usize = 192;
 
-// A place of a text at or before a byte, some bytes before it, in no CR LF.
-fn cut_before(text: &str, end: usize) -> usize
+// A place of a text at or before a byte, so many bytes before it or more, in no CR LF.
+fn cut_before(text: &str, end: usize, near: usize) -> usize
     requires { end ≤ length text.now }
     ensures between { IsBetween (chars text.now) result }
     ensures apart { parts_crlf (before_byte (chars text.now) result) (after_byte (chars text.now) result) ≡ false }
     ensures before { result ≤ end }
 {
-    prev_break(text.as_bytes(), end.saturating_sub(NEAR_BYTES))
+    prev_break(text.as_bytes(), end.saturating_sub(near))
 }
 
 // The byte at which the last line of a text starts, or the one so many line breaks before it, and the counts from there on.
@@ -117,7 +117,7 @@ fn count_last(text: &str, skip: usize, set: LineBreaks) -> (usize, TextInfo)
     ensures counts { result.1 ≡ info_of set (drop (last_start set (chars text.now) skip) (chars text.now)) }
 {
     let _ = byte_len_of(text);
-    let cut = cut_before(text, text.len());
+    let cut = cut_before(text, text.len(), NEAR_BYTES);
     let (start, last) = count_last_of_all(text_after(text, cut), skip, set);
     if start > 0 {
         return (cut + start, last);
@@ -139,24 +139,53 @@ fn count_front(text: &str, bytes: usize, line_breaks: usize, set: LineBreaks) ->
     }
 }
 
-// What `count_last` answers of a text's front. What follows it helps to count, since whole blocks are counted at once.
-fn count_last_before(text: &str, end: usize, skip: usize, set: LineBreaks) -> (usize, TextInfo)
+// What `count_last` answers of a text's front, where it is found in the bytes near the front's end. What follows the front
+// helps to count, since whole blocks are counted at once.
+fn find_last(
+    text: &str,
+    end: usize,
+    near: usize,
+    skip: usize,
+    set: LineBreaks,
+) -> Option<(usize, TextInfo)>
     requires between { IsBetween (chars text.now) end }
     requires apart { parts_crlf (before_byte (chars text.now) end) (after_byte (chars text.now) end) ≡ false }
-    ensures start { result.0 ≡ byte_len (take (last_start set (before_byte (chars text.now) end) skip) (before_byte (chars text.now) end)) }
-    ensures counts { result.1 ≡ info_of set (drop (last_start set (before_byte (chars text.now) end) skip) (before_byte (chars text.now) end)) }
+    ensures start { IfSome result (λ found. found.0
+        ≡ byte_len (take (last_start set (before_byte (chars text.now) end) skip) (before_byte (chars text.now) end))) }
+    ensures counts { IfSome result (λ found. found.1
+        ≡ info_of set (drop (last_start set (before_byte (chars text.now) end) skip) (before_byte (chars text.now) end))) }
 {
     let _ = byte_len_of(text);
-    let cut = cut_before(text, end);
+    let cut = cut_before(text, end, near);
     let near = text_after(text, cut);
     let len = end - cut;
     let breaks = byte_to_line_with(near, len, set);
     if breaks > skip {
         let start = line_to_byte_with(near, breaks - skip, set);
         let info = count_front(text_after(near, start), len - start, skip, set);
-        return (cut + start, info);
+        return Some((cut + start, info));
     }
-    count_last_of_all(text_before(text, end), skip, set)
+    None
+}
+
+// What `count_last` answers of a text's front. It is looked for near the front's end, and then in four times as many bytes,
+// so a line costs its own length, however long the text is before it.
+fn count_last_before(text: &str, end: usize, skip: usize, set: LineBreaks) -> (usize, TextInfo)
+    requires between { IsBetween (chars text.now) end }
+    requires apart { parts_crlf (before_byte (chars text.now) end) (after_byte (chars text.now) end) ≡ false }
+    ensures start { result.0 ≡ byte_len (take (last_start set (before_byte (chars text.now) end) skip) (before_byte (chars text.now) end)) }
+    ensures counts { result.1 ≡ info_of set (drop (last_start set (before_byte (chars text.now) end) skip) (before_byte (chars text.now) end)) }
+{
+    let mut near = NEAR_BYTES;
+    loop {
+        if let Some(found) = find_last(text, end, near, skip, set) {
+            return found;
+        }
+        if near >= end {
+            return count_last_of_all(text_before(text, end), skip, set);
+        }
+        near = near.saturating_mul(4);
+    }
 }
 
 // From the start of a chunk back to the start of a line: the place in the last chunk, and the counts of what was passed.

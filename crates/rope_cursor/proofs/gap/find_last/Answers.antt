@@ -4,7 +4,7 @@ use Rattle.rope_text.specs.Conversions.{byte_to_char}
 use Rattle.rope_text.proofs.Walks.{byte_len-chars}
 use Rattle.rope_cursor.proofs.Gaps.{size_front}
 use Rattle.rope_cursor.proofs.LineNear.{start_between, start_inside, found_start, found_fits, rest_between, rest_breaks, found_counts}
-use Rattle.rope_cursor.proofs.gap.count_last_before.Goals as goal
+use Rattle.rope_cursor.proofs.gap.find_last.Goals as goal
 
 pub cut_before-cut-requires : goal.cut_before-cut-requires
 cut_before-cut-requires c =
