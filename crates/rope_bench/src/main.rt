@@ -3,6 +3,7 @@
 
 mod asking;
 mod changing;
+mod copying;
 mod counting;
 mod fault;
 mod inserting;

@@ -1,6 +1,7 @@
 //! The workloads by name.
 use crate::asking::{Question, ask};
 use crate::changing::{self, Changes, change};
+use crate::copying;
 use crate::counting::{Counted, count, slice_from_str};
 use crate::fault::Fault;
 use crate::inserting::{self, Inserts, insert};
@@ -16,11 +17,13 @@ use std::time::CpuClock;
 pub enum Workload {
     FromStr,
     BuilderByLines,
+    ToString,
     Insert(Inserts),
     Change(Changes),
     CloneAndInsert,
     Ask(Question),
     Walk(Walk),
+    EqOtherCutting,
     ShrinkToFit,
     Count(Counted),
     SliceFromStr,
@@ -29,9 +32,10 @@ pub enum Workload {
 }
 
 /// Those that are done on each of the two texts, in order.
-pub const OF_TEXTS: [Workload; 36] = [
+pub const OF_TEXTS: [Workload; 38] = [
     Workload::FromStr,
     Workload::BuilderByLines,
+    Workload::ToString,
     Workload::Insert(Inserts::CharsAtRandom),
     Workload::Insert(Inserts::CharsInARow),
     Workload::Insert(Inserts::TextsAtRandom),
@@ -59,6 +63,7 @@ pub const OF_TEXTS: [Workload; 36] = [
     Workload::Change(Changes::Splits),
     Workload::Walk(Walk::SliceAndLine),
     Workload::Walk(Walk::Line),
+    Workload::EqOtherCutting,
     Workload::ShrinkToFit,
     Workload::Count(Counted::Chars),
     Workload::Count(Counted::Breaks(LineBreaks::Unicode)),
@@ -77,11 +82,13 @@ impl Workload {
         match self {
             Workload::FromStr => "from_str",
             Workload::BuilderByLines => "builder_by_lines",
+            Workload::ToString => "to_string",
             Workload::Insert(what) => what.name(),
             Workload::Change(what) => what.name(),
             Workload::CloneAndInsert => "clone_and_insert",
             Workload::Ask(what) => what.name(),
             Workload::Walk(what) => what.name(),
+            Workload::EqOtherCutting => "eq_other_cutting",
             Workload::ShrinkToFit => "shrink_to_fit_100MB",
             Workload::Count(what) => what.name(),
             Workload::SliceFromStr => "slice_from_str_100MB",
@@ -95,11 +102,13 @@ impl Workload {
         match self {
             Workload::FromStr => making::from_str(clock, sample),
             Workload::BuilderByLines => making::builder_by_lines(clock, sample),
+            Workload::ToString => copying::to_string(clock, sample),
             Workload::Insert(what) => insert(clock, sample, what),
             Workload::Change(what) => change(clock, sample, what),
             Workload::CloneAndInsert => changing::clone_and_insert(clock, sample),
             Workload::Ask(what) => ask(clock, sample, what),
             Workload::Walk(what) => go_over(clock, sample, what),
+            Workload::EqOtherCutting => copying::eq_other_cutting(clock, sample),
             Workload::ShrinkToFit => changing::shrink_to_fit(clock, sample),
             Workload::Count(what) => count(clock, sample, what),
             Workload::SliceFromStr => slice_from_str(clock, sample),

@@ -5,7 +5,9 @@
 mod edits;
 mod making;
 mod parts;
+mod reading;
 mod sessions;
+mod texts;
 
 use std::alloc::Global;
 use std::io::Print;
@@ -19,6 +21,8 @@ fn run(rt: &impl Print, alloc: Global) -> Option<usize> {
     let mut faults = edits::run(rt, alloc)?;
     faults = faults.saturating_add(parts::run(rt, alloc)?);
     faults = faults.saturating_add(making::run(rt, alloc)?);
+    faults = faults.saturating_add(texts::run(rt, alloc)?);
+    faults = faults.saturating_add(reading::run(rt, alloc)?);
     sessions::run(rt, alloc)?;
     Some(faults)
 }

@@ -4,12 +4,18 @@
 #[cfg(test)]
 mod builder;
 #[cfg(test)]
+mod comparisons;
+#[cfg(test)]
 mod conversions;
 #[cfg(test)]
 mod counted;
+#[cfg(test)]
+mod hashes;
 #[cfg(test)]
 mod lookups;
 #[cfg(test)]
 mod makers;
 #[cfg(test)]
 mod sets;
+#[cfg(test)]
+mod texts_out;

@@ -1,0 +1,88 @@
+//! Equality and order, which go by the text however it is cut.
+use rope_plain::texts::{padded, repeated};
+use ropey::{LineBreaks, Rope, RopeSlice};
+use std::cmp::Ordering;
+use std::test::Fail;
+
+/// The characters from `start` up to `end`.
+fn part(rope: &Rope, start: usize, end: usize) -> Result<RopeSlice<'_>, Fail> {
+    match rope.get_slice(start..end) {
+        Some(slice) => Ok(slice),
+        None => Err(Fail::from("no characters between these places")),
+    }
+}
+
+#[test]
+fn by_bytes(rt: HostRuntime) -> Result<(), Fail> {
+    let alloc = rt.alloc();
+    let empty = Rope::new(alloc)?;
+    let z = Rope::from_str(alloc, "z")?;
+    let e = Rope::from_str(alloc, "é")?;
+    let ko = Rope::from_str(alloc, "こ")?;
+    let ropes = [&empty, &z, &e, &ko];
+    for (i, left) in ropes.iter().enumerate() {
+        for (k, right) in ropes.iter().enumerate() {
+            assert_eq!(rt; left.cmp(right), i.cmp(&k));
+            assert_eq!(rt; left.partial_cmp(right), Some(i.cmp(&k)));
+            assert_eq!(rt; **left == **right, i == k);
+            assert_eq!(rt; left.slice(..).cmp(&right.slice(..)), i.cmp(&k));
+            assert_eq!(rt; left.slice(..) == right.slice(..), i == k);
+        }
+    }
+    Ok(())
+}
+
+#[test]
+fn of_one_chunk_and_of_two(rt: HostRuntime) -> Result<(), Fail> {
+    let alloc = rt.alloc();
+    let text = padded(alloc, "", 985, "b")?;
+    let rope = Rope::from_str(alloc, text.as_str())?;
+    let two = part(&rope, 983, 985)?;
+    assert_eq!(rt; two.chunks().count(), 2);
+    let one = RopeSlice::from("ab");
+    assert!(rt; one == two && two == one);
+    assert!(rt; one.cmp(&two) == Ordering::Equal);
+    assert!(rt; two.eq_str("ab") && one.eq_str("ab"));
+    for other in ["", "a", "aa", "ac", "abb", "bb"] {
+        let order = "ab".cmp(other);
+        assert!(rt; two != RopeSlice::from(other) && !two.eq_str(other));
+        assert_eq!(rt; two.cmp(&RopeSlice::from(other)), order);
+        assert_eq!(rt; RopeSlice::from(other).cmp(&two), order.reverse());
+    }
+    Ok(())
+}
+
+#[test]
+fn with_seams_at_every_offset(rt: HostRuntime) -> Result<(), Fail> {
+    let alloc = rt.alloc();
+    let text = padded(alloc, "", 2_500, "b")?;
+    let less = padded(alloc, "", 2_500, "a")?;
+    let more = padded(alloc, "", 2_501, "bc")?;
+    let rope = Rope::from_str(alloc, text.as_str())?;
+    let less = Rope::from_str(alloc, less.as_str())?;
+    let more = Rope::from_str(alloc, more.as_str())?;
+    let mut longer = Rope::from_str(alloc, text.as_str())?;
+    for shift in 1..=984 {
+        longer.try_insert_char(0, 'a')?;
+        longer.shrink_to_fit()?;
+        let other = part(&longer, shift, shift + 2_500)?;
+        assert!(rt; other == rope.slice(..) && other.eq_str(text.as_str()));
+        assert!(rt; other.cmp(&rope.slice(..)) == Ordering::Equal);
+        assert!(rt; other != less.slice(..) && other.cmp(&less.slice(..)) == Ordering::Greater);
+        assert!(rt; less.slice(..).cmp(&other) == Ordering::Less);
+        assert!(rt; other != more.slice(..) && other.cmp(&more.slice(..)) == Ordering::Less);
+    }
+    Ok(())
+}
+
+#[test]
+fn by_texts_alone(rt: HostRuntime) -> Result<(), Fail> {
+    let lf = Rope::from_str_with(rt.alloc(), "a\r\nb", LineBreaks::Lf)?;
+    let unicode = Rope::from_str(rt.alloc(), "a\r\nb")?;
+    assert!(rt; lf == unicode && lf.cmp(&unicode) == Ordering::Equal);
+    assert!(rt; lf.eq_str("a\r\nb") && !lf.eq_str("a\r\n") && !lf.eq_str("a\r\nbb"));
+    let long = repeated(rt.alloc(), "こ", 1_000)?;
+    let rope = Rope::from_str(rt.alloc(), long.as_str())?;
+    assert!(rt; rope.eq_str(long.as_str()) && !rope.eq_str(&long.as_str()[3..]));
+    Ok(())
+}
