@@ -1,11 +1,9 @@
 //! Sessions of commands, and lines that are served.
-ghost use Rattle.std.specs.Prelude.{length};
-ghost use Rattle.rope_script.specs.Step.{AsksWhole};
-
 use crate::TRIES;
-use rope_script::{Command, Ended, Query, Reply, Session, serve};
+use rope_script::{At, Command, Ended, Move, Query, Reply, Session, Unit, serve};
 use ropey::{Error, LineBreaks};
 use std::alloc::Global;
+use std::cmp::Ordering;
 use std::io::Print;
 
 const INPUT: &str =
@@ -22,9 +20,7 @@ fn owned(alloc: Global, text: &str) -> Option<String> {
 }
 
 /// Runs one command, again where memory was refused, and answers its reply.
-fn reply_to(alloc: Global, session: &mut Session, command: Command) -> Option<Reply>
-    requires { AsksWhole command }
-{
+fn reply_to(alloc: Global, session: &mut Session, command: Command) -> Option<Reply> {
     let commands = [command];
     for _ in 0..TRIES {
         let mut replies = Vec::new(alloc);
@@ -84,6 +80,95 @@ fn run_commands(rt: &impl Print, alloc: Global) -> Option<()> {
     Some(())
 }
 
+/// Steps of a walk, made again where memory was refused.
+fn moves(alloc: Global) -> Option<Vec<Move>> {
+    for _ in 0..TRIES {
+        let mut moves = Vec::new(alloc);
+        if moves.reserve(4).is_ok() {
+            for step in [Move::Next, Move::Next, Move::Reverse, Move::Next] {
+                if moves.push(step).is_err() {
+                    return None;
+                }
+            }
+            return Some(moves);
+        }
+    }
+    None
+}
+
+/// Commands of which most take memory.
+fn many_commands(alloc: Global) -> Option<[Command; 14]> {
+    Some([
+        Command::Text(owned(alloc, "a\r\nbこ🐸")?),
+        Command::Copy((0, Some((1, 4)))),
+        Command::Insert(1, 0, owned(alloc, "x\n")?),
+        Command::InsertChar(0, 2, 'é'),
+        Command::Ask(0, None, Query::Show),
+        Command::Ask(1, None, Query::Chunks),
+        Command::Ask(0, Some((3, 6)), Query::Line(1)),
+        Command::Ask(0, None, Query::ChunkAt(At::Char, 1)),
+        Command::Ask(1, None, Query::Walk(Unit::Lines, 0, moves(alloc)?)),
+        Command::Ask(0, None, Query::Compare((1, None))),
+        Command::Cut(0, 2),
+        Command::Join(0, 2),
+        Command::Clone(0),
+        Command::Ask(3, None, Query::Lens),
+    ])
+}
+
+/// Runs the commands, and where memory was refused those that have no reply yet, on the ropes that the others left.
+fn run_all(session: &mut Session, commands: &[Command], replies: &mut Vec<Reply>) -> Option<()> {
+    for _ in 0..TRIES {
+        let left = commands.get(replies.len()..)?;
+        if session.run(left, replies).is_ok() {
+            return if replies.len() == commands.len() {
+                Some(())
+            } else {
+                None
+            };
+        }
+    }
+    None
+}
+
+/// Prints what a reply tells, in a line.
+fn show_reply(rt: &impl Print, reply: &Reply) -> Option<()> {
+    match reply {
+        Reply::Done => println!(rt; "ok").ok(),
+        Reply::Made(rope) => println!(rt; "rope {rope}").ok(),
+        Reply::Lens(bytes, chars, lines, units) => {
+            println!(rt; "{bytes} {chars} {lines} {units}").ok()
+        }
+        Reply::Text(text) => println!(rt; "a text of {}", text.len()).ok(),
+        Reply::Texts(texts) => println!(rt; "{} texts", texts.len()).ok(),
+        Reply::Chunk(text, bytes, chars, breaks) => {
+            println!(rt; "a chunk of {} at {bytes} {chars} {breaks}", text.len()).ok()
+        }
+        Reply::Walk(items) => println!(rt; "{} items", items.len()).ok(),
+        Reply::Order(Ordering::Less) => println!(rt; "less").ok(),
+        _ => println!(rt; "another reply").ok(),
+    }
+}
+
+/// Runs many commands at once, and prints their replies.
+fn run_at_once(rt: &impl Print, alloc: Global) -> Option<()> {
+    let commands = many_commands(alloc)?;
+    for _ in 0..TRIES {
+        let mut session = Session::new(alloc);
+        let mut replies = Vec::new(alloc);
+        run_all(&mut session, &commands, &mut replies)?;
+        // A command whose rope refused is replied so, and what follows goes on without it.
+        let is_refused = |reply: &Reply| matches!(reply, Reply::Refused(Error::OutOfMemory));
+        if !replies.iter().any(is_refused) {
+            for reply in replies.iter() {
+                show_reply(rt, reply)?;
+            }
+            return Some(());
+        }
+    }
+    None
+}
+
 /// Serves the lines, again where memory was refused, and prints what was written.
 fn serve_lines(rt: &impl Print, alloc: Global) -> Option<()> {
     for _ in 0..TRIES {
@@ -107,5 +192,6 @@ fn serve_lines(rt: &impl Print, alloc: Global) -> Option<()> {
 /// Runs commands and serves lines, and prints what they gave.
 pub fn run(rt: &impl Print, alloc: Global) -> Option<()> {
     run_commands(rt, alloc)?;
+    run_at_once(rt, alloc)?;
     serve_lines(rt, alloc)
 }
