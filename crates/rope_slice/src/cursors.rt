@@ -18,8 +18,8 @@ impl<'a> RopeSlice<'a> {
         Bytes::at(&self.part, 0)
     }
 
-    /// A cursor over the bytes, before the byte `byte_idx`, counted from 0, facing forward; for `len_bytes()` it stands past
-    /// the last byte.
+    /// A cursor over the bytes, before the byte `byte_idx`, counted from 0, facing forward; for `len_bytes()` it stands
+    /// past the last byte.
     ///
     /// The index is at most `len_bytes()`. No memory is taken.
     pub fn bytes_at(&self, byte_idx: usize) -> Bytes<'a>
@@ -47,8 +47,8 @@ impl<'a> RopeSlice<'a> {
         Chars::at(&self.part, 0)
     }
 
-    /// A cursor over the characters, before the character `char_idx`, counted from 0, facing forward; for `len_chars()` it stands past
-    /// the last character.
+    /// A cursor over the characters, before the character `char_idx`, counted from 0, facing forward; for `len_chars()`
+    /// it stands past the last character.
     ///
     /// The index is at most `len_chars()`. No memory is taken.
     pub fn chars_at(&self, char_idx: usize) -> Chars<'a>
@@ -76,8 +76,8 @@ impl<'a> RopeSlice<'a> {
         Chunks::new(&self.part)
     }
 
-    /// A cursor over the chunks, before the chunk that holds the byte `byte_idx`, facing forward; for `len_bytes()` it stands past the
-    /// last chunk. With it the bytes, the characters and the line breaks that end before it.
+    /// A cursor over the chunks, before the chunk that holds the byte `byte_idx`, facing forward; for `len_bytes()` it
+    /// stands past the last chunk. With it the bytes, the characters and the line breaks that end before it.
     ///
     /// The index is at most `len_bytes()`. No memory is taken.
     pub fn chunks_at_byte(&self, byte_idx: usize) -> (Chunks<'a>, usize, usize, usize)
@@ -100,8 +100,9 @@ impl<'a> RopeSlice<'a> {
         Some(self.chunks_at_byte(byte_idx))
     }
 
-    /// A cursor over the chunks, before the chunk that holds the character `char_idx`, facing forward; for `len_chars()` it stands past the
-    /// last chunk. With it the bytes, the characters and the line breaks that end before it.
+    /// A cursor over the chunks, before the chunk that holds the character `char_idx`, facing forward; for
+    /// `len_chars()` it stands past the last chunk. With it the bytes, the characters and the line breaks that end
+    /// before it.
     ///
     /// The index is at most `len_chars()`. No memory is taken.
     pub fn chunks_at_char(&self, char_idx: usize) -> (Chunks<'a>, usize, usize, usize)
@@ -124,8 +125,9 @@ impl<'a> RopeSlice<'a> {
         Some(self.chunks_at_char(char_idx))
     }
 
-    /// A cursor over the chunks, before the first chunk by whose end so many line breaks have ended, or else before the last, facing forward; for `len_lines()` it stands past the
-    /// last chunk. With it the bytes, the characters and the line breaks that end before it.
+    /// A cursor over the chunks, before the first chunk by whose end so many line breaks have ended, or else before the
+    /// last, facing forward; for `len_lines()` it stands past the last chunk. With it the bytes, the characters and the
+    /// line breaks that end before it.
     ///
     /// The index is at most `len_lines()`. No memory is taken.
     pub fn chunks_at_line_break(&self, line_break_idx: usize) -> (Chunks<'a>, usize, usize, usize)

@@ -21,8 +21,8 @@ impl Rope {
         self.whole().bytes()
     }
 
-    /// A cursor over the bytes, before the byte `byte_idx`, counted from 0, facing forward; for `len_bytes()` it stands past
-    /// the last byte.
+    /// A cursor over the bytes, before the byte `byte_idx`, counted from 0, facing forward; for `len_bytes()` it stands
+    /// past the last byte.
     ///
     /// The index is at most `len_bytes()`. No memory is taken.
     pub fn bytes_at(&self, byte_idx: usize) -> Bytes<'_>
@@ -47,8 +47,8 @@ impl Rope {
         self.whole().chars()
     }
 
-    /// A cursor over the characters, before the character `char_idx`, counted from 0, facing forward; for `len_chars()` it stands past
-    /// the last character.
+    /// A cursor over the characters, before the character `char_idx`, counted from 0, facing forward; for `len_chars()`
+    /// it stands past the last character.
     ///
     /// The index is at most `len_chars()`. No memory is taken.
     pub fn chars_at(&self, char_idx: usize) -> Chars<'_>
@@ -66,8 +66,8 @@ impl Rope {
         self.whole().get_chars_at(char_idx)
     }
 
-    /// A cursor over the chunks, before the chunk that holds the byte `byte_idx`, facing forward; for `len_bytes()` it stands past the
-    /// last chunk. With it the bytes, the characters and the line breaks that end before it.
+    /// A cursor over the chunks, before the chunk that holds the byte `byte_idx`, facing forward; for `len_bytes()` it
+    /// stands past the last chunk. With it the bytes, the characters and the line breaks that end before it.
     ///
     /// The index is at most `len_bytes()`. No memory is taken.
     pub fn chunks_at_byte(&self, byte_idx: usize) -> (Chunks<'_>, usize, usize, usize)
@@ -87,8 +87,9 @@ impl Rope {
         self.whole().get_chunks_at_byte(byte_idx)
     }
 
-    /// A cursor over the chunks, before the chunk that holds the character `char_idx`, facing forward; for `len_chars()` it stands past the
-    /// last chunk. With it the bytes, the characters and the line breaks that end before it.
+    /// A cursor over the chunks, before the chunk that holds the character `char_idx`, facing forward; for
+    /// `len_chars()` it stands past the last chunk. With it the bytes, the characters and the line breaks that end
+    /// before it.
     ///
     /// The index is at most `len_chars()`. No memory is taken.
     pub fn chunks_at_char(&self, char_idx: usize) -> (Chunks<'_>, usize, usize, usize)
@@ -108,8 +109,9 @@ impl Rope {
         self.whole().get_chunks_at_char(char_idx)
     }
 
-    /// A cursor over the chunks, before the first chunk by whose end so many line breaks have ended, or else before the last, facing forward; for `len_lines()` it stands past the
-    /// last chunk. With it the bytes, the characters and the line breaks that end before it.
+    /// A cursor over the chunks, before the first chunk by whose end so many line breaks have ended, or else before the
+    /// last, facing forward; for `len_lines()` it stands past the last chunk. With it the bytes, the characters and the
+    /// line breaks that end before it.
     ///
     /// The index is at most `len_lines()`. No memory is taken.
     pub fn chunks_at_line_break(&self, line_break_idx: usize) -> (Chunks<'_>, usize, usize, usize)
@@ -132,7 +134,8 @@ impl Rope {
         self.whole().get_chunks_at_line_break(line_break_idx)
     }
 
-    /// The line `line_idx`, counted from 0, with its break, as a slice. The index is below `len_lines()`. No memory is taken.
+    /// The line `line_idx`, counted from 0, with its break, as a slice. The index is below `len_lines()`. No memory is
+    /// taken.
     pub fn line(&self, line_idx: usize) -> RopeSlice<'_>
         requires { line_idx < line_count self.now.breaks self.now.text }
         ensures { content_of result ≡ line_of (content self.now) line_idx }
@@ -140,8 +143,8 @@ impl Rope {
         self.whole().line(line_idx)
     }
 
-    /// The line `line_idx`, counted from 0, with its break, or none where the index is `len_lines()` or past it. No memory is
-    /// taken.
+    /// The line `line_idx`, counted from 0, with its break, or none where the index is `len_lines()` or past it. No
+    /// memory is taken.
     pub fn get_line(&self, line_idx: usize) -> Option<RopeSlice<'_>>
         ensures { MatchOption result (line_count self.now.breaks self.now.text ≤ line_idx)
             (λ slice. (line_idx < line_count self.now.breaks self.now.text)
@@ -157,8 +160,8 @@ impl Rope {
         self.whole().lines()
     }
 
-    /// A cursor over the lines, before the line `line_idx`, counted from 0, facing forward; for `len_lines()` it stands past
-    /// the last line.
+    /// A cursor over the lines, before the line `line_idx`, counted from 0, facing forward; for `len_lines()` it stands
+    /// past the last line.
     ///
     /// The index is at most `len_lines()`. No memory is taken.
     pub fn lines_at(&self, line_idx: usize) -> Lines<'_>
