@@ -1,6 +1,7 @@
 //! A plain text: a list of characters, whose counts and conversions go over all of it.
 //! It is a partner to compare with, written from the rules alone; nothing of it is proved but that it is safe.
 use rope_text::LineBreaks;
+use std::alloc::{AllocError, Global};
 
 /// Whether the character ends a line break.
 fn is_break(c: char, set: LineBreaks) -> bool {
@@ -108,18 +109,19 @@ pub struct Place {
     pub line_start_byte: usize,
 }
 
-/// The place behind the first characters, by one pass over them.
-pub fn place_of(text: &[char], char_idx: usize, set: LineBreaks) -> Place {
-    let mut place = Place {
-        byte: 0,
-        unit: 0,
-        line: 0,
-        line_start_char: 0,
-        line_start_byte: 0,
-    };
-    let mut passed: usize = 0;
-    for c in text.iter().take(char_idx) {
-        passed = passed.saturating_add(1);
+/// Before the first character.
+pub const START: Place = Place {
+    byte: 0,
+    unit: 0,
+    line: 0,
+    line_start_char: 0,
+    line_start_byte: 0,
+};
+
+impl Place {
+    /// The place behind a character, with which so many have passed.
+    fn after(self, c: char, text: &[char], passed: usize, set: LineBreaks) -> Place {
+        let mut place = self;
         place.byte = place.byte.saturating_add(c.len_utf8());
         place.unit = place.unit.saturating_add(c.len_utf16());
         if is_break_end(text, passed, set) {
@@ -127,6 +129,29 @@ pub fn place_of(text: &[char], char_idx: usize, set: LineBreaks) -> Place {
             place.line_start_char = passed;
             place.line_start_byte = place.byte;
         }
+        place
+    }
+}
+
+/// The place behind the first characters, by one pass over them.
+pub fn place_of(text: &[char], char_idx: usize, set: LineBreaks) -> Place {
+    let mut place = START;
+    let mut passed: usize = 0;
+    for c in text.iter().take(char_idx) {
+        passed = passed.saturating_add(1);
+        place = place.after(*c, text, passed, set);
     }
     place
+}
+
+/// All places of a text, from its start to its end, by one pass.
+pub fn places(alloc: Global, text: &[char], set: LineBreaks) -> Result<Vec<Place>, AllocError> {
+    let mut all = Vec::new(alloc);
+    let mut place = START;
+    all.push(place)?;
+    for c in text.iter() {
+        place = place.after(*c, text, all.len(), set);
+        all.push(place)?;
+    }
+    Ok(all)
 }
