@@ -1,7 +1,5 @@
 //! What a plain rope answers to each query.
-use crate::plain_rope::{
-    Count, PlainRope, between, last_place, lens, line_place, place_at,
-};
+use crate::plain_rope::{Count, PlainRope, between, last_place, lengths_of, line_place, place_at};
 use crate::walking::walk;
 use rope_plain::plain_text::Place;
 use rope_script::{At, Conv, Item, Move, Query, Reply, Unit};
@@ -27,22 +25,22 @@ type Answer = Result<usize, Error>;
 
 impl Asked {
     fn char_error(&self, index: usize) -> Option<Error> {
-        let len = lens(&self.places).chars;
+        let len = lengths_of(&self.places).chars;
         (index > len).then_some(Error::CharIndexOutOfBounds(index, len))
     }
 
     fn byte_error(&self, index: usize) -> Option<Error> {
-        let len = lens(&self.places).bytes;
+        let len = lengths_of(&self.places).bytes;
         (index > len).then_some(Error::ByteIndexOutOfBounds(index, len))
     }
 
     fn unit_error(&self, index: usize) -> Option<Error> {
-        let len = lens(&self.places).units;
+        let len = lengths_of(&self.places).units;
         (index > len).then_some(Error::Utf16IndexOutOfBounds(index, len))
     }
 
     fn line_error(&self, index: usize) -> Option<Error> {
-        let len = lens(&self.places).lines;
+        let len = lengths_of(&self.places).lines;
         (index > len).then_some(Error::LineIndexOutOfBounds(index, len))
     }
 
@@ -75,7 +73,7 @@ impl Asked {
 
     /// The characters of a line, where there is one.
     fn line(&self, line: usize) -> Result<Option<Vec<char>>, Fail> {
-        if line >= lens(&self.places).lines {
+        if line >= lengths_of(&self.places).lines {
             return Ok(None);
         }
         let start = line_place(&self.places, line);
@@ -86,7 +84,7 @@ impl Asked {
     /// All lines, in order.
     fn lines(&self) -> Result<Vec<Vec<char>>, Fail> {
         let mut lines = Vec::new(self.alloc);
-        for line in 0..lens(&self.places).lines {
+        for line in 0..lengths_of(&self.places).lines {
             if let Some(chars) = self.line(line)? {
                 lines.push(chars)?;
             }
@@ -137,7 +135,7 @@ impl Asked {
 
     /// Which chunk an index names and whether it is the end; none out of range.
     fn chunk_index(&self, at: &At, index: usize) -> Option<(usize, bool)> {
-        let lens = lens(&self.places);
+        let lens = lengths_of(&self.places);
         let (end, found) = match at {
             At::Byte => {
                 let place = last_place(&self.places, Count::Bytes, index);
@@ -166,7 +164,12 @@ impl Asked {
     }
 
     /// Whether the items are those of a list at these indices.
-    fn are_texts(&self, items: &[Option<Item>], indices: &[Option<usize>], list: &[Vec<char>]) -> bool {
+    fn are_texts(
+        &self,
+        items: &[Option<Item>],
+        indices: &[Option<usize>],
+        list: &[Vec<char>],
+    ) -> bool {
         items.len() == indices.len()
             && items.iter().zip(indices.iter()).all(|(item, index)| match (item, index) {
                 (None, None) => true,
@@ -198,7 +201,7 @@ impl Asked {
 
     /// Where a walk starts among so many items; none out of range.
     fn walk_start(&self, unit: &Unit, index: usize) -> Option<(usize, usize)> {
-        let lens = lens(&self.places);
+        let lens = lengths_of(&self.places);
         let (len, end, place) = match unit {
             Unit::Bytes => (lens.bytes, lens.bytes, index),
             Unit::Chars => (lens.chars, lens.chars, index),
@@ -247,7 +250,7 @@ impl Asked {
 
     /// The last character of a line whose column is at most so much.
     fn position_to_char(&self, line: usize, column: usize) -> Answer {
-        let lens = lens(&self.places);
+        let lens = lengths_of(&self.places);
         if line >= lens.lines {
             return Err(Error::LineIndexOutOfBounds(line, lens.lines));
         }
@@ -278,7 +281,10 @@ fn is_number(answer: Answer, reply: &Reply) -> bool {
 
 fn are_texts(texts: &[String], chunks: &[Vec<char>]) -> bool {
     texts.len() == chunks.len()
-        && texts.iter().zip(chunks.iter()).all(|(text, chunk)| is_text(text.as_str(), chunk))
+        && texts
+            .iter()
+            .zip(chunks.iter())
+            .all(|(text, chunk)| is_text(text.as_str(), chunk))
 }
 
 fn is_text_or_absent(chars: Option<&Vec<char>>, reply: &Reply) -> bool {
@@ -305,7 +311,7 @@ pub fn answers(
     };
     match (query, reply) {
         (Query::Lens, Reply::Lens(bytes, chars, lines, units)) => {
-            let lens = lens(&asked.places);
+            let lens = lengths_of(&asked.places);
             let told = (*bytes, *chars, *lines, *units);
             Ok(told == (lens.bytes, lens.chars, lens.lines, lens.units))
         }

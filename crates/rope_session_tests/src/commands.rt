@@ -199,11 +199,7 @@ fn copy(
 }
 
 /// Does a command that asks nothing.
-pub fn apply(
-    alloc: Global,
-    ropes: &mut Vec<PlainRope>,
-    command: &Command,
-) -> Result<Effect, Fail> {
+pub fn apply(alloc: Global, ropes: &mut Vec<PlainRope>, command: &Command) -> Result<Effect, Fail> {
     match command {
         Command::New => {
             let text = Vec::new(alloc);
@@ -233,7 +229,11 @@ pub fn apply(
             let is_there = *number < ropes.len();
             let mut effect = recut(Outcome::Done, *number);
             effect.is_few = true;
-            Ok(if is_there { effect } else { told(Outcome::NoRope) })
+            Ok(if is_there {
+                effect
+            } else {
+                told(Outcome::NoRope)
+            })
         }
         Command::Ask(_, _, _) => Err(Fail::from("a command that asks")),
     }

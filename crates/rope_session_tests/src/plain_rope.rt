@@ -22,7 +22,7 @@ pub struct PlainRope {
 
 /// Its bytes, characters, lines and code units.
 #[derive(Clone, Copy)]
-pub struct Lens {
+pub struct Lengths {
     pub bytes: usize,
     pub chars: usize,
     pub lines: usize,
@@ -82,15 +82,15 @@ impl PlainRope {
 }
 
 /// The lengths of a text, by its places.
-pub fn lens(places: &[Place]) -> Lens {
+pub fn lengths_of(places: &[Place]) -> Lengths {
     match places.last() {
-        Some(last) => Lens {
+        Some(last) => Lengths {
             bytes: last.byte,
             chars: places.len().saturating_sub(1),
             lines: last.line.saturating_add(1),
             units: last.unit,
         },
-        None => Lens {
+        None => Lengths {
             bytes: 0,
             chars: 0,
             lines: 1,

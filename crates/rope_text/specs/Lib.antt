@@ -22,3 +22,4 @@ pub mod ByteBreaks
 pub mod TextInfo
 pub mod LastBreak
 pub mod LineParts
+pub mod Answer

@@ -4,7 +4,7 @@ ghost use Rattle.rope_text.specs.Text.{byte_len, utf16_len};
 ghost use Rattle.rope_text.specs.Lines.{line_count};
 ghost use Rattle.rope_text.specs.Conversions.{byte_to_char, byte_to_line, char_to_byte, char_to_line, char_to_utf16, line_to_byte, line_to_char, utf16_to_char};
 ghost use Rattle.rope_text.specs.Edit.{byte_index_error, char_index_error, line_index_error, utf16_index_error};
-ghost use Rattle.rope_slice.specs.Answer.{checked};
+ghost use Rattle.rope_text.specs.Answer.{checked};
 
 use crate::rope::Rope;
 use rope_text::{Error, Result, Steps};
