@@ -12,6 +12,10 @@ pub record RopeView : Type 0 where
   pub breaks : LineBreaks
   pub depth : ℕ
 
+-- its text, as a function
+abbrev pub text_of : RopeView → List ℕ
+text_of r = r.text
+
 -- the rope without its depth
 abbrev pub content : RopeView → Content
 content r = record { text = r.text; chunks = r.chunks; breaks = r.breaks }

@@ -7,6 +7,7 @@ mod counted;
 mod cursors;
 mod edits;
 mod inserts;
+pub mod io;
 pub mod iter;
 mod lookups;
 mod rope;

@@ -1,0 +1,158 @@
+-- A reading under way.
+use Rattle.std.proofs.Common.{◌≡◌, ℕ, ◌+◌, ◌-◌, ◌<◌, ◌≤◌, ◌^◌, Bool, false, IsTrue, List, [], ◌++◌, length, take, drop, refl, sym, ap, subst, ◌∙◌, append_assoc, arith, zero-add, inl, inr, Option, None, Some}
+use Rattle.std.specs.Io.KnownBytes.{Consumes, Keeps, IsAtEnd}
+use Rattle.std.specs.List.{copy_within}
+use Rattle.std.specs.Str.{IsUtf8, encode_utf8_all}
+use Rattle.std.specs.Str.Lossy.{utf8_valid_len}
+use Rattle.std.proofs.Math.Seq.{paste, take-append-add}
+use Rattle.std.proofs.lemmas.Bool.{cond-true, lt-ltb}
+use Rattle.std.proofs.lemmas.List.{take_all, take-append-le, take-append-drop, length-take-le, length-append, length-drop, drop-take}
+use Rattle.std.proofs.lemmas.List.Edits.{take-paste}
+use Rattle.std.proofs.lemmas.Str.{IsUtf8-append, IsUtf8-nil, utf8_valid_len_le, utf8_valid_len-IsUtf8}
+use Rattle.rope_text.specs.Text.{byte_len}
+use Rattle.rope_text.specs.Edit.{size_error, IsRefusal}
+use Rattle.rope_text.specs.Read.{text_front, text_rest, IsRefused}
+use Rattle.rope_text.specs.declared.error.Error.{Error}
+use Rattle.rope_text.proofs.ReadLaws.{IsUtf8-text_front, utf8_valid_len-append, text_rest-append}
+use Rattle.rope_io.specs.Reading.{Fits, has_ended}
+use borrow.Rule.Slice.PartMut.{put_mid, post_of}
+
+-- the front of a text is all of it
+pub front_of_text : (bs : List ℕ) → IsUtf8 bs → text_front bs ≡ bs
+front_of_text bs u = take_all (utf8_valid_len bs) bs (omega (arith, utf8_valid_len-IsUtf8 bs u))
+
+pub length-text_front : (bs : List ℕ) → length (text_front bs) ≡ utf8_valid_len bs
+length-text_front bs = length-take-le (utf8_valid_len bs) bs (utf8_valid_len_le bs)
+
+-- nothing of the rest is text
+pub rest_stays : (bs : List ℕ) → utf8_valid_len (text_rest bs) ≡ 0
+rest_stays bs =
+    let e : utf8_valid_len bs ≡ length (text_front bs) + utf8_valid_len (text_rest bs) = ap utf8_valid_len (sym (take-append-drop (utf8_valid_len bs) bs)) ∙ utf8_valid_len-append (text_front bs) (text_rest bs) (IsUtf8-text_front bs) in
+    omega (arith, e, length-text_front bs)
+
+-- the front of a text and more bytes
+pub front_after : (xs ys : List ℕ) → IsUtf8 xs → length (text_front (xs ++ ys)) ≡ length xs + length (text_front ys)
+front_after xs ys u = omega (arith, length-text_front (xs ++ ys), length-text_front ys, utf8_valid_len-append xs ys u)
+
+-- bytes that a text of few enough bytes is the front of
+pub size_fits : (n : ℕ) → n < 2 ^ 63 → size_error n ≡ None
+size_fits n h = cond-true _ _ _ (lt-ltb n (2 ^ 63) h)
+
+-- the rest of a buffer, moved to its front
+pub moved_rest : (buf : List ℕ) (d f : ℕ) → d ≤ f → f ≤ length buf → take (f - d) (copy_within buf d f 0) ≡ drop d (take f buf)
+moved_rest buf d f h g =
+    let k : ℕ = f - d in
+    let e : f ≡ d + k = omega arith in
+    let p : take k (paste buf 0 (drop d buf) k) ≡ take k (drop d buf) =
+    subst (λ j. take j (paste buf 0 (drop d buf) k) ≡ take k (drop d buf)) (zero-add k) (take-paste buf 0 (drop d buf) k (omega arith) (omega (arith, length-drop d buf))) in
+    p ∙ sym (drop-take d k buf) ∙ ap (λ j. drop d (take j buf)) (sym e)
+
+Consumes-none : (known : Option (List ℕ)) → Consumes known known []
+Consumes-none None = tt
+Consumes-none (Some xs) = refl
+
+Consumes-more : (start mid end : Option (List ℕ)) (xs ys : List ℕ) → Consumes start mid xs → Consumes mid end ys → Consumes start end (xs ++ ys)
+Consumes-more None mid end xs ys p q = tt
+Consumes-more (Some vs) None end xs ys p q = absurd p
+Consumes-more (Some vs) (Some us) None xs ys p q = absurd q
+Consumes-more (Some vs) (Some us) (Some ws) xs ys p q = p ∙ ap (λ zs. xs ++ zs) q ∙ sym (append_assoc xs ys ws)
+
+-- a read that failed has given nothing
+Consumes-kept : (start mid new : Option (List ℕ)) (bs : List ℕ) → Consumes start mid bs → Keeps mid new → Consumes start new bs
+Consumes-kept None mid new bs p q = tt
+Consumes-kept (Some vs) None new bs p q = absurd p
+Consumes-kept (Some vs) (Some us) None bs p q = absurd q
+Consumes-kept (Some vs) (Some us) (Some ws) bs p q = p ∙ ap (λ zs. bs ++ zs) (sym q)
+
+-- the bytes given so far are those of the text and the held ones, which begin with no text
+pub record HasRead (start now : Option (List ℕ)) (text held : List ℕ) : Type 0 where
+  pub given : Consumes start now (encode_utf8_all text ++ held)
+  pub no_text : utf8_valid_len held ≡ 0
+  pub utf8 : IsUtf8 (encode_utf8_all text)
+  pub fits : byte_len text < 2 ^ 63
+
+-- and the next read has room for a byte
+pub record IsReading (start now : Option (List ℕ)) (text buffer : List ℕ) (filled : ℕ) (marked : Bool) : Type 0 where
+  pub read : HasRead start now text (take filled buffer)
+  pub room : filled < 1968
+  pub size : length buffer ≡ 1968
+  pub clear : marked ≡ false
+
+pub nothing_read : (start : Option (List ℕ)) (text : List ℕ) → text ≡ [] → HasRead start start text []
+nothing_read start text e = subst (λ t. HasRead start start t []) (sym e) (record {
+  given = Consumes-none start;
+  no_text = utf8_valid_len-IsUtf8 [] IsUtf8-nil;
+  utf8 = IsUtf8-nil;
+  fits = omega arith;
+})
+
+module _ (start now : Option (List ℕ)) (text held : List ℕ) (h : HasRead start now text held) where
+  -- the rest of the bytes given is what is held, and their front the text
+  pub rest_is : text_rest (encode_utf8_all text ++ held) ≡ held
+  rest_is = text_rest-append (encode_utf8_all text) held h.utf8 ∙ ap (λ n. drop n held) h.no_text
+
+  pub front_fits : Fits (encode_utf8_all text ++ held)
+  front_fits = size_fits _ (omega (arith, front_after (encode_utf8_all text) held h.utf8, length-text_front held, h.no_text, h.fits))
+
+  -- where the input ends with something held, and where as much is held as may be, the bytes are refused
+  pub refused_full : length held ≡ 1968 → IsRefused (encode_utf8_all text ++ held) (has_ended now)
+  refused_full e = inr (omega (arith, ap length rest_is, e))
+
+  pub refused_at_end : 0 < length held → IsAtEnd now → IsRefused (encode_utf8_all text ++ held) (has_ended now)
+  refused_at_end some end = inl (ended now end, omega (arith, ap length rest_is, some))
+    where
+      ended : (o : Option (List ℕ)) → IsAtEnd o → IsTrue (has_ended o)
+      ended None e = refl
+      ended (Some bs) e = subst (λ xs. IsTrue (has_ended (Some xs))) (sym e) refl
+
+  -- a failed read gave nothing
+  pub given_kept : (new : Option (List ℕ)) → Keeps now new → Consumes start new (encode_utf8_all text ++ held)
+  given_kept new k = Consumes-kept start now new (encode_utf8_all text ++ held) h.given k
+
+-- the front of the buffer after a read
+front_read : (buf ys : List ℕ) (filled room count : ℕ) → filled ≤ length buf → count ≤ length ys → take (filled + count) (put_mid filled room buf ys) ≡ take filled buf ++ take count ys
+front_read buf ys filled room count h k =
+    let f = length-take-le filled buf h in
+    subst (λ n. take (n + count) (take filled buf ++ (ys ++ post_of filled room buf)) ≡ take filled buf ++ take count (ys ++ post_of filled room buf)) f (take-append-add (take filled buf) (ys ++ post_of filled room buf) count)
+    ∙ ap (λ zs. take filled buf ++ zs) (take-append-le count ys (post_of filled room buf) k)
+
+-- the bytes that are held once more were read
+module _ (start mid new : Option (List ℕ)) (text buf ys : List ℕ) (filled room count : ℕ) (within : filled ≤ length buf) (some : count ≤ length ys)
+    (h : HasRead start mid text (take filled buf)) (more : Consumes mid new (take count ys)) where
+  pub given_more : Consumes start new (encode_utf8_all text ++ take (filled + count) (put_mid filled room buf ys))
+  given_more =
+      subst (Consumes start new) (append_assoc (encode_utf8_all text) (take filled buf) (take count ys) ∙ ap (λ zs. encode_utf8_all text ++ zs) (sym (front_read buf ys filled room count within some)))
+      (Consumes-more start mid new (encode_utf8_all text ++ take filled buf) (take count ys) h.given more)
+
+  pub length_held : length (take (filled + count) (put_mid filled room buf ys)) ≡ filled + count
+  length_held =
+      omega (arith, ap length (front_read buf ys filled room count within some), length-append (take filled buf) (take count ys), length-take-le filled buf within, length-take-le count ys some)
+
+  -- its text is moved away
+  pub read_on : (text_new rest : List ℕ) → encode_utf8_all text_new ≡ encode_utf8_all text ++ text_front (take (filled + count) (put_mid filled room buf ys))
+      → rest ≡ text_rest (take (filled + count) (put_mid filled room buf ys)) → byte_len text_new < 2 ^ 63 → HasRead start new text_new rest
+  read_on text_new rest e f fits =
+      let t : List ℕ = take (filled + count) (put_mid filled room buf ys) in
+      let old : List ℕ = encode_utf8_all text in
+      let whole : encode_utf8_all text_new ++ rest ≡ old ++ t = ap (λ xs. xs ++ rest) e ∙ ap (λ xs. (old ++ text_front t) ++ xs) f ∙ append_assoc old (text_front t) (text_rest t) ∙ ap (λ xs. old ++ xs) (take-append-drop (utf8_valid_len t) t) in
+      record {
+        given = subst (Consumes start new) (sym whole) given_more;
+        no_text = ap utf8_valid_len f ∙ rest_stays t;
+        utf8 = subst IsUtf8 (sym e) (IsUtf8-append old (text_front t) h.utf8 (IsUtf8-text_front t));
+        fits = fits;
+      }
+
+  -- or refused
+  pub refused_on : (e : Error) → IsRefusal (size_error (byte_len text + length (text_front (take (filled + count) (put_mid filled room buf ys))))) e
+      → IsRefusal (size_error (length (text_front (encode_utf8_all text ++ take (filled + count) (put_mid filled room buf ys))))) e
+  refused_on e r = subst (λ n. IsRefusal (size_error n) e) (sym (front_after (encode_utf8_all text) (take (filled + count) (put_mid filled room buf ys)) h.utf8)) r
+
+  pub bounded : filled + count ≤ 1968 → length (encode_utf8_all text ++ take (filled + count) (put_mid filled room buf ys)) < 2 ^ 63 + 1968
+  bounded b = omega (arith, length-append (encode_utf8_all text) (take (filled + count) (put_mid filled room buf ys)), length_held, h.fits, b)
+
+  -- what is left to be held is less by what was moved
+  pub length_on : (text_new rest : List ℕ) → encode_utf8_all text_new ≡ encode_utf8_all text ++ text_front (take (filled + count) (put_mid filled room buf ys))
+      → rest ≡ text_rest (take (filled + count) (put_mid filled room buf ys)) → byte_len text_new + length rest ≡ byte_len text + (filled + count)
+  length_on text_new rest e f =
+      let t : List ℕ = take (filled + count) (put_mid filled room buf ys) in
+      omega (arith, ap length e, ap length f, length-append (encode_utf8_all text) (text_front t), ap length (take-append-drop (utf8_valid_len t) t), length-append (text_front t) (text_rest t), length_held)

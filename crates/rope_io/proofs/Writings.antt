@@ -1,0 +1,67 @@
+-- A writing under way.
+use Rattle.std.proofs.Common.{◌≡◌, ℕ, Bool, false, List, [], ◌++◌, sym, ap, subst, ◌∙◌, append_assoc, Option, None, Some}
+use Rattle.std.specs.Io.KnownBytes.{Appends}
+use Rattle.std.specs.List.{concat}
+use Rattle.std.specs.Str.{chars, encode_utf8_all, IsUtf8}
+use Rattle.std.proofs.lemmas.Str.{encodes-append, encodes-chars}
+use Rattle.std.proofs.lemmas.List.{append-nil}
+use Rattle.rope_io.specs.Writing.{AppendsFront}
+
+-- the bytes but the rest have been appended
+pub record IsWriting (start now : Option (List ℕ)) (bytes rest : List ℕ) (marked : Bool) : Type 0 where
+  pub done : List ℕ
+  pub whole : bytes ≡ done ++ rest
+  pub appended : Appends start now done
+  pub clear : marked ≡ false
+
+pub Appends-none : (known : Option (List ℕ)) → Appends known known []
+Appends-none None = tt
+Appends-none (Some xs) = sym (append-nil xs)
+
+pub Appends-more : (start mid end : Option (List ℕ)) (xs ys : List ℕ) → Appends start mid xs → Appends mid end ys → Appends start end (xs ++ ys)
+Appends-more None mid end xs ys p q = tt
+Appends-more (Some vs) None end xs ys p q = absurd p
+Appends-more (Some vs) (Some us) None xs ys p q = absurd q
+Appends-more (Some vs) (Some us) (Some ws) xs ys p q = q ∙ ap (λ zs. zs ++ ys) p ∙ append_assoc vs xs ys
+
+pub front_all : (old new : Option (List ℕ)) (bs : List ℕ) → Appends old new bs → AppendsFront old new bs
+front_all old new bs p = record { front = bs; back = []; whole = sym (append-nil bs); appended = p }
+
+-- a writing of what comes next that stopped on its way
+pub front_more : (start mid end : Option (List ℕ)) (bytes done next rest : List ℕ) → bytes ≡ done ++ (next ++ rest)
+    → Appends start mid done → AppendsFront mid end next → AppendsFront start end bytes
+front_more start mid end bytes done next rest e p q = record {
+  front = done ++ q.front;
+  back = q.back ++ rest;
+  whole = e ∙ ap (λ y. done ++ y) (ap (λ y. y ++ rest) q.whole ∙ append_assoc q.front q.back rest) ∙ sym (append_assoc done q.front (q.back ++ rest));
+  appended = Appends-more start mid end done q.front p q.appended;
+}
+
+-- the chunks but those ahead have been written
+pub record IsWritten (start now : Option (List ℕ)) (text : List ℕ) (ahead : List (List ℕ)) (marked : Bool) : Type 0 where
+  pub before : List ℕ
+  pub whole : text ≡ before ++ concat ahead
+  pub appended : Appends start now (encode_utf8_all before)
+  pub clear : marked ≡ false
+
+-- one more chunk was written whole
+pub chunk_written : (start mid end : Option (List ℕ)) (before s : List ℕ) → IsUtf8 s → Appends start mid (encode_utf8_all before) → Appends mid end s
+    → Appends start end (encode_utf8_all (before ++ chars s))
+chunk_written start mid end before s u p q =
+    subst (Appends start end) (sym (encodes-append before (chars s) ∙ ap (λ y. encode_utf8_all before ++ y) (encodes-chars s u)))
+    (Appends-more start mid end (encode_utf8_all before) s p q)
+
+-- or in part
+pub chunk_begun : (start mid end : Option (List ℕ)) (text before s : List ℕ) (ahead : List (List ℕ)) → IsUtf8 s → text ≡ before ++ (chars s ++ concat ahead)
+    → Appends start mid (encode_utf8_all before) → AppendsFront mid end s → AppendsFront start end (encode_utf8_all text)
+chunk_begun start mid end text before s ahead u e p q =
+    front_more start mid end (encode_utf8_all text) (encode_utf8_all before) s (encode_utf8_all (concat ahead))
+    (ap encode_utf8_all e ∙ encodes-append before (chars s ++ concat ahead)
+    ∙ ap (λ y. encode_utf8_all before ++ y) (encodes-append (chars s) (concat ahead) ∙ ap (λ y. y ++ encode_utf8_all (concat ahead)) (encodes-chars s u)))
+    p q
+
+-- all of it
+pub all_written : (start now : Option (List ℕ)) (text before : List ℕ) (ahead : List (List ℕ)) → ahead ≡ [] → text ≡ before ++ concat ahead
+    → Appends start now (encode_utf8_all before) → Appends start now (encode_utf8_all text)
+all_written start now text before ahead none e p =
+    subst (λ t. Appends start now (encode_utf8_all t)) (sym (e ∙ ap (λ a. before ++ concat a) none ∙ append-nil before)) p

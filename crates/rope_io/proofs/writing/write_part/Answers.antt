@@ -1,0 +1,43 @@
+use Rattle.std.proofs.Common.{◌∷◌, ◌++◌, [], ap, sym, ◌∙◌, append_assoc}
+use Rattle.std.specs.List.{concat}
+use Rattle.std.specs.Str.{chars}
+use Rattle.rope_text.specs.Sides.{ahead}
+use Rattle.rope_part.specs.Part.{text_of}
+use Rattle.rope_io.proofs.Writings.{Appends-none, chunk_written, chunk_begun, all_written, front_all}
+use Rattle.rope_io.proofs.writing.write_part.Goals as goal
+
+pub loop-chunk-init : goal.loop-chunk-init
+loop-chunk-init g c =
+    let old = c.args.sink.now in
+    record {
+      before = [];
+      whole = sym c.info.ensures.kept.cut.joined ∙ ap (λ x. concat (ahead x)) (sym (c.into_iter-chunk-iterator.ensures.into_iter_gives ∙ c.new-chunk-items.ensures));
+      appended = rw (c.clear.ensures, g.met.S.Sink.cleared_contents old) (Appends-none (g.S.Sink.contents old));
+      clear = rw c.clear.ensures (g.met.S.Mark.cleared_unmarked old);
+    }
+
+pub loop-chunk-preserved : goal.loop-chunk-preserved
+loop-chunk-preserved g c =
+    let i = c.loop-chunk.invariant in
+    let s = c.as_bytes.result.now in
+    let more = ahead c.next.new.self in
+    record {
+      before = i.before ++ chars s;
+      whole = i.whole ∙ ap (λ a. i.before ++ concat a) (c.in-Some.ensures.steps ∙ ap (λ b. chars b ∷ more) (sym c.as_bytes.ensures.value)) ∙ sym (append_assoc i.before (chars s) (concat more));
+      appended = chunk_written _ _ _ i.before s c.as_bytes.ensures.utf8 i.appended c.in-Ok.ensures.ok;
+      clear = c.in-Ok.ensures.clear;
+    }
+
+pub returns-in-Err-clause-front : goal.returns-in-Err-clause-front
+returns-in-Err-clause-front g c =
+    let i = c.loop-chunk.invariant in
+    let s = c.as_bytes.result.now in
+    let more = ahead c.next.new.self in
+    chunk_begun _ _ _ (text_of c.args.part.now) i.before s more c.as_bytes.ensures.utf8
+    (i.whole ∙ ap (λ a. i.before ++ concat a) (c.in-Some.ensures.steps ∙ ap (λ b. chars b ∷ more) (sym c.as_bytes.ensures.value)))
+    i.appended c.in-Err.ensures.front
+
+pub returns-clause-front : goal.returns-clause-front
+returns-clause-front g c =
+    let i = c.loop-chunk.invariant in
+    front_all _ _ _ (all_written _ _ _ i.before (ahead c.loop-chunk.chunk-iterator) c.in-None.ensures.steps.0 i.whole i.appended)

@@ -1,0 +1,5 @@
+pub mod Laws
+pub mod ReadErrorText
+pub mod Reading
+pub mod Watching
+pub mod Writing

@@ -1,0 +1,55 @@
+//! Why no rope was read.
+ghost use Rattle.std.specs.Prelude.{◌≡◌, Some};
+
+use rope_text::Error;
+use std::{fmt, io};
+
+/// Why no rope was read.
+#[derive(Drop)]
+pub enum ReadError {
+    /// The reader failed, with this error.
+    Read(io::Error),
+    /// The bytes are no UTF-8.
+    InvalidData,
+    /// The text would be too long, or memory was refused.
+    Rope(Error),
+}
+
+impl fmt::Display for ReadError {
+    ghost use Rattle.std.specs.Prelude.{Some};
+    ghost use Rattle.rope_io.specs.ReadErrorText.{read_error_text};
+
+    ghost output = { λ e. Some (read_error_text e) };
+
+    fn fmt<W: fmt::Write>(&self, f: &mut fmt::Formatter<W>) -> fmt::Result {
+        match self {
+            ReadError::Read(_) => write!(f, "Read failed"),
+            ReadError::InvalidData => write!(f, "stream did not contain valid UTF-8"),
+            ReadError::Rope(error) => write!(f, "{error}"),
+        }
+    }
+}
+
+impl fmt::Debug for ReadError {
+    ghost use Rattle.std.specs.Prelude.{Some};
+    ghost use Rattle.rope_io.specs.ReadErrorText.{read_error_text};
+
+    ghost debug_output = { λ e. Some (read_error_text e) };
+
+    fn fmt<W: fmt::Write>(&self, f: &mut fmt::Formatter<W>) -> fmt::Result {
+        fmt::Display::fmt(self, f)
+    }
+}
+
+impl std::error::Error for ReadError {}
+
+impl From<Error> for ReadError {
+    ghost use Rattle.std.specs.Prelude.{◌≡◌};
+    ghost use Rattle.rope_io.specs.declared.error.ReadError.TheVariants.{Rope};
+
+    ghost from_gives = { λ e r. r ≡ Rope e };
+
+    fn from(error: Error) -> ReadError {
+        ReadError::Rope(error)
+    }
+}

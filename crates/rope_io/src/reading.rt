@@ -1,0 +1,134 @@
+//! Texts read to the reader's end.
+ghost use Rattle.std.specs.Prelude.{◌≡◌, ◌+◌, ◌^◌, ◌<◌, ◌≤◌, ◌*◌, ◌/◌, ◌++◌, false, [], length, take, OnOk, IfOk, IfErr};
+ghost use Rattle.std.specs.Str.{IsUtf8, encode_utf8_all};
+ghost use Rattle.rope_text.specs.Text.{byte_len};
+ghost use Rattle.rope_text.specs.Edit.{size_error, IsRefusal};
+ghost use Rattle.rope_text.specs.Read.{text_front, text_rest};
+ghost use Rattle.rope_tree.specs.Tree.{text, IsTree};
+ghost use Rattle.rope_io.specs.Reading.{Reads};
+
+use crate::device::Source;
+use crate::error::ReadError;
+use rope_text::{Error, LineBreaks, Result};
+use rope_tree::builder::Builder;
+use rope_tree::node::Node;
+use std::alloc::Global;
+use std::rc::Rc;
+
+// How many bytes are held at once, and are refused where they begin with no character.
+const BUFFER_BYTES: usize = 1968;
+
+// The bytes that a text has at the most.
+const MAX_TEXT_BYTES: usize = isize::MAX as usize;
+
+// The longest front of the bytes that is a text.
+fn front_of(bytes: &[u8]) -> &str
+    ensures { result.now ≡ text_front bytes.now }
+{
+    match str::from_utf8(bytes) {
+        Ok(text) => text,
+        Err(error) => str::from_utf8(&bytes[..error.valid_up_to()]).unwrap(),
+    }
+}
+
+// Puts a text behind what was read, which refuses it for its size, then for want of memory.
+fn append(builder: &mut Builder, text: &str) -> Result<()>
+    ensures text { OnOk result (encode_utf8_all builder.new.text ≡ encode_utf8_all builder.old.text ++ text.now) }
+    ensures fits { OnOk result (byte_len builder.new.text < 2 ^ 63) }
+    ensures breaks { builder.new.breaks ≡ builder.old.breaks }
+    ensures refused { IfErr result (IsRefusal (size_error (byte_len builder.old.text + length text.now))) }
+{
+    if text.len() > MAX_TEXT_BYTES - builder.len_bytes() {
+        return Err(Error::TooLong);
+    }
+    match builder.append(text) {
+        Ok(()) => Ok(()),
+        Err(_) => Err(Error::OutOfMemory),
+    }
+}
+
+// Moves the text at the front of the first `filled` bytes to the builder, and what follows it to the front. Answers how many
+// bytes follow it.
+fn settle(builder: &mut Builder, buffer: &mut [u8], filled: usize) -> Result<usize>
+    requires { filled ≤ length buffer.old }
+    ensures bound { IfOk result (λ rest. rest ≤ filled) }
+    ensures rest { IfOk result (λ rest. take rest buffer.new ≡ text_rest (take filled buffer.old)) }
+    ensures text { OnOk result (encode_utf8_all builder.new.text ≡ encode_utf8_all builder.old.text ++ text_front (take filled buffer.old)) }
+    ensures fits { OnOk result (byte_len builder.new.text < 2 ^ 63) }
+    ensures breaks { builder.new.breaks ≡ builder.old.breaks }
+    ensures refused { IfErr result (IsRefusal (size_error (byte_len builder.old.text + length (text_front (take filled buffer.old))))) }
+{
+    let text = front_of(&buffer[..filled]);
+    let decoded = text.len();
+    match append(builder, text) {
+        Ok(()) => {}
+        Err(error) => return Err(error),
+    }
+    buffer.copy_within(decoded..filled, 0);
+    Ok(filled - decoded)
+}
+
+// Reads to the end, and puts what is text behind what was read. An unfinished character is kept for the next read.
+fn read_texts<S: Source>(
+    source: &mut S,
+    builder: &mut Builder,
+) -> std::result::Result<(), ReadError>
+    requires empty { builder.old.text ≡ [] }
+    requires clear { S.marked source.old ≡ false }
+    ensures answer { Reads (λ _. builder.new.text) (S.remaining source.old) (S.remaining source.new) (S.marked source.new) result }
+    ensures utf8 { OnOk result (IsUtf8 (encode_utf8_all builder.new.text)) }
+    ensures fits { OnOk result (byte_len builder.new.text < 2 ^ 63) }
+    ensures breaks { builder.new.breaks ≡ builder.old.breaks }
+{
+    let buffer = &mut [0u8; BUFFER_BYTES];
+    let mut filled = 0;
+    loop {
+        let count = match source.take(&mut buffer[filled..]) {
+            Ok(count) => count,
+            Err(error) => return Err(ReadError::Read(error)),
+        };
+        filled = match settle(builder, buffer, filled + count) {
+            Ok(rest) => rest,
+            Err(error) => return Err(ReadError::Rope(error)),
+        };
+        if filled == BUFFER_BYTES {
+            return Err(ReadError::InvalidData);
+        }
+        if count == 0 {
+            if filled == 0 {
+                return Ok(());
+            }
+            return Err(ReadError::InvalidData);
+        }
+    }
+}
+
+/// Reads a text to the end of the source, as the tree of it with these line breaks, in at most one leaf for each 981 bytes and
+/// one for the rest. The mark is cleared first. It takes memory.
+///
+/// # Errors
+///
+/// A failed read is answered at once as `Read`, an interrupted one too. Bytes that are no UTF-8 are answered as `InvalidData`,
+/// at the end of the source or once 1,968 bytes have been read from the first on that is not. A text of more than `isize::MAX`
+/// bytes so far, and want of memory, are answered as `Rope`.
+pub fn read_tree<S: Source>(
+    alloc: Global,
+    source: &mut S,
+    breaks: LineBreaks,
+) -> std::result::Result<Rc<Node>, ReadError>
+    ensures answer { Reads (λ node. text node.value) (S.remaining source.old) (S.remaining source.new) (S.marked source.new) result }
+    ensures breaks { IfOk result (λ node. node.value.breaks ≡ breaks) }
+    ensures tree { IfOk result (λ node. IsTree node.value) }
+    ensures few { IfOk result (λ node. length node.value.leaves ≤ (byte_len (text node.value) + 980) / 981) }
+{
+    source.clear();
+    let mut builder = Builder::new(alloc, breaks);
+    match read_texts(source, &mut builder) {
+        Ok(()) => {}
+        Err(error) => return Err(error),
+    }
+    match builder.finish(&mut 0) {
+        Ok(root) => Ok(root),
+        Err(_) => Err(ReadError::Rope(Error::OutOfMemory)),
+    }
+}

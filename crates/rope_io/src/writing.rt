@@ -1,0 +1,56 @@
+//! Texts written whole, chunk by chunk.
+ghost use Rattle.std.specs.Prelude.{◌≡◌, ◌↔◌, true, false, OnOk, OnErr, IsErr};
+ghost use Rattle.std.specs.Io.KnownBytes.{Appends};
+ghost use Rattle.std.specs.Str.{encode_utf8_all};
+ghost use Rattle.rope_part.specs.Part.{text_of};
+ghost use Rattle.rope_io.specs.Writing.{AppendsFront};
+
+use crate::device::Sink;
+use rope_cursor::Chunks;
+use rope_part::Part;
+use std::io::{self, ErrorKind};
+
+// Writes all the bytes, in as many writes as it takes.
+fn write_bytes<S: Sink>(sink: &mut S, bytes: &[u8]) -> io::Result<()>
+    requires { S.marked sink.old ≡ false }
+    ensures ok { OnOk result (Appends (S.contents sink.old) (S.contents sink.new) bytes.now) }
+    ensures clear { OnOk result (S.marked sink.new ≡ false) }
+    ensures err { OnErr result (S.marked sink.new ≡ true) }
+    ensures front { AppendsFront (S.contents sink.old) (S.contents sink.new) bytes.now }
+{
+    let mut rest = bytes;
+    while !rest.is_empty() {
+        let count = match sink.give(rest) {
+            Ok(count) => count,
+            Err(error) => return Err(error),
+        };
+        if count == 0 {
+            return Err(io::Error::from(ErrorKind::WriteZero));
+        }
+        rest = &rest[count..];
+    }
+    Ok(())
+}
+
+/// Writes the whole text, and flushes nothing. The mark is cleared first. It takes no memory of its own.
+///
+/// # Errors
+///
+/// An error of the sink is answered at once, an interrupted write's too, and a write that takes no byte of some is an error of
+/// the kind `WriteZero`. Then a beginning of the text has been written.
+pub fn write_part<S: Sink>(part: &Part<'_>, sink: &mut S) -> io::Result<()>
+    ensures ok { OnOk result (Appends (S.contents sink.old) (S.contents sink.new) (encode_utf8_all (text_of part.now))) }
+    ensures front { AppendsFront (S.contents sink.old) (S.contents sink.new) (encode_utf8_all (text_of part.now)) }
+    ensures failed { IsErr result ↔ (S.marked sink.new ≡ true) }
+{
+    sink.clear();
+    // This opens what every part keeps: its chunks join to its text.
+    let _ = part.info();
+    for chunk in Chunks::new(part) {
+        match write_bytes(sink, chunk.as_bytes()) {
+            Ok(()) => {}
+            Err(error) => return Err(error),
+        }
+    }
+    Ok(())
+}
