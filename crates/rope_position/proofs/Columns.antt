@@ -1,0 +1,87 @@
+-- Lines and columns, by counts of fronts of the text.
+use Rattle.std.proofs.Common.{◌≡◌, ℕ, ◌+◌, ◌-◌, ◌<◌, ◌≤◌, List, Option, Some, None, Result, Ok, nat_le, length, take, drop, ap, sym, ◌∙◌, arith}
+use Rattle.std.specs.List.{slice_range}
+use Rattle.std.proofs.Math.Seq.{take-add}
+use Rattle.std.proofs.lemmas.List.{take-take, length-take, length-drop}
+use Rattle.std.proofs.lemmas.Bool.{le-leb}
+use Rattle.std.proofs.lemmas.Bool.Decides.{nat_tests}
+use Rattle.std.proofs.lemmas.List.Sums.{count_by-le-length}
+use Rattle.rope_text.specs.declared.error.Error.{Error}
+use Rattle.rope_text.specs.declared.line_breaks.LineBreaks.{LineBreaks}
+use Rattle.rope_text.specs.Breaks.{break_ends}
+use Rattle.rope_text.specs.Conversions.{char_to_line, utf16_to_char}
+use Rattle.rope_text.specs.Edit.{char_index_error}
+use Rattle.rope_text.specs.Lines.{line_start, line, line_count}
+use Rattle.rope_text.specs.Position.{char_to_column, position_to_char}
+use Rattle.rope_text.specs.Text.{utf16_len}
+use Rattle.rope_text.proofs.LineLaws.{line_start-le-length, line_start_before, line_start_after}
+use Rattle.rope_text.proofs.Measures.{IsMeasure-utf16_len, size_le_all, front-le-length}
+use Rattle.rope_text.proofs.PositionLaws.{position_to_char-char_to_position}
+use Rattle.rope_position.specs.declared.position.Position.{Position}
+use Rattle.rope_text.specs.Answer.{checked}
+use Rattle.rope_position.specs.Positions.{position_at, PositionsReturn}
+
+-- a character's line is one of the text's
+pub char_to_line-less : (set : LineBreaks) (text : List ℕ) (i : ℕ) → char_to_line set text i < line_count set text
+unfolding char_to_line
+char_to_line-less set text i = omega (arith, count_by-le-length (λ p. nat_le p i) (break_ends set text))
+
+-- the code units before a place are those before an earlier one and those between
+units_between : (text : List ℕ) (a i : ℕ) → a ≤ i → utf16_len (take i text) ≡ utf16_len (take a text) + utf16_len (slice_range text a i)
+units_between text a i l =
+    let whole : a + (i - a) ≡ i = omega arith in
+    ap (λ k. utf16_len (take k text)) (sym whole) ∙ ap utf16_len (take-add a (i - a) text) ∙ IsMeasure-utf16_len.joined (take a text) (take (i - a) (drop a text))
+
+-- a column is what the code units before the line lack of those before the place
+pub column_is : (set : LineBreaks) (text : List ℕ) (i : ℕ) → i ≤ length text
+    → utf16_len (take i text) ≡ utf16_len (take (line_start set text (char_to_line set text i)) text) + char_to_column set text i
+column_is set text i l = units_between text (line_start set text (char_to_line set text i)) i (line_start_before set text i l)
+
+-- the column of a character is at most its line's code units
+column-le : (set : LineBreaks) (text : List ℕ) (i : ℕ) → i ≤ length text → char_to_column set text i ≤ utf16_len (line set text (char_to_line set text i))
+column-le set text i l =
+    let n = char_to_line set text i in
+    let start = line_start set text n in
+    let end = line_start set text (n + 1) in
+    let before : start ≤ i = line_start_before set text i l in
+    let after : i ≤ end = line_start_after set text i l in
+    let front : take (i - start) (line set text n) ≡ slice_range text start i = take-take (i - start) (end - start) (drop start text) (omega arith) in
+    rw (← front) (size_le_all utf16_len IsMeasure-utf16_len (line set text n) (i - start))
+
+-- a character of a line lies in the text
+pub in_text : (set : LineBreaks) (text : List ℕ) (l c : ℕ) → position_to_char set text l c ≤ length text
+unfolding utf16_to_char
+in_text set text l c =
+    let inside = front-le-length utf16_len IsMeasure-utf16_len (line set text l) c in
+    let start = line_start-le-length set text l in
+    omega (arith, length-take (line_start set text (l + 1) - line_start set text l) (drop (line_start set text l) text), length-drop (line_start set text l) text)
+
+pub positions_are_fine : PositionsReturn
+positions_are_fine set text i l =
+    let line_is = char_to_line-less set text i in
+    let column = column-le set text i l in
+    (grind (arith, nat_tests), position_to_char-char_to_position set text i l)
+
+same_position : (l m c d : ℕ) → l ≡ m → c ≡ d → ◌≡◌ {A = Position} (record { line = l; column = c }) (record { line = m; column = d })
+same_position l m c d e f =
+    let at : ℕ → ℕ → Position = λ line column. record { line = line; column = column } in
+    ap (λ line. at line c) e ∙ ap (at m) f
+
+-- a position that was found by the code units before its line and before its place
+pub position_by : (set : LineBreaks) (text : List ℕ) (i line start before all : ℕ) → i ≤ length text → line ≡ char_to_line set text i → start ≡ line_start set text line
+    → before ≡ utf16_len (take start text) → all ≡ utf16_len (take i text)
+    → (before ≤ all) × ◌≡◌ {A = Position} (record { line = line; column = all - before }) (position_at set text i)
+position_by set text i line start before all l line_is start_is before_is all_is =
+    let column = column_is set text i l in
+    let place : start ≡ line_start set text (char_to_line set text i) = start_is ∙ ap (line_start set text) line_is in
+    let units : before ≡ utf16_len (take (line_start set text (char_to_line set text i)) text) = before_is ∙ ap (λ k. utf16_len (take k text)) place in
+    (omega arith, same_position line (char_to_line set text i) (all - before) (char_to_column set text i) line_is (omega arith))
+
+-- an index that isn't refused has its position
+pub position_fine : (i len : ℕ) (p q : Position) → i ≤ len → p ≡ q → ◌≡◌ {A = Result Position Error} (Ok p) (checked (char_index_error i len) q)
+position_fine i len p q l e = rw (le-leb i len l) (ap Ok e)
+
+-- what is answered where nothing is refused is the value
+pub value_is : (error : Option Error) (value found : ℕ) → ◌≡◌ {A = Result ℕ Error} (Ok found) (checked error value) → found ≡ value
+value_is None value found e = cc
+value_is (Some error) value found e = absurd (cc)

@@ -1,0 +1,10 @@
+use Rattle.std.proofs.Common.{ap, sym, ◌∙◌, arith}
+use Rattle.rope_text.specs.Content.{Content}
+use Rattle.rope_text.specs.Conversions.{utf16_to_char}
+use Rattle.rope_position.proofs.Columns.{in_text, value_is}
+use Rattle.rope_position.proofs.ropes.RopePositions.try_position_to_char.Goals as goal
+
+pub overflow_add-result : goal.overflow_add-result
+overflow_add-result c =
+    let inside = value_is _ _ _ (sym c.in-Ok.is ∙ c.char_in_line.ensures) ∙ ap (λ (line : Content). utf16_to_char line.text c.args.position.column) c.line.ensures in
+    omega (arith, inside, c.line_to_char.ensures, c.len_chars.ensures, in_text c.args.self.now.breaks c.args.self.now.text c.args.position.line c.args.position.column)

@@ -1,0 +1,84 @@
+//! Positions, and the two conversions between them and characters.
+ghost use Rattle.std.specs.Prelude.{◌≡◌, ◌≤◌, length, None};
+ghost use Rattle.rope_text.specs.Content.{Content};
+ghost use Rattle.rope_text.specs.Conversions.{utf16_to_char};
+ghost use Rattle.rope_text.specs.Edit.{char_index_error, utf16_index_error};
+ghost use Rattle.rope_text.specs.Position as of_text;
+ghost use Rattle.rope_text.specs.Text.{utf16_len};
+ghost use Rattle.rope_slice.specs.Slice.{text_of};
+ghost use Rattle.rope_text.specs.Answer.{checked};
+ghost use Rattle.rope_position.specs.Positions.{position_at};
+
+use ropey::{Error, Result, RopeSlice};
+
+/// A place in a text as an editor shows it.
+#[derive(Clone, Copy, PartialEq, Eq, PartialOrd, Ord, Hash, Debug)]
+pub struct Position {
+    /// The line, counted from 0.
+    pub line: usize,
+    /// The code units of UTF-16 from the start of the line up to the place. The line's break is among them, so a place
+    /// inside a break or behind the last line's text has a column too.
+    pub column: usize,
+}
+
+/// Texts whose places have positions. No call takes memory.
+pub trait Positions {
+    ghost shown: { Self → Content };
+
+    /// What `char_to_position` answers.
+    ///
+    /// # Errors
+    ///
+    /// `CharIndexOutOfBounds`, with the index and the number of characters, where the index is past `len_chars()`.
+    fn try_char_to_position(&self, char_idx: usize) -> Result<Position>
+        ensures { result ≡ checked (char_index_error char_idx (length (shown self.now).text))
+            (position_at (shown self.now).breaks (shown self.now).text char_idx) };
+
+    /// What `position_to_char` answers.
+    ///
+    /// # Errors
+    ///
+    /// First `LineIndexOutOfBounds`, with the line and the number of lines, where there is no such line; then
+    /// `Utf16IndexOutOfBounds`, with the column and the line's number of code units, where the column is past them.
+    fn try_position_to_char(&self, position: Position) -> Result<usize>
+        ensures { result ≡ checked (of_text.position_error (shown self.now).breaks (shown self.now).text position.line position.column)
+            (of_text.position_to_char (shown self.now).breaks (shown self.now).text position.line position.column) };
+
+    /// The position of the character `char_idx`, counted from 0, or of the end of the text. The index is at most
+    /// `len_chars()`.
+    fn char_to_position(&self, char_idx: usize) -> Position
+        requires { char_idx ≤ length (shown self.now).text }
+        ensures { result ≡ position_at (shown self.now).breaks (shown self.now).text char_idx }
+    {
+        match self.try_char_to_position(char_idx) {
+            Ok(position) => position,
+            Err(_) => unreachable!(),
+        }
+    }
+
+    /// The last character, counted from 0, of the position's line that begins at the position or before it: the one that
+    /// holds it, also where the column is inside its surrogate pair. At the line's end it is where the next line starts, or
+    /// the end of the text.
+    ///
+    /// There is such a line, and the column is at most its number of code units.
+    fn position_to_char(&self, position: Position) -> usize
+        requires { of_text.position_error (shown self.now).breaks (shown self.now).text position.line position.column ≡ None }
+        ensures { result ≡ of_text.position_to_char (shown self.now).breaks (shown self.now).text position.line position.column }
+    {
+        match self.try_position_to_char(position) {
+            Ok(char_idx) => char_idx,
+            Err(_) => unreachable!(),
+        }
+    }
+}
+
+/// The character of a line, counted from the line's start, that a column is in, or why the column is refused.
+pub(crate) fn char_in_line(line: RopeSlice<'_>, column: usize) -> Result<usize>
+    ensures { result ≡ checked (utf16_index_error column (utf16_len (text_of line.entry))) (utf16_to_char (text_of line.entry) column) }
+{
+    let units = line.len_utf16_cu();
+    if column > units {
+        return Err(Error::Utf16IndexOutOfBounds(column, units));
+    }
+    Ok(line.utf16_cu_to_char(column))
+}
