@@ -1,6 +1,8 @@
 -- A comparison under way.
-use Rattle.std.proofs.Common.{Ordering, Less, Equal, Greater, ◌==◌, Bool, true, false, not, nat_eq, refl, ◌≡◌, ℕ, List, [], ◌++◌, length, sym, ap, ◌∙◌, arith, length-append}
+use Rattle.std.proofs.Common.{IsTrue, ◌↔◌, Ordering, Less, Equal, Greater, ◌==◌, Bool, true, false, not, nat_eq, refl, ◌≡◌, ℕ, List, [], ◌++◌, length, sym, ap, ◌∙◌, arith, length-append}
 use Rattle.std.proofs.lemmas.List.{append_cancel_left}
+use Rattle.std.proofs.lemmas.Str.{encodes_same}
+use Rattle.std.specs.Str.{encode_utf8_all}
 use lib.Pointwise.{pointwise, bytes_decides}
 use Rattle.std.specs.Cmp.Lexicographic.{slice_cmp}
 use Rattle.std.specs.Ordering.{nat_cmp, ordering_index}
@@ -43,3 +45,21 @@ pub tested_tie : (o : Ordering) → (ordering_index o == 1) ≡ true → o ≡ E
 tested_tie Less e = cc
 tested_tie Equal e = refl
 tested_tie Greater e = cc
+
+-- two tests that tell the same are the same
+same_tests : (r q : Bool) → (r ≡ true → q ≡ true) → (q ≡ true → r ≡ true) → r ≡ q
+same_tests false false f g = refl
+same_tests false true f g = g refl
+same_tests true false f g = sym (f refl)
+same_tests true true f g = refl
+
+-- what tells whether two texts are the same compares their bytes one by one
+pub same_by_bytes : (r : Bool) (s t : List ℕ) → IsTrue r ↔ (s ≡ t) → r ≡ pointwise nat_eq (encode_utf8_all s) (encode_utf8_all t)
+same_by_bytes r s t same =
+    let bytes = bytes_decides (encode_utf8_all s) (encode_utf8_all t) in
+    same_tests r _ (λ h. bytes.1 (ap encode_utf8_all (same.0 h))) (λ h. same.1 (encodes_same s t (bytes.0 h)))
+
+pub bytes_tell : (s t : List ℕ) → IsTrue (pointwise nat_eq (encode_utf8_all s) (encode_utf8_all t)) ↔ (s ≡ t)
+bytes_tell s t =
+    let bytes = bytes_decides (encode_utf8_all s) (encode_utf8_all t) in
+    (λ h. encodes_same s t (bytes.0 h), λ e. bytes.1 (ap encode_utf8_all e))
