@@ -2,6 +2,7 @@
 #![tactic(auto)]
 
 mod chunks_at;
+mod compare;
 mod conversions;
 mod counted;
 mod cursors;
@@ -9,11 +10,13 @@ mod edits;
 mod inserts;
 pub mod io;
 pub mod iter;
+pub mod laws;
 mod lookups;
 mod rope;
 mod rope_builder;
 mod slices;
 pub mod str_utils;
+mod text_out;
 mod texts;
 
 pub use rope::Rope;
