@@ -5,10 +5,7 @@ use Rattle.std.specs.Str.{encode_utf8_all}
 use Rattle.rope_text.specs.Compare.{hash_writes}
 use Rattle.ropey.specs.View.{RopeView}
 
--- the text, its bytes, and what it hands a hasher
-abbrev pub text_of : RopeView → List ℕ
-text_of r = r.text
-
+-- its bytes, and what it hands a hasher
 abbrev pub bytes_of : RopeView → List ℕ
 bytes_of r = encode_utf8_all r.text
 

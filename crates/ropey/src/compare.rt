@@ -46,7 +46,7 @@ impl Ord for Rope {
     ghost use Rattle.std.specs.Cmp.Rules.{comparing};
     ghost use Rattle.std.specs.Ordering.{on};
     ghost use Rattle.rope_text.specs.Compare.{text_cmp};
-    ghost use Rattle.ropey.specs.Compared.{text_of};
+    ghost use Rattle.ropey.specs.View.{text_of};
 
     ghost cmp = { on text_of text_cmp };
 
@@ -67,7 +67,7 @@ impl PartialOrd for Rope {
     ghost use Rattle.std.specs.Cmp.Rules.{comparing};
     ghost use Rattle.std.specs.Ordering.{on, as_partial_cmp};
     ghost use Rattle.rope_text.specs.Compare.{text_cmp};
-    ghost use Rattle.ropey.specs.Compared.{text_of};
+    ghost use Rattle.ropey.specs.View.{text_of};
 
     ghost partial_cmp = { as_partial_cmp (on text_of text_cmp) };
 

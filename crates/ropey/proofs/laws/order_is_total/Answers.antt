@@ -1,7 +1,7 @@
 use Rattle.std.specs.Cmp.{on_total}
 use Rattle.rope_text.proofs.CompareLaws.{text_cmp_total, same_from_text_cmp, text_cmp_same}
 use Rattle.rope_compare.proofs.Comparing.{bytes_tell}
-use Rattle.ropey.specs.Compared.{text_of}
+use Rattle.ropey.specs.View.{text_of}
 use Rattle.ropey.proofs.laws.order_is_total.Goals as goal
 
 pub returns-clause-total : goal.returns-clause-total
