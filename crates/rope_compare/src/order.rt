@@ -1,5 +1,7 @@
 //! The order of two texts, and whether they are the same.
 ghost use Rattle.std.specs.Prelude.{◌≡◌, IsTrue, ◌↔◌};
+ghost use Rattle.std.specs.Cmp.Lexicographic.{slice_cmp};
+ghost use Rattle.std.specs.Ordering.{nat_cmp};
 ghost use Rattle.std.specs.Str.{chars};
 ghost use Rattle.rope_text.specs.Compare.{text_cmp};
 ghost use Rattle.rope_part.specs.Part.{text_of};
@@ -24,13 +26,23 @@ pub fn order(left: &Part<'_>, right: &Part<'_>) -> Ordering
         let n = x.len().min(y.len());
         let (front, rest) = x.split_at(n);
         let (other_front, other_rest) = y.split_at(n);
-        let found = front.cmp(other_front);
+        let found = order_of_pieces(front, other_front);
         if found != Ordering::Equal {
             return found;
         }
         x = filled(rest, &mut lefts);
         y = filled(other_rest, &mut rights);
     }
+}
+
+// The order of two pieces. Mostly they are the same, and that is found faster than where they differ.
+fn order_of_pieces(left: &[u8], right: &[u8]) -> Ordering
+    ensures { result ≡ slice_cmp nat_cmp left.now right.now }
+{
+    if left == right {
+        return Ordering::Equal;
+    }
+    left.cmp(right)
 }
 
 /// Whether two texts are the same, however each is cut. No memory is taken, and no text is read where the lengths differ.

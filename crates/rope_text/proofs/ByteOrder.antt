@@ -51,3 +51,10 @@ decided o x y r s n h k e d =
 pub left_open : (o : Ordering) (x y r s : List ℕ) (n : ℕ) → n ≤ length x → n ≤ length y → o ≡ slice_cmp nat_cmp (take n x) (take n y) → not (ordering_index o == 1) ≡ false → slice_cmp nat_cmp (drop n x ++ r) (drop n y ++ s) ≡ slice_cmp nat_cmp (x ++ r) (y ++ s)
 left_open o x y r s n h k e d =
     sym (split x y r s n h k ∙ ap (λ q. ordering_then q (slice_cmp nat_cmp (drop n x ++ r) (drop n y ++ s))) (sym e) ∙ equal o _ d)
+
+-- the same bytes tie
+pub slice_cmp_same : (xs : List ℕ) → slice_cmp nat_cmp xs xs ≡ Equal
+slice_cmp_same [] = refl
+slice_cmp_same (x ∷ xs) =
+    let tie : nat_cmp x x ≡ Equal = grind (arith, nat_tests) in
+    ap (λ o. ordering_then o (slice_cmp nat_cmp xs xs)) tie ∙ slice_cmp_same xs

@@ -19,9 +19,9 @@ returns-then-ne c =
     let x = c.pieces.x.now in
     let y = c.pieces.y.now in
     let n = c.min-n.result in
-    let found : c.cmp-found.result ≡ slice_cmp nat_cmp (take n x) (take n y) =
-    c.cmp-found.ensures ∙ ap (λ z. slice_cmp nat_cmp z c.split_at-in-pieces.result.0.now) c.split_at.ensures.front ∙ ap (slice_cmp nat_cmp (take n x)) c.split_at-in-pieces.ensures.front in
-    decided c.cmp-found.result x y (bytes_ahead c.pieces.lefts) (bytes_ahead c.pieces.rights) n (omega (arith, c.min-n.ensures)) (omega (arith, c.min-n.ensures)) found (sym c.ne.ensures ∙ c.if-ne.true) ∙ i.same
+    let found : c.order_of_pieces-found.result ≡ slice_cmp nat_cmp (take n x) (take n y) =
+    c.order_of_pieces-found.ensures ∙ ap (λ z. slice_cmp nat_cmp z c.split_at-in-pieces.result.0.now) c.split_at.ensures.front ∙ ap (slice_cmp nat_cmp (take n x)) c.split_at-in-pieces.ensures.front in
+    decided c.order_of_pieces-found.result x y (bytes_ahead c.pieces.lefts) (bytes_ahead c.pieces.rights) n (omega (arith, c.min-n.ensures)) (omega (arith, c.min-n.ensures)) found (sym c.ne.ensures ∙ c.if-ne.true) ∙ i.same
 
 pub pieces-smaller : goal.pieces-smaller
 pieces-smaller c =
@@ -41,14 +41,14 @@ pieces-preserved c =
     let lefts = bytes_ahead c.pieces.lefts in
     let rights = bytes_ahead c.pieces.rights in
     let n = c.min-n.result in
-    let found : c.cmp-found.result ≡ slice_cmp nat_cmp (take n x) (take n y) =
-    c.cmp-found.ensures ∙ ap (λ z. slice_cmp nat_cmp z c.split_at-in-pieces.result.0.now) c.split_at.ensures.front ∙ ap (slice_cmp nat_cmp (take n x)) c.split_at-in-pieces.ensures.front in
+    let found : c.order_of_pieces-found.result ≡ slice_cmp nat_cmp (take n x) (take n y) =
+    c.order_of_pieces-found.ensures ∙ ap (λ z. slice_cmp nat_cmp z c.split_at-in-pieces.result.0.now) c.split_at.ensures.front ∙ ap (slice_cmp nat_cmp (take n x)) c.split_at-in-pieces.ensures.front in
     let next_x = c.filled-x-in-pieces.ensures.same ∙ ap (λ z. z ++ lefts) c.split_at.ensures.back in
     let next_y = c.filled-y-in-pieces.ensures.same ∙ ap (λ z. z ++ rights) c.split_at-in-pieces.ensures.back in
     record {
       same = ap (λ z. slice_cmp nat_cmp z (c.filled-y-in-pieces.result.now ++ bytes_ahead c.filled-y-in-pieces.new.chunks)) next_x
           ∙ ap (slice_cmp nat_cmp (drop n x ++ lefts)) next_y
-          ∙ left_open c.cmp-found.result x y lefts rights n (omega (arith, c.min-n.ensures)) (omega (arith, c.min-n.ensures)) found (sym c.ne.ensures ∙ c.if-ne.false) ∙ i.same;
+          ∙ left_open c.order_of_pieces-found.result x y lefts rights n (omega (arith, c.min-n.ensures)) (omega (arith, c.min-n.ensures)) found (sym c.ne.ensures ∙ c.if-ne.false) ∙ i.same;
       x_some = c.filled-x-in-pieces.ensures.some;
       y_some = c.filled-y-in-pieces.ensures.some;
     }
