@@ -1,4 +1,4 @@
-//! Tests of ropes read and written, with readers and writers that give and take bytes in any parts and fail at any place.
+//! Tests of ropes read and written, by readers and writers that move bytes in any parts and fail at any place.
 #![tactic(auto)]
 
 #[cfg(test)]
