@@ -45,8 +45,8 @@ pub trait Sink: Mark {
     /// The bytes that it holds, where they are known.
     ghost contents: { Self → Option (List ℕ) };
 
-    /// Writes and answers as `Write::write` does. It sets the mark exactly where it answers an error or takes no byte of
-    /// some, and else leaves it.
+    /// Writes and answers as `Write::write` does. It sets the mark exactly where it answers an error or takes no byte
+    /// of some, and else leaves it.
     fn give(&mut self, buf: &[u8]) -> io::Result<usize>
         ensures bound { WritesAtMost result buf.now }
         ensures bytes { WriteAppends (contents self.old) (contents self.new) result buf.now }

@@ -47,16 +47,18 @@ fn append(builder: &mut Builder, text: &str) -> Result<()>
     }
 }
 
-// Moves the text at the front of the first `filled` bytes to the builder, and what follows it to the front. Answers how many
-// bytes follow it.
+// Moves the text at the front of the first `filled` bytes to the builder, and what follows it to the front. Answers how
+// many bytes follow it.
 fn settle(builder: &mut Builder, buffer: &mut [u8], filled: usize) -> Result<usize>
     requires { filled ≤ length buffer.old }
     ensures bound { IfOk result (λ rest. rest ≤ filled) }
     ensures rest { IfOk result (λ rest. take rest buffer.new ≡ text_rest (take filled buffer.old)) }
-    ensures text { OnOk result (encode_utf8_all builder.new.text ≡ encode_utf8_all builder.old.text ++ text_front (take filled buffer.old)) }
+    ensures text { OnOk result (encode_utf8_all builder.new.text
+        ≡ encode_utf8_all builder.old.text ++ text_front (take filled buffer.old)) }
     ensures fits { OnOk result (byte_len builder.new.text < 2 ^ 63) }
     ensures breaks { builder.new.breaks ≡ builder.old.breaks }
-    ensures refused { IfErr result (IsRefusal (size_error (byte_len builder.old.text + length (text_front (take filled buffer.old))))) }
+    ensures refused { IfErr result
+        (IsRefusal (size_error (byte_len builder.old.text + length (text_front (take filled buffer.old))))) }
 {
     let text = front_of(&buffer[..filled]);
     let decoded = text.len();
@@ -75,7 +77,8 @@ fn read_texts<S: Source>(
 ) -> std::result::Result<(), ReadError>
     requires empty { builder.old.text ≡ [] }
     requires clear { S.marked source.old ≡ false }
-    ensures answer { Reads (λ _. builder.new.text) (S.remaining source.old) (S.remaining source.new) (S.marked source.new) result }
+    ensures answer { Reads (λ _. builder.new.text) (S.remaining source.old) (S.remaining source.new)
+        (S.marked source.new) result }
     ensures utf8 { OnOk result (IsUtf8 (encode_utf8_all builder.new.text)) }
     ensures fits { OnOk result (byte_len builder.new.text < 2 ^ 63) }
     ensures breaks { builder.new.breaks ≡ builder.old.breaks }
@@ -103,20 +106,21 @@ fn read_texts<S: Source>(
     }
 }
 
-/// Reads a text to the end of the source, as the tree of it with these line breaks, in at most one leaf for each 981 bytes and
-/// one for the rest. The mark is cleared first. It takes memory.
+/// Reads a text to the end of the source, as the tree of it with these line breaks, in at most one leaf for each 981
+/// bytes and one for the rest. The mark is cleared first. It takes memory.
 ///
 /// # Errors
 ///
-/// A failed read is answered at once as `Read`, an interrupted one too. Bytes that are no UTF-8 are answered as `InvalidData`,
-/// at the end of the source or once 1,968 bytes have been read from the first on that is not. A text of more than `isize::MAX`
-/// bytes so far, and want of memory, are answered as `Rope`.
+/// A failed read is answered at once as `Read`, an interrupted one too. Bytes that are no UTF-8 are answered as
+/// `InvalidData`, at the end of the source or once 1,968 bytes have been read from the first on that is not. A text of
+/// more than `isize::MAX` bytes so far, and want of memory, are answered as `Rope`.
 pub fn read_tree<S: Source>(
     alloc: Global,
     source: &mut S,
     breaks: LineBreaks,
 ) -> std::result::Result<Rc<Node>, ReadError>
-    ensures answer { Reads (λ node. text node.value) (S.remaining source.old) (S.remaining source.new) (S.marked source.new) result }
+    ensures answer { Reads (λ node. text node.value) (S.remaining source.old) (S.remaining source.new)
+        (S.marked source.new) result }
     ensures breaks { IfOk result (λ node. node.value.breaks ≡ breaks) }
     ensures tree { IfOk result (λ node. IsTree node.value) }
     ensures few { IfOk result (λ node. length node.value.leaves ≤ (byte_len (text node.value) + 980) / 981) }

@@ -1,7 +1,7 @@
 //! Ropes read from readers and written to writers.
 //!
-//! A reader or a writer may be handed over, or lent as a `Source` or a `Sink`, which marks its failures: then it can be asked
-//! afterwards whether it was the device that failed. `Watched` makes one of any reader or writer.
+//! A reader or a writer may be handed over, or lent as a `Source` or a `Sink`, which marks its failures: then it can be
+//! asked afterwards whether it was the device that failed. `Watched` makes one of any reader or writer.
 ghost use Rattle.std.specs.Prelude.{◌≡◌, ℕ, List, Bool, Option, true, ◌↔◌, OnOk, IfOk, IfSome, IsErr};
 ghost use Rattle.std.specs.Io.KnownBytes.{Appends};
 ghost use Rattle.std.specs.Str.{encode_utf8_all};
@@ -20,19 +20,20 @@ use std::alloc::Global;
 use std::io::{self, Read, Write};
 
 impl Rope {
-    /// The text that a reader gives to its end, with Unicode's line breaks, in at most one chunk for each 981 bytes and one
-    /// more for the rest. The bytes are read as UTF-8. It takes memory.
+    /// The text that a reader gives to its end, with Unicode's line breaks, in at most one chunk for each 981 bytes and
+    /// one more for the rest. The bytes are read as UTF-8. It takes memory.
     ///
     /// # Errors
     ///
     /// A failed read is answered at once as `Read`, an interrupted one too. Bytes that are no UTF-8 are answered as
-    /// `InvalidData`, at the end of the input or once 1,968 bytes have been read from the first on that is not. A text of more
-    /// than `isize::MAX` bytes so far, and want of memory, are answered as `Rope`.
+    /// `InvalidData`, at the end of the input or once 1,968 bytes have been read from the first on that is not. A text
+    /// of more than `isize::MAX` bytes so far, and want of memory, are answered as `Rope`.
     pub fn from_reader<T: Read + Drop>(
         alloc: Global,
         reader: T,
     ) -> std::result::Result<Rope, ReadError>
-        ensures answer { (left : Option (List ℕ)) × (failed : Bool) × Reads text_of (T.remaining reader) left failed result }
+        ensures answer { (left : Option (List ℕ)) × (failed : Bool)
+            × Reads text_of (T.remaining reader) left failed result }
         ensures ok { IfOk result (λ rope. IfSome (T.remaining reader) (λ bytes. encode_utf8_all rope.text ≡ bytes)) }
         ensures breaks { IfOk result (λ rope. rope.breaks ≡ Unicode) }
         ensures kept { IfOk result IsRope }
@@ -41,8 +42,8 @@ impl Rope {
         Rope::from_reader_with(alloc, reader, LineBreaks::Unicode)
     }
 
-    /// As `from_reader`, of a source that is lent. The mark is cleared first, and is set afterwards exactly where the answer is
-    /// `Read`.
+    /// As `from_reader`, of a source that is lent. The mark is cleared first, and is set afterwards exactly where the
+    /// answer is `Read`.
     pub fn from_watched<S: Source>(
         alloc: Global,
         source: &mut S,
@@ -66,7 +67,8 @@ impl Rope {
         reader: T,
         breaks: LineBreaks,
     ) -> std::result::Result<Rope, ReadError>
-        ensures answer { (left : Option (List ℕ)) × (failed : Bool) × Reads text_of (T.remaining reader) left failed result }
+        ensures answer { (left : Option (List ℕ)) × (failed : Bool)
+            × Reads text_of (T.remaining reader) left failed result }
         ensures ok { IfOk result (λ rope. IfSome (T.remaining reader) (λ bytes. encode_utf8_all rope.text ≡ bytes)) }
         ensures breaks { IfOk result (λ rope. rope.breaks ≡ breaks) }
         ensures kept { IfOk result IsRope }
@@ -98,14 +100,14 @@ impl Rope {
     ///
     /// # Errors
     ///
-    /// A write's error is answered at once, an interrupted one's too; a write that takes no byte of some is an error of the
-    /// kind `WriteZero`. Then a beginning of the text has been written.
+    /// A write's error is answered at once, an interrupted one's too; a write that takes no byte of some is an error of
+    /// the kind `WriteZero`. Then a beginning of the text has been written.
     pub fn write_to<T: Write + Drop>(&self, writer: T) -> io::Result<()> {
         self.write_watched(&mut Watched::new(writer))
     }
 
-    /// As `write_to`, to a sink that is lent. The mark is cleared first, and is set afterwards exactly where an error is
-    /// answered.
+    /// As `write_to`, to a sink that is lent. The mark is cleared first, and is set afterwards exactly where an error
+    /// is answered.
     pub fn write_watched<S: Sink>(&self, sink: &mut S) -> io::Result<()>
         ensures ok { OnOk result (Appends (S.contents sink.old) (S.contents sink.new) (encode_utf8_all self.now.text)) }
         ensures front { AppendsFront (S.contents sink.old) (S.contents sink.new) (encode_utf8_all self.now.text) }
