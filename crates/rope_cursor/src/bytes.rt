@@ -11,6 +11,7 @@ use crate::point::{next_chunk, prev_chunk};
 use crate::span::Span;
 use rope_part::Part;
 use std::alloc::AllocError;
+use std::fmt;
 use std::iter::ExactSizeIterator;
 use std::marker::Model;
 
@@ -200,5 +201,17 @@ impl<'a> Clone for Bytes<'a> {
             total: self.total,
             is_backward: self.is_backward,
         })
+    }
+}
+
+/// Shows where it stands and which way it faces; no text.
+impl<'a> fmt::Debug for Bytes<'a> {
+    fn fmt<W: fmt::Write>(&self, f: &mut fmt::Formatter<W>) -> fmt::Result {
+        f.debug_struct("Bytes")
+            .field("before", &self.before)
+            .field("at", &self.at)
+            .field("total", &self.total)
+            .field("is_backward", &self.is_backward)
+            .finish()
     }
 }

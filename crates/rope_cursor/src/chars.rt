@@ -10,6 +10,7 @@ use crate::span::Span;
 use rope_part::Part;
 use rope_text::str_utils::char_to_byte_idx;
 use std::alloc::AllocError;
+use std::fmt;
 use std::iter::ExactSizeIterator;
 use std::marker::Model;
 
@@ -201,5 +202,16 @@ impl<'a> Clone for Chars<'a> {
             total: self.total,
             is_backward: self.is_backward,
         })
+    }
+}
+
+/// Shows where it stands and which way it faces; no text.
+impl<'a> fmt::Debug for Chars<'a> {
+    fn fmt<W: fmt::Write>(&self, f: &mut fmt::Formatter<W>) -> fmt::Result {
+        f.debug_struct("Chars")
+            .field("passed", &self.passed)
+            .field("total", &self.total)
+            .field("is_backward", &self.is_backward)
+            .finish()
     }
 }

@@ -11,6 +11,7 @@ ghost use Rattle.rope_part.specs.Part.{text_of, chunks_of, breaks_of};
 use crate::span::Span;
 use rope_part::Part;
 use std::alloc::AllocError;
+use std::fmt;
 use std::marker::Model;
 
 /// A cursor over the chunks of a part. It takes no memory.
@@ -241,5 +242,16 @@ impl<'a> Clone for Chunks<'a> {
             is_past: self.is_past,
             is_backward: self.is_backward,
         })
+    }
+}
+
+/// Shows whether it stands past its chunk and which way it faces; no text.
+impl<'a> fmt::Debug for Chunks<'a> {
+    fn fmt<W: fmt::Write>(&self, f: &mut fmt::Formatter<W>) -> fmt::Result {
+        f.debug_struct("Chunks")
+            .field("is_empty", &self.is_empty)
+            .field("is_past", &self.is_past)
+            .field("is_backward", &self.is_backward)
+            .finish()
     }
 }

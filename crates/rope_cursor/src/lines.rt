@@ -12,6 +12,7 @@ use crate::gap::Gap;
 use rope_part::Part;
 use rope_text::TextInfo;
 use std::alloc::AllocError;
+use std::fmt;
 use std::iter::ExactSizeIterator;
 use std::marker::Model;
 
@@ -190,5 +191,16 @@ impl<'a> Clone for Lines<'a> {
             total: self.total,
             is_backward: self.is_backward,
         })
+    }
+}
+
+/// Shows where it stands and which way it faces; no text.
+impl<'a> fmt::Debug for Lines<'a> {
+    fn fmt<W: fmt::Write>(&self, f: &mut fmt::Formatter<W>) -> fmt::Result {
+        f.debug_struct("Lines")
+            .field("line", &self.line)
+            .field("total", &self.total)
+            .field("is_backward", &self.is_backward)
+            .finish()
     }
 }

@@ -2,6 +2,9 @@
 use Rattle.std.specs.Prelude.{ℕ, List}
 use Rattle.rope_text.specs.declared.line_breaks.LineBreaks.{LineBreaks}
 use Rattle.rope_text.specs.Content.{Content}
+use Rattle.std.specs.Hash.{HashWrites}
+use Rattle.std.specs.Str.{encode_utf8_all}
+use Rattle.rope_text.specs.Compare.{hash_writes}
 use Rattle.rope_part.specs.Part as of_part
 use Rattle.rope_slice.specs.declared.slice.RopeSlice.{RopeSlice}
 
@@ -17,3 +20,10 @@ chunks_of slice = (content_of slice).chunks
 
 abbrev pub breaks_of : RopeSlice → LineBreaks
 breaks_of slice = (content_of slice).breaks
+
+-- its bytes, and what it hands a hasher
+abbrev pub bytes_of : RopeSlice → List ℕ
+bytes_of slice = encode_utf8_all (text_of slice)
+
+abbrev pub writes_of : RopeSlice → HashWrites
+writes_of slice = hash_writes (text_of slice)

@@ -10,6 +10,7 @@ ghost use Rattle.rope_slice.specs.Slice.{content_of, text_of, breaks_of};
 use crate::slice::RopeSlice;
 use rope_cursor::lines;
 use std::alloc::AllocError;
+use std::fmt;
 use std::iter::ExactSizeIterator;
 use std::marker::Model;
 
@@ -160,5 +161,12 @@ impl<'a> Clone for Lines<'a> {
         Ok(Lines {
             parts: self.parts.clone()?,
         })
+    }
+}
+
+/// Shows where it stands and which way it faces; no text.
+impl<'a> fmt::Debug for Lines<'a> {
+    fn fmt<W: fmt::Write>(&self, f: &mut fmt::Formatter<W>) -> fmt::Result {
+        fmt::Debug::fmt(&self.parts, f)
     }
 }

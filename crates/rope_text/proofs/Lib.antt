@@ -39,3 +39,4 @@ pub mod LastBreakLaws
 mod Examples
 pub mod LinePartLaws
 pub mod LineSeams
+pub mod ByteOrder

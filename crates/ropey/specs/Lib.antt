@@ -1,3 +1,4 @@
 pub mod View
 pub mod Building
 pub mod Texts
+pub mod Compared

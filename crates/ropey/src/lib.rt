@@ -2,17 +2,20 @@
 #![tactic(auto)]
 
 mod chunks_at;
+mod compare;
 mod conversions;
 mod counted;
 mod cursors;
 mod edits;
 mod inserts;
 pub mod iter;
+pub mod laws;
 mod lookups;
 mod rope;
 mod rope_builder;
 mod slices;
 pub mod str_utils;
+mod text_out;
 mod texts;
 
 pub use rope::Rope;

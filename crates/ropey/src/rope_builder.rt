@@ -10,6 +10,7 @@ use crate::rope::{MAX_TEXT_BYTES, Rope};
 use rope_text::{Error, LineBreaks, Result};
 use rope_tree::builder::Builder;
 use std::alloc::Global;
+use std::fmt;
 use std::marker::Model;
 
 /// Makes a rope of texts that are handed in one after the other, with no copy of the whole text beside it. It is seen as the
@@ -108,5 +109,15 @@ impl RopeBuilder {
             root,
             alloc: self.alloc,
         })
+    }
+}
+
+/// Shows how many bytes were handed in and what refused it, if anything did; no text.
+impl fmt::Debug for RopeBuilder {
+    fn fmt<W: fmt::Write>(&self, f: &mut fmt::Formatter<W>) -> fmt::Result {
+        f.debug_struct("RopeBuilder")
+            .field("len_bytes", &self.builder.len_bytes())
+            .field("failed", &self.failed)
+            .finish()
     }
 }

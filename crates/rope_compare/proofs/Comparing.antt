@@ -1,0 +1,65 @@
+-- A comparison under way.
+use Rattle.std.proofs.Common.{IsTrue, ◌↔◌, Ordering, Less, Equal, Greater, ◌==◌, Bool, true, false, not, nat_eq, refl, ◌≡◌, ℕ, List, [], ◌++◌, length, sym, ap, ◌∙◌, arith, length-append}
+use Rattle.std.proofs.lemmas.List.{append_cancel_left}
+use Rattle.std.proofs.lemmas.Str.{encodes_same}
+use Rattle.std.specs.Str.{encode_utf8_all}
+use lib.Pointwise.{pointwise, bytes_decides}
+use Rattle.std.specs.Cmp.Lexicographic.{slice_cmp}
+use Rattle.std.specs.Ordering.{nat_cmp, ordering_index}
+
+-- what is left compares as the whole, and a front is empty only where nothing is left
+pub record IsComparing (a b x a_rest y b_rest : List ℕ) : Type 0 where
+  pub same : slice_cmp nat_cmp (x ++ a_rest) (y ++ b_rest) ≡ slice_cmp nat_cmp a b
+  pub x_some : length x ≡ 0 → a_rest ≡ []
+  pub y_some : length y ≡ 0 → b_rest ≡ []
+
+-- what is left is the same exactly if the wholes are, and has one length
+pub record IsMatching (a b a_rest b_rest : List ℕ) : Type 0 where
+  pub on : a ≡ b → a_rest ≡ b_rest
+  pub back : a_rest ≡ b_rest → a ≡ b
+  pub size : length a_rest ≡ length b_rest
+
+-- equal texts with equal fronts have equal rests
+behind : (x y r s : List ℕ) → x ≡ y → x ++ r ≡ y ++ s → r ≡ s
+behind x y r s e f = append_cancel_left y r s (ap (λ z. z ++ r) (sym e) ∙ f)
+
+pub passed : (a b rest ahead front back bytes next : List ℕ) → IsMatching a b rest ahead → rest ≡ front ++ back → ahead ≡ bytes ++ next → front ≡ bytes → IsMatching a b back next
+passed a b rest ahead front back bytes next m e f same = record {
+  on = λ g. behind front bytes back next same (sym e ∙ m.on g ∙ f);
+  back = λ g. m.back (e ∙ ap (λ x. x ++ back) same ∙ ap (λ x. bytes ++ x) g ∙ sym f);
+  size = omega (arith, ap length e, ap length f, ap length same, m.size, length-append front back, length-append bytes next);
+}
+
+-- what a test of two texts tells
+of_not_false : (b : Bool) → false ≡ not b → b ≡ true
+of_not_false false e = cc
+of_not_false true e = refl
+
+pub tested_equal : (xs ys : List ℕ) → false ≡ not (pointwise nat_eq xs ys) → xs ≡ ys
+tested_equal xs ys e = (bytes_decides xs ys).0 (of_not_false (pointwise nat_eq xs ys) e)
+
+pub tested_unequal : (xs ys : List ℕ) → true ≡ not (pointwise nat_eq xs ys) → xs ≡ ys → ⊥
+tested_unequal xs ys e f = let g = (bytes_decides xs ys).1 f in let h : true ≡ false = e ∙ ap not g in cc
+
+pub tested_tie : (o : Ordering) → (ordering_index o == 1) ≡ true → o ≡ Equal
+tested_tie Less e = cc
+tested_tie Equal e = refl
+tested_tie Greater e = cc
+
+-- two tests that tell the same are the same
+same_tests : (r q : Bool) → (r ≡ true → q ≡ true) → (q ≡ true → r ≡ true) → r ≡ q
+same_tests false false f g = refl
+same_tests false true f g = g refl
+same_tests true false f g = sym (f refl)
+same_tests true true f g = refl
+
+-- what tells whether two texts are the same compares their bytes one by one
+pub same_by_bytes : (r : Bool) (s t : List ℕ) → IsTrue r ↔ (s ≡ t) → r ≡ pointwise nat_eq (encode_utf8_all s) (encode_utf8_all t)
+same_by_bytes r s t same =
+    let bytes = bytes_decides (encode_utf8_all s) (encode_utf8_all t) in
+    same_tests r _ (λ h. bytes.1 (ap encode_utf8_all (same.0 h))) (λ h. same.1 (encodes_same s t (bytes.0 h)))
+
+pub bytes_tell : (s t : List ℕ) → IsTrue (pointwise nat_eq (encode_utf8_all s) (encode_utf8_all t)) ↔ (s ≡ t)
+bytes_tell s t =
+    let bytes = bytes_decides (encode_utf8_all s) (encode_utf8_all t) in
+    (λ h. encodes_same s t (bytes.0 h), λ e. bytes.1 (ap encode_utf8_all e))

@@ -1,0 +1,4 @@
+pub mod Taken
+pub mod Comparing
+pub mod Feeding
+pub mod Showing

@@ -1,0 +1,11 @@
+-- The writes so far and those of what is left are those of all, whatever follows.
+use Rattle.std.proofs.Common.{◌≡◌, ℕ, List, ◌++◌, length, fold}
+use Rattle.rope_text.specs.Compare.{blocks}
+use Rattle.rope_compare.proofs.Feeding.{IsFeeding}
+use Rattle.rope_compare.proofs.hashing.feed_blocks.Given as goal
+
+abbrev pub invariant-loop-rest : goal.invariant-loop-rest
+invariant-loop-rest g l = IsFeeding g.H.Hasher.write l.fn.state l.state l.bytes l.rest
+
+abbrev pub decreases-loop-rest : goal.decreases-loop-rest
+decreases-loop-rest g l = length l.rest

@@ -1,0 +1,7 @@
+//! Texts compared, hashed and copied out, however they are cut into chunks.
+#![tactic(auto)]
+
+pub mod hashing;
+pub mod order;
+mod pieces;
+pub mod text_out;

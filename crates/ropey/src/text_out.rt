@@ -1,0 +1,75 @@
+//! A rope's text, copied, shown or lent.
+ghost use Rattle.std.specs.Prelude.{◌≡◌, ◌≤◌, ◌↔◌, length, IsOk, IfOk, IfErr};
+ghost use Rattle.std.specs.Cow.{cow_str_bytes, IsBorrowedStr, IsOwnedStr};
+ghost use Rattle.std.specs.Str.{chars};
+ghost use Rattle.std.specs.String.{string_bytes};
+ghost use Rattle.rope_text.specs.declared.error.Error.TheVariants.{OutOfMemory};
+
+use crate::rope::Rope;
+use rope_text::Result;
+use std::alloc::Global;
+use std::borrow::CowStr;
+use std::fmt;
+
+impl Rope {
+    /// A copy of the text. It takes memory once, and refuses for want of it alone.
+    pub fn try_to_string(&self, alloc: Global) -> Result<String>
+        ensures text { IfOk result (λ text. chars (string_bytes text) ≡ self.now.text) }
+        ensures err { IfErr result (λ e. e ≡ OutOfMemory) }
+    {
+        self.whole().try_to_string(alloc)
+    }
+
+    /// The text as a string, by the rope's own allocator. It takes memory once, and refuses for want of it alone: the rope is
+    /// gone then.
+    pub fn try_into_string(self) -> Result<String>
+        ensures text { IfOk result (λ text. chars (string_bytes text) ≡ self.text) }
+        ensures err { IfErr result (λ e. e ≡ OutOfMemory) }
+    {
+        self.try_to_string(self.alloc)
+    }
+
+    /// The text: borrowed where it is at most one chunk, which takes no memory, and else a copy. It refuses for want of memory
+    /// alone.
+    pub fn try_to_cow(&self, alloc: Global) -> Result<CowStr<'_>>
+        ensures text { IfOk result (λ cow. chars (cow_str_bytes cow) ≡ self.now.text) }
+        ensures borrowed { IfOk result (λ cow. IsBorrowedStr cow ↔ (length self.now.chunks ≤ 1)) }
+        ensures ok { length self.now.chunks ≤ 1 → IsOk result }
+        ensures err { IfErr result (λ e. e ≡ OutOfMemory) }
+    {
+        self.whole().try_to_cow(alloc)
+    }
+
+    /// The text, owned, as `try_into_string` gives it.
+    pub fn try_into_cow(self) -> Result<CowStr<'static>>
+        ensures text { IfOk result (λ cow. chars (cow_str_bytes cow) ≡ self.text) }
+        ensures owned { IfOk result IsOwnedStr }
+        ensures err { IfErr result (λ e. e ≡ OutOfMemory) }
+    {
+        match self.try_into_string() {
+            Ok(text) => Ok(CowStr::Owned(text)),
+            Err(error) => Err(error),
+        }
+    }
+}
+
+/// Writes the text. A width, a fill or a precision has no effect.
+impl fmt::Display for Rope {
+    ghost use Rattle.std.specs.Prelude.{Some};
+    ghost use Rattle.ropey.specs.Compared.{bytes_of};
+
+    ghost output = { λ rope. Some (bytes_of rope) };
+
+    ghost styled_output = { λ rope _. Some (bytes_of rope) };
+
+    fn fmt<W: fmt::Write>(&self, f: &mut fmt::Formatter<W>) -> fmt::Result {
+        fmt::Display::fmt(&self.whole(), f)
+    }
+}
+
+/// Writes the list of the chunks, each in quotes.
+impl fmt::Debug for Rope {
+    fn fmt<W: fmt::Write>(&self, f: &mut fmt::Formatter<W>) -> fmt::Result {
+        fmt::Debug::fmt(&self.whole(), f)
+    }
+}
