@@ -1,9 +1,9 @@
 //! Sessions of commands, and lines that are served.
 ghost use Rattle.std.specs.Prelude.{length};
-ghost use Rattle.rope_script.specs.Step.{AsksWhole};
 
 use crate::TRIES;
-use rope_script::{Command, Ended, Query, Reply, Session, serve};
+use rope_language::{Ended, serve};
+use rope_script::{Command, Query, Reply, Session};
 use ropey::{Error, LineBreaks};
 use std::alloc::Global;
 use std::io::Print;
@@ -23,7 +23,6 @@ fn owned(alloc: Global, text: &str) -> Option<String> {
 
 /// Runs one command, again where memory was refused, and answers its reply.
 fn reply_to(alloc: Global, session: &mut Session, command: Command) -> Option<Reply>
-    requires { AsksWhole command }
 {
     let commands = [command];
     for _ in 0..TRIES {
