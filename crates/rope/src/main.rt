@@ -5,9 +5,9 @@
 #![tactic(auto)]
 
 ghost use Rattle.std.specs.Prelude.{◌≡◌, ℕ};
-ghost use Rattle.rope_script.specs.declared.service.Ended.TheVariants.{Done, BadLine, OutOfMemory, Failed};
+ghost use Rattle.rope_language.specs.declared.service.Ended.TheVariants.{Done, BadLine, OutOfMemory, Failed};
 
-use rope_script::{Ended, serve};
+use rope_language::{Ended, serve};
 use std::io;
 use std::process::ExitCode;
 

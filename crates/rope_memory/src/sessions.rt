@@ -1,6 +1,7 @@
 //! Sessions of commands, and lines that are served.
 use crate::TRIES;
-use rope_script::{At, Command, Ended, Move, Query, Reply, Session, Unit, serve};
+use rope_language::{Ended, serve};
+use rope_script::{At, Command, Move, Query, Reply, Session, Unit};
 use ropey::{Error, LineBreaks};
 use std::alloc::Global;
 use std::cmp::Ordering;

@@ -1,16 +1,23 @@
 -- Edits of one rope of a list, as its contents show it.
-use Rattle.std.proofs.Common.{◌≡◌, ℕ, ◌<◌, List, [], ◌∷◌, ◌++◌, length, take, drop, get_or, slice_set, map, Option, None, Bool, true, Result, Ok, Err, IsOk, OnOk, OnErr, IfErr, refl, ap, sym, ◌∙◌, inl, inr, arith}
+use Rattle.std.proofs.Common.{◌≡◌, ℕ, ◌<◌, List, [], ◌∷◌, ◌++◌, length, take, drop, get_or, slice_set, map, Option, Some, None, MatchOption, Bool, true, Result, Ok, Err, IsOk, OnOk, OnErr, IfErr, refl, ap, sym, subst, ◌∙◌, inl, inr, arith}
 use Rattle.std.proofs.lemmas.List.{map-set, map-append, length-map, length-set, set-get_or, get_or_default}
 use Rattle.std.proofs.Math.ListN.{get_or-map}
 use Rattle.rope_text.specs.declared.error.Error.{Error}
 use Rattle.rope_text.specs.declared.error.Error.TheVariants.{OutOfMemory}
+use Rattle.rope_text.specs.declared.line_breaks.LineBreaks.{LineBreaks}
 use Rattle.rope_text.specs.Content.{Content}
+use Rattle.rope_text.specs.Content as of_content_specs
+use Rattle.rope_text.specs.Cutting.{IsChunkSize}
+use Rattle.rope_text.specs.Text.{byte_len}
+use Rattle.rope_part.proofs.Clips.{whole_part, whole_clip}
+use Rattle.rope_slice.specs.Sliced.{IsSlice}
 use Rattle.rope_text.specs.Edit.{IsRefusal, char_index_error, append_error}
 use Rattle.ropey.specs.View.{RopeView, IsRope, HasFewChunks, content}
 use Rattle.rope_script.specs.declared.script.Reply.{Reply}
-use Rattle.rope_script.specs.declared.script.Reply.TheVariants.{Made, Refused}
-use Rattle.rope_script.specs.Step.{OfRope, Unless, OrNoMemory, AddsSame, Changes, KeepsChunks, Edits, Cuts, Joins, Shrinks, edit_reply}
-use Rattle.rope_script.proofs.Edits.{of_rope, is_rope_of, unless_refused, edits_by, changes_by, shrinks_by, keeps_chunks}
+use Rattle.rope_script.specs.declared.script.Reply.TheVariants.{Made, NoSlice, Refused}
+use Rattle.rope_script.specs.Part.{part_of}
+use Rattle.rope_script.specs.Step.{Any, OfRope, Unchanged, Unless, OrNoMemory, Adds, AddsSame, Copies, Changes, KeepsChunks, Edits, Cuts, Joins, Shrinks, edit_reply}
+use Rattle.rope_script.proofs.Results.{of_rope, is_rope_of, unless_refused, edits_by, changes_by, shrinks_by, keeps_chunks}
 
 -- one of the ropes
 pub inside : (old : List RopeView) (r : ℕ) → r < length old → r < length (map content old)
@@ -122,3 +129,38 @@ shrink_of result old r rope after h e text_is breaks_are kept few memory same =
 -- a rope that was read where another was is that one
 pub same_place : (old : List RopeView) (r : ℕ) (a b : RopeView) → r < length old → a ≡ get_or old r a → b ≡ get_or old r b → a ≡ b
 same_place old r a b h e f = e ∙ get_or_default old r a b h ∙ sym f
+
+-- a rope of a part of one of the ropes is added, as it was asked for
+pub copied_of : (old new : List RopeView) (r : ℕ) (range : Option (ℕ × ℕ)) (rope copy : RopeView) (part : Content) (reply : Reply) → r < length old → rope ≡ get_or old r rope
+    → part_of (content rope) range ≡ Some part → copy.text ≡ part.text → copy.breaks ≡ part.breaks → IsRope copy → reply ≡ Made (length old) → new ≡ old ++ copy ∷ []
+    → Copies r range (map content old) reply (map content new)
+copied_of old new r range rope copy part reply h e found t b k reply_is new_is =
+    of_content _ old (map content new) r rope reply h e
+    (subst (λ f. MatchOption f (Unchanged NoSlice (map content old) reply (map content new)) (λ p. OrNoMemory (Adds p.text p.breaks Any (map content old) reply (map content new)) (map content old) reply (map content new))) (sym found)
+    (inl (content copy, is_rope_of part.text part.breaks (content copy) t b k.content, tt, made old reply reply_is, pushed old new copy new_is)))
+
+-- memory for it is refused
+pub uncopied_of : (old : List RopeView) (r : ℕ) (range : Option (ℕ × ℕ)) (rope : RopeView) (part : Content) (error : Error) → r < length old → rope ≡ get_or old r rope
+    → part_of (content rope) range ≡ Some part → error ≡ OutOfMemory → Copies r range (map content old) (Refused error) (map content old)
+uncopied_of old r range rope part error h e found memory =
+    of_content _ old (map content old) r rope (Refused error) h e
+    (subst (λ f. MatchOption f (Unchanged NoSlice (map content old) (Refused error) (map content old)) (λ p. OrNoMemory (Adds p.text p.breaks Any (map content old) (Refused error) (map content old)) (map content old) (Refused error) (map content old))) (sym found)
+    (inr (ap Refused memory, refl)))
+
+same_content_by : (c d : Content) → c.text ≡ d.text → c.chunks ≡ d.chunks → c.breaks ≡ d.breaks → c ≡ d
+same_content_by c d t p b =
+    let of : List ℕ → List (List ℕ) → LineBreaks → Content = λ text chunks breaks. record { text = text; chunks = chunks; breaks = breaks } in
+    ap (λ text. of text c.chunks c.breaks) t ∙ ap (λ chunks. of d.text chunks c.breaks) p ∙ ap (of d.text d.chunks) b
+
+-- a chunk of a rope has a character
+some_chunk : (chunk : List ℕ) → IsChunkSize (byte_len chunk) → 0 < length chunk
+some_chunk [] size = absurd (omega arith)
+some_chunk (c ∷ chunk) size = omega arith
+
+-- the slice of all of a rope shows what the rope shows
+pub whole_slice : (rope slice : Content) → of_content_specs.IsRope rope → IsSlice rope 0 (length rope.text) slice → slice ≡ rope
+whole_slice rope slice kept s =
+    same_content_by slice rope
+    (s.text ∙ whole_part rope.text 0 (length rope.text) refl refl)
+    (s.chunks ∙ whole_clip rope.chunks 0 (length rope.text) (λ i d l. some_chunk _ (kept.cut.sized i d l)) refl (ap length (sym kept.cut.joined)))
+    s.breaks

@@ -1,5 +1,4 @@
 pub mod Contents
-pub mod Edits
+pub mod Results
 pub mod RunLaws
-pub mod Written
-pub mod Serving
+pub mod Steps

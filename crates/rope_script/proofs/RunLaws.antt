@@ -13,7 +13,10 @@ use Rattle.std.specs.String.{string_bytes}
 use Rattle.rope_script.specs.declared.script.Command.{Command}
 use Rattle.rope_script.specs.declared.script.Command.TheVariants as command
 use Rattle.rope_script.specs.declared.script.Reply.{Reply}
-use Rattle.rope_script.specs.Step.{Any, KeepsChunks, OrNoMemory, Unless, Adds, AddsSame, Changes, Edits, Splits, Step, Inserts, Removes, Cuts, Joins, Shrinks, Runs}
+use Rattle.rope_script.specs.declared.script.Reply.TheVariants.{NoSlice}
+use Rattle.rope_script.specs.declared.script.Query.{Query}
+use Rattle.rope_script.specs.Part.{part_of}
+use Rattle.rope_script.specs.Step.{Any, KeepsChunks, OrNoMemory, Unchanged, Unless, OfPart, Copies, Asks, Adds, AddsSame, Changes, Edits, Splits, Step, Inserts, Removes, Cuts, Joins, Shrinks, Runs}
 
 pub Runs-push : (old mid new : List Content) (commands : List Command) (replies : List Reply) (command : Command) (reply : Reply)
     → Runs old commands replies mid → Step mid command reply new → Runs old (commands ++ command ∷ []) (replies ++ reply ∷ []) new
@@ -138,19 +141,42 @@ clones_keep : (old new : List Content) (rope : Content) (reply : Reply) → All 
 clones_keep old new rope reply k p (inl s) = rw s.1 (added_keep old rope k p)
 clones_keep old new rope reply k p (inr s) = rw s.1 k
 
+-- there is no such part of a rope, and nothing changes, or there is one
+parted : (rope : Content) (range : Option (ℕ × ℕ)) (P : Content → Type 0) (old new : List Content) (reply : Reply) → OfPart rope range P old reply new → (new ≡ old) ⊎ ((part : Content) × P part)
+parted rope range P old new reply h = go (part_of rope range) h
+  where
+    go : (found : Option Content) → MatchOption found (Unchanged NoSlice old reply new) P → (new ≡ old) ⊎ ((part : Content) × P part)
+    go None h = inl h.1
+    go (Some part) h = inr (part, h)
+
+copies_keep : (old new : List Content) (r : ℕ) (range : Option (ℕ × ℕ)) (reply : Reply) → All IsRope old → Copies r range old reply new → All IsRope new
+copies_keep old new r range reply k s = elim (found old r _ _ k s) [
+  | inl none ↦ rw none.1 k
+  | inr some ↦ elim (parted some.0 range _ old new reply some.2) [
+    | inl none ↦ rw none k
+    | inr part ↦ adds_keep old new part.0.text part.0.breaks Any reply k part.1
+  ]
+]
+
+asks_keep : (old new : List Content) (r : ℕ) (range : Option (ℕ × ℕ)) (query : Query) (reply : Reply) → All IsRope old → Asks r range query old reply new → All IsRope new
+asks_keep old new r range query reply k s = elim (found old r _ _ k s) [
+  | inl none ↦ rw none.1 k
+  | inr some ↦ elim (parted some.0 range _ old new reply some.2) [ inl none ↦ rw none k | inr part ↦ rw part.1.1 k ]
+]
+
 step_keeps : (old new : List Content) (command : Command) (reply : Reply) → All IsRope old → Step old command reply new → All IsRope new
 step_keeps old new command.New reply k s = adds_keep old new [] Unicode HasFewChunks reply k s
 step_keeps old new (command.Text t) reply k s = adds_keep old new (chars (string_bytes t)) Unicode HasFewChunks reply k s
 step_keeps old new (command.TextWith set t) reply k s = adds_keep old new (chars (string_bytes t)) set HasFewChunks reply k s
 step_keeps old new (command.Clone r) reply k s = elim (found old r _ _ k s) [ inl none ↦ rw none.1 k | inr some ↦ clones_keep old new some.0 reply k some.1 some.2 ]
+step_keeps old new (command.Copy (r, range)) reply k s = copies_keep old new r range reply k s
 step_keeps old new (command.Insert r i t) reply k s = inserts_keep old new r i (chars (string_bytes t)) reply k s
 step_keeps old new (command.InsertChar r i c) reply k s = inserts_keep old new r i (c ∷ []) reply k s
 step_keeps old new (command.Remove r start end) reply k s = removes_keep old new r start end reply k s
 step_keeps old new (command.Cut r i) reply k s = cuts_keep old new r i reply k s
 step_keeps old new (command.Join r s) reply k j = joins_keep old new r s reply k j
 step_keeps old new (command.Shrink r) reply k s = shrinks_keep old new r reply k s
-step_keeps old new (command.Ask r None query) reply k s = elim (found old r _ _ k s) [ inl none ↦ rw none.1 k | inr some ↦ rw some.2.1 k ]
-step_keeps old new (command.Ask r (Some range) query) reply k s = absurd s
+step_keeps old new (command.Ask r range query) reply k s = asks_keep old new r range query reply k s
 
 pub runs_keep : (old new : List Content) (commands : List Command) (replies : List Reply) → All IsRope old → Runs old commands replies new → All IsRope new
 runs_keep old new [] [] k s = rw s k

@@ -1,4 +1,4 @@
+pub mod Part
+pub mod Walk
 pub mod Ask
 pub mod Step
-pub mod ReplyLine
-pub mod Serving

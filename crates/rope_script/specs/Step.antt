@@ -11,8 +11,10 @@ use Rattle.rope_text.specs.Edit.{inserted, insert_error, removed, range_start, r
 use Rattle.rope_script.specs.declared.script.Command.{Command}
 use Rattle.rope_script.specs.declared.script.Command.TheVariants as command
 use Rattle.rope_script.specs.declared.script.Reply.{Reply}
-use Rattle.rope_script.specs.declared.script.Reply.TheVariants.{Done, Made, NoRope, Refused}
+use Rattle.rope_script.specs.declared.script.Reply.TheVariants.{Done, Made, NoRope, NoSlice, Refused}
+use Rattle.rope_script.specs.declared.script.Query.{Query}
 use Rattle.rope_script.specs.Ask.{Answers}
+use Rattle.rope_script.specs.Part.{part_of}
 
 -- this reply, and no rope is changed or added
 abbrev pub Unchanged : Reply → List Content → Reply → List Content → Type 0
@@ -47,6 +49,10 @@ Unless error P old reply new = MatchOption error P (λ e. Unchanged (Refused e) 
 -- of the rope r, if there is one
 abbrev pub OfRope : ℕ → (Content → Type 0) → List Content → Reply → List Content → Type 0
 OfRope r P old reply new = MatchOption (slice_get old r) (Unchanged NoRope old reply new) P
+
+-- of this part of a rope, if there is one
+abbrev pub OfPart : Content → Option (ℕ × ℕ) → (Content → Type 0) → List Content → Reply → List Content → Type 0
+OfPart rope range P old reply new = MatchOption (part_of rope range) (Unchanged NoSlice old reply new) P
 
 -- the reply to an edit
 abbrev pub edit_reply : {T : Type 0} → Result T Error → Reply
@@ -100,20 +106,29 @@ abbrev pub Shrinks : ℕ → List Content → Reply → List Content → Type 0
 Shrinks r old reply new =
     OfRope r (λ rope. OrNoMemory (Changes r rope.breaks rope.text HasFewChunks old reply new) old reply new) old reply new
 
+-- a rope of a part of the rope r is added, with its set of line breaks and some cutting
+abbrev pub Copies : ℕ → Option (ℕ × ℕ) → List Content → Reply → List Content → Type 0
+Copies r range old reply new =
+    OfRope r (λ rope. OfPart rope range (λ part. OrNoMemory (Adds part.text part.breaks Any old reply new) old reply new) old reply new) old reply new
+
+-- the rope r, or a part of it, is asked, and nothing changes
+abbrev pub Asks : ℕ → Option (ℕ × ℕ) → Query → List Content → Reply → List Content → Type 0
+Asks r range query old reply new = OfRope r (λ rope. OfPart rope range (λ part. Answers old part query reply × (new ≡ old)) old reply new) old reply new
+
 -- from the ropes old the command may be replied so, and leave the ropes new
 abbrev pub Step : List Content → Command → Reply → List Content → Type 0
 Step old command.New reply new = OrNoMemory (Adds [] Unicode HasFewChunks old reply new) old reply new
 Step old (command.Text s) reply new = OrNoMemory (Adds (chars (string_bytes s)) Unicode HasFewChunks old reply new) old reply new
 Step old (command.TextWith set s) reply new = OrNoMemory (Adds (chars (string_bytes s)) set HasFewChunks old reply new) old reply new
 Step old (command.Clone r) reply new = OfRope r (λ rope. OrNoMemory (AddsSame rope old reply new) old reply new) old reply new
+Step old (command.Copy (r, range)) reply new = Copies r range old reply new
 Step old (command.Insert r i s) reply new = Inserts r i (chars (string_bytes s)) old reply new
 Step old (command.InsertChar r i c) reply new = Inserts r i (c ∷ []) old reply new
 Step old (command.Remove r start end) reply new = Removes r start end old reply new
 Step old (command.Cut r i) reply new = Cuts r i old reply new
 Step old (command.Join r s) reply new = Joins r s old reply new
 Step old (command.Shrink r) reply new = Shrinks r old reply new
-Step old (command.Ask r None query) reply new = OfRope r (λ rope. Answers rope query reply × (new ≡ old)) old reply new
-Step old (command.Ask r (Some range) query) reply new = ⊥
+Step old (command.Ask r range query) reply new = Asks r range query old reply new
 
 -- each command's reply and the ropes after it are a step from the ropes before it
 abbrev pub Runs : List Content → List Command → List Reply → List Content → Type 0
@@ -127,11 +142,6 @@ pub record Ran (old : List Content) (commands : List Command) (before after : Li
   pub added : List Reply
   pub appended : after ≡ before ++ added
   pub run : Runs old (take (length added) commands) added new
-
--- a command that asks a rope asks the whole of it
-abbrev pub AsksWhole : Command → Type 0
-AsksWhole (command.Ask r (Some range) query) = ⊥
-AsksWhole _ = ⊤
 
 -- every rope that a run leaves keeps what a rope keeps, if those that it began with do
 abbrev pub RunsKeepRopes : Type 0

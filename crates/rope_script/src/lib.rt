@@ -1,13 +1,15 @@
-//! Commands on numbered ropes, their replies, and a language of lines for both.
+//! Commands on numbered ropes, queries, and their replies.
 #![tactic(auto)]
 
-mod language;
+mod asking;
+mod edits;
 pub mod laws;
-mod output;
+mod making;
 mod script;
-mod service;
 mod session;
+mod shown;
+mod walker;
+mod walks;
 
-pub use script::{Command, Query, Reply};
-pub use service::{Ended, serve};
+pub use script::{At, Command, Conv, Item, Move, Part, Query, Reply, Unit};
 pub use session::Session;

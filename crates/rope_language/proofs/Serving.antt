@@ -1,0 +1,82 @@
+-- Bytes that are put after one another.
+use Rattle.std.proofs.Common.{◌≡◌, ℕ, List, [], ◌∷◌, ◌++◌, Option, Some, None, Result, Ok, Err, OnOk, ◌+◌, ◌<◌, get_or, length, take, refl, sym, ap, subst, ◌∙◌, append_assoc}
+use Rattle.std.specs.Io.KnownBytes.{Appends}
+use Rattle.std.proofs.lemmas.List.{append-nil, take_more}
+use Rattle.std.proofs.lemmas.Grind.{flat_map-append}
+use Rattle.rope_text.specs.Content.{Content}
+use Rattle.rope_script.specs.declared.script.Command.{Command}
+use Rattle.rope_script.specs.declared.script.Reply.{Reply}
+use Rattle.rope_language.specs.ReplyLine.{reply_line, reply_lines}
+use Rattle.rope_script.specs.Step.{Runs, Ran}
+use Rattle.rope_language.proofs.Written.{flat_map-push}
+use Rattle.rope_language.specs.Serving.{Puts, PutsRun, WritesReplies}
+
+pub Appends-nothing : (o : Option (List ℕ)) → Appends o o []
+Appends-nothing None = tt
+Appends-nothing (Some xs) = sym (append-nil xs)
+
+pub Appends-both : (old mid new : Option (List ℕ)) (xs ys : List ℕ) → Appends old mid xs → Appends mid new ys → Appends old new (xs ++ ys)
+Appends-both None mid new xs ys p q = tt
+Appends-both (Some a) None new xs ys p q = absurd p
+Appends-both (Some a) (Some b) None xs ys p q = absurd q
+Appends-both (Some a) (Some b) (Some c) xs ys p q = q ∙ ap (λ zs. zs ++ ys) p ∙ append_assoc a xs ys
+
+-- nothing was put
+pub Puts-nothing : (o : Option (List ℕ)) (before : List ℕ) → Puts o o before before []
+Puts-nothing o before = record { out = []; appended = Appends-nothing o; joined = sym (append-nil before) }
+
+pub Puts-both : (o p q : Option (List ℕ)) (a b c xs ys : List ℕ) → Puts o p a b xs → Puts p q b c ys → Puts o q a c (xs ++ ys)
+Puts-both o p q a b c xs ys s t = record {
+  out = s.out ++ t.out;
+  appended = Appends-both o p q s.out t.out s.appended t.appended;
+  joined = append_assoc s.out t.out c ∙ ap (λ zs. s.out ++ zs) t.joined ∙ sym (append_assoc s.out b ys) ∙ ap (λ zs. zs ++ ys) s.joined ∙ append_assoc a xs ys;
+}
+
+Runs-both : (old mid new : List Content) (cs ds : List Command) (rs ss : List Reply) → Runs old cs rs mid → Runs mid ds ss new → Runs old (cs ++ ds) (rs ++ ss) new
+Runs-both old mid new [] ds [] ss p q = subst (λ s. Runs s ds ss new) p q
+Runs-both old mid new [] ds (r ∷ rs) ss p q = absurd p
+Runs-both old mid new (c ∷ cs) ds [] ss p q = absurd p
+Runs-both old mid new (c ∷ cs) ds (r ∷ rs) ss p q = (p.0, p.1, Runs-both p.0 mid new cs ds rs ss p.2 q)
+
+-- no command was run
+pub PutsRun-nothing : (ropes : List Content) (o : Option (List ℕ)) (before : List ℕ) → PutsRun ropes ropes o o before before
+PutsRun-nothing ropes o before = record { commands = []; replies = []; run = refl; put = Puts-nothing o before }
+
+pub PutsRun-both : (r s t : List Content) (o p q : Option (List ℕ)) (a b c : List ℕ) → PutsRun r s o p a b → PutsRun s t p q b c → PutsRun r t o q a c
+PutsRun-both r s t o p q a b c x y = record {
+  commands = x.commands ++ y.commands;
+  replies = x.replies ++ y.replies;
+  run = Runs-both r s t x.commands y.commands x.replies y.replies x.run y.run;
+  put = subst (Puts o q a c) (sym (flat_map-append reply_line x.replies y.replies)) (Puts-both o p q a b c (reply_lines x.replies) (reply_lines y.replies) x.put y.put);
+}
+
+-- one command was run, and what was written for its replies was put
+pub PutsRun-ran : (r s : List Content) (o p : Option (List ℕ)) (a b : List ℕ) (commands : List Command) (replies : List Reply) (bytes : List ℕ)
+    → Ran r commands [] replies s → bytes ≡ reply_lines replies → Puts o p a b bytes → PutsRun r s o p a b
+PutsRun-ran r s o p a b commands replies bytes ran is put = record {
+  commands = take (length ran.added) commands;
+  replies = ran.added;
+  run = ran.run;
+  put = subst (Puts o p a b) (is ∙ ap reply_lines ran.appended) put;
+}
+
+-- what was gathered is written, and then a long reply
+pub Puts-written : {E : Type 0} (r : Result (Unit {0}) E) (o p q : Option (List ℕ)) (before after reply : List ℕ) → Appends o p before → after ≡ [] → OnOk r (Appends p q reply) → OnOk r (Puts o q before after reply)
+Puts-written (Ok v) o p q before after reply x e y = record { out = before ++ reply; appended = Appends-both o p q before reply x y; joined = ap (λ zs. (before ++ reply) ++ zs) e ∙ append-nil (before ++ reply) }
+Puts-written (Err v) o p q before after reply x e y = tt
+
+-- the line of one reply more
+pub reply_lines-next : (replies : List Reply) (i : ℕ) (reply : Reply) → i < length replies → reply ≡ get_or replies i reply
+    → reply_lines (take i replies) ++ reply_line reply ≡ reply_lines (take (i + 1) replies)
+reply_lines-next replies i reply h e =
+    sym (flat_map-push reply_line (take i replies) reply) ∙ ap reply_lines (sym (take_more replies i reply h ∙ ap (λ y. take i replies ++ y ∷ []) (sym e)))
+
+-- what was gathered last is written too
+pub WritesReplies-flushed : (left : List Content) (o p q : Option (List ℕ)) (after : List ℕ) → PutsRun [] left o p [] after → Appends p q after → WritesReplies o q
+WritesReplies-flushed left o p q after x f = record {
+  commands = x.commands;
+  replies = x.replies;
+  left = left;
+  run = x.run;
+  appended = subst (Appends o q) x.put.joined (Appends-both o p q x.put.out after x.put.appended f);
+}

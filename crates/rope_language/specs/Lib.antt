@@ -1,0 +1,2 @@
+pub mod ReplyLine
+pub mod Serving

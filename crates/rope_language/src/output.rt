@@ -1,0 +1,84 @@
+//! Replies that are gathered before they are written.
+ghost use Rattle.std.specs.Prelude.{◌≡◌, ◌+◌, ◌≤◌, ◌++◌, [], length, OnOk};
+ghost use Rattle.std.specs.Io.KnownBytes.{Appends};
+ghost use Rattle.rope_language.specs.Serving.{Puts};
+
+use std::io::{self, Write};
+use std::marker::Model;
+
+/// How many bytes are gathered before they are written.
+const OUTPUT_BYTES: usize = 8192;
+
+/// What is gathered and not written yet.
+#[derive(Drop)]
+pub(crate) struct Output {
+    buffer: [u8; OUTPUT_BYTES],
+    filled: usize,
+}
+
+impl Model for Output {
+    ghost use Rattle.std.specs.Prelude.{ℕ, List, take, ◌≤◌};
+
+    ghost Value = { List ℕ };
+
+    ghost view = { λ o. take o.filled o.buffer };
+
+    ghost invariant = { λ o. o.filled ≤ 8192 };
+}
+
+impl Output {
+    /// Nothing is gathered.
+    pub(crate) fn new() -> Output
+        ensures { result ≡ [] }
+    {
+        Output {
+            buffer: [0; OUTPUT_BYTES],
+            filled: 0,
+        }
+    }
+
+    /// Takes a reply. Where there is no room for it, what was gathered is written first.
+    pub(crate) fn put<W: Write>(&mut self, writer: &mut W, reply: &[u8]) -> io::Result<()>
+        ensures { OnOk result (Puts (W.contents writer.old) (W.contents writer.new) self.old self.new reply.now) }
+    {
+        if reply.len() <= OUTPUT_BYTES - self.filled {
+            self.gather(reply);
+            return Ok(());
+        }
+        self.write_gathered(writer)?;
+        if reply.len() <= OUTPUT_BYTES {
+            self.gather(reply);
+            return Ok(());
+        }
+        writer.write_all(reply)
+    }
+
+    /// Adds a reply for which there is room.
+    fn gather(&mut self, reply: &[u8])
+        requires { length self.old + length reply.now ≤ 8192 }
+        ensures { self.new ≡ self.old ++ reply.now }
+    {
+        let end = self.filled + reply.len();
+        self.buffer[self.filled..end].copy_from_slice(reply);
+        self.filled = end;
+    }
+
+    /// Writes what was gathered, once: after an error nothing of it is written again.
+    fn write_gathered<W: Write>(&mut self, writer: &mut W) -> io::Result<()>
+        ensures ok { OnOk result (Appends (W.contents writer.old) (W.contents writer.new) self.old) }
+        ensures empty { self.new ≡ [] }
+    {
+        let gathered = &self.buffer[..self.filled];
+        let result = writer.write_all(gathered);
+        self.filled = 0;
+        result
+    }
+
+    /// Writes what was gathered, and flushes the writer.
+    pub(crate) fn flush<W: Write>(&mut self, writer: &mut W) -> io::Result<()>
+        ensures { OnOk result (Appends (W.contents writer.old) (W.contents writer.new) self.old) }
+    {
+        self.write_gathered(writer)?;
+        writer.flush()
+    }
+}

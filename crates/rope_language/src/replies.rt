@@ -1,0 +1,154 @@
+//! Replies as lines of text.
+ghost use Rattle.std.specs.Prelude.{◌≡◌, ◌++◌, ◌∷◌, [], length, codes, IfOk, OnOk};
+ghost use Rattle.std.specs.Fmt.{decimal};
+ghost use Rattle.std.specs.List.{flat_map};
+ghost use Rattle.std.specs.Str.{chars};
+ghost use Rattle.std.specs.String.{string_bytes};
+ghost use Rattle.rope_language.specs.ReplyLine as words;
+ghost use Rattle.rope_language.specs.ReplyLine.{quoted_char, quoted, item_words, reply_line, reply_lines};
+
+use rope_script::{Item, Reply};
+use ropey::LineBreaks;
+use std::alloc::{AllocError, Global};
+use std::cmp::Ordering;
+use std::fmt::Write as _;
+
+/// The lines of replies, in order.
+pub(crate) fn lines_of(alloc: Global, replies: &[Reply]) -> Result<String, AllocError>
+    ensures { IfOk result (λ lines. string_bytes lines ≡ reply_lines replies.now) }
+{
+    let mut lines = String::new(alloc);
+    for reply in replies {
+        write_reply(&mut lines, reply)?;
+    }
+    Ok(lines)
+}
+
+/// Adds the line of a reply, its LF with it.
+fn write_reply(out: &mut String, reply: &Reply) -> Result<(), AllocError>
+    ensures { OnOk result (string_bytes out.new ≡ string_bytes out.old ++ reply_line reply.now) }
+{
+    match reply {
+        Reply::Done => out.push_str("ok")?,
+        Reply::Made(rope) => write!(out, "rope {rope}")?,
+        Reply::NoRope => out.push_str("no rope")?,
+        Reply::NoSlice => out.push_str("no slice")?,
+        Reply::Absent => out.push_str("none")?,
+        Reply::Refused(error) => write!(out, "error: {error}")?,
+        Reply::Lens(bytes, chars, lines, units) => {
+            write!(out, "{bytes} {chars} {lines} {units}")?;
+        }
+        Reply::Number(number) => write!(out, "{number}")?,
+        Reply::Byte(byte) => write!(out, "{byte}")?,
+        Reply::Char(c) => quote_alone(out, *c)?,
+        Reply::Text(text) => quote(out, text.as_str())?,
+        Reply::Texts(texts) => write_texts(out, texts)?,
+        Reply::Breaks(breaks) => out.push_str(breaks_word(*breaks))?,
+        Reply::Chunk(text, bytes, chars, breaks) => {
+            quote(out, text.as_str())?;
+            write!(out, " {bytes} {chars} {breaks}")?;
+        }
+        Reply::Walk(items) => write_items(out, items)?,
+        Reply::Order(order) => out.push_str(order_word(*order))?,
+        Reply::Position(line, column) => write!(out, "{line} {column}")?,
+    }
+    out.push('\n')
+}
+
+/// The word that names a set of line breaks.
+fn breaks_word(breaks: LineBreaks) -> &'static str
+    ensures { result.now ≡ words.breaks_word breaks }
+{
+    match breaks {
+        LineBreaks::Lf => "lf",
+        LineBreaks::CrLf => "crlf",
+        LineBreaks::Unicode => "unicode",
+    }
+}
+
+/// The word that tells an order.
+fn order_word(order: Ordering) -> &'static str
+    ensures { result.now ≡ words.order_word order }
+{
+    match order {
+        Ordering::Less => "less",
+        Ordering::Equal => "equal",
+        Ordering::Greater => "greater",
+    }
+}
+
+/// How many texts there are, and each of them quoted.
+fn write_texts(out: &mut String, texts: &[String]) -> Result<(), AllocError>
+    ensures { OnOk result (string_bytes out.new ≡ string_bytes out.old ++ (decimal (length texts.now) ++ flat_map (λ s. codes " " ++ quoted (chars (string_bytes s))) texts.now)) }
+{
+    let count = texts.len();
+    write!(out, "{count}")?;
+    for text in texts {
+        out.push(' ')?;
+        quote(out, text.as_str())?;
+    }
+    Ok(())
+}
+
+/// How many items there are, and each of them.
+fn write_items(out: &mut String, items: &[Option<Item>]) -> Result<(), AllocError>
+    ensures { OnOk result (string_bytes out.new ≡ string_bytes out.old ++ (decimal (length items.now) ++ flat_map (λ item. codes " " ++ item_words item) items.now)) }
+{
+    let count = items.len();
+    write!(out, "{count}")?;
+    for item in items {
+        out.push(' ')?;
+        write_item(out, item)?;
+    }
+    Ok(())
+}
+
+/// An item of a walk, or a sign that there is none.
+fn write_item(out: &mut String, item: &Option<Item>) -> Result<(), AllocError>
+    ensures { OnOk result (string_bytes out.new ≡ string_bytes out.old ++ item_words item.now) }
+{
+    match item {
+        None => out.push_str("-"),
+        Some(Item::Byte(byte)) => write!(out, "{byte}"),
+        Some(Item::Char(c)) => quote_alone(out, *c),
+        Some(Item::Text(text)) => quote(out, text.as_str()),
+    }
+}
+
+/// A character between quotation marks.
+fn quote_alone(out: &mut String, c: char) -> Result<(), AllocError>
+    ensures { OnOk result (string_bytes out.new ≡ string_bytes out.old ++ quoted (c ∷ [])) }
+{
+    out.push('"')?;
+    quote_char(out, c)?;
+    out.push('"')
+}
+
+/// A text between quotation marks, in one line.
+fn quote(out: &mut String, text: &str) -> Result<(), AllocError>
+    ensures { OnOk result (string_bytes out.new ≡ string_bytes out.old ++ quoted (chars text.now)) }
+{
+    out.push('"')?;
+    for c in text.chars() {
+        quote_char(out, c)?;
+    }
+    out.push('"')
+}
+
+/// A character of a quoted text: itself, unless it ends a line, has no form of its own, or means
+/// something between quotation marks.
+fn quote_char(out: &mut String, c: char) -> Result<(), AllocError>
+    ensures { OnOk result (string_bytes out.new ≡ string_bytes out.old ++ quoted_char c) }
+{
+    match c {
+        '\n' => out.push_str("\\n"),
+        '\r' => out.push_str("\\r"),
+        '\\' => out.push_str("\\\\"),
+        '"' => out.push_str("\\\""),
+        '\0'..='\u{1f}' | '\u{7f}' | '\u{85}' | '\u{2028}' | '\u{2029}' => {
+            let code = c as u32;
+            write!(out, "\\u{{{code:x}}}")
+        }
+        _ => out.push(c),
+    }
+}

@@ -1,0 +1,201 @@
+//! Lines in, replies out.
+ghost use Rattle.std.specs.Prelude.{◌≡◌, ◌≢◌, ◌≤◌, List, [], false, IfOk, IfErr, OnOk};
+ghost use Rattle.std.specs.Io.KnownBytes.{IsAtEnd};
+ghost use Rattle.rope_text.specs.Content.{Content};
+ghost use Rattle.rope_language.specs.Serving.{PutsRun, WritesReplies};
+
+use crate::language::parse;
+use crate::output::Output;
+use crate::replies::lines_of;
+use rope_script::Session;
+use std::alloc::{AllocError, Global};
+use std::io::{self, Read, Write};
+
+/// How a run over lines ended.
+#[derive(Clone, Copy, Debug, PartialEq, Eq)]
+pub enum Ended {
+    /// The input ended.
+    Done,
+    /// This line, counted from 1, is not of the language.
+    BadLine(u64),
+    /// Memory was refused for a line, a command or a reply.
+    OutOfMemory,
+    /// A read or a write failed.
+    Failed,
+}
+
+/// Why a line was not answered.
+#[derive(Clone, Copy)]
+enum Fault {
+    BadLine,
+    OutOfMemory,
+    Failed,
+}
+
+impl From<AllocError> for Fault {
+    ghost use Rattle.std.specs.Prelude.{◌≡◌};
+    ghost use Rattle.rope_language.specs.declared.service.Fault.TheVariants.{OutOfMemory};
+
+    ghost from_gives = { λ _ fault. fault ≡ OutOfMemory };
+
+    fn from(_error: AllocError) -> Fault {
+        Fault::OutOfMemory
+    }
+}
+
+impl From<io::Error> for Fault {
+    ghost use Rattle.std.specs.Prelude.{◌≡◌};
+    ghost use Rattle.rope_language.specs.declared.service.Fault.TheVariants.{Failed};
+
+    ghost from_gives = { λ _ fault. fault ≡ Failed };
+
+    fn from(_error: io::Error) -> Fault {
+        Fault::Failed
+    }
+}
+
+/// Reads lines to the reader's end, runs each on one session, and writes its reply.
+///
+/// A line ends with LF, and the last one may lack it. The first line that is not of the language
+/// ends the run, and so does a refusal of memory for a line or its reply, and a read or a write that
+/// failed. The replies to the lines before it are written and flushed, unless it is a write that
+/// failed. A line past number `u64::MAX` is a bad line of that number.
+pub fn serve<R: Read, W: Write>(alloc: Global, reader: &mut R, writer: &mut W) -> Ended
+    ensures done { result ≡ Ended.Done → IsAtEnd (R.remaining reader.new) }
+    ensures written { result ≢ Ended.Failed → WritesReplies (W.contents writer.old) (W.contents writer.new) }
+{
+    let mut output = Output::new();
+    let ended = answer_lines(alloc, reader, writer, &mut output);
+    match output.flush(writer) {
+        Ok(()) => ended,
+        Err(_) => Ended::Failed,
+    }
+}
+
+/// How a run ends at the fault of a line of this number.
+fn end_of(fault: Fault, number: u64) -> Ended
+    ensures unfinished { result ≢ Ended.Done }
+    ensures failed { result ≢ Ended.Failed → fault ≢ Fault.Failed }
+{
+    match fault {
+        Fault::BadLine => Ended::BadLine(number),
+        Fault::OutOfMemory => Ended::OutOfMemory,
+        Fault::Failed => Ended::Failed,
+    }
+}
+
+/// Answers each line, up to the first that it cannot answer.
+fn answer_lines<R: Read, W: Write>(
+    alloc: Global,
+    reader: &mut R,
+    writer: &mut W,
+    output: &mut Output,
+) -> Ended
+    ensures done { result ≡ Ended.Done → IsAtEnd (R.remaining reader.new) }
+    ensures put { result ≢ Ended.Failed → (left : List Content) × PutsRun [] left (W.contents writer.old) (W.contents writer.new) output.old output.new }
+{
+    let mut session = Session::new(alloc);
+    let mut input = Input::new();
+    let mut line = Vec::new(alloc);
+    for earlier in 0..u64::MAX {
+        match input.next_line(reader, &mut line) {
+            Ok(true) => {}
+            Ok(false) => return Ended::Done,
+            Err(fault) => return end_of(fault, earlier + 1),
+        }
+        if let Err(fault) = answer(alloc, &mut session, &line, writer, output) {
+            return end_of(fault, earlier + 1);
+        }
+    }
+    match input.next_line(reader, &mut line) {
+        Ok(true) => Ended::BadLine(u64::MAX),
+        Ok(false) => Ended::Done,
+        Err(fault) => end_of(fault, u64::MAX),
+    }
+}
+
+/// Answers one line.
+fn answer<W: Write>(
+    alloc: Global,
+    session: &mut Session,
+    line: &[u8],
+    writer: &mut W,
+    output: &mut Output,
+) -> Result<(), Fault>
+    ensures put { OnOk result (PutsRun session.old session.new (W.contents writer.old) (W.contents writer.new) output.old output.new) }
+    ensures kept { IfErr result (λ fault. fault ≢ Fault.Failed → (writer.new ≡ writer.old) × (output.new ≡ output.old)) }
+{
+    let Ok(line) = str::from_utf8(line) else {
+        return Err(Fault::BadLine);
+    };
+    let Some(command) = parse(alloc, line)? else {
+        return Err(Fault::BadLine);
+    };
+    let mut replies = Vec::new(alloc);
+    if session.run(&[command], &mut replies).is_err() {
+        return Err(Fault::OutOfMemory);
+    }
+    let lines = lines_of(alloc, &replies)?;
+    match output.put(writer, lines.as_bytes()) {
+        Ok(()) => Ok(()),
+        Err(_) => Err(Fault::Failed),
+    }
+}
+
+/// How many bytes are read at once.
+const INPUT_BYTES: usize = 4096;
+
+/// What was read and is in no line yet.
+#[derive(Drop)]
+struct Input {
+    buffer: [u8; INPUT_BYTES],
+    start: usize,
+    end: usize,
+    ghost ordered: { start ≤ end },
+    ghost held: { end ≤ 4096 },
+}
+
+impl Input {
+    fn new() -> Input {
+        Input {
+            buffer: [0; INPUT_BYTES],
+            start: 0,
+            end: 0,
+        }
+    }
+
+    /// Reads the next line, without its LF. There is none at the end of the input.
+    fn next_line<R: Read>(&mut self, reader: &mut R, line: &mut Vec<u8>) -> Result<bool, Fault>
+        ensures end { IfOk result (λ found. found ≡ false → IsAtEnd (R.remaining reader.new)) }
+    {
+        line.clear();
+        for _ in 0..u64::MAX {
+            if self.start == self.end && !self.fill(reader)? {
+                return Ok(!line.is_empty());
+            }
+            let held = &self.buffer[self.start..self.end];
+            match held.iter().position(|byte| *byte == b'\n') {
+                Some(at) => {
+                    line.extend_from_slice(&held[..at])?;
+                    self.start += at + 1;
+                    return Ok(true);
+                }
+                None => {
+                    line.extend_from_slice(held)?;
+                    self.start = self.end;
+                }
+            }
+        }
+        Err(Fault::OutOfMemory)
+    }
+
+    /// Reads once, and answers whether any bytes came.
+    fn fill<R: Read>(&mut self, reader: &mut R) -> Result<bool, Fault>
+        ensures end { IfOk result (λ found. found ≡ false → IsAtEnd (R.remaining reader.new)) }
+    {
+        let count = reader.read(&mut self.buffer)?;
+        self.start = 0;
+        self.end = count;
+        Ok(count > 0)
+    }
+}

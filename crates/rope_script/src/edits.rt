@@ -1,0 +1,122 @@
+//! Edits of one of the ropes.
+ghost use Rattle.std.specs.Prelude.{◌≡◌, ◌∷◌, [], map};
+ghost use Rattle.std.specs.Str.{chars};
+ghost use Rattle.rope_text.specs.Edit.{append_error};
+ghost use Rattle.ropey.specs.View.{content, IsRope};
+ghost use Rattle.rope_script.specs.Step.{edit_reply, Inserts, Removes, Joins, Shrinks};
+
+use crate::script::Reply;
+use ropey::{Error, IndexRange, Result, Rope};
+
+/// Inserts a text into a rope.
+pub(crate) fn insert(ropes: &mut Vec<Rope>, rope: usize, char_idx: usize, text: &str) -> Reply
+    ensures { Inserts rope char_idx (chars text.now) (map content ropes.old.items) result (map content ropes.new.items) }
+{
+    if rope >= ropes.len() {
+        return Reply::NoRope;
+    }
+    reply_to_edit(ropes[rope].try_insert(char_idx, text))
+}
+
+/// Inserts a character into a rope.
+pub(crate) fn insert_char(ropes: &mut Vec<Rope>, rope: usize, char_idx: usize, c: char) -> Reply
+    ensures { Inserts rope char_idx (c ∷ []) (map content ropes.old.items) result (map content ropes.new.items) }
+{
+    if rope >= ropes.len() {
+        return Reply::NoRope;
+    }
+    reply_to_edit(ropes[rope].try_insert_char(char_idx, c))
+}
+
+/// A range by its two bounds, each `None` where it is open.
+#[derive(Clone, Copy)]
+struct Bounds {
+    start: Option<usize>,
+    end: Option<usize>,
+}
+
+impl IndexRange for Bounds {
+    ghost told_start = { λ bounds. bounds.start };
+
+    ghost told_end = { λ bounds. bounds.end };
+
+    fn start(&self) -> Option<usize> {
+        self.start
+    }
+
+    fn end(&self) -> Option<usize> {
+        self.end
+    }
+}
+
+/// Removes characters from a rope.
+pub(crate) fn remove(
+    ropes: &mut Vec<Rope>,
+    rope: usize,
+    start: Option<usize>,
+    end: Option<usize>,
+) -> Reply
+    ensures { Removes rope start end (map content ropes.old.items) result (map content ropes.new.items) }
+{
+    if rope >= ropes.len() {
+        return Reply::NoRope;
+    }
+    reply_to_edit(ropes[rope].try_remove(Bounds { start, end }))
+}
+
+/// The most bytes that a text may have.
+const MAX_TEXT_BYTES: usize = isize::MAX as usize;
+
+/// Puts the text of one rope behind that of another. What their line breaks or their lengths forbid
+/// is refused before a clone is made, so that this takes no memory.
+pub(crate) fn join(ropes: &mut Vec<Rope>, rope: usize, other: usize) -> Reply
+    ensures { Joins rope other (map content ropes.old.items) result (map content ropes.new.items) }
+{
+    if rope >= ropes.len() || other >= ropes.len() {
+        return Reply::NoRope;
+    }
+    if let Some(error) = join_error(&ropes[rope], &ropes[other]) {
+        return Reply::Refused(error);
+    }
+    match ropes[other].clone() {
+        Ok(clone) => reply_to_edit(ropes[rope].append(clone)),
+        Err(_) => Reply::Refused(Error::OutOfMemory),
+    }
+}
+
+/// Why the text of a second rope may not stand behind that of the first.
+fn join_error(rope: &Rope, other: &Rope) -> Option<Error>
+    ensures error { result ≡ append_error rope.now.breaks other.now.breaks rope.now.text other.now.text }
+    ensures rope { IsRope rope.now }
+    ensures other { IsRope other.now }
+{
+    let bytes = rope.len_bytes();
+    let more = other.len_bytes();
+    if rope.line_breaks() != other.line_breaks() {
+        return Some(Error::LineBreaksDiffer);
+    }
+    if more > MAX_TEXT_BYTES - bytes {
+        return Some(Error::TooLong);
+    }
+    None
+}
+
+/// Cuts the text of a rope anew.
+pub(crate) fn shrink(ropes: &mut Vec<Rope>, rope: usize) -> Reply
+    ensures { Shrinks rope (map content ropes.old.items) result (map content ropes.new.items) }
+{
+    if rope >= ropes.len() {
+        return Reply::NoRope;
+    }
+    reply_to_edit(ropes[rope].shrink_to_fit())
+}
+
+/// The reply to an edit that was done or refused.
+fn reply_to_edit(edit: Result<()>) -> Reply
+    ensures { result ≡ edit_reply edit }
+{
+    match edit {
+        Ok(()) => Reply::Done,
+        Err(error) => Reply::Refused(error),
+    }
+}
