@@ -5,6 +5,7 @@
 mod edits;
 mod making;
 mod parts;
+mod reading;
 mod sessions;
 
 use std::alloc::Global;
@@ -19,6 +20,7 @@ fn run(rt: &impl Print, alloc: Global) -> Option<usize> {
     let mut faults = edits::run(rt, alloc)?;
     faults = faults.saturating_add(parts::run(rt, alloc)?);
     faults = faults.saturating_add(making::run(rt, alloc)?);
+    reading::run(rt, alloc)?;
     sessions::run(rt, alloc)?;
     Some(faults)
 }

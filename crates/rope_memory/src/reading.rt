@@ -1,0 +1,26 @@
+//! Ropes that are read.
+use crate::TRIES;
+use crate::edits::{repeated, show};
+use ropey::io::{Mark, ReadError, Watched};
+use ropey::{Error, Rope};
+use std::alloc::Global;
+use std::io::Print;
+
+/// A rope of the bytes, read again from their start where memory was refused, for which the reader isn't marked.
+fn read(alloc: Global, bytes: &[u8]) -> Option<Rope> {
+    for _ in 0..TRIES {
+        let mut source = Watched::new(bytes);
+        match Rope::from_watched(alloc, &mut source) {
+            Ok(rope) => return Some(rope),
+            Err(ReadError::Rope(Error::OutOfMemory)) if !source.failed() => {}
+            Err(_) => return None,
+        }
+    }
+    None
+}
+
+/// Reads a text of some chunks, and prints what it is.
+pub fn run(rt: &impl Print, alloc: Global) -> Option<()> {
+    let text = repeated(alloc, "aé\r\nこ🐸", 700)?;
+    show(rt, &read(alloc, text.as_str().as_bytes())?)
+}
