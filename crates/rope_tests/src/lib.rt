@@ -4,6 +4,8 @@
 #[cfg(test)]
 mod builder;
 #[cfg(test)]
+mod comparisons;
+#[cfg(test)]
 mod conversions;
 #[cfg(test)]
 mod counted;
@@ -13,3 +15,5 @@ mod lookups;
 mod makers;
 #[cfg(test)]
 mod sets;
+#[cfg(test)]
+mod texts_out;
