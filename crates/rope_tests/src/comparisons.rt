@@ -1,15 +1,52 @@
 //! Equality and order, which go by the text however it is cut.
-use rope_plain::texts::{padded, repeated};
+use rope_plain::numbers::Numbers;
+use rope_plain::texts::{padded, random_text, repeated};
 use ropey::{LineBreaks, Rope, RopeSlice};
+use std::alloc::Global;
 use std::cmp::Ordering;
+use std::hash::{FoldHasher, Hash, Hasher};
+use std::process::Abort;
 use std::test::Fail;
 
-/// The characters from `start` up to `end`.
-fn part(rope: &Rope, start: usize, end: usize) -> Result<RopeSlice<'_>, Fail> {
-    match rope.get_slice(start..end) {
+/// The slice that a call gave.
+pub fn given(slice: Option<RopeSlice<'_>>) -> Result<RopeSlice<'_>, Fail> {
+    match slice {
         Some(slice) => Ok(slice),
-        None => Err(Fail::from("no characters between these places")),
+        None => Err(Fail::from("no slice of a range in the text")),
     }
+}
+
+/// A rope of the text to which it came character by character.
+fn typed(alloc: Global, text: &str) -> Result<Rope, Fail> {
+    let mut rope = Rope::new(alloc)?;
+    for c in text.chars() {
+        let end = rope.len_chars();
+        rope.insert_char(end, c)?;
+    }
+    Ok(rope)
+}
+
+fn hash_of<T: Hash>(value: &T) -> u64 {
+    let mut hasher = FoldHasher::default();
+    value.hash(&mut hasher);
+    hasher.finish()
+}
+
+/// The ropes are compared as the texts are, in both directions, and so are slices of all of them.
+fn compare(rt: &impl Abort, ropes: (&Rope, &Rope), texts: (&str, &str)) {
+    let (a, b) = ropes;
+    let (s, t) = texts;
+    assert!(rt; (a == b) == (s == t));
+    assert!(rt; a.cmp(b) == s.cmp(t));
+    assert!(rt; b.cmp(a) == t.cmp(s));
+    assert!(rt; a.partial_cmp(b) == Some(s.cmp(t)));
+    assert!(rt; a.eq_str(t) == (s == t));
+    assert!(rt; (hash_of(a) == hash_of(b)) == (s == t));
+    let slice = RopeSlice::from(s);
+    assert!(rt; (slice == b.slice(..)) == (s == t));
+    assert!(rt; slice.cmp(&b.slice(..)) == s.cmp(t));
+    assert!(rt; b.slice(..).eq_str(s) == (s == t));
+    assert!(rt; hash_of(&slice) == hash_of(a));
 }
 
 #[test]
@@ -37,7 +74,7 @@ fn of_one_chunk_and_of_two(rt: HostRuntime) -> Result<(), Fail> {
     let alloc = rt.alloc();
     let text = padded(alloc, "", 985, "b")?;
     let rope = Rope::from_str(alloc, text.as_str())?;
-    let two = part(&rope, 983, 985)?;
+    let two = given(rope.get_slice(983..985))?;
     assert_eq!(rt; two.chunks().count(), 2);
     let one = RopeSlice::from("ab");
     assert!(rt; one == two && two == one);
@@ -65,7 +102,7 @@ fn with_seams_at_every_offset(rt: HostRuntime) -> Result<(), Fail> {
     for shift in 1..=984 {
         longer.try_insert_char(0, 'a')?;
         longer.shrink_to_fit()?;
-        let other = part(&longer, shift, shift + 2_500)?;
+        let other = given(longer.get_slice(shift..shift + 2_500))?;
         assert!(rt; other == rope.slice(..) && other.eq_str(text.as_str()));
         assert!(rt; other.cmp(&rope.slice(..)) == Ordering::Equal);
         assert!(rt; other != less.slice(..) && other.cmp(&less.slice(..)) == Ordering::Greater);
@@ -84,5 +121,22 @@ fn by_texts_alone(rt: HostRuntime) -> Result<(), Fail> {
     let long = repeated(rt.alloc(), "こ", 1_000)?;
     let rope = Rope::from_str(rt.alloc(), long.as_str())?;
     assert!(rt; rope.eq_str(long.as_str()) && !rope.eq_str(&long.as_str()[3..]));
+    Ok(())
+}
+
+#[test]
+fn random_texts(rt: HostRuntime) -> Result<(), Fail> {
+    let alloc = rt.alloc();
+    let mut numbers = Numbers::new(0x9E37_79B9_7F4A_7C15);
+    for _ in 0..6 {
+        let text = random_text(alloc, &mut numbers, 3_000)?;
+        let rope = Rope::from_str(alloc, text.as_str())?;
+        let mut other = typed(alloc, text.as_str())?;
+        compare(&rt, (&rope, &other), (text.as_str(), text.as_str()));
+        let place = numbers.up_to(other.len_chars());
+        other.try_insert_char(place, 'é')?;
+        let changed = other.try_to_string(alloc)?;
+        compare(&rt, (&rope, &other), (text.as_str(), changed.as_str()));
+    }
     Ok(())
 }

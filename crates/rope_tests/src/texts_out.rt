@@ -1,22 +1,23 @@
-//! Texts that are copied out of ropes and slices, or shown.
+//! Texts copied, shown and lent by ropes and slices.
+use crate::comparisons::given;
 use rope_plain::texts::repeated;
-use ropey::{CowStr, Rope};
-use std::convert::AsStr;
+use ropey::{CowStr, Rope, RopeBuilder};
 use std::test::Fail;
 
 #[test]
 fn of_one_chunk(rt: HostRuntime) -> Result<(), Fail> {
     let alloc = rt.alloc();
     let rope = Rope::from_str(alloc, "Hello!")?;
-    assert!(rt; rope.try_to_string(alloc)?.as_str() == "Hello!");
-    assert!(rt; rope.slice(1..4).try_to_string(alloc)?.as_str() == "ell");
     assert!(rt; matches!(rope.try_to_cow(alloc)?, CowStr::Borrowed("Hello!")));
-    assert!(rt; matches!(rope.slice(1..4).try_to_cow(alloc)?, CowStr::Borrowed("ell")));
+    let slice = given(rope.get_slice(1..))?;
+    assert!(rt; matches!(slice.try_to_cow(alloc)?, CowStr::Borrowed("ello!")));
+    assert!(rt; matches!(Rope::new(alloc)?.try_to_cow(alloc)?, CowStr::Borrowed("")));
+    assert_eq!(rt; rope.try_to_string(alloc)?.as_str(), "Hello!");
     match rope.clone()?.try_into_cow()? {
-        CowStr::Owned(text) => assert!(rt; text.as_str() == "Hello!"),
-        CowStr::Borrowed(_) => return Err(Fail::from("a text of its own was borrowed")),
+        CowStr::Owned(text) => assert_eq!(rt; text.as_str(), "Hello!"),
+        CowStr::Borrowed(_) => assert!(rt; false),
     }
-    assert!(rt; rope.try_into_string()?.as_str() == "Hello!");
+    assert_eq!(rt; rope.try_into_string()?.as_str(), "Hello!");
     Ok(())
 }
 
@@ -25,20 +26,20 @@ fn of_two_chunks(rt: HostRuntime) -> Result<(), Fail> {
     let alloc = rt.alloc();
     let text = repeated(alloc, "a", 985)?;
     let rope = Rope::from_str(alloc, text.as_str())?;
-    assert!(rt; rope.slice(..).try_to_string(alloc)?.as_str() == text.as_str());
-    for cow in [rope.try_to_cow(alloc)?, rope.slice(..).try_to_cow(alloc)?] {
-        assert!(rt; matches!(cow, CowStr::Owned(_)) && cow.as_str() == text.as_str());
+    match rope.try_to_cow(alloc)? {
+        CowStr::Owned(copy) => assert_eq!(rt; copy.as_str(), text.as_str()),
+        CowStr::Borrowed(_) => assert!(rt; false),
     }
-    Ok(())
-}
-
-#[test]
-fn of_the_empty_rope(rt: HostRuntime) -> Result<(), Fail> {
-    let alloc = rt.alloc();
-    let rope = Rope::new(alloc)?;
-    assert!(rt; matches!(rope.try_to_cow(alloc)?, CowStr::Borrowed("")));
-    assert!(rt; rope.try_to_string(alloc)?.as_str() == "");
-    assert!(rt; format!(in alloc; "[{rope}]")?.as_str() == "[]");
+    match rope.slice(..).try_to_cow(alloc)? {
+        CowStr::Owned(copy) => assert_eq!(rt; copy.as_str(), text.as_str()),
+        CowStr::Borrowed(_) => assert!(rt; false),
+    }
+    assert_eq!(rt;
+        rope.slice(..).try_to_string(alloc)?.as_str(),
+        text.as_str()
+    );
+    assert_eq!(rt; format!(in alloc; "{rope}")?.as_str(), text.as_str());
+    assert_eq!(rt; rope.try_into_string()?.as_str(), text.as_str());
     Ok(())
 }
 
@@ -46,13 +47,22 @@ fn of_the_empty_rope(rt: HostRuntime) -> Result<(), Fail> {
 fn shown(rt: HostRuntime) -> Result<(), Fail> {
     let alloc = rt.alloc();
     let rope = Rope::from_str(alloc, "ab")?;
-    let slice = rope.slice(..);
-    assert!(rt; format!(in alloc; "{rope:10}")?.as_str() == "ab");
-    assert!(rt; format!(in alloc; "{slice:10}")?.as_str() == "ab");
-    assert!(rt; format!(in alloc; "{rope:?}")?.as_str() == "[\"ab\"]");
-    assert!(rt; format!(in alloc; "{slice:?}")?.as_str() == "[\"ab\"]");
-    let text = repeated(alloc, "é", 1_000)?;
-    let long = Rope::from_str(alloc, text.as_str())?;
-    assert!(rt; format!(in alloc; "{long:3}")?.as_str() == text.as_str());
+    assert_eq!(rt; format!(in alloc; "{rope:>10}")?.as_str(), "ab");
+    assert_eq!(rt; format!(in alloc; "{:.1}", rope.slice(..))?.as_str(), "ab");
+    assert_eq!(rt; format!(in alloc; "{rope:?}")?.as_str(), "[\"ab\"]");
+    let slice = given(rope.get_slice(2..))?;
+    assert_eq!(rt; format!(in alloc; "{slice:?}")?.as_str(), "[]");
+    let mut builder = RopeBuilder::new(alloc)?;
+    builder.append("abc")?;
+    let shown = format!(in alloc; "{builder:?}")?;
+    assert_eq!(rt;
+        shown.as_str(),
+        "RopeBuilder { len_bytes: 3, failed: None }"
+    );
+    let shown = format!(in alloc; "{:?}", rope.chars())?;
+    assert_eq!(rt;
+        shown.as_str(),
+        "Chars { passed: 0, total: 2, is_backward: false }"
+    );
     Ok(())
 }
