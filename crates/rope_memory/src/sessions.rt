@@ -22,8 +22,7 @@ fn owned(alloc: Global, text: &str) -> Option<String> {
 }
 
 /// Runs one command, again where memory was refused, and answers its reply.
-fn reply_to(alloc: Global, session: &mut Session, command: Command) -> Option<Reply>
-{
+fn reply_to(alloc: Global, session: &mut Session, command: Command) -> Option<Reply> {
     let commands = [command];
     for _ in 0..TRIES {
         let mut replies = Vec::new(alloc);
