@@ -92,7 +92,8 @@ fn answer_lines<R: Read, W: Write>(
     output: &mut Output,
 ) -> Ended
     ensures done { result ≡ Ended.Done → IsAtEnd (R.remaining reader.new) }
-    ensures put { result ≢ Ended.Failed → (left : List Content) × PutsRun [] left (W.contents writer.old) (W.contents writer.new) output.old output.new }
+    ensures put { result ≢ Ended.Failed → (left : List Content) × PutsRun [] left (W.contents writer.old)
+        (W.contents writer.new) output.old output.new }
 {
     let mut session = Session::new(alloc);
     let mut input = Input::new();
@@ -122,8 +123,10 @@ fn answer<W: Write>(
     writer: &mut W,
     output: &mut Output,
 ) -> Result<(), Fault>
-    ensures put { OnOk result (PutsRun session.old session.new (W.contents writer.old) (W.contents writer.new) output.old output.new) }
-    ensures kept { IfErr result (λ fault. fault ≢ Fault.Failed → (writer.new ≡ writer.old) × (output.new ≡ output.old)) }
+    ensures put { OnOk result (PutsRun session.old session.new (W.contents writer.old)
+        (W.contents writer.new) output.old output.new) }
+    ensures kept { IfErr result (λ fault. fault ≢ Fault.Failed → (writer.new ≡ writer.old) × (output.new
+        ≡ output.old)) }
 {
     let Ok(line) = str::from_utf8(line) else {
         return Err(Fault::BadLine);

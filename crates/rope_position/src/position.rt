@@ -41,7 +41,8 @@ pub trait Positions {
     /// First `LineIndexOutOfBounds`, with the line and the number of lines, where there is no such line; then
     /// `Utf16IndexOutOfBounds`, with the column and the line's number of code units, where the column is past them.
     fn try_position_to_char(&self, position: Position) -> Result<usize>
-        ensures { result ≡ checked (of_text.position_error (shown self.now).breaks (shown self.now).text position.line position.column)
+        ensures { result ≡ checked (of_text.position_error (shown self.now).breaks
+            (shown self.now).text position.line position.column)
             (of_text.position_to_char (shown self.now).breaks (shown self.now).text position.line position.column) };
 
     /// The position of the character `char_idx`, counted from 0, or of the end of the text. The index is at most
@@ -56,14 +57,16 @@ pub trait Positions {
         }
     }
 
-    /// The last character, counted from 0, of the position's line that begins at the position or before it: the one that
-    /// holds it, also where the column is inside its surrogate pair. At the line's end it is where the next line starts, or
-    /// the end of the text.
+    /// The last character, counted from 0, of the position's line that begins at the position or before it: the one
+    /// that holds it, also where the column is inside its surrogate pair. At the line's end it is where the next line
+    /// starts, or the end of the text.
     ///
     /// There is such a line, and the column is at most its number of code units.
     fn position_to_char(&self, position: Position) -> usize
-        requires { of_text.position_error (shown self.now).breaks (shown self.now).text position.line position.column ≡ None }
-        ensures { result ≡ of_text.position_to_char (shown self.now).breaks (shown self.now).text position.line position.column }
+        requires { of_text.position_error (shown self.now).breaks (shown self.now).text position.line position.column
+            ≡ None }
+        ensures { result ≡ of_text.position_to_char (shown self.now).breaks
+            (shown self.now).text position.line position.column }
     {
         match self.try_position_to_char(position) {
             Ok(char_idx) => char_idx,
@@ -74,7 +77,8 @@ pub trait Positions {
 
 /// The character of a line, counted from the line's start, that a column is in, or why the column is refused.
 pub(crate) fn char_in_line(line: RopeSlice<'_>, column: usize) -> Result<usize>
-    ensures { result ≡ checked (utf16_index_error column (utf16_len (text_of line.entry))) (utf16_to_char (text_of line.entry) column) }
+    ensures { result ≡ checked (utf16_index_error column (utf16_len (text_of line.entry))) (utf16_to_char
+        (text_of line.entry) column) }
 {
     let units = line.len_utf16_cu();
     if column > units {

@@ -11,7 +11,7 @@ ghost use Rattle.rope_text.specs.Lookup.{found_chunk};
 ghost use Rattle.rope_text.specs.Position.{char_to_column, position_error, position_to_char};
 ghost use Rattle.rope_text.specs.Text.{byte_len, utf16_len};
 ghost use Rattle.rope_part.specs.Found.{IsFoundChunk};
-ghost use Rattle.rope_slice.specs.Answer.{checked};
+ghost use Rattle.rope_text.specs.Answer.{checked};
 ghost use Rattle.rope_slice.specs.Slice.{content_of, text_of, breaks_of, chunks_of};
 ghost use Rattle.ropey.specs.View.{content};
 ghost use Rattle.rope_script.specs.Ask.{Answers, Compares, IsTextReply, IsChunkReply, conversion, conversion_error, is_inside, chunk_index, refusal_or};
@@ -27,7 +27,8 @@ use std::alloc::Global;
 
 /// A part of a rope, or none where the range is not in it.
 pub(crate) fn part_of(rope: &Rope, range: Option<(usize, usize)>) -> Option<RopeSlice<'_>>
-    ensures { MatchOption result (of_parts.part_of (content rope.now) range ≡ None) (λ part. of_parts.part_of (content rope.now) range ≡ Some (content_of part)) }
+    ensures { MatchOption result (of_parts.part_of (content rope.now) range ≡ None) (λ part. of_parts.part_of
+        (content rope.now) range ≡ Some (content_of part)) }
 {
     match range {
         None => {
@@ -47,7 +48,8 @@ pub(crate) fn ask(
     range: Option<(usize, usize)>,
     query: &Query,
 ) -> Result<Reply>
-    ensures step { IfOk result (λ reply. Asks rope range query.now (map content ropes.now) reply (map content ropes.now)) }
+    ensures step { IfOk result (λ reply. Asks rope range query.now (map content ropes.now) reply
+        (map content ropes.now)) }
     ensures memory { IfErr result (λ e. e ≡ OutOfMemory) }
 {
     match ropes.get(rope) {
@@ -83,7 +85,8 @@ fn answer(alloc: Global, ropes: &[Rope], part: &RopeSlice<'_>, query: &Query) ->
 
 /// The lengths of a part.
 fn lens(part: &RopeSlice<'_>) -> Reply
-    ensures { result ≡ Reply.Lens (byte_len (text_of part.now)) (length (text_of part.now)) (line_count (breaks_of part.now) (text_of part.now)) (utf16_len (text_of part.now)) }
+    ensures { result ≡ Reply.Lens (byte_len (text_of part.now)) (length (text_of part.now)) (line_count
+        (breaks_of part.now) (text_of part.now)) (utf16_len (text_of part.now)) }
 {
     Reply::Lens(
         part.len_bytes(),
@@ -95,7 +98,8 @@ fn lens(part: &RopeSlice<'_>) -> Reply
 
 /// The reply to a number that may be refused.
 fn number_reply(number: Result<usize>) -> Reply
-    ensures { (error : Option Error) (value : ℕ) → number ≡ checked error value → result ≡ refusal_or error (Reply.Number value) }
+    ensures { (error : Option Error) (value : ℕ) → number ≡ checked error value → result ≡ refusal_or error
+        (Reply.Number value) }
 {
     match number {
         Ok(number) => Reply::Number(number),
@@ -105,7 +109,8 @@ fn number_reply(number: Result<usize>) -> Reply
 
 /// An index of a part, converted.
 fn convert(part: &RopeSlice<'_>, conv: Conv, index: usize) -> Result<usize>
-    ensures { result ≡ checked (conversion_error (content_of part.now) conv index) (conversion (content_of part.now) conv index) }
+    ensures { result ≡ checked (conversion_error (content_of part.now) conv index) (conversion
+        (content_of part.now) conv index) }
 {
     match conv {
         Conv::ByteToChar => part.try_byte_to_char(index),
@@ -121,7 +126,8 @@ fn convert(part: &RopeSlice<'_>, conv: Conv, index: usize) -> Result<usize>
 
 /// A byte of a part.
 fn byte(part: &RopeSlice<'_>, byte_idx: usize) -> Reply
-    ensures { MatchOption (slice_get (encode_utf8_all (text_of part.now)) byte_idx) (result ≡ Reply.Absent) (λ byte. result ≡ Reply.Byte byte) }
+    ensures { MatchOption (slice_get (encode_utf8_all (text_of part.now)) byte_idx) (result ≡ Reply.Absent)
+        (λ byte. result ≡ Reply.Byte byte) }
 {
     match part.get_byte(byte_idx) {
         None => Reply::Absent,
@@ -131,7 +137,8 @@ fn byte(part: &RopeSlice<'_>, byte_idx: usize) -> Reply
 
 /// A character of a part.
 fn character(part: &RopeSlice<'_>, char_idx: usize) -> Reply
-    ensures { MatchOption (slice_get (text_of part.now) char_idx) (result ≡ Reply.Absent) (λ character. result ≡ Reply.Char character) }
+    ensures { MatchOption (slice_get (text_of part.now) char_idx) (result ≡ Reply.Absent) (λ character. result
+        ≡ Reply.Char character) }
 {
     match part.get_char(char_idx) {
         None => Reply::Absent,
@@ -141,7 +148,8 @@ fn character(part: &RopeSlice<'_>, char_idx: usize) -> Reply
 
 /// A line of a part.
 fn line(alloc: Global, part: &RopeSlice<'_>, line_idx: usize) -> Result<Reply>
-    ensures line { IfOk result (λ reply. MatchBool (nat_lt line_idx (line_count (breaks_of part.now) (text_of part.now)))
+    ensures line { IfOk result (λ reply. MatchBool (nat_lt line_idx (line_count (breaks_of part.now)
+        (text_of part.now)))
         (IsTextReply reply (of_lines.line (breaks_of part.now) (text_of part.now) line_idx)) (reply ≡ Reply.Absent)) }
     ensures memory { IfErr result (λ e. e ≡ OutOfMemory) }
 {
@@ -160,7 +168,8 @@ fn find_chunk<'a>(
 ) -> Option<(&'a str, usize, usize, usize)>
     ensures { MatchOption result (is_inside (content_of part.now) at index ≡ false)
         (λ found. (is_inside (content_of part.now) at index ≡ true)
-        × IsFoundChunk (found_chunk (breaks_of part.now) (chunks_of part.now) (chunk_index (content_of part.now) at index))
+        × IsFoundChunk (found_chunk (breaks_of part.now) (chunks_of part.now) (chunk_index
+        (content_of part.now) at index))
         (chars found.0.now) found.1 found.2 found.3) }
 {
     match at {
@@ -173,7 +182,8 @@ fn find_chunk<'a>(
 /// The chunk of a part that an index looks up.
 fn chunk_at(alloc: Global, part: &RopeSlice<'_>, at: At, index: usize) -> Result<Reply>
     ensures chunk { IfOk result (λ reply. MatchBool (is_inside (content_of part.now) at index)
-        (IsChunkReply reply (found_chunk (breaks_of part.now) (chunks_of part.now) (chunk_index (content_of part.now) at index)))
+        (IsChunkReply reply (found_chunk (breaks_of part.now) (chunks_of part.now) (chunk_index
+        (content_of part.now) at index)))
         (reply ≡ Reply.Absent)) }
     ensures memory { IfErr result (λ e. e ≡ OutOfMemory) }
 {
@@ -206,7 +216,8 @@ fn compare(
 /// The position of a character of a part.
 fn to_position(part: &RopeSlice<'_>, char_idx: usize) -> Reply
     ensures { result ≡ refusal_or (char_index_error char_idx (length (text_of part.now)))
-        (Reply.Position (of_text.char_to_line (breaks_of part.now) (text_of part.now) char_idx) (char_to_column (breaks_of part.now) (text_of part.now) char_idx)) }
+        (Reply.Position (of_text.char_to_line (breaks_of part.now) (text_of part.now) char_idx) (char_to_column
+        (breaks_of part.now) (text_of part.now) char_idx)) }
 {
     match part.try_char_to_position(char_idx) {
         Ok(position) => Reply::Position(position.line, position.column),

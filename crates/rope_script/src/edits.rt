@@ -10,7 +10,8 @@ use ropey::{Error, IndexRange, Result, Rope};
 
 /// Inserts a text into a rope.
 pub(crate) fn insert(ropes: &mut Vec<Rope>, rope: usize, char_idx: usize, text: &str) -> Reply
-    ensures { Inserts rope char_idx (chars text.now) (map content ropes.old.items) result (map content ropes.new.items) }
+    ensures { Inserts rope char_idx (chars text.now) (map content ropes.old.items) result
+        (map content ropes.new.items) }
 {
     if rope >= ropes.len() {
         return Reply::NoRope;

@@ -14,7 +14,8 @@ use std::alloc::Global;
 
 /// Adds an empty rope with Unicode's line breaks.
 pub(crate) fn make_empty(alloc: Global, ropes: &mut Vec<Rope>) -> Result<Reply>
-    ensures step { IfOk result (λ reply. OrNoMemory (Adds [] Unicode HasFewChunks (map content ropes.old.items) reply (map content ropes.new.items)) (map content ropes.old.items) reply (map content ropes.new.items)) }
+    ensures step { IfOk result (λ reply. OrNoMemory (Adds [] Unicode HasFewChunks (map content ropes.old.items) reply
+        (map content ropes.new.items)) (map content ropes.old.items) reply (map content ropes.new.items)) }
     ensures err { OnErr result (ropes.new.items ≡ ropes.old.items) }
     ensures memory { IfErr result (λ e. e ≡ OutOfMemory) }
 {
@@ -32,7 +33,9 @@ pub(crate) fn make_text(
     breaks: LineBreaks,
     text: &str,
 ) -> Result<Reply>
-    ensures step { IfOk result (λ reply. OrNoMemory (Adds (chars text.now) breaks HasFewChunks (map content ropes.old.items) reply (map content ropes.new.items)) (map content ropes.old.items) reply (map content ropes.new.items)) }
+    ensures step { IfOk result (λ reply. OrNoMemory (Adds (chars text.now) breaks HasFewChunks
+        (map content ropes.old.items) reply (map content ropes.new.items)) (map content ropes.old.items) reply
+        (map content ropes.new.items)) }
     ensures err { OnErr result (ropes.new.items ≡ ropes.old.items) }
     ensures memory { IfErr result (λ e. e ≡ OutOfMemory) }
 {
@@ -45,7 +48,9 @@ pub(crate) fn make_text(
 
 /// Adds a clone of a rope.
 pub(crate) fn make_clone(ropes: &mut Vec<Rope>, rope: usize) -> Result<Reply>
-    ensures step { IfOk result (λ reply. OfRope rope (λ cloned. OrNoMemory (AddsSame cloned (map content ropes.old.items) reply (map content ropes.new.items)) (map content ropes.old.items) reply (map content ropes.new.items)) (map content ropes.old.items) reply (map content ropes.new.items)) }
+    ensures step { IfOk result (λ reply. OfRope rope (λ cloned. OrNoMemory (AddsSame cloned
+        (map content ropes.old.items) reply (map content ropes.new.items)) (map content ropes.old.items) reply
+        (map content ropes.new.items)) (map content ropes.old.items) reply (map content ropes.new.items)) }
     ensures err { OnErr result (ropes.new.items ≡ ropes.old.items) }
     ensures memory { IfErr result (λ e. e ≡ OutOfMemory) }
 {
@@ -66,7 +71,8 @@ pub(crate) fn copy(
     rope: usize,
     range: Option<(usize, usize)>,
 ) -> Result<Reply>
-    ensures step { IfOk result (λ reply. Copies rope range (map content ropes.old.items) reply (map content ropes.new.items)) }
+    ensures step { IfOk result (λ reply. Copies rope range (map content ropes.old.items) reply
+        (map content ropes.new.items)) }
     ensures err { OnErr result (ropes.new.items ≡ ropes.old.items) }
     ensures memory { IfErr result (λ e. e ≡ OutOfMemory) }
 {
@@ -86,7 +92,8 @@ pub(crate) fn copy(
 
 /// Cuts a rope in two.
 pub(crate) fn cut(ropes: &mut Vec<Rope>, rope: usize, char_idx: usize) -> Result<Reply>
-    ensures step { IfOk result (λ reply. Cuts rope char_idx (map content ropes.old.items) reply (map content ropes.new.items)) }
+    ensures step { IfOk result (λ reply. Cuts rope char_idx (map content ropes.old.items) reply
+        (map content ropes.new.items)) }
     ensures err { OnErr result (ropes.new.items ≡ ropes.old.items) }
     ensures memory { IfErr result (λ e. e ≡ OutOfMemory) }
 {

@@ -74,7 +74,8 @@ impl Session {
 
 /// Does one command on ropes, and answers its reply. A refusal for memory has done nothing.
 fn run_command(alloc: Global, ropes: &mut Vec<Rope>, command: &Command) -> Result<Reply>
-    ensures step { IfOk result (λ reply. Step (map content ropes.old.items) command.now reply (map content ropes.new.items)) }
+    ensures step { IfOk result (λ reply. Step (map content ropes.old.items) command.now reply
+        (map content ropes.new.items)) }
     ensures err { OnErr result (ropes.new.items ≡ ropes.old.items) }
     ensures memory { IfErr result (λ e. e ≡ OutOfMemory) }
 {

@@ -25,7 +25,8 @@ pub(crate) fn chunk_texts(alloc: Global, part: &RopeSlice<'_>) -> Result<Vec<Str
 
 /// A copy of the next chunk, if there is one.
 fn copy_next(alloc: Global, chunks: &mut Chunks<'_>) -> Result<Option<String>>
-    ensures next { IfOk result (λ next. MatchOption next (ahead chunks.old ≡ []) (λ text. ahead chunks.old ≡ chars (string_bytes text) ∷ ahead chunks.new)) }
+    ensures next { IfOk result (λ next. MatchOption next (ahead chunks.old ≡ []) (λ text. ahead chunks.old ≡ chars
+        (string_bytes text) ∷ ahead chunks.new)) }
     ensures memory { IfErr result (λ e. e ≡ OutOfMemory) }
 {
     match chunks.next() {

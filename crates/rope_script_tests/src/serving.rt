@@ -1,0 +1,154 @@
+//! Lines that come in parts, devices that fail, and how a run ends.
+use crate::devices::{Dripping, Narrow};
+use crate::served::told;
+use rope_language::{Ended, serve};
+use std::test::Fail;
+
+#[test]
+fn ends(rt: HostRuntime) -> Result<(), Fail> {
+    for (input, ended, output) in [
+        (b"".as_slice(), Ended::Done, ""),
+        (b"\n".as_slice(), Ended::BadLine(1), ""),
+        (b"text \nlen 0".as_slice(), Ended::Done, "rope 0\n0 0 1 0\n"),
+        (
+            b"text \nfrob\nlen 0\n".as_slice(),
+            Ended::BadLine(2),
+            "rope 0\n",
+        ),
+        (b"len 7\n\n".as_slice(), Ended::BadLine(2), "no rope\n"),
+        (b"len 7\r\n".as_slice(), Ended::BadLine(1), ""),
+        (
+            b"len 7\ntext \xff\n".as_slice(),
+            Ended::BadLine(2),
+            "no rope\n",
+        ),
+        (
+            b"text \nins 0 0 \nins 0 1 \nchunks 0\ntext \nins 2 0 a\n".as_slice(),
+            Ended::Done,
+            "rope 0\nok\nerror: Char index out of bounds: char index 1, Rope/RopeSlice char length 0\n0\nrope 1\nno rope\n",
+        ),
+        (
+            b"text abc\nclone 0\ndel 0 1 -\nshow 0\nshow 1\ndel 0 0 -\nshow 0\njoin 1 1\ncut 1 4\nshow 1\nshow 2\n".as_slice(),
+            Ended::Done,
+            "rope 0\nrope 1\nok\n\"a\"\n\"abc\"\nok\n\"\"\nok\nrope 2\n\"abca\"\n\"bc\"\n",
+        ),
+        (
+            b"text abc\ndel 0 2 1\ndel 0 1 1\ndel 0 - 9\n".as_slice(),
+            Ended::Done,
+            "rope 0\nerror: Invalid char range 2..1: start must be <= end\nok\nerror: Char range out of bounds: char range ..9, Rope/RopeSlice char length 3\n",
+        ),
+        (
+            b"new\ninsc 0 0 \\n\nclone 1\njoin 0 1\njoin 1 0\ncut 0 2\ncut 1 0\nchunks 0\n".as_slice(),
+            Ended::Done,
+            "rope 0\nok\nno rope\nno rope\nno rope\nerror: Char index out of bounds: char index 2, Rope/RopeSlice char length 1\nno rope\n1 \"\\n\"\n",
+        ),
+        (
+            b"textb lf a\\rb\\n\nlen 0\ntext a\\rb\\n\nlen 1\njoin 0 1\nfit 0\nbreaks 0\nbreaks 1\nfit 2\nbreaks 2\nshow 0\n".as_slice(),
+            Ended::Done,
+            "rope 0\n4 4 2 4\nrope 1\n4 4 3 4\nerror: Ropes have different line breaks\nok\nlf\nunicode\nno rope\nno rope\n\"a\\rb\\n\"\n",
+        ),
+        (
+            b"textb crlf a\\r\\n\njoin 0 0\nlen 0\ncut 0 3\nclone 1\nbreaks 2\nnew\njoin 3 2\njoin 2 3\nbreaks 3\n".as_slice(),
+            Ended::Done,
+            "rope 0\nok\n6 6 3 6\nrope 1\nrope 2\ncrlf\nrope 3\nerror: Ropes have different line breaks\nerror: Ropes have different line breaks\nunicode\n",
+        ),
+    ] {
+        let (slowly, by_bytes) = told(rt.alloc(), input, 1)?;
+        let (at_once, by_blocks) = told(rt.alloc(), input, 4096)?;
+        assert_eq!(rt; slowly, ended);
+        assert_eq!(rt; at_once, ended);
+        assert_eq!(rt; by_bytes.as_str(), output);
+        assert_eq!(rt; by_blocks.as_str(), output);
+    }
+    Ok(())
+}
+
+#[test]
+fn longest_text(rt: HostRuntime) -> Result<(), Fail> {
+    let mut input = String::from_str(rt.alloc(), "text a\n")?;
+    let mut replies = String::from_str(rt.alloc(), "rope 0\n")?;
+    for _ in 0..62 {
+        input.push_str("join 0 0\n")?;
+        replies.push_str("ok\n")?;
+    }
+    input.push_str("len 0\njoin 0 0\nlen 0\n")?;
+    replies.push_str("4611686018427387904 4611686018427387904 1 4611686018427387904\n")?;
+    replies.push_str("error: Text would be longer than isize::MAX bytes\n")?;
+    replies.push_str("4611686018427387904 4611686018427387904 1 4611686018427387904\n")?;
+    let (ended, output) = told(rt.alloc(), input.as_bytes(), 4096)?;
+    assert_eq!(rt; ended, Ended::Done);
+    assert_eq!(rt; output.as_str(), replies.as_str());
+    Ok(())
+}
+
+#[test]
+fn failed_read(rt: HostRuntime) -> Result<(), Fail> {
+    let mut reader = Dripping {
+        rest: b"text \nlen 0\nlen 0",
+        step: 4,
+        fails: true,
+    };
+    let mut writer = Narrow::new(rt.alloc(), 1000);
+    assert_eq!(rt; serve(rt.alloc(), &mut reader, &mut writer), Ended::Failed);
+    assert_eq!(rt; writer.is_flushed, true);
+    assert_eq!(rt;
+        String::from_utf8(writer.kept)?.as_str(),
+        "rope 0\n0 0 1 0\n"
+    );
+    Ok(())
+}
+
+#[test]
+fn failed_writes(rt: HostRuntime) -> Result<(), Fail> {
+    for input in [b"text \n".as_slice(), b"text \nfrob\n".as_slice()] {
+        let mut reader = input;
+        let mut writer = Narrow::new(rt.alloc(), 3);
+        assert_eq!(rt; serve(rt.alloc(), &mut reader, &mut writer), Ended::Failed);
+        assert_eq!(rt; String::from_utf8(writer.kept)?.as_str(), "rop");
+        let mut reader = input;
+        let mut writer = Narrow::new(rt.alloc(), 1000);
+        writer.fails_to_flush = true;
+        assert_eq!(rt; serve(rt.alloc(), &mut reader, &mut writer), Ended::Failed);
+        assert_eq!(rt; String::from_utf8(writer.kept)?.as_str(), "rope 0\n");
+    }
+    Ok(())
+}
+
+#[test]
+fn long_lines_and_replies(rt: HostRuntime) -> Result<(), Fail> {
+    let mut input = Vec::new(rt.alloc());
+    for _ in 0..3 {
+        input.extend_from_slice(b"len ")?;
+        for _ in 0..5000 {
+            input.push(b'0')?;
+        }
+        input.push(b'\n')?;
+    }
+    for _ in 0..2000 {
+        input.extend_from_slice(b"len 1\n")?;
+    }
+    let mut reader = input.as_slice();
+    let mut writer = Narrow::new(rt.alloc(), 20000);
+    assert_eq!(rt; serve(rt.alloc(), &mut reader, &mut writer), Ended::Done);
+    assert_eq!(rt; writer.kept.len(), 2003 * 8);
+    let mut reader = input.as_slice();
+    let mut writer = Narrow::new(rt.alloc(), 9000);
+    assert_eq!(rt; serve(rt.alloc(), &mut reader, &mut writer), Ended::Failed);
+    Ok(())
+}
+
+#[test]
+fn reply_longer_than_what_is_gathered(rt: HostRuntime) -> Result<(), Fail> {
+    let mut input = String::from_str(rt.alloc(), "text ")?;
+    let mut output = String::from_str(rt.alloc(), "rope 0\n\"")?;
+    for _ in 0..9000 {
+        input.push('a')?;
+        output.push('a')?;
+    }
+    input.push_str("\nshow 0\nlen 0\n")?;
+    output.push_str("\"\n9000 9000 1 9000\n")?;
+    let (ended, written) = told(rt.alloc(), input.as_bytes(), 4096)?;
+    assert_eq!(rt; ended, Ended::Done);
+    assert_eq!(rt; written.as_str(), output.as_str());
+    Ok(())
+}
