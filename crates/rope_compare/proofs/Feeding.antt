@@ -1,5 +1,5 @@
 -- Bytes that are being handed to a hasher.
-use Rattle.std.proofs.Common.{◌≡◌, ℕ, ◌<◌, ◌≤◌, List, [], ◌∷◌, ◌++◌, length, take, fold, sym, ap, ◌∙◌, append_assoc, arith}
+use Rattle.std.proofs.Common.{◌≡◌, ℕ, ◌<◌, List, [], ◌++◌, length, take, fold, sym, ap, ◌∙◌, append_assoc, arith}
 use Rattle.std.proofs.lemmas.List.{append-nil, length-take-le}
 use Rattle.rope_text.specs.Compare.{blocks}
 use Rattle.rope_text.proofs.CompareLaws.{blocks_full, blocks_last, blocks_none}

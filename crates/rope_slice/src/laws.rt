@@ -16,10 +16,12 @@ pub fn equal_texts()
 /// The order of slices is total, and ties equal slices alone.
 pub fn order_is_total()
     ensures total { IsTotalOrder ⟦<RopeSlice<'static> as Ord>⟧.cmp }
-    ensures ties { (a b : RopeSlice) → ((⟦<RopeSlice<'static> as Ord>⟧.cmp a b ≡ Equal) ↔ IsTrue (⟦<RopeSlice<'static> as PartialEq>⟧.eq a b)) }
+    ensures ties { (a b : RopeSlice) →
+        ((⟦<RopeSlice<'static> as Ord>⟧.cmp a b ≡ Equal) ↔ IsTrue (⟦<RopeSlice<'static> as PartialEq>⟧.eq a b)) }
 {}
 
 /// Equal slices hand any hasher the same writes.
 pub fn equal_slices_hash_alike()
-    ensures { (a b : RopeSlice) → IsTrue (⟦<RopeSlice<'static> as PartialEq>⟧.eq a b) → ⟦<RopeSlice<'static> as Hash>⟧.hash_input a ≡ ⟦<RopeSlice<'static> as Hash>⟧.hash_input b }
+    ensures { (a b : RopeSlice) → IsTrue (⟦<RopeSlice<'static> as PartialEq>⟧.eq a b) →
+        ⟦<RopeSlice<'static> as Hash>⟧.hash_input a ≡ ⟦<RopeSlice<'static> as Hash>⟧.hash_input b }
 {}

@@ -20,5 +20,6 @@ pub fn order_is_total()
 
 /// Equal ropes hand any hasher the same writes.
 pub fn equal_ropes_hash_alike()
-    ensures { (a b : RopeView) → IsTrue (⟦<Rope as PartialEq>⟧.eq a b) → ⟦<Rope as Hash>⟧.hash_input a ≡ ⟦<Rope as Hash>⟧.hash_input b }
+    ensures { (a b : RopeView) → IsTrue (⟦<Rope as PartialEq>⟧.eq a b) →
+        ⟦<Rope as Hash>⟧.hash_input a ≡ ⟦<Rope as Hash>⟧.hash_input b }
 {}

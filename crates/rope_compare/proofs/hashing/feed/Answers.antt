@@ -1,4 +1,4 @@
-use Rattle.std.proofs.Common.{◌≡◌, sym, ap, ◌∙◌, [], take, arith, fold}
+use Rattle.std.proofs.Common.{◌≡◌, ◌∙◌, [], take, arith, fold}
 use Rattle.std.specs.Hash as fed
 use Rattle.std.specs.Str.{encode_utf8_all}
 use Rattle.rope_text.specs.Compare.{blocks}

@@ -1,6 +1,5 @@
 -- The writes so far and those of what is left are those of all, whatever follows.
-use Rattle.std.proofs.Common.{◌≡◌, ℕ, List, ◌++◌, length, fold}
-use Rattle.rope_text.specs.Compare.{blocks}
+use Rattle.std.proofs.Common.{length}
 use Rattle.rope_compare.proofs.Feeding.{IsFeeding}
 use Rattle.rope_compare.proofs.hashing.feed_blocks.Given as goal
 

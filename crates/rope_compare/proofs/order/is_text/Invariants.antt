@@ -1,5 +1,4 @@
 -- The text is the bytes passed and those that are left of it, and as many are ahead.
-use Rattle.std.proofs.Common.{◌≡◌, length, ◌++◌, List, ℕ}
 use Rattle.rope_compare.specs.Rest.{bytes_ahead}
 use Rattle.rope_compare.proofs.Comparing.{IsMatching}
 use Rattle.rope_part.specs.Part.{text_of}

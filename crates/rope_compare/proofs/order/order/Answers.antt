@@ -1,4 +1,4 @@
-use Rattle.std.proofs.Common.{◌≡◌, ◌++◌, drop, length, take, sym, ap, ◌∙◌, nat_cmp, arith, inl, inr, rules, tests, length-drop, length-append}
+use Rattle.std.proofs.Common.{◌≡◌, ◌++◌, drop, length, take, sym, ap, ◌∙◌, nat_cmp, arith, inl, inr, rules, tests, length-append}
 use Rattle.std.specs.Cmp.Lexicographic.{slice_cmp}
 use Rattle.rope_text.proofs.ByteOrder.{slice_cmp_ends, decided, left_open}
 use Rattle.rope_compare.proofs.order.order.Goals as goal

@@ -1,4 +1,4 @@
-use Rattle.std.proofs.Common.{◌++◌, ap, sym, ◌∙◌, length, arith, rules, tests}
+use Rattle.std.proofs.Common.{◌++◌, ap, sym, ◌∙◌, rules, tests}
 use Rattle.std.proofs.lemmas.List.{nil_from_length}
 use Rattle.rope_compare.specs.Rest.{bytes_ahead}
 use Rattle.rope_compare.proofs.Taken.{chunk_taken}

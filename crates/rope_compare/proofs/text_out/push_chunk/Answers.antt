@@ -1,6 +1,5 @@
-use Rattle.std.proofs.Common.{◌++◌, sym, ap, ◌∙◌, Ok, Err, Result, refl}
+use Rattle.std.proofs.Common.{sym}
 use Rattle.std.proofs.lemmas.Str.{encodes-chars}
-use Rattle.std.specs.String.{string_bytes}
 use Rattle.rope_compare.proofs.Taken.{appended}
 use Rattle.rope_compare.proofs.text_out.push_chunk.Goals as goal
 

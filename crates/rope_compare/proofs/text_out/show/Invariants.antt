@@ -1,5 +1,4 @@
 -- What was written and what is ahead are the text.
-use Rattle.std.proofs.Common.{◌≡◌, ◌++◌, List, ℕ}
 use Rattle.std.specs.Str.{encode_utf8_all}
 use Rattle.rope_part.specs.Part.{text_of}
 use Rattle.rope_compare.specs.Rest.{bytes_ahead}
