@@ -1,14 +1,13 @@
 //! The workloads by name.
 use crate::asking::{Question, ask};
 use crate::changing::{self, Changes, change};
-use crate::copying;
 use crate::counting::{Counted, count, slice_from_str};
 use crate::fault::Fault;
 use crate::inserting::{self, Inserts, insert};
-use crate::making;
 use crate::measure::Outcome;
 use crate::sample::Sample;
 use crate::walking::{Walk, go_over};
+use crate::{copying, making};
 use rope_text::LineBreaks;
 use std::time::CpuClock;
 

@@ -75,7 +75,7 @@ fn of_one_chunk_and_of_two(rt: HostRuntime) -> Result<(), Fail> {
     let text = padded(alloc, "", 985, "b")?;
     let rope = Rope::from_str(alloc, text.as_str())?;
     let two = given(rope.get_slice(983..985))?;
-    assert_eq!(rt; two.chunks().count(), 2);
+    assert!(rt; two.as_str().is_none());
     let one = RopeSlice::from("ab");
     assert!(rt; one == two && two == one);
     assert!(rt; one.cmp(&two) == Ordering::Equal);
@@ -119,8 +119,9 @@ fn by_texts_alone(rt: HostRuntime) -> Result<(), Fail> {
     assert!(rt; lf == unicode && lf.cmp(&unicode) == Ordering::Equal);
     assert!(rt; lf.eq_str("a\r\nb") && !lf.eq_str("a\r\n") && !lf.eq_str("a\r\nbb"));
     let long = repeated(rt.alloc(), "こ", 1_000)?;
+    let less = repeated(rt.alloc(), "こ", 999)?;
     let rope = Rope::from_str(rt.alloc(), long.as_str())?;
-    assert!(rt; rope.eq_str(long.as_str()) && !rope.eq_str(&long.as_str()[3..]));
+    assert!(rt; rope.eq_str(long.as_str()) && !rope.eq_str(less.as_str()));
     Ok(())
 }
 
