@@ -6,7 +6,7 @@ ghost use Rattle.std.specs.Str.{chars};
 ghost use Rattle.rope_text.specs.Compare.{text_cmp};
 ghost use Rattle.rope_part.specs.Part.{text_of};
 
-use crate::pieces::{Upcoming, bytes_of, chunks_of, filled};
+use crate::pieces::{bytes_of, chunks_of, filled};
 use rope_part::Part;
 use std::cmp::Ordering;
 
@@ -14,8 +14,8 @@ use std::cmp::Ordering;
 pub fn order(left: &Part<'_>, right: &Part<'_>) -> Ordering
     ensures { result ≡ text_cmp (text_of left.now) (text_of right.now) }
 {
-    let mut lefts = Upcoming::of(left);
-    let mut rights = Upcoming::of(right);
+    let mut lefts = chunks_of(left);
+    let mut rights = chunks_of(right);
     let mut x = filled(&[], &mut lefts);
     let mut y = filled(&[], &mut rights);
     // Fronts of one length are compared, and are then both passed.

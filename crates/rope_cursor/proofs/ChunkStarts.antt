@@ -1,5 +1,5 @@
 -- Where a cursor over chunks starts.
-use Rattle.std.proofs.Common.{◌≡◌, ℕ, suc, ◌+◌, ◌-◌, ◌<◌, ◌≤◌, ◌==◌, nat_le, Bool, true, false, List, [], ◌∷◌, ◌++◌, length, get_or, refl, sym, ap, ◌∙◌, arith, inl, inr, All}
+use Rattle.std.proofs.Common.{◌≡◌, ℕ, suc, ◌+◌, ◌-◌, ◌<◌, ◌≤◌, ◌==◌, Bool, true, false, List, [], ◌∷◌, ◌++◌, length, get_or, refl, sym, ap, ◌∙◌, arith, inl, inr, All}
 use Rattle.std.specs.Prelude.{if◌then◌else◌}
 use Rattle.std.specs.List.{concat}
 use Rattle.std.proofs.lemmas.Bool.Decides.{nat_tests}
@@ -11,11 +11,8 @@ use Rattle.rope_text.specs.Text.{byte_len}
 use Rattle.rope_text.specs.Breaks.{break_count}
 use Rattle.rope_text.specs.Cutting.{IsCutting}
 use Rattle.rope_text.specs.Sides.{Sides, all_items, at_start, place}
-use Rattle.rope_text.specs.Lines.{line_start}
-use Rattle.rope_text.specs.Lookup.{LieBefore, found_chunk, front_chunks, chunk_index_at_byte, chunk_index_at_char, chunk_index_at_line_break}
-use Rattle.rope_text.proofs.Greatest.{greatest-le}
+use Rattle.rope_text.specs.Lookup.{LieBefore, found_chunk, front_chunks, chunk_index_at_byte, chunk_index_at_char}
 use Rattle.rope_text.proofs.ConversionLaws.{char_to_line_end}
-use Rattle.rope_part.proofs.Lookups.{holds_char, line_break_index}
 use Rattle.rope_cursor.specs.Chunks.{at_chunk}
 use Rattle.rope_text.proofs.CuttingLaws.{concat-append}
 use Rattle.rope_text.proofs.ChunkLaws.{before_more}
@@ -154,16 +151,6 @@ pub placed_inside : (set : LineBreaks) (chunks : List (List ℕ)) (i n k : ℕ) 
 placed_inside set chunks i n k s bytes chars breaks other placed =
     let e : (i == n) ≡ false = grind (arith, nat_tests) in
     rw e placed
-
-pub byte_index-le : (chunks : List (List ℕ)) (b : ℕ) → chunk_index_at_byte chunks b ≤ length chunks - 1
-unfolding chunk_index_at_byte
-byte_index-le chunks b = greatest-le (λ k. nat_le (byte_len (front_chunks chunks k)) b) (length chunks - 1)
-
-pub char_index-le : (chunks : List (List ℕ)) (i : ℕ) → chunk_index_at_char chunks i ≤ length chunks - 1
-char_index-le chunks i = (holds_char chunks i).within
-
-pub line_break_index-le : (set : LineBreaks) (chunks : List (List ℕ)) (k : ℕ) → All (λ chunk. 0 < length chunk) chunks → chunk_index_at_line_break set chunks k ≤ length chunks - 1
-line_break_index-le set chunks k full = omega (arith, line_break_index set chunks k full, char_index-le chunks (line_start set (concat chunks) k - 1))
 
 -- the counts of the whole text lie before its end
 pub all_before : (set : LineBreaks) (chunks : List (List ℕ)) (bytes chars breaks : ℕ) → bytes ≡ byte_len (concat chunks) → chars ≡ length (concat chunks) → breaks ≡ break_count set (concat chunks)

@@ -1,18 +1,20 @@
 //! A way from the root of a tree to one of its leaves, kept in place. No step takes memory.
-ghost use Rattle.std.specs.Prelude.{◌≡◌, ◌+◌, ◌-◌, ◌<◌, ◌^◌, ◌∷◌, take, [], IfSome, IfNone};
+ghost use Rattle.std.specs.Prelude.{◌≡◌, ◌+◌, ◌-◌, ◌<◌, ◌^◌, ◌∷◌, take, [], length, IfSome, IfNone};
 ghost use Rattle.std.specs.Bool.{OnTrue, OnFalse};
-ghost use Rattle.std.specs.List.{concat};
+ghost use Rattle.std.specs.List.{concat, All};
 ghost use Rattle.std.specs.Str.{chars};
 ghost use Rattle.rope_text.specs.Text.{byte_len};
 ghost use Rattle.rope_text.specs.TextInfo.{info_of};
 ghost use Rattle.rope_tree.specs.Search.{count_of};
 ghost use Rattle.rope_tree.specs.Leaves.{AreLeaves};
 ghost use Rattle.rope_tree.specs.Tree.{text};
+ghost use Rattle.rope_tree.specs.View.{IsLeafOf};
 ghost use Rattle.rope_cursor.specs.Path.{before_of, after_of, around, place_of, AreFrames, AreFramesOf, LeadsTo, HasNextAt, HasPrevAt, IsLow, IsNext, HoldsPlace, leaves};
 
 use rope_text::{Steps, TextInfo};
 use rope_tree::lookup::total_before;
 use rope_tree::node::{Node, View};
+use rope_tree::node_text::NodeText;
 use rope_tree::search::{Unit, count, place_of};
 use std::marker::Model;
 use std::rc::Rc;
@@ -44,6 +46,50 @@ impl<'a> Model for Path<'a> {
     ghost invariant = { λ a. AreFrames a.frames a.depth (around a.frames a.depth (chars a.leaf.now ∷ [])) };
 }
 
+// Whether all nodes are leaves. A walk comes to one after the other, and would wait for memory at each: here what it will read
+// of their heads is read side by side, so that their waits are one.
+fn are_leaves(nodes: &[Rc<Node>]) -> bool
+    ensures { OnTrue result (All (λ rc. rc.value.height ≡ 0) nodes.now) }
+{
+    for node in nodes {
+        match node.view() {
+            View::Leaf(_) if node.info().bytes > 0 => {}
+            _ => return false,
+        }
+    }
+    true
+}
+
+// The text of a leaf, which is as long as the node's counts tell, and they lie in its head.
+fn leaf_text<'a>(node: &'a Node, leaf: &'a NodeText) -> &'a str
+    requires { IsLeafOf node.now leaf.now }
+    ensures { chars result.now ≡ leaf.now }
+{
+    leaf.as_str_of_len(node.info().bytes)
+}
+
+// The text of a node, where it is a leaf.
+fn leaf_of(node: &Node) -> Option<&str>
+    requires { 0 < length node.now.leaves }
+    ensures { IfSome result (λ text. node.now.leaves ≡ chars text.now ∷ []) }
+{
+    match node.view() {
+        View::Leaf(leaf) => Some(leaf_text(node, leaf)),
+        View::Inner(_, _) => None,
+    }
+}
+
+// The text of a node with no levels below it.
+fn lowest_text(node: &Node) -> &str
+    requires { IsLow node.now 0 }
+    ensures { node.now.leaves ≡ chars result.now ∷ [] }
+{
+    match node.view() {
+        View::Leaf(leaf) => leaf_text(node, leaf),
+        View::Inner(_, _) => unreachable!(),
+    }
+}
+
 // Goes down from a node at a level to its first leaf. Answers how many frames lead there, and the leaf's text.
 fn enter_first<'a>(frames: &mut [Frame<'a>; 18], level: usize, node: &'a Node) -> (usize, &'a str)
     requires frames { AreFrames frames.old level (around frames.old level node.now.leaves) }
@@ -52,10 +98,14 @@ fn enter_first<'a>(frames: &mut [Frame<'a>; 18], level: usize, node: &'a Node) -
     ensures before { before_of (take result.0 frames.new) ≡ before_of (take level frames.old) }
 {
     match node.view() {
-        View::Leaf(leaf) => (level, leaf.as_str()),
+        View::Leaf(leaf) => (level, leaf_text(node, leaf)),
         View::Inner(children, _) => {
             frames[level] = Frame { children, at: 0 };
-            enter_first(frames, level + 1, &children[0])
+            let first: &Node = &children[0];
+            if are_leaves(children) {
+                return (level + 1, lowest_text(first));
+            }
+            enter_first(frames, level + 1, first)
         }
     }
 }
@@ -68,7 +118,7 @@ fn enter_last<'a>(frames: &mut [Frame<'a>; 18], level: usize, node: &'a Node) ->
     ensures after { after_of (take result.0 frames.new) ≡ after_of (take level frames.old) }
 {
     match node.view() {
-        View::Leaf(leaf) => (level, leaf.as_str()),
+        View::Leaf(leaf) => (level, leaf_text(node, leaf)),
         View::Inner(children, _) => {
             let at = children.len() - 1;
             frames[level] = Frame { children, at };
@@ -110,7 +160,7 @@ fn enter_at<'a>(
     match node.view() {
         View::Leaf(leaf) => Held {
             depth: level,
-            leaf: leaf.as_str(),
+            leaf: leaf_text(node, leaf),
             before,
         },
         View::Inner(children, totals) => {
@@ -168,6 +218,29 @@ fn level_with_prev(frames: &[Frame<'_>; 18], depth: usize) -> Option<usize>
     None
 }
 
+// Goes on from a leaf to the next one, by the frame at a level, where the next child is a leaf itself: so it is at most steps, and
+// these are kept short. Elsewhere nothing is changed.
+fn leaf_to_right<'a>(
+    frames: &mut [Frame<'a>; 18],
+    depth: usize,
+    leaf: &'a str,
+    level: usize,
+) -> Option<&'a str>
+    requires frames { AreFrames frames.old depth (around frames.old depth (chars leaf.now ∷ [])) }
+    requires level { HasNextAt frames.old depth level }
+    ensures leads { IfSome result (λ text. LeadsTo frames.new (level + 1) (chars text.now) (around frames.old depth (chars leaf.now ∷ []))) }
+    ensures next { IfSome result (λ text. IsNext (place_of frames.old depth (chars leaf.now)) (place_of frames.new (level + 1) (chars text.now))) }
+    ensures stays { IfNone result (frames.new ≡ frames.old) }
+{
+    let slots = &frames[..];
+    let frame = slots[level];
+    let children = frame.children;
+    let next = frame.at + 1;
+    let text = leaf_of(&children[next])?;
+    frames[level] = Frame { children, at: next };
+    Some(text)
+}
+
 // Goes on from a leaf to the next one, by the frame at a level.
 fn go_right<'a>(
     frames: &mut [Frame<'a>; 18],
@@ -186,6 +259,32 @@ fn go_right<'a>(
     let at = frame.at + 1;
     frames[level] = Frame { children, at };
     enter_first(frames, level + 1, &children[at])
+}
+
+// Goes back from a leaf to the one before, by the frame at a level, where the child before is a leaf itself: so it is at most steps, and
+// these are kept short. Elsewhere nothing is changed.
+fn leaf_to_left<'a>(
+    frames: &mut [Frame<'a>; 18],
+    depth: usize,
+    leaf: &'a str,
+    level: usize,
+) -> Option<&'a str>
+    requires frames { AreFrames frames.old depth (around frames.old depth (chars leaf.now ∷ [])) }
+    requires level { HasPrevAt frames.old depth level }
+    ensures leads { IfSome result (λ text. LeadsTo frames.new (level + 1) (chars text.now) (around frames.old depth (chars leaf.now ∷ []))) }
+    ensures next { IfSome result (λ text. IsNext (place_of frames.new (level + 1) (chars text.now)) (place_of frames.old depth (chars leaf.now))) }
+    ensures stays { IfNone result (frames.new ≡ frames.old) }
+{
+    let slots = &frames[..];
+    let frame = slots[level];
+    let children = frame.children;
+    let before = frame.at - 1;
+    let text = leaf_of(&children[before])?;
+    frames[level] = Frame {
+        children,
+        at: before,
+    };
+    Some(text)
 }
 
 // Goes back from a leaf to the one before, by the frame at a level.
@@ -275,6 +374,11 @@ impl<'a> Path<'a> {
         let Some(level) = level_with_next(&self.frames, depth) else {
             return false;
         };
+        if let Some(text) = leaf_to_right(&mut self.frames, depth, leaf, level) {
+            self.depth = level + 1;
+            self.leaf = text;
+            return true;
+        }
         let (depth, leaf) = go_right(&mut self.frames, depth, leaf, level);
         self.depth = depth;
         self.leaf = leaf;
@@ -292,6 +396,11 @@ impl<'a> Path<'a> {
         let Some(level) = level_with_prev(&self.frames, depth) else {
             return false;
         };
+        if let Some(text) = leaf_to_left(&mut self.frames, depth, leaf, level) {
+            self.depth = level + 1;
+            self.leaf = text;
+            return true;
+        }
         let (depth, leaf) = go_left(&mut self.frames, depth, leaf, level);
         self.depth = depth;
         self.leaf = leaf;

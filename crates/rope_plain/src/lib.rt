@@ -3,8 +3,10 @@
 #![tactic(auto)]
 
 pub mod compare;
+pub mod given;
 pub mod items;
 pub mod numbers;
 pub mod places;
+pub mod plain_cursor;
 pub mod plain_text;
 pub mod texts;

@@ -5,13 +5,12 @@ use Rattle.std.proofs.lemmas.List.{take-append-drop, length-take-le}
 use Rattle.std.specs.List.{concat}
 use Rattle.rope_text.specs.declared.line_breaks.LineBreaks.{LineBreaks}
 use Rattle.rope_text.specs.Content.{Content}
-use Rattle.rope_text.specs.Conversions.{char_to_line}
 use Rattle.rope_text.specs.Lines.{line_count}
 use Rattle.rope_text.specs.Text.{byte_len}
 use Rattle.rope_text.specs.Cursor.{Cursor}
-use Rattle.rope_text.specs.Lookup.{least, front_chunks, chunk_index_at_byte, chunk_index_at_char, chunk_index_at_line_break}
+use Rattle.rope_text.specs.Lookup.{chunk_index_at_byte, chunk_index_at_char, chunk_index_at_line_break}
 use Rattle.rope_text.specs.Sides.{Sides, StepsAhead, StepsBack, at_place, cursor_of}
-use Rattle.rope_text.proofs.Greatest.{greatest-le}
+use Rattle.rope_text.proofs.LookupLaws.{chunk_index_at_byte-le, chunk_index_at_char-le, chunk_index_at_line_break-le}
 use Rattle.rope_text.proofs.SidesLaws.{item_ahead, cursor_ahead, item_back, cursor_back}
 use Rattle.rope_script.specs.declared.script.At.{At}
 use Rattle.rope_script.specs.declared.script.At.TheVariants as at
@@ -48,33 +47,12 @@ walks_from {X} shows inside items p s moves r is l at g =
     subst (λ b. MatchBool b (IsWalkReply shows (record { items = items; place = p; forward = true }) moves r) (r ≡ reply.Absent)) (sym is) whole
 
 -- a cursor over chunks starts at one of them, or past the last
-least-le : (test : ℕ → Bool) (n : ℕ) → least test n ≤ n
-least-le test zero = omega arith
-least-le test (suc n) = go (test 0) (least-le (λ k. test (suc k)) n)
-  where
-    go : (b : Bool) → least (λ k. test (suc k)) n ≤ n → cond b 0 (suc (least (λ k. test (suc k)) n)) ≤ suc n
-    go true l = omega arith
-    go false l = omega arith
-
-index_at_byte : (chunks : List (List ℕ)) (i : ℕ) → chunk_index_at_byte chunks i ≤ length chunks
-unfolding chunk_index_at_byte
-index_at_byte chunks i = let least = greatest-le (λ k. nat_le (byte_len (front_chunks chunks k)) i) (length chunks - 1) in omega arith
-
-index_at_char : (chunks : List (List ℕ)) (i : ℕ) → chunk_index_at_char chunks i ≤ length chunks
-unfolding chunk_index_at_char
-index_at_char chunks i = let least = greatest-le (λ k. nat_le (length (front_chunks chunks k)) i) (length chunks - 1) in omega arith
-
-index_at_line_break : (set : LineBreaks) (chunks : List (List ℕ)) (i : ℕ) → chunk_index_at_line_break set chunks i ≤ length chunks
-unfolding chunk_index_at_line_break
-index_at_line_break set chunks i =
-    let least = least-le (λ j. nat_le i (char_to_line set (concat chunks) (length (front_chunks chunks (j + 1))))) (length chunks - 1) in omega arith
-
 one_of : (b : Bool) (m n : ℕ) → n ≤ m → cond b m n ≤ m
 one_of true m n l = omega arith
 one_of false m n l = l
 
 pub chunk_place-le : (c : Content) (at : At) (i : ℕ) → chunk_place c at i ≤ length c.chunks
-chunk_place-le c at.Byte i = one_of (i == byte_len (concat c.chunks)) (length c.chunks) (chunk_index_at_byte c.chunks i) (index_at_byte c.chunks i)
-chunk_place-le c at.Char i = one_of (i == length (concat c.chunks)) (length c.chunks) (chunk_index_at_char c.chunks i) (index_at_char c.chunks i)
+chunk_place-le c at.Byte i = one_of (i == byte_len (concat c.chunks)) (length c.chunks) (chunk_index_at_byte c.chunks i) (omega (arith, chunk_index_at_byte-le c.chunks i))
+chunk_place-le c at.Char i = one_of (i == length (concat c.chunks)) (length c.chunks) (chunk_index_at_char c.chunks i) (omega (arith, chunk_index_at_char-le c.chunks i))
 chunk_place-le c at.LineBreak i =
-    one_of (i == line_count c.breaks (concat c.chunks)) (length c.chunks) (chunk_index_at_line_break c.breaks c.chunks i) (index_at_line_break c.breaks c.chunks i)
+    one_of (i == line_count c.breaks (concat c.chunks)) (length c.chunks) (chunk_index_at_line_break c.breaks c.chunks i) (omega (arith, chunk_index_at_line_break-le c.breaks c.chunks i))

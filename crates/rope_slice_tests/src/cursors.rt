@@ -1,17 +1,10 @@
 //! Cursors over short ropes and slices.
 use crate::cuts::{back, between};
+use rope_plain::given::given;
 use rope_plain::items::{bytes_of_chunks, bytes_of_lines, count_byte, count_char};
 use rope_plain::texts::repeated;
 use ropey::{Rope, RopeSlice};
 use std::test::Fail;
-
-/// The cursor that a call gave.
-fn given<T: Drop>(cursor: Option<T>) -> Result<T, Fail> {
-    match cursor {
-        Some(cursor) => Ok(cursor),
-        None => Err(Fail::from("no cursor at a place of the text")),
-    }
-}
 
 /// The text of a line that is one chunk.
 fn text<'a>(line: Option<RopeSlice<'a>>) -> Option<&'a str> {

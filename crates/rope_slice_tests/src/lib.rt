@@ -12,8 +12,6 @@ mod cursors;
 #[cfg(test)]
 mod cuts;
 #[cfg(test)]
-mod plain_cursor;
-#[cfg(test)]
 mod plain_slice;
 #[cfg(test)]
 mod plain_texts;

@@ -1,9 +1,10 @@
 //! Random walks of cursors over random ropes, slices and plain texts, against plain lists of their items.
 use crate::compare::compare_whole;
-use crate::plain_cursor::PlainCursor;
 use crate::plain_slice::{PlainSlice, is_text};
 use crate::random_slices::{SETS, edited, random_range, slice_of};
+use rope_plain::given::given;
 use rope_plain::numbers::Numbers;
+use rope_plain::plain_cursor::PlainCursor;
 use rope_plain::plain_text::{char_to_byte, char_to_line, line_to_char};
 use rope_plain::texts::{chars_of, random_text};
 use ropey::iter::{Bytes, Chars, Chunks, Lines};
@@ -210,18 +211,11 @@ fn walk_all(numbers: &mut Numbers, slice: &RopeSlice<'_>, items: &Items<'_>) -> 
     let lines = items.line_count();
     let line_idx = numbers.up_to(lines);
     let bytes = items.bytes.len();
-    let none = "a place of the text has no cursor";
-    let Some(cursor) = slice.get_bytes_at(byte_idx) else {
-        return Err(Fail::from(none));
-    };
+    let cursor = given(slice.get_bytes_at(byte_idx))?;
     walk(numbers, cursor, PlainCursor::at(bytes, byte_idx), items)?;
-    let Some(cursor) = slice.get_chars_at(char_idx) else {
-        return Err(Fail::from(none));
-    };
+    let cursor = given(slice.get_chars_at(char_idx))?;
     walk(numbers, cursor, PlainCursor::at(chars, char_idx), items)?;
-    let Some(cursor) = slice.get_lines_at(line_idx) else {
-        return Err(Fail::from(none));
-    };
+    let cursor = given(slice.get_lines_at(line_idx))?;
     walk(numbers, cursor, PlainCursor::at(lines, line_idx), items)?;
     walk(
         numbers,
@@ -241,9 +235,7 @@ fn walk_chunks(
 ) -> Result<(), Fail> {
     let chars = items.plain.text.len();
     for place in [char_idx, chars] {
-        let Some((cursor, bytes, before, breaks)) = slice.get_chunks_at_char(place) else {
-            return Err(Fail::from("a place of the text has no chunk"));
-        };
+        let (cursor, bytes, before, breaks) = given(slice.get_chunks_at_char(place))?;
         let mut index: usize = 0;
         let mut start: usize = 0;
         for end in &items.ends {

@@ -1,4 +1,5 @@
 //! Equality and order, which go by the text however it is cut.
+use rope_plain::given::given;
 use rope_plain::numbers::Numbers;
 use rope_plain::texts::{padded, random_text, repeated};
 use ropey::{LineBreaks, Rope, RopeSlice};
@@ -7,14 +8,6 @@ use std::cmp::Ordering;
 use std::hash::{FoldHasher, Hash, Hasher};
 use std::process::Abort;
 use std::test::Fail;
-
-/// The slice that a call gave.
-pub fn given(slice: Option<RopeSlice<'_>>) -> Result<RopeSlice<'_>, Fail> {
-    match slice {
-        Some(slice) => Ok(slice),
-        None => Err(Fail::from("no slice of a range in the text")),
-    }
-}
 
 /// A rope of the text to which it came character by character.
 fn typed(alloc: Global, text: &str) -> Result<Rope, Fail> {

@@ -1,5 +1,5 @@
 //! Texts copied, shown and lent by ropes and slices.
-use crate::comparisons::given;
+use rope_plain::given::given;
 use rope_plain::texts::repeated;
 use ropey::{CowStr, Rope, RopeBuilder};
 use std::test::Fail;
@@ -59,10 +59,32 @@ fn shown(rt: HostRuntime) -> Result<(), Fail> {
         shown.as_str(),
         "RopeBuilder { len_bytes: 3, failed: None }"
     );
-    let shown = format!(in alloc; "{:?}", rope.chars())?;
+    Ok(())
+}
+
+#[test]
+fn shown_cursors(rt: HostRuntime) -> Result<(), Fail> {
+    let alloc = rt.alloc();
+    let rope = Rope::from_str(alloc, "é\nb")?;
+    let chars = format!(in alloc; "{:?}", rope.chars())?;
     assert_eq!(rt;
-        shown.as_str(),
-        "Chars { passed: 0, total: 2, is_backward: false }"
+        chars.as_str(),
+        "Chars { passed: 0, total: 3, is_backward: false }"
+    );
+    let bytes = format!(in alloc; "{:?}", rope.bytes())?;
+    assert_eq!(rt;
+        bytes.as_str(),
+        "Bytes { before: 0, at: 0, total: 4, is_backward: false }"
+    );
+    let lines = format!(in alloc; "{:?}", rope.lines().reversed())?;
+    assert_eq!(rt;
+        lines.as_str(),
+        "Lines { line: 0, total: 2, is_backward: true }"
+    );
+    let chunks = format!(in alloc; "{:?}", rope.chunks())?;
+    assert_eq!(rt;
+        chunks.as_str(),
+        "Chunks { is_empty: false, is_past: false, is_backward: false }"
     );
     Ok(())
 }

@@ -1,5 +1,5 @@
 -- Which chunk a look-up answers, from the sizes before the chunks.
-use Rattle.std.proofs.Common.{◌≡◌, ℕ, zero, suc, ◌+◌, ◌-◌, ◌<◌, ◌≤◌, Bool, true, false, nat_le, List, length, take, drop, ap, sym, ◌∙◌, arith, add-one, All}
+use Rattle.std.proofs.Common.{◌≡◌, ℕ, zero, suc, ◌+◌, ◌-◌, ◌<◌, ◌≤◌, Bool, true, false, cond, nat_le, List, length, take, drop, ap, sym, ◌∙◌, arith, add-one, All}
 use Rattle.std.specs.List.{concat}
 use Rattle.std.proofs.lemmas.Bool.{cond-true, cond-false, le-leb, lt-leb}
 use Rattle.std.proofs.lemmas.List.{take-append-drop, take-take}
@@ -9,7 +9,7 @@ use Rattle.rope_text.specs.Breaks.{break_count}
 use Rattle.rope_text.specs.Conversions.{char_to_line}
 use Rattle.rope_text.specs.Cutting.{KeepsCrlf}
 use Rattle.rope_text.specs.Lookup.{least, front_chunks, chunk_index_at_byte, chunk_index_at_char, chunk_index_at_line_break}
-use Rattle.rope_text.proofs.Greatest.{greatest_is}
+use Rattle.rope_text.proofs.Greatest.{greatest_is, greatest-le}
 use Rattle.rope_text.proofs.Measures.{IsMeasure, IsMeasure-byte_len, IsMeasure-length}
 use Rattle.rope_text.proofs.ConversionLaws.{char_to_line_end}
 use Rattle.rope_text.proofs.JoinLaws.{char_to_line-append_left}
@@ -23,6 +23,27 @@ least_is test (suc n) zero l pass fail = cond-true (test 0) 0 (suc (least (λ k.
 least_is test (suc n) (suc i) l pass fail =
     cond-false (test 0) 0 (suc (least (λ k. test (suc k)) n)) (fail 0 (omega arith))
     ∙ ap suc (least_is (λ k. test (suc k)) n i (omega arith) (λ less. pass (omega arith)) (λ j less. fail (suc j) (omega arith)))
+
+pub least-le : (test : ℕ → Bool) (n : ℕ) → least test n ≤ n
+least-le test zero = omega arith
+least-le test (suc n) = go (test 0) (least-le (λ k. test (suc k)) n)
+  where
+    go : (b : Bool) → least (λ k. test (suc k)) n ≤ n → cond b 0 (suc (least (λ k. test (suc k)) n)) ≤ suc n
+    go true l = omega arith
+    go false l = omega arith
+
+-- a chunk that is looked up is at most the last
+pub chunk_index_at_byte-le : (chunks : List (List ℕ)) (b : ℕ) → chunk_index_at_byte chunks b ≤ length chunks - 1
+unfolding chunk_index_at_byte
+chunk_index_at_byte-le chunks b = greatest-le (λ k. nat_le (byte_len (front_chunks chunks k)) b) (length chunks - 1)
+
+pub chunk_index_at_char-le : (chunks : List (List ℕ)) (i : ℕ) → chunk_index_at_char chunks i ≤ length chunks - 1
+unfolding chunk_index_at_char
+chunk_index_at_char-le chunks i = greatest-le (λ k. nat_le (length (front_chunks chunks k)) i) (length chunks - 1)
+
+pub chunk_index_at_line_break-le : (set : LineBreaks) (chunks : List (List ℕ)) (k : ℕ) → chunk_index_at_line_break set chunks k ≤ length chunks - 1
+unfolding chunk_index_at_line_break
+chunk_index_at_line_break-le set chunks k = least-le (λ j. nat_le k (char_to_line set (concat chunks) (length (front_chunks chunks (j + 1))))) (length chunks - 1)
 
 -- more chunks are as long, or longer
 pub size-front_chunks : (size : List ℕ → ℕ) → IsMeasure size → (chunks : List (List ℕ)) (j k : ℕ) → j ≤ k → size (front_chunks chunks j) ≤ size (front_chunks chunks k)

@@ -73,8 +73,8 @@ enter_at-requires t c =
 
 pub returns-in-Leaf-clause-holds : goal.returns-in-Leaf-clause-holds
 returns-in-Leaf-clause-holds t c =
-    held_in_leaf c.args.unit c.args.before c.args.at (before_of (take c.args.level c.args.frames.now)) (after_of (take c.args.level c.args.frames.now)) c.args.node.now (chars c.as_str.result.now)
-    (c.in-Leaf.ensures.is ∙ ap (leaf_tree c.args.node.now.breaks) (sym c.as_str.ensures.chars)) c.requires.within c.requires.before c.requires.leaves
+    held_in_leaf c.args.unit c.args.before c.args.at (before_of (take c.args.level c.args.frames.now)) (after_of (take c.args.level c.args.frames.now)) c.args.node.now (chars c.leaf_text.result.now)
+    (c.in-Leaf.ensures.is ∙ ap (leaf_tree c.args.node.now.breaks) (sym c.leaf_text.ensures)) c.requires.within c.requires.before c.requires.leaves
 
 pub returns-in-Inner-clause-leads : goal.returns-in-Inner-clause-leads
 returns-in-Inner-clause-leads t c =

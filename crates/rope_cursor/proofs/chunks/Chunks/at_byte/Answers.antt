@@ -2,7 +2,8 @@ use Rattle.std.proofs.Common.{ℕ, ap, sym, ◌∙◌, ◌==◌, false, arith}
 use Rattle.std.specs.List.{concat}
 use Rattle.rope_text.specs.Text.{byte_len}
 use Rattle.rope_text.specs.Lookup.{chunk_place_at_byte, chunk_index_at_byte}
-use Rattle.rope_cursor.proofs.ChunkStarts.{IsPlaced, is_placed, index_of_byte, byte_index-le, placed_inside}
+use Rattle.rope_cursor.proofs.ChunkStarts.{IsPlaced, is_placed, index_of_byte, placed_inside}
+use Rattle.rope_text.proofs.LookupLaws.{chunk_index_at_byte-le}
 use Rattle.rope_part.specs.Part.{text_of, chunks_of, breaks_of}
 use Rattle.rope_cursor.specs.Chunks.{at_chunk}
 use Rattle.rope_cursor.proofs.chunks.Chunks.at_byte.Goals.{After-with_byte-span}
@@ -20,7 +21,7 @@ placed c =
     placed_inside (breaks_of part) (chunks_of part) c.args.byte_idx (byte_len (concat (chunks_of part))) k _ _ _ _
     (λ same. c.if-byte_idx-info.false (same ∙ ap (λ t. byte_len t) cut.joined ∙ sym (ap (λ x. x.bytes) c.info-info.ensures.value)))
     (is_placed c.with_byte-span.result.0 (text_of part) (chunks_of part) cut e.text e.chunks c.info-info.result.chars (ap (λ x. x.chars) c.info-info.ensures.value) (breaks_of part) k c.with_byte-span.result.1 c.with_byte-span.result.2
-    c.with_byte-span.result.3 e.before (byte_index-le (chunks_of part) c.args.byte_idx)
+    c.with_byte-span.result.3 e.before (chunk_index_at_byte-le (chunks_of part) c.args.byte_idx)
     (λ some. index_of_byte c.with_byte-span.result.0 (chunks_of part) (e.chunks some) cut.nonempty c.args.byte_idx (omega (arith, e.starts, e.before.bytes_are)) (omega (arith, less, e.before.bytes_are))))
 
 pub returns-else-byte_idx-info-clause-place : goal.returns-else-byte_idx-info-clause-place

@@ -1,7 +1,8 @@
 use Rattle.std.proofs.Common.{ℕ, ap, sym, ◌∙◌, ◌==◌, false, arith, length}
 use Rattle.std.specs.List.{concat}
 use Rattle.rope_text.specs.Lookup.{chunk_place_at_char, chunk_index_at_char}
-use Rattle.rope_cursor.proofs.ChunkStarts.{IsPlaced, is_placed, index_of_char, char_index-le, placed_inside}
+use Rattle.rope_cursor.proofs.ChunkStarts.{IsPlaced, is_placed, index_of_char, placed_inside}
+use Rattle.rope_text.proofs.LookupLaws.{chunk_index_at_char-le}
 use Rattle.rope_part.specs.Part.{text_of, chunks_of, breaks_of}
 use Rattle.rope_cursor.specs.Chunks.{at_chunk}
 use Rattle.rope_cursor.proofs.chunks.Chunks.at_char.Goals.{After-with_char-span}
@@ -19,7 +20,7 @@ placed c =
     placed_inside (breaks_of part) (chunks_of part) c.args.char_idx (length (concat (chunks_of part))) k _ _ _ _
     (λ same. c.if-char_idx-info.false (same ∙ ap (λ t. length t) cut.joined ∙ sym (ap (λ x. x.chars) c.info-info.ensures.value)))
     (is_placed c.with_char-span.result.0 (text_of part) (chunks_of part) cut e.text e.chunks c.info-info.result.chars (ap (λ x. x.chars) c.info-info.ensures.value) (breaks_of part) k c.with_char-span.result.1 c.with_char-span.result.2
-    c.with_char-span.result.3 e.before (char_index-le (chunks_of part) c.args.char_idx)
+    c.with_char-span.result.3 e.before (chunk_index_at_char-le (chunks_of part) c.args.char_idx)
     (λ some. index_of_char c.with_char-span.result.0 (chunks_of part) (e.chunks some) cut.nonempty c.args.char_idx (omega (arith, e.starts, e.before.chars_are)) (omega (arith, less, e.before.chars_are))))
 
 pub returns-else-char_idx-info-clause-place : goal.returns-else-char_idx-info-clause-place

@@ -4,7 +4,8 @@ use Rattle.rope_text.specs.Lines.{line_count, line_start}
 use Rattle.rope_text.specs.Lookup.{chunk_place_at_line_break, chunk_index_at_char, chunk_index_at_line_break}
 use Rattle.rope_text.proofs.LineLaws.{line_start-le-length}
 use Rattle.rope_part.proofs.Lookups.{line_break_index}
-use Rattle.rope_cursor.proofs.ChunkStarts.{IsPlaced, is_placed, items_here, index_of_char, line_break_index-le, placed_inside}
+use Rattle.rope_cursor.proofs.ChunkStarts.{IsPlaced, is_placed, items_here, index_of_char, placed_inside}
+use Rattle.rope_text.proofs.LookupLaws.{chunk_index_at_line_break-le}
 use Rattle.rope_part.specs.Part.{text_of, chunks_of, breaks_of}
 use Rattle.rope_cursor.specs.Chunks.{at_chunk}
 use Rattle.rope_cursor.proofs.chunks.Chunks.at_line_break.Goals.{After-with_char-span}
@@ -21,7 +22,7 @@ placed c =
     placed_inside (breaks_of part) (chunks_of part) c.args.line_break_idx (line_count (breaks_of part) (concat (chunks_of part))) k _ _ _ _
     (λ same. c.if-line_break_idx-len_lines.false (same ∙ ap (λ t. line_count (breaks_of part) t) cut.joined ∙ sym (c.len_lines.ensures)))
     (is_placed c.with_char-span.result.0 (text_of part) (chunks_of part) cut e.text e.chunks c.info-info.result.chars (ap (λ x. x.chars) c.info-info.ensures.value) (breaks_of part) k c.with_char-span.result.1 c.with_char-span.result.2
-    c.with_char-span.result.3 e.before (line_break_index-le (breaks_of part) (chunks_of part) c.args.line_break_idx cut.nonempty)
+    c.with_char-span.result.3 e.before (chunk_index_at_line_break-le (breaks_of part) (chunks_of part) c.args.line_break_idx)
     (λ some.
     (let end = line_start-le-length (breaks_of part) (text_of part) c.args.line_break_idx in
     let less = e.inside (omega (arith, some, end, c.line_to_char-end.ensures, c.saturating_sub.ensures)) in

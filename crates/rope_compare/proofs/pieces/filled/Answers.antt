@@ -2,7 +2,7 @@ use Rattle.std.proofs.Common.{◌++◌, ap, sym, ◌∙◌, rules, tests}
 use Rattle.std.proofs.lemmas.List.{nil_from_length}
 use Rattle.rope_compare.specs.Rest.{bytes_ahead}
 use Rattle.rope_compare.proofs.Taken.{chunk_taken}
-use Rattle.rope_compare.proofs.pieces.next_bytes.Goals as goal
+use Rattle.rope_compare.proofs.pieces.filled.Goals as goal
 
 pub loop-chunks-preserved : goal.loop-chunks-preserved
 loop-chunks-preserved c =

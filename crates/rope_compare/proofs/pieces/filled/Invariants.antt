@@ -2,10 +2,10 @@
 use Rattle.std.proofs.Common.{◌≡◌, ◌++◌, length}
 use Rattle.rope_text.specs.Sides.{ahead}
 use Rattle.rope_compare.specs.Rest.{bytes_ahead}
-use Rattle.rope_compare.proofs.pieces.next_bytes.Given as goal
+use Rattle.rope_compare.proofs.pieces.filled.Given as goal
 
 abbrev pub invariant-loop-chunks : goal.invariant-loop-chunks
-invariant-loop-chunks l = (l.piece ++ bytes_ahead l.chunks ≡ bytes_ahead l.fn.chunks)
+invariant-loop-chunks l = (l.piece ++ bytes_ahead l.chunks ≡ l.fn.front ++ bytes_ahead l.fn.chunks)
 
 abbrev pub decreases-loop-chunks : goal.decreases-loop-chunks
 decreases-loop-chunks l = length (ahead l.chunks)
