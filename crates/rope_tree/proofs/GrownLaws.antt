@@ -2,28 +2,29 @@
 use Rattle.std.proofs.Common.{◌≡◌, ℕ, zero, suc, ◌+◌, ◌-◌, ◌<◌, ◌≤◌, ◌^◌, ◌⊎◌, Bool, true, false, min, List, [], ◌∷◌, ◌++◌, length, get_or, set, take, drop, refl, sym, ap, subst, add-one, ◌∙◌, arith}
 use Rattle.std.specs.declared.alloc.Global.{Global}
 use Rattle.std.specs.declared.rc.Rc.{Rc}
-use Rattle.std.proofs.lemmas.List.{length-set, set_split, set-get_or, map-set, append-nil, drop_all, take_all}
-use Rattle.std.proofs.lemmas.List.Elements.{All-head}
+use Rattle.std.proofs.lemmas.List.{length-set, set_split, set-get_or, map-set, map-append, take-map, drop-map, append-nil, drop_all, take_all}
+use Rattle.std.proofs.lemmas.List.Elements.{All-head, All-weaker}
 use Rattle.rope_text.specs.declared.line_breaks.LineBreaks.{LineBreaks}
 use Rattle.rope_text.specs.Text.{byte_len}
+use Rattle.rope_text.specs.Cutting.{parts_crlf}
 use Rattle.rope_text.specs.Edit.{inserted}
 use Rattle.rope_tree.specs.declared.node.Node.{Node}
 use Rattle.rope_tree.specs.declared.node.Node.TheInside.{Inside}
 use Rattle.rope_tree.specs.declared.node.Body.TheVariants.{Leaf, Inner}
 use Rattle.rope_tree.specs.Shape.{tree_of, IsBody, IsNode}
-use Rattle.std.specs.List.{refill}
+use Rattle.std.specs.List.{refill, insert}
 use Rattle.std.specs.Str.{all_scalars}
 use Rattle.rope_text.specs.declared.text_info.TextInfo.{TextInfo}
 use Rattle.rope_text.specs.TextInfo.{info_of}
-use Rattle.rope_tree.specs.Tree.{Tree, text, joined, leaves_of, height_of, breaks_of, tree_over, leaf_tree, IsWide, IsChild, AreChildren}
+use Rattle.rope_tree.specs.Tree.{Tree, text, joined, leaves_of, height_of, breaks_of, tree_over, leaf_tree, IsTree, IsWide, IsChild, AreChildren}
 use Rattle.rope_tree.specs.Listed.{trees, tallest, HasTotals}
 use Rattle.rope_tree.specs.Siblings.{AreSiblings}
 use Rattle.rope_tree.specs.Insert.{MayInsert, IsInserted, AreGrown}
 use Rattle.rope_tree.proofs.NodeLaws.{joined_one, leaf_text, tree_of_inner, is_tree_of, children_of_first}
 use Rattle.rope_tree.proofs.SiblingLaws.{children_of, one_part}
-use Rattle.rope_tree.proofs.TreeLaws.{height_of_is, breaks_of_is}
-use Rattle.rope_tree.proofs.InsertLeaves.{one_inserted}
-use Rattle.rope_tree.proofs.InsertTrees.{new_text, new_siblings, length-inserted}
+use Rattle.rope_tree.proofs.TreeLaws.{height_of_is, breaks_of_is, wide_weaker}
+use Rattle.rope_tree.proofs.InsertLeaves.{one_inserted, two_inserted}
+use Rattle.rope_tree.proofs.InsertTrees.{new_text, new_siblings, new_length, length-inserted}
 
 -- the list with the new child in the old one's place
 pub set_parts : (ts : List Tree) (k : ℕ) (u : Tree) → k < length ts → set ts k u ≡ take k ts ++ (u ∷ [] ++ drop (k + 1) ts)
@@ -44,31 +45,67 @@ grown br h ts k c u a lt here at i s some place within to_right inside outside m
     let siblings : AreSiblings br h us = new_siblings br h ts k c a lt here (tree_over ts) refl at i s some place within (u ∷ []) to_right inside outside may new fits in
     let is = set_parts ts k u lt in
     record {
-      as_many = length-set ts k u;
+      as_many = omega (arith, length-set ts k u);
+      at_most_24 = omega (arith, length-set ts k u, a.at_most_24);
       text_is = ap joined is ∙ new_text br h ts k c a lt here (tree_over ts) refl at i s some place within (u ∷ []) to_right inside outside may new fits;
+      siblings = rw (is, sym br_is, sym h_is) siblings;
+    }
+
+-- a list with a new child in the old one's place, and another behind it
+set_and_behind : (ts : List Tree) (k : ℕ) (u b : Tree) → k < length ts → insert (set ts k u) (suc k) b ≡ take k ts ++ (u ∷ b ∷ drop (suc k) ts)
+set_and_behind [] k u b lt = absurd (omega arith)
+set_and_behind (t ∷ ts) zero u b lt = refl
+set_and_behind (t ∷ ts) (suc k) u b lt = ap (λ xs. t ∷ xs) (set_and_behind ts k u b (omega arith))
+
+behind_parts : (ts : List Tree) (k : ℕ) (u b : Tree) → k < length ts → insert (set ts k u) (k + 1) b ≡ take k ts ++ (u ∷ b ∷ [] ++ drop (k + 1) ts)
+behind_parts ts k u b lt = ap (λ n. insert (set ts k u) n b) (add-one k) ∙ set_and_behind ts k u b lt ∙ ap (λ n. take k ts ++ (u ∷ b ∷ [] ++ drop n ts)) (sym (add-one k))
+
+pub trees_insert : (rcs : List (Rc Node Global)) (k : ℕ) (rc : Rc Node Global) (ts : List Tree) → trees rcs ≡ ts → trees (insert rcs k rc) ≡ insert ts k rc.value
+trees_insert rcs k rc ts e =
+    let here : trees (insert rcs k rc) ≡ insert (trees rcs) k rc.value = rw (map-append, take-map, drop-map) refl in
+    here ∙ ap (λ x. insert x k rc.value) e
+
+-- a text by which the child at k became two
+pub grown_by_one : (br : LineBreaks) (h : ℕ) (ts : List Tree) (k : ℕ) (c u b : Tree) (a : AreChildren br h ts) (lt : k < length ts) (here : get_or ts k c ≡ c) (at i : ℕ) (s : List ℕ) → 1 ≤ length s
+    → at ≡ length (joined (take k ts)) + i → i ≤ length (text c) → (to_right : Bool) → (to_right ≡ true → i < length (text c)) → (to_right ≡ false → at ≡ 0 ⊎ 1 ≤ i) → MayInsert (tree_over ts) at s to_right
+    → IsInserted c (u ∷ b ∷ []) (inserted (text c) i s) → byte_len (joined ts) + byte_len s < 2 ^ 63 → br ≡ breaks_of ts → h ≡ height_of ts → length ts < 24
+    → AreGrown ts (insert (set ts k u) (k + 1) b) (inserted (joined ts) at s)
+grown_by_one br h ts k c u b a lt here at i s some place within to_right inside outside may new fits br_is h_is few =
+    let ps = u ∷ b ∷ [] in
+    let us = take k ts ++ (ps ++ drop (k + 1) ts) in
+    let siblings : AreSiblings br h us = new_siblings br h ts k c a lt here (tree_over ts) refl at i s some place within ps to_right inside outside may new fits in
+    let more = new_length br h ts k c a lt here (tree_over ts) refl at i s some place within ps to_right inside outside may new fits in
+    let is = behind_parts ts k u b lt in
+    let many = ap length is in
+    record {
+      as_many = omega (arith, many, more);
+      at_most_24 = omega (arith, many, more);
+      text_is = ap joined is ∙ new_text br h ts k c a lt here (tree_over ts) refl at i s some place within ps to_right inside outside may new fits;
       siblings = rw (is, sym br_is, sym h_is) siblings;
     }
 
 -- the changed children are children of one node
 pub children_grown : (ts us : List Tree) (new : List ℕ) → AreChildren (breaks_of ts) (height_of ts) ts → AreGrown ts us new → AreChildren (breaks_of ts) (height_of ts) us
-children_grown ts us new a g = children_of (breaks_of ts) (height_of ts) us g.siblings (omega (arith, g.as_many, a.at_least_two)) (omega (arith, g.as_many, a.at_most_24))
+children_grown ts us new a g = children_of (breaks_of ts) (height_of ts) us g.siblings (omega (arith, g.as_many, a.at_least_two)) g.at_most_24
 
 -- and the node over them is the old one with the text
 pub node_grown : (t : Tree) (ts us : List Tree) (at : ℕ) (s : List ℕ) → t ≡ tree_over ts → AreChildren (breaks_of ts) (height_of ts) ts → AreGrown ts us (inserted (joined ts) at s)
     → (x : Tree) → x ≡ tree_over us → IsInserted t (x ∷ []) (inserted (text t) at s)
 node_grown t ts us at s is a g x x_is =
-    let parts = one_part (breaks_of ts) (height_of ts) us g.siblings (omega (arith, g.as_many, a.at_least_two)) (omega (arith, g.as_many, a.at_most_24)) x x_is in
+    let some : 2 ≤ length us = omega (arith, g.as_many, a.at_least_two) in
+    let parts = one_part (breaks_of ts) (height_of ts) us g.siblings some g.at_most_24 x x_is in
     let flat : leaves_of (x ∷ []) ≡ leaves_of us = append-nil x.leaves ∙ ap (λ y. y.leaves) x_is in
     rw is (record {
       text_is = joined_one x ∙ ap text x_is ∙ g.text_is;
       leaves = rw flat g.siblings.leaves;
-      parts = rw (sym g.as_many) (record {
+      parts = record {
         some = parts.some;
         at_most_two = parts.at_most_two;
-        each = parts.each;
+        each = All-weaker (IsWide (breaks_of ts) (min 12 (length us)) (height_of ts + 1)) (IsWide (breaks_of ts) (min 12 (length ts)) (height_of ts + 1))
+            (λ u w. wide_weaker (breaks_of ts) (min 12 (length ts)) (min 12 (length us)) (height_of ts + 1) u (omega (arith, g.as_many)) w) (x ∷ []) parts.each;
         two = parts.two;
         full = λ p q. absurd (omega arith);
-      });
+      };
     })
 
 -- what an inserted text makes of a child is a child
@@ -128,26 +165,56 @@ module _ (a : Inside) (t : Tree) (ts us : List Tree) (at : ℕ) (s : List ℕ) (
       node_grown t ts us at s f.is f.children g (tree_of (record { height = a.height; breaks = a.breaks; info = info; body = Inner us }))
       (tree_of_inner a.breaks a.height us (length us) (omega (arith, f.above)) below refl)
 
--- a leaf whose text was changed
-module _ (a : Inside) (t : Tree) (l new : List ℕ) (at : ℕ) (s : List ℕ) (i : IsNode a) (e : a.body ≡ Leaf l) (view : tree_of a ≡ t) (some : 1 ≤ length s) (is : new ≡ inserted l at s)
-    (fits : byte_len new ≤ 984) (scalars : all_scalars new ≡ true) (info : TextInfo) (counted : info ≡ info_of a.breaks (inserted l at s)) where
+-- a leaf with another text in place of its own
+module _ (a : Inside) (t : Tree) (l new : List ℕ) (i : IsNode a) (e : a.body ≡ Leaf l) (view : tree_of a ≡ t)
+    (fits : byte_len new ≤ 984) (scalars : all_scalars new ≡ true) (info : TextInfo) (counted : info ≡ info_of a.breaks new) where
   old_body : IsBody a.breaks a.height (Leaf l)
   old_body = subst (IsBody a.breaks a.height) e i.body
 
-  pub leaf_after : IsNode (record { height = a.height; breaks = a.breaks; info = info; body = Leaf new })
-  leaf_after = record {
+  pub leaf_with : IsNode (record { height = a.height; breaks = a.breaks; info = info; body = Leaf new })
+  leaf_with = record {
     body = (old_body.0, fits, scalars);
-    counted = counted ∙ ap (info_of a.breaks) (sym is ∙ sym (leaf_text new));
+    counted = counted ∙ ap (info_of a.breaks) (sym (leaf_text new));
   }
 
-  pub leaf_inserted : IsInserted t (tree_of (record { height = a.height; breaks = a.breaks; info = info; body = Leaf new }) ∷ []) (inserted (text t) at s)
-  leaf_inserted =
+  with_is : tree_of (record { height = a.height; breaks = a.breaks; info = info; body = Leaf new }) ≡ leaf_tree a.breaks new
+  with_is = let low = old_body.0 in rw low refl
+
+  with_tree : IsTree (tree_of (record { height = a.height; breaks = a.breaks; info = info; body = Leaf new }))
+  with_tree = is_tree_of (record { height = a.height; breaks = a.breaks; info = info; body = Leaf new }) leaf_with
+
+  was_is : t ≡ leaf_tree a.breaks l
+  was_is =
       let low = old_body.0 in
-      let x = tree_of (record { height = a.height; breaks = a.breaks; info = info; body = Leaf new }) in
-      let x_is : x ≡ leaf_tree a.breaks new = rw low refl in
       let same : tree_of a ≡ tree_of (record { height = a.height; breaks = a.breaks; info = a.info; body = Leaf l }) = ap (λ b. tree_of (record { height = a.height; breaks = a.breaks; info = a.info; body = b })) e in
       let old : tree_of (record { height = a.height; breaks = a.breaks; info = a.info; body = Leaf l }) ≡ leaf_tree a.breaks l = rw low refl in
-      let t_is : t ≡ leaf_tree a.breaks l = sym view ∙ same ∙ old in
-      let text_is : text t ≡ l = ap text t_is ∙ leaf_text l in
-      let ins : IsInserted (leaf_tree a.breaks l) (x ∷ []) (inserted l at s) = one_inserted a.breaks l new (inserted l at s) x x_is (is_tree_of (record { height = a.height; breaks = a.breaks; info = info; body = Leaf new }) leaf_after) is (omega (arith, length-inserted l at s)) in
-      rw (text_is, t_is) ins
+      sym view ∙ same ∙ old
+
+  module _ (at : ℕ) (s : List ℕ) where
+    pub with_inserted : new ≡ inserted l at s → 1 ≤ length s → IsInserted t (tree_of (record { height = a.height; breaks = a.breaks; info = info; body = Leaf new }) ∷ []) (inserted (text t) at s)
+    with_inserted is some =
+        let x = tree_of (record { height = a.height; breaks = a.breaks; info = info; body = Leaf new }) in
+        let text_is : text t ≡ l = ap text was_is ∙ leaf_text l in
+        let ins : IsInserted (leaf_tree a.breaks l) (x ∷ []) (inserted l at s) = one_inserted a.breaks l new (inserted l at s) x with_is with_tree is (omega (arith, length-inserted l at s)) in
+        rw (text_is, was_is) ins
+
+    -- what does not fit in stands in another leaf behind
+    pub with_parted : (back : List ℕ) (y : Tree) → y ≡ leaf_tree a.breaks back → IsTree y → new ++ back ≡ inserted l at s → (0 < length new) × (0 < length back) × (parts_crlf new back ≡ false)
+        → IsInserted t (tree_of (record { height = a.height; breaks = a.breaks; info = info; body = Leaf new }) ∷ y ∷ []) (inserted (text t) at s)
+    with_parted back y y_is y_tree is some =
+        let x = tree_of (record { height = a.height; breaks = a.breaks; info = info; body = Leaf new }) in
+        let text_is : text t ≡ l = ap text was_is ∙ leaf_text l in
+        let ins : IsInserted (leaf_tree a.breaks l) (x ∷ y ∷ []) (inserted l at s) = two_inserted a.breaks l new back (inserted l at s) x y with_is y_is with_tree y_tree is some in
+        rw (text_is, was_is) ins
+
+-- a leaf that took a text
+module _ (a : Inside) (t : Tree) (l new : List ℕ) (at : ℕ) (s : List ℕ) (i : IsNode a) (e : a.body ≡ Leaf l) (view : tree_of a ≡ t) (some : 1 ≤ length s) (is : new ≡ inserted l at s)
+    (fits : byte_len new ≤ 984) (scalars : all_scalars new ≡ true) (info : TextInfo) (counted : info ≡ info_of a.breaks (inserted l at s)) where
+  right : info ≡ info_of a.breaks new
+  right = counted ∙ ap (info_of a.breaks) (sym is)
+
+  pub leaf_after : IsNode (record { height = a.height; breaks = a.breaks; info = info; body = Leaf new })
+  leaf_after = leaf_with a t l new i e view fits scalars info right
+
+  pub leaf_inserted : IsInserted t (tree_of (record { height = a.height; breaks = a.breaks; info = info; body = Leaf new }) ∷ []) (inserted (text t) at s)
+  leaf_inserted = with_inserted a t l new i e view fits scalars info right at s is some

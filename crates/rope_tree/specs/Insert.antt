@@ -1,5 +1,5 @@
 -- What an insert into a tree needs and gives.
-use Rattle.std.specs.Prelude.{◌≡◌, ℕ, ◌+◌, Bool, true, false, List, length, drop}
+use Rattle.std.specs.Prelude.{◌≡◌, ℕ, ◌+◌, ◌≤◌, Bool, true, false, List, length, drop}
 use Rattle.rope_text.specs.Breaks.{begins_with_lf}
 use Rattle.rope_tree.specs.Leaves.{AreLeaves, IsSeam}
 use Rattle.rope_tree.specs.Tree.{Tree, text, joined, leaves_of, height_of, breaks_of}
@@ -16,8 +16,9 @@ pub record IsInserted (old : Tree) (ts : List Tree) (new : List ℕ) : Type 0 wh
   pub leaves : AreLeaves (leaves_of ts)
   pub parts : AreParts old.breaks old.width (old.width + 1) old.height ts
 
--- as many trees of the same height as before, of this text
+-- at least as many trees of the same height as before, and at most 24, of this text
 pub record AreGrown (old ts : List Tree) (new : List ℕ) : Type 0 where
-  pub as_many : length ts ≡ length old
+  pub as_many : length old ≤ length ts
+  pub at_most_24 : length ts ≤ 24
   pub text_is : joined ts ≡ new
   pub siblings : AreSiblings (breaks_of old) (height_of old) ts

@@ -54,6 +54,35 @@ pub fn insert_in_place(root: &mut Rc<Node>, at: usize, added: &ShortText<'_>) ->
     }
 }
 
+/// Puts a text of at most 981 bytes before the character `at`, where no node on the way is shared or has all the children that it
+/// may have, and the leaf, which has no room, is cut into two; whether it did. It takes memory for the second part alone; where
+/// that is refused, nothing is changed.
+fn insert_by_cut(
+    alloc: Global,
+    root: &mut Rc<Node>,
+    at: usize,
+    added: &ShortText<'_>,
+    made: &mut u64,
+) -> Result<bool, AllocError>
+    requires within { at ≤ length (text root.old.value) }
+    requires some { 1 ≤ length added.now }
+    requires short { byte_len added.now ≤ 981 }
+    requires fits { byte_len (text root.old.value) + byte_len added.now < 2 ^ 63 }
+    ensures text { IfOk result (λ did. did ≡ true → text root.new.value ≡ inserted (text root.old.value) at added.now) }
+    ensures breaks { root.new.value.breaks ≡ root.old.value.breaks }
+    ensures tree { IfOk result (λ did. did ≡ true → IsTree root.new.value) }
+    ensures kept { IfOk result (λ did. did ≡ false → root.new ≡ root.old) }
+    ensures err { OnErr result (root.new ≡ root.old) }
+    ensures made { made.new ≤ made.old + 1 }
+    ensures unmade { IfOk result (λ did. did ≡ false → made.new ≡ made.old) }
+{
+    let to_right = goes_right(root, at, added);
+    match Rc::get_mut(root) {
+        Some(node) => node.insert_by_cut(alloc, at, added, to_right, made),
+        None => Ok(false),
+    }
+}
+
 /// One tree over the nodes that an insert into `old` made.
 fn root_of(
     alloc: Global,
@@ -104,7 +133,8 @@ pub fn insert_short(
 pub const MAX_SHORT_BYTES: usize = 981;
 
 /// Puts a text of 1 to 981 bytes before the character `at`: where the nodes stand, if nothing on the way is shared and the
-/// leaf has room, which takes no memory; and else in a tree that takes the old one's place last of all.
+/// leaf has room, which takes no memory, or is cut into two below a node that has room for one more; and else in a tree that
+/// takes the old one's place last of all.
 pub fn insert_at(
     alloc: Global,
     root: &mut Rc<Node>,
@@ -125,6 +155,9 @@ pub fn insert_at(
     let _ = root.height();
     let added = ShortText::new(added);
     if insert_in_place(root, at, &added) {
+        return Ok(());
+    }
+    if insert_by_cut(alloc, root, at, &added, made)? {
         return Ok(());
     }
     let new = insert_short(alloc, root, at, &added, made)?;

@@ -16,6 +16,7 @@ use std::marker::Model;
 use std::rc::Rc;
 
 mod in_place;
+mod in_place_cut;
 mod in_place_removal;
 
 /// A node of a rope's tree, with the whole tree below it.
@@ -113,14 +114,23 @@ impl Children {
         requires { AreChildren (breaks_of (trees nodes.items)) (height_of (trees nodes.items)) (trees nodes.items) }
         ensures { result ≡ trees nodes.items }
     {
-        let mut totals = ArrayVec::new();
-        let mut total = TextInfo::new();
-        for node in &nodes {
-            total = total.plus(node.info());
-            totals.push(total);
-        }
+        let totals = totals_of(nodes.as_slice());
         Children { totals, nodes }
     }
+}
+
+/// For each of the nodes the counts of all nodes up to and with it.
+fn totals_of(nodes: &[Rc<Node>]) -> ArrayVec<TextInfo, 24>
+    requires { AreChildren (breaks_of (trees nodes.now)) (height_of (trees nodes.now)) (trees nodes.now) }
+    ensures { HasTotals (breaks_of (trees nodes.now)) result.items (trees nodes.now) }
+{
+    let mut totals = ArrayVec::new();
+    let mut total = TextInfo::new();
+    for node in nodes {
+        total = total.plus(node.info());
+        totals.push(total);
+    }
+    totals
 }
 
 impl Node {

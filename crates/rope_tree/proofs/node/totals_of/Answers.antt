@@ -4,15 +4,14 @@ use Rattle.rope_tree.specs.Tree.{joined, breaks_of}
 use Rattle.rope_tree.specs.Listed.{trees}
 use Rattle.rope_tree.proofs.NodeLaws.{AddsNode, adds_node, totals_more}
 use Rattle.std.proofs.lemmas.List.{length-map}
-use Rattle.rope_tree.proofs.node.Children.from_nodes.Goals.{After-info}
-use Rattle.rope_tree.proofs.node.Children.from_nodes.Goals as goal
+use Rattle.rope_tree.proofs.node.totals_of.Goals.{After-info}
+use Rattle.rope_tree.proofs.node.totals_of.Goals as goal
 
-next : (c : After-info) → AddsNode (breaks_of (trees c.deref-node-items.result.now)) (trees c.deref-node-items.result.now) c.loop-node.node-index c.loop-node.total c.info.result
+next : (c : After-info) → AddsNode (breaks_of (trees c.args.nodes.now)) (trees c.args.nodes.now) c.loop-node.node-index c.loop-node.total c.info.result
 next c =
-    let rcs = c.deref-node-items.result.now in
-    let whole = rw (sym c.deref-node-items.ensures.value) at c.requires in
+    let rcs = c.args.nodes.now in
     adds_node _ _ rcs c.loop-node.node-index c.node-item.result c.deref.result.now c.loop-node.total c.info.result
-    whole c.loop-node-test.true c.node-item.is c.deref.ensures c.loop-node.invariant.total_is c.info.ensures
+    c.requires c.loop-node-test.true c.node-item.is c.deref.ensures c.loop-node.invariant.total_is c.info.ensures
 
 pub plus-total-requires-clause-bytes : goal.plus-total-requires-clause-bytes
 plus-total-requires-clause-bytes c = let n = next c in omega arith
@@ -28,7 +27,7 @@ plus-total-requires-clause-line_breaks c = let n = next c in omega arith
 
 pub loop-node-preserved : goal.loop-node-preserved
 loop-node-preserved c =
-    let rcs = c.deref-node-items.result.now in
+    let rcs = c.args.nodes.now in
     let i = c.loop-node.node-index in
     let n = next (goal.at.loop-node-preserved c).After-info in
     let total : c.plus-total.result ≡ info_of (breaks_of (trees rcs)) (joined (take (i + 1) (trees rcs))) = c.plus-total.ensures.sum ∙ sym n.more in

@@ -1,0 +1,37 @@
+use Rattle.std.proofs.Common.{◌≡◌, ◌++◌, ap, sym, ◌∙◌, arith}
+use Rattle.std.specs.Str.{chars}
+use Rattle.rope_text.specs.Edit.{inserted}
+use Rattle.rope_text.specs.TextInfo.{info_of, info_sum}
+use Rattle.rope_text.proofs.InfoLaws.{info_of-append_apart}
+use Rattle.rope_tree.proofs.GrownLaws.{with_parted}
+use Rattle.rope_tree.proofs.node.Node.cut_leaf.Goals.{After-from_str-front_info}
+use Rattle.rope_tree.proofs.node.Node.cut_leaf.Goals as goal
+
+-- the two parts are the leaf with the text
+whole : (c : After-from_str-front_info) → c.insert_str_split-back.new.self ++ c.insert_str_split-back.result ≡ inserted c.in-Leaf.leaf c.args.at c.args.added.now
+whole c =
+    c.insert_str_split-back.ensures.joined ∙ ap (inserted c.from_str-front.result c.args.at) c.as_str-2.ensures.chars
+    ∙ ap (λ l. inserted l c.args.at c.args.added.now) (c.from_str-front.ensures.value ∙ c.as_str.ensures.chars)
+
+counted : (c : After-from_str-front_info) → c.from_str-front_info.result ≡ info_of c.self.inside.breaks c.insert_str_split-back.new.self
+counted c = c.from_str-front_info.ensures ∙ ap (info_of c.self.inside.breaks) c.as_str-3.ensures.chars
+
+parted : (c : After-from_str-front_info) → c.info_with-info.result ≡ info_sum c.from_str-front_info.result (info_of c.self.inside.breaks c.insert_str_split-back.result)
+parted c =
+    let set = c.self.inside.breaks in
+    c.info_with-info.ensures ∙ ap (info_of set) (sym (whole c))
+    ∙ info_of-append_apart set c.insert_str_split-back.new.self c.insert_str_split-back.result c.insert_str_split-back.ensures.apart
+    ∙ ap (λ i. info_sum i (info_of set c.insert_str_split-back.result)) (sym (counted c))
+
+pub minus-back_info-requires-clause-bytes : goal.minus-back_info-requires-clause-bytes
+minus-back_info-requires-clause-bytes c = omega (arith, ap (λ i. i.bytes) (parted c))
+
+pub minus-back_info-requires-clause-line_breaks : goal.minus-back_info-requires-clause-line_breaks
+minus-back_info-requires-clause-line_breaks c = omega (arith, ap (λ i. i.line_breaks) (parted c))
+
+pub returns-clause-cut : goal.returns-clause-cut
+returns-clause-cut c =
+    let f = (goal.at.returns-clause-cut c).After-from_str-front_info in
+    with_parted c.self.inside c.args.self.now c.in-Leaf.leaf c.insert_str_split-back.new.self c.self.invariant c.in-Leaf.is c.self.view_is c.as_str-4.ensures.fits c.as_str-4.ensures.scalars
+    c.from_str-front_info.result (counted f) c.args.at c.args.added.now c.insert_str_split-back.result c.in_ok-behind.behind.value c.in_ok-behind.ensures.ok c.in_ok-behind.ensures.tree
+    (whole f) (c.insert_str_split-back.ensures.front, c.insert_str_split-back.ensures.back, c.insert_str_split-back.ensures.apart)

@@ -1,0 +1,143 @@
+//! Inserts of short texts where the nodes stand, into a leaf that has no room: it is cut into two, of which the first stays.
+ghost use Rattle.std.specs.Prelude.{◌≡◌, ◌+◌, ◌<◌, ◌≤◌, ◌^◌, [], ◌∷◌, true, false, length, IfOk, OnOk, OnErr, IfSome, IfNone};
+ghost use Rattle.rope_text.specs.Text.{byte_len};
+ghost use Rattle.rope_text.specs.Edit.{inserted};
+ghost use Rattle.rope_tree.specs.Tree.{text, joined, breaks_of, height_of, tree_over, AreChildren};
+ghost use Rattle.rope_tree.specs.Listed.{trees, HasTotals};
+ghost use Rattle.rope_tree.specs.Insert.{MayInsert, IsInserted, AreGrown};
+
+use super::{Body, Children, Node, make_leaf, totals_of};
+use crate::counts::info_with;
+use crate::lookup::total_before;
+use crate::node_text::NodeText;
+use crate::search::{Unit, char_to_hold, place_of, retotal};
+use crate::short_text::ShortText;
+use rope_text::{MAX_BYTES, MAX_CHILDREN, Steps, TextInfo};
+use std::alloc::{AllocError, Global};
+use std::rc::Rc;
+
+impl Children {
+    /// Puts a text before the character `at`, where the leaf has no room for it, and no node on the way is shared or has all the
+    /// children that it may have; whether it did. Where memory is refused, nothing is changed.
+    #[cycle(in_place_cut)]
+    fn insert_by_cut(
+        &mut self,
+        alloc: Global,
+        at: usize,
+        added: &ShortText<'_>,
+        to_right: bool,
+        made: &mut u64,
+    ) -> Result<bool, AllocError>
+        requires children { AreChildren (breaks_of self.old) (height_of self.old) self.old }
+        requires within { at ≤ length (joined self.old) }
+        requires some { 1 ≤ length added.now }
+        requires short { byte_len added.now ≤ 981 }
+        requires fits { byte_len (joined self.old) + byte_len added.now < 2 ^ 63 }
+        requires side { MayInsert (tree_over self.old) at added.now to_right }
+        ensures done { IfOk result (λ did. did ≡ true → AreGrown self.old self.new (inserted (joined self.old) at added.now)) }
+        ensures kept { IfOk result (λ did. did ≡ false → self.new ≡ self.old) }
+        ensures err { OnErr result (self.new ≡ self.old) }
+        ensures unmade { IfOk result (λ did. did ≡ false → made.new ≡ made.old) }
+        ensures made { made.new ≤ made.old + 1 }
+    {
+        if self.totals.len() >= MAX_CHILDREN {
+            return Ok(false);
+        }
+        self.nodes.reserve(1)?;
+        let held = char_to_hold(at, to_right);
+        let place = place_of(self.totals.as_slice(), Unit::Char, held, &mut Steps::new());
+        let before = total_before(self.totals.as_slice(), place).chars;
+        let Some(node) = Rc::get_mut(&mut self.nodes[place]) else {
+            return Ok(false);
+        };
+        if node.height() > 0 {
+            let old = node.info();
+            if !node.insert_by_cut(alloc, at - before, added, to_right, made)? {
+                return Ok(false);
+            }
+            let new = node.info();
+            retotal(self.totals.as_mut_slice(), place, old, new);
+            return Ok(true);
+        }
+        let Some(back) = node.cut_leaf(alloc, at - before, added, made)? else {
+            return Ok(false);
+        };
+        match self.nodes.insert(place + 1, back) {
+            Ok(()) => {}
+            Err(_) => unreachable!(),
+        }
+        self.totals = totals_of(self.nodes.as_slice());
+        Ok(true)
+    }
+}
+
+impl Node {
+    /// Puts a text before the character `at` of an inner node's text, where the leaf has no room for it, and no node on the way
+    /// is shared or has all the children that it may have; whether it did. Where memory is refused, nothing is changed.
+    #[cycle(in_place_cut)]
+    pub fn insert_by_cut(
+        &mut self,
+        alloc: Global,
+        at: usize,
+        added: &ShortText<'_>,
+        to_right: bool,
+        made: &mut u64,
+    ) -> Result<bool, AllocError>
+        requires within { at ≤ length (text self.old) }
+        requires some { 1 ≤ length added.now }
+        requires short { byte_len added.now ≤ 981 }
+        requires fits { byte_len (text self.old) + byte_len added.now < 2 ^ 63 }
+        requires side { MayInsert self.old at added.now to_right }
+        ensures done { IfOk result (λ did. did ≡ true → IsInserted self.old (self.new ∷ []) (inserted (text self.old) at added.now)) }
+        ensures kept { IfOk result (λ did. did ≡ false → self.new ≡ self.old) }
+        ensures err { OnErr result (self.new ≡ self.old) }
+        ensures unmade { IfOk result (λ did. did ≡ false → made.new ≡ made.old) }
+        ensures made { made.new ≤ made.old + 1 }
+    {
+        match &mut self.body {
+            Body::Leaf(_) => Ok(false),
+            Body::Inner(children) => {
+                if !children.insert_by_cut(alloc, at, added, to_right, made)? {
+                    return Ok(false);
+                }
+                self.info = children.total();
+                Ok(true)
+            }
+        }
+    }
+
+    /// Puts a text before the character `at` of a leaf that has no room for it: leaves the first part here, and answers a leaf
+    /// with the second. None, and nothing changed, where it has room or is no leaf.
+    fn cut_leaf(
+        &mut self,
+        alloc: Global,
+        at: usize,
+        added: &ShortText<'_>,
+        made: &mut u64,
+    ) -> Result<Option<Rc<Node>>, AllocError>
+        requires some { 1 ≤ length added.now }
+        requires short { byte_len added.now ≤ 981 }
+        ensures cut { IfOk result (λ found. IfSome found (λ back. IsInserted self.old (self.new ∷ back.value ∷ []) (inserted (text self.old) at added.now))) }
+        ensures kept { IfOk result (λ found. IfNone found (self.new ≡ self.old)) }
+        ensures err { OnErr result (self.new ≡ self.old) }
+        ensures unmade { IfOk result (λ found. IfNone found (made.new ≡ made.old)) }
+        ensures made { made.new ≤ made.old + 1 }
+    {
+        let Body::Leaf(leaf) = &mut self.body else {
+            return Ok(None);
+        };
+        if leaf.len() + added.len() <= MAX_BYTES {
+            return Ok(None);
+        }
+        let info = info_with(self.info, leaf, at, added, self.breaks);
+        let mut front = NodeText::from_str(leaf.as_str());
+        let back = front.insert_str_split(at, added.as_str());
+        let front_info = TextInfo::from_str(front.as_str(), self.breaks);
+        let back_info = info.minus(front_info);
+        let behind = make_leaf(alloc, self.breaks, back, back_info, made)?;
+        let _ = front.as_str();
+        *leaf = front;
+        self.info = front_info;
+        Ok(Some(behind))
+    }
+}
