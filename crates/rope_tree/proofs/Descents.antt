@@ -86,18 +86,14 @@ pub record Descends (set : LineBreaks) (unit : Unit) (at : ℕ) (ts : List Tree)
   pub not_past : count_of unit front ≤ at
   pub past : at < count_of unit front + count_of unit (info_of child.breaks (text child))
 
-pub descends : (unit : Unit) (at : ℕ) (rcs : List (Rc Node Global)) (totals : List TextInfo) (k : ℕ) (item : Rc Node Global) (child : Tree) (front : TextInfo)
-    → AreChildren (breaks_of (trees rcs)) (height_of (trees rcs)) (trees rcs) → HasTotals (breaks_of (trees rcs)) totals (trees rcs)
-    → k < length totals → item ≡ get_or rcs k item → child ≡ item.value
+pub descends_to : (unit : Unit) (at : ℕ) (ts : List Tree) (totals : List TextInfo) (k : ℕ) (child : Tree) (front : TextInfo)
+    → AreChildren (breaks_of ts) (height_of ts) ts → HasTotals (breaks_of ts) totals ts → k < length totals → get_or ts k child ≡ child
     → (k ≡ 0 → (s : LineBreaks) → front ≡ info_of s []) → ((d : TextInfo) → 0 < k → front ≡ get_or totals (k - 1) d)
     → ((d : TextInfo) → 0 < k → count_of unit (get_or totals (k - 1) d) ≤ at) → ((d : TextInfo) → at < count_of unit (get_or totals k d))
-    → Descends (breaks_of (trees rcs)) unit at (trees rcs) k child front
-descends unit at rcs totals k item child front a h lt is value first later not_past past =
-    let ts = trees rcs in
+    → Descends (breaks_of ts) unit at ts k child front
+descends_to unit at ts totals k child front a h lt here first later not_past past =
     let set = breaks_of ts in
     let l : k < length ts = omega (arith, h.as_many) in
-    let l' : k < length rcs = omega (arith, length-map rcs (λ rc. rc.value)) in
-    let here : get_or ts k child ≡ child = tree_at rcs k item child l' is value in
     let f = front_is set totals ts k front h (omega arith) first later in
     let own = child_at set (height_of ts) ts k child a l here in
     let more = more_at set (height_of ts) ts k child a l here in
@@ -119,6 +115,16 @@ descends unit at rcs totals k item child front a h lt is value first later not_p
         → ((d : TextInfo) → 0 < k → count_of unit (get_or totals (k - 1) d) ≤ at) → count_of unit front ≤ at
     first_front unit at zero totals front first later not_past = rw (first refl (breaks_of []), count_of-nil unit (breaks_of [])) (omega arith)
     first_front unit at (suc k) totals front first later not_past = let e = ap (count_of unit) (later front (omega arith)) in omega (arith, e, not_past front (omega arith))
+
+pub descends : (unit : Unit) (at : ℕ) (rcs : List (Rc Node Global)) (totals : List TextInfo) (k : ℕ) (item : Rc Node Global) (child : Tree) (front : TextInfo)
+    → AreChildren (breaks_of (trees rcs)) (height_of (trees rcs)) (trees rcs) → HasTotals (breaks_of (trees rcs)) totals (trees rcs)
+    → k < length totals → item ≡ get_or rcs k item → child ≡ item.value
+    → (k ≡ 0 → (s : LineBreaks) → front ≡ info_of s []) → ((d : TextInfo) → 0 < k → front ≡ get_or totals (k - 1) d)
+    → ((d : TextInfo) → 0 < k → count_of unit (get_or totals (k - 1) d) ≤ at) → ((d : TextInfo) → at < count_of unit (get_or totals k d))
+    → Descends (breaks_of (trees rcs)) unit at (trees rcs) k child front
+descends unit at rcs totals k item child front a h lt is value first later not_past past =
+    let l : k < length rcs = omega (arith, h.as_many, length-map rcs (λ rc. rc.value)) in
+    descends_to unit at (trees rcs) totals k child front a h lt (tree_at rcs k item child l is value) first later not_past past
 
 -- what the child finds, the node finds
 pub found_inner : (set : LineBreaks) (unit : Unit) (at : ℕ) (t : Tree) (ts : List Tree) (k : ℕ) (child : Tree) (front before : TextInfo) (leaf : List ℕ)

@@ -1,15 +1,19 @@
 -- The child that takes a text.
-use Rattle.std.proofs.Common.{◌≡◌, ℕ, ◌+◌, ◌-◌, ◌<◌, ◌≤◌, Bool, true, false, ◌⊎◌, inl, inr, List, length, get_or, take, drop, refl, ap, ◌∙◌, arith}
+use Rattle.std.proofs.Common.{◌≡◌, ℕ, ◌+◌, ◌-◌, ◌<◌, ◌≤◌, Bool, true, false, ◌⊎◌, inl, inr, List, length, get_or, take, drop, refl, subst, ap, ◌∙◌, arith}
 use Rattle.std.proofs.lemmas.Bool.{cases_lt}
-use Rattle.std.proofs.lemmas.List.{take_all, length-drop}
+use Rattle.std.proofs.lemmas.List.{take_all, length-drop, length-map}
+use Rattle.std.specs.declared.alloc.Global.{Global}
+use Rattle.std.specs.declared.rc.Rc.{Rc}
+use Rattle.rope_tree.specs.declared.node.Node.{Node}
 use Rattle.rope_text.specs.declared.line_breaks.LineBreaks.{LineBreaks}
 use Rattle.rope_text.specs.declared.text_info.TextInfo.{TextInfo}
 use Rattle.rope_text.specs.TextInfo.{info_of}
-use Rattle.rope_tree.specs.Tree.{Tree, text, joined, leaves_of, AreChildren}
-use Rattle.rope_tree.specs.Listed.{HasTotals}
-use Rattle.rope_tree.specs.Insert.{MayInsert}
+use Rattle.rope_tree.specs.Tree.{Tree, text, joined, leaves_of, height_of, breaks_of, IsChild, AreChildren}
+use Rattle.rope_tree.specs.Listed.{trees, HasTotals}
+use Rattle.rope_tree.specs.Insert.{MayInsert, GoesIn}
 use Rattle.rope_tree.proofs.LeafLaws.{leaves_le}
 use Rattle.rope_tree.proofs.TreeLaws.{is_wide_over}
+use Rattle.rope_tree.proofs.NodeLaws.{tree_at, child_at}
 use Rattle.rope_tree.proofs.InsertLaws.{begins_some}
 
 -- the last total counts the whole text
@@ -22,20 +26,22 @@ last_total set totals ts h some d =
 pub inner_some : (set : LineBreaks) (h : ℕ) (ts : List Tree) → AreChildren set h ts → 1 ≤ length (joined ts)
 inner_some set h ts a = omega (arith, (is_wide_over set 2 h ts a a.at_least_two).some, leaves_le (leaves_of ts) a.leaves.each)
 
+-- before an LF lies a character
+pub right_within : (t : Tree) (at : ℕ) (s : List ℕ) (to_right : Bool) → MayInsert t at s to_right → to_right ≡ true → at < length (text t)
+right_within t at s to_right may right = omega (arith, begins_some (drop at (text t)) (may.right right), length-drop at (text t))
+
 -- the character to hold lies in the text
-pub held_within : (t : Tree) (at held : ℕ) (s : List ℕ) (to_right : Bool) → at ≤ length (text t) → 1 ≤ length (text t) → MayInsert t at s to_right
-    → (to_right ≡ true → held ≡ at) → (to_right ≡ false → at ≡ 0 → held ≡ 0) → (to_right ≡ false → 0 < at → held + 1 ≡ at) → held < length (text t)
-held_within t at held s true within some may right first left = omega (arith, right refl, begins_some (drop at (text t)) (may.right refl), length-drop at (text t))
-held_within t at held s false within some may right first left = elim (cases_lt 0 at) [
+pub holds_within : (at held n : ℕ) (to_right : Bool) → at ≤ n → 1 ≤ n → (to_right ≡ true → at < n)
+    → (to_right ≡ true → held ≡ at) → (to_right ≡ false → at ≡ 0 → held ≡ 0) → (to_right ≡ false → 0 < at → held + 1 ≡ at) → held < n
+holds_within at held n true within some inside right first left = omega (arith, right refl, inside refl)
+holds_within at held n false within some inside right first left = elim (cases_lt 0 at) [
   | inl l ↦ omega (arith, left refl l)
   | inr z ↦ omega (arith, first refl (omega arith))
 ]
 
--- where the text goes in the child
-pub record GoesIn (at i n : ℕ) (to_right : Bool) : Type 0 where
-  pub within : i ≤ n
-  pub inside : to_right ≡ true → i < n
-  pub outside : to_right ≡ false → (at ≡ 0) ⊎ (1 ≤ i)
+pub held_within : (t : Tree) (at held : ℕ) (s : List ℕ) (to_right : Bool) → at ≤ length (text t) → 1 ≤ length (text t) → MayInsert t at s to_right
+    → (to_right ≡ true → held ≡ at) → (to_right ≡ false → at ≡ 0 → held ≡ 0) → (to_right ≡ false → 0 < at → held + 1 ≡ at) → held < length (text t)
+held_within t at held s to_right within some may right first left = holds_within at held (length (text t)) to_right within some (right_within t at s to_right may) right first left
 
 pub goes_in : (at held front n : ℕ) (to_right : Bool) → front ≤ held → held < front + n
     → (to_right ≡ true → held ≡ at) → (to_right ≡ false → at ≡ 0 → held ≡ 0) → (to_right ≡ false → 0 < at → held + 1 ≡ at) → (front ≤ at) × GoesIn at (at - front) n to_right
@@ -46,3 +52,26 @@ goes_in at held front n false past within right first left = elim (cases_lt 0 at
   | inl l ↦ let e = left refl l in (omega arith, record { within = omega arith; inside = λ f. cc; outside = λ _. inr (omega arith) })
   | inr z ↦ let e = first refl (omega arith) in (omega arith, record { within = omega arith; inside = λ f. cc; outside = λ _. inl (omega arith) })
 ]
+
+-- the child that takes a text
+pub record Takes (ts : List Tree) (k : ℕ) (child : Tree) (at i : ℕ) (to_right : Bool) : Type 0 where
+  pub children : AreChildren (breaks_of ts) (height_of ts) ts
+  pub within : k < length ts
+  pub child_is : get_or ts k child ≡ child
+  pub own : IsChild (breaks_of ts) (height_of ts) child
+  pub place : at ≡ length (joined (take k ts)) + i
+  pub goes : GoesIn at i (length (text child)) to_right
+
+pub takes : (rcs : List (Rc Node Global)) (ts : List Tree) (k : ℕ) (item : Rc Node Global) (child : Tree) (at i : ℕ) (to_right : Bool) → trees rcs ≡ ts → AreChildren (breaks_of ts) (height_of ts) ts
+    → k < length ts → item ≡ get_or rcs k item → child ≡ item.value → at ≡ length (joined (take k ts)) + i → ((d : Tree) → GoesIn at i (length (text (get_or ts k d))) to_right) → Takes ts k child at i to_right
+takes rcs ts k item child at i to_right e a lt is value place goes =
+    let l : k < length rcs = omega (arith, length-map rcs (λ rc. rc.value), ap length e) in
+    let here : get_or ts k child ≡ child = subst (λ xs. get_or xs k child ≡ child) e (tree_at rcs k item child l is value) in
+    record {
+      children = a;
+      within = lt;
+      child_is = here;
+      own = child_at (breaks_of ts) (height_of ts) ts k child a lt here;
+      place = place;
+      goes = subst (λ u. GoesIn at i (length (text u)) to_right) here (goes child);
+    }

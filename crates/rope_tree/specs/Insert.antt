@@ -1,5 +1,5 @@
 -- What an insert into a tree needs and gives.
-use Rattle.std.specs.Prelude.{◌≡◌, ℕ, ◌+◌, ◌≤◌, Bool, true, false, List, length, drop}
+use Rattle.std.specs.Prelude.{◌≡◌, ℕ, ◌+◌, ◌≤◌, ◌<◌, ◌⊎◌, Bool, true, false, List, length, drop}
 use Rattle.rope_text.specs.Breaks.{begins_with_lf}
 use Rattle.rope_tree.specs.Leaves.{AreLeaves, IsSeam}
 use Rattle.rope_tree.specs.Tree.{Tree, text, joined, leaves_of, height_of, breaks_of}
@@ -9,6 +9,12 @@ use Rattle.rope_tree.specs.Siblings.{AreSiblings, AreParts}
 pub record MayInsert (t : Tree) (at : ℕ) (new : List ℕ) (to_right : Bool) : Type 0 where
   pub left : to_right ≡ false → IsSeam new (drop at (text t))
   pub right : to_right ≡ true → begins_with_lf (drop at (text t)) ≡ true
+
+-- where a text that goes before the character `at` of a node goes in a child of n characters: before its character i, not first in it where it stands to the left of a seam, and not last where it stands to the right
+pub record GoesIn (at i n : ℕ) (to_right : Bool) : Type 0 where
+  pub within : i ≤ n
+  pub inside : to_right ≡ true → i < n
+  pub outside : to_right ≡ false → (at ≡ 0) ⊎ (1 ≤ i)
 
 -- one tree or two of the old height, of this text
 pub record IsInserted (old : Tree) (ts : List Tree) (new : List ℕ) : Type 0 where

@@ -54,9 +54,9 @@ pub fn insert_in_place(root: &mut Rc<Node>, at: usize, added: &ShortText<'_>) ->
     }
 }
 
-/// Puts a text of at most 981 bytes before the character `at`, where no node on the way is shared or has all the children that it
-/// may have, and the leaf, which has no room, is cut into two; whether it did. It takes memory for the second part alone; where
-/// that is refused, nothing is changed.
+/// Puts a text of at most 981 bytes before the character `at`, where no node on the way is shared, the leaf has no room for it,
+/// and the node over the leaf has room for one more: the leaf is cut into two; whether it did. It takes memory for the second
+/// part alone; where that is refused, nothing is changed.
 fn insert_by_cut(
     alloc: Global,
     root: &mut Rc<Node>,

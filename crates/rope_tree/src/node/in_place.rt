@@ -1,9 +1,9 @@
 //! Inserts of short texts where the nodes stand: they take no memory.
-ghost use Rattle.std.specs.Prelude.{◌≡◌, ◌+◌, ◌<◌, ◌≤◌, ◌^◌, [], ◌∷◌, true, false, length};
+ghost use Rattle.std.specs.Prelude.{◌≡◌, ◌+◌, ◌<◌, ◌≤◌, ◌^◌, [], ◌∷◌, true, false, length, take, slice_index_or};
 ghost use Rattle.rope_text.specs.Text.{byte_len};
 ghost use Rattle.rope_text.specs.Edit.{inserted};
-ghost use Rattle.rope_tree.specs.Tree.{text, joined, breaks_of, height_of, tree_over, AreChildren};
-ghost use Rattle.rope_tree.specs.Insert.{MayInsert, IsInserted, AreGrown};
+ghost use Rattle.rope_tree.specs.Tree.{Tree, text, joined, breaks_of, height_of, tree_over, AreChildren};
+ghost use Rattle.rope_tree.specs.Insert.{MayInsert, GoesIn, IsInserted, AreGrown};
 
 use super::{Body, Children, Node};
 use crate::counts::put_in;
@@ -13,7 +13,33 @@ use crate::short_text::ShortText;
 use rope_text::{MAX_BYTES, Steps};
 use std::rc::Rc;
 
+/// Where a text goes in a list of children: in which of them, and before which character of it.
+#[derive(Clone, Copy)]
+pub(super) struct WayIn {
+    pub(super) place: usize,
+    pub(super) at: usize,
+}
+
 impl Children {
+    /// The child that takes a text before the character `at`.
+    pub(super) fn way_in(&self, at: usize, to_right: bool) -> WayIn
+        requires children { AreChildren (breaks_of self.now) (height_of self.now) self.now }
+        requires within { at ≤ length (joined self.now) }
+        requires right { to_right ≡ true → at < length (joined self.now) }
+        ensures child { result.place < length self.now }
+        ensures place { at ≡ length (joined (take result.place self.now)) + result.at }
+        ensures goes { (child : Tree) → GoesIn at result.at (length (text (slice_index_or self.now result.place child))) to_right }
+    {
+        let totals = self.totals.as_slice();
+        let held = char_to_hold(at, to_right);
+        let place = place_of(totals, Unit::Char, held, &mut Steps::new());
+        let before = total_before(totals, place).chars;
+        WayIn {
+            place,
+            at: at - before,
+        }
+    }
+
     /// Puts a text before the character `at`, where no node on the way is shared and the leaf has room; whether it did.
     #[cycle(in_place)]
     fn insert_in_place(&mut self, at: usize, added: &ShortText<'_>, to_right: bool) -> bool
@@ -25,18 +51,16 @@ impl Children {
         ensures done { result ≡ true → AreGrown self.old self.new (inserted (joined self.old) at added.now) }
         ensures kept { result ≡ false → self.new ≡ self.old }
     {
-        let held = char_to_hold(at, to_right);
-        let place = place_of(self.totals.as_slice(), Unit::Char, held, &mut Steps::new());
-        let before = total_before(self.totals.as_slice(), place).chars;
-        let Some(node) = Rc::get_mut(&mut self.nodes[place]) else {
+        let way = self.way_in(at, to_right);
+        let Some(node) = Rc::get_mut(&mut self.nodes[way.place]) else {
             return false;
         };
         let old = node.info();
-        if !node.insert_in_place(at - before, added, to_right) {
+        if !node.insert_in_place(way.at, added, to_right) {
             return false;
         }
         let new = node.info();
-        retotal(self.totals.as_mut_slice(), place, old, new);
+        retotal(self.totals.as_mut_slice(), way.place, old, new);
         true
     }
 }

@@ -8,19 +8,55 @@ ghost use Rattle.rope_tree.specs.Insert.{MayInsert, IsInserted, AreGrown};
 
 use super::{Body, Children, Node, make_leaf, totals_of};
 use crate::counts::info_with;
-use crate::lookup::total_before;
 use crate::node_text::NodeText;
-use crate::search::{Unit, char_to_hold, place_of, retotal};
+use crate::search::retotal;
 use crate::short_text::ShortText;
-use rope_text::{MAX_BYTES, MAX_CHILDREN, Steps, TextInfo};
+use rope_text::{MAX_BYTES, MAX_CHILDREN, TextInfo};
 use std::alloc::{AllocError, Global};
 use std::rc::Rc;
 
 impl Children {
-    /// Puts a text before the character `at`, where the leaf has no room for it, and no node on the way is shared or has all the
-    /// children that it may have; whether it did. Where memory is refused, nothing is changed.
+    /// Puts a text before the character `at`, where no node on the way is shared, the leaf has no room for it, and the node over
+    /// the leaf has room for one more; whether it did. Where memory is refused, nothing is changed.
     #[cycle(in_place_cut)]
     fn insert_by_cut(
+        &mut self,
+        alloc: Global,
+        at: usize,
+        added: &ShortText<'_>,
+        to_right: bool,
+        made: &mut u64,
+    ) -> Result<bool, AllocError>
+        requires children { AreChildren (breaks_of self.old) (height_of self.old) self.old }
+        requires within { at ≤ length (joined self.old) }
+        requires some { 1 ≤ length added.now }
+        requires short { byte_len added.now ≤ 981 }
+        requires fits { byte_len (joined self.old) + byte_len added.now < 2 ^ 63 }
+        requires side { MayInsert (tree_over self.old) at added.now to_right }
+        ensures done { IfOk result (λ did. did ≡ true → AreGrown self.old self.new (inserted (joined self.old) at added.now)) }
+        ensures kept { IfOk result (λ did. did ≡ false → self.new ≡ self.old) }
+        ensures err { OnErr result (self.new ≡ self.old) }
+        ensures unmade { IfOk result (λ did. did ≡ false → made.new ≡ made.old) }
+        ensures made { made.new ≤ made.old + 1 }
+    {
+        let way = self.way_in(at, to_right);
+        if self.nodes[way.place].height() == 0 {
+            return self.cut_leaf(alloc, at, added, to_right, made);
+        }
+        let Some(node) = Rc::get_mut(&mut self.nodes[way.place]) else {
+            return Ok(false);
+        };
+        let old = node.info();
+        if !node.insert_by_cut(alloc, way.at, added, to_right, made)? {
+            return Ok(false);
+        }
+        let new = node.info();
+        retotal(self.totals.as_mut_slice(), way.place, old, new);
+        Ok(true)
+    }
+
+    /// The same of leaves: the one that takes the text is cut into two, if it is not shared, and one more fits in beside it.
+    fn cut_leaf(
         &mut self,
         alloc: Global,
         at: usize,
@@ -43,26 +79,15 @@ impl Children {
         if self.totals.len() >= MAX_CHILDREN {
             return Ok(false);
         }
+        let way = self.way_in(at, to_right);
         self.nodes.reserve(1)?;
-        let held = char_to_hold(at, to_right);
-        let place = place_of(self.totals.as_slice(), Unit::Char, held, &mut Steps::new());
-        let before = total_before(self.totals.as_slice(), place).chars;
-        let Some(node) = Rc::get_mut(&mut self.nodes[place]) else {
+        let Some(node) = Rc::get_mut(&mut self.nodes[way.place]) else {
             return Ok(false);
         };
-        if node.height() > 0 {
-            let old = node.info();
-            if !node.insert_by_cut(alloc, at - before, added, to_right, made)? {
-                return Ok(false);
-            }
-            let new = node.info();
-            retotal(self.totals.as_mut_slice(), place, old, new);
-            return Ok(true);
-        }
-        let Some(back) = node.cut_leaf(alloc, at - before, added, made)? else {
+        let Some(back) = node.cut(alloc, way.at, added, made)? else {
             return Ok(false);
         };
-        match self.nodes.insert(place + 1, back) {
+        match self.nodes.insert(way.place + 1, back) {
             Ok(()) => {}
             Err(_) => unreachable!(),
         }
@@ -72,8 +97,8 @@ impl Children {
 }
 
 impl Node {
-    /// Puts a text before the character `at` of an inner node's text, where the leaf has no room for it, and no node on the way
-    /// is shared or has all the children that it may have; whether it did. Where memory is refused, nothing is changed.
+    /// Puts a text before the character `at` of an inner node's text, where no node on the way is shared, the leaf has no room
+    /// for it, and the node over the leaf has room for one more; whether it did. Where memory is refused, nothing is changed.
     #[cycle(in_place_cut)]
     pub fn insert_by_cut(
         &mut self,
@@ -108,7 +133,7 @@ impl Node {
 
     /// Puts a text before the character `at` of a leaf that has no room for it: leaves the first part here, and answers a leaf
     /// with the second. None, and nothing changed, where it has room or is no leaf.
-    fn cut_leaf(
+    fn cut(
         &mut self,
         alloc: Global,
         at: usize,

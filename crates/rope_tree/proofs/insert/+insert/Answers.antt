@@ -5,10 +5,10 @@ use Rattle.rope_tree.specs.declared.search.Unit.TheVariants.{Char}
 use Rattle.rope_tree.specs.Tree.{text, joined, height_of, breaks_of}
 use Rattle.rope_tree.specs.Listed.{trees}
 use Rattle.rope_tree.specs.View.{trees_in}
-use Rattle.rope_tree.specs.Insert.{MayInsert}
+use Rattle.rope_tree.specs.Insert.{MayInsert, GoesIn}
 use Rattle.rope_tree.proofs.NodeLaws.{small_totals}
 use Rattle.rope_tree.proofs.Descents.{Descends, descends}
-use Rattle.rope_tree.proofs.InsertDescents.{last_total, inner_some, held_within, GoesIn, goes_in}
+use Rattle.rope_tree.proofs.InsertDescents.{last_total, inner_some, held_within, goes_in}
 use Rattle.rope_tree.proofs.InsertTrees.{around, siblings_of_first, text_around, child_may, new_siblings, new_length, new_node}
 use Rattle.rope_tree.proofs.insert.+insert.Goals.{After-deref, In_ok-nodes-in-Inner}
 use Rattle.rope_tree.proofs.insert.+insert.Goals as goal

@@ -8,70 +8,35 @@ use Rattle.rope_tree.specs.declared.search.Unit.TheVariants.{Char}
 use Rattle.rope_tree.specs.Falls.{tallest_below}
 use Rattle.rope_tree.specs.Tree.{Tree, text, joined, height_of, breaks_of, tree_over, AreChildren}
 use Rattle.rope_tree.specs.Listed.{trees, HasTotals}
-use Rattle.rope_tree.specs.Insert.{MayInsert, IsInserted, AreGrown}
+use Rattle.rope_tree.specs.Insert.{MayInsert, IsInserted, AreGrown, GoesIn}
 use Rattle.rope_tree.proofs.NodeLaws.{small_totals}
 use Rattle.rope_tree.proofs.Infos.{small_info}
 use Rattle.rope_tree.proofs.TreeLaws.{breaks_of_is}
-use Rattle.rope_tree.proofs.Descents.{Descends, descends}
-use Rattle.rope_tree.proofs.InsertDescents.{last_total, inner_some, held_within, GoesIn, goes_in}
+use Rattle.rope_tree.proofs.InsertDescents.{right_within, Takes, takes}
 use Rattle.rope_tree.proofs.InsertTrees.{child_may, text_around}
 use Rattle.rope_tree.proofs.TotalLaws.{has_part, totals_after}
 use Rattle.rope_tree.proofs.GrownLaws.{same_set, trees_set, totals_seen, grown, children_grown, child_grown, tallest_above, refill_all, inner_of, inner_after, inner_inserted, leaf_after, leaf_inserted}
 use Rattle.rope_tree.proofs.node.+in_place.Goals as goal
 use Rattle.rope_tree.proofs.node.+in_place.Goals.{Children::insert_in_place-In-Some}
 
--- the way down to the child that takes the text
-down : (t : ℕ) (c : Children::insert_in_place-In-Some t) → Descends (breaks_of c.args.self.now) Char c.char_to_hold-held.result c.args.self.now c.place_of-place.result c.in-Some.node.now c.total_before-before.result
-down t c =
-    let ts = c.args.self.now in
-    let rcs = c.self.inside.nodes.items in
-    let children = subst (λ xs. AreChildren (breaks_of xs) (height_of xs) xs) (sym c.self.view_is) c.requires.children in
-    let totals = subst (λ x. HasTotals (breaks_of (trees rcs)) x (trees rcs)) (sym c.as_slice.ensures.value) c.self.invariant in
-    let same = c.as_slice-2.ensures.value ∙ sym c.as_slice.ensures.value in
-    subst (λ xs. Descends (breaks_of xs) Char c.char_to_hold-held.result xs c.place_of-place.result c.in-Some.node.now c.total_before-before.result) c.self.view_is
-    (descends Char c.char_to_hold-held.result rcs c.as_slice.result.now c.place_of-place.result c.index_mut.result.now c.in-Some.node.now c.total_before-before.result
-    children totals c.place_of-place.ensures.within c.index_mut.ensures.value c.in-Some.ensures.value
-    c.total_before-before.ensures.first (rw same at c.total_before-before.ensures.later) c.place_of-place.ensures.before c.place_of-place.ensures.past)
+-- the child that takes the text
+taken : (t : ℕ) (c : Children::insert_in_place-In-Some t) → Takes c.args.self.now c.way_in-way.result.place c.in-Some.node.now c.args.at c.way_in-way.result.at c.args.to_right
+taken t c =
+    takes c.self.inside.nodes.items c.args.self.now c.way_in-way.result.place c.index_mut.result.now c.in-Some.node.now c.args.at c.way_in-way.result.at c.args.to_right
+    c.self.view_is c.requires.children c.way_in-way.ensures.child c.index_mut.ensures.value c.in-Some.ensures.value c.way_in-way.ensures.place c.way_in-way.ensures.goes
 
-goes : (t : ℕ) (c : Children::insert_in_place-In-Some t) → (c.total_before-before.result.chars ≤ c.args.at) × GoesIn c.args.at (c.args.at - c.total_before-before.result.chars) (length (text c.in-Some.node.now)) c.args.to_right
-goes t c =
-    let d = down t c in
-    goes_in c.args.at c.char_to_hold-held.result c.total_before-before.result.chars (length (text c.in-Some.node.now)) c.args.to_right d.not_past d.past
-    c.char_to_hold-held.ensures.right c.char_to_hold-held.ensures.first c.char_to_hold-held.ensures.left
-
-place : (t : ℕ) (c : Children::insert_in_place-In-Some t) → c.args.at ≡ length (joined (take c.place_of-place.result c.args.self.now)) + (c.args.at - c.total_before-before.result.chars)
-place t c =
-    let front = ap (λ x. x.chars) (down t c).front_is in
-    let g = (goes t c).0 in
-    omega arith
-
-pub Children::insert_in_place-place_of-place-requires-clause-small :
-    goal.Children::insert_in_place-place_of-place-requires-clause-small
-Children::insert_in_place-place_of-place-requires-clause-small t c =
-    small_totals (breaks_of c.args.self.now) c.as_slice.result.now c.args.self.now
-    (totals_seen c.self.inside.nodes.items c.args.self.now c.self.inside.totals.items c.as_slice.result.now c.self.view_is c.as_slice.ensures.value c.self.invariant) c.requires.children.fits
-
-pub Children::insert_in_place-place_of-place-requires-clause-last :
-    goal.Children::insert_in_place-place_of-place-requires-clause-last
-Children::insert_in_place-place_of-place-requires-clause-last t c =
-    let ts = c.args.self.now in
-    let totals = totals_seen c.self.inside.nodes.items ts c.self.inside.totals.items c.as_slice.result.now c.self.view_is c.as_slice.ensures.value c.self.invariant in
-    let some = inner_some (breaks_of ts) (height_of ts) ts c.requires.children in
-    let held = held_within (tree_over ts) c.args.at c.char_to_hold-held.result c.args.added.now c.args.to_right c.requires.within some c.requires.side
-    c.char_to_hold-held.ensures.right c.char_to_hold-held.ensures.first c.char_to_hold-held.ensures.left in
-    λ d. rw (last_total (breaks_of ts) c.as_slice.result.now ts totals (omega (arith, c.requires.children.at_least_two)) d) held
-
-pub Children::insert_in_place-overflow_sub-at : goal.Children::insert_in_place-overflow_sub-at
-Children::insert_in_place-overflow_sub-at t c = (goes t (goal.at.Children::insert_in_place-overflow_sub-at t c).In-Some).0
+pub Children::insert_in_place-way_in-way-requires-clause-right :
+    goal.Children::insert_in_place-way_in-way-requires-clause-right
+Children::insert_in_place-way_in-way-requires-clause-right t c = right_within (tree_over c.args.self.now) c.args.at c.args.added.now c.args.to_right c.requires.side
 
 pub Children::insert_in_place-insert_in_place-requires :
     goal.Children::insert_in_place-insert_in_place-requires
 Children::insert_in_place-insert_in_place-requires t c =
     let e = (goal.at.Children::insert_in_place-insert_in_place-requires t c).In-Some in
-    let d = down t e in
-    let g = (goes t e).1 in
+    let d = taken t e in
+    let g = d.goes in
     let ts = c.args.self.now in
-    let k = c.place_of-place.result in
+    let k = c.way_in-way.result.place in
     let child = c.in-Some.node.now in
     let low = rw d.child_is at (tallest_above ts k child d.within) in
     let parts = ap byte_len (text_around (breaks_of ts) (height_of ts) ts k child d.children d.within d.child_is) in
@@ -84,17 +49,17 @@ Children::insert_in_place-insert_in_place-requires t c =
           c.requires.some,
           (
             omega (arith, c.requires.fits, parts, front, back),
-            child_may (breaks_of ts) (height_of ts) ts k child d.children d.within d.child_is (tree_over ts) refl c.args.at (c.args.at - c.total_before-before.result.chars) c.args.added.now c.requires.some (place t e) g.within c.args.to_right g.inside c.requires.side,
+            child_may (breaks_of ts) (height_of ts) ts k child d.children d.within d.child_is (tree_over ts) refl c.args.at c.way_in-way.result.at c.args.added.now c.requires.some d.place g.within c.args.to_right g.inside c.requires.side,
           ),
         ),
       ),
     )
 
 -- the children where the text did not go in
-kept : (t : ℕ) (c : goal.Children::insert_in_place-After-self-then-not-insert_in_place-1 t) → trees (set c.self.inside.nodes.items c.place_of-place.result (rc_with_value c.index_mut.result.now c.insert_in_place.new.self)) ≡ c.args.self.now
+kept : (t : ℕ) (c : goal.Children::insert_in_place-After-self-then-not-insert_in_place-1 t) → trees (set c.self.inside.nodes.items c.way_in-way.result.place (rc_with_value c.index_mut.result.now c.insert_in_place.new.self)) ≡ c.args.self.now
 kept t c =
-    let k = c.place_of-place.result in
-    let d = down t (goal.at.Children::insert_in_place-returns-then-not-insert_in_place-clause-kept t c).In-Some in
+    let k = c.way_in-way.result.place in
+    let d = taken t (goal.at.Children::insert_in_place-returns-then-not-insert_in_place-clause-kept t c).In-Some in
     trees_set c.self.inside.nodes.items k (rc_with_value c.index_mut.result.now c.insert_in_place.new.self) c.args.self.now c.self.view_is
     ∙ ap (λ u. set c.args.self.now k u) (c.insert_in_place.ensures.kept c.if-not-insert_in_place.true) ∙ same_set c.args.self.now k c.in-Some.node.now d.within d.child_is
 
@@ -107,14 +72,14 @@ pub Children::insert_in_place-returns-then-not-insert_in_place-clause-kept :
 Children::insert_in_place-returns-then-not-insert_in_place-clause-kept t c = λ no. kept t c
 
 -- the children where it did
-grows : (t : ℕ) (c : Children::insert_in_place-In-Some t) (u : Tree) → IsInserted c.in-Some.node.now (u ∷ []) (inserted (text c.in-Some.node.now) (c.args.at - c.total_before-before.result.chars) c.args.added.now)
-    → AreGrown c.args.self.now (set c.args.self.now c.place_of-place.result u) (inserted (joined c.args.self.now) c.args.at c.args.added.now)
+grows : (t : ℕ) (c : Children::insert_in_place-In-Some t) (u : Tree) → IsInserted c.in-Some.node.now (u ∷ []) (inserted (text c.in-Some.node.now) c.way_in-way.result.at c.args.added.now)
+    → AreGrown c.args.self.now (set c.args.self.now c.way_in-way.result.place u) (inserted (joined c.args.self.now) c.args.at c.args.added.now)
 grows t c u done =
     let ts = c.args.self.now in
-    let d = down t c in
-    let g = (goes t c).1 in
-    grown (breaks_of ts) (height_of ts) ts c.place_of-place.result c.in-Some.node.now u d.children d.within d.child_is c.args.at (c.args.at - c.total_before-before.result.chars) c.args.added.now c.requires.some
-    (place t c) g.within c.args.to_right g.inside g.outside c.requires.side done c.requires.fits refl refl
+    let d = taken t c in
+    let g = d.goes in
+    grown (breaks_of ts) (height_of ts) ts c.way_in-way.result.place c.in-Some.node.now u d.children d.within d.child_is c.args.at c.way_in-way.result.at c.args.added.now c.requires.some
+    d.place g.within c.args.to_right g.inside g.outside c.requires.side done c.requires.fits refl refl
 
 pub Children::insert_in_place-retotal-requires-clause-small :
     goal.Children::insert_in_place-retotal-requires-clause-small
@@ -126,18 +91,18 @@ pub Children::insert_in_place-retotal-requires-clause-part :
     goal.Children::insert_in_place-retotal-requires-clause-part
 Children::insert_in_place-retotal-requires-clause-part t c = λ j e from within.
     let ts = c.args.self.now in
-    let d = down t (goal.at.Children::insert_in_place-retotal-requires-clause-part t c).In-Some in
+    let d = taken t (goal.at.Children::insert_in_place-retotal-requires-clause-part t c).In-Some in
     let totals = totals_seen c.self.inside.nodes.items ts c.self.inside.totals.items c.as_mut_slice.result.now c.self.view_is c.as_mut_slice.ensures.value c.self.invariant in
     let inside : j < length ts = omega (arith, totals.as_many) in
     let own = c.info-old.ensures ∙ ap (λ b. info_of b (text c.in-Some.node.now)) d.own.same_breaks in
     rw (totals.total_at j e inside, own)
-    (has_part (breaks_of ts) (height_of ts) ts ts c.place_of-place.result c.in-Some.node.now c.in-Some.node.now d.children d.within d.child_is j from inside)
+    (has_part (breaks_of ts) (height_of ts) ts ts c.way_in-way.result.place c.in-Some.node.now c.in-Some.node.now d.children d.within d.child_is j from inside)
 
 pub Children::insert_in_place-retotal-requires-clause-new :
     goal.Children::insert_in_place-retotal-requires-clause-new
 Children::insert_in_place-retotal-requires-clause-new t c =
     let ts = c.args.self.now in
-    let d = down t (goal.at.Children::insert_in_place-retotal-requires-clause-new t c).In-Some in
+    let d = taken t (goal.at.Children::insert_in_place-retotal-requires-clause-new t c).In-Some in
     let u = c.insert_in_place.new.self in
     let wide = child_grown (breaks_of ts) (height_of ts) c.in-Some.node.now u _ d.own (c.insert_in_place.ensures.done c.if-not-insert_in_place.false) in
     rw c.info-new.ensures (small_info u.breaks (text u) wide.tree.fits)
@@ -147,11 +112,11 @@ pub Children::insert_in_place-invariant_of-self-2 :
 Children::insert_in_place-invariant_of-self-2 t c =
     let i = (goal.at.Children::insert_in_place-invariant_of-self-2 t c).In-Some in
     let ts = c.args.self.now in
-    let k = c.place_of-place.result in
+    let k = c.way_in-way.result.place in
     let child = c.in-Some.node.now in
     let u = c.insert_in_place.new.self in
     let us = set ts k u in
-    let d = down t i in
+    let d = taken t i in
     let done = c.insert_in_place.ensures.done c.if-not-insert_in_place.false in
     let g = grows t i u done in
     let b = children_grown ts us _ d.children g in
@@ -173,7 +138,7 @@ pub Children::insert_in_place-returns-clause-done :
 Children::insert_in_place-returns-clause-done t c = λ yes.
     let i = (goal.at.Children::insert_in_place-returns-clause-done t c).In-Some in
     let u = c.insert_in_place.new.self in
-    rw (trees_set c.self.inside.nodes.items c.place_of-place.result (rc_with_value c.index_mut.result.now u) c.args.self.now c.self.view_is)
+    rw (trees_set c.self.inside.nodes.items c.way_in-way.result.place (rc_with_value c.index_mut.result.now u) c.args.self.now c.self.view_is)
     (grows t i u (c.insert_in_place.ensures.done c.if-not-insert_in_place.false))
 
 pub Node::insert_in_place-invariant_of-self-in-Leaf :

@@ -4,8 +4,8 @@ use Rattle.rope_text.specs.Edit.{inserted}
 use Rattle.rope_text.specs.TextInfo.{info_of, info_sum}
 use Rattle.rope_text.proofs.InfoLaws.{info_of-append_apart}
 use Rattle.rope_tree.proofs.GrownLaws.{with_parted}
-use Rattle.rope_tree.proofs.node.Node.cut_leaf.Goals.{After-from_str-front_info}
-use Rattle.rope_tree.proofs.node.Node.cut_leaf.Goals as goal
+use Rattle.rope_tree.proofs.node.Node.cut.Goals.{After-from_str-front_info}
+use Rattle.rope_tree.proofs.node.Node.cut.Goals as goal
 
 -- the two parts are the leaf with the text
 whole : (c : After-from_str-front_info) → c.insert_str_split-back.new.self ++ c.insert_str_split-back.result ≡ inserted c.in-Leaf.leaf c.args.at c.args.added.now
