@@ -46,8 +46,9 @@ impl<'a> Model for Path<'a> {
     ghost invariant = { λ a. AreFrames a.frames a.depth (around a.frames a.depth (chars a.leaf.now ∷ [])) };
 }
 
-// Whether all nodes are leaves. A walk comes to one after the other, and would wait for memory at each: here what it will read
-// of their heads is read side by side, so that their waits are one.
+// Whether all nodes are leaves, as far as their heads tell. A walk comes to one after the other, and would wait for memory at
+// each: here what it will read of their heads is read side by side, so that their waits are one. No leaf below another node is
+// empty; its bytes are asked for so that they are read too.
 fn are_leaves(nodes: &[Rc<Node>]) -> bool
     ensures { OnTrue result (All (λ rc. rc.value.height ≡ 0) nodes.now) }
 {
@@ -79,7 +80,7 @@ fn leaf_of(node: &Node) -> Option<&str>
     }
 }
 
-// The text of a node with no levels below it.
+// The text of a node with no levels below it. What it is, is asked again, of what has been read just before.
 fn lowest_text(node: &Node) -> &str
     requires { IsLow node.now 0 }
     ensures { node.now.leaves ≡ chars result.now ∷ [] }
@@ -218,8 +219,8 @@ fn level_with_prev(frames: &[Frame<'_>; 18], depth: usize) -> Option<usize>
     None
 }
 
-// Goes on from a leaf to the next one, by the frame at a level, where the next child is a leaf itself: so it is at most steps, and
-// these are kept short. Elsewhere nothing is changed.
+// Goes on from a leaf to the next one, by the frame at a level, where the next child is a leaf itself: so it is at most steps,
+// and these are kept short. Elsewhere nothing is changed.
 fn leaf_to_right<'a>(
     frames: &mut [Frame<'a>; 18],
     depth: usize,
@@ -261,8 +262,8 @@ fn go_right<'a>(
     enter_first(frames, level + 1, &children[at])
 }
 
-// Goes back from a leaf to the one before, by the frame at a level, where the child before is a leaf itself: so it is at most steps, and
-// these are kept short. Elsewhere nothing is changed.
+// Goes back from a leaf to the one before, by the frame at a level, where the child before is a leaf itself: so it is at most
+// steps, and these are kept short. Elsewhere nothing is changed.
 fn leaf_to_left<'a>(
     frames: &mut [Frame<'a>; 18],
     depth: usize,

@@ -8,16 +8,17 @@ use crate::line_breaks::LineBreaks;
 use crate::str_utils::{count_breaks, count_chars, count_surrogates};
 
 /// What a text counts.
+// The bytes stand last: in a leaf they then lie beside the text, and a walk over leaves reads both at once.
 #[derive(Clone, Copy, Debug, Default, PartialEq, Eq)]
 pub struct TextInfo {
-    /// The bytes.
-    pub bytes: usize,
     /// The characters.
     pub chars: usize,
     /// The characters that take two code units in UTF-16.
     pub utf16_surrogates: usize,
     /// The line breaks, by the set that was told.
     pub line_breaks: usize,
+    /// The bytes.
+    pub bytes: usize,
 }
 
 // A text is gone over once for each count, so a longer one is counted in blocks: each is still near after its first count.

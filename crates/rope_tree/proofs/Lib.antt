@@ -6,6 +6,7 @@ pub mod Retotals
 pub mod CountLaws
 pub mod TotalLaws
 pub mod GrownLaws
+pub mod ChildLaws
 pub mod RemovalEnds
 pub mod RemovalLaws
 pub mod Infos
