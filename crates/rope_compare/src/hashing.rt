@@ -3,7 +3,8 @@ ghost use Rattle.std.specs.Prelude.{◌≡◌, ℕ, ◌+◌, ◌<◌, ◌≤◌,
 ghost use Rattle.rope_text.specs.Compare.{blocks, hash_writes};
 ghost use Rattle.rope_part.specs.Part.{text_of};
 
-use crate::pieces::{bytes_of, chunks_of};
+use crate::pieces::chunks_of;
+use rope_cursor::pieces::bytes_of;
 use rope_part::Part;
 use std::hash::Hasher;
 

@@ -6,7 +6,9 @@ ghost use Rattle.std.specs.Str.{chars};
 ghost use Rattle.rope_text.specs.Compare.{text_cmp};
 ghost use Rattle.rope_part.specs.Part.{text_of};
 
-use crate::pieces::{bytes_of, chunks_of, filled};
+use crate::pieces::{chunks_of, filled};
+use rope_cursor::Pieces;
+use rope_cursor::pieces::bytes_of;
 use rope_part::Part;
 use std::cmp::Ordering;
 
@@ -14,16 +16,14 @@ use std::cmp::Ordering;
 pub fn order(left: &Part<'_>, right: &Part<'_>) -> Ordering
     ensures { result ≡ text_cmp (text_of left.now) (text_of right.now) }
 {
-    let mut lefts = chunks_of(left);
-    let mut rights = chunks_of(right);
-    let mut x = filled(&[], &mut lefts);
-    let mut y = filled(&[], &mut rights);
+    let (mut x, mut lefts) = Pieces::of(left);
+    let (mut y, mut rights) = Pieces::of(right);
     // Fronts of one length are compared, and are then both passed.
     'pieces: loop {
-        if x.is_empty() || y.is_empty() {
+        let n = x.len().min(y.len());
+        if n == 0 {
             return x.len().cmp(&y.len());
         }
-        let n = x.len().min(y.len());
         let (front, rest) = x.split_at(n);
         let (other_front, other_rest) = y.split_at(n);
         let found = order_of_pieces(front, other_front);

@@ -38,7 +38,7 @@ module _ (p : Place) (t : Tree) (e : leaves p ≡ t.leaves) where
   front_is : concat p.before ≡ concat (take (length p.before) t.leaves)
   front_is = sym (ap (λ ls. concat (take (length p.before) ls)) (sym e) ∙ ap concat (take_at p.before (p.here ∷ p.after) (length p.before) refl))
 
-  text_is : text t ≡ (concat p.before ++ p.here) ++ concat p.after
+  pub text_is : text t ≡ (concat p.before ++ p.here) ++ concat p.after
   text_is = ap concat (sym e) ∙ concat-append p.before (p.here ∷ p.after) ∙ sym (append_assoc (concat p.before) p.here (concat p.after))
 
 -- the way to the leaf finds it

@@ -1,4 +1,5 @@
-//! Cursors over a rope's or a slice's chunks, bytes, characters and lines: both ways, borrowed. No call takes memory.
+//! Cursors over a rope's or a slice's chunks, bytes, characters and lines: both ways, borrowed. And its bytes in pieces, forward
+//! only. No call takes memory.
 #![tactic(auto)]
 
 mod between;
@@ -9,10 +10,13 @@ mod cuts;
 pub mod gap;
 pub mod lines;
 pub mod path;
+pub mod pieces;
 mod point;
 pub mod span;
+mod walk;
 
 pub use bytes::Bytes;
 pub use chars::Chars;
 pub use chunks::Chunks;
 pub use lines::Lines;
+pub use pieces::Pieces;

@@ -1,5 +1,5 @@
 //! A way from the root of a tree to one of its leaves, kept in place. No step takes memory.
-ghost use Rattle.std.specs.Prelude.{◌≡◌, ◌+◌, ◌-◌, ◌<◌, ◌^◌, ◌∷◌, take, [], length, IfSome, IfNone};
+ghost use Rattle.std.specs.Prelude.{◌≡◌, ◌+◌, ◌-◌, ◌<◌, ◌^◌, ◌∷◌, ◌++◌, take, [], length, IfSome, IfNone};
 ghost use Rattle.std.specs.Bool.{OnTrue, OnFalse};
 ghost use Rattle.std.specs.List.{concat, All};
 ghost use Rattle.std.specs.Str.{chars};
@@ -9,7 +9,7 @@ ghost use Rattle.rope_tree.specs.Search.{count_of};
 ghost use Rattle.rope_tree.specs.Leaves.{AreLeaves};
 ghost use Rattle.rope_tree.specs.Tree.{text};
 ghost use Rattle.rope_tree.specs.View.{IsLeafOf};
-ghost use Rattle.rope_cursor.specs.Path.{before_of, after_of, around, place_of, AreFrames, AreFramesOf, LeadsTo, HasNextAt, HasPrevAt, IsLow, IsNext, HoldsPlace, leaves};
+ghost use Rattle.rope_cursor.specs.Path.{before_of, after_of, around, place_of, AreFrames, AreFramesOf, LeadsTo, HasNextAt, HasPrevAt, IsLow, IsNext, HoldsPlace, leaves, leaves_below};
 
 use rope_text::{Steps, TextInfo};
 use rope_tree::lookup::total_before;
@@ -81,7 +81,8 @@ fn leaf_of(node: &Node) -> Option<&str>
 }
 
 // The text of a node with no levels below it. What it is, is asked again, of what has been read just before.
-fn lowest_text(node: &Node) -> &str
+#[inline(always)]
+pub(crate) fn lowest_text(node: &Node) -> &str
     requires { IsLow node.now 0 }
     ensures { node.now.leaves ≡ chars result.now ∷ [] }
 {
@@ -308,6 +309,33 @@ fn go_left<'a>(
     enter_last(frames, level + 1, &children[at])
 }
 
+// Moves the deepest frame to its last child, where all children after its own are leaves and there are some. Answers these, and
+// the text of the last. Elsewhere nothing is changed.
+fn to_last_leaf<'a>(
+    frames: &mut [Frame<'a>; 18],
+    depth: usize,
+    leaf: &'a str,
+) -> Option<(&'a [Rc<Node>], &'a str)>
+    requires frames { AreFrames frames.old depth (around frames.old depth (chars leaf.now ∷ [])) }
+    requires some { 0 < depth }
+    ensures leaves { IfSome result (λ found. All (λ rc. IsLow rc.value 0) found.0.now) }
+    ensures ahead { IfSome result (λ found. after_of (take depth frames.old) ≡ leaves_below found.0.now ++ after_of (take depth frames.new)) }
+    ensures leads { IfSome result (λ found. AreFrames frames.new depth (around frames.new depth (chars found.1.now ∷ []))) }
+    ensures stays { IfNone result (frames.new ≡ frames.old) }
+{
+    let level = depth - 1;
+    let slots = &frames[..];
+    let frame = slots[level];
+    let children = frame.children;
+    let siblings = &children[frame.at + 1..];
+    if siblings.is_empty() || !are_leaves(siblings) {
+        return None;
+    }
+    let at = children.len() - 1;
+    frames[level] = Frame { children, at };
+    Some((siblings, lowest_text(&children[at])))
+}
+
 impl<'a> Path<'a> {
     /// The way to the leaf that holds a place of a tree's text, and the counts of the text before the leaf. It enters each
     /// node on the way once.
@@ -384,6 +412,24 @@ impl<'a> Path<'a> {
         self.depth = depth;
         self.leaf = leaf;
         true
+    }
+
+    /// Goes to the last leaf under the node right over its own, and answers the leaves that it passes and that one: so that who
+    /// only goes forward takes them from there. Where some are no leaves, it answers none and stays.
+    pub(crate) fn pass_siblings(&mut self) -> &'a [Rc<Node>]
+        ensures leaves { All (λ rc. IsLow rc.value 0) result.now }
+        ensures ahead { self.old.after ≡ leaves_below result.now ++ self.new.after }
+    {
+        let depth = self.depth;
+        let leaf = self.leaf;
+        if depth == 0 {
+            return &[];
+        }
+        let Some((siblings, last)) = to_last_leaf(&mut self.frames, depth, leaf) else {
+            return &[];
+        };
+        self.leaf = last;
+        siblings
     }
 
     /// Goes to the leaf before. Answers whether there is one; else it stays.
