@@ -27,7 +27,6 @@ pieces-smaller c =
     let x = c.pieces.x.now in
     let back = c.split_at.result.1.now in
     let left = c.pieces.lefts in
-    let next = c.filled-x.new.pieces in
     let some : c.min-n.result ≡ 0 → ⊥ = search (rules, tests) in
     omega (arith, ap length c.filled-x.ensures.same, length-append back left, length-append x left, c.split_at.ensures.back_len, c.min-n.ensures, some)
 
