@@ -1,7 +1,7 @@
 -- Bytes taken from those ahead, as far as they lie in a part.
-use Rattle.std.proofs.Common.{◌≡◌, ℕ, ◌+◌, ◌-◌, ◌<◌, ◌≤◌, min, List, [], ◌∷◌, ◌++◌, length, take, drop, refl, ap, sym, ◌∙◌, subst, arith, inl, inr, All, append_assoc}
+use Rattle.std.proofs.Common.{◌≡◌, ℕ, ◌+◌, ◌-◌, ◌<◌, min, List, [], ◌∷◌, ◌++◌, length, take, drop, refl, ap, sym, ◌∙◌, subst, arith, inl, inr, All, append_assoc}
 use Rattle.std.proofs.lemmas.Bool.{cases_lt}
-use Rattle.std.proofs.lemmas.List.{append-nil, take_all, take_at, drop_at, take-append-le, drop-append-le, length-take-le, length-drop}
+use Rattle.std.proofs.lemmas.List.{append-nil, take_all, take-append-le, drop-append-le, length-take-le, length-drop}
 use Rattle.std.proofs.lemmas.List.Elements.{All-drop}
 use Rattle.std.proofs.lemmas.Str.{encodes-append}
 use Rattle.std.proofs.Math.Seq.{take-append-add, drop-append-add}
@@ -15,7 +15,7 @@ use Rattle.rope_tree.specs.declared.search.Unit.TheVariants.{Byte}
 use Rattle.rope_tree.proofs.LeafLaws.{nonempty_leaves}
 use Rattle.rope_part.specs.Edge.{IsStretch}
 use Rattle.rope_part.proofs.Measured.{measured}
-use Rattle.rope_part.proofs.Stretches.{around_part}
+use Rattle.rope_part.proofs.Stretches.{bytes_of_part}
 use Rattle.rope_cursor.specs.Path.{Place, leaves, HoldsPlace}
 use Rattle.rope_cursor.proofs.LeafStarts.{text_is}
 
@@ -44,14 +44,6 @@ pub none_left : (bytes rest : List ℕ) (left n : ℕ) → n ≡ min (length byt
 none_left bytes rest left n e some none =
     let zero : left - n ≡ 0 = omega (arith, e, some, none, length-take-le n bytes (omega (arith, e))) in
     rw zero refl
-
--- the bytes of a part of a text are a part of its bytes
-part_bytes : (cs : List ℕ) (a b at n : ℕ) → a ≤ b → at ≡ byte_len (take a cs) → n ≡ byte_len (slice_range cs a b) → take n (drop at (encode_utf8_all cs)) ≡ encode_utf8_all (slice_range cs a b)
-part_bytes cs a b at n l from size =
-    let part : List ℕ = slice_range cs a b in
-    let whole = ap encode_utf8_all (around_part cs a b l) ∙ encodes-append (take a cs) (part ++ drop b cs) ∙ ap (λ bs. encode_utf8_all (take a cs) ++ bs) (encodes-append part (drop b cs)) in
-    ap (λ bs. take n (drop at bs)) whole ∙ ap (take n) (drop_at (encode_utf8_all (take a cs)) (encode_utf8_all part ++ encode_utf8_all (drop b cs)) at (sym from))
-    ∙ take_at (encode_utf8_all part) (encode_utf8_all (drop b cs)) n (sym size)
 
 -- a leaf that holds the first byte of a stretch
 module _ (t : Tree) (start end : TextInfo) (p : Place) (info : TextInfo) (tree : IsTree t) (s : IsStretch t.breaks (text t) start end) (e : leaves p ≡ t.leaves)
@@ -83,7 +75,7 @@ module _ (t : Tree) (start end : TextInfo) (p : Place) (info : TextInfo) (tree :
       let m = measured t.breaks (text t) start end s in
       piece_and_rest (drop (start.bytes - info.bytes) (encode_utf8_all p.here)) (encode_utf8_all (concat p.after)) (end.bytes - start.bytes) n q
       ∙ ap (take (end.bytes - start.bytes)) (sym from_here)
-      ∙ part_bytes (text t) start.chars end.chars start.bytes (end.bytes - start.bytes) (omega (arith, m.some)) m.start_bytes (omega (arith, m.bytes))
+      ∙ bytes_of_part (text t) start.chars end.chars start.bytes (end.bytes - start.bytes) (omega (arith, m.some)) m.start_bytes (omega (arith, m.bytes))
 
   pub some_here : 0 < length (drop (start.bytes - info.bytes) (encode_utf8_all p.here))
   some_here = omega (arith, length-drop (start.bytes - info.bytes) (encode_utf8_all p.here), starts_here)

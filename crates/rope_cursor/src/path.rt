@@ -112,6 +112,22 @@ fn enter_first<'a>(frames: &mut [Frame<'a>; 18], level: usize, node: &'a Node) -
     }
 }
 
+// What `enter_first` does. Most nodes that a step reaches are leaves, and for these it is kept where it is called, and its
+// answer in registers: so it takes apart what `enter_first` answers, which comes through memory.
+#[inline(always)]
+fn reach_first<'a>(frames: &mut [Frame<'a>; 18], level: usize, node: &'a Node) -> (usize, &'a str)
+    requires frames { AreFrames frames.old level (around frames.old level node.now.leaves) }
+    requires low { IsLow node.now (18 - level) }
+    ensures leads { LeadsTo frames.new result.0 (chars result.1.now) (around frames.old level node.now.leaves) }
+    ensures before { before_of (take result.0 frames.new) ≡ before_of (take level frames.old) }
+{
+    if let Some(text) = leaf_of(node) {
+        return (level, text);
+    }
+    let (depth, text) = enter_first(frames, level, node);
+    (depth, text)
+}
+
 // Goes down from a node at a level to its last leaf.
 fn enter_last<'a>(frames: &mut [Frame<'a>; 18], level: usize, node: &'a Node) -> (usize, &'a str)
     requires frames { AreFrames frames.old level (around frames.old level node.now.leaves) }
@@ -127,6 +143,21 @@ fn enter_last<'a>(frames: &mut [Frame<'a>; 18], level: usize, node: &'a Node) ->
             enter_last(frames, level + 1, &children[at])
         }
     }
+}
+
+// What `enter_last` does, kept where it is called, as `reach_first` is.
+#[inline(always)]
+fn reach_last<'a>(frames: &mut [Frame<'a>; 18], level: usize, node: &'a Node) -> (usize, &'a str)
+    requires frames { AreFrames frames.old level (around frames.old level node.now.leaves) }
+    requires low { IsLow node.now (18 - level) }
+    ensures leads { LeadsTo frames.new result.0 (chars result.1.now) (around frames.old level node.now.leaves) }
+    ensures after { after_of (take result.0 frames.new) ≡ after_of (take level frames.old) }
+{
+    if let Some(text) = leaf_of(node) {
+        return (level, text);
+    }
+    let (depth, text) = enter_last(frames, level, node);
+    (depth, text)
 }
 
 // A leaf that holds a place.
@@ -220,30 +251,8 @@ fn level_with_prev(frames: &[Frame<'_>; 18], depth: usize) -> Option<usize>
     None
 }
 
-// Goes on from a leaf to the next one, by the frame at a level, where the next child is a leaf itself: so it is at most steps,
-// and these are kept short. Elsewhere nothing is changed.
-fn leaf_to_right<'a>(
-    frames: &mut [Frame<'a>; 18],
-    depth: usize,
-    leaf: &'a str,
-    level: usize,
-) -> Option<&'a str>
-    requires frames { AreFrames frames.old depth (around frames.old depth (chars leaf.now ∷ [])) }
-    requires level { HasNextAt frames.old depth level }
-    ensures leads { IfSome result (λ text. LeadsTo frames.new (level + 1) (chars text.now) (around frames.old depth (chars leaf.now ∷ []))) }
-    ensures next { IfSome result (λ text. IsNext (place_of frames.old depth (chars leaf.now)) (place_of frames.new (level + 1) (chars text.now))) }
-    ensures stays { IfNone result (frames.new ≡ frames.old) }
-{
-    let slots = &frames[..];
-    let frame = slots[level];
-    let children = frame.children;
-    let next = frame.at + 1;
-    let text = leaf_of(&children[next])?;
-    frames[level] = Frame { children, at: next };
-    Some(text)
-}
-
 // Goes on from a leaf to the next one, by the frame at a level.
+#[inline(always)]
 fn go_right<'a>(
     frames: &mut [Frame<'a>; 18],
     depth: usize,
@@ -260,36 +269,11 @@ fn go_right<'a>(
     let children = frame.children;
     let at = frame.at + 1;
     frames[level] = Frame { children, at };
-    enter_first(frames, level + 1, &children[at])
-}
-
-// Goes back from a leaf to the one before, by the frame at a level, where the child before is a leaf itself: so it is at most
-// steps, and these are kept short. Elsewhere nothing is changed.
-fn leaf_to_left<'a>(
-    frames: &mut [Frame<'a>; 18],
-    depth: usize,
-    leaf: &'a str,
-    level: usize,
-) -> Option<&'a str>
-    requires frames { AreFrames frames.old depth (around frames.old depth (chars leaf.now ∷ [])) }
-    requires level { HasPrevAt frames.old depth level }
-    ensures leads { IfSome result (λ text. LeadsTo frames.new (level + 1) (chars text.now) (around frames.old depth (chars leaf.now ∷ []))) }
-    ensures next { IfSome result (λ text. IsNext (place_of frames.new (level + 1) (chars text.now)) (place_of frames.old depth (chars leaf.now))) }
-    ensures stays { IfNone result (frames.new ≡ frames.old) }
-{
-    let slots = &frames[..];
-    let frame = slots[level];
-    let children = frame.children;
-    let before = frame.at - 1;
-    let text = leaf_of(&children[before])?;
-    frames[level] = Frame {
-        children,
-        at: before,
-    };
-    Some(text)
+    reach_first(frames, level + 1, &children[at])
 }
 
 // Goes back from a leaf to the one before, by the frame at a level.
+#[inline(always)]
 fn go_left<'a>(
     frames: &mut [Frame<'a>; 18],
     depth: usize,
@@ -306,7 +290,7 @@ fn go_left<'a>(
     let children = frame.children;
     let at = frame.at - 1;
     frames[level] = Frame { children, at };
-    enter_last(frames, level + 1, &children[at])
+    reach_last(frames, level + 1, &children[at])
 }
 
 // Moves the deepest frame to its last child, where all children after its own are leaves and there are some. Answers these, and
@@ -403,11 +387,6 @@ impl<'a> Path<'a> {
         let Some(level) = level_with_next(&self.frames, depth) else {
             return false;
         };
-        if let Some(text) = leaf_to_right(&mut self.frames, depth, leaf, level) {
-            self.depth = level + 1;
-            self.leaf = text;
-            return true;
-        }
         let (depth, leaf) = go_right(&mut self.frames, depth, leaf, level);
         self.depth = depth;
         self.leaf = leaf;
@@ -443,11 +422,6 @@ impl<'a> Path<'a> {
         let Some(level) = level_with_prev(&self.frames, depth) else {
             return false;
         };
-        if let Some(text) = leaf_to_left(&mut self.frames, depth, leaf, level) {
-            self.depth = level + 1;
-            self.leaf = text;
-            return true;
-        }
         let (depth, leaf) = go_left(&mut self.frames, depth, leaf, level);
         self.depth = depth;
         self.leaf = leaf;

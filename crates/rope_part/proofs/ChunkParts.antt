@@ -1,10 +1,10 @@
 -- The part of a leaf that lies in a stretch, and what lies before it.
 use Rattle.std.proofs.Common.{◌≡◌, ℕ, suc, ◌+◌, ◌-◌, ◌<◌, ◌≤◌, min, List, [], ◌++◌, length, take, drop, get_or, refl, sym, ap, ◌∙◌, arith, inl, inr, All}
 use Rattle.std.specs.List.{concat, slice_range}
-use Rattle.std.specs.Str.{chars, IsUtf8, IsCharBoundary, encode_utf8_all}
+use Rattle.std.specs.Str.{chars, IsUtf8, IsCharBoundary}
 use Rattle.std.proofs.lemmas.Bool.{cases_lt}
-use Rattle.std.proofs.lemmas.List.{take_all, length-take, drop_at, take-append-le}
-use Rattle.std.proofs.lemmas.Str.{encodes-append, chars-encodes, scalars-chars}
+use Rattle.std.proofs.lemmas.List.{take_all, length-take, take-append-le}
+use Rattle.std.proofs.lemmas.Str.{encodes-chars, chars-encodes, scalars-chars}
 use Rattle.rope_text.specs.declared.line_breaks.LineBreaks.{LineBreaks}
 use Rattle.rope_text.specs.Text.{byte_len}
 use Rattle.rope_text.specs.Breaks.{break_count}
@@ -13,7 +13,7 @@ use Rattle.rope_text.specs.Cutting.{IsCutting, KeepsCrlf, clip}
 use Rattle.rope_text.proofs.CuttingLaws.{IsCutting-clip}
 use Rattle.rope_text.specs.Lookup.{found_chunk, front_chunks, chunk_index_at_byte, chunk_index_at_char}
 use Rattle.rope_text.proofs.Measures.{IsMeasure-byte_len, IsMeasure-length, size_le, size_lt, size_le_all}
-use Rattle.rope_text.proofs.TextParts.{all_scalars-take, all_scalars-drop, take-bytes, byte_len_boundary}
+use Rattle.rope_text.proofs.TextParts.{all_scalars-take, all_scalars-drop, byte_len_boundary}
 use Rattle.rope_text.proofs.ConversionLaws.{char_to_line_start}
 use Rattle.rope_text.proofs.SliceLaws.{char_to_line-drop}
 use Rattle.rope_text.proofs.ClipLaws.{concat-clip}
@@ -21,26 +21,16 @@ use Rattle.rope_text.proofs.LookupLaws.{breaks_before, chunk_index_at_byte_is, c
 use Rattle.rope_text.proofs.ChunkLaws.{before, after, concat_at}
 use Rattle.std.proofs.Math.Seq.{take-append-add}
 use Rattle.rope_part.specs.Found.{IsFoundChunk}
-use Rattle.rope_part.proofs.Stretches.{part_of_front, front_and_part, length_part, char_to_line_part}
+use Rattle.rope_part.proofs.Stretches.{bytes_of_part, length_part, size_part, char_to_line_part}
 use Rattle.rope_part.proofs.ClippedChunks.{Clipped, clipped, size_of_part, before_is_front, upto_is_front, front_less}
-
--- the bytes of a part
-bytes_of_part : (bs : List ℕ) (i j : ℕ) → IsUtf8 bs → i ≤ j → slice_range bs (byte_len (take i (chars bs))) (byte_len (take j (chars bs))) ≡ encode_utf8_all (slice_range (chars bs) i j)
-bytes_of_part bs i j u l =
-    let cs : List ℕ = chars bs in
-    let p : ℕ = byte_len (take i cs) in
-    let r : ℕ = byte_len (take j cs) in
-    part_of_front bs p r (size_le byte_len IsMeasure-byte_len cs i j l)
-    ∙ ap (drop p) (take-bytes bs j u ∙ ap encode_utf8_all (sym (front_and_part cs i j l)) ∙ encodes-append (take i cs) (slice_range cs i j))
-    ∙ drop_at (encode_utf8_all (take i cs)) (encode_utf8_all (slice_range cs i j)) p refl
 
 -- the characters of a text between two places, by their bytes
 pub chars_of_part : (bs cs r : List ℕ) (i j p q : ℕ) → IsUtf8 bs → chars bs ≡ cs → i ≤ j → p ≡ byte_len (take i cs) → q ≡ byte_len (take j cs) → r ≡ slice_range bs p q → chars r ≡ slice_range cs i j
 chars_of_part bs cs r i j p q u same l from to cut =
     let scalars = all_scalars-take (j - i) (drop i (chars bs)) (all_scalars-drop i (chars bs) (scalars-chars bs u)) in
     let start : p ≡ byte_len (take i (chars bs)) = from ∙ ap (λ s. byte_len (take i s)) (sym same) in
-    let end : q ≡ byte_len (take j (chars bs)) = to ∙ ap (λ s. byte_len (take j s)) (sym same) in
-    ap chars (cut ∙ ap (λ n. slice_range bs n q) start ∙ ap (slice_range bs (byte_len (take i (chars bs)))) end ∙ bytes_of_part bs i j u l)
+    let size : q - p ≡ byte_len (slice_range (chars bs) i j) = omega (arith, to, from, size_part byte_len IsMeasure-byte_len cs i j l, ap (λ s. byte_len (slice_range s i j)) same) in
+    ap chars (cut ∙ ap (λ b. slice_range b p q) (sym (encodes-chars bs u)) ∙ bytes_of_part (chars bs) i j p (q - p) l start size)
     ∙ chars-encodes (slice_range (chars bs) i j) scalars ∙ ap (λ s. slice_range s i j) same
 
 pub boundary_of : (bs cs : List ℕ) (i p : ℕ) → IsUtf8 bs → chars bs ≡ cs → p ≡ byte_len (take i cs) → IsCharBoundary bs p

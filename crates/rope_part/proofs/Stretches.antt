@@ -1,8 +1,10 @@
 -- The counts and the conversions of characters within a text, by those of the text.
 use Rattle.std.proofs.Common.{◌≡◌, ℕ, zero, suc, ◌+◌, ◌-◌, ◌<◌, ◌≤◌, min, List, [], ◌∷◌, ◌++◌, length, take, drop, refl, sym, ap, ◌∙◌, arith, inl, inr, append_assoc, length-append}
 use Rattle.std.specs.List.{slice_range}
+use Rattle.std.specs.Str.{encode_utf8_all}
 use Rattle.std.proofs.lemmas.Bool.{cases_lt}
-use Rattle.std.proofs.lemmas.List.{take-append-drop, length-take-le, length-drop, take_all, drop-take, take_at}
+use Rattle.std.proofs.lemmas.List.{take-append-drop, length-take-le, length-drop, take_all, drop-take, take_at, drop_at}
+use Rattle.std.proofs.lemmas.Str.{encodes-append}
 use Rattle.std.proofs.Math.Seq.{take-add}
 use Rattle.rope_text.specs.declared.line_breaks.LineBreaks.{LineBreaks}
 use Rattle.rope_text.specs.Text.{byte_len, utf16_len}
@@ -36,6 +38,16 @@ length_part text a b within = length-take-le (b - a) (drop a text) (omega (arith
 -- a size that adds up
 pub size_part : (size : List ℕ → ℕ) → IsMeasure size → (text : List ℕ) (a b : ℕ) → a ≤ b → size (take b text) ≡ size (take a text) + size (slice_range text a b)
 size_part size m text a b l = ap size (sym (front_and_part text a b l)) ∙ m.joined (take a text) (slice_range text a b)
+
+-- the bytes of a part of a text are a part of its bytes
+pub bytes_of_part : (text : List ℕ) (a b at n : ℕ) → a ≤ b → at ≡ byte_len (take a text) → n ≡ byte_len (slice_range text a b) → take n (drop at (encode_utf8_all text)) ≡ encode_utf8_all (slice_range text a b)
+bytes_of_part text a b at n l from size =
+    let front : List ℕ = take a text in
+    let part : List ℕ = slice_range text a b in
+    let rest : List ℕ = drop b text in
+    let whole = ap encode_utf8_all (around_part text a b l) ∙ encodes-append front (part ++ rest) ∙ ap (λ bs. encode_utf8_all front ++ bs) (encodes-append part rest) in
+    ap (λ bs. take n (drop at bs)) whole ∙ ap (take n) (drop_at (encode_utf8_all front) (encode_utf8_all part ++ encode_utf8_all rest) at (sym from))
+    ∙ take_at (encode_utf8_all part) (encode_utf8_all rest) n (sym size)
 
 -- the greatest front of a part of size at most n
 front_part : (size : List ℕ → ℕ) (m : IsMeasure size) (text : List ℕ) (a b n : ℕ) → a ≤ b → b ≤ length text → n ≤ size (slice_range text a b)

@@ -1,33 +1,18 @@
 //! Positions in ropes.
-use crate::position::{Position, Positions, char_in_line};
-use ropey::{Error, Result, Rope};
+use crate::position::{Position, Positions};
+use ropey::{Result, Rope};
 
+// What a slice of the whole text answers, which costs no look-up.
 impl Positions for Rope {
     ghost use Rattle.ropey.specs.View.{content};
 
     ghost shown = { content };
 
     fn try_char_to_position(&self, char_idx: usize) -> Result<Position> {
-        let len = self.len_chars();
-        if char_idx > len {
-            return Err(Error::CharIndexOutOfBounds(char_idx, len));
-        }
-        let line = self.char_to_line(char_idx);
-        let before = self.char_to_utf16_cu(self.line_to_char(line));
-        let column = self.char_to_utf16_cu(char_idx) - before;
-        Ok(Position { line, column })
+        self.slice(..).try_char_to_position(char_idx)
     }
 
     fn try_position_to_char(&self, position: Position) -> Result<usize> {
-        let lines = self.len_lines();
-        if position.line >= lines {
-            return Err(Error::LineIndexOutOfBounds(position.line, lines));
-        }
-        // as many characters as a `usize` counts, so the sum fits
-        let _ = self.len_chars();
-        match char_in_line(self.line(position.line), position.column) {
-            Ok(inside) => Ok(self.line_to_char(position.line) + inside),
-            Err(error) => Err(error),
-        }
+        self.slice(..).try_position_to_char(position)
     }
 }

@@ -10,15 +10,15 @@ down c =
     prev_goes c.args.frames.now c.args.depth c.args.level c.index-slots-level.result c.index-children-at.result c.deref.result.now (chars c.args.leaf.now) c.requires.frames c.requires.level
     c.index-slots-level.is c.index-children-at.is c.deref.ensures
 
-pub enter_last-requires-clause-frames : goal.enter_last-requires-clause-frames
-enter_last-requires-clause-frames c = (down (goal.at.enter_last-requires-clause-frames c).After-deref).frames_are
+pub reach_last-requires-clause-frames : goal.reach_last-requires-clause-frames
+reach_last-requires-clause-frames c = (down (goal.at.reach_last-requires-clause-frames c).After-deref).frames_are
 
 pub returns-clause-leads : goal.returns-clause-leads
 returns-clause-leads c =
     let d = down (goal.at.returns-clause-leads c).After-deref in
-    rw d.whole_is at c.enter_last.ensures.leads
+    rw d.whole_is at c.reach_last.ensures.leads
 
 pub returns-clause-next : goal.returns-clause-next
 returns-clause-next c =
     prev_is c.args.frames.now c.args.depth c.args.level c.index-slots-level.result c.index-children-at.result c.deref.result.now (chars c.args.leaf.now) c.requires.frames c.requires.level
-    c.index-slots-level.is c.index-children-at.is c.deref.ensures (place_of c.enter_last.new.frames c.enter_last.result.0 (chars c.enter_last.result.1.now)) c.enter_last.ensures.after c.enter_last.ensures.leads.whole_is
+    c.index-slots-level.is c.index-children-at.is c.deref.ensures (place_of c.reach_last.new.frames c.reach_last.result.0 (chars c.reach_last.result.1.now)) c.reach_last.ensures.after c.reach_last.ensures.leads.whole_is

@@ -10,15 +10,15 @@ down c =
     next_goes c.args.frames.now c.args.depth c.args.level c.index-slots-level.result c.index-children-at.result c.deref.result.now (chars c.args.leaf.now) c.requires.frames c.requires.level
     c.index-slots-level.is c.index-children-at.is c.deref.ensures
 
-pub enter_first-requires-clause-frames : goal.enter_first-requires-clause-frames
-enter_first-requires-clause-frames c = (down (goal.at.enter_first-requires-clause-frames c).After-deref).frames_are
+pub reach_first-requires-clause-frames : goal.reach_first-requires-clause-frames
+reach_first-requires-clause-frames c = (down (goal.at.reach_first-requires-clause-frames c).After-deref).frames_are
 
 pub returns-clause-leads : goal.returns-clause-leads
 returns-clause-leads c =
     let d = down (goal.at.returns-clause-leads c).After-deref in
-    rw d.whole_is at c.enter_first.ensures.leads
+    rw d.whole_is at c.reach_first.ensures.leads
 
 pub returns-clause-next : goal.returns-clause-next
 returns-clause-next c =
     next_is c.args.frames.now c.args.depth c.args.level c.index-slots-level.result c.index-children-at.result c.deref.result.now (chars c.args.leaf.now) c.requires.frames c.requires.level
-    c.index-slots-level.is c.index-children-at.is c.deref.ensures (place_of c.enter_first.new.frames c.enter_first.result.0 (chars c.enter_first.result.1.now)) c.enter_first.ensures.before c.enter_first.ensures.leads.whole_is
+    c.index-slots-level.is c.index-children-at.is c.deref.ensures (place_of c.reach_first.new.frames c.reach_first.result.0 (chars c.reach_first.result.1.now)) c.reach_first.ensures.before c.reach_first.ensures.leads.whole_is
