@@ -4,6 +4,8 @@ ghost use Rattle.rope_text.specs.Cutting.{parts_crlf};
 ghost use Rattle.std.specs.List.{concat};
 ghost use Rattle.std.specs.Str.{chars};
 ghost use Rattle.rope_text.specs.Breaks.{break_count};
+ghost use Rattle.rope_text.specs.ByteBreaks.{char_width};
+ghost use Rattle.rope_text.specs.Conversions.{line_to_byte};
 ghost use Rattle.rope_text.specs.LineParts.{first_line, last_start};
 ghost use Rattle.rope_text.specs.Text.{byte_len};
 ghost use Rattle.rope_text.specs.TextInfo.{info_of};
@@ -11,6 +13,7 @@ ghost use Rattle.rope_part.specs.Part.{text_of};
 ghost use Rattle.rope_cursor.specs.Gap.{before_byte, after_byte, AreChunks, IsBetween, PassesLine, PassesBack};
 
 use crate::cuts::{byte_len_of, text_after, text_before};
+use crate::scan::to_first_break;
 use crate::span::Span;
 use rope_part::Part;
 use rope_text::crlf::prev_break;
@@ -38,33 +41,46 @@ impl<'a> Model for Gap<'a> {
     ghost invariant = { λ a. IsGap a.span a.inside };
 }
 
-// How many line breaks the first line has, which ends at a byte: one, but for a line that has none and ends with the text.
-fn breaks_of_line(text: &str, end: usize, set: LineBreaks) -> usize
-    requires { end ≡ byte_len (first_line set (chars text.now)) }
-    ensures { result ≡ break_count set (first_line set (chars text.now)) }
+// How many bytes the character has that begins with a byte.
+#[inline(always)]
+fn width_of(byte: u8) -> usize
+    ensures { result ≡ char_width byte }
 {
-    if end < byte_len_of(text) {
-        1
-    } else {
-        count_breaks(text, set)
+    match byte {
+        0..=0x7F => 1,
+        0x80..=0xDF => 2,
+        0xE0..=0xEF => 3,
+        0xF0..=0xFF => 4,
     }
 }
 
-// The counts of a text up to the end of its first line break, or of all of it. They are taken in the text, since one that is
-// cut short has more bytes in no whole block.
+// The counts of a text up to the end of its first line break, or of all of it: the text is gone over once, up to there.
+// Inlined, since what a call answers through memory has to be waited for.
+#[inline(always)]
 fn count_line(text: &str, set: LineBreaks) -> TextInfo
     ensures { result ≡ info_of set (first_line set (chars text.now)) }
 {
-    let end = line_to_byte_with(text, 1, set);
+    let bytes = text.as_bytes();
+    let front = to_first_break(bytes, set);
+    if front.bytes == bytes.len() {
+        return TextInfo {
+            bytes: front.bytes,
+            chars: front.chars,
+            utf16_surrogates: front.pairs,
+            line_breaks: 0,
+        };
+    }
     TextInfo {
-        bytes: end,
-        chars: byte_to_char_idx(text, end),
-        utf16_surrogates: byte_to_surrogates(text, end),
-        line_breaks: breaks_of_line(text, end, set),
+        bytes: front.bytes + width_of(bytes[front.bytes]),
+        chars: front.chars + 1,
+        utf16_surrogates: front.pairs,
+        line_breaks: 1,
     }
 }
 
-// From the end of a chunk to the end of a line: the place in the last chunk, and the counts of what was passed.
+// From the end of a chunk to the end of a line: the place in the last chunk, and the counts of what was passed. Never
+// inlined, so that a step within one chunk is kept short.
+#[inline(never)]
 fn pass_chunks(span: &mut Span<'_>, set: LineBreaks) -> (usize, TextInfo)
     requires { AreChunks span.old }
     ensures { PassesLine set (concat span.old.before ++ span.old.here) (concat span.old.after) span.new result.0 result.1 }
@@ -81,7 +97,7 @@ fn pass_chunks(span: &mut Span<'_>, set: LineBreaks) -> (usize, TextInfo)
 }
 
 // Where the last line of a text is looked for first: so many bytes before its end.
-const NEAR_BYTES: usize = 192;
+const NEAR_BYTES: usize = 64;
 
 // A place of a text at or before a byte, so many bytes before it or more, in no CR LF.
 fn cut_before(text: &str, end: usize, near: usize) -> usize
@@ -139,6 +155,17 @@ fn count_front(text: &str, bytes: usize, line_breaks: usize, set: LineBreaks) ->
     }
 }
 
+// The byte at which a line of a text starts. Mostly it is the second line, since so little text is looked at.
+fn start_of_line(text: &str, line_idx: usize, set: LineBreaks) -> usize
+    ensures { result ≡ line_to_byte set (chars text.now) line_idx }
+{
+    if line_idx == 1 {
+        let first = count_line(text, set);
+        return first.bytes;
+    }
+    line_to_byte_with(text, line_idx, set)
+}
+
 // What `count_last` answers of a text's front, where it is found in the bytes near the front's end. What follows the front
 // helps to count, since whole blocks are counted at once.
 fn find_last(
@@ -161,14 +188,14 @@ fn find_last(
     let len = end - cut;
     let breaks = byte_to_line_with(near, len, set);
     if breaks > skip {
-        let start = line_to_byte_with(near, breaks - skip, set);
+        let start = start_of_line(near, breaks - skip, set);
         let info = count_front(text_after(near, start), len - start, skip, set);
         return Some((cut + start, info));
     }
     None
 }
 
-// What `count_last` answers of a text's front. It is looked for near the front's end, and then in four times as many bytes,
+// What `count_last` answers of a text's front. It is looked for near the front's end, and then in twice as many bytes,
 // so a line costs its own length, however long the text is before it.
 fn count_last_before(text: &str, end: usize, skip: usize, set: LineBreaks) -> (usize, TextInfo)
     requires between { IsBetween (chars text.now) end }
@@ -184,7 +211,7 @@ fn count_last_before(text: &str, end: usize, skip: usize, set: LineBreaks) -> (u
         if near >= end {
             return count_last_of_all(text_before(text, end), skip, set);
         }
-        near = near.saturating_mul(4);
+        near = near.saturating_mul(2);
     }
 }
 

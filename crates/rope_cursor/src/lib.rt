@@ -12,6 +12,7 @@ pub mod lines;
 pub mod path;
 pub mod pieces;
 mod point;
+mod scan;
 pub mod span;
 mod walk;
 

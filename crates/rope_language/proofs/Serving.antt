@@ -50,6 +50,19 @@ PutsRun-both r s t o p q a b c x y = record {
   put = subst (Puts o q a c) (sym (flat_map-append reply_line x.replies y.replies)) (Puts-both o p q a b c (reply_lines x.replies) (reply_lines y.replies) x.put y.put);
 }
 
+-- what was gathered is written behind a run
+pub PutsRun-on : (r s : List Content) (o p q : Option (List ℕ)) (a b c : List ℕ) → PutsRun r s o p a b → Puts p q b c [] → PutsRun r s o q a c
+PutsRun-on r s o p q a b c x y = record {
+  commands = x.commands;
+  replies = x.replies;
+  run = x.run;
+  put = subst (Puts o q a c) (append-nil (reply_lines x.replies)) (Puts-both o p q a b c (reply_lines x.replies) [] x.put y);
+}
+
+-- nothing was written behind a run
+pub PutsRun-kept : (r s : List Content) (o p q : Option (List ℕ)) (a b c : List ℕ) → PutsRun r s o p a b → q ≡ p → c ≡ b → PutsRun r s o q a c
+PutsRun-kept r s o p q a b c x e f = subst (λ z. PutsRun r s o z a c) (sym e) (subst (λ z. PutsRun r s o p a z) (sym f) x)
+
 -- one command was run, and what was written for its replies was put
 pub PutsRun-ran : (r s : List Content) (o p : Option (List ℕ)) (a b : List ℕ) (commands : List Command) (replies : List Reply) (bytes : List ℕ)
     → Ran r commands [] replies s → bytes ≡ reply_lines replies → Puts o p a b bytes → PutsRun r s o p a b

@@ -14,6 +14,8 @@ const OUTPUT_BYTES: usize = 8192;
 pub(crate) struct Output {
     buffer: [u8; OUTPUT_BYTES],
     filled: usize,
+    /// Whether no reply was put since the writer was flushed.
+    is_flushed: bool,
 }
 
 impl Model for Output {
@@ -34,6 +36,7 @@ impl Output {
         Output {
             buffer: [0; OUTPUT_BYTES],
             filled: 0,
+            is_flushed: true,
         }
     }
 
@@ -61,6 +64,7 @@ impl Output {
         let end = self.filled + reply.len();
         self.buffer[self.filled..end].copy_from_slice(reply);
         self.filled = end;
+        self.is_flushed = false;
     }
 
     /// Writes what was gathered, once: after an error nothing of it is written again.
@@ -71,14 +75,21 @@ impl Output {
         let gathered = &self.buffer[..self.filled];
         let result = writer.write_all(gathered);
         self.filled = 0;
+        self.is_flushed = false;
         result
     }
 
-    /// Writes what was gathered, and flushes the writer.
+    /// Writes what was gathered, and flushes the writer, unless no reply was put since it was flushed.
     pub(crate) fn flush<W: Write>(&mut self, writer: &mut W) -> io::Result<()>
-        ensures { OnOk result (Appends (W.contents writer.old) (W.contents writer.new) self.old) }
+        ensures written { OnOk result (Appends (W.contents writer.old) (W.contents writer.new) self.old) }
+        ensures empty { OnOk result (self.new ≡ []) }
     {
+        if self.filled == 0 && self.is_flushed {
+            return Ok(());
+        }
         self.write_gathered(writer)?;
-        writer.flush()
+        writer.flush()?;
+        self.is_flushed = true;
+        Ok(())
     }
 }

@@ -2,7 +2,7 @@
 ghost use Rattle.std.specs.Prelude.{◌≡◌, ◌≢◌, ◌≤◌, List, [], false, IfOk, IfErr, OnOk};
 ghost use Rattle.std.specs.Io.KnownBytes.{IsAtEnd};
 ghost use Rattle.rope_text.specs.Content.{Content};
-ghost use Rattle.rope_language.specs.Serving.{PutsRun, WritesReplies};
+ghost use Rattle.rope_language.specs.Serving.{Puts, PutsRun, WritesReplies};
 
 use crate::language::parse;
 use crate::output::Output;
@@ -60,6 +60,9 @@ impl From<io::Error> for Fault {
 /// ends the run, and so does a refusal of memory for a line or its reply, and a read or a write that
 /// failed. The replies to the lines before it are written and flushed, unless it is a write that
 /// failed. A line past number `u64::MAX` is a bad line of that number.
+///
+/// Before each read all replies so far are written and flushed, so whoever waits for a reply before
+/// the next line is sent gets it.
 pub fn serve<R: Read, W: Write>(alloc: Global, reader: &mut R, writer: &mut W) -> Ended
     ensures done { result ≡ Ended.Done → IsAtEnd (R.remaining reader.new) }
     ensures written { result ≢ Ended.Failed → WritesReplies (W.contents writer.old) (W.contents writer.new) }
@@ -99,7 +102,7 @@ fn answer_lines<R: Read, W: Write>(
     let mut input = Input::new();
     let mut line = Vec::new(alloc);
     for earlier in 0..u64::MAX {
-        match input.next_line(reader, &mut line) {
+        match input.next_line(reader, &mut line, writer, output) {
             Ok(true) => {}
             Ok(false) => return Ended::Done,
             Err(fault) => return end_of(fault, earlier + 1),
@@ -108,7 +111,7 @@ fn answer_lines<R: Read, W: Write>(
             return end_of(fault, earlier + 1);
         }
     }
-    match input.next_line(reader, &mut line) {
+    match input.next_line(reader, &mut line, writer, output) {
         Ok(true) => Ended::BadLine(u64::MAX),
         Ok(false) => Ended::Done,
         Err(fault) => end_of(fault, u64::MAX),
@@ -168,28 +171,49 @@ impl Input {
     }
 
     /// Reads the next line, without its LF. There is none at the end of the input.
-    fn next_line<R: Read>(&mut self, reader: &mut R, line: &mut Vec<u8>) -> Result<bool, Fault>
+    ///
+    /// A read may wait for one who waits for the replies, so these are written and flushed before it.
+    fn next_line<R: Read, W: Write>(
+        &mut self,
+        reader: &mut R,
+        line: &mut Vec<u8>,
+        writer: &mut W,
+        output: &mut Output,
+    ) -> Result<bool, Fault>
         ensures end { IfOk result (λ found. found ≡ false → IsAtEnd (R.remaining reader.new)) }
+        ensures put { OnOk result (Puts (W.contents writer.old) (W.contents writer.new) output.old
+            output.new []) }
+        ensures kept { IfErr result (λ fault. fault ≢ Fault.Failed → Puts (W.contents writer.old)
+            (W.contents writer.new) output.old output.new []) }
     {
         line.clear();
         for _ in 0..u64::MAX {
-            if self.start == self.end && !self.fill(reader)? {
-                return Ok(!line.is_empty());
+            if self.take_line(line)? {
+                return Ok(true);
             }
-            let held = &self.buffer[self.start..self.end];
-            match held.iter().position(|byte| *byte == b'\n') {
-                Some(at) => {
-                    line.extend_from_slice(&held[..at])?;
-                    self.start += at + 1;
-                    return Ok(true);
-                }
-                None => {
-                    line.extend_from_slice(held)?;
-                    self.start = self.end;
-                }
+            output.flush(writer)?;
+            if !self.fill(reader)? {
+                return Ok(!line.is_empty());
             }
         }
         Err(Fault::OutOfMemory)
+    }
+
+    /// Adds what was read of a line to it, and answers whether that is all of the line.
+    fn take_line(&mut self, line: &mut Vec<u8>) -> Result<bool, AllocError> {
+        let held = &self.buffer[self.start..self.end];
+        match held.iter().position(|byte| *byte == b'\n') {
+            Some(at) => {
+                line.extend_from_slice(&held[..at])?;
+                self.start += at + 1;
+                Ok(true)
+            }
+            None => {
+                line.extend_from_slice(held)?;
+                self.start = self.end;
+                Ok(false)
+            }
+        }
     }
 
     /// Reads once, and answers whether any bytes came.

@@ -1,5 +1,6 @@
-//! Readers that give a few bytes at once, and writers with little room.
+//! Readers that give a few bytes at once, writers with little room, and both ends of a talk.
 use std::alloc::Global;
+use std::cell::Cell;
 use std::io::{self, ErrorKind, Read, Write};
 
 /// Gives a few bytes a read. At their end it fails, or tells the end.
@@ -60,6 +61,71 @@ impl Write for Narrow {
             return Err(io::Error::from(ErrorKind::Other));
         }
         self.is_flushed = true;
+        Ok(())
+    }
+}
+
+/// Gives one part a read, and notes at each read how many replies had been flushed by then.
+#[derive(Drop)]
+pub struct Asking<'a> {
+    parts: &'a [&'a str],
+    given: usize,
+    flushed: &'a Cell<usize>,
+    pub seen: Vec<usize>,
+}
+
+impl<'a> Asking<'a> {
+    /// Each part has at most as many bytes as are read at once.
+    pub fn new(alloc: Global, parts: &'a [&'a str], flushed: &'a Cell<usize>) -> Asking<'a> {
+        Asking {
+            parts,
+            given: 0,
+            flushed,
+            seen: Vec::new(alloc),
+        }
+    }
+}
+
+impl Read for Asking<'_> {
+    fn read(&mut self, buf: &mut [u8]) -> io::Result<usize> {
+        self.seen.push(self.flushed.get())?;
+        let Some(part) = self.parts.get(self.given) else {
+            return Ok(0);
+        };
+        if part.len() > buf.len() {
+            return Err(io::Error::from(ErrorKind::InvalidInput));
+        }
+        buf[..part.len()].copy_from_slice(part.as_bytes());
+        self.given = self.given.saturating_add(1);
+        Ok(part.len())
+    }
+}
+
+/// Counts the replies that were written, and tells them where it is flushed.
+#[derive(Drop)]
+pub struct Telling<'a> {
+    written: usize,
+    flushed: &'a Cell<usize>,
+}
+
+impl<'a> Telling<'a> {
+    pub fn new(flushed: &'a Cell<usize>) -> Telling<'a> {
+        Telling {
+            written: 0,
+            flushed,
+        }
+    }
+}
+
+impl Write for Telling<'_> {
+    fn write(&mut self, buf: &[u8]) -> io::Result<usize> {
+        let lines = buf.iter().filter(|byte| **byte == b'\n').count();
+        self.written = self.written.saturating_add(lines);
+        Ok(buf.len())
+    }
+
+    fn flush(&mut self) -> io::Result<()> {
+        self.flushed.set(self.written);
         Ok(())
     }
 }

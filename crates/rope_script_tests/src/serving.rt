@@ -1,7 +1,8 @@
 //! Lines that come in parts, devices that fail, and how a run ends.
-use crate::devices::{Dripping, Narrow};
+use crate::devices::{Asking, Dripping, Narrow, Telling};
 use crate::served::told;
 use rope_language::{Ended, serve};
+use std::cell::Cell;
 use std::test::Fail;
 
 #[test]
@@ -150,5 +151,30 @@ fn reply_longer_than_what_is_gathered(rt: HostRuntime) -> Result<(), Fail> {
     let (ended, written) = told(rt.alloc(), input.as_bytes(), 4096)?;
     assert_eq!(rt; ended, Ended::Done);
     assert_eq!(rt; written.as_str(), output.as_str());
+    Ok(())
+}
+
+#[test]
+fn replies_come_before_the_next_read(rt: HostRuntime) -> Result<(), Fail> {
+    let long = "text a\nlen 0\n";
+    for (parts, seen) in [
+        (
+            &["text a\n", "len 0\n", "show 0\n"] as &[&str],
+            &[0usize, 1, 2, 3] as &[usize],
+        ),
+        (
+            &["text a\nlen 0\nsh", "ow", " 0\nlen 0", "\n"],
+            &[0, 2, 2, 3, 4],
+        ),
+        (&["\n", "len 0\n"], &[0]),
+        (&["len 0\nfrob\n", "len 0\n"], &[0]),
+        (&[long, long, "len 0"], &[0, 2, 4, 4, 5]),
+    ] {
+        let flushed = Cell::new(0usize);
+        let mut reader = Asking::new(rt.alloc(), parts, &flushed);
+        let mut writer = Telling::new(&flushed);
+        serve(rt.alloc(), &mut reader, &mut writer);
+        assert_eq!(rt; reader.seen.as_slice(), seen);
+    }
     Ok(())
 }

@@ -11,6 +11,16 @@ pub(crate) fn ones_before(mask: u64, n: usize) -> usize
     (mask & ((1 << n) - 1)).count_ones() as usize
 }
 
+/// How many of the bytes from `from` on and before `to` have a mark.
+#[inline(always)]
+pub(crate) fn ones_between(mask: u64, from: usize, to: usize) -> usize
+    requires from { from ≤ to }
+    requires to { to ≤ 32 }
+    ensures { ones_below mask to ≡ ones_below mask from + result }
+{
+    ones_before(mask >> from, to - from)
+}
+
 /// The byte with the mark `n` of two masks, counted from 0: it has at most `n` marks before it.
 #[inline(always)]
 pub(crate) fn place_of_mark(first: u64, second: u64, n: usize) -> usize

@@ -1,10 +1,10 @@
 //! Counts over the bytes of a text, 32 bytes at once.
-ghost use Rattle.std.specs.Prelude.{◌≡◌, ◌+◌, ◌<◌, ◌≤◌, length, count_by, drop, slice_index, ℕ};
+ghost use Rattle.std.specs.Prelude.{◌≡◌, ◌+◌, ◌-◌, ◌<◌, ◌≤◌, length, count_by, drop, slice_index, ℕ};
 ghost use Rattle.rope_text.specs.Bits.{ones_below};
 ghost use Rattle.rope_text.specs.Bytes.{begins_char, begins_pair};
 ghost use Rattle.rope_text.specs.ByteBreaks.{break_at, byte_breaks, unit_count};
 
-use crate::bits::ones_before;
+use crate::bits::{ones_before, ones_between};
 use crate::line_breaks::LineBreaks;
 use std::simd::prelude::*;
 
@@ -67,6 +67,23 @@ fn unicode_mask(bytes: &[u8], at: usize) -> u64
     (low | (nel | wide)).to_bitmask()
 }
 
+// Two of the three masks are not expanded where they are chosen: the compiler would take all three apart, bit by bit.
+#[inline(never)]
+fn lf_mask_apart(bytes: &[u8], at: usize) -> u64
+    requires { at + 34 ≤ length bytes.now }
+    ensures { (n : ℕ) → n ≤ 32 → byte_breaks LineBreaks.Lf (drop at bytes.now) ≡ ones_below result n + byte_breaks LineBreaks.Lf (drop (at + n) bytes.now) }
+{
+    lf_mask(bytes, at)
+}
+
+#[inline(never)]
+fn cr_lf_mask_apart(bytes: &[u8], at: usize) -> u64
+    requires { at + 34 ≤ length bytes.now }
+    ensures { (n : ℕ) → n ≤ 32 → byte_breaks LineBreaks.CrLf (drop at bytes.now) ≡ ones_below result n + byte_breaks LineBreaks.CrLf (drop (at + n) bytes.now) }
+{
+    cr_lf_mask(bytes, at)
+}
+
 // The bytes, of the 32 from `at` on, at which a break begins: loads one and two bytes on see across the end of the block.
 #[inline(always)]
 pub(crate) fn break_mask(bytes: &[u8], at: usize, set: LineBreaks) -> u64
@@ -74,8 +91,8 @@ pub(crate) fn break_mask(bytes: &[u8], at: usize, set: LineBreaks) -> u64
     ensures { (n : ℕ) → n ≤ 32 → byte_breaks set (drop at bytes.now) ≡ ones_below result n + byte_breaks set (drop (at + n) bytes.now) }
 {
     match set {
-        LineBreaks::Lf => lf_mask(bytes, at),
-        LineBreaks::CrLf => cr_lf_mask(bytes, at),
+        LineBreaks::Lf => lf_mask_apart(bytes, at),
+        LineBreaks::CrLf => cr_lf_mask_apart(bytes, at),
         LineBreaks::Unicode => unicode_mask(bytes, at),
     }
 }
@@ -89,6 +106,16 @@ pub(crate) fn chars_in(bytes: &[u8], at: usize) -> usize
     ones_before(char_mask(bytes, at), 32)
 }
 
+// How many of the 64 bytes from `at` on begin a character.
+#[tactic(auto, using(crate::proofs::Blocks::begins_le))]
+#[inline(always)]
+pub(crate) fn chars_in_two(bytes: &[u8], at: usize) -> usize
+    requires { at + 64 ≤ length bytes.now }
+    ensures { count_by begins_char (drop at bytes.now) ≡ result + count_by begins_char (drop (at + 64) bytes.now) }
+{
+    chars_in(bytes, at) + chars_in(bytes, at + 32)
+}
+
 // How many of the 32 bytes from `at` on begin a character of two code units.
 #[inline(always)]
 pub(crate) fn pairs_in(bytes: &[u8], at: usize) -> usize
@@ -96,6 +123,15 @@ pub(crate) fn pairs_in(bytes: &[u8], at: usize) -> usize
     ensures { count_by begins_pair (drop at bytes.now) ≡ result + count_by begins_pair (drop (at + 32) bytes.now) }
 {
     ones_before(pair_mask(bytes, at), 32)
+}
+
+// Apart, so that the loops over blocks that have none of its bytes stay short.
+#[inline(never)]
+fn wide_breaks_in(bytes: &[u8], at: usize) -> usize
+    requires { at + 34 ≤ length bytes.now }
+    ensures { byte_breaks LineBreaks.Unicode (drop at bytes.now) ≡ result + byte_breaks LineBreaks.Unicode (drop (at + 32) bytes.now) }
+{
+    ones_before(unicode_mask(bytes, at), 32)
 }
 
 #[inline(always)]
@@ -108,7 +144,7 @@ fn unicode_breaks_in(bytes: &[u8], at: usize) -> usize
     // Most blocks have none of the bytes C2 and E2, which begin NEL, LS and PS.
     let wide_begin = (x & u8x32::splat(0xDF)).simd_eq(u8x32::splat(0xC2));
     if wide_begin.to_bitmask() != 0 {
-        return ones_before(unicode_mask(bytes, at), 32);
+        return wide_breaks_in(bytes, at);
     }
     let most = y
         .simd_eq(u8x32::splat(b'\n'))
@@ -184,15 +220,17 @@ fn breaks_byte_by_byte(bytes: &[u8], from: usize, to: usize, set: LineBreaks) ->
     total
 }
 
-// The breaks that begin from `from` on and before `to`, at once where both lie in one block.
+// The breaks that begin from `from` on and before `to`, at once where they are few: near the end of the bytes by the last
+// block that can be read, without what it has before `from`.
 #[inline(always)]
-fn breaks_between(bytes: &[u8], from: usize, to: usize, set: LineBreaks) -> usize
+pub(crate) fn breaks_between(bytes: &[u8], from: usize, to: usize, set: LineBreaks) -> usize
     requires from { from ≤ to }
     requires to { to ≤ length bytes.now }
     ensures { byte_breaks set (drop from bytes.now) ≡ result + byte_breaks set (drop to bytes.now) }
 {
-    if to - from <= 32 && bytes.len() - from >= 34 {
-        return ones_before(break_mask(bytes, from, set), to - from);
+    if to - from <= 32 && bytes.len() >= 34 && to <= bytes.len() - 2 {
+        let at = from.min(bytes.len() - 34);
+        return ones_between(break_mask(bytes, at, set), from - at, to - at);
     }
     breaks_byte_by_byte(bytes, from, to, set)
 }
@@ -210,8 +248,9 @@ pub(crate) fn begins_between(bytes: &[u8], from: usize, to: usize) -> usize
     requires to { to ≤ length bytes.now }
     ensures { count_by begins_char (drop from bytes.now) ≡ result + count_by begins_char (drop to bytes.now) }
 {
-    if to - from <= 32 && bytes.len() - from >= 32 {
-        return ones_before(char_mask(bytes, from), to - from);
+    if to - from <= 32 && bytes.len() >= 32 {
+        let at = from.min(bytes.len() - 32);
+        return ones_between(char_mask(bytes, at), from - at, to - at);
     }
     begins_byte_by_byte(&bytes[from..to])
 }
@@ -229,8 +268,9 @@ fn pairs_between(bytes: &[u8], from: usize, to: usize) -> usize
     requires to { to ≤ length bytes.now }
     ensures { count_by begins_pair (drop from bytes.now) ≡ result + count_by begins_pair (drop to bytes.now) }
 {
-    if to - from <= 32 && bytes.len() - from >= 32 {
-        return ones_before(pair_mask(bytes, from), to - from);
+    if to - from <= 32 && bytes.len() >= 32 {
+        let at = from.min(bytes.len() - 32);
+        return ones_between(pair_mask(bytes, at), from - at, to - at);
     }
     pairs_byte_by_byte(&bytes[from..to])
 }
@@ -289,8 +329,8 @@ pub(crate) fn count_units(bytes: &[u8]) -> usize
         total += chars_in(bytes, i) + pairs_in(bytes, i);
         i += 32;
     }
-    let rest = &bytes[i..];
-    total + count_begins(rest) + count_pairs(rest)
+    let end = bytes.len();
+    total + begins_between(bytes, i, end) + pairs_between(bytes, i, end)
 }
 
 /// How many breaks begin before the byte `to`.
@@ -307,5 +347,46 @@ pub(crate) fn count_breaks_before(bytes: &[u8], to: usize, set: LineBreaks) -> u
         total += breaks_in(bytes, i, set);
         i += 32;
     }
-    total + breaks_between(bytes, i, to, set)
+    total += breaks_between(bytes, i, end, set);
+    total + breaks_byte_by_byte(bytes, end, to, set)
+}
+
+// The counts of whole blocks: their end, the characters in them, those of two code units, and the breaks.
+#[tactic(auto, using(crate::proofs::Blocks::begins_le, crate::proofs::Blocks::pairs_le, crate::proofs::Blocks::byte_breaks_le))]
+#[inline(always)]
+fn count_blocks(bytes: &[u8], set: LineBreaks) -> (usize, usize, usize, usize)
+    ensures bound { result.0 ≤ length bytes.now }
+    ensures chars { count_by begins_char bytes.now ≡ result.1 + count_by begins_char (drop result.0 bytes.now) }
+    ensures pairs { count_by begins_pair bytes.now ≡ result.2 + count_by begins_pair (drop result.0 bytes.now) }
+    ensures breaks { byte_breaks set bytes.now ≡ result.3 + byte_breaks set (drop result.0 bytes.now) }
+{
+    let mut chars = 0;
+    let mut pairs = 0;
+    let mut breaks = 0;
+    let mut i = 0;
+    while bytes.len() - i >= 34 {
+        chars += chars_in(bytes, i);
+        pairs += pairs_in(bytes, i);
+        breaks += breaks_in(bytes, i, set);
+        i += 32;
+    }
+    (i, chars, pairs, breaks)
+}
+
+/// How many characters the bytes begin, how many of two code units, and how many breaks, by one pass.
+#[tactic(auto, using(crate::proofs::Blocks::begins_le, crate::proofs::Blocks::pairs_le, crate::proofs::Blocks::byte_breaks_le))]
+pub(crate) fn count_all(bytes: &[u8], set: LineBreaks) -> (usize, usize, usize)
+    ensures chars { result.0 ≡ count_by begins_char bytes.now }
+    ensures pairs { result.1 ≡ count_by begins_pair bytes.now }
+    ensures breaks { byte_breaks set bytes.now ≡ result.2 + byte_breaks set (drop (length bytes.now) bytes.now) }
+{
+    let (i, chars, pairs, breaks) = count_blocks(bytes, set);
+    let end = bytes.len();
+    let last = i.max(end.saturating_sub(2));
+    let more = breaks_between(bytes, i, last, set) + breaks_byte_by_byte(bytes, last, end, set);
+    (
+        chars + begins_between(bytes, i, end),
+        pairs + pairs_between(bytes, i, end),
+        breaks + more,
+    )
 }

@@ -7,12 +7,14 @@ ghost use Rattle.rope_text.specs.ByteBreaks.{break_at, byte_breaks, unit_count};
 
 use crate::bits::{ones_before, place_of_mark};
 use crate::lanes::{
-    begins_between, break_mask, breaks_in, char_mask, chars_in, is_break_begin, pair_mask,
+    begins_between, break_mask, breaks_between, breaks_in, char_mask, chars_in, chars_in_two,
+    is_break_begin, pair_mask,
 };
 use crate::line_breaks::LineBreaks;
 
 fn find_char(bytes: &[u8], from: usize, n: usize) -> usize
     requires { from ≤ length bytes.now }
+    ensures from { from ≤ result }
     ensures bound { result ≤ length bytes.now }
     ensures inside { result < length bytes.now
         → (count_by begins_char (drop from bytes.now) ≡ n + count_by begins_char (drop result bytes.now))
@@ -32,6 +34,25 @@ fn find_char(bytes: &[u8], from: usize, n: usize) -> usize
     bytes.len()
 }
 
+// The pairs of blocks before the character `n`: their end, and which character it is from there on.
+#[inline(always)]
+fn skip_chars(bytes: &[u8], n: usize) -> (usize, usize)
+    ensures bound { result.0 ≤ length bytes.now }
+    ensures counted { count_by begins_char bytes.now + result.1 ≡ n + count_by begins_char (drop result.0 bytes.now) }
+{
+    let mut at = 0;
+    let mut left = n;
+    while bytes.len() - at >= 64 {
+        let passed = chars_in_two(bytes, at);
+        if left < passed {
+            return (at, left);
+        }
+        left -= passed;
+        at += 64;
+    }
+    (at, left)
+}
+
 /// The byte at which the character `n` begins.
 pub(crate) fn place_of_char(bytes: &[u8], n: usize) -> usize
     ensures bound { result ≤ length bytes.now }
@@ -40,8 +61,9 @@ pub(crate) fn place_of_char(bytes: &[u8], n: usize) -> usize
         × IsTrue (begins_char (slice_index bytes.now result)) }
     ensures end { result ≡ length bytes.now → count_by begins_char bytes.now ≤ n }
 {
-    let mut at = 0;
-    let mut left = n;
+    let (from, more) = skip_chars(bytes, n);
+    let mut at = from;
+    let mut left = more;
     while bytes.len() - at >= 32 {
         let mask = char_mask(bytes, at);
         let passed = ones_before(mask, 32);
@@ -52,6 +74,64 @@ pub(crate) fn place_of_char(bytes: &[u8], n: usize) -> usize
         at += 32;
     }
     find_char(bytes, at, left)
+}
+
+// The blocks before the character `n`: their end, which character it is from there on, and the breaks in them.
+#[tactic(auto, using(crate::proofs::Blocks::byte_breaks_le))]
+#[inline(always)]
+fn skip_chars_with_breaks(bytes: &[u8], n: usize, set: LineBreaks) -> (usize, usize, usize)
+    ensures bound { result.0 ≤ length bytes.now }
+    ensures counted { count_by begins_char bytes.now + result.1 ≡ n + count_by begins_char (drop result.0 bytes.now) }
+    ensures breaks { byte_breaks set bytes.now ≡ result.2 + byte_breaks set (drop result.0 bytes.now) }
+{
+    let mut at = 0;
+    let mut left = n;
+    let mut breaks = 0;
+    while bytes.len() - at >= 34 {
+        let passed = chars_in(bytes, at);
+        if left < passed {
+            return (at, left, breaks);
+        }
+        left -= passed;
+        breaks += breaks_in(bytes, at, set);
+        at += 32;
+    }
+    (at, left, breaks)
+}
+
+#[inline(always)]
+fn find_char_near(bytes: &[u8], from: usize, n: usize) -> usize
+    requires { from ≤ length bytes.now }
+    ensures from { from ≤ result }
+    ensures bound { result ≤ length bytes.now }
+    ensures inside { result < length bytes.now
+        → (count_by begins_char (drop from bytes.now) ≡ n + count_by begins_char (drop result bytes.now))
+        × IsTrue (begins_char (slice_index bytes.now result)) }
+    ensures end { result ≡ length bytes.now → count_by begins_char (drop from bytes.now) ≤ n }
+{
+    if bytes.len() - from >= 32 {
+        let mask = char_mask(bytes, from);
+        if n < ones_before(mask, 32) {
+            return from + place_of_mark(mask, 0, n);
+        }
+    }
+    find_char(bytes, from, n)
+}
+
+/// The byte at which the character `n` begins, and how many breaks begin before it.
+#[tactic(auto, using(crate::proofs::Blocks::byte_breaks_le))]
+#[inline(always)]
+pub(crate) fn line_of_char(bytes: &[u8], n: usize, set: LineBreaks) -> (usize, usize)
+    ensures bound { result.0 ≤ length bytes.now }
+    ensures inside { result.0 < length bytes.now
+        → (count_by begins_char bytes.now ≡ n + count_by begins_char (drop result.0 bytes.now))
+        × IsTrue (begins_char (slice_index bytes.now result.0)) }
+    ensures end { result.0 ≡ length bytes.now → count_by begins_char bytes.now ≤ n }
+    ensures breaks { byte_breaks set bytes.now ≡ result.1 + byte_breaks set (drop result.0 bytes.now) }
+{
+    let (from, left, before) = skip_chars_with_breaks(bytes, n, set);
+    let to = find_char_near(bytes, from, left);
+    (to, before + breaks_between(bytes, from, to, set))
 }
 
 fn find_unit(bytes: &[u8], from: usize, n: usize) -> usize

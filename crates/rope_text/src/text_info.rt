@@ -3,9 +3,8 @@ ghost use Rattle.std.specs.Prelude.{◌≡◌, ◌+◌, ◌<◌, ◌≤◌, ◌^
 ghost use Rattle.std.specs.Str.{chars, IsCharBoundary};
 ghost use Rattle.rope_text.specs.TextInfo.{info_of, info_sum};
 
-use crate::crlf::prev_break;
 use crate::line_breaks::LineBreaks;
-use crate::str_utils::{count_breaks, count_chars, count_surrogates};
+use crate::str_utils::counts;
 
 /// What a text counts.
 // The bytes stand last: in a leaf they then lie beside the text, and a walk over leaves reads both at once.
@@ -19,49 +18,6 @@ pub struct TextInfo {
     pub line_breaks: usize,
     /// The bytes.
     pub bytes: usize,
-}
-
-// A text is gone over once for each count, so a longer one is counted in blocks: each is still near after its first count.
-const BLOCK_BYTES: usize = 16_384;
-
-// The counts of a text, each by itself.
-fn of_block(text: &str, set: LineBreaks) -> TextInfo
-    ensures { result ≡ info_of set (chars text.now) }
-{
-    TextInfo {
-        bytes: text.len(),
-        chars: count_chars(text),
-        utf16_surrogates: count_surrogates(text),
-        line_breaks: count_breaks(text, set),
-    }
-}
-
-// Where a text of more than a block is cut, so that the counts of its two parts add up.
-fn block_len(text: &str) -> usize
-    requires { 16384 < length text.now }
-    ensures boundary { IsCharBoundary text.now result }
-    ensures some { 0 < result }
-    ensures within { result ≤ length text.now }
-    ensures parted { (set : LineBreaks) → info_of set (chars text.now)
-        ≡ info_sum (info_of set (chars (take result text.now))) (info_of set (chars (drop result text.now))) }
-{
-    prev_break(text.as_bytes(), BLOCK_BYTES)
-}
-
-// The counts of a text, block by block.
-#[inline(never)]
-fn by_blocks(text: &str, set: LineBreaks) -> TextInfo
-    requires fits { length text.now < 2 ^ 63 }
-    ensures { result ≡ info_of set (chars text.now) }
-{
-    let mut info = TextInfo::new();
-    let mut rest = text;
-    while rest.len() > BLOCK_BYTES {
-        let at = block_len(rest);
-        info = info.plus(of_block(&rest[..at], set));
-        rest = &rest[at..];
-    }
-    info.plus(of_block(rest, set))
 }
 
 impl TextInfo {
@@ -83,10 +39,13 @@ impl TextInfo {
     pub fn from_str(text: &str, set: LineBreaks) -> TextInfo
         ensures { result ≡ info_of set (chars text.now) }
     {
-        if text.as_bytes().len() > BLOCK_BYTES {
-            return by_blocks(text, set);
+        let (chars, pairs, breaks) = counts(text, set);
+        TextInfo {
+            bytes: text.len(),
+            chars,
+            utf16_surrogates: pairs,
+            line_breaks: breaks,
         }
-        of_block(text, set)
     }
 
     /// The sums: the counts of two texts joined, unless CR meets LF there.

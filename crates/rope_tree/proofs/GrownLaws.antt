@@ -136,8 +136,8 @@ pub inner_of : (a : Inside) (t : Tree) (ts : List Tree) → IsNode a → a.body 
 inner_of a t ts i e view =
     let body : IsBody a.breaks a.height (Inner ts) = subst (IsBody a.breaks a.height) e i.body in
     let some : 1 ≤ length ts = omega (arith, body.1.at_least_two) in
-    let whole : tree_of (record { height = a.height; breaks = a.breaks; info = a.info; body = Inner ts }) ≡ tree_over ts = tree_of_inner a.breaks a.height ts (length ts) body.0 body.1 refl in
-    let same : tree_of a ≡ tree_of (record { height = a.height; breaks = a.breaks; info = a.info; body = Inner ts }) = ap (λ b. tree_of (record { height = a.height; breaks = a.breaks; info = a.info; body = b })) e in
+    let whole : tree_of (record { height = a.height; breaks = a.breaks; body = Inner ts }) ≡ tree_over ts = tree_of_inner a.breaks a.height ts (length ts) body.0 body.1 refl in
+    let same : tree_of a ≡ tree_of (record { height = a.height; breaks = a.breaks; body = Inner ts }) = ap (λ b. tree_of (record { height = a.height; breaks = a.breaks; body = b })) e in
     record {
       is = sym view ∙ same ∙ whole;
       children = children_of_first a.breaks (a.height - 1) ts body.1;
@@ -146,75 +146,67 @@ inner_of a t ts i e view =
     }
 
 -- a node whose children were changed
-module _ (a : Inside) (t : Tree) (ts us : List Tree) (at : ℕ) (s : List ℕ) (f : IsInner a t ts) (g : AreGrown ts us (inserted (joined ts) at s)) (info : TextInfo) (counted : info ≡ info_of (breaks_of us) (joined us)) where
+module _ (a : Inside) (t : Tree) (ts us : List Tree) (at : ℕ) (s : List ℕ) (f : IsInner a t ts) (g : AreGrown ts us (inserted (joined ts) at s)) where
   below : AreChildren a.breaks (a.height - 1) us
   below =
       let e : height_of ts ≡ a.height - 1 = omega (arith, f.above) in
       rw (sym e, f.same_breaks) (children_grown ts us (inserted (joined ts) at s) f.children g)
 
-  pub inner_after : IsNode (record { height = a.height; breaks = a.breaks; info = info; body = Inner us })
-  inner_after =
-      let e : breaks_of us ≡ a.breaks = breaks_of_is a.breaks (a.height - 1) us (omega (arith, below.at_least_two)) below.each in
-      record {
-        body = (omega (arith, f.above), below);
-        counted = counted ∙ ap (λ b. info_of b (joined us)) e;
-      }
+  pub inner_after : IsNode (record { height = a.height; breaks = a.breaks; body = Inner us })
+  inner_after = record { body = (omega (arith, f.above), below) }
 
-  pub inner_inserted : IsInserted t (tree_of (record { height = a.height; breaks = a.breaks; info = info; body = Inner us }) ∷ []) (inserted (text t) at s)
+  pub inner_inserted : IsInserted t (tree_of (record { height = a.height; breaks = a.breaks; body = Inner us }) ∷ []) (inserted (text t) at s)
   inner_inserted =
-      node_grown t ts us at s f.is f.children g (tree_of (record { height = a.height; breaks = a.breaks; info = info; body = Inner us }))
+      node_grown t ts us at s f.is f.children g (tree_of (record { height = a.height; breaks = a.breaks; body = Inner us }))
       (tree_of_inner a.breaks a.height us (length us) (omega (arith, f.above)) below refl)
 
 -- a leaf with another text in place of its own
-module _ (a : Inside) (t : Tree) (l new : List ℕ) (i : IsNode a) (e : a.body ≡ Leaf l) (view : tree_of a ≡ t)
+module _ (a : Inside) (t : Tree) (n : TextInfo) (l new : List ℕ) (i : IsNode a) (e : a.body ≡ Leaf n l) (view : tree_of a ≡ t)
     (fits : byte_len new ≤ 984) (scalars : all_scalars new ≡ true) (info : TextInfo) (counted : info ≡ info_of a.breaks new) where
-  old_body : IsBody a.breaks a.height (Leaf l)
+  old_body : IsBody a.breaks a.height (Leaf n l)
   old_body = subst (IsBody a.breaks a.height) e i.body
 
-  pub leaf_with : IsNode (record { height = a.height; breaks = a.breaks; info = info; body = Leaf new })
-  leaf_with = record {
-    body = (old_body.0, fits, scalars);
-    counted = counted ∙ ap (info_of a.breaks) (sym (leaf_text new));
-  }
+  pub leaf_with : IsNode (record { height = a.height; breaks = a.breaks; body = Leaf info new })
+  leaf_with = record { body = (old_body.0, fits, scalars, counted) }
 
-  with_is : tree_of (record { height = a.height; breaks = a.breaks; info = info; body = Leaf new }) ≡ leaf_tree a.breaks new
+  with_is : tree_of (record { height = a.height; breaks = a.breaks; body = Leaf info new }) ≡ leaf_tree a.breaks new
   with_is = let low = old_body.0 in rw low refl
 
-  with_tree : IsTree (tree_of (record { height = a.height; breaks = a.breaks; info = info; body = Leaf new }))
-  with_tree = is_tree_of (record { height = a.height; breaks = a.breaks; info = info; body = Leaf new }) leaf_with
+  with_tree : IsTree (tree_of (record { height = a.height; breaks = a.breaks; body = Leaf info new }))
+  with_tree = is_tree_of (record { height = a.height; breaks = a.breaks; body = Leaf info new }) leaf_with
 
   was_is : t ≡ leaf_tree a.breaks l
   was_is =
       let low = old_body.0 in
-      let same : tree_of a ≡ tree_of (record { height = a.height; breaks = a.breaks; info = a.info; body = Leaf l }) = ap (λ b. tree_of (record { height = a.height; breaks = a.breaks; info = a.info; body = b })) e in
-      let old : tree_of (record { height = a.height; breaks = a.breaks; info = a.info; body = Leaf l }) ≡ leaf_tree a.breaks l = rw low refl in
+      let same : tree_of a ≡ tree_of (record { height = a.height; breaks = a.breaks; body = Leaf n l }) = ap (λ b. tree_of (record { height = a.height; breaks = a.breaks; body = b })) e in
+      let old : tree_of (record { height = a.height; breaks = a.breaks; body = Leaf n l }) ≡ leaf_tree a.breaks l = rw low refl in
       sym view ∙ same ∙ old
 
   module _ (at : ℕ) (s : List ℕ) where
-    pub with_inserted : new ≡ inserted l at s → 1 ≤ length s → IsInserted t (tree_of (record { height = a.height; breaks = a.breaks; info = info; body = Leaf new }) ∷ []) (inserted (text t) at s)
+    pub with_inserted : new ≡ inserted l at s → 1 ≤ length s → IsInserted t (tree_of (record { height = a.height; breaks = a.breaks; body = Leaf info new }) ∷ []) (inserted (text t) at s)
     with_inserted is some =
-        let x = tree_of (record { height = a.height; breaks = a.breaks; info = info; body = Leaf new }) in
+        let x = tree_of (record { height = a.height; breaks = a.breaks; body = Leaf info new }) in
         let text_is : text t ≡ l = ap text was_is ∙ leaf_text l in
         let ins : IsInserted (leaf_tree a.breaks l) (x ∷ []) (inserted l at s) = one_inserted a.breaks l new (inserted l at s) x with_is with_tree is (omega (arith, length-inserted l at s)) in
         rw (text_is, was_is) ins
 
     -- what does not fit in stands in another leaf behind
     pub with_parted : (back : List ℕ) (y : Tree) → y ≡ leaf_tree a.breaks back → IsTree y → new ++ back ≡ inserted l at s → (0 < length new) × (0 < length back) × (parts_crlf new back ≡ false)
-        → IsInserted t (tree_of (record { height = a.height; breaks = a.breaks; info = info; body = Leaf new }) ∷ y ∷ []) (inserted (text t) at s)
+        → IsInserted t (tree_of (record { height = a.height; breaks = a.breaks; body = Leaf info new }) ∷ y ∷ []) (inserted (text t) at s)
     with_parted back y y_is y_tree is some =
-        let x = tree_of (record { height = a.height; breaks = a.breaks; info = info; body = Leaf new }) in
+        let x = tree_of (record { height = a.height; breaks = a.breaks; body = Leaf info new }) in
         let text_is : text t ≡ l = ap text was_is ∙ leaf_text l in
         let ins : IsInserted (leaf_tree a.breaks l) (x ∷ y ∷ []) (inserted l at s) = two_inserted a.breaks l new back (inserted l at s) x y with_is y_is with_tree y_tree is some in
         rw (text_is, was_is) ins
 
 -- a leaf that took a text
-module _ (a : Inside) (t : Tree) (l new : List ℕ) (at : ℕ) (s : List ℕ) (i : IsNode a) (e : a.body ≡ Leaf l) (view : tree_of a ≡ t) (some : 1 ≤ length s) (is : new ≡ inserted l at s)
+module _ (a : Inside) (t : Tree) (n : TextInfo) (l new : List ℕ) (at : ℕ) (s : List ℕ) (i : IsNode a) (e : a.body ≡ Leaf n l) (view : tree_of a ≡ t) (some : 1 ≤ length s) (is : new ≡ inserted l at s)
     (fits : byte_len new ≤ 984) (scalars : all_scalars new ≡ true) (info : TextInfo) (counted : info ≡ info_of a.breaks (inserted l at s)) where
   right : info ≡ info_of a.breaks new
   right = counted ∙ ap (info_of a.breaks) (sym is)
 
-  pub leaf_after : IsNode (record { height = a.height; breaks = a.breaks; info = info; body = Leaf new })
-  leaf_after = leaf_with a t l new i e view fits scalars info right
+  pub leaf_after : IsNode (record { height = a.height; breaks = a.breaks; body = Leaf info new })
+  leaf_after = leaf_with a t n l new i e view fits scalars info right
 
-  pub leaf_inserted : IsInserted t (tree_of (record { height = a.height; breaks = a.breaks; info = info; body = Leaf new }) ∷ []) (inserted (text t) at s)
-  leaf_inserted = with_inserted a t l new i e view fits scalars info right at s is some
+  pub leaf_inserted : IsInserted t (tree_of (record { height = a.height; breaks = a.breaks; body = Leaf info new }) ∷ []) (inserted (text t) at s)
+  leaf_inserted = with_inserted a t n l new i e view fits scalars info right at s is some

@@ -1,8 +1,9 @@
 -- The counts of texts that a rope may have.
-use Rattle.std.proofs.Common.{ℕ, ◌<◌, ◌^◌, List, nat_le}
+use Rattle.std.proofs.Common.{ℕ, ◌<◌, ◌≤◌, ◌^◌, List, nat_le, arith}
 use Rattle.std.proofs.lemmas.List.Sums.{count_by-le-length}
 use Rattle.std.proofs.lemmas.Str.{length-le-encodes}
 use Rattle.rope_text.specs.declared.line_breaks.LineBreaks.{LineBreaks}
+use Rattle.rope_text.specs.declared.text_info.TextInfo.{TextInfo}
 use Rattle.rope_text.specs.Text.{byte_len}
 use Rattle.rope_text.specs.TextInfo.{info_of}
 use Rattle.rope_text.proofs.InfoLaws.{break_count-le-length}
@@ -16,3 +17,17 @@ small_info set text fits = record {
   surrogates = count_by-le-length (λ c. nat_le 65536 c) text;
   breaks = break_count-le-length set text;
 }
+
+-- none of a leaf's counts is above its bytes
+pub record IsLow (info : TextInfo) (most : ℕ) : Type 0 where
+  pub chars : info.chars ≤ most
+  pub surrogates : info.utf16_surrogates ≤ most
+  pub breaks : info.line_breaks ≤ most
+  pub bytes : info.bytes ≤ most
+
+pub low_info : (set : LineBreaks) (text : List ℕ) (most : ℕ) → byte_len text ≤ most → IsLow (info_of set text) most
+low_info set text most fits =
+    let chars = length-le-encodes text in
+    let surrogates = count_by-le-length (λ c. nat_le 65536 c) text in
+    let breaks = break_count-le-length set text in
+    record { chars = omega (arith, chars, fits); surrogates = omega (arith, chars, surrogates, fits); breaks = omega (arith, chars, breaks, fits); bytes = fits }

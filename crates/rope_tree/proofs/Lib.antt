@@ -13,6 +13,7 @@ pub mod Infos
 pub mod NodeLaws
 pub mod SiblingLaws
 pub mod Descents
+pub mod OnTheWay
 pub mod FoundLaws
 pub mod InsertLaws
 pub mod InsertTrees
@@ -23,3 +24,4 @@ pub mod InsertRoots
 pub mod BuildLaws
 pub mod FrontLaws
 pub mod NodeTexts
+pub mod LeafTexts

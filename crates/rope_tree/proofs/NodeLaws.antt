@@ -49,7 +49,7 @@ tree_of_inner set h ts n p a e =
     cc
 
 is_tree_of_body : (set : LineBreaks) (h : ℕ) (b : Body) → IsBody set h b → IsTree (record { breaks = set; leaves = body_leaves b; height = h; width = body_width b })
-is_tree_of_body set h (Leaf l) i = rw i.0 (is_leaf_tree set l i.1 i.2 (rw leaf_text (omega (arith, i.1))))
+is_tree_of_body set h (Leaf n l) i = rw i.0 (is_leaf_tree set l i.1 i.2 (rw leaf_text (omega (arith, i.1))))
 is_tree_of_body set h (Inner c) i = rw (tree_of_inner set h c (length c) i.0 i.1 refl) (is_tree_over set (h - 1) c i.1)
 
 pub is_tree_of : (a : Inside) → IsNode a → IsTree (tree_of a)

@@ -185,15 +185,14 @@ over_removed t x ts us start end is x_is r =
     })
 
 -- an inner node over them
-pub over_left : (a : Inside) (t : Tree) (ts us : List Tree) (start end : ℕ) → IsInner a t ts → AreRemoved ts us start end → (info : TextInfo) → info ≡ info_of (breaks_of us) (joined us)
-    → IsNode (record { height = a.height; breaks = a.breaks; info = info; body = Inner us }) × IsRemoved t (tree_of (record { height = a.height; breaks = a.breaks; info = info; body = Inner us })) start end
-over_left a t ts us start end f r info counted =
+pub over_left : (a : Inside) (t : Tree) (ts us : List Tree) (start end : ℕ) → IsInner a t ts → AreRemoved ts us start end
+    → IsNode (record { height = a.height; breaks = a.breaks; body = Inner us }) × IsRemoved t (tree_of (record { height = a.height; breaks = a.breaks; body = Inner us })) start end
+over_left a t ts us start end f r =
     let e : height_of ts ≡ a.height - 1 = omega (arith, f.above) in
     let below : AreChildren a.breaks (a.height - 1) us = rw (sym e, f.same_breaks) r.children in
-    let sets : breaks_of us ≡ a.breaks = breaks_of_is a.breaks (a.height - 1) us (omega (arith, below.at_least_two)) below.each in
     let high : 1 ≤ a.height = omega (arith, f.above) in (
-      record { body = (high, below); counted = counted ∙ ap (λ b. info_of b (joined us)) sets },
-      over_removed t (tree_of (record { height = a.height; breaks = a.breaks; info = info; body = Inner us })) ts us start end f.is (tree_of_inner a.breaks a.height us (length us) high below refl) r,
+      record { body = (high, below) },
+      over_removed t (tree_of (record { height = a.height; breaks = a.breaks; body = Inner us })) ts us start end f.is (tree_of_inner a.breaks a.height us (length us) high below refl) r,
     )
 
 one_leaf_some : (leaf : List ℕ) → 1 ≤ length leaf → one_leaf leaf ≡ leaf ∷ []
@@ -218,15 +217,15 @@ leaf_removed br l new t x start end t_is x_is is order within some ends leaves =
     })
 
 -- where it stands
-pub leaf_left : (a : Inside) (t : Tree) (l new : List ℕ) (start end : ℕ) → IsNode a → a.body ≡ Leaf l → tree_of a ≡ t → new ≡ removed l start end → start < end → end ≤ length (text t) → 1 ≤ length (removed l start end) → KeepsEnds l (removed l start end)
-    → byte_len new ≤ 984 → all_scalars new ≡ true → (info : TextInfo) → IsRemoved t (tree_of (record { height = a.height; breaks = a.breaks; info = info; body = Leaf new })) start end
-leaf_left a t l new start end i e view is order within some ends fits scalars info =
-    let body : IsBody a.breaks a.height (Leaf l) = subst (IsBody a.breaks a.height) e i.body in
+pub leaf_left : (a : Inside) (t : Tree) (n : TextInfo) (l new : List ℕ) (start end : ℕ) → IsNode a → a.body ≡ Leaf n l → tree_of a ≡ t → new ≡ removed l start end → start < end → end ≤ length (text t) → 1 ≤ length (removed l start end) → KeepsEnds l (removed l start end)
+    → byte_len new ≤ 984 → all_scalars new ≡ true → (info : TextInfo) → IsRemoved t (tree_of (record { height = a.height; breaks = a.breaks; body = Leaf info new })) start end
+leaf_left a t n l new start end i e view is order within some ends fits scalars info =
+    let body : IsBody a.breaks a.height (Leaf n l) = subst (IsBody a.breaks a.height) e i.body in
     let low : a.height ≡ 0 = body.0 in
-    let same : tree_of a ≡ tree_of (record { height = a.height; breaks = a.breaks; info = a.info; body = Leaf l }) = ap (λ b. tree_of (record { height = a.height; breaks = a.breaks; info = a.info; body = b })) e in
-    let old : tree_of (record { height = a.height; breaks = a.breaks; info = a.info; body = Leaf l }) ≡ leaf_tree a.breaks l = rw low refl in
+    let same : tree_of a ≡ tree_of (record { height = a.height; breaks = a.breaks; body = Leaf n l }) = ap (λ b. tree_of (record { height = a.height; breaks = a.breaks; body = b })) e in
+    let old : tree_of (record { height = a.height; breaks = a.breaks; body = Leaf n l }) ≡ leaf_tree a.breaks l = rw low refl in
     let t_is : t ≡ leaf_tree a.breaks l = sym view ∙ same ∙ old in
     let now : one_leaf new ≡ new ∷ [] = one_leaf_some new (omega (arith, ap length is, some)) in
-    let x_is : tree_of (record { height = a.height; breaks = a.breaks; info = info; body = Leaf new }) ≡ leaf_tree a.breaks new = rw low refl in
-    leaf_removed a.breaks l new t (tree_of (record { height = a.height; breaks = a.breaks; info = info; body = Leaf new })) start end t_is x_is is order (omega (arith, within, ap length (ap text t_is ∙ leaf_text l))) some ends
+    let x_is : tree_of (record { height = a.height; breaks = a.breaks; body = Leaf info new }) ≡ leaf_tree a.breaks new = rw low refl in
+    leaf_removed a.breaks l new t (tree_of (record { height = a.height; breaks = a.breaks; body = Leaf info new })) start end t_is x_is is order (omega (arith, within, ap length (ap text t_is ∙ leaf_text l))) some ends
     (rw now (lone_leaf new (record { some = omega (arith, ap length is, some); fits = fits; scalars = scalars })))

@@ -25,5 +25,5 @@ tallest_below set h (t ∷ ts) each =
     omega (arith, (All-head (IsChild set h) t ts each).at_height, tallest_below set h ts (All-tail (IsChild set h) t ts each))
 
 pub deep_le_height : (set : LineBreaks) (h : ℕ) (b : Body) → IsBody set h b → max (deep-Body b) 0 ≤ h + h
-deep_le_height set h (Leaf l) i = omega arith
+deep_le_height set h (Leaf n l) i = omega arith
 deep_le_height set h (Inner c) i = omega (arith, i.0, tallest_below set (h - 1) c i.1.each)

@@ -1,6 +1,5 @@
 -- What a node's fields are seen as, and what holds of them.
 use Rattle.std.specs.Prelude.{◌≡◌, ℕ, ◌-◌, ◌≤◌, true, List, length}
-use Rattle.std.specs.List.{concat}
 use Rattle.std.specs.Str.{all_scalars}
 use Rattle.rope_text.specs.declared.line_breaks.LineBreaks.{LineBreaks}
 use Rattle.rope_text.specs.Text.{byte_len}
@@ -11,21 +10,20 @@ use Rattle.rope_tree.specs.declared.node.Body.{Body}
 use Rattle.rope_tree.specs.declared.node.Body.TheVariants.{Leaf, Inner}
 
 abbrev pub body_leaves : Body → List (List ℕ)
-body_leaves (Leaf l) = one_leaf l
+body_leaves (Leaf i l) = one_leaf l
 body_leaves (Inner c) = leaves_of c
 
 abbrev pub body_width : Body → ℕ
-body_width (Leaf l) = 0
+body_width (Leaf i l) = 0
 body_width (Inner c) = length c
 
 abbrev pub tree_of : Inside → Tree
 tree_of a = record { breaks = a.breaks; leaves = body_leaves a.body; height = a.height; width = body_width a.body }
 
--- a leaf's text, or children of one set of line breaks one level lower
+-- a leaf's text with its counts, or children of one set of line breaks one level lower
 abbrev pub IsBody : LineBreaks → ℕ → Body → Type 0
-IsBody set h (Leaf l) = (h ≡ 0) × (byte_len l ≤ 984) × (all_scalars l ≡ true)
+IsBody set h (Leaf i l) = (h ≡ 0) × (byte_len l ≤ 984) × (all_scalars l ≡ true) × (i ≡ info_of set l)
 IsBody set h (Inner c) = (1 ≤ h) × AreChildren set (h - 1) c
 
 pub record IsNode (a : Inside) : Type 0 where
   pub body : IsBody a.breaks a.height a.body
-  pub counted : a.info ≡ info_of a.breaks (concat (body_leaves a.body))

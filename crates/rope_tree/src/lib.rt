@@ -9,6 +9,8 @@ pub mod conversions;
 pub mod counts;
 pub mod edit;
 pub mod insert;
+mod leaf_bytes;
+mod leaf_info;
 pub mod lookup;
 pub mod node;
 pub mod node_text;

@@ -24,6 +24,7 @@ pub struct Found<'a> {
 }
 
 /// The counts of the children before a place.
+#[inline(always)]
 pub fn total_before(totals: &[TextInfo], place: usize) -> TextInfo
     requires { place ≤ length totals.now }
     ensures first { place ≡ 0 → (set : LineBreaks) → result ≡ info_of set [] }
@@ -38,6 +39,7 @@ pub fn total_before(totals: &[TextInfo], place: usize) -> TextInfo
 
 /// The leaf that holds the place `at`. It takes no memory, enters each node on the way once, and compares at most five
 /// totals in each inner one.
+#[inline(always)]
 pub fn leaf_at<'a>(node: &'a Node, unit: Unit, at: usize, steps: &mut Steps) -> Found<'a>
     requires within { at < count_of unit (info_of node.now.breaks (text node.now)) }
     requires room { steps.old.nodes + node.now.height + 1 < 2 ^ 64 }
@@ -48,19 +50,21 @@ pub fn leaf_at<'a>(node: &'a Node, unit: Unit, at: usize, steps: &mut Steps) -> 
     ensures counted { steps.old.compares + node.now.height ≤ steps.new.compares }
     ensures made { steps.new.made ≡ steps.old.made }
 {
-    steps.nodes += 1;
-    match node.view() {
-        View::Leaf(leaf) => Found {
-            leaf,
-            before: TextInfo::new(),
-        },
-        View::Inner(children, totals) => {
-            let place = place_of(totals, unit, at, steps);
-            let front = total_before(totals, place);
-            let found = leaf_at(&children[place], unit, at - count(front, unit), steps);
-            Found {
-                leaf: found.leaf,
-                before: front.plus(found.before),
+    let _ = node.height();
+    let mut here = node;
+    let mut rest = at;
+    let mut before = TextInfo::new();
+    'down: loop {
+        steps.nodes += 1;
+        match here.view() {
+            View::Leaf(leaf) => return Found { leaf, before },
+            View::Inner(children, totals) => {
+                let place = place_of(totals, unit, rest, steps);
+                let child = &children[place];
+                let front = total_before(totals, place);
+                rest -= count(front, unit);
+                before = before.plus(front);
+                here = child;
             }
         }
     }

@@ -8,6 +8,7 @@ ghost use Rattle.rope_tree.specs.Tree.{Tree, text, joined, leaves_of, height_of,
 ghost use Rattle.rope_tree.specs.Listed.{trees, HasTotals};
 ghost use Rattle.rope_tree.specs.View.{IsViewOf};
 
+use crate::leaf_info::LeafInfo;
 use crate::node_text::NodeText;
 use arrayvec::ArrayVec;
 use rope_text::{LineBreaks, TextInfo};
@@ -23,16 +24,15 @@ mod in_place_removal;
 #[cycle(tree)]
 #[derive(Drop)]
 pub struct Node {
-    height: usize,
+    height: u8,
     breaks: LineBreaks,
-    info: TextInfo,
     body: Body,
 }
 
 #[cycle(tree)]
 #[derive(Drop)]
 enum Body {
-    Leaf(NodeText),
+    Leaf(LeafInfo, NodeText),
     Inner(Children),
 }
 
@@ -140,7 +140,7 @@ impl Node {
         ensures low { self.now.height ≤ 18 }
         ensures tree { IsTree self.now }
     {
-        self.height
+        usize::from(self.height)
     }
 
     /// Its set of line breaks.
@@ -154,7 +154,10 @@ impl Node {
     pub fn info(&self) -> TextInfo
         ensures { result ≡ info_of self.now.breaks (text self.now) }
     {
-        self.info
+        match &self.body {
+            Body::Leaf(info, _) => info.info(),
+            Body::Inner(children) => children.total(),
+        }
     }
 
     /// What the node has.
@@ -162,7 +165,7 @@ impl Node {
         ensures { IsViewOf self.now result }
     {
         match &self.body {
-            Body::Leaf(leaf) => View::Leaf(leaf),
+            Body::Leaf(_, leaf) => View::Leaf(leaf),
             Body::Inner(children) => {
                 let parts = children.parts();
                 View::Inner(parts.nodes, parts.totals)
@@ -207,13 +210,13 @@ pub fn make_leaf(
 {
     add_made(made);
     let _ = leaf.as_str();
+    let body = Body::Leaf(LeafInfo::new(info), leaf);
     let node = Rc::new(
         alloc,
         Node {
             height: 0,
             breaks,
-            info,
-            body: Body::Leaf(leaf),
+            body,
         },
     )?;
     let _ = node.height();
@@ -231,17 +234,15 @@ pub fn make_inner(
     ensures made { made.new ≤ made.old + 1 }
 {
     add_made(made);
-    let height = children[0].height() + 1;
+    let height = (children[0].height() + 1) as u8;
     let breaks = children[0].line_breaks();
-    let children = Children::from_nodes(children);
-    let info = children.total();
+    let body = Body::Inner(Children::from_nodes(children));
     let node = Rc::new(
         alloc,
         Node {
             height,
             breaks,
-            info,
-            body: Body::Inner(children),
+            body,
         },
     )?;
     Ok(node)

@@ -7,11 +7,13 @@ ghost use Rattle.rope_text.specs.Cutting.{parts_crlf};
 ghost use Rattle.rope_text.specs.Cuts.{is_cut};
 ghost use Rattle.rope_text.specs.Edit.{inserted};
 
-use arrayvec::ArrayString;
+use crate::leaf_bytes::{LeafBytes, append_bytes, put_bytes, take_bytes};
+use arrayvec::{ArrayString, ArrayVec};
 use rope_text::MAX_BYTES;
 use rope_text::crlf::{next_break, prev_break};
 use rope_text::str_utils::{char_to_byte_idx, count_chars};
 use std::marker::Model;
+use std::str;
 
 // One text of three.
 pub(crate) fn join_parts<const N: usize>(first: &str, second: &str, third: &str) -> ArrayString<N>
@@ -46,9 +48,9 @@ pub struct ByteRange {
 
 /// A text of at most `MAX_BYTES` bytes, seen as the list of its characters. Its calls count in
 /// characters where they take a place, and take no memory.
-#[derive(Clone, Drop)]
+#[derive(Drop)]
 pub struct NodeText {
-    text: ArrayString<984>,
+    bytes: LeafBytes,
 }
 
 impl Model for NodeText {
@@ -58,28 +60,19 @@ impl Model for NodeText {
 
     ghost Value = { List ℕ };
 
-    ghost view = { λ s. chars s.text.bytes };
+    ghost view = { λ s. chars s.bytes.items };
 
-    ghost invariant = { λ s. (is_utf8 s.text.bytes ≡ true) × (length s.text.bytes ≤ 984) };
+    ghost invariant = { λ s. (is_utf8 s.bytes.items ≡ true) × (length s.bytes.items ≤ 984) };
 }
 
 impl NodeText {
-    // One text of three.
-    fn of_parts(first: &str, second: &str, third: &str) -> Self
-        requires { (length first.now + length second.now) + length third.now ≤ 984 }
-        ensures value { result ≡ chars first.now ++ (chars second.now ++ chars third.now) }
-        ensures len { byte_len result ≡ (length first.now + length second.now) + length third.now }
-    {
-        NodeText {
-            text: join_parts(first, second, third),
-        }
-    }
-
     /// The empty text.
     pub fn new() -> Self
         ensures { result ≡ [] }
     {
-        NodeText::of_parts("", "", "")
+        NodeText {
+            bytes: ArrayVec::new(),
+        }
     }
 
     /// A copy of a text of at most `MAX_BYTES` bytes.
@@ -88,7 +81,9 @@ impl NodeText {
         ensures value { result ≡ chars text.now }
         ensures len { byte_len result ≡ length text.now }
     {
-        NodeText::of_parts(text, "", "")
+        let mut bytes = ArrayVec::new();
+        append_bytes(&mut bytes, text.as_bytes());
+        NodeText { bytes }
     }
 
     /// The text.
@@ -98,7 +93,8 @@ impl NodeText {
         ensures fits { byte_len self.now ≤ 984 }
         ensures scalars { all_scalars self.now ≡ true }
     {
-        self.text.as_str()
+        // That they are a text is what the type keeps, so they are not gone over again.
+        unsafe { str::from_utf8_unchecked(self.bytes.as_slice()) }
     }
 
     /// The text, whose length in bytes the caller knows. The length that is kept with a text lies behind it: a walk over leaves
@@ -142,10 +138,7 @@ impl NodeText {
         ensures value { self.new ≡ chars (insert_slice (encode_utf8_all self.old) place added.now) }
         ensures len { byte_len self.new ≡ byte_len self.old + length added.now }
     {
-        let rest = join_parts::<984>(&self.as_str()[place..], "", "");
-        self.text.truncate(place);
-        self.text.push_str(added);
-        self.text.push_str(rest.as_str());
+        put_bytes(&mut self.bytes, place, added.as_bytes());
     }
 
     /// Puts `text` at the end.
@@ -154,7 +147,7 @@ impl NodeText {
         ensures value { self.new ≡ self.old ++ chars text.now }
         ensures len { byte_len self.new ≡ byte_len self.old + length text.now }
     {
-        self.text.push_str(text);
+        append_bytes(&mut self.bytes, text.as_bytes());
     }
 
     /// The bytes that the characters from `start` up to `end` take.
@@ -179,18 +172,15 @@ impl NodeText {
         requires to { IsCharBoundary (encode_utf8_all self.old) range.to }
         ensures { self.new ≡ chars (remove_range (encode_utf8_all self.old) range.from range.to) }
     {
-        let rest = join_parts::<984>(&self.as_str()[range.to..], "", "");
-        self.text.truncate(range.from);
-        self.text.push_str(rest.as_str());
+        take_bytes(&mut self.bytes, range.from, range.to);
     }
 
     /// Keeps the first `len` characters.
     pub fn truncate(&mut self, len: usize)
         ensures { self.new ≡ take len self.old }
     {
-        let old = self.as_str();
-        let to = char_to_byte_idx(old, len);
-        *self = NodeText::of_parts(&old[..to], "", "");
+        let to = char_to_byte_idx(self.as_str(), len);
+        self.bytes.truncate(to);
     }
 
     /// Leaves the first `at` characters, and returns the others.
@@ -200,8 +190,8 @@ impl NodeText {
     {
         let old = self.as_str();
         let place = char_to_byte_idx(old, at);
-        let back = NodeText::of_parts(&old[place..], "", "");
-        *self = NodeText::of_parts(&old[..place], "", "");
+        let back = NodeText::from_str(&old[place..]);
+        self.bytes.truncate(place);
         back
     }
 
@@ -220,8 +210,8 @@ impl NodeText {
         let whole = join_parts::<1965>(&old[..place], text, &old[place..]);
         let whole = whole.as_str();
         let cut = split_place(whole);
-        let back = NodeText::of_parts(&whole[cut..], "", "");
-        *self = NodeText::of_parts(&whole[..cut], "", "");
+        let back = NodeText::from_str(&whole[cut..]);
+        *self = NodeText::from_str(&whole[..cut]);
         back
     }
 

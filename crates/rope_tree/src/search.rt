@@ -16,6 +16,7 @@ pub enum Unit {
 }
 
 /// One of the counts.
+#[inline(always)]
 pub fn count(info: TextInfo, unit: Unit) -> usize
     requires { IsSmall info }
     ensures { result ≡ count_of unit info }
@@ -29,6 +30,7 @@ pub fn count(info: TextInfo, unit: Unit) -> usize
 }
 
 /// A place whose total passes `at` and the total before it does not, by at most five comparisons.
+#[inline(always)]
 pub fn place_of(totals: &[TextInfo], unit: Unit, at: usize, steps: &mut Steps) -> usize
     requires some { 0 < length totals.now }
     requires few { length totals.now ≤ 24 }

@@ -7,6 +7,7 @@ ghost use Rattle.rope_tree.specs.Insert.{MayInsert, GoesIn, IsInserted, AreGrown
 
 use super::{Body, Children, Node};
 use crate::counts::put_in;
+use crate::leaf_info::LeafInfo;
 use crate::lookup::total_before;
 use crate::search::{Unit, char_to_hold, place_of, retotal};
 use crate::short_text::ShortText;
@@ -78,19 +79,19 @@ impl Node {
         ensures kept { result ≡ false → self.new ≡ self.old }
     {
         match &mut self.body {
-            Body::Leaf(leaf) => {
+            Body::Leaf(info, leaf) => {
                 if leaf.len() + added.len() > MAX_BYTES {
                     return false;
                 }
-                self.info = put_in(leaf, at, added, self.info, self.breaks);
+                let new = put_in(leaf, at, added, info.info(), self.breaks);
                 let _ = leaf.as_str();
+                *info = LeafInfo::new(new);
                 true
             }
             Body::Inner(children) => {
                 if !children.insert_in_place(at, added, to_right) {
                     return false;
                 }
-                self.info = children.total();
                 true
             }
         }

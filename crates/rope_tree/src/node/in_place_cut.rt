@@ -8,6 +8,7 @@ ghost use Rattle.rope_tree.specs.Insert.{MayInsert, IsInserted, AreGrown};
 
 use super::{Body, Children, Node, make_leaf, totals_of};
 use crate::counts::info_with;
+use crate::leaf_info::LeafInfo;
 use crate::node_text::NodeText;
 use crate::search::retotal;
 use crate::short_text::ShortText;
@@ -120,12 +121,11 @@ impl Node {
         ensures made { made.new ≤ made.old + 1 }
     {
         match &mut self.body {
-            Body::Leaf(_) => Ok(false),
+            Body::Leaf(..) => Ok(false),
             Body::Inner(children) => {
                 if !children.insert_by_cut(alloc, at, added, to_right, made)? {
                     return Ok(false);
                 }
-                self.info = children.total();
                 Ok(true)
             }
         }
@@ -148,13 +148,13 @@ impl Node {
         ensures unmade { IfOk result (λ found. IfNone found (made.new ≡ made.old)) }
         ensures made { made.new ≤ made.old + 1 }
     {
-        let Body::Leaf(leaf) = &mut self.body else {
+        let Body::Leaf(old, leaf) = &mut self.body else {
             return Ok(None);
         };
         if leaf.len() + added.len() <= MAX_BYTES {
             return Ok(None);
         }
-        let info = info_with(self.info, leaf, at, added, self.breaks);
+        let info = info_with(old.info(), leaf, at, added, self.breaks);
         let mut front = NodeText::from_str(leaf.as_str());
         let back = front.insert_str_split(at, added.as_str());
         let front_info = TextInfo::from_str(front.as_str(), self.breaks);
@@ -162,7 +162,7 @@ impl Node {
         let behind = make_leaf(alloc, self.breaks, back, back_info, made)?;
         let _ = front.as_str();
         *leaf = front;
-        self.info = front_info;
+        *old = LeafInfo::new(front_info);
         Ok(Some(behind))
     }
 }

@@ -5,6 +5,7 @@ ghost use Rattle.rope_tree.specs.Removal.{IsRemoved, AreRemoved};
 
 use super::{Body, Children, Node};
 use crate::counts::take_out;
+use crate::leaf_info::LeafInfo;
 use crate::lookup::total_before;
 use crate::search::{Unit, place_of, retotal};
 use rope_text::Steps;
@@ -50,19 +51,18 @@ impl Node {
         ensures kept { result ≡ false → self.new ≡ self.old }
     {
         match &mut self.body {
-            Body::Leaf(leaf) => {
-                let Some(info) = take_out(leaf, start, end, self.info, self.breaks) else {
+            Body::Leaf(info, leaf) => {
+                let Some(left) = take_out(leaf, start, end, info.info(), self.breaks) else {
                     return false;
                 };
-                self.info = info;
                 let _ = leaf.as_str();
+                *info = LeafInfo::new(left);
                 true
             }
             Body::Inner(children) => {
                 if !children.remove_in_place(start, end) {
                     return false;
                 }
-                self.info = children.total();
                 true
             }
         }

@@ -29,4 +29,4 @@ returns c =
     wide_off (is_low k) (is_lone_cr k) (at k 194) (at k 226) (at (k + 1) 133) (at (k + 1) 128 && (at (k + 2) 168 || at (k + 2) 169))
     (no_wide_begin (get_or s k 0) off)) none in
     byte_breaks-block Unicode s i 32 (omega arith)
-    ∙ ap (λ n. n + byte_breaks Unicode (drop (i + 32) s)) (sym (c.ones_before-2.ensures ∙ counted_from {m = 32} i 32 (omega arith) (omega arith) low ∙ same))
+    ∙ ap (λ n. n + byte_breaks Unicode (drop (i + 32) s)) (sym (c.ones_before.ensures ∙ counted_from {m = 32} i 32 (omega arith) (omega arith) low ∙ same))

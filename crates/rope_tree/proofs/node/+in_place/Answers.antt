@@ -1,4 +1,7 @@
-use Rattle.std.proofs.Common.{◌≡◌, ℕ, sym, ap, subst, arith}
+use Rattle.rope_tree.proofs.Infos.{IsLow, low_info}
+use Rattle.rope_tree.proofs.node.+in_place.Goals.{Node::insert_in_place-After-as_str, Node::insert_in_place-in-Leaf+else-len-gt-MAX_BYTES, Node::insert_in_place-in-Inner+else-not-insert_in_place}
+use Rattle.std.proofs.Common.{◌≡◌, ◌∙◌, ℕ, sym, ap, subst, arith}
+use Rattle.rope_text.specs.TextInfo.{info_of}
 use Rattle.rope_tree.specs.Falls.{tallest_below}
 use Rattle.rope_tree.specs.Tree.{text, joined, height_of, breaks_of, tree_over}
 use Rattle.rope_tree.specs.Insert.{MayInsert}
@@ -70,12 +73,6 @@ pub Children::insert_in_place-returns-clause-done :
 Children::insert_in_place-returns-clause-done t c = λ yes.
     all_grown _ _ _ _ _ _ _ _ _ (found t (goal.at.Children::insert_in_place-returns-clause-done t c).In-Some) c.args.added.now c.requires.some c.requires.side c.requires.fits c.insert_in_place.new.self (c.insert_in_place.ensures.done c.if-not-insert_in_place.false)
 
-pub Node::insert_in_place-invariant_of-self-in-Leaf :
-    goal.Node::insert_in_place-invariant_of-self-in-Leaf
-Node::insert_in_place-invariant_of-self-in-Leaf t c =
-    leaf_after c.self.inside c.args.self.now c.in-Leaf.leaf c.put_in-self-inside.new.leaf c.args.at c.args.added.now c.self.invariant c.in-Leaf.is c.self.view_is c.requires.some
-    c.put_in-self-inside.ensures.text c.as_str.ensures.fits c.as_str.ensures.scalars c.put_in-self-inside.result c.put_in-self-inside.ensures.info
-
 pub Node::insert_in_place-insert_in_place-requires :
     goal.Node::insert_in_place-insert_in_place-requires
 Node::insert_in_place-insert_in_place-requires t c =
@@ -85,20 +82,45 @@ Node::insert_in_place-insert_in_place-requires t c =
       (f.children, (rw (sym whole) c.requires.within, (c.requires.some, (rw (sym whole) c.requires.fits, subst (λ u. MayInsert u c.args.at c.args.added.now c.args.to_right) f.is c.requires.side)))),
     )
 
-pub Node::insert_in_place-invariant_of-self-in-Inner :
-    goal.Node::insert_in_place-invariant_of-self-in-Inner
-Node::insert_in_place-invariant_of-self-in-Inner t c =
-    let f = inner_of c.self.inside c.args.self.now c.in-Inner.children c.self.invariant c.in-Inner.is c.self.view_is in
-    inner_after c.self.inside c.args.self.now c.in-Inner.children c.insert_in_place.new.self c.args.at c.args.added.now f (c.insert_in_place.ensures.done c.if-not-insert_in_place.false) c.total-self-inside.result c.total-self-inside.ensures
+-- the counts of a leaf that took the text
+now : (t : ℕ) (c : Node::insert_in_place-After-as_str t) → c.put_in-new.result ≡ info_of c.self.inside.breaks c.put_in-new.new.leaf
+now t c = c.put_in-new.ensures.info ∙ ap (info_of c.self.inside.breaks) (sym c.put_in-new.ensures.text)
 
-pub Node::insert_in_place-returns-else-len-gt-MAX_BYTES-clause-done :
-    goal.Node::insert_in_place-returns-else-len-gt-MAX_BYTES-clause-done
-Node::insert_in_place-returns-else-len-gt-MAX_BYTES-clause-done t c = λ yes.
-    leaf_inserted c.self.inside c.args.self.now c.in-Leaf.leaf c.put_in-self-inside.new.leaf c.args.at c.args.added.now c.self.invariant c.in-Leaf.is c.self.view_is c.requires.some
-    c.put_in-self-inside.ensures.text c.as_str.ensures.fits c.as_str.ensures.scalars c.put_in-self-inside.result c.put_in-self-inside.ensures.info
+low : (t : ℕ) (c : Node::insert_in_place-After-as_str t) → IsLow c.put_in-new.result 984
+low t c = subst (λ i. IsLow i 984) (sym (now t c)) (low_info c.self.inside.breaks c.put_in-new.new.leaf 984 c.as_str.ensures.fits)
 
-pub Node::insert_in_place-returns-else-not-insert_in_place-clause-done :
-    goal.Node::insert_in_place-returns-else-not-insert_in_place-clause-done
-Node::insert_in_place-returns-else-not-insert_in_place-clause-done t c = λ yes.
-    let f = inner_of c.self.inside c.args.self.now c.in-Inner.children c.self.invariant c.in-Inner.is c.self.view_is in
-    inner_inserted c.self.inside c.args.self.now c.in-Inner.children c.insert_in_place.new.self c.args.at c.args.added.now f (c.insert_in_place.ensures.done c.if-not-insert_in_place.false) c.total-self-inside.result c.total-self-inside.ensures
+pub Node::insert_in_place-new-requires-clause-chars :
+    goal.Node::insert_in_place-new-requires-clause-chars
+Node::insert_in_place-new-requires-clause-chars t c = (low t c).chars
+
+pub Node::insert_in_place-new-requires-clause-surrogates :
+    goal.Node::insert_in_place-new-requires-clause-surrogates
+Node::insert_in_place-new-requires-clause-surrogates t c = (low t c).surrogates
+
+pub Node::insert_in_place-new-requires-clause-breaks :
+    goal.Node::insert_in_place-new-requires-clause-breaks
+Node::insert_in_place-new-requires-clause-breaks t c = (low t c).breaks
+
+pub Node::insert_in_place-invariant_of-self-2 : goal.Node::insert_in_place-invariant_of-self-2
+Node::insert_in_place-invariant_of-self-2 t c =
+    elim c.match-self.branch [
+      | Node::insert_in_place-in-Leaf+else-len-gt-MAX_BYTES w ↦
+          rw w.self-inside-is
+          (leaf_after c.self.inside c.args.self.now w.in-Leaf.info w.in-Leaf.leaf w.put_in-new.new.leaf c.args.at c.args.added.now c.self.invariant w.in-Leaf.is c.self.view_is c.requires.some
+          w.put_in-new.ensures.text w.as_str.ensures.fits w.as_str.ensures.scalars w.new.result (w.new.ensures ∙ w.put_in-new.ensures.info))
+      | Node::insert_in_place-in-Inner+else-not-insert_in_place w ↦
+          let f = inner_of c.self.inside c.args.self.now w.in-Inner.children c.self.invariant w.in-Inner.is c.self.view_is in
+          rw w.self-inside-is (inner_after c.self.inside c.args.self.now w.in-Inner.children w.insert_in_place.new.self c.args.at c.args.added.now f (w.insert_in_place.ensures.done w.if-not-insert_in_place.false))
+    ]
+
+pub Node::insert_in_place-returns-clause-done : goal.Node::insert_in_place-returns-clause-done
+Node::insert_in_place-returns-clause-done t c = λ yes.
+    elim c.match-self.branch [
+      | Node::insert_in_place-in-Leaf+else-len-gt-MAX_BYTES w ↦
+          rw w.self-inside-is
+          (leaf_inserted c.self.inside c.args.self.now w.in-Leaf.info w.in-Leaf.leaf w.put_in-new.new.leaf c.args.at c.args.added.now c.self.invariant w.in-Leaf.is c.self.view_is c.requires.some
+          w.put_in-new.ensures.text w.as_str.ensures.fits w.as_str.ensures.scalars w.new.result (w.new.ensures ∙ w.put_in-new.ensures.info))
+      | Node::insert_in_place-in-Inner+else-not-insert_in_place w ↦
+          let f = inner_of c.self.inside c.args.self.now w.in-Inner.children c.self.invariant w.in-Inner.is c.self.view_is in
+          rw w.self-inside-is (inner_inserted c.self.inside c.args.self.now w.in-Inner.children w.insert_in_place.new.self c.args.at c.args.added.now f (w.insert_in_place.ensures.done w.if-not-insert_in_place.false))
+    ]

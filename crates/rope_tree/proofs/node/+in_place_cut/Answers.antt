@@ -1,3 +1,4 @@
+use Rattle.rope_tree.proofs.node.+in_place_cut.Goals.{Node::insert_by_cut-in-Leaf, Node::insert_by_cut-in-Inner+in_ok-insert_by_cut-in-Inner+else-not-branch}
 use Rattle.std.proofs.Common.{◌≡◌, ℕ, sym, ap, subst, arith}
 use Rattle.rope_tree.specs.Falls.{tallest_below}
 use Rattle.rope_tree.specs.Tree.{text, joined, height_of, breaks_of, tree_over}
@@ -89,14 +90,21 @@ Node::insert_by_cut-insert_by_cut-requires t c =
       (f.children, (rw (sym whole) c.requires.within, (c.requires.some, (c.requires.short, (rw (sym whole) c.requires.fits, subst (λ u. MayInsert u c.args.at c.args.added.now c.args.to_right) f.is c.requires.side))))),
     )
 
-pub Node::insert_by_cut-invariant_of-self-in-Inner :
-    goal.Node::insert_by_cut-invariant_of-self-in-Inner
-Node::insert_by_cut-invariant_of-self-in-Inner t c =
-    let f = inner_of c.self.inside c.args.self.now c.in-Inner.children c.self.invariant c.in-Inner.is c.self.view_is in
-    inner_after c.self.inside c.args.self.now c.in-Inner.children c.insert_by_cut.new.self c.args.at c.args.added.now f (c.in_ok-insert_by_cut-in-Inner.ensures.done c.if-not-branch.false) c.total-self-inside.result c.total-self-inside.ensures
+pub Node::insert_by_cut-invariant_of-self-2 : goal.Node::insert_by_cut-invariant_of-self-2
+Node::insert_by_cut-invariant_of-self-2 t c =
+    elim c.match-self.branch [
+      | Node::insert_by_cut-in-Leaf w ↦
+          rw w.self-inside-is c.self.invariant
+      | Node::insert_by_cut-in-Inner+in_ok-insert_by_cut-in-Inner+else-not-branch w ↦
+          let f = inner_of c.self.inside c.args.self.now w.in-Inner.children c.self.invariant w.in-Inner.is c.self.view_is in
+          rw w.self-inside-is (inner_after c.self.inside c.args.self.now w.in-Inner.children w.insert_by_cut.new.self c.args.at c.args.added.now f (w.in_ok-insert_by_cut-in-Inner.ensures.done w.if-not-branch.false))
+    ]
 
-pub Node::insert_by_cut-returns-else-not-branch-clause-done :
-    goal.Node::insert_by_cut-returns-else-not-branch-clause-done
-Node::insert_by_cut-returns-else-not-branch-clause-done t c = λ yes.
-    let f = inner_of c.self.inside c.args.self.now c.in-Inner.children c.self.invariant c.in-Inner.is c.self.view_is in
-    inner_inserted c.self.inside c.args.self.now c.in-Inner.children c.insert_by_cut.new.self c.args.at c.args.added.now f (c.in_ok-insert_by_cut-in-Inner.ensures.done c.if-not-branch.false) c.total-self-inside.result c.total-self-inside.ensures
+pub Node::insert_by_cut-returns-clause-done : goal.Node::insert_by_cut-returns-clause-done
+Node::insert_by_cut-returns-clause-done t c =
+    elim c.match-self.branch [
+      | Node::insert_by_cut-in-Leaf w ↦ rw w.result-is (λ no. cc)
+      | Node::insert_by_cut-in-Inner+in_ok-insert_by_cut-in-Inner+else-not-branch w ↦
+          let f = inner_of c.self.inside c.args.self.now w.in-Inner.children c.self.invariant w.in-Inner.is c.self.view_is in
+          rw (w.result-is, w.self-inside-is) (λ yes. inner_inserted c.self.inside c.args.self.now w.in-Inner.children w.insert_by_cut.new.self c.args.at c.args.added.now f (w.in_ok-insert_by_cut-in-Inner.ensures.done w.if-not-branch.false))
+    ]

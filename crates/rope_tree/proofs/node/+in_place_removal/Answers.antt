@@ -1,3 +1,6 @@
+use Rattle.rope_tree.proofs.Infos.{IsLow, low_info}
+use Rattle.rope_tree.proofs.GrownLaws.{leaf_with}
+use Rattle.rope_tree.proofs.node.+in_place_removal.Goals.{Node::remove_in_place-After-as_str, Node::remove_in_place-in-Leaf+in-Some, Node::remove_in_place-in-Inner+else-not-remove_in_place}
 use Rattle.std.proofs.Common.{◌≡◌, ℕ, ◌-◌, ◌<◌, ◌≤◌, length, set, sym, ap, subst, refl, ◌∙◌, arith}
 use Rattle.std.specs.Rc.{rc_with_value}
 use Rattle.rope_text.specs.TextInfo.{info_of}
@@ -160,20 +163,45 @@ Node::remove_in_place-remove_in_place-requires t c =
       (f.children, (c.requires.ordered, rw (sym whole) c.requires.within)),
     )
 
-pub Node::remove_in_place-invariant_of-self-in-Inner :
-    goal.Node::remove_in_place-invariant_of-self-in-Inner
-Node::remove_in_place-invariant_of-self-in-Inner t c =
-    let f = inner_of c.self.inside c.args.self.now c.in-Inner.children c.self.invariant c.in-Inner.is c.self.view_is in
-    (over_left c.self.inside c.args.self.now c.in-Inner.children c.remove_in_place.new.self c.args.start c.args.end f (c.remove_in_place.ensures.done c.if-not-remove_in_place.false) c.total-self-inside.result c.total-self-inside.ensures).0
+-- the counts of a leaf that lost the characters
+now : (t : ℕ) (c : Node::remove_in_place-After-as_str t) → c.in-Some.left ≡ info_of c.self.inside.breaks c.take_out.new.leaf
+now t c = c.in-Some.ensures.info ∙ ap (info_of c.self.inside.breaks) (sym c.in-Some.ensures.text)
 
-pub Node::remove_in_place-returns-else-not-remove_in_place-clause-done :
-    goal.Node::remove_in_place-returns-else-not-remove_in_place-clause-done
-Node::remove_in_place-returns-else-not-remove_in_place-clause-done t c = λ yes.
-    let f = inner_of c.self.inside c.args.self.now c.in-Inner.children c.self.invariant c.in-Inner.is c.self.view_is in
-    (over_left c.self.inside c.args.self.now c.in-Inner.children c.remove_in_place.new.self c.args.start c.args.end f (c.remove_in_place.ensures.done c.if-not-remove_in_place.false) c.total-self-inside.result c.total-self-inside.ensures).1
+low : (t : ℕ) (c : Node::remove_in_place-After-as_str t) → IsLow c.in-Some.left 984
+low t c = subst (λ i. IsLow i 984) (sym (now t c)) (low_info c.self.inside.breaks c.take_out.new.leaf 984 c.as_str.ensures.fits)
 
-pub Node::remove_in_place-returns-in-Some-clause-done :
-    goal.Node::remove_in_place-returns-in-Some-clause-done
-Node::remove_in_place-returns-in-Some-clause-done t c = λ yes.
-    leaf_left c.self.inside c.args.self.now c.in-Leaf.leaf c.take_out.new.leaf c.args.start c.args.end c.self.invariant c.in-Leaf.is c.self.view_is c.in-Some.ensures.text
-    c.requires.ordered c.requires.within c.in-Some.ensures.some c.in-Some.ensures.ends c.as_str.ensures.fits c.as_str.ensures.scalars c.in-Some.info
+pub Node::remove_in_place-new-requires-clause-chars :
+    goal.Node::remove_in_place-new-requires-clause-chars
+Node::remove_in_place-new-requires-clause-chars t c = (low t c).chars
+
+pub Node::remove_in_place-new-requires-clause-surrogates :
+    goal.Node::remove_in_place-new-requires-clause-surrogates
+Node::remove_in_place-new-requires-clause-surrogates t c = (low t c).surrogates
+
+pub Node::remove_in_place-new-requires-clause-breaks :
+    goal.Node::remove_in_place-new-requires-clause-breaks
+Node::remove_in_place-new-requires-clause-breaks t c = (low t c).breaks
+
+pub Node::remove_in_place-invariant_of-self-2 : goal.Node::remove_in_place-invariant_of-self-2
+Node::remove_in_place-invariant_of-self-2 t c =
+    elim c.match-self.branch [
+      | Node::remove_in_place-in-Leaf+in-Some w ↦
+          rw w.self-inside-is
+          (leaf_with c.self.inside c.args.self.now w.in-Leaf.info w.in-Leaf.leaf w.take_out.new.leaf c.self.invariant w.in-Leaf.is c.self.view_is
+          w.as_str.ensures.fits w.as_str.ensures.scalars w.new.result (w.new.ensures ∙ w.in-Some.ensures.info ∙ ap (info_of c.self.inside.breaks) (sym w.in-Some.ensures.text)))
+      | Node::remove_in_place-in-Inner+else-not-remove_in_place w ↦
+          let f = inner_of c.self.inside c.args.self.now w.in-Inner.children c.self.invariant w.in-Inner.is c.self.view_is in
+          rw w.self-inside-is (over_left c.self.inside c.args.self.now w.in-Inner.children w.remove_in_place.new.self c.args.start c.args.end f (w.remove_in_place.ensures.done w.if-not-remove_in_place.false)).0
+    ]
+
+pub Node::remove_in_place-returns-clause-done : goal.Node::remove_in_place-returns-clause-done
+Node::remove_in_place-returns-clause-done t c = λ yes.
+    elim c.match-self.branch [
+      | Node::remove_in_place-in-Leaf+in-Some w ↦
+          rw w.self-inside-is
+          (leaf_left c.self.inside c.args.self.now w.in-Leaf.info w.in-Leaf.leaf w.take_out.new.leaf c.args.start c.args.end c.self.invariant w.in-Leaf.is c.self.view_is w.in-Some.ensures.text
+          c.requires.ordered c.requires.within w.in-Some.ensures.some w.in-Some.ensures.ends w.as_str.ensures.fits w.as_str.ensures.scalars w.new.result)
+      | Node::remove_in_place-in-Inner+else-not-remove_in_place w ↦
+          let f = inner_of c.self.inside c.args.self.now w.in-Inner.children c.self.invariant w.in-Inner.is c.self.view_is in
+          rw w.self-inside-is (over_left c.self.inside c.args.self.now w.in-Inner.children w.remove_in_place.new.self c.args.start c.args.end f (w.remove_in_place.ensures.done w.if-not-remove_in_place.false)).1
+    ]

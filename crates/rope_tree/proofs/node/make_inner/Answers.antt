@@ -13,5 +13,5 @@ overflow_add-height c =
     let some = length-map rcs (λ rc. rc.value) in
     let f = first_height rcs c.index.result.now (omega (arith, c.requires.at_least_two)) in
     let r : c.index.result.now.value.height ≡ (get_or rcs 0 c.index.result.now).value.height = ap (λ rc. rc.value.height) c.index.ensures in
-    let e : c.height-height.result ≡ height_of (trees rcs) = cc in
+    let e : c.height.result ≡ height_of (trees rcs) = cc in
     omega arith

@@ -1,8 +1,10 @@
-use Rattle.std.proofs.Common.{◌≡◌, ◌++◌, ap, sym, ◌∙◌, arith}
+use Rattle.std.proofs.Common.{◌≡◌, ◌≤◌, ◌++◌, ap, sym, ◌∙◌, arith}
+use Rattle.rope_text.specs.Text.{byte_len}
 use Rattle.rope_text.specs.Edit.{inserted}
 use Rattle.rope_text.specs.TextInfo.{info_of, info_sum}
 use Rattle.rope_text.proofs.InfoLaws.{info_of-append_apart}
 use Rattle.rope_tree.proofs.GrownLaws.{with_parted}
+use Rattle.rope_tree.proofs.Infos.{IsLow, low_info}
 use Rattle.rope_tree.proofs.node.Node.cut.Goals.{After-from_str-front_info}
 use Rattle.rope_tree.proofs.node.Node.cut.Goals as goal
 
@@ -14,6 +16,9 @@ whole c =
 
 counted : (c : After-from_str-front_info) → c.from_str-front_info.result ≡ info_of c.self.inside.breaks c.insert_str_split-back.new.self
 counted c = c.from_str-front_info.ensures ∙ ap (info_of c.self.inside.breaks) c.as_str-3.ensures.chars
+
+low : (c : After-from_str-front_info) → byte_len c.insert_str_split-back.new.self ≤ 984 → IsLow c.from_str-front_info.result 984
+low c fits = rw (counted c) (low_info c.self.inside.breaks c.insert_str_split-back.new.self 984 fits)
 
 parted : (c : After-from_str-front_info) → c.info_with-info.result ≡ info_sum c.from_str-front_info.result (info_of c.self.inside.breaks c.insert_str_split-back.result)
 parted c =
@@ -31,6 +36,15 @@ minus-back_info-requires-clause-line_breaks c = omega (arith, ap (λ i. i.line_b
 pub returns-clause-cut : goal.returns-clause-cut
 returns-clause-cut c =
     let f = (goal.at.returns-clause-cut c).After-from_str-front_info in
-    with_parted c.self.inside c.args.self.now c.in-Leaf.leaf c.insert_str_split-back.new.self c.self.invariant c.in-Leaf.is c.self.view_is c.as_str-4.ensures.fits c.as_str-4.ensures.scalars
+    with_parted c.self.inside c.args.self.now c.in-Leaf.old c.in-Leaf.leaf c.insert_str_split-back.new.self c.self.invariant c.in-Leaf.is c.self.view_is c.as_str-4.ensures.fits c.as_str-4.ensures.scalars
     c.from_str-front_info.result (counted f) c.args.at c.args.added.now c.insert_str_split-back.result c.in_ok-behind.behind.value c.in_ok-behind.ensures.ok c.in_ok-behind.ensures.tree
     (whole f) (c.insert_str_split-back.ensures.front, c.insert_str_split-back.ensures.back, c.insert_str_split-back.ensures.apart)
+
+pub new-requires-clause-chars : goal.new-requires-clause-chars
+new-requires-clause-chars c = (low (goal.at.new-requires-clause-chars c).After-from_str-front_info c.as_str-4.ensures.fits).chars
+
+pub new-requires-clause-surrogates : goal.new-requires-clause-surrogates
+new-requires-clause-surrogates c = (low (goal.at.new-requires-clause-surrogates c).After-from_str-front_info c.as_str-4.ensures.fits).surrogates
+
+pub new-requires-clause-breaks : goal.new-requires-clause-breaks
+new-requires-clause-breaks c = (low (goal.at.new-requires-clause-breaks c).After-from_str-front_info c.as_str-4.ensures.fits).breaks

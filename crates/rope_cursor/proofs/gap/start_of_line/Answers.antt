@@ -1,0 +1,8 @@
+use Rattle.std.proofs.Common.{◌≡◌, arith, ap, sym, ◌∙◌}
+use Rattle.std.specs.Str.{chars}
+use Rattle.rope_text.specs.Conversions.{line_to_byte}
+use Rattle.rope_cursor.proofs.gap.start_of_line.Goals as goal
+
+pub returns-then-line_idx-eq1 : goal.returns-then-line_idx-eq1
+returns-then-line_idx-eq1 c =
+    ap (λ info. info.bytes) c.count_line-first.ensures ∙ ap (line_to_byte c.args.set (chars c.args.text.now)) (sym c.if-line_idx-eq1.true)

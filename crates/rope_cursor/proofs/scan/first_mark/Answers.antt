@@ -1,0 +1,12 @@
+use Rattle.std.proofs.Common.{arith}
+use Rattle.rope_cursor.proofs.Scans.{first_one}
+use Rattle.rope_cursor.proofs.scan.first_mark.Goals as goal
+
+pub returns-clause-bound : goal.returns-clause-bound
+returns-clause-bound c = (first_one 32 64 c.args.mask (omega arith) c.requires).bound
+
+pub returns-clause-before : goal.returns-clause-before
+returns-clause-before c = (first_one 32 64 c.args.mask (omega arith) c.requires).before
+
+pub returns-clause-after : goal.returns-clause-after
+returns-clause-after c = (first_one 32 64 c.args.mask (omega arith) c.requires).after

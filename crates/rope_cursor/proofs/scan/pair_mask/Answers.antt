@@ -1,0 +1,15 @@
+use Rattle.std.proofs.Common.{◌+◌, leb, take, drop, count_by, sym, ap, ◌∙◌, arith, take-take}
+use Rattle.rope_text.specs.Bytes.{begins_pair}
+use Rattle.rope_text.proofs.Blocks.{count_by-block}
+use Rattle.rope_text.proofs.Marks.{compared_left, counted, length-loaded, itself}
+use Rattle.rope_cursor.proofs.scan.pair_mask.Goals as goal
+
+pub returns : goal.returns
+returns c = λ n few.
+    let s = c.args.bytes.now in
+    let i = c.args.at in
+    let v = take 32 (drop i s) in
+    let long = length-loaded s i 32 c.requires in
+    count_by-block begins_pair s i n
+    ∙ ap (λ k. k + count_by begins_pair (drop (i + n) s))
+    (sym (counted n (omega (arith, long)) (compared_left leb 240 32 long (itself v)) ∙ ap (count_by begins_pair) (take-take n 32 (drop i s) few)))

@@ -1,0 +1,8 @@
+use Rattle.rope_tree.proofs.OnTheWay.{IsOnWay, GoesDown}
+use Rattle.rope_tree.proofs.lookup.leaf_at.Given as goal
+
+abbrev pub invariant-down : goal.invariant-down
+invariant-down l = IsOnWay l.unit l.at l.node l.here l.rest l.before × GoesDown l.node.height l.here.height l.initial.steps l.steps
+
+abbrev pub decreases-down : goal.decreases-down
+decreases-down l = l.here.height

@@ -1,0 +1,54 @@
+//! The counts of a leaf, in few bytes.
+ghost use Rattle.std.specs.Prelude.{◌≡◌, ◌≤◌};
+
+use rope_text::TextInfo;
+use std::marker::Model;
+
+/// The counts of a leaf's text, of which none is above its bytes, in 16 bits each. It is seen as those counts.
+#[derive(Clone, Copy)]
+pub(crate) struct LeafInfo {
+    chars: u16,
+    utf16_surrogates: u16,
+    line_breaks: u16,
+    bytes: u16,
+}
+
+impl Model for LeafInfo {
+    ghost use Rattle.rope_text.specs.declared.text_info.TextInfo.{TextInfo};
+
+    ghost Value = { TextInfo };
+
+    ghost view = { λ a. record { chars = a.chars; utf16_surrogates = a.utf16_surrogates; line_breaks = a.line_breaks; bytes = a.bytes } };
+
+    ghost inverse = { λ i. record { chars = i.chars; utf16_surrogates = i.utf16_surrogates; line_breaks = i.line_breaks; bytes = i.bytes } };
+}
+
+impl LeafInfo {
+    /// These counts.
+    pub(crate) fn new(info: TextInfo) -> LeafInfo
+        requires chars { info.chars ≤ 984 }
+        requires surrogates { info.utf16_surrogates ≤ 984 }
+        requires breaks { info.line_breaks ≤ 984 }
+        requires bytes { info.bytes ≤ 984 }
+        ensures { result ≡ info }
+    {
+        LeafInfo {
+            chars: info.chars as u16,
+            utf16_surrogates: info.utf16_surrogates as u16,
+            line_breaks: info.line_breaks as u16,
+            bytes: info.bytes as u16,
+        }
+    }
+
+    /// The counts, in the width of a whole text's.
+    pub(crate) fn info(self) -> TextInfo
+        ensures { result ≡ self }
+    {
+        TextInfo {
+            chars: usize::from(self.chars),
+            utf16_surrogates: usize::from(self.utf16_surrogates),
+            line_breaks: usize::from(self.line_breaks),
+            bytes: usize::from(self.bytes),
+        }
+    }
+}
