@@ -12,3 +12,8 @@ pub record LooksUp (height : ℕ) (old new : Steps) : Type 0 where
   pub nodes : new.nodes ≤ old.nodes + height + 1
   pub compares : new.compares ≤ old.compares + 5 * height
   pub made : new.made ≡ old.made
+
+-- one node a level was entered, and at least one total was compared in each inner one
+pub record WentDown (height : ℕ) (old new : Steps) : Type 0 where
+  pub nodes : new.nodes ≡ old.nodes + height + 1
+  pub compares : old.compares + height ≤ new.compares

@@ -4,7 +4,7 @@ ghost use Rattle.rope_text.specs.Text.{byte_len, utf16_len};
 ghost use Rattle.rope_text.specs.Lines.{line_count};
 ghost use Rattle.rope_text.specs.Conversions.{byte_to_char, byte_to_line, char_to_byte, char_to_line, char_to_utf16, line_to_byte, line_to_char, utf16_to_char};
 ghost use Rattle.rope_tree.specs.Tree.{text};
-ghost use Rattle.rope_tree.specs.StepBounds.{HaveRoom, LooksUp};
+ghost use Rattle.rope_tree.specs.StepBounds.{HaveRoom, LooksUp, WentDown};
 
 use crate::lookup::leaf_at;
 use crate::node::Node;
@@ -17,6 +17,8 @@ pub fn byte_to_char(node: &Node, byte_idx: usize, steps: &mut Steps) -> usize
     requires room { HaveRoom node.now.height steps.old }
     ensures value { result ≡ byte_to_char (text node.now) byte_idx }
     ensures steps { LooksUp node.now.height steps.old steps.new }
+    ensures inside { byte_idx < byte_len (text node.now) → WentDown node.now.height steps.old steps.new }
+    ensures at_end { byte_idx ≡ byte_len (text node.now) → steps.new ≡ steps.old }
 {
     let _ = node.height();
     let info = node.info();
@@ -34,6 +36,8 @@ pub fn byte_to_line(node: &Node, byte_idx: usize, steps: &mut Steps) -> usize
     requires room { HaveRoom node.now.height steps.old }
     ensures value { result ≡ byte_to_line node.now.breaks (text node.now) byte_idx }
     ensures steps { LooksUp node.now.height steps.old steps.new }
+    ensures inside { byte_idx < byte_len (text node.now) → WentDown node.now.height steps.old steps.new }
+    ensures at_end { byte_idx ≡ byte_len (text node.now) → steps.new ≡ steps.old }
 {
     let _ = node.height();
     let info = node.info();
@@ -52,6 +56,8 @@ pub fn char_to_byte(node: &Node, char_idx: usize, steps: &mut Steps) -> usize
     requires room { HaveRoom node.now.height steps.old }
     ensures value { result ≡ char_to_byte (text node.now) char_idx }
     ensures steps { LooksUp node.now.height steps.old steps.new }
+    ensures inside { char_idx < length (text node.now) → WentDown node.now.height steps.old steps.new }
+    ensures at_end { char_idx ≡ length (text node.now) → steps.new ≡ steps.old }
 {
     let _ = node.height();
     let info = node.info();
@@ -69,6 +75,8 @@ pub fn char_to_line(node: &Node, char_idx: usize, steps: &mut Steps) -> usize
     requires room { HaveRoom node.now.height steps.old }
     ensures value { result ≡ char_to_line node.now.breaks (text node.now) char_idx }
     ensures steps { LooksUp node.now.height steps.old steps.new }
+    ensures inside { char_idx < length (text node.now) → WentDown node.now.height steps.old steps.new }
+    ensures at_end { char_idx ≡ length (text node.now) → steps.new ≡ steps.old }
 {
     let _ = node.height();
     let info = node.info();
@@ -87,6 +95,8 @@ pub fn char_to_utf16(node: &Node, char_idx: usize, steps: &mut Steps) -> usize
     requires room { HaveRoom node.now.height steps.old }
     ensures value { result ≡ char_to_utf16 (text node.now) char_idx }
     ensures steps { LooksUp node.now.height steps.old steps.new }
+    ensures inside { char_idx < length (text node.now) → WentDown node.now.height steps.old steps.new }
+    ensures at_end { char_idx ≡ length (text node.now) → steps.new ≡ steps.old }
 {
     let _ = node.height();
     let info = node.info();
@@ -105,6 +115,8 @@ pub fn utf16_to_char(node: &Node, utf16_idx: usize, steps: &mut Steps) -> usize
     requires room { HaveRoom node.now.height steps.old }
     ensures value { result ≡ utf16_to_char (text node.now) utf16_idx }
     ensures steps { LooksUp node.now.height steps.old steps.new }
+    ensures inside { utf16_idx < utf16_len (text node.now) → WentDown node.now.height steps.old steps.new }
+    ensures at_end { utf16_idx ≡ utf16_len (text node.now) → steps.new ≡ steps.old }
 {
     let _ = node.height();
     let info = node.info();
@@ -123,6 +135,9 @@ pub fn line_to_char(node: &Node, line_idx: usize, steps: &mut Steps) -> usize
     requires room { HaveRoom node.now.height steps.old }
     ensures value { result ≡ line_to_char node.now.breaks (text node.now) line_idx }
     ensures steps { LooksUp node.now.height steps.old steps.new }
+    ensures inside { 0 < line_idx → line_idx < line_count node.now.breaks (text node.now) → WentDown node.now.height steps.old steps.new }
+    ensures at_start { line_idx ≡ 0 → steps.new ≡ steps.old }
+    ensures at_end { line_idx ≡ line_count node.now.breaks (text node.now) → steps.new ≡ steps.old }
 {
     let _ = node.height();
     let info = node.info();
@@ -144,6 +159,9 @@ pub fn line_to_byte(node: &Node, line_idx: usize, steps: &mut Steps) -> usize
     requires room { HaveRoom node.now.height steps.old }
     ensures value { result ≡ line_to_byte node.now.breaks (text node.now) line_idx }
     ensures steps { LooksUp node.now.height steps.old steps.new }
+    ensures inside { 0 < line_idx → line_idx < line_count node.now.breaks (text node.now) → WentDown node.now.height steps.old steps.new }
+    ensures at_start { line_idx ≡ 0 → steps.new ≡ steps.old }
+    ensures at_end { line_idx ≡ line_count node.now.breaks (text node.now) → steps.new ≡ steps.old }
 {
     let _ = node.height();
     let info = node.info();

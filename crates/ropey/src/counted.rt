@@ -33,6 +33,8 @@ impl Rope {
         ensures value { result ≡ byte_to_char self.now.text byte_idx }
         ensures nodes { steps.new.nodes ≤ self.now.depth + 1 }
         ensures compares { steps.new.compares ≤ 5 * self.now.depth }
+        ensures inside { byte_idx < byte_len self.now.text → (steps.new.nodes ≡ self.now.depth + 1) × (self.now.depth ≤ steps.new.compares) }
+        ensures at_end { byte_idx ≡ byte_len self.now.text → (steps.new.nodes ≡ 0) × (steps.new.compares ≡ 0) }
         ensures made { steps.new.made ≡ 0 }
     {
         tree::byte_to_char(self.begin(steps), byte_idx, steps)
@@ -45,6 +47,8 @@ impl Rope {
         ensures value { result ≡ byte_to_line self.now.breaks self.now.text byte_idx }
         ensures nodes { steps.new.nodes ≤ self.now.depth + 1 }
         ensures compares { steps.new.compares ≤ 5 * self.now.depth }
+        ensures inside { byte_idx < byte_len self.now.text → (steps.new.nodes ≡ self.now.depth + 1) × (self.now.depth ≤ steps.new.compares) }
+        ensures at_end { byte_idx ≡ byte_len self.now.text → (steps.new.nodes ≡ 0) × (steps.new.compares ≡ 0) }
         ensures made { steps.new.made ≡ 0 }
     {
         tree::byte_to_line(self.begin(steps), byte_idx, steps)
@@ -57,6 +61,8 @@ impl Rope {
         ensures value { result ≡ char_to_byte self.now.text char_idx }
         ensures nodes { steps.new.nodes ≤ self.now.depth + 1 }
         ensures compares { steps.new.compares ≤ 5 * self.now.depth }
+        ensures inside { char_idx < length self.now.text → (steps.new.nodes ≡ self.now.depth + 1) × (self.now.depth ≤ steps.new.compares) }
+        ensures at_end { char_idx ≡ length self.now.text → (steps.new.nodes ≡ 0) × (steps.new.compares ≡ 0) }
         ensures made { steps.new.made ≡ 0 }
     {
         tree::char_to_byte(self.begin(steps), char_idx, steps)
@@ -69,6 +75,8 @@ impl Rope {
         ensures value { result ≡ char_to_line self.now.breaks self.now.text char_idx }
         ensures nodes { steps.new.nodes ≤ self.now.depth + 1 }
         ensures compares { steps.new.compares ≤ 5 * self.now.depth }
+        ensures inside { char_idx < length self.now.text → (steps.new.nodes ≡ self.now.depth + 1) × (self.now.depth ≤ steps.new.compares) }
+        ensures at_end { char_idx ≡ length self.now.text → (steps.new.nodes ≡ 0) × (steps.new.compares ≡ 0) }
         ensures made { steps.new.made ≡ 0 }
     {
         tree::char_to_line(self.begin(steps), char_idx, steps)
@@ -81,6 +89,8 @@ impl Rope {
         ensures value { result ≡ char_to_utf16 self.now.text char_idx }
         ensures nodes { steps.new.nodes ≤ self.now.depth + 1 }
         ensures compares { steps.new.compares ≤ 5 * self.now.depth }
+        ensures inside { char_idx < length self.now.text → (steps.new.nodes ≡ self.now.depth + 1) × (self.now.depth ≤ steps.new.compares) }
+        ensures at_end { char_idx ≡ length self.now.text → (steps.new.nodes ≡ 0) × (steps.new.compares ≡ 0) }
         ensures made { steps.new.made ≡ 0 }
     {
         tree::char_to_utf16(self.begin(steps), char_idx, steps)
@@ -93,6 +103,8 @@ impl Rope {
         ensures value { result ≡ utf16_to_char self.now.text utf16_cu_idx }
         ensures nodes { steps.new.nodes ≤ self.now.depth + 1 }
         ensures compares { steps.new.compares ≤ 5 * self.now.depth }
+        ensures inside { utf16_cu_idx < utf16_len self.now.text → (steps.new.nodes ≡ self.now.depth + 1) × (self.now.depth ≤ steps.new.compares) }
+        ensures at_end { utf16_cu_idx ≡ utf16_len self.now.text → (steps.new.nodes ≡ 0) × (steps.new.compares ≡ 0) }
         ensures made { steps.new.made ≡ 0 }
     {
         tree::utf16_to_char(self.begin(steps), utf16_cu_idx, steps)
@@ -105,6 +117,10 @@ impl Rope {
         ensures value { result ≡ line_to_byte self.now.breaks self.now.text line_idx }
         ensures nodes { steps.new.nodes ≤ self.now.depth + 1 }
         ensures compares { steps.new.compares ≤ 5 * self.now.depth }
+        ensures inside { 0 < line_idx → line_idx < line_count self.now.breaks self.now.text
+            → (steps.new.nodes ≡ self.now.depth + 1) × (self.now.depth ≤ steps.new.compares) }
+        ensures at_start { line_idx ≡ 0 → (steps.new.nodes ≡ 0) × (steps.new.compares ≡ 0) }
+        ensures at_end { line_idx ≡ line_count self.now.breaks self.now.text → (steps.new.nodes ≡ 0) × (steps.new.compares ≡ 0) }
         ensures made { steps.new.made ≡ 0 }
     {
         tree::line_to_byte(self.begin(steps), line_idx, steps)
@@ -117,6 +133,10 @@ impl Rope {
         ensures value { result ≡ line_to_char self.now.breaks self.now.text line_idx }
         ensures nodes { steps.new.nodes ≤ self.now.depth + 1 }
         ensures compares { steps.new.compares ≤ 5 * self.now.depth }
+        ensures inside { 0 < line_idx → line_idx < line_count self.now.breaks self.now.text
+            → (steps.new.nodes ≡ self.now.depth + 1) × (self.now.depth ≤ steps.new.compares) }
+        ensures at_start { line_idx ≡ 0 → (steps.new.nodes ≡ 0) × (steps.new.compares ≡ 0) }
+        ensures at_end { line_idx ≡ line_count self.now.breaks self.now.text → (steps.new.nodes ≡ 0) × (steps.new.compares ≡ 0) }
         ensures made { steps.new.made ≡ 0 }
     {
         tree::line_to_char(self.begin(steps), line_idx, steps)
