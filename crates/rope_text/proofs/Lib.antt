@@ -10,6 +10,7 @@ pub mod ClipLaws
 pub mod CursorLaws
 pub mod SidesLaws
 pub mod ByteSlices
+pub mod StepLaws
 pub mod PositionLaws
 pub mod LineLaws
 pub mod CuttingLaws
