@@ -1,8 +1,6 @@
 -- The first mark of a block, and the line that a scan leaves behind it.
-use Rattle.std.proofs.Common.{◌≡◌, ℕ, zero, suc, ◌+◌, ◌/◌, ◌%◌, ◌^◌, ◌≤◌, ◌<◌, Bool, true, false, cond, List, [], take, inl, inr, ◌||◌, nat_le, eqb, length, drop, get_or, count_by, count_ones, refl, sym, ap, ◌∙◌, arith}
+use Rattle.std.proofs.Common.{◌≡◌, ℕ, zero, suc, ◌+◌, ◌/◌, ◌%◌, ◌≤◌, ◌<◌, Bool, true, false, cond, List, [], take, inl, inr, length, drop, get_or, count_by, count_ones, refl, sym, ap, ◌∙◌, arith}
 use Rattle.std.proofs.lemmas.Bool.Decides.{nat_tests}
-use Rattle.std.proofs.lemmas.List.Sums.{sum_by-cons}
-use Rattle.std.specs.List.{range_with_len}
 use Rattle.std.specs.Int.Count.{count_trailing_zeros, ones-ones}
 use lib.Count.{under}
 use Rattle.rope_text.specs.declared.line_breaks.LineBreaks.{LineBreaks}
@@ -27,7 +25,7 @@ use Rattle.std.proofs.Math.ListN.{drop_of_length-le}
 use Rattle.std.proofs.lemmas.Bool.{cases_lt}
 use Rattle.std.proofs.lemmas.List.{take_all, length-take-le}
 use Rattle.rope_text.specs.Bytes.{begins_char, begins_pair}
-use Rattle.rope_text.proofs.BitLaws.{ones_le, ones_more, all_ones, no_marks}
+use Rattle.rope_text.proofs.BitLaws.{ones_le, ones_more, no_marks}
 use Rattle.rope_text.proofs.Blocks.{count_by-drop, count_by-front, byte_breaks-drop, breaks_at}
 use Rattle.rope_cursor.specs.declared.scan.Front.{Front}
 use Rattle.rope_cursor.specs.Scan.{IsFront}

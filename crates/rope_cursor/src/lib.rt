@@ -8,6 +8,7 @@ pub mod chars;
 pub mod chunks;
 mod cuts;
 pub mod gap;
+pub mod laws;
 pub mod lines;
 pub mod path;
 pub mod pieces;

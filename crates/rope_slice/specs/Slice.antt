@@ -2,6 +2,7 @@
 use Rattle.std.specs.Prelude.{ℕ, List}
 use Rattle.rope_text.specs.declared.line_breaks.LineBreaks.{LineBreaks}
 use Rattle.rope_text.specs.Content.{Content}
+use Rattle.rope_text.specs.Cutting.{single_chunk}
 use Rattle.std.specs.Hash.{HashWrites}
 use Rattle.std.specs.Str.{encode_utf8_all}
 use Rattle.rope_text.specs.Compare.{hash_writes}
@@ -11,6 +12,10 @@ use Rattle.rope_slice.specs.declared.slice.RopeSlice.{RopeSlice}
 -- its text, its chunks and its set of line breaks
 abbrev pub content_of : RopeSlice → Content
 content_of slice = of_part.content_of slice.part
+
+-- what a plain text with these line breaks shows: itself, as one chunk or none
+abbrev pub plain_content : LineBreaks → List ℕ → Content
+plain_content set text = record { text = text; chunks = single_chunk text; breaks = set }
 
 abbrev pub text_of : RopeSlice → List ℕ
 text_of slice = (content_of slice).text

@@ -2,8 +2,10 @@
 ghost use Rattle.std.specs.Prelude.{◌≡◌, IsTrue, ◌↔◌};
 ghost use Rattle.std.specs.Cmp.{IsTotalOrder};
 ghost use Rattle.std.specs.declared.cmp.Ordering.TheVariants.{Equal};
+ghost use Rattle.rope_text.specs.Content.{Content};
+ghost use Rattle.rope_text.specs.Laws.{StepsUndo, StepsAreCursors, StartsCount};
 ghost use Rattle.rope_slice.specs.declared.slice.RopeSlice.{RopeSlice};
-ghost use Rattle.rope_slice.specs.Slice.{text_of};
+ghost use Rattle.rope_slice.specs.Slice.{content_of, text_of};
 
 use crate::slice::RopeSlice;
 use std::hash::Hash;
@@ -24,4 +26,12 @@ pub fn order_is_total()
 pub fn equal_slices_hash_alike()
     ensures { (a b : RopeSlice) → IsTrue (⟦<RopeSlice<'static> as PartialEq>⟧.eq a b) →
         ⟦<RopeSlice<'static> as Hash>⟧.hash_input a ≡ ⟦<RopeSlice<'static> as Hash>⟧.hash_input b }
+{}
+
+/// `Lines` is a cursor in the list of the slice's lines, by what each shows: a step back undoes a step, the two sides are a
+/// cursor, and what is ahead is as many lines as are left.
+pub fn lines_are_a_cursor()
+    ensures undo { StepsUndo Content }
+    ensures steps { StepsAreCursors (λ (x : RopeSlice). content_of x) }
+    ensures starts { StartsCount Content }
 {}

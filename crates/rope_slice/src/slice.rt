@@ -93,7 +93,9 @@ impl<'a> RopeSlice<'a> {
 }
 
 impl<'a> From<&'a str> for RopeSlice<'a> {
-    ghost use Rattle.rope_slice.specs.Slice.{text_of, chunks_of, breaks_of};
+    ghost use Rattle.rope_slice.specs.Slice.{content_of, plain_content, text_of, chunks_of, breaks_of};
+
+    ghost from_gives = { λ text slice. content_of slice ≡ plain_content Unicode (chars text.now) };
 
     /// A plain text, with Unicode's line breaks.
     fn from(text: &'a str) -> RopeSlice<'a>

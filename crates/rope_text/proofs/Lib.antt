@@ -9,6 +9,8 @@ pub mod EditLaws
 pub mod ClipLaws
 pub mod CursorLaws
 pub mod SidesLaws
+pub mod ByteSlices
+pub mod StepLaws
 pub mod PositionLaws
 pub mod LineLaws
 pub mod CuttingLaws

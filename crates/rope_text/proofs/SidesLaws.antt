@@ -1,12 +1,12 @@
 -- The steps of code are those of a cursor in a list, and a step and the step back undo one another.
-use Rattle.std.proofs.Common.{◌≡◌, ℕ, suc, ◌<◌, ◌≤◌, Bool, true, false, not, List, [], ◌∷◌, ◌++◌, length, slice_get, Option, Some, None, MatchOption, refl, ap, sym, ◌∙◌, arith, append_assoc, length-append, subst}
+use Rattle.std.proofs.Common.{◌≡◌, ℕ, suc, ◌-◌, ◌<◌, ◌≤◌, Bool, true, false, not, List, [], ◌∷◌, ◌++◌, length, take, slice_get, Option, Some, None, MatchOption, refl, ap, sym, ◌∙◌, arith, append_assoc, length-append, subst}
 use Rattle.std.specs.Bool.{MatchBool}
 use Rattle.std.specs.Option.{option_map}
 use Rattle.std.proofs.lemmas.Bool.{lt-ltb, le-ltb}
-use Rattle.std.proofs.lemmas.List.{same_from_push}
+use Rattle.std.proofs.lemmas.List.{same_from_push, length-reverse, length-drop, length-take-le}
 use Rattle.std.proofs.lemmas.Option.{slice_get_past}
-use Rattle.rope_text.specs.Cursor.{Cursor, item_after, item_before, place_after, place_before, next_item, after_next, prev_item, after_prev, reversed}
-use Rattle.rope_text.specs.Sides.{Sides, all_items, place, turned, cursor_of, GoesRight, GoesLeft, StepsAhead, StepsBack}
+use Rattle.rope_text.specs.Cursor.{Cursor, item_after, item_before, place_after, place_before, next_item, after_next, prev_item, after_prev, reversed, size_left}
+use Rattle.rope_text.specs.Sides.{Sides, all_items, place, at_place, ahead, behind, turned, cursor_of, GoesRight, GoesLeft, StepsAhead, StepsBack}
 
 cursor_ext : {X : Type 0} (c d : Cursor X) → c.items ≡ d.items → c.place ≡ d.place → c.forward ≡ d.forward → c ≡ d
 cursor_ext {X} c d a b e =
@@ -130,3 +130,17 @@ module _ {A X : Type 0} (view : A → X) where
       go : (left right : List X) (back : Bool) → StepsAhead view (record { left = left; right = right; is_backward = back }) (Some x) t → MatchOption r ⊥ (λ y. (view y ≡ view x) × (u ≡ record { left = left; right = right; is_backward = back }))
       go left right true k = back_from_left (record { left = left; right = right; is_backward = true }) t u x r k (subst (λ d. MatchBool d (GoesRight view t r u) (GoesLeft view t r u)) k.2 h)
       go left right false k = back_from_right (record { left = left; right = right; is_backward = false }) t u x r k (subst (λ d. MatchBool d (GoesRight view t r u) (GoesLeft view t r u)) k.2 h)
+
+-- how many items are ahead
+pub length_ahead : {X : Type 0} (s : Sides X) → length (ahead s) ≡ size_left (cursor_of s)
+length_ahead {X} s = go s.left s.right s.is_backward
+  where
+    go : (left right : List X) (back : Bool) → length (ahead (record { left = left; right = right; is_backward = back })) ≡ size_left (cursor_of (record { left = left; right = right; is_backward = back }))
+    go left right true = length-reverse left
+    go left right false = omega (arith, length-append left right)
+
+pub length_ahead_at : {X : Type 0} (items : List X) (p : ℕ) → length (ahead (at_place items p)) ≡ length items - p
+length_ahead_at items p = length-drop p items
+
+pub length_behind_at : {X : Type 0} (items : List X) (p : ℕ) → p ≤ length items → length (behind (at_place items p)) ≡ p
+length_behind_at items p l = length-reverse (take p items) ∙ length-take-le p items l

@@ -1,14 +1,15 @@
 -- What the definitions give, as statements that the functions of `laws` prove.
-use Rattle.std.specs.Prelude.{Option, ◌≡◌, ℕ, ◌+◌, ◌-◌, ◌<◌, ◌≤◌, Bool, true, List, ◌++◌, length, take, drop, Some, None}
+use Rattle.std.specs.Prelude.{Option, ◌≡◌, ℕ, ◌+◌, ◌-◌, ◌<◌, ◌≤◌, ◌↔◌, Bool, true, List, ◌++◌, length, take, drop, Some, None}
 use Rattle.std.specs.List.{slice_range}
+use Rattle.std.specs.Option.{option_map}
 use Rattle.rope_text.specs.declared.line_breaks.LineBreaks.{LineBreaks}
-use Rattle.rope_text.specs.Text.{greatest}
+use Rattle.rope_text.specs.Text.{byte_len, greatest}
 use Rattle.rope_text.specs.Lines.{line_start, line_count}
 use Rattle.rope_text.specs.Conversions.{byte_to_char, utf16_to_char, char_to_byte, char_to_utf16, char_to_line}
 use Rattle.rope_text.specs.Cutting.{clip}
 use Rattle.rope_text.specs.Cursor.{Cursor, next_item, after_next, prev_item, after_prev, reversed, size_left}
-use Rattle.rope_text.specs.Sides.{Sides, turned, cursor_of, StepsAhead, StepsBack}
-use Rattle.rope_text.specs.Edit.{inserted, removed}
+use Rattle.rope_text.specs.Sides.{Sides, at_start, at_place, ahead, behind, turned, cursor_of, StepsAhead, StepsBack}
+use Rattle.rope_text.specs.Edit.{inserted, removed, byte_range_error}
 use Rattle.rope_text.specs.TextInfo.{info_of, info_sum, shared_breaks, less_breaks}
 use Rattle.rope_text.specs.Position.{char_to_column, position_to_char}
 
@@ -42,21 +43,46 @@ abbrev pub SlicesNest : Type 0
 SlicesNest = (text : List ℕ) (chunks : List (List ℕ)) (a b c d : ℕ) → d ≤ b - a
     → (slice_range (slice_range text a b) c d ≡ slice_range text (a + c) (a + d)) × (clip (clip chunks a b) c d ≡ clip chunks (a + c) (a + d))
 
+-- the characters that the bytes from a up to b are
+abbrev pub part_of_bytes : List ℕ → ℕ → ℕ → List ℕ
+part_of_bytes text a b = slice_range text (byte_to_char text a) (byte_to_char text b)
+
+abbrev pub chunks_of_bytes : List ℕ → List (List ℕ) → ℕ → ℕ → List (List ℕ)
+chunks_of_bytes text chunks a b = clip chunks (byte_to_char text a) (byte_to_char text b)
+
+-- a slice by bytes of a slice by bytes has as many bytes as its range says, is the slice at the added offsets, text and chunks,
+-- and within the slice it is refused exactly where that one is
+abbrev pub ByteSlicesNest : Type 0
+ByteSlicesNest = (text : List ℕ) (chunks : List (List ℕ)) (a b : ℕ) → byte_range_error text (Some a) (Some b) ≡ None
+    → (byte_len (part_of_bytes text a b) ≡ b - a)
+    × ((c d : ℕ) → d ≤ b - a
+    → ((byte_range_error (part_of_bytes text a b) (Some c) (Some d) ≡ None) ↔ (byte_range_error text (Some (a + c)) (Some (a + d)) ≡ None))
+    × (c ≤ d → (part_of_bytes (part_of_bytes text a b) c d ≡ part_of_bytes text (a + c) (a + d))
+    × (chunks_of_bytes (part_of_bytes text a b) (chunks_of_bytes text chunks a b) c d ≡ chunks_of_bytes text chunks (a + c) (a + d))))
+
 -- an insert and then the removal of it, a split and then an append, leave the text
 abbrev pub EditsUndo : Type 0
 EditsUndo = (text : List ℕ) (i : ℕ) (new : List ℕ) → i ≤ length text → (removed (inserted text i new) i (i + length new) ≡ text) × (take i text ++ drop i text ≡ text)
 
 -- a step back undoes a step that gave an item, and each step leaves one item less, until none is left
-abbrev pub StepsUndo : Type 0
-StepsUndo = (c : Cursor (List ℕ)) → c.place ≤ length c.items
-    → ((x : List ℕ) → next_item c ≡ Some x → (prev_item (after_next c) ≡ Some x) × (after_prev (after_next c) ≡ c) × (size_left (after_next c) + 1 ≡ size_left c))
+abbrev pub StepsUndo : Type 0 → Type 0
+StepsUndo X = (c : Cursor X) → c.place ≤ length c.items
+    → ((x : X) → next_item c ≡ Some x → (prev_item (after_next c) ≡ Some x) × (after_prev (after_next c) ≡ c) × (size_left (after_next c) + 1 ≡ size_left c))
     × (next_item c ≡ None → (size_left c ≡ 0) × (after_next c ≡ c))
 
--- a step of code from the sides s to the sides t, with the item r or none, is the cursor's step, and so is a step back;
--- turned sides are the cursor turned round; and a step back after a step that gave an item gives it again, where it was
-abbrev pub StepsAreCursors : Type 0
-StepsAreCursors = (s t : Sides (List ℕ)) (r : Option (List ℕ))
-    → (StepsAhead (λ x. x) s r t → (r ≡ next_item (cursor_of s)) × (cursor_of t ≡ after_next (cursor_of s)))
-    × (StepsBack (λ x. x) s r t → (r ≡ prev_item (cursor_of s)) × (cursor_of t ≡ after_prev (cursor_of s)))
-    × (cursor_of (turned s) ≡ reversed (cursor_of s))
-    × ((u : Sides (List ℕ)) (x : List ℕ) → StepsAhead (λ x. x) s (Some x) t → StepsBack (λ x. x) t r u → (r ≡ Some x) × (u ≡ s))
+module _ {A X : Type 0} (view : A → X) where
+  -- a step of code from the sides s to the sides t, with what shows the item r or none, is the cursor's step, and so is a step
+  -- back; turned sides are the cursor turned round; and a step back after a step that gave an item gives one that shows the same,
+  -- and leaves the sides as they were
+  abbrev pub StepsAreCursors : Type 0
+  StepsAreCursors = (s t : Sides X) (r : Option A)
+      → (StepsAhead view s r t → (option_map view r ≡ next_item (cursor_of s)) × (cursor_of t ≡ after_next (cursor_of s)))
+      × (StepsBack view s r t → (option_map view r ≡ prev_item (cursor_of s)) × (cursor_of t ≡ after_prev (cursor_of s)))
+      × (cursor_of (turned s) ≡ reversed (cursor_of s))
+      × ((u : Sides X) (x : A) → StepsAhead view s (Some x) t → StepsBack view t r u → (option_map view r ≡ Some (view x)) × (u ≡ s))
+
+-- what is ahead is as many items as the cursor has left: all after a start, and after a start at a place those from it on
+abbrev pub StartsCount : Type 0 → Type 0
+StartsCount X = ((s : Sides X) → length (ahead s) ≡ size_left (cursor_of s))
+    × ((items : List X) → length (ahead (at_start items)) ≡ length items)
+    × ((items : List X) (p : ℕ) → p ≤ length items → (length (ahead (at_place items p)) ≡ length items - p) × (length (behind (at_place items p)) ≡ p))

@@ -112,7 +112,7 @@ pub fn nearest_internal_break(text: &[u8], at: usize) -> usize
 }
 
 /// The cut at `at`, or else the nearest cut before it or after it, before it where `bias_left` says so,
-/// unless no cut inside the text lies on that side.
+/// unless no cut inside the text lies on that side: then it is the nearest on the other one, the ends of the text among them.
 pub fn find_good_split(at: usize, text: &[u8], bias_left: bool) -> usize
     requires { at ≤ length text.now }
     ensures boundary { IsUtf8 text.now → IsCharBoundary text.now result }
@@ -123,6 +123,10 @@ pub fn find_good_split(at: usize, text: &[u8], bias_left: bool) -> usize
         → (k ≤ result) × (result ≤ at) }
     ensures right { bias_left ≡ false → (k : ℕ) → at < k → k < length text.now → IsTrue (is_cut text.now k)
         → (at ≤ result) × (result ≤ k) }
+    ensures no_left { IsTrue bias_left → ((k : ℕ) → 0 < k → k < at → IsTrue (is_cut text.now k) → ⊥)
+        → (at ≤ result) × ((k : ℕ) → at ≤ k → k ≤ length text.now → IsTrue (is_cut text.now k) → result ≤ k) }
+    ensures no_right { bias_left ≡ false → ((k : ℕ) → at < k → k < length text.now → IsTrue (is_cut text.now k) → ⊥)
+        → (result ≤ at) × ((k : ℕ) → k ≤ at → IsTrue (is_cut text.now k) → k ≤ result) }
 {
     if is_break(text, at) {
         return at;
@@ -130,10 +134,7 @@ pub fn find_good_split(at: usize, text: &[u8], bias_left: bool) -> usize
     let before = prev_break(text, at);
     let after = next_break(text, at);
     if bias_left {
-        if before > 0 { before } else { after }
-    } else if after < text.len() {
-        after
-    } else {
-        before
+        return if before > 0 { before } else { after };
     }
+    if after < text.len() { after } else { before }
 }

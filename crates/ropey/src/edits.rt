@@ -71,7 +71,8 @@ impl Rope {
         self.split_at(char_idx, &mut 0)
     }
 
-    /// Does what `split_off` does, and counts the nodes that it makes; all counts are 0 before.
+    /// Does what `split_off` does, and counts the nodes that it makes; all counts are 0 before. What it promises of the counts is
+    /// `made` alone: of the nodes that it enters and the totals that it compares nothing is told.
     pub fn split_off_counted(&mut self, char_idx: usize, steps: &mut Steps) -> Result<Rope>
         requires { char_idx ≤ length self.old.text }
         ensures front { OnOk result (self.new.text ≡ take char_idx self.old.text) }
@@ -83,7 +84,6 @@ impl Rope {
         ensures breaks { self.new.breaks ≡ self.old.breaks }
         ensures kept { IsRope self.new }
         ensures made { steps.new.made ≤ 16 * self.old.depth + 32 }
-        ensures only_made { (steps.new.nodes ≡ 0) × (steps.new.compares ≡ 0) }
     {
         *steps = Steps::new();
         self.split_at(char_idx, &mut steps.made)
@@ -154,7 +154,8 @@ impl Rope {
         self.try_remove(range)
     }
 
-    /// Does what `remove` does, and counts the nodes that it makes; all counts are 0 before.
+    /// Does what `remove` does, and counts the nodes that it makes; all counts are 0 before. What it promises of the counts is
+    /// `made` alone: of the nodes that it enters and the totals that it compares nothing is told.
     pub fn remove_counted<R: IndexRange + Drop>(
         &mut self,
         range: R,
@@ -168,7 +169,6 @@ impl Rope {
         ensures breaks { self.new.breaks ≡ self.old.breaks }
         ensures kept { IsRope self.new }
         ensures made { steps.new.made ≤ 16 * self.old.depth + 32 }
-        ensures only_made { (steps.new.nodes ≡ 0) × (steps.new.compares ≡ 0) }
     {
         *steps = Steps::new();
         self.remove_range(range, &mut steps.made)
@@ -238,7 +238,8 @@ impl Rope {
         self.append_made(other, &mut 0)
     }
 
-    /// Does what `append` does, and counts the nodes that it makes; all counts are 0 before.
+    /// Does what `append` does, and counts the nodes that it makes; all counts are 0 before. What it promises of the counts is
+    /// `made` alone: of the nodes that it enters and the totals that it compares nothing is told.
     pub fn append_counted(&mut self, other: Rope, steps: &mut Steps) -> Result<()>
         ensures ok { OnOk result ((append_error self.old.breaks other.breaks self.old.text other.text ≡ None) × (self.new.text ≡ self.old.text ++ other.text)) }
         ensures refused { IfErr result (IsRefusal (append_error self.old.breaks other.breaks self.old.text other.text)) }
@@ -248,7 +249,6 @@ impl Rope {
         ensures breaks { self.new.breaks ≡ self.old.breaks }
         ensures kept { IsRope self.new }
         ensures made { steps.new.made ≤ 16 * max self.old.depth other.depth + 32 }
-        ensures only_made { (steps.new.nodes ≡ 0) × (steps.new.compares ≡ 0) }
     {
         *steps = Steps::new();
         self.append_made(other, &mut steps.made)

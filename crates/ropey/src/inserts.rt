@@ -164,7 +164,8 @@ impl Rope {
         self.try_insert_char(char_idx, c)
     }
 
-    /// Does what `insert_char` does, and counts the nodes that it makes; all counts are 0 before.
+    /// Does what `insert_char` does, and counts the nodes that it makes; all counts are 0 before. What it promises of the counts
+    /// is `made` alone: of the nodes that it enters and the totals that it compares nothing is told.
     pub fn insert_char_counted(&mut self, char_idx: usize, c: char, steps: &mut Steps) -> Result<()>
         requires { char_idx ≤ length self.old.text }
         ensures ok { OnOk result ((insert_error self.old.text char_idx (c ∷ []) ≡ None)
@@ -174,7 +175,6 @@ impl Rope {
         ensures breaks { self.new.breaks ≡ self.old.breaks }
         ensures kept { IsRope self.new }
         ensures made { steps.new.made ≤ 8 * self.old.depth + 16 }
-        ensures only_made { (steps.new.nodes ≡ 0) × (steps.new.compares ≡ 0) }
     {
         *steps = Steps::new();
         self.insert_char_made(char_idx, c, &mut steps.made)

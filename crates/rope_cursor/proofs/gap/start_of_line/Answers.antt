@@ -1,4 +1,4 @@
-use Rattle.std.proofs.Common.{◌≡◌, arith, ap, sym, ◌∙◌}
+use Rattle.std.proofs.Common.{ap, sym, ◌∙◌}
 use Rattle.std.specs.Str.{chars}
 use Rattle.rope_text.specs.Conversions.{line_to_byte}
 use Rattle.rope_cursor.proofs.gap.start_of_line.Goals as goal
