@@ -1,5 +1,5 @@
 //! Places that are inside because of what the rope answered.
-ghost use Rattle.std.specs.Prelude.{◌≡◌, ◌+◌, ◌-◌, ◌≤◌, ◌<◌, ◌↔◌, length, take, IsTrue, IfOk, OnOk, OnErr};
+ghost use Rattle.std.specs.Prelude.{◌≡◌, ◌+◌, ◌≤◌, ◌<◌, ◌↔◌, length, IsTrue, IfOk, OnOk, OnErr};
 ghost use Rattle.std.specs.Bool.{OnTrue, OnFalse};
 ghost use Rattle.std.specs.Str.{chars};
 ghost use Rattle.rope_text.specs.Conversions.{byte_to_char, line_to_char};
@@ -18,18 +18,6 @@ pub fn put_at_end(rope: &mut Rope, text: &str) -> Result<()>
     rope.insert(end, text)
 }
 
-/// Leaves at most the first `most` characters.
-pub fn shorten(rope: &mut Rope, most: usize) -> Result<()>
-    ensures ok { OnOk result (rope.new.text ≡ take most rope.old.text) }
-    ensures err { OnErr result (rope.new ≡ rope.old) }
-{
-    let len = rope.len_chars();
-    if most < len {
-        rope.remove(most..)?;
-    }
-    Ok(())
-}
-
 /// Puts a text before the character that holds the byte `byte_idx`.
 pub fn insert_at_byte(rope: &mut Rope, byte_idx: usize, text: &str) -> Result<()>
     requires { byte_idx ≤ byte_len rope.old.text }
@@ -39,17 +27,6 @@ pub fn insert_at_byte(rope: &mut Rope, byte_idx: usize, text: &str) -> Result<()
 {
     let char_idx = rope.byte_to_char(byte_idx);
     rope.insert(char_idx, text)
-}
-
-/// Puts a text before the first character of the line `line_idx`.
-pub fn insert_before_line(rope: &mut Rope, line_idx: usize, text: &str) -> Result<()>
-    requires { line_idx < line_count rope.old.breaks rope.old.text }
-    ensures ok { OnOk result (rope.new.text
-        ≡ inserted rope.old.text (line_to_char rope.old.breaks rope.old.text line_idx) (chars text.now)) }
-    ensures err { OnErr result (rope.new ≡ rope.old) }
-{
-    let start = rope.line_to_char(line_idx);
-    rope.insert(start, text)
 }
 
 /// Takes the line `line_idx` out, its break with it, and answers whether there is such a line.
