@@ -1,0 +1,30 @@
+//! A search through a cursor, and an edit at the place that it answers.
+ghost use Rattle.std.specs.Prelude.{◌≡◌, IfOk, MatchOption, OnErr};
+ghost use Rattle.std.specs.Str.{chars};
+ghost use Rattle.rope_text.specs.Edit.{inserted};
+ghost use Rattle.rope_callers.specs.Search.{IsFirstPlace};
+
+use ropey::{Result, Rope};
+
+/// The first place of a character, counted in characters from 0, or none where the text doesn't have it.
+pub fn find_char(rope: &Rope, c: char) -> Option<usize>
+    ensures { IsFirstPlace c rope.now.text result }
+{
+    // the characters are as many as a `usize` counts, so `position` can count them
+    let _ = rope.len_chars();
+    rope.chars().position(|x| x == c)
+}
+
+/// Puts a text before the first such character, if there is one, and answers where.
+pub fn insert_before_char(rope: &mut Rope, c: char, text: &str) -> Result<Option<usize>>
+    ensures place { IfOk result (IsFirstPlace c rope.old.text) }
+    ensures edited { IfOk result (λ found. MatchOption found (rope.new ≡ rope.old)
+        (λ i. rope.new.text ≡ inserted rope.old.text i (chars text.now))) }
+    ensures err { OnErr result (rope.new ≡ rope.old) }
+{
+    let found = find_char(rope, c);
+    if let Some(i) = found {
+        rope.insert(i, text)?;
+    }
+    Ok(found)
+}

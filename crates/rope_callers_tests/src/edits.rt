@@ -1,0 +1,74 @@
+//! The callers that make or change a text.
+use rope_callers::copies::copy_without;
+use rope_callers::edits::titled;
+use rope_callers::history::History;
+use rope_callers::places::{insert_at_byte, put_at_end, remove_line};
+use rope_callers::positions::insert_at_position;
+use rope_callers::search::insert_before_char;
+use rope_position::Position;
+use ropey::{Error, Rope};
+use std::test::Fail;
+
+#[test]
+fn a_titled_text(rt: HostRuntime) -> Result<(), Fail> {
+    let rope = titled(rt.alloc(), "one\ntwo\n", "list\n")?;
+    assert!(rt; rope.eq_str("list\none\ntwo\n"));
+    Ok(())
+}
+
+#[test]
+fn places_that_are_inside(rt: HostRuntime) -> Result<(), Fail> {
+    let mut rope = Rope::from_str(rt.alloc(), "ä\nb\n")?;
+    put_at_end(&mut rope, "c\nd")?;
+    assert!(rt; rope.eq_str("ä\nb\nc\nd"));
+    assert!(rt; 1 <= rope.len_bytes());
+    insert_at_byte(&mut rope, 1, "x")?;
+    assert!(rt; rope.eq_str("xä\nb\nc\nd"));
+    assert!(rt; remove_line(&mut rope, 1)?);
+    assert!(rt; rope.eq_str("xä\nc\nd"));
+    assert!(rt; !remove_line(&mut rope, 3)?);
+    Ok(())
+}
+
+#[test]
+fn a_copy_without_a_part(rt: HostRuntime) -> Result<(), Fail> {
+    let rope = Rope::from_str(rt.alloc(), "abcd")?;
+    assert_eq!(rt; rope.len_chars(), 4);
+    let copy = copy_without(&rope, 1, 3)?;
+    assert!(rt; copy.eq_str("ad"));
+    assert!(rt; rope.eq_str("abcd"));
+    Ok(())
+}
+
+#[test]
+fn edits_undone(rt: HostRuntime) -> Result<(), Fail> {
+    let mut history = History {
+        text: Rope::from_str(rt.alloc(), "b")?,
+        past: Vec::new(rt.alloc()),
+    };
+    history.insert(0, "a")?;
+    assert_eq!(rt; history.text.len_chars(), 2);
+    history.insert(2, "c")?;
+    assert!(rt; history.text.eq_str("abc"));
+    for text in ["ab", "b"] {
+        assert!(rt; history.undo());
+        assert!(rt; history.text.eq_str(text));
+    }
+    assert!(rt; !history.undo());
+    assert!(rt; history.text.eq_str("b"));
+    Ok(())
+}
+
+#[test]
+fn edits_at_places_that_are_sought(rt: HostRuntime) -> Result<(), Fail> {
+    let mut rope = Rope::from_str(rt.alloc(), "ä=b=c")?;
+    assert_eq!(rt; insert_before_char(&mut rope, '=', " ")?, Some(1));
+    assert_eq!(rt; insert_before_char(&mut rope, 'x', " ")?, None);
+    assert!(rt; rope.eq_str("ä =b=c"));
+    let mut rope = Rope::from_str(rt.alloc(), "a\n𝔸b")?;
+    insert_at_position(&mut rope, Position { line: 1, column: 2 }, "x")?;
+    assert!(rt; rope.eq_str("a\n𝔸xb"));
+    let past = insert_at_position(&mut rope, Position { line: 2, column: 0 }, "x");
+    assert!(rt; past == Err(Error::LineIndexOutOfBounds(2, 2)));
+    Ok(())
+}
