@@ -11,7 +11,7 @@ use rope_language::{Ended, serve};
 use std::io;
 use std::process::ExitCode;
 
-/// The status that tells how the run ended.
+/// The status that says how the run ended.
 fn status(ended: Ended) -> u8
     ensures done { ended ≡ Done → result ≡ 0 }
     ensures bad_line { (number : ℕ) → ended ≡ BadLine number → result ≡ 2 }

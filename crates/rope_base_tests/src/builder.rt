@@ -1,4 +1,4 @@
-//! Trees of texts that are handed in one after the other.
+//! Trees of texts that are passed in one after the other.
 use rope_text::LineBreaks;
 use rope_tree::builder::Builder;
 

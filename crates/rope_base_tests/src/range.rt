@@ -3,20 +3,20 @@ use rope_text::range::char_bounds;
 use rope_text::{Error, IndexRange};
 use std::test::Fail;
 
-fn told<R: IndexRange>(range: &R) -> (Option<usize>, Option<usize>) {
+fn bounds<R: IndexRange>(range: &R) -> (Option<usize>, Option<usize>) {
     (range.start(), range.end())
 }
 
 #[test]
 fn each_range(rt: HostRuntime) {
-    assert_eq!(rt; told(&(1..3)), (Some(1), Some(3)));
-    assert_eq!(rt; told(&(1..)), (Some(1), None));
-    assert_eq!(rt; told(&(..)), (None, None));
-    assert_eq!(rt; told(&(1..=3)), (Some(1), Some(4)));
-    assert_eq!(rt; told(&(..3)), (None, Some(3)));
-    assert_eq!(rt; told(&(..=3)), (None, Some(4)));
-    assert_eq!(rt; told(&(1..=usize::MAX)), (Some(1), Some(usize::MAX)));
-    assert_eq!(rt; told(&(..=usize::MAX)), (None, Some(usize::MAX)));
+    assert_eq!(rt; bounds(&(1..3)), (Some(1), Some(3)));
+    assert_eq!(rt; bounds(&(1..)), (Some(1), None));
+    assert_eq!(rt; bounds(&(..)), (None, None));
+    assert_eq!(rt; bounds(&(1..=3)), (Some(1), Some(4)));
+    assert_eq!(rt; bounds(&(..3)), (None, Some(3)));
+    assert_eq!(rt; bounds(&(..=3)), (None, Some(4)));
+    assert_eq!(rt; bounds(&(1..=usize::MAX)), (Some(1), Some(usize::MAX)));
+    assert_eq!(rt; bounds(&(..=usize::MAX)), (None, Some(usize::MAX)));
 }
 
 #[test]

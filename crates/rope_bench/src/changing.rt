@@ -1,4 +1,4 @@
-//! Removals, splits, clones, and a rope that is cut anew.
+//! Removals, splits, clones, and a rope that is re-chunked.
 use crate::fault::Fault;
 use crate::measure::{Outcome, lens, now, since, whole};
 use crate::numbers::Numbers;
@@ -93,7 +93,7 @@ fn split_and_append(rope: &mut Rope, count: usize) -> Result<(), Fault> {
     let mut numbers = Numbers::new();
     let first = (rope.len_chars() / 2).saturating_sub(500);
     for _ in 0..count {
-        // Never past the end, where the prover need not be told so.
+        // Never past the end, where the prover needs the bound.
         let place = first.wrapping_add(numbers.up_to(999)).min(rope.len_chars());
         let back = rope.split_off(place)?;
         rope.append(back)?;
@@ -121,7 +121,7 @@ pub fn clone_and_insert<C: CpuClock>(clock: &C, sample: &Sample) -> Result<Outco
     })
 }
 
-/// A rope of the text ten times, which shares its nodes with the sample's, cut anew.
+/// A rope of the text ten times, which shares its nodes with the sample's, re-chunked.
 pub fn shrink_to_fit<C: CpuClock>(clock: &C, sample: &Sample) -> Result<Outcome, Fault> {
     let mut rope = sample.rope.clone()?;
     for _ in 1..10 {

@@ -52,7 +52,7 @@ pub fn count<C: CpuClock>(clock: &C, sample: &Sample, what: Counted) -> Result<O
     })
 }
 
-/// A slice of the text, which is gone over to be counted, and its lengths.
+/// A slice of the text, which is read to be counted, and its lengths.
 pub fn slice_from_str<C: CpuClock>(clock: &C, sample: &Sample) -> Result<Outcome, Fault> {
     let text = ten_times(sample.alloc, sample.text.as_str())?;
     let start = now(clock)?;

@@ -61,7 +61,7 @@ fn insert_chars_at_random(rope: &mut Rope, count: usize) -> Result<(), Fault> {
 fn insert_chars_in_a_row(rope: &mut Rope, count: usize) -> Result<(), Fault> {
     let middle = rope.len_chars() / 2;
     for k in 0..count {
-        // Never past the end, where the prover need not be told so.
+        // Never past the end, where the prover needs the bound.
         let place = middle.wrapping_add(k).min(rope.len_chars());
         rope.insert_char(place, 'x')?;
     }

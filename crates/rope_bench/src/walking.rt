@@ -15,7 +15,7 @@ const STEPS: usize = 10;
 /// How many characters a slice has.
 const SLICE_CHARS: usize = 1_000;
 
-/// What is gone over, or asked for.
+/// What is scanned, or asked for.
 #[derive(Clone, Copy)]
 pub enum Walk {
     Bytes,

@@ -30,7 +30,7 @@ passed a b rest ahead front back bytes next m e f same = record {
   size = omega (arith, ap length e, ap length f, ap length same, m.size, length-append front back, length-append bytes next);
 }
 
--- what a test of two texts tells
+-- what a test of two texts says
 of_not_false : (b : Bool) → false ≡ not b → b ≡ true
 of_not_false false e = cc
 of_not_false true e = refl
@@ -46,14 +46,14 @@ tested_tie Less e = cc
 tested_tie Equal e = refl
 tested_tie Greater e = cc
 
--- two tests that tell the same are the same
+-- two tests that say the same are the same
 same_tests : (r q : Bool) → (r ≡ true → q ≡ true) → (q ≡ true → r ≡ true) → r ≡ q
 same_tests false false f g = refl
 same_tests false true f g = g refl
 same_tests true false f g = sym (f refl)
 same_tests true true f g = refl
 
--- what tells whether two texts are the same compares their bytes one by one
+-- what says whether two texts are the same compares their bytes one by one
 pub same_by_bytes : (r : Bool) (s t : List ℕ) → IsTrue r ↔ (s ≡ t) → r ≡ pointwise nat_eq (encode_utf8_all s) (encode_utf8_all t)
 same_by_bytes r s t same =
     let bytes = bytes_decides (encode_utf8_all s) (encode_utf8_all t) in

@@ -1,4 +1,4 @@
-//! Parts between two places whose counts are known: no text is gone over.
+//! Parts between two places whose counts are known: no text is read.
 ghost use Rattle.std.specs.Prelude.{◌≡◌, ◌≤◌, ◌<◌, false, length, take, drop};
 ghost use Rattle.std.specs.List.{slice_range};
 ghost use Rattle.rope_text.specs.Cutting.{clip, parts_crlf};

@@ -54,7 +54,7 @@ fn width_of(byte: u8) -> usize
     }
 }
 
-// The counts of a text up to the end of its first line break, or of all of it: the text is gone over once, up to there.
+// The counts of a text up to the end of its first line break, or of all of it: the text is read once, up to there.
 // Inlined, since what a call answers through memory has to be waited for.
 #[inline(always)]
 fn count_line(text: &str, set: LineBreaks) -> TextInfo
@@ -110,7 +110,7 @@ fn cut_before(text: &str, end: usize, near: usize) -> usize
 }
 
 // The byte at which the last line of a text starts, or the one so many line breaks before it, and the counts from there on.
-// All of the text is gone over.
+// All of the text is read.
 fn count_last_of_all(text: &str, skip: usize, set: LineBreaks) -> (usize, TextInfo)
     ensures start { result.0 ≡ byte_len (take (last_start set (chars text.now) skip) (chars text.now)) }
     ensures counts { result.1 ≡ info_of set (drop (last_start set (chars text.now) skip) (chars text.now)) }

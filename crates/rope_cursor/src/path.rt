@@ -46,7 +46,7 @@ impl<'a> Model for Path<'a> {
     ghost invariant = { λ a. AreFrames a.frames a.depth (around a.frames a.depth (chars a.leaf.now ∷ [])) };
 }
 
-// Whether all nodes are leaves, as far as their heads tell. A walk comes to one after the other, and would wait for memory at
+// Whether all nodes are leaves, as far as their heads show. A walk comes to one after the other, and would wait for memory at
 // each: here what it will read of their heads is read side by side, so that their waits are one. No leaf below another node is
 // empty; its bytes are asked for so that they are read too.
 fn are_leaves(nodes: &[Rc<Node>]) -> bool
@@ -61,7 +61,7 @@ fn are_leaves(nodes: &[Rc<Node>]) -> bool
     true
 }
 
-// The text of a leaf, which is as long as the node's counts tell, and they lie in its head.
+// The text of a leaf, whose length is in the node's counts, which lie in its head.
 fn leaf_text<'a>(node: &'a Node, leaf: &'a NodeText) -> &'a str
     requires { IsLeafOf node.now leaf.now }
     ensures { chars result.now ≡ leaf.now }

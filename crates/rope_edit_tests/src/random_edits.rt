@@ -163,7 +163,7 @@ fn compare_all(pairs: &[Pair], set: LineBreaks) -> Result<(), Fail> {
     Ok(())
 }
 
-/// Cuts all ropes anew.
+/// Re-chunks all ropes.
 fn shrink_all(pairs: &mut [Pair], set: LineBreaks) -> Result<(), Fail> {
     for pair in pairs.iter_mut() {
         pair.rope.shrink_to_fit()?;
@@ -173,7 +173,7 @@ fn shrink_all(pairs: &mut [Pair], set: LineBreaks) -> Result<(), Fail> {
     Ok(())
 }
 
-/// How many rounds of edits are done between two times that all ropes are cut anew.
+/// How many rounds of edits are done between two times that all ropes are re-chunked.
 const BETWEEN_SHRINKS: usize = 16;
 
 /// Edits of several ropes of one set of line breaks, which are compared after each hundred of them, and the clones made before

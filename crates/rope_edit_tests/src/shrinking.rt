@@ -1,4 +1,4 @@
-//! Ropes that are cut anew.
+//! Ropes that are re-chunked.
 use rope_plain::compare::{compare_unicode, has_few_chunks, lens};
 use ropey::Rope;
 use std::test::Fail;

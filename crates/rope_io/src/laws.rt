@@ -7,7 +7,7 @@ pub fn read_back()
     ensures { ReadsBack }
 {}
 
-/// Unless the device fails or the text is refused for its size or for want of memory, the definition of reading says
+/// Unless the device fails or the text is refused for its size or when out of memory, the definition of reading says
 /// alone whether a rope is answered. The answer holds an `R`, which shows a text.
 pub fn reading_is_exact<R>()
     ensures { (text_of : R → List ℕ) → ReadingIsExact text_of }

@@ -31,7 +31,7 @@ fn front_of(bytes: &[u8]) -> &str
     }
 }
 
-// Puts a text behind what was read, which refuses it for its size, then for want of memory.
+// Puts a text behind what was read, which refuses it for its size, then when out of memory.
 fn append(builder: &mut Builder, text: &str) -> Result<()>
     ensures text { OnOk result (encode_utf8_all builder.new.text ≡ encode_utf8_all builder.old.text ++ text.now) }
     ensures fits { OnOk result (byte_len builder.new.text < 2 ^ 63) }
@@ -113,7 +113,7 @@ fn read_texts<S: Source>(
 ///
 /// A failed read is answered at once as `Read`, an interrupted one too. Bytes that are no UTF-8 are answered as
 /// `InvalidData`, at the end of the source or once 1,968 bytes have been read from the first on that is not. A text of
-/// more than `isize::MAX` bytes so far, and want of memory, are answered as `Rope`.
+/// more than `isize::MAX` bytes so far, and a refusal of memory, are returned as `Rope`.
 pub fn read_tree<S: Source>(
     alloc: Global,
     source: &mut S,

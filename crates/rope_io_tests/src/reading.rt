@@ -16,7 +16,7 @@ enum Answer {
     Refused(Error),
 }
 
-fn told(rt: &HostRuntime, answer: Result<Rope, ReadError>) -> Result<Answer, Fail> {
+fn answer_of(rt: &HostRuntime, answer: Result<Rope, ReadError>) -> Result<Answer, Fail> {
     match answer {
         Ok(rope) => {
             let mut bytes = Vec::new(rt.alloc());
@@ -32,8 +32,8 @@ fn told(rt: &HostRuntime, answer: Result<Rope, ReadError>) -> Result<Answer, Fai
 /// Whether both calls answer the text of the bytes in parts, and leave no mark.
 fn is_read(rt: &HostRuntime, bytes: &[u8], ends: u64, text: &str) -> Result<bool, Fail> {
     let mut source = Watched::new(Parts::new(bytes, ends, NEVER));
-    let watched = told(rt, Rope::from_watched(rt.alloc(), &mut source))?;
-    let plain = told(
+    let watched = answer_of(rt, Rope::from_watched(rt.alloc(), &mut source))?;
+    let plain = answer_of(
         rt,
         Rope::from_reader(rt.alloc(), Parts::new(bytes, ends, NEVER)),
     )?;
@@ -47,8 +47,8 @@ fn is_read(rt: &HostRuntime, bytes: &[u8], ends: u64, text: &str) -> Result<bool
 /// Whether both calls answer that bytes, one a read, are no UTF-8, and leave no mark.
 fn is_invalid(rt: &HostRuntime, bytes: &[u8]) -> Result<bool, Fail> {
     let mut source = Watched::new(Parts::new(bytes, SINGLY, NEVER));
-    let watched = told(rt, Rope::from_watched(rt.alloc(), &mut source))?;
-    let plain = told(
+    let watched = answer_of(rt, Rope::from_watched(rt.alloc(), &mut source))?;
+    let plain = answer_of(
         rt,
         Rope::from_reader(rt.alloc(), Parts::new(bytes, SINGLY, NEVER)),
     )?;
@@ -62,8 +62,8 @@ fn is_invalid(rt: &HostRuntime, bytes: &[u8]) -> Result<bool, Fail> {
 /// Whether both calls answer the reader's error where the read after so many bytes fails, and the mark is set.
 fn is_failed(rt: &HostRuntime, bytes: &[u8], ends: u64, fails_at: usize) -> Result<bool, Fail> {
     let mut source = Watched::new(Parts::new(bytes, ends, fails_at));
-    let watched = told(rt, Rope::from_watched(rt.alloc(), &mut source))?;
-    let plain = told(
+    let watched = answer_of(rt, Rope::from_watched(rt.alloc(), &mut source))?;
+    let plain = answer_of(
         rt,
         Rope::from_reader(rt.alloc(), Parts::new(bytes, ends, fails_at)),
     )?;
@@ -132,12 +132,12 @@ fn no_utf8(rt: HostRuntime) -> Result<(), Fail> {
 fn no_utf8_without_end(rt: HostRuntime) -> Result<(), Fail> {
     for (before, read) in [(0usize, 1968usize), (10, 1978)] {
         let mut source = Watched::new(Endless::new(before, NEVER));
-        let answer = told(&rt, Rope::from_watched(rt.alloc(), &mut source))?;
+        let answer = answer_of(&rt, Rope::from_watched(rt.alloc(), &mut source))?;
         assert!(rt; matches!(answer, Answer::InvalidData) && !source.failed());
         assert_eq!(rt; source.into_inner().given, read);
     }
     let mut source = Watched::new(Endless::new(0, 1967));
-    let answer = told(&rt, Rope::from_watched(rt.alloc(), &mut source))?;
+    let answer = answer_of(&rt, Rope::from_watched(rt.alloc(), &mut source))?;
     assert!(rt; matches!(answer, Answer::Failed(ErrorKind::BrokenPipe)) && source.failed());
     Ok(())
 }

@@ -1,4 +1,4 @@
-//! Trees cut in two, and two trees made one. What is handed in stays as it was; the results share its nodes.
+//! Trees cut in two, and two trees made one. What is passed in stays as it was; the results share its nodes.
 #![tactic(auto)]
 
 pub mod cut;

@@ -38,7 +38,7 @@ breaks_word Lf = codes "lf"
 breaks_word CrLf = codes "crlf"
 breaks_word Unicode = codes "unicode"
 
--- the word that tells an order
+-- the word for an order
 abbrev pub order_word : Ordering → List ℕ
 order_word Less = codes "less"
 order_word Equal = codes "equal"

@@ -126,7 +126,7 @@ fn join(words: &str) -> Option<Command> {
     Some(Command::Join(number(rope)?, number(other)?))
 }
 
-/// `ROPE`, of a rope whose text is to be cut anew.
+/// `ROPE`, of a rope whose text is to be re-chunked.
 fn shrink(words: &str) -> Option<Command> {
     Some(Command::Shrink(number(words)?))
 }

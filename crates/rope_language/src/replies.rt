@@ -66,7 +66,7 @@ fn breaks_word(breaks: LineBreaks) -> &'static str
     }
 }
 
-/// The word that tells an order.
+/// The word for an order.
 fn order_word(order: Ordering) -> &'static str
     ensures { result.now ≡ words.order_word order }
 {

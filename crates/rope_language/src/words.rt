@@ -65,7 +65,7 @@ pub(crate) fn conversion(word: &str) -> Option<Conv> {
     }
 }
 
-/// What the cursor goes over that a word names.
+/// What the cursor steps through, by the word that names it.
 pub(crate) fn unit(word: &str) -> Option<Unit> {
     match word {
         "bytes" => Some(Unit::Bytes),

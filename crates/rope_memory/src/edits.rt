@@ -67,7 +67,7 @@ pub enum Edit<'a> {
     Remove(usize, usize),
     /// A clone of another rope put behind it.
     Append(&'a Rope),
-    /// The text cut anew.
+    /// The text re-chunked.
     ShrinkToFit,
 }
 

@@ -1,4 +1,4 @@
-//! Ropes that are made of texts, pieces or what an iterator gives, or cut anew.
+//! Ropes that are made of texts, pieces or what an iterator gives, or re-chunked.
 use crate::TRIES;
 use crate::edits::{Edit, apply, made, repeated, show};
 use ropey::{CowStr, Error, Result, Rope, RopeBuilder};
@@ -112,7 +112,7 @@ fn sliced(alloc: Global, rope: &Rope, start: usize, end: usize) -> Option<Rope> 
     None
 }
 
-/// Makes ropes of pieces and cuts a rope anew, prints what they are, and answers how many refusals changed or forgot something.
+/// Makes ropes of pieces and re-chunks a rope, prints what they are, and answers how many refusals changed or forgot something.
 pub fn run(rt: &impl Print, alloc: Global) -> Option<usize> {
     let long = repeated(alloc, "a", 2_500)?;
     let pieces = ["é", long.as_str(), "\r", "\n", long.as_str(), "こ\r\n"];

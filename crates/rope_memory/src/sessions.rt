@@ -132,7 +132,7 @@ fn run_all(session: &mut Session, commands: &[Command], replies: &mut Vec<Reply>
     None
 }
 
-/// Prints what a reply tells, in a line.
+/// Prints what a reply says, in a line.
 fn show_reply(rt: &impl Print, reply: &Reply) -> Option<()> {
     match reply {
         Reply::Done => println!(rt; "ok").ok(),
@@ -178,7 +178,7 @@ fn serve_lines(rt: &impl Print, alloc: Global) -> Option<()> {
         match serve(alloc, &mut reader, &mut written) {
             Ended::Done => {
                 let text = str::from_utf8(&written).ok()?;
-                // A command that memory was refused for is told as a reply, and what follows goes on without it.
+                // A command that memory was refused for is given as a reply, and what follows goes on without it.
                 if !text.contains("error: Out of memory\n") {
                     return print!(rt; "{text}").ok();
                 }

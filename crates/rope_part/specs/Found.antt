@@ -1,4 +1,4 @@
--- What a chunk look-up of a part tells.
+-- What a chunk look-up of a part says.
 use Rattle.std.specs.Prelude.{◌≡◌, ℕ, ◌+◌, ◌-◌, ◌<◌, List, [], length, take, slice_index_or}
 use Rattle.std.specs.List.{concat}
 use Rattle.rope_text.specs.declared.text_info.TextInfo.{TextInfo}

@@ -31,7 +31,7 @@ impl<'a> Part<'a> {
     ghost use Rattle.rope_part.specs.Kept.{IsPart};
     ghost use Rattle.rope_part.specs.Part.{content_of, text_of, chunks_of, breaks_of};
 
-    /// A plain text. It is gone over once, to be counted.
+    /// A plain text. It is read once, to be counted.
     pub fn from_str_with(text: &'a str, breaks: LineBreaks) -> Part<'a>
         ensures text { text_of result ≡ chars text.now }
         ensures chunks { chunks_of result ≡ single_chunk (chars text.now) }

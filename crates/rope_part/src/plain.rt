@@ -34,7 +34,7 @@ impl<'a> Plain<'a> {
     ghost use Rattle.rope_part.specs.Kept.{IsPart};
     ghost use Rattle.rope_part.specs.Plain.{content_of, text_of};
 
-    /// A text. It is gone over once, to be counted.
+    /// A text. It is read once, to be counted.
     pub fn new(text: &'a str, breaks: LineBreaks) -> Plain<'a>
         ensures text { text_of result ≡ chars text.now }
         ensures breaks { result.breaks ≡ breaks }

@@ -1,4 +1,4 @@
-//! A plain partner to compare ropes with: texts as lists of characters, whose counts and conversions go over all of them.
+//! A plain partner to compare ropes with: texts as lists of characters, whose counts and conversions scan all of them.
 //! It is written from the rules alone. Nothing of it is proved but that it is safe and ends.
 #![tactic(auto)]
 

@@ -1,4 +1,6 @@
 //! Positions, and the two conversions between them and characters.
+//!
+//! In `"one\ntwo"`, `char_to_position(5)` is line 1, column 1, and `position_to_char` of that is 5.
 ghost use Rattle.std.specs.Prelude.{◌≡◌, ◌≤◌, length, None};
 ghost use Rattle.rope_text.specs.Content.{Content};
 ghost use Rattle.rope_text.specs.Conversions.{utf16_to_char};
@@ -11,7 +13,7 @@ ghost use Rattle.rope_position.specs.Positions.{position_at};
 
 use ropey::{Error, Result, RopeSlice};
 
-/// A place in a text as an editor shows it.
+/// A place in a text as an editor shows it: a line, and a column in UTF-16 code units.
 #[derive(Clone, Copy, PartialEq, Eq, PartialOrd, Ord, Hash, Debug)]
 pub struct Position {
     /// The line, counted from 0.
@@ -21,20 +23,21 @@ pub struct Position {
     pub column: usize,
 }
 
-/// Texts whose places have positions. No call takes memory.
+/// Texts whose places have positions: ropes and slices. No call takes memory.
 pub trait Positions {
     ghost shown: { Self → Content };
 
-    /// What `char_to_position` answers.
+    /// As `char_to_position`, for any index. Costs a few look-ups; takes no memory.
     ///
     /// # Errors
     ///
-    /// `CharIndexOutOfBounds`, with the index and the number of characters, where the index is past `len_chars()`.
+    /// `CharIndexOutOfBounds`, with the index and the number of characters, exactly where the index is past
+    /// `len_chars()`.
     fn try_char_to_position(&self, char_idx: usize) -> Result<Position>
         ensures { result ≡ checked (char_index_error char_idx (length (shown self.now).text))
             (position_at (shown self.now).breaks (shown self.now).text char_idx) };
 
-    /// What `position_to_char` answers.
+    /// As `position_to_char`, for any position. Costs a few look-ups; takes no memory.
     ///
     /// # Errors
     ///
@@ -45,8 +48,9 @@ pub trait Positions {
             (shown self.now).text position.line position.column)
             (of_text.position_to_char (shown self.now).breaks (shown self.now).text position.line position.column) };
 
-    /// The position of the character `char_idx`, counted from 0, or of the end of the text. The index is at most
-    /// `len_chars()`.
+    /// The position of the character `char_idx`, counted from 0, or of the end of the text.
+    ///
+    /// The index is at most `len_chars()`. Costs a few look-ups; takes no memory.
     fn char_to_position(&self, char_idx: usize) -> Position
         requires { char_idx ≤ length (shown self.now).text }
         ensures { result ≡ position_at (shown self.now).breaks (shown self.now).text char_idx }
@@ -58,10 +62,11 @@ pub trait Positions {
     }
 
     /// The last character, counted from 0, of the position's line that begins at the position or before it: the one
-    /// that holds it, also where the column is inside its surrogate pair. At the line's end it is where the next line
-    /// starts, or the end of the text.
+    /// that holds it, also where the column is inside its surrogate pair. At the line's end it is where the next
+    /// line starts, or the end of the text.
     ///
-    /// There is such a line, and the column is at most its number of code units.
+    /// There is such a line, and the column is at most its number of code units. Costs a few look-ups; takes no
+    /// memory.
     fn position_to_char(&self, position: Position) -> usize
         requires { of_text.position_error (shown self.now).breaks (shown self.now).text position.line position.column
             ≡ None }

@@ -34,7 +34,7 @@ same_content : {T : Type 0} (result : Result T Error) (rope after : RopeView) �
 same_content (Ok done) rope after h = tt
 same_content (Err error) rope after h = ap content h
 
--- the edit of one of the ropes is told by the result of the rope's own edit
+-- the edit of one of the ropes follows from the result of the rope's own edit
 pub edit_of : {T : Type 0} (result : Result T Error) (old : List RopeView) (r : ℕ) (rope after : RopeView) (error : Option Error) (idle : Bool) (text : List ℕ)
     → rope ≡ get_or old r rope → OnOk result ((error ≡ None) × (after.text ≡ text)) → IfErr result (IsRefusal error) → OnErr result (after ≡ rope)
     → (idle ≡ true → error ≡ None → IsOk result × (after ≡ rope)) → after.breaks ≡ rope.breaks → IsRope after
@@ -89,7 +89,7 @@ uncut_of old r i rope after error h e refusal same =
     of_content _ old _ r rope (Refused error) h e
     (unless_refused (char_index_error i (length rope.text)) error _ (map content old) _ refusal back (λ fine memory. inr (ap Refused memory, back)))
 
--- the text of one of the ropes is put behind that of another, as the result of the rope's own append tells
+-- the text of one of the ropes is put behind that of another, as the result of the rope's own append says
 pub join_of : {T : Type 0} (result : Result T Error) (old : List RopeView) (r s : ℕ) (rope other after : RopeView)
     → r < length old → rope ≡ get_or old r rope → s < length old → other ≡ get_or old s other
     → OnOk result ((append_error rope.breaks other.breaks rope.text other.text ≡ None) × (after.text ≡ rope.text ++ other.text))
@@ -110,14 +110,14 @@ join_of result old r s rope other after h e j f ok refusal same right left k l b
     breaks_are kept.content in
     rw (map-set content old r after) (of_content _ old _ r rope _ h e (of_content _ old _ s other _ j f joined))
 
--- a join is refused by what its ropes say, or where they say nothing for want of memory
+-- a join is refused by what its ropes say, or where they say nothing when out of memory
 pub unjoined_of : (old : List RopeView) (r s : ℕ) (rope other : RopeView) (found : Option Error) (error : Error) → r < length old → rope ≡ get_or old r rope → s < length old → other ≡ get_or old s other
     → found ≡ append_error rope.breaks other.breaks rope.text other.text → IsRefusal found error → Joins r s (map content old) (Refused error) (map content old)
 unjoined_of old r s rope other found error h e j f is refusal =
     of_content _ old _ r rope _ h e (of_content _ old _ s other _ j f
     (rw (← is) (unless_refused found error _ (map content old) (map content old) refusal refl (λ fine memory. inr (ap Refused memory, refl)))))
 
--- one of the ropes is cut anew, as the result of the rope's own shrinking tells
+-- one of the ropes is re-chunked, as the result of the rope's own shrinking says
 pub shrink_of : {T : Type 0} (result : Result T Error) (old : List RopeView) (r : ℕ) (rope after : RopeView) → r < length old → rope ≡ get_or old r rope
     → after.text ≡ rope.text → after.breaks ≡ rope.breaks → IsRope after → OnOk result (HasFewChunks after) → IfErr result (λ e. e ≡ OutOfMemory) → OnErr result (after ≡ rope)
     → Shrinks r (map content old) (edit_reply result) (map content (slice_set old r after))

@@ -38,7 +38,7 @@ pub unless_refused : (first : Option Error) (error : Error) (P : Type 0) (old ne
 unless_refused None error P old new refusal same p = p refl refusal
 unless_refused (Some first) error P old new refusal same p = (ap Refused refusal, same)
 
--- the edit is told by the result of the rope's own edit
+-- the edit follows from the result of the rope's own edit
 pub edits_by : {T : Type 0} (result : Result T Error) (old : List Content) (r : ℕ) (rope after : Content) (error : Option Error) (idle : Bool) (text : List ℕ)
     → rope ≡ get_or old r rope → OnOk result ((error ≡ None) × (after.text ≡ text)) → IfErr result (IsRefusal error) → OnErr result (after ≡ rope)
     → (idle ≡ true → error ≡ None → IsOk result × (after ≡ rope)) → after.breaks ≡ rope.breaks → IsRope after
@@ -52,7 +52,7 @@ edits_by (Err fault) old r rope after error idle text e ok refusal same still br
     unless_refused error fault _ old (slice_set old r after) refusal back
     (λ fine memory. on_test idle _ _ (λ z. absurd (true≢false (sym (still z fine).0))) (inr (ap Refused memory, back)))
 
--- a change that is never idle is told by the result of the rope's own edit
+-- a change that is never idle follows from the result of the rope's own edit
 pub changes_by : {T : Type 0} (result : Result T Error) (old : List Content) (r : ℕ) (rope after : Content) (error : Option Error) (text : List ℕ) (Q : Content → Type 0)
     → rope ≡ get_or old r rope → OnOk result ((error ≡ None) × (after.text ≡ text)) → IfErr result (IsRefusal error) → OnErr result (after ≡ rope)
     → (error ≡ None → Q after) → after.breaks ≡ rope.breaks → IsRope after
@@ -64,7 +64,7 @@ changes_by (Err fault) old r rope after error text Q e ok refusal same q breaks_
     let back = written_back old r rope after e same in
     unless_refused error fault _ old (slice_set old r after) refusal back (λ fine memory. inr (ap Refused memory, back))
 
--- a shrinking is told by the result of the rope's own
+-- a shrinking follows from the result of the rope's own
 pub shrinks_by : {T : Type 0} (result : Result T Error) (old : List Content) (r : ℕ) (rope after : Content)
     → rope ≡ get_or old r rope → after.text ≡ rope.text → after.breaks ≡ rope.breaks → IsRope after
     → OnOk result (HasFewChunks after) → IfErr result (λ e. e ≡ OutOfMemory) → OnErr result (after ≡ rope)

@@ -101,7 +101,7 @@ Joins r s old reply new =
     (OrNoMemory (Changes r rope.breaks (rope.text ++ other.text) (KeepsChunks rope other) old reply new) old reply new)
     old reply new) old reply new) old reply new
 
--- a rope keeps its text, which is cut anew, into few chunks
+-- a rope keeps its text, which is re-chunked, into few chunks
 abbrev pub Shrinks : ℕ → List Content → Reply → List Content → Type 0
 Shrinks r old reply new =
     OfRope r (λ rope. OrNoMemory (Changes r rope.breaks rope.text HasFewChunks old reply new) old reply new) old reply new

@@ -32,7 +32,7 @@ pub(crate) fn part_of(rope: &Rope, range: Option<(usize, usize)>) -> Option<Rope
 {
     match range {
         None => {
-            // tells that no chunk is empty, so that all of them are those of the slice
+            // says that no chunk is empty, so that all of them are those of the slice
             let _ = rope.len_bytes();
             Some(rope.slice(..))
         }

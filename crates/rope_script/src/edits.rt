@@ -37,9 +37,9 @@ struct Bounds {
 }
 
 impl IndexRange for Bounds {
-    ghost told_start = { λ bounds. bounds.start };
+    ghost given_start = { λ bounds. bounds.start };
 
-    ghost told_end = { λ bounds. bounds.end };
+    ghost given_end = { λ bounds. bounds.end };
 
     fn start(&self) -> Option<usize> {
         self.start
@@ -102,7 +102,7 @@ fn join_error(rope: &Rope, other: &Rope) -> Option<Error>
     None
 }
 
-/// Cuts the text of a rope anew.
+/// Re-chunks the text of a rope.
 pub(crate) fn shrink(ropes: &mut Vec<Rope>, rope: usize) -> Reply
     ensures { Shrinks rope (map content ropes.old.items) result (map content ropes.new.items) }
 {

@@ -6,7 +6,7 @@ use std::cmp::Ordering;
 /// whole rope.
 pub type Part = (usize, Option<(usize, usize)>);
 
-/// What a session may be told to do.
+/// What a session may be asked to do.
 ///
 /// Ropes are numbered from 0, in the order in which they were made, and each has its set of line
 /// breaks. A command that names a rope which does not exist is replied [`Reply::NoRope`], before
@@ -34,7 +34,7 @@ pub enum Command {
     /// Puts the text of a second rope behind that of the first. The second stays as it is, and it
     /// may be the first. Ropes with different line breaks are not joined, also where one is empty.
     Join(usize, usize),
-    /// Cuts the text of a rope anew, into at most one chunk for each 981 bytes and one for the rest.
+    /// Re-chunks the text of a rope, into at most one chunk for each 981 bytes and one for the rest.
     Shrink(usize),
     /// Asks a rope, or its characters from a start up to an end.
     Ask(usize, Option<(usize, usize)>, Query),
@@ -72,7 +72,7 @@ pub enum At {
     LineBreak,
 }
 
-/// What a cursor goes over.
+/// What a cursor steps through.
 #[derive(Clone, Copy, PartialEq, Eq, Debug)]
 pub enum Unit {
     /// Bytes, from the one of an index on.
@@ -85,7 +85,7 @@ pub enum Unit {
     Chunks(At),
 }
 
-/// What a cursor is told to do.
+/// What a cursor is asked to do.
 #[derive(Clone, Copy, PartialEq, Eq, Debug)]
 pub enum Move {
     /// Gives the next item.

@@ -3,7 +3,7 @@ use std::alloc::Global;
 use std::cell::Cell;
 use std::io::{self, ErrorKind, Read, Write};
 
-/// Gives a few bytes a read. At their end it fails, or tells the end.
+/// Gives a few bytes a read. At their end it fails, or gives the end.
 #[derive(Drop)]
 pub struct Dripping<'a> {
     pub rest: &'a [u8],
@@ -101,7 +101,7 @@ impl Read for Asking<'_> {
     }
 }
 
-/// Counts the replies that were written, and tells them where it is flushed.
+/// Counts the replies that were written, and says them where it is flushed.
 #[derive(Drop)]
 pub struct Telling<'a> {
     written: usize,

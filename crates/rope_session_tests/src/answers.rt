@@ -273,8 +273,8 @@ impl Asked {
 
 fn is_number(answer: Answer, reply: &Reply) -> bool {
     match (answer, reply) {
-        (Ok(number), Reply::Number(told)) => number == *told,
-        (Err(error), Reply::Refused(told)) => error == *told,
+        (Ok(number), Reply::Number(shown)) => number == *shown,
+        (Err(error), Reply::Refused(shown)) => error == *shown,
         _ => false,
     }
 }
@@ -312,8 +312,8 @@ pub fn answers(
     match (query, reply) {
         (Query::Lens, Reply::Lens(bytes, chars, lines, units)) => {
             let lens = lengths_of(&asked.places);
-            let told = (*bytes, *chars, *lines, *units);
-            Ok(told == (lens.bytes, lens.chars, lens.lines, lens.units))
+            let shown = (*bytes, *chars, *lines, *units);
+            Ok(shown == (lens.bytes, lens.chars, lens.lines, lens.units))
         }
         (Query::Show, _) => Ok(is_text_or_absent(Some(&asked.part.text), reply)),
         (Query::Chunks, Reply::Texts(texts)) => Ok(are_texts(texts, &asked.part.chunks)),
@@ -322,12 +322,12 @@ pub fn answers(
             Ok(is_number(asked.convert(conversion, *index), reply))
         }
         (Query::Byte(index), _) => match (asked.byte(*index)?, reply) {
-            (Some(byte), Reply::Byte(told)) => Ok(byte == *told),
+            (Some(byte), Reply::Byte(shown)) => Ok(byte == *shown),
             (None, Reply::Absent) => Ok(true),
             _ => Ok(false),
         },
         (Query::Char(index), _) => match (asked.part.text.get(*index), reply) {
-            (Some(c), Reply::Char(told)) => Ok(*c == *told),
+            (Some(c), Reply::Char(shown)) => Ok(*c == *shown),
             (None, Reply::Absent) => Ok(true),
             _ => Ok(false),
         },

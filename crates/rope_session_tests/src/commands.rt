@@ -16,7 +16,7 @@ pub enum Outcome {
     Refused(Error),
 }
 
-/// Which rope was cut anew by a command.
+/// Which rope was re-chunked by a command.
 #[derive(Clone, Copy)]
 pub struct Effect {
     pub outcome: Outcome,
@@ -26,8 +26,8 @@ pub struct Effect {
     pub is_few: bool,
 }
 
-/// Nothing was cut anew.
-fn told(outcome: Outcome) -> Effect {
+/// Nothing was re-chunked.
+fn effect_of(outcome: Outcome) -> Effect {
     Effect {
         outcome,
         recut: [None, None],
@@ -35,7 +35,7 @@ fn told(outcome: Outcome) -> Effect {
     }
 }
 
-/// One rope was cut anew.
+/// One rope was re-chunked.
 fn recut(outcome: Outcome, rope: usize) -> Effect {
     Effect {
         outcome,
@@ -51,7 +51,7 @@ pub fn is_reply(outcome: Outcome, count: usize, reply: &Reply) -> bool {
         | (Outcome::NoRope, Reply::NoRope)
         | (Outcome::NoSlice, Reply::NoSlice) => true,
         (Outcome::Made, Reply::Made(number)) => *number == count,
-        (Outcome::Refused(error), Reply::Refused(told)) => error == *told,
+        (Outcome::Refused(error), Reply::Refused(shown)) => error == *shown,
         _ => false,
     }
 }
@@ -84,13 +84,13 @@ fn insert(
     text: &str,
 ) -> Result<Effect, Fail> {
     let Some(rope) = ropes.get_mut(number) else {
-        return Ok(told(Outcome::NoRope));
+        return Ok(effect_of(Outcome::NoRope));
     };
     if let Some(error) = index_error(index, rope.text.len()) {
-        return Ok(told(Outcome::Refused(error)));
+        return Ok(effect_of(Outcome::Refused(error)));
     }
     if text.is_empty() {
-        return Ok(told(Outcome::Done));
+        return Ok(effect_of(Outcome::Done));
     }
     rope.text = inserted(alloc, &rope.text, index, text)?;
     Ok(recut(Outcome::Done, number))
@@ -114,16 +114,16 @@ fn remove(
     end: Option<usize>,
 ) -> Result<Effect, Fail> {
     let Some(rope) = ropes.get_mut(number) else {
-        return Ok(told(Outcome::NoRope));
+        return Ok(effect_of(Outcome::NoRope));
     };
     let len = rope.text.len();
     if let Some(error) = range_error(start, end, len) {
-        return Ok(told(Outcome::Refused(error)));
+        return Ok(effect_of(Outcome::Refused(error)));
     }
     let first = start.unwrap_or(0);
     let last = end.unwrap_or(len);
     if first == last {
-        return Ok(told(Outcome::Done));
+        return Ok(effect_of(Outcome::Done));
     }
     let back = part_from(alloc, &rope.text, last)?;
     rope.text.truncate(first);
@@ -138,10 +138,10 @@ fn cut(
     index: usize,
 ) -> Result<Effect, Fail> {
     let Some(rope) = ropes.get_mut(number) else {
-        return Ok(told(Outcome::NoRope));
+        return Ok(effect_of(Outcome::NoRope));
     };
     if let Some(error) = index_error(index, rope.text.len()) {
-        return Ok(told(Outcome::Refused(error)));
+        return Ok(effect_of(Outcome::Refused(error)));
     }
     let back = part_from(alloc, &rope.text, index)?;
     let set = rope.set;
@@ -153,22 +153,22 @@ fn cut(
 
 fn join(ropes: &mut [PlainRope], number: usize, other: usize) -> Result<Effect, Fail> {
     let (Some(rope), Some(more)) = (ropes.get(number), ropes.get(other)) else {
-        return Ok(told(Outcome::NoRope));
+        return Ok(effect_of(Outcome::NoRope));
     };
     if rope.set != more.set {
-        return Ok(told(Outcome::Refused(Error::LineBreaksDiffer)));
+        return Ok(effect_of(Outcome::Refused(Error::LineBreaksDiffer)));
     }
     let is_first = rope.text.is_empty();
     let more = more.copy()?;
     let Some(rope) = ropes.get_mut(number) else {
-        return Ok(told(Outcome::NoRope));
+        return Ok(effect_of(Outcome::NoRope));
     };
     if more.text.is_empty() {
-        return Ok(told(Outcome::Done));
+        return Ok(effect_of(Outcome::Done));
     }
     if is_first {
         *rope = more;
-        return Ok(told(Outcome::Done));
+        return Ok(effect_of(Outcome::Done));
     }
     rope.text.extend_from_slice(&more.text)?;
     Ok(recut(Outcome::Done, number))
@@ -176,11 +176,11 @@ fn join(ropes: &mut [PlainRope], number: usize, other: usize) -> Result<Effect, 
 
 fn clone(ropes: &mut Vec<PlainRope>, number: usize) -> Result<Effect, Fail> {
     let Some(rope) = ropes.get(number) else {
-        return Ok(told(Outcome::NoRope));
+        return Ok(effect_of(Outcome::NoRope));
     };
     let copy = rope.copy()?;
     ropes.push(copy)?;
-    Ok(told(Outcome::Made))
+    Ok(effect_of(Outcome::Made))
 }
 
 fn copy(
@@ -190,11 +190,11 @@ fn copy(
     range: Option<(usize, usize)>,
 ) -> Result<Effect, Fail> {
     let Some(rope) = ropes.get(number) else {
-        return Ok(told(Outcome::NoRope));
+        return Ok(effect_of(Outcome::NoRope));
     };
     match rope.part(alloc, range)? {
         Some(part) => add(alloc, ropes, part.text, part.set, false),
-        None => Ok(told(Outcome::NoSlice)),
+        None => Ok(effect_of(Outcome::NoSlice)),
     }
 }
 
@@ -232,7 +232,7 @@ pub fn apply(alloc: Global, ropes: &mut Vec<PlainRope>, command: &Command) -> Re
             Ok(if is_there {
                 effect
             } else {
-                told(Outcome::NoRope)
+                effect_of(Outcome::NoRope)
             })
         }
         Command::Ask(_, _, _) => Err(Fail::from("a command that asks")),

@@ -25,7 +25,7 @@ fn reply_to(alloc: Global, session: &mut Session, command: Command) -> Result<Re
     }
 }
 
-/// The chunks of a rope, as the session tells them.
+/// The chunks of a rope, as the session says them.
 fn chunks_of(alloc: Global, session: &mut Session, number: usize) -> Result<Vec<Vec<char>>, Fail> {
     let Reply::Texts(texts) = reply_to(alloc, session, Command::Ask(number, None, Query::Chunks))?
     else {

@@ -41,8 +41,8 @@ impl<'a> RopeSlice<'a> {
 
     // The bounds of a range of bytes, or what is wrong with it.
     pub(crate) fn byte_bounds<R: IndexRange>(&self, range: &R) -> Result<(usize, usize)>
-        ensures { MatchOption (byte_range_error (text_of self.now) (R.told_start range.now) (R.told_end range.now))
-            (result ≡ Ok (range_start (R.told_start range.now), range_end (R.told_end range.now) (byte_len (text_of self.now))))
+        ensures { MatchOption (byte_range_error (text_of self.now) (R.given_start range.now) (R.given_end range.now))
+            (result ≡ Ok (range_start (R.given_start range.now), range_end (R.given_end range.now) (byte_len (text_of self.now))))
             (λ fault. result ≡ Err fault) }
     {
         let start = range.start();

@@ -1,4 +1,6 @@
 //! Slices compared and hashed by their texts, however they are cut. No call takes memory.
+//!
+//! The slice `1..3` of `"abc"` equals the slice of the plain text `"bc"`.
 ghost use Rattle.std.specs.Prelude.{◌≡◌, IsTrue, ◌↔◌};
 ghost use Rattle.std.specs.Str.{chars};
 ghost use Rattle.rope_slice.specs.Slice.{text_of};
@@ -10,7 +12,7 @@ use std::cmp::Ordering;
 use std::hash::{Hash, Hasher};
 
 impl<'a> RopeSlice<'a> {
-    /// Whether its text is this one. No memory is taken.
+    /// Whether the text is this one. Reads both texts up to where they differ; takes no memory.
     pub fn eq_str(&self, other: &str) -> bool
         ensures { IsTrue result ↔ (text_of self.now ≡ chars other.now) }
     {

@@ -1,4 +1,8 @@
-//! Conversions between the indices of a slice: bytes, characters, code units of UTF-16 and lines.
+//! Conversions between the indices of a slice: bytes, characters, UTF-16 code units and lines, all counted from 0
+//! at the slice's start.
+//!
+//! For the slice `3..` of `"one\ntwo"`, `char_to_line(1)` is 1 and `line_to_char(1)` is 1: the slice starts with
+//! the line break.
 ghost use Rattle.std.specs.Prelude.{◌≡◌, ◌≤◌, length};
 ghost use Rattle.rope_text.specs.Text.{byte_len, utf16_len};
 ghost use Rattle.rope_text.specs.Lines.{line_count};
@@ -11,10 +15,10 @@ use crate::slice::RopeSlice;
 use rope_text::{Error, Result};
 
 impl<'a> RopeSlice<'a> {
-    /// The character, counted from 0, that holds the byte `byte_idx`, also where that is inside the character; at the end of
-    /// the text the number of characters.
+    /// The character, counted from 0, that holds the byte `byte_idx`, also where the byte is inside the character;
+    /// at the end of the text, the number of characters.
     ///
-    /// The index is at most `len_bytes()`. No memory is taken.
+    /// The index is at most `len_bytes()`. Costs one or two look-ups; takes no memory.
     pub fn byte_to_char(&self, byte_idx: usize) -> usize
         requires { byte_idx ≤ byte_len (text_of self.now) }
         ensures { result ≡ byte_to_char (text_of self.now) byte_idx }
@@ -22,11 +26,12 @@ impl<'a> RopeSlice<'a> {
         self.part.byte_to_char(byte_idx)
     }
 
-    /// What `byte_to_char` answers. No memory is taken.
+    /// As `byte_to_char`, for any index. Costs one or two look-ups; takes no memory.
     ///
     /// # Errors
     ///
-    /// `ByteIndexOutOfBounds`, with the index and the number of bytes, where the index is past `len_bytes()`.
+    /// `ByteIndexOutOfBounds`, with the index and the number of bytes, exactly where the index is past
+    /// `len_bytes()`.
     pub fn try_byte_to_char(&self, byte_idx: usize) -> Result<usize>
         ensures { result ≡ checked (byte_index_error byte_idx (byte_len (text_of self.now)))
             (byte_to_char (text_of self.now) byte_idx) }
@@ -38,10 +43,10 @@ impl<'a> RopeSlice<'a> {
         Ok(self.byte_to_char(byte_idx))
     }
 
-    /// The line, counted from 0, that the byte `byte_idx` lies on: how many line breaks end at or before it. A byte inside a
-    /// break of several bytes, as between CR and LF, lies on the line that the break ends.
+    /// The line, counted from 0, on which the byte `byte_idx` lies: how many line breaks end at or before it. A
+    /// byte inside a break of several bytes, as between CR and LF, lies on the line that the break ends.
     ///
-    /// The index is at most `len_bytes()`. No memory is taken.
+    /// The index is at most `len_bytes()`. Costs one or two look-ups; takes no memory.
     pub fn byte_to_line(&self, byte_idx: usize) -> usize
         requires { byte_idx ≤ byte_len (text_of self.now) }
         ensures { result ≡ byte_to_line (breaks_of self.now) (text_of self.now) byte_idx }
@@ -49,11 +54,12 @@ impl<'a> RopeSlice<'a> {
         self.part.byte_to_line(byte_idx)
     }
 
-    /// What `byte_to_line` answers. No memory is taken.
+    /// As `byte_to_line`, for any index. Costs one or two look-ups; takes no memory.
     ///
     /// # Errors
     ///
-    /// `ByteIndexOutOfBounds`, with the index and the number of bytes, where the index is past `len_bytes()`.
+    /// `ByteIndexOutOfBounds`, with the index and the number of bytes, exactly where the index is past
+    /// `len_bytes()`.
     pub fn try_byte_to_line(&self, byte_idx: usize) -> Result<usize>
         ensures { result ≡ checked (byte_index_error byte_idx (byte_len (text_of self.now)))
             (byte_to_line (breaks_of self.now) (text_of self.now) byte_idx) }
@@ -65,9 +71,10 @@ impl<'a> RopeSlice<'a> {
         Ok(self.byte_to_line(byte_idx))
     }
 
-    /// The byte, counted from 0, at which the character `char_idx` starts; at the end of the text the number of bytes.
+    /// The byte, counted from 0, at which the character `char_idx` starts; at the end of the text, the number of
+    /// bytes.
     ///
-    /// The index is at most `len_chars()`. No memory is taken.
+    /// The index is at most `len_chars()`. Costs one or two look-ups; takes no memory.
     pub fn char_to_byte(&self, char_idx: usize) -> usize
         requires { char_idx ≤ length (text_of self.now) }
         ensures { result ≡ char_to_byte (text_of self.now) char_idx }
@@ -75,11 +82,12 @@ impl<'a> RopeSlice<'a> {
         self.part.char_to_byte(char_idx)
     }
 
-    /// What `char_to_byte` answers. No memory is taken.
+    /// As `char_to_byte`, for any index. Costs one or two look-ups; takes no memory.
     ///
     /// # Errors
     ///
-    /// `CharIndexOutOfBounds`, with the index and the number of characters, where the index is past `len_chars()`.
+    /// `CharIndexOutOfBounds`, with the index and the number of characters, exactly where the index is past
+    /// `len_chars()`.
     pub fn try_char_to_byte(&self, char_idx: usize) -> Result<usize>
         ensures { result ≡ checked (char_index_error char_idx (length (text_of self.now)))
             (char_to_byte (text_of self.now) char_idx) }
@@ -91,10 +99,10 @@ impl<'a> RopeSlice<'a> {
         Ok(self.char_to_byte(char_idx))
     }
 
-    /// The line, counted from 0, that the character `char_idx` lies on: how many line breaks end at or before it. The place
-    /// between CR and LF lies on the line that the pair ends.
+    /// The line, counted from 0, on which the character `char_idx` lies: how many line breaks end at or before it.
+    /// The place between CR and LF lies on the line that the pair ends.
     ///
-    /// The index is at most `len_chars()`. No memory is taken.
+    /// The index is at most `len_chars()`. Costs one or two look-ups; takes no memory.
     pub fn char_to_line(&self, char_idx: usize) -> usize
         requires { char_idx ≤ length (text_of self.now) }
         ensures { result ≡ char_to_line (breaks_of self.now) (text_of self.now) char_idx }
@@ -102,11 +110,12 @@ impl<'a> RopeSlice<'a> {
         self.part.char_to_line(char_idx)
     }
 
-    /// What `char_to_line` answers. No memory is taken.
+    /// As `char_to_line`, for any index. Costs one or two look-ups; takes no memory.
     ///
     /// # Errors
     ///
-    /// `CharIndexOutOfBounds`, with the index and the number of characters, where the index is past `len_chars()`.
+    /// `CharIndexOutOfBounds`, with the index and the number of characters, exactly where the index is past
+    /// `len_chars()`.
     pub fn try_char_to_line(&self, char_idx: usize) -> Result<usize>
         ensures { result ≡ checked (char_index_error char_idx (length (text_of self.now)))
             (char_to_line (breaks_of self.now) (text_of self.now) char_idx) }
@@ -118,10 +127,10 @@ impl<'a> RopeSlice<'a> {
         Ok(self.char_to_line(char_idx))
     }
 
-    /// The UTF-16 code unit, counted from 0, at which the character `char_idx` starts; at the end of the text the number of
-    /// code units.
+    /// The UTF-16 code unit, counted from 0, at which the character `char_idx` starts; at the end of the text, the
+    /// number of code units.
     ///
-    /// The index is at most `len_chars()`. No memory is taken.
+    /// The index is at most `len_chars()`. Costs one or two look-ups; takes no memory.
     pub fn char_to_utf16_cu(&self, char_idx: usize) -> usize
         requires { char_idx ≤ length (text_of self.now) }
         ensures { result ≡ char_to_utf16 (text_of self.now) char_idx }
@@ -129,11 +138,12 @@ impl<'a> RopeSlice<'a> {
         self.part.char_to_utf16(char_idx)
     }
 
-    /// What `char_to_utf16_cu` answers. No memory is taken.
+    /// As `char_to_utf16_cu`, for any index. Costs one or two look-ups; takes no memory.
     ///
     /// # Errors
     ///
-    /// `CharIndexOutOfBounds`, with the index and the number of characters, where the index is past `len_chars()`.
+    /// `CharIndexOutOfBounds`, with the index and the number of characters, exactly where the index is past
+    /// `len_chars()`.
     pub fn try_char_to_utf16_cu(&self, char_idx: usize) -> Result<usize>
         ensures { result ≡ checked (char_index_error char_idx (length (text_of self.now)))
             (char_to_utf16 (text_of self.now) char_idx) }
@@ -145,10 +155,10 @@ impl<'a> RopeSlice<'a> {
         Ok(self.char_to_utf16_cu(char_idx))
     }
 
-    /// The character, counted from 0, that holds the UTF-16 code unit `utf16_cu_idx`, also where that is inside its surrogate
-    /// pair; at the end of the text the number of characters.
+    /// The character, counted from 0, that holds the UTF-16 code unit `utf16_cu_idx`, also where that is the second
+    /// half of a surrogate pair; at the end of the text, the number of characters.
     ///
-    /// The index is at most `len_utf16_cu()`. No memory is taken.
+    /// The index is at most `len_utf16_cu()`. Costs one or two look-ups; takes no memory.
     pub fn utf16_cu_to_char(&self, utf16_cu_idx: usize) -> usize
         requires { utf16_cu_idx ≤ utf16_len (text_of self.now) }
         ensures { result ≡ utf16_to_char (text_of self.now) utf16_cu_idx }
@@ -156,11 +166,12 @@ impl<'a> RopeSlice<'a> {
         self.part.utf16_to_char(utf16_cu_idx)
     }
 
-    /// What `utf16_cu_to_char` answers. No memory is taken.
+    /// As `utf16_cu_to_char`, for any index. Costs one or two look-ups; takes no memory.
     ///
     /// # Errors
     ///
-    /// `Utf16IndexOutOfBounds`, with the index and the number of code units, where the index is past `len_utf16_cu()`.
+    /// `Utf16IndexOutOfBounds`, with the index and the number of code units, exactly where the index is past
+    /// `len_utf16_cu()`.
     pub fn try_utf16_cu_to_char(&self, utf16_cu_idx: usize) -> Result<usize>
         ensures { result ≡ checked (utf16_index_error utf16_cu_idx (utf16_len (text_of self.now)))
             (utf16_to_char (text_of self.now) utf16_cu_idx) }
@@ -172,9 +183,9 @@ impl<'a> RopeSlice<'a> {
         Ok(self.utf16_cu_to_char(utf16_cu_idx))
     }
 
-    /// The byte, counted from 0, at which the line `line_idx` starts; for `len_lines()` the end of the text.
+    /// The byte, counted from 0, at which the line `line_idx` starts; for `len_lines()`, the end of the text.
     ///
-    /// The index is at most `len_lines()`. No memory is taken.
+    /// The index is at most `len_lines()`. Costs one or two look-ups; takes no memory.
     pub fn line_to_byte(&self, line_idx: usize) -> usize
         requires { line_idx ≤ line_count (breaks_of self.now) (text_of self.now) }
         ensures { result ≡ line_to_byte (breaks_of self.now) (text_of self.now) line_idx }
@@ -182,11 +193,12 @@ impl<'a> RopeSlice<'a> {
         self.part.line_to_byte(line_idx)
     }
 
-    /// What `line_to_byte` answers. No memory is taken.
+    /// As `line_to_byte`, for any index. Costs one or two look-ups; takes no memory.
     ///
     /// # Errors
     ///
-    /// `LineIndexOutOfBounds`, with the index and the number of lines, where the index is past `len_lines()`.
+    /// `LineIndexOutOfBounds`, with the index and the number of lines, exactly where the index is past
+    /// `len_lines()`.
     pub fn try_line_to_byte(&self, line_idx: usize) -> Result<usize>
         ensures { result ≡ checked (line_index_error line_idx (line_count (breaks_of self.now) (text_of self.now)))
             (line_to_byte (breaks_of self.now) (text_of self.now) line_idx) }
@@ -198,9 +210,9 @@ impl<'a> RopeSlice<'a> {
         Ok(self.line_to_byte(line_idx))
     }
 
-    /// The character, counted from 0, at which the line `line_idx` starts; for `len_lines()` the end of the text.
+    /// The character, counted from 0, at which the line `line_idx` starts; for `len_lines()`, the end of the text.
     ///
-    /// The index is at most `len_lines()`. No memory is taken.
+    /// The index is at most `len_lines()`. Costs one or two look-ups; takes no memory.
     pub fn line_to_char(&self, line_idx: usize) -> usize
         requires { line_idx ≤ line_count (breaks_of self.now) (text_of self.now) }
         ensures { result ≡ line_to_char (breaks_of self.now) (text_of self.now) line_idx }
@@ -208,11 +220,12 @@ impl<'a> RopeSlice<'a> {
         self.part.line_to_char(line_idx)
     }
 
-    /// What `line_to_char` answers. No memory is taken.
+    /// As `line_to_char`, for any index. Costs one or two look-ups; takes no memory.
     ///
     /// # Errors
     ///
-    /// `LineIndexOutOfBounds`, with the index and the number of lines, where the index is past `len_lines()`.
+    /// `LineIndexOutOfBounds`, with the index and the number of lines, exactly where the index is past
+    /// `len_lines()`.
     pub fn try_line_to_char(&self, line_idx: usize) -> Result<usize>
         ensures { result ≡ checked (line_index_error line_idx (line_count (breaks_of self.now) (text_of self.now)))
             (line_to_char (breaks_of self.now) (text_of self.now) line_idx) }

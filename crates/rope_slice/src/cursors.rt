@@ -1,4 +1,7 @@
 //! Cursors over the bytes, the characters and the chunks of a slice. No call takes memory.
+//!
+//! A cursor stands between two items. Over the characters of the slice `1..3` of `"abcd"`, `chars()` gives `b`,
+//! then `c`, then none.
 ghost use Rattle.std.specs.Prelude.{◌≡◌, ◌≤◌, ◌<◌, length, MatchOption};
 ghost use Rattle.std.specs.Str.{encode_utf8_all};
 ghost use Rattle.rope_text.specs.Text.{byte_len};
@@ -11,17 +14,17 @@ use crate::slice::RopeSlice;
 use rope_cursor::{Bytes, Chars, Chunks};
 
 impl<'a> RopeSlice<'a> {
-    /// A cursor over the bytes, before the first, facing forward. No memory is taken.
+    /// A cursor over the bytes, before the first, facing forward. Costs one or two look-ups; takes no memory.
     pub fn bytes(&self) -> Bytes<'a>
         ensures { result ≡ at_start (encode_utf8_all (text_of self.now)) }
     {
         Bytes::at(&self.part, 0)
     }
 
-    /// A cursor over the bytes, before the byte `byte_idx`, counted from 0, facing forward; for `len_bytes()` it stands
-    /// past the last byte.
+    /// A cursor over the bytes, before the byte `byte_idx`, counted from 0, facing forward; for `len_bytes()` it
+    /// stands past the last one.
     ///
-    /// The index is at most `len_bytes()`. No memory is taken.
+    /// The index is at most `len_bytes()`. Costs one or two look-ups; takes no memory.
     pub fn bytes_at(&self, byte_idx: usize) -> Bytes<'a>
         requires { byte_idx ≤ byte_len (text_of self.now) }
         ensures { result ≡ at_place (encode_utf8_all (text_of self.now)) byte_idx }
@@ -29,7 +32,8 @@ impl<'a> RopeSlice<'a> {
         Bytes::at(&self.part, byte_idx)
     }
 
-    /// What `bytes_at` answers, or none where the index is past `len_bytes()`. No memory is taken.
+    /// As `bytes_at`, or `None` exactly where the index is past `len_bytes()`. Costs one or two look-ups; takes no
+    /// memory.
     pub fn get_bytes_at(&self, byte_idx: usize) -> Option<Bytes<'a>>
         ensures { MatchOption result (byte_len (text_of self.now) < byte_idx)
             (λ bytes. (byte_idx ≤ byte_len (text_of self.now)) × (bytes ≡ at_place (encode_utf8_all (text_of self.now)) byte_idx)) }
@@ -40,17 +44,17 @@ impl<'a> RopeSlice<'a> {
         Some(self.bytes_at(byte_idx))
     }
 
-    /// A cursor over the characters, before the first, facing forward. No memory is taken.
+    /// A cursor over the characters, before the first, facing forward. Costs one or two look-ups; takes no memory.
     pub fn chars(&self) -> Chars<'a>
         ensures { result ≡ at_start (text_of self.now) }
     {
         Chars::at(&self.part, 0)
     }
 
-    /// A cursor over the characters, before the character `char_idx`, counted from 0, facing forward; for `len_chars()`
-    /// it stands past the last character.
+    /// A cursor over the characters, before the character `char_idx`, counted from 0, facing forward; for
+    /// `len_chars()` it stands past the last one.
     ///
-    /// The index is at most `len_chars()`. No memory is taken.
+    /// The index is at most `len_chars()`. Costs one or two look-ups; takes no memory.
     pub fn chars_at(&self, char_idx: usize) -> Chars<'a>
         requires { char_idx ≤ length (text_of self.now) }
         ensures { result ≡ at_place (text_of self.now) char_idx }
@@ -58,7 +62,8 @@ impl<'a> RopeSlice<'a> {
         Chars::at(&self.part, char_idx)
     }
 
-    /// What `chars_at` answers, or none where the index is past `len_chars()`. No memory is taken.
+    /// As `chars_at`, or `None` exactly where the index is past `len_chars()`. Costs one or two look-ups; takes no
+    /// memory.
     pub fn get_chars_at(&self, char_idx: usize) -> Option<Chars<'a>>
         ensures { MatchOption result (length (text_of self.now) < char_idx)
             (λ chars. (char_idx ≤ length (text_of self.now)) × (chars ≡ at_place (text_of self.now) char_idx)) }
@@ -69,17 +74,18 @@ impl<'a> RopeSlice<'a> {
         Some(self.chars_at(char_idx))
     }
 
-    /// A cursor over the chunks, before the first, facing forward. No memory is taken.
+    /// A cursor over the chunks, before the first, facing forward. Costs one or two look-ups; takes no memory.
     pub fn chunks(&self) -> Chunks<'a>
         ensures { result ≡ at_start (chunks_of self.now) }
     {
         Chunks::new(&self.part)
     }
 
-    /// A cursor over the chunks, before the chunk that holds the byte `byte_idx`, facing forward; for `len_bytes()` it
-    /// stands past the last chunk. With it the bytes, the characters and the line breaks that end before it.
+    /// A cursor over the chunks, before the chunk that holds the byte `byte_idx`, facing forward; for `len_bytes()`
+    /// it stands past the last chunk. With it the numbers of bytes, of characters and of line breaks that end
+    /// before the cursor.
     ///
-    /// The index is at most `len_bytes()`. No memory is taken.
+    /// The index is at most `len_bytes()`. Costs one or two look-ups; takes no memory.
     pub fn chunks_at_byte(&self, byte_idx: usize) -> (Chunks<'a>, usize, usize, usize)
         requires { byte_idx ≤ byte_len (text_of self.now) }
         ensures { StandsAt (breaks_of self.now) (chunks_of self.now) (chunk_place_at_byte (chunks_of self.now) byte_idx)
@@ -88,7 +94,8 @@ impl<'a> RopeSlice<'a> {
         Chunks::at_byte(&self.part, byte_idx)
     }
 
-    /// What `chunks_at_byte` answers, or none where the index is past `len_bytes()`. No memory is taken.
+    /// As `chunks_at_byte`, or `None` exactly where the index is past `len_bytes()`. Costs one or two look-ups;
+    /// takes no memory.
     pub fn get_chunks_at_byte(&self, byte_idx: usize) -> Option<(Chunks<'a>, usize, usize, usize)>
         ensures { MatchOption result (byte_len (text_of self.now) < byte_idx)
             (λ found. (byte_idx ≤ byte_len (text_of self.now)) × StandsAt (breaks_of self.now) (chunks_of self.now)
@@ -101,10 +108,10 @@ impl<'a> RopeSlice<'a> {
     }
 
     /// A cursor over the chunks, before the chunk that holds the character `char_idx`, facing forward; for
-    /// `len_chars()` it stands past the last chunk. With it the bytes, the characters and the line breaks that end
-    /// before it.
+    /// `len_chars()` it stands past the last chunk. With it the numbers of bytes, of characters and of line breaks
+    /// that end before the cursor.
     ///
-    /// The index is at most `len_chars()`. No memory is taken.
+    /// The index is at most `len_chars()`. Costs one or two look-ups; takes no memory.
     pub fn chunks_at_char(&self, char_idx: usize) -> (Chunks<'a>, usize, usize, usize)
         requires { char_idx ≤ length (text_of self.now) }
         ensures { StandsAt (breaks_of self.now) (chunks_of self.now) (chunk_place_at_char (chunks_of self.now) char_idx)
@@ -113,7 +120,8 @@ impl<'a> RopeSlice<'a> {
         Chunks::at_char(&self.part, char_idx)
     }
 
-    /// What `chunks_at_char` answers, or none where the index is past `len_chars()`. No memory is taken.
+    /// As `chunks_at_char`, or `None` exactly where the index is past `len_chars()`. Costs one or two look-ups;
+    /// takes no memory.
     pub fn get_chunks_at_char(&self, char_idx: usize) -> Option<(Chunks<'a>, usize, usize, usize)>
         ensures { MatchOption result (length (text_of self.now) < char_idx)
             (λ found. (char_idx ≤ length (text_of self.now)) × StandsAt (breaks_of self.now) (chunks_of self.now)
@@ -125,11 +133,11 @@ impl<'a> RopeSlice<'a> {
         Some(self.chunks_at_char(char_idx))
     }
 
-    /// A cursor over the chunks, before the first chunk by whose end so many line breaks have ended, or else before the
-    /// last, facing forward; for `len_lines()` it stands past the last chunk. With it the bytes, the characters and the
-    /// line breaks that end before it.
+    /// A cursor over the chunks, before the first chunk by whose end `line_break_idx` line breaks have ended, or
+    /// else before the last, facing forward; for `len_lines()` it stands past the last chunk. With it the numbers
+    /// of bytes, of characters and of line breaks that end before the cursor.
     ///
-    /// The index is at most `len_lines()`. No memory is taken.
+    /// The index is at most `len_lines()`. Costs one or two look-ups; takes no memory.
     pub fn chunks_at_line_break(&self, line_break_idx: usize) -> (Chunks<'a>, usize, usize, usize)
         requires { line_break_idx ≤ line_count (breaks_of self.now) (text_of self.now) }
         ensures { StandsAt (breaks_of self.now) (chunks_of self.now) (chunk_place_at_line_break (breaks_of self.now) (chunks_of self.now) line_break_idx)
@@ -138,7 +146,8 @@ impl<'a> RopeSlice<'a> {
         Chunks::at_line_break(&self.part, line_break_idx)
     }
 
-    /// What `chunks_at_line_break` answers, or none where the index is past `len_lines()`. No memory is taken.
+    /// As `chunks_at_line_break`, or `None` exactly where the index is past `len_lines()`. Costs one or two
+    /// look-ups; takes no memory.
     pub fn get_chunks_at_line_break(
         &self,
         line_break_idx: usize,

@@ -1,4 +1,6 @@
-//! Lines of a slice, and a cursor over them.
+//! The lines of a slice, and a cursor over them. No call takes memory.
+//!
+//! The slice of all of `"a\nb\n"` has the lines `"a\n"`, `"b\n"` and `""`.
 ghost use Rattle.std.specs.Prelude.{◌≡◌, ◌≤◌, ◌<◌, ⊤, length, Some, IfSome, MatchOption};
 ghost use Rattle.std.specs.Iterator.{YieldsFirstBy, UpTo, item_count};
 ghost use Rattle.std.specs.Iterator.SizeHint.{IsWithinCount};
@@ -32,7 +34,9 @@ impl<'a> Model for Lines<'a> {
 }
 
 impl<'a> RopeSlice<'a> {
-    /// The line `line_idx`, counted from 0, with its break. The index is below `len_lines()`. No memory is taken.
+    /// The line `line_idx`, counted from 0, with its line break, as a slice.
+    ///
+    /// The index is below `len_lines()`. Costs a few look-ups, and counts the line; takes no memory.
     pub fn line(&self, line_idx: usize) -> RopeSlice<'a>
         requires { line_idx < line_count (breaks_of self.now) (text_of self.now) }
         ensures { content_of result ≡ line_of (content_of self.now) line_idx }
@@ -42,8 +46,8 @@ impl<'a> RopeSlice<'a> {
         }
     }
 
-    /// The line `line_idx`, counted from 0, with its break, or none where the index is `len_lines()` or past it. No memory is
-    /// taken.
+    /// The line `line_idx`, counted from 0, with its line break, or `None` exactly where the index is `len_lines()`
+    /// or past it. Costs a few look-ups, and counts the line; takes no memory.
     pub fn get_line(&self, line_idx: usize) -> Option<RopeSlice<'a>>
         ensures { MatchOption result (line_count (breaks_of self.now) (text_of self.now) ≤ line_idx)
             (λ slice. (line_idx < line_count (breaks_of self.now) (text_of self.now))
@@ -56,16 +60,17 @@ impl<'a> RopeSlice<'a> {
         }
     }
 
-    /// A cursor before the first line, facing forward. No memory is taken.
+    /// A cursor over the lines, before the first, facing forward. Costs one or two look-ups; takes no memory.
     pub fn lines(&self) -> Lines<'a>
         ensures { result ≡ at_start (lines_of (content_of self.now)) }
     {
         self.lines_at(0)
     }
 
-    /// A cursor before the line `line_idx`, counted from 0, facing forward; for `len_lines()` it stands past the last line.
+    /// A cursor over the lines, before the line `line_idx`, counted from 0, facing forward; for `len_lines()` it
+    /// stands past the last line.
     ///
-    /// The index is at most `len_lines()`. No memory is taken.
+    /// The index is at most `len_lines()`. Costs one or two look-ups; takes no memory.
     pub fn lines_at(&self, line_idx: usize) -> Lines<'a>
         requires { line_idx ≤ line_count (breaks_of self.now) (text_of self.now) }
         ensures { result ≡ at_place (lines_of (content_of self.now)) line_idx }
@@ -75,7 +80,8 @@ impl<'a> RopeSlice<'a> {
         }
     }
 
-    /// What `lines_at` answers, or none where the index is past `len_lines()`. No memory is taken.
+    /// As `lines_at`, or `None` exactly where the index is past `len_lines()`. Costs one or two look-ups; takes no
+    /// memory.
     pub fn get_lines_at(&self, line_idx: usize) -> Option<Lines<'a>>
         ensures { MatchOption result (line_count (breaks_of self.now) (text_of self.now) < line_idx)
             (λ lines. (line_idx ≤ line_count (breaks_of self.now) (text_of self.now))
@@ -89,7 +95,7 @@ impl<'a> RopeSlice<'a> {
 }
 
 impl<'a> Lines<'a> {
-    /// The item behind, to which it steps back; or none at that end, where it stays. No memory is taken.
+    /// The line behind the cursor, to which it steps back; or none at that end, where it stays. Takes no memory.
     pub fn prev(&mut self) -> Option<RopeSlice<'a>>
         ensures { StepsBack (λ x. content_of x) self.old result self.new }
     {
@@ -99,14 +105,14 @@ impl<'a> Lines<'a> {
         }
     }
 
-    /// Turns it round where it stands: `next` and `prev` change places.
+    /// Turns the cursor round where it stands: `next` and `prev` change places. Takes constant time and no memory.
     pub fn reverse(&mut self)
         ensures { self.new ≡ turned self.old }
     {
         self.parts.reverse();
     }
 
-    /// The same cursor turned round.
+    /// The same cursor turned round. Takes constant time and no memory.
     pub fn reversed(self) -> Lines<'a>
         ensures { result ≡ turned self.entry }
     {
@@ -123,7 +129,7 @@ impl<'a> Iterator for Lines<'a> {
 
     ghost remaining = { item_count ahead };
 
-    /// The next line, or none at the end, where it stays. No memory is taken.
+    /// The next line, or none at the end, where the cursor stays. Reads the line and takes no memory.
     fn next(&mut self) -> Option<RopeSlice<'a>>
         ensures steps { YieldsFirstBy (λ x. content_of x) ahead self.old result self.new }
         ensures goes { GoesAhead (λ x. content_of x) self.old result self.new }
@@ -134,7 +140,7 @@ impl<'a> Iterator for Lines<'a> {
         }
     }
 
-    /// How many lines are still to come, as both bounds.
+    /// How many lines are still to come, as both bounds. Takes constant time and no memory.
     fn size_hint(&self) -> (usize, Option<usize>)
         ensures lower { IsWithinCount result.0 (item_count ahead self.now) }
         ensures upper { IfSome result.1 (UpTo (item_count ahead self.now)) }
@@ -146,7 +152,7 @@ impl<'a> Iterator for Lines<'a> {
 }
 
 impl<'a> ExactSizeIterator for Lines<'a> {
-    /// How many lines are still to come.
+    /// How many lines are still to come. Takes constant time and no memory.
     fn len(&self) -> usize {
         self.parts.len()
     }

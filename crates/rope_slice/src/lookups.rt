@@ -1,4 +1,5 @@
-//! Bytes, characters and chunks of a slice by their index.
+//! Bytes, characters and chunks of a slice by their index, counted from the slice's start. Of the slice `1..3` of
+//! `"héllo"`, `char(0)` is `é`, and `chunk_at_char(1)` is `("él", 0, 0, 0)`.
 ghost use Rattle.std.specs.Prelude.{◌≡◌, ◌<◌, ◌≤◌, length, slice_get, Some, Err, MatchOption, IsOkAnd, OnSome, IfSome, IfNone};
 ghost use Rattle.std.specs.Str.{chars, encode_utf8_all};
 ghost use Rattle.rope_text.specs.Text.{byte_len};
@@ -12,7 +13,9 @@ use crate::slice::RopeSlice;
 use rope_text::{Error, Result};
 
 impl<'a> RopeSlice<'a> {
-    /// The byte `byte_idx`, counted from 0. The index is below `len_bytes()`. No memory is taken.
+    /// The byte `byte_idx`, counted from 0.
+    ///
+    /// The index is below `len_bytes()`. Costs one or two look-ups; takes no memory.
     pub fn byte(&self, byte_idx: usize) -> u8
         requires { byte_idx < byte_len (text_of self.now) }
         ensures { slice_get (encode_utf8_all (text_of self.now)) byte_idx ≡ Some result }
@@ -20,7 +23,8 @@ impl<'a> RopeSlice<'a> {
         self.part.byte(byte_idx)
     }
 
-    /// The byte `byte_idx`, counted from 0, or none where the index is `len_bytes()` or past it. No memory is taken.
+    /// The byte `byte_idx`, counted from 0, or `None` exactly where the index is `len_bytes()` or past it. Costs
+    /// one or two look-ups; takes no memory.
     pub fn get_byte(&self, byte_idx: usize) -> Option<u8>
         ensures { result ≡ slice_get (encode_utf8_all (text_of self.now)) byte_idx }
     {
@@ -31,7 +35,9 @@ impl<'a> RopeSlice<'a> {
         }
     }
 
-    /// The character `char_idx`, counted from 0. The index is below `len_chars()`. No memory is taken.
+    /// The character `char_idx`, counted from 0.
+    ///
+    /// The index is below `len_chars()`. Costs one or two look-ups; takes no memory.
     pub fn char(&self, char_idx: usize) -> char
         requires { char_idx < length (text_of self.now) }
         ensures { slice_get (text_of self.now) char_idx ≡ Some result }
@@ -39,7 +45,8 @@ impl<'a> RopeSlice<'a> {
         self.part.char(char_idx)
     }
 
-    /// The character `char_idx`, counted from 0, or none where the index is `len_chars()` or past it. No memory is taken.
+    /// The character `char_idx`, counted from 0, or `None` exactly where the index is `len_chars()` or past it.
+    /// Costs one or two look-ups; takes no memory.
     pub fn get_char(&self, char_idx: usize) -> Option<char>
         ensures { result ≡ slice_get (text_of self.now) char_idx }
     {
@@ -50,10 +57,10 @@ impl<'a> RopeSlice<'a> {
         }
     }
 
-    /// The chunk that holds the byte `byte_idx`, and at the end of the text the last chunk; with it the bytes, the
-    /// characters and the line breaks that end before it.
+    /// The chunk that holds the byte `byte_idx`, and at the end of the text the last chunk. With it the numbers of
+    /// bytes, of characters and of line breaks that end before the chunk; with no chunk at all `("", 0, 0, 0)`.
     ///
-    /// With no chunk it is `("", 0, 0, 0)`. The index is at most `len_bytes()`. No memory is taken.
+    /// The index is at most `len_bytes()`. Costs one or two look-ups; takes no memory.
     pub fn chunk_at_byte(&self, byte_idx: usize) -> (&'a str, usize, usize, usize)
         requires { byte_idx ≤ byte_len (text_of self.now) }
         ensures { IsFoundChunk (found_chunk (breaks_of self.now) (chunks_of self.now)
@@ -63,11 +70,12 @@ impl<'a> RopeSlice<'a> {
         self.part.chunk_at_byte(byte_idx)
     }
 
-    /// What `chunk_at_byte` answers. No memory is taken.
+    /// As `chunk_at_byte`, for any index. Costs one or two look-ups; takes no memory.
     ///
     /// # Errors
     ///
-    /// `ByteIndexOutOfBounds`, with the index and the number of bytes, where the index is past `len_bytes()`.
+    /// `ByteIndexOutOfBounds`, with the index and the number of bytes, exactly where the index is past
+    /// `len_bytes()`.
     pub fn try_chunk_at_byte(&self, byte_idx: usize) -> Result<(&'a str, usize, usize, usize)>
         ensures { MatchOption (byte_index_error byte_idx (byte_len (text_of self.now)))
             (IsOkAnd result (λ found. IsFoundChunk (found_chunk (breaks_of self.now) (chunks_of self.now)
@@ -82,10 +90,11 @@ impl<'a> RopeSlice<'a> {
         Ok(self.chunk_at_byte(byte_idx))
     }
 
-    /// The chunk that holds the character `char_idx`, and at the end of the text the last chunk; with it the bytes, the
-    /// characters and the line breaks that end before it.
+    /// The chunk that holds the character `char_idx`, and at the end of the text the last chunk. With it the
+    /// numbers of bytes, of characters and of line breaks that end before the chunk; with no chunk at all `("", 0,
+    /// 0, 0)`.
     ///
-    /// With no chunk it is `("", 0, 0, 0)`. The index is at most `len_chars()`. No memory is taken.
+    /// The index is at most `len_chars()`. Costs one or two look-ups; takes no memory.
     pub fn chunk_at_char(&self, char_idx: usize) -> (&'a str, usize, usize, usize)
         requires { char_idx ≤ length (text_of self.now) }
         ensures { IsFoundChunk (found_chunk (breaks_of self.now) (chunks_of self.now)
@@ -95,7 +104,8 @@ impl<'a> RopeSlice<'a> {
         self.part.chunk_at_char(char_idx)
     }
 
-    /// What `chunk_at_char` answers, or none where the index is past `len_chars()`. No memory is taken.
+    /// As `chunk_at_char`, or `None` exactly where the index is past `len_chars()`. Costs one or two look-ups;
+    /// takes no memory.
     pub fn get_chunk_at_char(&self, char_idx: usize) -> Option<(&'a str, usize, usize, usize)>
         ensures { MatchOption result (length (text_of self.now) < char_idx)
             (λ found. (char_idx ≤ length (text_of self.now))
@@ -109,10 +119,11 @@ impl<'a> RopeSlice<'a> {
         Some(self.chunk_at_char(char_idx))
     }
 
-    /// The first chunk by whose end `line_break_idx` line breaks have ended, or else the last; with it the bytes, the
-    /// characters and the line breaks that end before it.
+    /// The first chunk by whose end `line_break_idx` line breaks have ended, and the last chunk where there is none
+    /// such. With it the numbers of bytes, of characters and of line breaks that end before the chunk; with no
+    /// chunk at all `("", 0, 0, 0)`.
     ///
-    /// With no chunk it is `("", 0, 0, 0)`. The index is at most `len_lines()`. No memory is taken.
+    /// The index is at most `len_lines()`. Costs one or two look-ups; takes no memory.
     pub fn chunk_at_line_break(&self, line_break_idx: usize) -> (&'a str, usize, usize, usize)
         requires { line_break_idx ≤ line_count (breaks_of self.now) (text_of self.now) }
         ensures { IsFoundChunk (found_chunk (breaks_of self.now) (chunks_of self.now)
@@ -122,7 +133,8 @@ impl<'a> RopeSlice<'a> {
         self.part.chunk_at_line_break(line_break_idx)
     }
 
-    /// What `chunk_at_line_break` answers, or none where the index is past `len_lines()`. No memory is taken.
+    /// As `chunk_at_line_break`, or `None` exactly where the index is past `len_lines()`. Costs one or two
+    /// look-ups; takes no memory.
     pub fn get_chunk_at_line_break(
         &self,
         line_break_idx: usize,
@@ -139,7 +151,8 @@ impl<'a> RopeSlice<'a> {
         Some(self.chunk_at_line_break(line_break_idx))
     }
 
-    /// The text, where it is one chunk or none, and else none. No memory is taken.
+    /// The whole text, exactly where the slice has at most one chunk, and else `None`. Costs at most two look-ups;
+    /// takes no memory.
     pub fn as_str(&self) -> Option<&'a str>
         ensures one { OnSome result (length (chunks_of self.now) ≤ 1) }
         ensures more { IfNone result (1 < length (chunks_of self.now)) }

@@ -1,4 +1,7 @@
 //! Slices of slices.
+//!
+//! The slice `2..9` of `"hello world"` is `"llo wor"`, and of that the slice `1..4` is `"lo "`. No call takes
+//! memory.
 ghost use Rattle.std.specs.Prelude.{◌≡◌, ◌≢◌, length, None, Some, IfOk, IfErr, MatchOption};
 ghost use Rattle.rope_text.specs.Text.{byte_len};
 ghost use Rattle.rope_text.specs.Conversions.{byte_to_char};
@@ -11,10 +14,14 @@ use rope_text::range::char_bounds;
 use rope_text::{IndexRange, Result};
 
 impl<'a> RopeSlice<'a> {
-    /// Its characters of a range within it. The range's bounds are at most `len_chars()`, and its start is at most its end.
+    /// The characters of a range, as a slice that borrows them: their text, the chunks clipped to them, and the
+    /// same set of line breaks. Nothing is copied.
+    ///
+    /// The range's bounds are at most `len_chars()`, and its start is at most its end. Costs a few look-ups, or a
+    /// count of the text where it is plain; takes no memory.
     pub fn slice<R: IndexRange + Drop>(&self, range: R) -> RopeSlice<'a>
-        requires { char_range_error (R.told_start range) (R.told_end range) (length (text_of self.now)) ≡ None }
-        ensures { IsSlice (content_of self.now) (range_start (R.told_start range)) (range_end (R.told_end range) (length (text_of self.now)))
+        requires { char_range_error (R.given_start range) (R.given_end range) (length (text_of self.now)) ≡ None }
+        ensures { IsSlice (content_of self.now) (range_start (R.given_start range)) (range_end (R.given_end range) (length (text_of self.now)))
             (content_of result) }
     {
         match char_bounds(&range, self.len_chars()) {
@@ -25,11 +32,12 @@ impl<'a> RopeSlice<'a> {
         }
     }
 
-    /// What `slice` answers, or none where the range's start is past its end or a bound is past `len_chars()`.
+    /// As `slice`, or `None` exactly where a bound is past `len_chars()` or the range's start is past its end.
+    /// Costs a few look-ups, or a count of the text where it is plain; takes no memory.
     pub fn get_slice<R: IndexRange + Drop>(&self, range: R) -> Option<RopeSlice<'a>>
-        ensures { MatchOption result (char_range_error (R.told_start range) (R.told_end range) (length (text_of self.now)) ≢ None)
-            (λ slice. (char_range_error (R.told_start range) (R.told_end range) (length (text_of self.now)) ≡ None)
-            × IsSlice (content_of self.now) (range_start (R.told_start range)) (range_end (R.told_end range) (length (text_of self.now)))
+        ensures { MatchOption result (char_range_error (R.given_start range) (R.given_end range) (length (text_of self.now)) ≢ None)
+            (λ slice. (char_range_error (R.given_start range) (R.given_end range) (length (text_of self.now)) ≡ None)
+            × IsSlice (content_of self.now) (range_start (R.given_start range)) (range_end (R.given_end range) (length (text_of self.now)))
             (content_of slice)) }
     {
         match char_bounds(&range, self.len_chars()) {
@@ -40,17 +48,19 @@ impl<'a> RopeSlice<'a> {
         }
     }
 
-    /// Its characters that the bytes of a range are.
+    /// As `byte_slice`, for any range. Costs a few look-ups, or a count of the text where it is plain; takes no
+    /// memory.
     ///
     /// # Errors
     ///
-    /// First `ByteRangeInvalid` where both bounds are given and the start is past the end, then `ByteRangeOutOfBounds` where a
-    /// given bound is past `len_bytes()`, then `ByteRangeNotCharBoundary` where a given bound lies inside a character.
+    /// First `ByteRangeInvalid`, where both bounds are given and the start is past the end; then
+    /// `ByteRangeOutOfBounds`, where a given bound is past `len_bytes()`; then `ByteRangeNotCharBoundary`, where a
+    /// given bound lies inside a character.
     pub fn try_byte_slice<R: IndexRange + Drop>(&self, range: R) -> Result<RopeSlice<'a>>
-        ensures ok { IfOk result (λ slice. (byte_range_error (text_of self.now) (R.told_start range) (R.told_end range) ≡ None)
-            × IsSlice (content_of self.now) (byte_to_char (text_of self.now) (range_start (R.told_start range)))
-            (byte_to_char (text_of self.now) (range_end (R.told_end range) (byte_len (text_of self.now)))) (content_of slice)) }
-        ensures refused { IfErr result (λ fault. byte_range_error (text_of self.now) (R.told_start range) (R.told_end range) ≡ Some fault) }
+        ensures ok { IfOk result (λ slice. (byte_range_error (text_of self.now) (R.given_start range) (R.given_end range) ≡ None)
+            × IsSlice (content_of self.now) (byte_to_char (text_of self.now) (range_start (R.given_start range)))
+            (byte_to_char (text_of self.now) (range_end (R.given_end range) (byte_len (text_of self.now)))) (content_of slice)) }
+        ensures refused { IfErr result (λ fault. byte_range_error (text_of self.now) (R.given_start range) (R.given_end range) ≡ Some fault) }
     {
         let (start, end) = self.byte_bounds(&range)?;
         Ok(RopeSlice {
@@ -58,22 +68,25 @@ impl<'a> RopeSlice<'a> {
         })
     }
 
-    /// What `try_byte_slice` answers, or none where it refuses.
+    /// As `byte_slice`, or `None` exactly where `try_byte_slice` returns an error. Costs a few look-ups, or a count
+    /// of the text where it is plain; takes no memory.
     pub fn get_byte_slice<R: IndexRange + Drop>(&self, range: R) -> Option<RopeSlice<'a>>
-        ensures { MatchOption result (byte_range_error (text_of self.now) (R.told_start range) (R.told_end range) ≢ None)
-            (λ slice. (byte_range_error (text_of self.now) (R.told_start range) (R.told_end range) ≡ None)
-            × IsSlice (content_of self.now) (byte_to_char (text_of self.now) (range_start (R.told_start range)))
-            (byte_to_char (text_of self.now) (range_end (R.told_end range) (byte_len (text_of self.now)))) (content_of slice)) }
+        ensures { MatchOption result (byte_range_error (text_of self.now) (R.given_start range) (R.given_end range) ≢ None)
+            (λ slice. (byte_range_error (text_of self.now) (R.given_start range) (R.given_end range) ≡ None)
+            × IsSlice (content_of self.now) (byte_to_char (text_of self.now) (range_start (R.given_start range)))
+            (byte_to_char (text_of self.now) (range_end (R.given_end range) (byte_len (text_of self.now)))) (content_of slice)) }
     {
         self.try_byte_slice(range).ok()
     }
 
-    /// Its characters that the bytes of a range are. The range is within it, and its bounds lie at characters' starts or the
-    /// end.
+    /// The bytes of a range, as a slice that borrows them, as `slice` does.
+    ///
+    /// The range's bounds are at most `len_bytes()`, its start is at most its end, and no bound lies inside a
+    /// character. Costs a few look-ups, or a count of the text where it is plain; takes no memory.
     pub fn byte_slice<R: IndexRange + Drop>(&self, range: R) -> RopeSlice<'a>
-        requires { byte_range_error (text_of self.now) (R.told_start range) (R.told_end range) ≡ None }
-        ensures { IsSlice (content_of self.now) (byte_to_char (text_of self.now) (range_start (R.told_start range)))
-            (byte_to_char (text_of self.now) (range_end (R.told_end range) (byte_len (text_of self.now)))) (content_of result) }
+        requires { byte_range_error (text_of self.now) (R.given_start range) (R.given_end range) ≡ None }
+        ensures { IsSlice (content_of self.now) (byte_to_char (text_of self.now) (range_start (R.given_start range)))
+            (byte_to_char (text_of self.now) (range_end (R.given_end range) (byte_len (text_of self.now)))) (content_of result) }
     {
         match self.try_byte_slice(range) {
             Ok(slice) => slice,

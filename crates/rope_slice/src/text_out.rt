@@ -1,4 +1,6 @@
-//! A slice's text, copied, shown or lent.
+//! A slice's text, copied, shown or borrowed.
+//!
+//! Of the slice `1..3` of `"hello"`, `try_to_string(alloc)` is the string `"el"`.
 ghost use Rattle.std.specs.Prelude.{◌≡◌, ◌≤◌, ◌↔◌, length, IsOk, IfOk, IfErr};
 ghost use Rattle.std.specs.Cow.{cow_str_bytes, IsBorrowedStr};
 ghost use Rattle.std.specs.Str.{chars};
@@ -14,7 +16,11 @@ use std::borrow::CowStr;
 use std::fmt;
 
 impl<'a> RopeSlice<'a> {
-    /// A copy of the text. It takes memory once, and refuses for want of it alone.
+    /// A copy of the text as a string. Takes time in proportion to the text, and memory once.
+    ///
+    /// # Errors
+    ///
+    /// `OutOfMemory`.
     pub fn try_to_string(&self, alloc: Global) -> Result<String>
         ensures text { IfOk result (λ text. chars (string_bytes text) ≡ text_of self.now) }
         ensures err { IfErr result (λ e. e ≡ OutOfMemory) }
@@ -25,8 +31,12 @@ impl<'a> RopeSlice<'a> {
         }
     }
 
-    /// The text: borrowed where it is at most one chunk, which takes no memory, and else a copy. It refuses for want of memory
-    /// alone.
+    /// The text: borrowed exactly where the slice has at most one chunk, which takes no memory and never fails;
+    /// else a copy.
+    ///
+    /// # Errors
+    ///
+    /// `OutOfMemory`, only where the slice has more than one chunk.
     pub fn try_to_cow(&self, alloc: Global) -> Result<CowStr<'a>>
         ensures text { IfOk result (λ cow. chars (cow_str_bytes cow) ≡ text_of self.now) }
         ensures borrowed { IfOk result (λ cow. IsBorrowedStr cow ↔ (length (chunks_of self.now) ≤ 1)) }

@@ -106,7 +106,7 @@ pub fn random_range(numbers: &mut Numbers, len: usize) -> (usize, usize) {
     (start, len.saturating_sub(left_out))
 }
 
-/// A range of a rope, told by characters or by bytes.
+/// A range of a rope, given in characters or in bytes.
 pub fn slice_of<'a>(
     numbers: &mut Numbers,
     pair: &'a Pair,
@@ -121,7 +121,7 @@ pub fn slice_of<'a>(
     byte_between(&pair.rope, start, end)
 }
 
-/// A range of a slice, told by characters or by bytes.
+/// A range of a slice, given in characters or in bytes.
 fn part_of<'a>(
     numbers: &mut Numbers,
     slice: &RopeSlice<'a>,

@@ -31,7 +31,7 @@ trait Walker<'a> {
     fn back(&mut self) -> Option<Item<'a>>;
 
     fn turn(&mut self);
-    /// How many items are left, where the cursor tells it.
+    /// How many items are left, where the cursor says it.
     fn left_over(&self) -> Option<usize>;
 }
 
@@ -245,7 +245,7 @@ fn walk_chunks(
             }
         }
         if (bytes, before, breaks) != items.plain.counts_before(start) {
-            return Err(Fail::from("a cursor tells other counts"));
+            return Err(Fail::from("a cursor gives other counts"));
         }
         let plain = PlainCursor::at(items.ends.len(), index);
         walk(numbers, cursor, plain, items)?;

@@ -63,7 +63,7 @@ mask_front (m ∷ ms) (suc n) =
     let odd : mask_l (m ∷ ms) % 2 ≡ cond m 1 0 = omega (arith, bit) in
     omega (arith, low_bits (mask_l (m ∷ ms)) n, ap (λ h. h % 2 ^ n) half, odd, mask_front ms n)
 
--- The mark n of a mask whose marks tell where a test holds: what is counted from its place on, and that the test holds there.
+-- The mark n of a mask whose marks say where a test holds: what is counted from its place on, and that the test holds there.
 -- The counts are those from the block on, from the place on, and from the next place on.
 pub found_mark : (mask n r here there next : ℕ) (t : Bool) → here ≡ ones_below mask r + there → here ≡ ones_below mask (r + 1) + next → there ≡ cond t 1 0 + next
     → marks_below mask 0 r ≤ n → n < marks_below mask 0 (r + 1) → (here ≡ n + there) × (t ≡ true)

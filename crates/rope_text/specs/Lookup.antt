@@ -46,7 +46,7 @@ found_chunk set chunks k = record {
 }
 
 -- where a cursor over the chunks starts: before the chunk that the look-up answers, and at the end for the end of the text.
--- The numbers told with it are those of `found_chunk` at that place.
+-- The numbers given with it are those of `found_chunk` at that place.
 abbrev pub chunk_place_at_byte : List (List ℕ) → ℕ → ℕ
 chunk_place_at_byte chunks b = if b == byte_len (concat chunks) then length chunks else chunk_index_at_byte chunks b
 

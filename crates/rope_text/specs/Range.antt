@@ -1,4 +1,4 @@
--- What an index range tells of its end.
+-- What an index range says of its end.
 use Rattle.std.specs.Prelude.{ℕ, ◌+◌, ◌-◌, ◌^◌, if◌then◌else◌, nat_lt}
 
 -- the excluded end of a range whose last index is n, held at the greatest index

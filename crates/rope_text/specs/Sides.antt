@@ -55,7 +55,7 @@ module _ {A X : Type 0} (view : A → X) where
   StepsBack s r t = MatchBool s.is_backward (GoesRight s r t) (GoesLeft s r t)
 
   -- what a call of `next` did: it stepped ahead, and where it gave an item, less is left. The first three fields are those of
-  -- `MakesProgress`, and are told like that so that a `for` over the cursor is proved to end wherever it stands
+  -- `MakesProgress`, and are stated like that so that a `for` over the cursor is proved to end wherever it stands
   pub record GoesAhead (s : Sides X) (r : Option A) (t : Sides X) : Type 0 where
     pub on : IsFinite (item_count ahead s) → OnSome r (⊤ × IsFinite (item_count ahead t) × (size (item_count ahead t) < size (item_count ahead s)))
     pub keeps : IfSome r (λ _. ⊤)

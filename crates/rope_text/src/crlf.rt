@@ -1,4 +1,7 @@
-//! Places where the bytes of a text may be cut: within no character, and not between CR and LF.
+//! Places where the bytes of a text may be cut: inside no character, and not between CR and LF. No call takes
+//! memory.
+//!
+//! Of the bytes of `"a\r\nb"`, the places 0, 1, 3 and 4 may be cut, and 2 may not.
 ghost use Rattle.std.specs.Prelude.{◌≡◌, ℕ, ◌-◌, ◌<◌, ◌≤◌, true, false, length, ◌++◌, IsTrue, slice_index};
 ghost use Rattle.std.specs.Str.{IsUtf8, IsCharBoundary};
 ghost use Rattle.rope_text.specs.Cuts.{is_cut, is_cut_between, distance};
@@ -10,7 +13,7 @@ fn is_between(x: u8, y: u8) -> bool
     (y < 0x80 || y >= 0xC0) && (x != b'\r' || y != b'\n')
 }
 
-/// Whether a text may be cut into `left` and `right`.
+/// Whether a text may be cut into `left` and `right`, neither of which is empty. Reads two bytes; takes no memory.
 pub fn seam_is_break(left: &[u8], right: &[u8]) -> bool
     requires left { 0 < length left.now }
     requires right { 0 < length right.now }
@@ -19,7 +22,8 @@ pub fn seam_is_break(left: &[u8], right: &[u8]) -> bool
     is_between(left[left.len() - 1], right[0])
 }
 
-/// Whether the text may be cut before the byte `at`. It may be at either end.
+/// Whether the text may be cut before the byte `at`, which is at most its length. Either end may be cut. Reads the
+/// bytes around the place; takes no memory.
 pub fn is_break(text: &[u8], at: usize) -> bool
     requires { at ≤ length text.now }
     ensures value { result ≡ is_cut text.now at }
@@ -27,7 +31,8 @@ pub fn is_break(text: &[u8], at: usize) -> bool
     at == 0 || at == text.len() || is_between(text[at - 1], text[at])
 }
 
-/// The last cut before `at`, or 0 where `at` is 0.
+/// The last place before the byte `at` where the text may be cut, or 0 where `at` is 0. `at` is at most the length.
+/// Reads the bytes around the place; takes no memory.
 #[tactic(auto, using(crate::proofs::CutFacts::boundary_of_cut))]
 pub fn prev_break(text: &[u8], at: usize) -> usize
     requires { at ≤ length text.now }
@@ -47,7 +52,8 @@ pub fn prev_break(text: &[u8], at: usize) -> usize
     i
 }
 
-/// The first cut after `at`, or the end where `at` is the end.
+/// The first place after the byte `at` where the text may be cut, or the end where `at` is the end. `at` is at most
+/// the length. Reads the bytes around the place; takes no memory.
 #[tactic(auto, using(crate::proofs::CutFacts::boundary_of_cut))]
 pub fn next_break(text: &[u8], at: usize) -> usize
     requires { at ≤ length text.now }
@@ -86,7 +92,9 @@ fn break_up_to(text: &[u8], at: usize) -> usize
     }
 }
 
-/// The cut inside the text that is nearest to `at`, the later one of two that are as near. Where no cut lies inside, the end.
+/// The place inside the text, nearest to the byte `at`, where it may be cut, the later one of two that are as near;
+/// the end, where there is no such place inside. `at` is at most the length. Reads the bytes around the place;
+/// takes no memory.
 pub fn nearest_internal_break(text: &[u8], at: usize) -> usize
     requires { at ≤ length text.now }
     ensures boundary { IsUtf8 text.now → IsCharBoundary text.now result }

@@ -1,4 +1,7 @@
-//! What calls answer where they refuse.
+//! Why calls are refused.
+//!
+//! `Error::CharIndexOutOfBounds(8, 5)` prints `Char index out of bounds: char index 8, Rope/RopeSlice char length
+//! 5`.
 ghost use Rattle.std.specs.Prelude.{◌≡◌, Some};
 ghost use Rattle.rope_text.specs.declared.error.Error.TheVariants.{OutOfMemory};
 
@@ -21,15 +24,15 @@ pub enum Error {
     Utf16IndexOutOfBounds(usize, usize),
     /// A byte index inside a character. Kept from ropey; no call answers it.
     ByteIndexNotCharBoundary(usize),
-    /// A byte range that starts or ends inside a character: its bounds as they were told.
+    /// A byte range that starts or ends inside a character: its bounds as they were given.
     ByteRangeNotCharBoundary(Option<usize>, Option<usize>),
     /// A byte range whose start is past its end.
     ByteRangeInvalid(usize, usize),
     /// A character range whose start is past its end.
     CharRangeInvalid(usize, usize),
-    /// A byte range past the end: its bounds as they were told, and the length in bytes.
+    /// A byte range past the end: its bounds as they were given, and the length in bytes.
     ByteRangeOutOfBounds(Option<usize>, Option<usize>, usize),
-    /// A character range past the end: its bounds as they were told, and the length in characters.
+    /// A character range past the end: its bounds as they were given, and the length in characters.
     CharRangeOutOfBounds(Option<usize>, Option<usize>, usize),
     /// The text would have more than `isize::MAX` bytes.
     TooLong,
@@ -39,10 +42,10 @@ pub enum Error {
     LineBreaksDiffer,
 }
 
-/// What a call that may be refused answers.
+/// What a call that may be refused returns.
 pub type Result<T> = std::result::Result<T, Error>;
 
-/// The bounds of a range as they were told, which print as Rust writes a range.
+/// The bounds of a range as they were given, which print as Rust writes a range.
 #[derive(Clone, Copy)]
 struct Bounds(Option<usize>, Option<usize>);
 

@@ -1,4 +1,4 @@
-//! Ranges of indices.
+//! Ranges of indices: the six kinds of Rust. `2..5`, `2..=4` and, in a text of 5 characters, `2..` are the same.
 ghost use Rattle.std.specs.Prelude.{◌≡◌, ℕ, ◌+◌, ◌-◌, ◌^◌, ◌<◌, None, Some, Option, MatchOption, Ok, Err};
 ghost use Rattle.std.specs.Range.{range_inclusive_start, range_inclusive_end};
 ghost use Rattle.rope_text.specs.Range.{excluded_end};
@@ -7,25 +7,26 @@ ghost use Rattle.rope_text.specs.Edit.{range_start, range_end, char_range_error}
 use crate::error::{Error, Result};
 use std::ops::{Range, RangeFrom, RangeFull, RangeInclusive, RangeTo, RangeToInclusive};
 
-/// A range of indices, told by its start and its excluded end, each `None` where it is open.
+/// A range of indices, given by its start and its excluded end, each `None` where it is open.
 pub trait IndexRange {
-    ghost told_start: { Self → Option ℕ };
+    ghost given_start: { Self → Option ℕ };
 
-    ghost told_end: { Self → Option ℕ };
+    ghost given_end: { Self → Option ℕ };
 
-    /// The first index.
+    /// The first index, or `None` where the range has no start. Takes constant time and no memory.
     fn start(&self) -> Option<usize>
-        ensures { result ≡ told_start self.now };
+        ensures { result ≡ given_start self.now };
 
-    /// The index past the last. An inclusive end is told as one more, held at `usize::MAX`.
+    /// The index past the last, or `None` where the range has no end. An inclusive end is one more than what is
+    /// given, and `usize::MAX` at most. Takes constant time and no memory.
     fn end(&self) -> Option<usize>
-        ensures { result ≡ told_end self.now };
+        ensures { result ≡ given_end self.now };
 }
 
 impl IndexRange for Range<usize> {
-    ghost told_start = { λ r. Some (r.start) };
+    ghost given_start = { λ r. Some (r.start) };
 
-    ghost told_end = { λ r. Some (r.end) };
+    ghost given_end = { λ r. Some (r.end) };
 
     fn start(&self) -> Option<usize> {
         Some(self.start)
@@ -37,9 +38,9 @@ impl IndexRange for Range<usize> {
 }
 
 impl IndexRange for RangeFrom<usize> {
-    ghost told_start = { λ r. Some (r.start) };
+    ghost given_start = { λ r. Some (r.start) };
 
-    ghost told_end = { λ _. None };
+    ghost given_end = { λ _. None };
 
     fn start(&self) -> Option<usize> {
         Some(self.start)
@@ -51,9 +52,9 @@ impl IndexRange for RangeFrom<usize> {
 }
 
 impl IndexRange for RangeFull {
-    ghost told_start = { λ _. None };
+    ghost given_start = { λ _. None };
 
-    ghost told_end = { λ _. None };
+    ghost given_end = { λ _. None };
 
     fn start(&self) -> Option<usize> {
         None
@@ -65,9 +66,9 @@ impl IndexRange for RangeFull {
 }
 
 impl IndexRange for RangeInclusive<usize> {
-    ghost told_start = { λ r. Some (range_inclusive_start r) };
+    ghost given_start = { λ r. Some (range_inclusive_start r) };
 
-    ghost told_end = { λ r. Some (excluded_end (range_inclusive_end r)) };
+    ghost given_end = { λ r. Some (excluded_end (range_inclusive_end r)) };
 
     fn start(&self) -> Option<usize> {
         Some(*self.start())
@@ -79,9 +80,9 @@ impl IndexRange for RangeInclusive<usize> {
 }
 
 impl IndexRange for RangeTo<usize> {
-    ghost told_start = { λ _. None };
+    ghost given_start = { λ _. None };
 
-    ghost told_end = { λ r. Some (r.end) };
+    ghost given_end = { λ r. Some (r.end) };
 
     fn start(&self) -> Option<usize> {
         None
@@ -93,9 +94,9 @@ impl IndexRange for RangeTo<usize> {
 }
 
 impl IndexRange for RangeToInclusive<usize> {
-    ghost told_start = { λ _. None };
+    ghost given_start = { λ _. None };
 
-    ghost told_end = { λ r. Some (excluded_end r.end) };
+    ghost given_end = { λ r. Some (excluded_end r.end) };
 
     fn start(&self) -> Option<usize> {
         None
@@ -106,18 +107,23 @@ impl IndexRange for RangeToInclusive<usize> {
     }
 }
 
-/// The bounds of a range in a text of `len` characters, or what is wrong with it.
+/// The bounds of a range in a text of `len` characters. Takes constant time and no memory.
+///
+/// # Errors
+///
+/// First `CharRangeOutOfBounds`, with the bounds and the number of characters, where a bound is past `len`; then
+/// `CharRangeInvalid`, where the start is past the end.
 pub fn char_bounds<R: IndexRange>(range: &R, len: usize) -> Result<(usize, usize)>
-    ensures { MatchOption (char_range_error (R.told_start range.now) (R.told_end range.now) len)
-        (result ≡ Ok (range_start (R.told_start range.now), range_end (R.told_end range.now) len))
+    ensures { MatchOption (char_range_error (R.given_start range.now) (R.given_end range.now) len)
+        (result ≡ Ok (range_start (R.given_start range.now), range_end (R.given_end range.now) len))
         (λ fault. result ≡ Err fault) }
 {
-    let told_start = range.start();
-    let told_end = range.end();
-    let start = told_start.unwrap_or(0);
-    let end = told_end.unwrap_or(len);
+    let given_start = range.start();
+    let given_end = range.end();
+    let start = given_start.unwrap_or(0);
+    let end = given_end.unwrap_or(len);
     if start.max(end) > len {
-        return Err(Error::CharRangeOutOfBounds(told_start, told_end, len));
+        return Err(Error::CharRangeOutOfBounds(given_start, given_end, len));
     }
     if start > end {
         return Err(Error::CharRangeInvalid(start, end));

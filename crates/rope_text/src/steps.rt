@@ -1,7 +1,7 @@
-//! Counts of what a call did in a tree.
+//! Counts of what a call did in a tree. After a look-up in a rope of one chunk, `nodes` is 1 and `compares` is 0.
 ghost use Rattle.std.specs.Prelude.{◌≡◌};
 
-/// What calls did: each counted call adds to these counts.
+/// What a counted call did: the nodes that it entered, the totals that it compared, the nodes that it made.
 #[derive(Clone, Copy, Debug, PartialEq, Eq)]
 pub struct Steps {
     /// The nodes that were entered.
@@ -13,7 +13,7 @@ pub struct Steps {
 }
 
 impl Steps {
-    /// All counts 0.
+    /// All counts 0. Takes constant time and no memory.
     pub fn new() -> Steps
         ensures { result ≡ record { nodes = 0; compares = 0; made = 0 } }
     {

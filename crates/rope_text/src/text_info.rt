@@ -1,4 +1,6 @@
-//! The counts of a text.
+//! The counts of a text: bytes, characters, surrogate pairs and line breaks.
+//!
+//! Of `"é\r\n"`, with a set that has CR, they are 4 bytes, 3 characters, no surrogate pair and 1 line break.
 ghost use Rattle.std.specs.Prelude.{◌≡◌, ◌+◌, ◌<◌, ◌≤◌, ◌^◌, [], ◌++◌, false, length, take, drop, List, ℕ};
 ghost use Rattle.std.specs.Str.{chars, IsCharBoundary};
 ghost use Rattle.rope_text.specs.TextInfo.{info_of, info_sum};
@@ -8,13 +10,14 @@ use crate::str_utils::counts;
 
 /// What a text counts.
 // The bytes stand last: in a leaf they then lie beside the text, and a walk over leaves reads both at once.
+/// How many bytes, characters, surrogate pairs in UTF-16 and line breaks a text has. Copying it takes no memory.
 #[derive(Clone, Copy, Debug, Default, PartialEq, Eq)]
 pub struct TextInfo {
     /// The characters.
     pub chars: usize,
     /// The characters that take two code units in UTF-16.
     pub utf16_surrogates: usize,
-    /// The line breaks, by the set that was told.
+    /// The line breaks, by the set that was named.
     pub line_breaks: usize,
     /// The bytes.
     pub bytes: usize,
@@ -23,7 +26,7 @@ pub struct TextInfo {
 impl TextInfo {
     ghost use Rattle.rope_text.specs.Cutting.{parts_crlf};
 
-    /// The counts of the empty text.
+    /// The counts of the empty text: all 0.
     pub fn new() -> TextInfo
         ensures { (set : LineBreaks) → result ≡ info_of set [] }
     {
@@ -35,7 +38,7 @@ impl TextInfo {
         }
     }
 
-    /// The counts of a text, its line breaks by the set.
+    /// The counts of a text, its line breaks by the set. Reads the text once; takes no memory.
     pub fn from_str(text: &str, set: LineBreaks) -> TextInfo
         ensures { result ≡ info_of set (chars text.now) }
     {
@@ -48,7 +51,8 @@ impl TextInfo {
         }
     }
 
-    /// The sums: the counts of two texts joined, unless CR meets LF there.
+    /// The sums: the counts of two texts joined, unless CR meets LF there, which makes one line break less. Each
+    /// sum is below 2^64. Takes constant time and no memory.
     pub fn plus(self, other: TextInfo) -> TextInfo
         requires bytes { self.bytes + other.bytes < 2 ^ 64 }
         requires chars { self.chars + other.chars < 2 ^ 64 }
@@ -66,7 +70,8 @@ impl TextInfo {
         }
     }
 
-    /// The differences: the counts of what follows a front, unless CR meets LF there.
+    /// The differences: the counts of what follows a front, unless CR meets LF there. No count of the front is
+    /// greater than the text's. Takes constant time and no memory.
     pub fn minus(self, front: TextInfo) -> TextInfo
         requires bytes { front.bytes ≤ self.bytes }
         requires chars { front.chars ≤ self.chars }

@@ -86,7 +86,7 @@ recuts_same xs a = record { same_text = refl; leaves = a }
 pub recuts-trans : {xs ys zs : List (List ℕ)} → Recuts xs ys → Recuts ys zs → Recuts xs zs
 recuts-trans r s = record { same_text = s.same_text ∙ r.same_text; leaves = s.leaves }
 
--- a part is cut anew
+-- a part is cut again
 pub recuts_right : (zs xs ys : List (List ℕ)) → AreLeaves (zs ++ xs) → Recuts xs ys → Recuts (zs ++ xs) (zs ++ ys)
 recuts_right zs xs ys a r = record {
   same_text = concat-append zs ys ∙ ap (λ t. concat zs ++ t) r.same_text ∙ sym (concat-append zs xs);

@@ -19,7 +19,7 @@ pub record AreFrontNodes (set : LineBreaks) (text : List ℕ) (ts : List Tree) (
   pub each : All (IsChild set 0) ts
   pub fronts : AreFronts text (leaves_of ts) rest
 
--- the text handed in so far, and the set of line breaks of the tree to come
+-- the text passed in so far, and the set of line breaks of the tree to come
 pub record Building : Type 0 where
   pub text : List ℕ
   pub breaks : LineBreaks

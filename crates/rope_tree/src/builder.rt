@@ -1,4 +1,4 @@
-//! Trees of texts that are handed in one after the other.
+//! Trees of texts that are passed in one after the other.
 ghost use Rattle.std.specs.Prelude.{◌≡◌, ◌+◌, ◌-◌, ◌*◌, ◌/◌, ◌<◌, ◌≤◌, ◌^◌, ◌++◌, [], false, length, drop, min, IsOk, IfOk, IfErr, OnOk, OnErr};
 ghost use Rattle.std.specs.Str.{chars, IsCharBoundary};
 ghost use Rattle.rope_text.specs.Text.{byte_len};
@@ -157,7 +157,7 @@ fn append_to(
     Ok(())
 }
 
-/// Builds a tree of texts that are handed in one after the other. It is seen as the text so far and the set of line breaks.
+/// Builds a tree of texts that are passed in one after the other. It is seen as the text so far and the set of line breaks.
 #[derive(Drop)]
 pub struct Builder {
     alloc: Global,
@@ -178,7 +178,7 @@ impl Model for Builder {
 }
 
 impl Builder {
-    /// Nothing is handed in yet. It takes no memory.
+    /// Nothing is passed in yet. It takes no memory.
     pub fn new(alloc: Global, breaks: LineBreaks) -> Builder
         ensures text { result.text ≡ [] }
         ensures breaks { result.breaks ≡ breaks }
@@ -192,7 +192,7 @@ impl Builder {
         }
     }
 
-    /// How many bytes were handed in.
+    /// How many bytes were passed in.
     pub fn len_bytes(&self) -> usize
         ensures value { result ≡ byte_len self.now.text }
         ensures fits { byte_len self.now.text < 2 ^ 63 }
@@ -200,7 +200,7 @@ impl Builder {
         self.bytes
     }
 
-    /// Puts a text behind what was handed in. Where memory is refused, it is as if nothing had been handed in. An empty
+    /// Puts a text behind what was passed in. Where memory is refused, it is as if nothing had been passed in. An empty
     /// text takes no memory.
     pub fn append(&mut self, text: &str) -> Result<(), AllocError>
         requires { byte_len self.old.text + length text.now < 2 ^ 63 }
@@ -229,7 +229,7 @@ impl Builder {
         Ok(())
     }
 
-    /// The tree of what was handed in, with at most one leaf for each 981 bytes and one for the rest. The nodes that it
+    /// The tree of what was passed in, with at most one leaf for each 981 bytes and one for the rest. The nodes that it
     /// makes are counted, and those that were made before are not.
     pub fn finish(self, made: &mut u64) -> Result<Rc<Node>, AllocError>
         ensures text { IfOk result (λ node. text node.value ≡ self.text) }

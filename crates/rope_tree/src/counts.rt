@@ -73,7 +73,7 @@ pub fn info_with(
     info_between(info, &text[..place], added.as_str(), &text[place..], set)
 }
 
-/// Puts a text before the character `at` of a leaf that has room for it, and tells the counts of the whole, by those of what
+/// Puts a text before the character `at` of a leaf that has room for it, and gives the counts of the whole, by those of what
 /// was.
 pub fn put_in(
     leaf: &mut NodeText,
@@ -128,7 +128,7 @@ fn bares_an_end(front: &str, back: &str) -> bool
     }
 }
 
-/// Takes the characters from `start` up to `end` out of a leaf, and tells the counts of what stays, by those of what was. None,
+/// Takes the characters from `start` up to `end` out of a leaf, and gives the counts of what stays, by those of what was. None,
 /// and the leaf as it was, where nothing would stay, or where what stays could not stand between the same neighbours with no
 /// CR before an LF.
 pub fn take_out(

@@ -37,7 +37,7 @@ fn goes_right(node: &Node, at: usize, added: &ShortText<'_>) -> bool
 }
 
 /// Puts a text of at most 981 bytes before the character `at`, where no node on the way is shared and the leaf has room;
-/// whether it did. It takes no memory.
+/// returns whether it did. It takes no memory.
 pub fn insert_in_place(root: &mut Rc<Node>, at: usize, added: &ShortText<'_>) -> bool
     requires within { at ≤ length (text root.old.value) }
     requires some { 1 ≤ length added.now }
@@ -55,7 +55,7 @@ pub fn insert_in_place(root: &mut Rc<Node>, at: usize, added: &ShortText<'_>) ->
 }
 
 /// Puts a text of at most 981 bytes before the character `at`, where no node on the way is shared, the leaf has no room for it,
-/// and the node over the leaf has room for one more: the leaf is cut into two; whether it did. It takes memory for the second
+/// and the node over the leaf has room for one more: the leaf is cut into two; returns whether it did. It takes memory for the second
 /// part alone; where that is refused, nothing is changed.
 fn insert_by_cut(
     alloc: Global,

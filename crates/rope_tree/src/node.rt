@@ -134,7 +134,7 @@ fn totals_of(nodes: &[Rc<Node>]) -> ArrayVec<TextInfo, 24>
 }
 
 impl Node {
-    /// How many levels lie below it: 0 for a leaf, and at most 18. A call of it also tells a proof what holds of every node.
+    /// How many levels lie below it: 0 for a leaf, and at most 18. A call of it also says a proof what holds of every node.
     pub fn height(&self) -> usize
         ensures value { result ≡ self.now.height }
         ensures low { self.now.height ≤ 18 }

@@ -93,7 +93,7 @@ impl NodeText {
         ensures fits { byte_len self.now ≤ 984 }
         ensures scalars { all_scalars self.now ≡ true }
     {
-        // That they are a text is what the type keeps, so they are not gone over again.
+        // That they are a text is what the type keeps, so they are not checked again.
         unsafe { str::from_utf8_unchecked(self.bytes.as_slice()) }
     }
 

@@ -73,7 +73,7 @@ pub fn without(
 }
 
 /// Takes the characters from `start` up to `end` out where the nodes stand, if they lie in one leaf that may do without them
-/// and no node on the way is shared; whether it did. It takes no memory.
+/// and no node on the way is shared; returns whether it did. It takes no memory.
 fn remove_in_place(root: &mut Rc<Node>, start: usize, end: usize) -> bool
     requires ordered { start < end }
     requires within { end ≤ length (text root.old.value) }
@@ -86,7 +86,7 @@ fn remove_in_place(root: &mut Rc<Node>, start: usize, end: usize) -> bool
     }
 }
 
-/// Takes the characters from `start` up to `end` out where they lie in one leaf that may do without them; whether it did. Where
+/// Takes the characters from `start` up to `end` out where they lie in one leaf that may do without them; returns whether it did. Where
 /// no node on the way is shared, that takes no memory; else a tree with copies of those nodes takes the old one's place last of
 /// all.
 pub fn remove_at(

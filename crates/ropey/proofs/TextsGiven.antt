@@ -23,7 +23,7 @@ joined_push bytes xs x =
     ∙ concat-append (map (λ y. chars (bytes y)) xs) (chars (bytes x) ∷ [])
     ∙ ap (λ l. joined_texts bytes xs ++ l) (append-nil (chars (bytes x)))
 
--- the error of a text handed in is that of the whole text
+-- the error of a text passed in is that of the whole text
 pub error_of_whole : (failed : Option Error) (before bytes : ℕ) (text more whole : List ℕ) → failed ≡ None → before ≡ byte_len text → bytes ≡ byte_len more → whole ≡ text ++ more
     → or_else failed (size_error (before + bytes)) ≡ size_error (byte_len whole)
 error_of_whole failed before bytes text more whole none is_before is_bytes is_whole =

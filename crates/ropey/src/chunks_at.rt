@@ -1,4 +1,7 @@
-//! The chunk of a rope at a place, with the bytes, the characters and the line breaks of the text before it.
+//! The chunk of a rope at a place, with the numbers of bytes, characters and line breaks before it.
+//!
+//! A rope of `"one\ntwo"` has one chunk, and `chunk_at_char(5)` is `("one\ntwo", 0, 0, 0)`. A caller that reads a
+//! text around a place takes the chunk there, and goes on with `chunks_at_char`.
 ghost use Rattle.std.specs.Prelude.{◌≡◌, ◌<◌, ◌≤◌, length, MatchOption};
 ghost use Rattle.std.specs.Str.{chars};
 ghost use Rattle.rope_text.specs.Text.{byte_len};
@@ -11,7 +14,7 @@ use rope_tree::chunk_lookup;
 use rope_tree::lookup::Found;
 
 // The chunk that was found, and the counts of the text before it.
-fn told(found: Found<'_>) -> (&str, usize, usize, usize)
+fn chunk_and_counts(found: Found<'_>) -> (&str, usize, usize, usize)
     ensures text { chars result.0.now ≡ found.entry.leaf.now }
     ensures bytes { result.1 ≡ found.entry.before.bytes }
     ensures chars { result.2 ≡ found.entry.before.chars }
@@ -27,20 +30,21 @@ fn told(found: Found<'_>) -> (&str, usize, usize, usize)
 }
 
 impl Rope {
-    /// The chunk that holds the byte `byte_idx`, and at the end of the text the last chunk; with it the bytes, the
-    /// characters and the line breaks that end before it.
+    /// The chunk that holds the byte `byte_idx`, and at the end of the text the last chunk. With it the numbers of
+    /// bytes, of characters and of line breaks that end before the chunk; with no chunk at all `("", 0, 0, 0)`.
     ///
-    /// With no chunk it is `("", 0, 0, 0)`. The index is at most `len_bytes()`. No memory is taken.
+    /// The index is at most `len_bytes()`. Costs one look-up; takes no memory.
     pub fn chunk_at_byte(&self, byte_idx: usize) -> (&str, usize, usize, usize)
         requires { byte_idx ≤ byte_len self.now.text }
         ensures { IsFoundChunk (found_chunk self.now.breaks self.now.chunks
             (chunk_index_at_byte self.now.chunks byte_idx))
             (chars result.0.now) result.1 result.2 result.3 }
     {
-        told(chunk_lookup::chunk_at_byte(self.root(), byte_idx))
+        chunk_and_counts(chunk_lookup::chunk_at_byte(self.root(), byte_idx))
     }
 
-    /// What `chunk_at_byte` answers, or none where the index is past `len_bytes()`. No memory is taken.
+    /// As `chunk_at_byte`, or `None` exactly where the index is past `len_bytes()`. Costs one look-up; takes no
+    /// memory.
     pub fn get_chunk_at_byte(&self, byte_idx: usize) -> Option<(&str, usize, usize, usize)>
         ensures { MatchOption result (byte_len self.now.text < byte_idx)
             (λ found. (byte_idx ≤ byte_len self.now.text)
@@ -54,20 +58,22 @@ impl Rope {
         Some(self.chunk_at_byte(byte_idx))
     }
 
-    /// The chunk that holds the character `char_idx`, and at the end of the text the last chunk; with it the bytes, the
-    /// characters and the line breaks that end before it.
+    /// The chunk that holds the character `char_idx`, and at the end of the text the last chunk. With it the
+    /// numbers of bytes, of characters and of line breaks that end before the chunk; with no chunk at all `("", 0,
+    /// 0, 0)`.
     ///
-    /// With no chunk it is `("", 0, 0, 0)`. The index is at most `len_chars()`. No memory is taken.
+    /// The index is at most `len_chars()`. Costs one look-up; takes no memory.
     pub fn chunk_at_char(&self, char_idx: usize) -> (&str, usize, usize, usize)
         requires { char_idx ≤ length self.now.text }
         ensures { IsFoundChunk (found_chunk self.now.breaks self.now.chunks
             (chunk_index_at_char self.now.chunks char_idx))
             (chars result.0.now) result.1 result.2 result.3 }
     {
-        told(chunk_lookup::chunk_at_char(self.root(), char_idx))
+        chunk_and_counts(chunk_lookup::chunk_at_char(self.root(), char_idx))
     }
 
-    /// What `chunk_at_char` answers, or none where the index is past `len_chars()`. No memory is taken.
+    /// As `chunk_at_char`, or `None` exactly where the index is past `len_chars()`. Costs one look-up; takes no
+    /// memory.
     pub fn get_chunk_at_char(&self, char_idx: usize) -> Option<(&str, usize, usize, usize)>
         ensures { MatchOption result (length self.now.text < char_idx)
             (λ found. (char_idx ≤ length self.now.text)
@@ -81,20 +87,22 @@ impl Rope {
         Some(self.chunk_at_char(char_idx))
     }
 
-    /// The first chunk by whose end `line_break_idx` line breaks have ended, or else the last; with it the bytes, the
-    /// characters and the line breaks that end before it.
+    /// The first chunk by whose end `line_break_idx` line breaks have ended, and the last chunk where there is none
+    /// such. With it the numbers of bytes, of characters and of line breaks that end before the chunk; with no
+    /// chunk at all `("", 0, 0, 0)`.
     ///
-    /// With no chunk it is `("", 0, 0, 0)`. The index is at most `len_lines()`. No memory is taken.
+    /// The index is at most `len_lines()`. Costs one look-up; takes no memory.
     pub fn chunk_at_line_break(&self, line_break_idx: usize) -> (&str, usize, usize, usize)
         requires { line_break_idx ≤ line_count self.now.breaks self.now.text }
         ensures { IsFoundChunk (found_chunk self.now.breaks self.now.chunks
             (chunk_index_at_line_break self.now.breaks self.now.chunks line_break_idx))
             (chars result.0.now) result.1 result.2 result.3 }
     {
-        told(chunk_lookup::chunk_at_line_break(self.root(), line_break_idx))
+        chunk_and_counts(chunk_lookup::chunk_at_line_break(self.root(), line_break_idx))
     }
 
-    /// What `chunk_at_line_break` answers, or none where the index is past `len_lines()`. No memory is taken.
+    /// As `chunk_at_line_break`, or `None` exactly where the index is past `len_lines()`. Costs one look-up; takes
+    /// no memory.
     pub fn get_chunk_at_line_break(
         &self,
         line_break_idx: usize,

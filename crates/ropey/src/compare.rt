@@ -1,4 +1,6 @@
 //! Ropes compared and hashed by their texts, however they are cut. No call takes memory.
+//!
+//! A rope of `"ab"` made at once equals one made of `"a"` and then `"b"`, and comes before one of `"b"`.
 ghost use Rattle.std.specs.Prelude.{◌≡◌, IsTrue, ◌↔◌};
 ghost use Rattle.std.specs.Str.{chars};
 
@@ -7,7 +9,7 @@ use std::cmp::Ordering;
 use std::hash::{Hash, Hasher};
 
 impl Rope {
-    /// Whether its text is this one. No memory is taken.
+    /// Whether the text is this one. Reads both texts up to where they differ; takes no memory.
     pub fn eq_str(&self, other: &str) -> bool
         ensures { IsTrue result ↔ (self.now.text ≡ chars other.now) }
     {
@@ -15,7 +17,8 @@ impl Rope {
     }
 }
 
-/// Ropes are equal exactly if their texts are, however they are cut and whatever their sets of line breaks.
+/// Ropes are equal exactly if their texts are, however they are cut and whatever their sets of line breaks. Reads
+/// both texts up to where they differ.
 impl PartialEq for Rope {
     ghost use Rattle.std.specs.Prelude.{◌==◌};
     ghost use Rattle.std.proofs.Common.{rules};
@@ -40,7 +43,8 @@ impl Eq for Rope {
     ghost laws = { Prim.search (comparing, rules) };
 }
 
-/// The lexicographic order of the bytes of the texts, however they are cut.
+/// The lexicographic order of the bytes of the texts, however they are cut. Reads both texts up to where they
+/// differ.
 impl Ord for Rope {
     ghost use Rattle.std.proofs.Common.{rules};
     ghost use Rattle.std.specs.Cmp.Rules.{comparing};
@@ -78,8 +82,8 @@ impl PartialOrd for Rope {
     }
 }
 
-/// A hasher is handed the bytes of the text in blocks of 256, the last one shorter where need be, and then 0xff: however it
-/// is cut.
+/// A hasher is given the bytes of the text in blocks of 256, the last one shorter where need be, and then 0xff,
+/// however the rope is cut.
 impl Hash for Rope {
     ghost use Rattle.std.proofs.Common.{rules};
     ghost use Rattle.std.specs.Cmp.Rules.{comparing, hashing};

@@ -1,5 +1,7 @@
-//! Look-ups that count their steps: the nodes that they enter, and the running totals that they compare an index with. Each
-//! sets the counts to 0 first.
+//! Look-ups that count their steps: the nodes that they enter, and the running totals that they compare an index
+//! with. Each sets the counts to 0 first.
+//!
+//! In a rope of one chunk, `byte_counted(0, &mut steps)` leaves `steps.nodes` at 1 and `steps.compares` at 0.
 ghost use Rattle.std.specs.Prelude.{◌≡◌, ◌+◌, ◌*◌, ◌<◌, ◌≤◌, length, slice_get, Some};
 ghost use Rattle.std.specs.Str.{encode_utf8_all};
 ghost use Rattle.rope_text.specs.Text.{byte_len, utf16_len};
@@ -26,8 +28,8 @@ impl Rope {
         self.root()
     }
 
-    /// What `byte_to_char` answers, under the same condition, with the steps that it took: at most one node for each level,
-    /// and at most five comparisons for each inner node on the way. No memory is taken.
+    /// As `byte_to_char`, under the same condition, and sets `steps` to what it did: at most one node a level
+    /// entered, at most five totals compared in each inner node on the way, none made. Takes no memory.
     pub fn byte_to_char_counted(&self, byte_idx: usize, steps: &mut Steps) -> usize
         requires { byte_idx ≤ byte_len self.now.text }
         ensures value { result ≡ byte_to_char self.now.text byte_idx }
@@ -40,8 +42,8 @@ impl Rope {
         tree::byte_to_char(self.begin(steps), byte_idx, steps)
     }
 
-    /// What `byte_to_line` answers, under the same condition, with the steps that it took: at most one node for each level,
-    /// and at most five comparisons for each inner node on the way. No memory is taken.
+    /// As `byte_to_line`, under the same condition, and sets `steps` to what it did: at most one node a level
+    /// entered, at most five totals compared in each inner node on the way, none made. Takes no memory.
     pub fn byte_to_line_counted(&self, byte_idx: usize, steps: &mut Steps) -> usize
         requires { byte_idx ≤ byte_len self.now.text }
         ensures value { result ≡ byte_to_line self.now.breaks self.now.text byte_idx }
@@ -54,8 +56,8 @@ impl Rope {
         tree::byte_to_line(self.begin(steps), byte_idx, steps)
     }
 
-    /// What `char_to_byte` answers, under the same condition, with the steps that it took: at most one node for each level,
-    /// and at most five comparisons for each inner node on the way. No memory is taken.
+    /// As `char_to_byte`, under the same condition, and sets `steps` to what it did: at most one node a level
+    /// entered, at most five totals compared in each inner node on the way, none made. Takes no memory.
     pub fn char_to_byte_counted(&self, char_idx: usize, steps: &mut Steps) -> usize
         requires { char_idx ≤ length self.now.text }
         ensures value { result ≡ char_to_byte self.now.text char_idx }
@@ -68,8 +70,8 @@ impl Rope {
         tree::char_to_byte(self.begin(steps), char_idx, steps)
     }
 
-    /// What `char_to_line` answers, under the same condition, with the steps that it took: at most one node for each level,
-    /// and at most five comparisons for each inner node on the way. No memory is taken.
+    /// As `char_to_line`, under the same condition, and sets `steps` to what it did: at most one node a level
+    /// entered, at most five totals compared in each inner node on the way, none made. Takes no memory.
     pub fn char_to_line_counted(&self, char_idx: usize, steps: &mut Steps) -> usize
         requires { char_idx ≤ length self.now.text }
         ensures value { result ≡ char_to_line self.now.breaks self.now.text char_idx }
@@ -82,8 +84,8 @@ impl Rope {
         tree::char_to_line(self.begin(steps), char_idx, steps)
     }
 
-    /// What `char_to_utf16_cu` answers, under the same condition, with the steps that it took: at most one node for each level,
-    /// and at most five comparisons for each inner node on the way. No memory is taken.
+    /// As `char_to_utf16_cu`, under the same condition, and sets `steps` to what it did: at most one node a level
+    /// entered, at most five totals compared in each inner node on the way, none made. Takes no memory.
     pub fn char_to_utf16_cu_counted(&self, char_idx: usize, steps: &mut Steps) -> usize
         requires { char_idx ≤ length self.now.text }
         ensures value { result ≡ char_to_utf16 self.now.text char_idx }
@@ -96,8 +98,8 @@ impl Rope {
         tree::char_to_utf16(self.begin(steps), char_idx, steps)
     }
 
-    /// What `utf16_cu_to_char` answers, under the same condition, with the steps that it took: at most one node for each level,
-    /// and at most five comparisons for each inner node on the way. No memory is taken.
+    /// As `utf16_cu_to_char`, under the same condition, and sets `steps` to what it did: at most one node a level
+    /// entered, at most five totals compared in each inner node on the way, none made. Takes no memory.
     pub fn utf16_cu_to_char_counted(&self, utf16_cu_idx: usize, steps: &mut Steps) -> usize
         requires { utf16_cu_idx ≤ utf16_len self.now.text }
         ensures value { result ≡ utf16_to_char self.now.text utf16_cu_idx }
@@ -110,8 +112,8 @@ impl Rope {
         tree::utf16_to_char(self.begin(steps), utf16_cu_idx, steps)
     }
 
-    /// What `line_to_byte` answers, under the same condition, with the steps that it took: at most one node for each level,
-    /// and at most five comparisons for each inner node on the way. No memory is taken.
+    /// As `line_to_byte`, under the same condition, and sets `steps` to what it did: at most one node a level
+    /// entered, at most five totals compared in each inner node on the way, none made. Takes no memory.
     pub fn line_to_byte_counted(&self, line_idx: usize, steps: &mut Steps) -> usize
         requires { line_idx ≤ line_count self.now.breaks self.now.text }
         ensures value { result ≡ line_to_byte self.now.breaks self.now.text line_idx }
@@ -126,8 +128,8 @@ impl Rope {
         tree::line_to_byte(self.begin(steps), line_idx, steps)
     }
 
-    /// What `line_to_char` answers, under the same condition, with the steps that it took: at most one node for each level,
-    /// and at most five comparisons for each inner node on the way. No memory is taken.
+    /// As `line_to_char`, under the same condition, and sets `steps` to what it did: at most one node a level
+    /// entered, at most five totals compared in each inner node on the way, none made. Takes no memory.
     pub fn line_to_char_counted(&self, line_idx: usize, steps: &mut Steps) -> usize
         requires { line_idx ≤ line_count self.now.breaks self.now.text }
         ensures value { result ≡ line_to_char self.now.breaks self.now.text line_idx }
@@ -142,8 +144,8 @@ impl Rope {
         tree::line_to_char(self.begin(steps), line_idx, steps)
     }
 
-    /// What `byte` answers, under the same condition, with the steps that it took: one node for each level, and one to
-    /// five comparisons for each inner node on the way. No memory is taken.
+    /// As `byte`, under the same condition, and sets `steps` to what it did: exactly one node a level entered, one
+    /// to five totals compared in each inner node on the way, none made. Takes no memory.
     pub fn byte_counted(&self, byte_idx: usize, steps: &mut Steps) -> u8
         requires { byte_idx < byte_len self.now.text }
         ensures value { slice_get (encode_utf8_all self.now.text) byte_idx ≡ Some result }
@@ -155,8 +157,8 @@ impl Rope {
         byte_at(self.begin(steps), byte_idx, steps)
     }
 
-    /// What `char` answers, under the same condition, with the steps that it took: one node for each level, and one to
-    /// five comparisons for each inner node on the way. No memory is taken.
+    /// As `char`, under the same condition, and sets `steps` to what it did: exactly one node a level entered, one
+    /// to five totals compared in each inner node on the way, none made. Takes no memory.
     pub fn char_counted(&self, char_idx: usize, steps: &mut Steps) -> char
         requires { char_idx < length self.now.text }
         ensures value { slice_get self.now.text char_idx ≡ Some result }

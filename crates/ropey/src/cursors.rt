@@ -1,4 +1,7 @@
 //! Cursors over the bytes, the characters, the chunks and the lines of a rope. No call takes memory.
+//!
+//! A cursor stands between two items. Over the characters of `"abc"`, `chars_at(1)` gives `b` by `next`, and then
+//! `b` again by `prev`.
 ghost use Rattle.std.specs.Prelude.{◌≡◌, ◌≤◌, ◌<◌, ◌^◌, length, MatchOption};
 ghost use Rattle.std.specs.Str.{encode_utf8_all};
 ghost use Rattle.rope_text.specs.Text.{byte_len};
@@ -14,17 +17,17 @@ use rope_cursor::{Bytes, Chars, Chunks};
 use rope_slice::{Lines, RopeSlice};
 
 impl Rope {
-    /// A cursor over the bytes, before the first, facing forward. No memory is taken.
+    /// A cursor over the bytes, before the first, facing forward. Costs one look-up; takes no memory.
     pub fn bytes(&self) -> Bytes<'_>
         ensures { result ≡ at_start (encode_utf8_all self.now.text) }
     {
         self.whole().bytes()
     }
 
-    /// A cursor over the bytes, before the byte `byte_idx`, counted from 0, facing forward; for `len_bytes()` it stands
-    /// past the last byte.
+    /// A cursor over the bytes, before the byte `byte_idx`, counted from 0, facing forward; for `len_bytes()` it
+    /// stands past the last one.
     ///
-    /// The index is at most `len_bytes()`. No memory is taken.
+    /// The index is at most `len_bytes()`. Costs one look-up; takes no memory.
     pub fn bytes_at(&self, byte_idx: usize) -> Bytes<'_>
         requires { byte_idx ≤ byte_len self.now.text }
         ensures { result ≡ at_place (encode_utf8_all self.now.text) byte_idx }
@@ -32,7 +35,7 @@ impl Rope {
         self.whole().bytes_at(byte_idx)
     }
 
-    /// What `bytes_at` answers, or none where the index is past `len_bytes()`. No memory is taken.
+    /// As `bytes_at`, or `None` exactly where the index is past `len_bytes()`. Costs one look-up; takes no memory.
     pub fn get_bytes_at(&self, byte_idx: usize) -> Option<Bytes<'_>>
         ensures { MatchOption result (byte_len self.now.text < byte_idx)
             (λ bytes. (byte_idx ≤ byte_len self.now.text) × (bytes ≡ at_place (encode_utf8_all self.now.text) byte_idx)) }
@@ -40,17 +43,17 @@ impl Rope {
         self.whole().get_bytes_at(byte_idx)
     }
 
-    /// A cursor over the characters, before the first, facing forward. No memory is taken.
+    /// A cursor over the characters, before the first, facing forward. Costs one look-up; takes no memory.
     pub fn chars(&self) -> Chars<'_>
         ensures { result ≡ at_start self.now.text }
     {
         self.whole().chars()
     }
 
-    /// A cursor over the characters, before the character `char_idx`, counted from 0, facing forward; for `len_chars()`
-    /// it stands past the last character.
+    /// A cursor over the characters, before the character `char_idx`, counted from 0, facing forward; for
+    /// `len_chars()` it stands past the last one.
     ///
-    /// The index is at most `len_chars()`. No memory is taken.
+    /// The index is at most `len_chars()`. Costs one look-up; takes no memory.
     pub fn chars_at(&self, char_idx: usize) -> Chars<'_>
         requires { char_idx ≤ length self.now.text }
         ensures { result ≡ at_place self.now.text char_idx }
@@ -58,7 +61,7 @@ impl Rope {
         self.whole().chars_at(char_idx)
     }
 
-    /// What `chars_at` answers, or none where the index is past `len_chars()`. No memory is taken.
+    /// As `chars_at`, or `None` exactly where the index is past `len_chars()`. Costs one look-up; takes no memory.
     pub fn get_chars_at(&self, char_idx: usize) -> Option<Chars<'_>>
         ensures { MatchOption result (length self.now.text < char_idx)
             (λ chars. (char_idx ≤ length self.now.text) × (chars ≡ at_place self.now.text char_idx)) }
@@ -66,10 +69,11 @@ impl Rope {
         self.whole().get_chars_at(char_idx)
     }
 
-    /// A cursor over the chunks, before the chunk that holds the byte `byte_idx`, facing forward; for `len_bytes()` it
-    /// stands past the last chunk. With it the bytes, the characters and the line breaks that end before it.
+    /// A cursor over the chunks, before the chunk that holds the byte `byte_idx`, facing forward; for `len_bytes()`
+    /// it stands past the last chunk. With it the numbers of bytes, of characters and of line breaks that end
+    /// before the cursor.
     ///
-    /// The index is at most `len_bytes()`. No memory is taken.
+    /// The index is at most `len_bytes()`. Costs one look-up; takes no memory.
     pub fn chunks_at_byte(&self, byte_idx: usize) -> (Chunks<'_>, usize, usize, usize)
         requires { byte_idx ≤ byte_len self.now.text }
         ensures { StandsAt self.now.breaks self.now.chunks (chunk_place_at_byte self.now.chunks byte_idx)
@@ -78,7 +82,8 @@ impl Rope {
         self.whole().chunks_at_byte(byte_idx)
     }
 
-    /// What `chunks_at_byte` answers, or none where the index is past `len_bytes()`. No memory is taken.
+    /// As `chunks_at_byte`, or `None` exactly where the index is past `len_bytes()`. Costs one look-up; takes no
+    /// memory.
     pub fn get_chunks_at_byte(&self, byte_idx: usize) -> Option<(Chunks<'_>, usize, usize, usize)>
         ensures { MatchOption result (byte_len self.now.text < byte_idx)
             (λ found. (byte_idx ≤ byte_len self.now.text) × StandsAt self.now.breaks self.now.chunks
@@ -88,10 +93,10 @@ impl Rope {
     }
 
     /// A cursor over the chunks, before the chunk that holds the character `char_idx`, facing forward; for
-    /// `len_chars()` it stands past the last chunk. With it the bytes, the characters and the line breaks that end
-    /// before it.
+    /// `len_chars()` it stands past the last chunk. With it the numbers of bytes, of characters and of line breaks
+    /// that end before the cursor.
     ///
-    /// The index is at most `len_chars()`. No memory is taken.
+    /// The index is at most `len_chars()`. Costs one look-up; takes no memory.
     pub fn chunks_at_char(&self, char_idx: usize) -> (Chunks<'_>, usize, usize, usize)
         requires { char_idx ≤ length self.now.text }
         ensures { StandsAt self.now.breaks self.now.chunks (chunk_place_at_char self.now.chunks char_idx)
@@ -100,7 +105,8 @@ impl Rope {
         self.whole().chunks_at_char(char_idx)
     }
 
-    /// What `chunks_at_char` answers, or none where the index is past `len_chars()`. No memory is taken.
+    /// As `chunks_at_char`, or `None` exactly where the index is past `len_chars()`. Costs one look-up; takes no
+    /// memory.
     pub fn get_chunks_at_char(&self, char_idx: usize) -> Option<(Chunks<'_>, usize, usize, usize)>
         ensures { MatchOption result (length self.now.text < char_idx)
             (λ found. (char_idx ≤ length self.now.text) × StandsAt self.now.breaks self.now.chunks
@@ -109,11 +115,11 @@ impl Rope {
         self.whole().get_chunks_at_char(char_idx)
     }
 
-    /// A cursor over the chunks, before the first chunk by whose end so many line breaks have ended, or else before the
-    /// last, facing forward; for `len_lines()` it stands past the last chunk. With it the bytes, the characters and the
-    /// line breaks that end before it.
+    /// A cursor over the chunks, before the first chunk by whose end `line_break_idx` line breaks have ended, or
+    /// else before the last, facing forward; for `len_lines()` it stands past the last chunk. With it the numbers
+    /// of bytes, of characters and of line breaks that end before the cursor.
     ///
-    /// The index is at most `len_lines()`. No memory is taken.
+    /// The index is at most `len_lines()`. Costs one look-up; takes no memory.
     pub fn chunks_at_line_break(&self, line_break_idx: usize) -> (Chunks<'_>, usize, usize, usize)
         requires { line_break_idx ≤ line_count self.now.breaks self.now.text }
         ensures { StandsAt self.now.breaks self.now.chunks (chunk_place_at_line_break self.now.breaks self.now.chunks line_break_idx)
@@ -122,7 +128,8 @@ impl Rope {
         self.whole().chunks_at_line_break(line_break_idx)
     }
 
-    /// What `chunks_at_line_break` answers, or none where the index is past `len_lines()`. No memory is taken.
+    /// As `chunks_at_line_break`, or `None` exactly where the index is past `len_lines()`. Costs one look-up; takes
+    /// no memory.
     pub fn get_chunks_at_line_break(
         &self,
         line_break_idx: usize,
@@ -134,8 +141,9 @@ impl Rope {
         self.whole().get_chunks_at_line_break(line_break_idx)
     }
 
-    /// The line `line_idx`, counted from 0, with its break, as a slice. The index is below `len_lines()`. No memory is
-    /// taken.
+    /// The line `line_idx`, counted from 0, with its line break, as a slice.
+    ///
+    /// The index is below `len_lines()`. Costs two look-ups, and counts the line; takes no memory.
     pub fn line(&self, line_idx: usize) -> RopeSlice<'_>
         requires { line_idx < line_count self.now.breaks self.now.text }
         ensures { content_of result ≡ line_of (content self.now) line_idx }
@@ -143,8 +151,8 @@ impl Rope {
         self.whole().line(line_idx)
     }
 
-    /// The line `line_idx`, counted from 0, with its break, or none where the index is `len_lines()` or past it. No
-    /// memory is taken.
+    /// The line `line_idx`, counted from 0, with its line break, or `None` exactly where the index is `len_lines()`
+    /// or past it. Costs two look-ups, and counts the line; takes no memory.
     pub fn get_line(&self, line_idx: usize) -> Option<RopeSlice<'_>>
         ensures { MatchOption result (line_count self.now.breaks self.now.text ≤ line_idx)
             (λ slice. (line_idx < line_count self.now.breaks self.now.text)
@@ -153,17 +161,17 @@ impl Rope {
         self.whole().get_line(line_idx)
     }
 
-    /// A cursor over the lines, before the first, facing forward. No memory is taken.
+    /// A cursor over the lines, before the first, facing forward. Costs one look-up; takes no memory.
     pub fn lines(&self) -> Lines<'_>
         ensures { result ≡ at_start (lines_of (content self.now)) }
     {
         self.whole().lines()
     }
 
-    /// A cursor over the lines, before the line `line_idx`, counted from 0, facing forward; for `len_lines()` it stands
-    /// past the last line.
+    /// A cursor over the lines, before the line `line_idx`, counted from 0, facing forward; for `len_lines()` it
+    /// stands past the last line.
     ///
-    /// The index is at most `len_lines()`. No memory is taken.
+    /// The index is at most `len_lines()`. Costs one look-up; takes no memory.
     pub fn lines_at(&self, line_idx: usize) -> Lines<'_>
         requires { line_idx ≤ line_count self.now.breaks self.now.text }
         ensures { result ≡ at_place (lines_of (content self.now)) line_idx }
@@ -171,7 +179,7 @@ impl Rope {
         self.whole().lines_at(line_idx)
     }
 
-    /// What `lines_at` answers, or none where the index is past `len_lines()`. No memory is taken.
+    /// As `lines_at`, or `None` exactly where the index is past `len_lines()`. Costs one look-up; takes no memory.
     pub fn get_lines_at(&self, line_idx: usize) -> Option<Lines<'_>>
         ensures { MatchOption result (line_count self.now.breaks self.now.text < line_idx)
             (λ lines. (line_idx ≤ line_count self.now.breaks self.now.text)

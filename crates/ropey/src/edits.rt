@@ -1,4 +1,7 @@
-//! Ropes split, appended, and with a part taken out.
+//! Ropes that are split, appended to each other, and rid of a part of their text.
+//!
+//! With the text `"hello world"`, `remove(5..)` leaves `"hello"`; `split_off(6)` leaves `"hello "` and returns a
+//! rope of `"world"`, and an `append` of that puts it back.
 ghost use Rattle.std.specs.Prelude.{◌≡◌, ℕ, ◌+◌, ◌*◌, ◌≤◌, ◌<◌, ◌^◌, ◌++◌, length, take, drop, max, None, IsOk, IfOk, IfErr, OnOk, OnErr};
 ghost use Rattle.rope_text.specs.declared.error.Error.TheVariants.{OutOfMemory};
 ghost use Rattle.rope_text.specs.Text.{byte_len};
@@ -11,7 +14,7 @@ use rope_text::range::{IndexRange, char_bounds};
 use rope_text::{Error, Result, Steps};
 
 impl Rope {
-    // Splits where only want of memory refuses it, and counts the nodes that are made.
+    // Splits where only running out of memory refuses it, and counts the nodes that are made.
     fn split_at(&mut self, char_idx: usize, made: &mut u64) -> Result<Rope>
         requires { char_idx ≤ length self.old.text }
         ensures front { OnOk result (self.new.text ≡ take char_idx self.old.text) }
@@ -35,9 +38,12 @@ impl Rope {
         })
     }
 
-    /// Leaves the first `char_idx` characters, and answers the others as a rope with the same set of line breaks.
+    /// As `split_off`, for any index.
     ///
-    /// It refuses a character past the end, then for want of memory, and leaves the rope as it was where it refuses.
+    /// # Errors
+    ///
+    /// `CharIndexOutOfBounds`, with the index and the number of characters, exactly where the index is past
+    /// `len_chars()`; else `OutOfMemory`. A refused call leaves the rope as it was.
     pub fn try_split_off(&mut self, char_idx: usize) -> Result<Rope>
         ensures front { OnOk result ((char_index_error char_idx (length self.old.text) ≡ None) × (self.new.text ≡ take char_idx self.old.text)) }
         ensures back { IfOk result (λ rope. rope.text ≡ drop char_idx self.old.text) }
@@ -56,7 +62,15 @@ impl Rope {
         self.split_at(char_idx, &mut 0)
     }
 
-    /// Leaves the first `char_idx` characters, and answers the others, as `try_split_off` does.
+    /// Keeps the first `char_idx` characters, and returns the others as a rope with the same set of line breaks.
+    /// The two share what they can of the tree.
+    ///
+    /// The index is at most `len_chars()`. Takes memory for at most 12 h + 2 nodes, where h is the rope's depth,
+    /// and walks no text.
+    ///
+    /// # Errors
+    ///
+    /// `OutOfMemory`. A refused call leaves the rope as it was.
     pub fn split_off(&mut self, char_idx: usize) -> Result<Rope>
         requires { char_idx ≤ length self.old.text }
         ensures front { OnOk result (self.new.text ≡ take char_idx self.old.text) }
@@ -71,8 +85,14 @@ impl Rope {
         self.split_at(char_idx, &mut 0)
     }
 
-    /// Does what `split_off` does, and counts the nodes that it makes; all counts are 0 before. What it promises of the counts is
-    /// `made` alone: of the nodes that it enters and the totals that it compares nothing is told.
+    /// As `split_off`, and sets `steps` to what it did: `made` counts the nodes that were made, at most 16 d + 32
+    /// for a rope of depth d, refused or not.
+    ///
+    /// The index is at most `len_chars()`.
+    ///
+    /// # Errors
+    ///
+    /// `OutOfMemory`. A refused call leaves the rope as it was.
     pub fn split_off_counted(&mut self, char_idx: usize, steps: &mut Steps) -> Result<Rope>
         requires { char_idx ≤ length self.old.text }
         ensures front { OnOk result (self.new.text ≡ take char_idx self.old.text) }
@@ -89,7 +109,7 @@ impl Rope {
         self.split_at(char_idx, &mut steps.made)
     }
 
-    // Takes characters out where only want of memory refuses it, and counts the nodes that are made.
+    // Takes characters out where only running out of memory refuses it, and counts the nodes that are made.
     fn remove_chars(&mut self, start: usize, end: usize, made: &mut u64) -> Result<()>
         requires ordered { start < end }
         requires within { end ≤ length self.old.text }
@@ -106,12 +126,12 @@ impl Rope {
 
     // Takes the characters of a range out, and counts the nodes that are made.
     fn remove_range<R: IndexRange + Drop>(&mut self, range: R, made: &mut u64) -> Result<()>
-        ensures ok { OnOk result ((char_range_error (R.told_start range) (R.told_end range) (length self.old.text) ≡ None)
-            × (self.new.text ≡ removed self.old.text (range_start (R.told_start range)) (range_end (R.told_end range) (length self.old.text)))) }
-        ensures refused { IfErr result (IsRefusal (char_range_error (R.told_start range) (R.told_end range) (length self.old.text))) }
+        ensures ok { OnOk result ((char_range_error (R.given_start range) (R.given_end range) (length self.old.text) ≡ None)
+            × (self.new.text ≡ removed self.old.text (range_start (R.given_start range)) (range_end (R.given_end range) (length self.old.text)))) }
+        ensures refused { IfErr result (IsRefusal (char_range_error (R.given_start range) (R.given_end range) (length self.old.text))) }
         ensures err { OnErr result (self.new ≡ self.old) }
-        ensures empty { char_range_error (R.told_start range) (R.told_end range) (length self.old.text) ≡ None
-            → range_start (R.told_start range) ≡ range_end (R.told_end range) (length self.old.text) → IsOk result × (self.new ≡ self.old) }
+        ensures empty { char_range_error (R.given_start range) (R.given_end range) (length self.old.text) ≡ None
+            → range_start (R.given_start range) ≡ range_end (R.given_end range) (length self.old.text) → IsOk result × (self.new ≡ self.old) }
         ensures breaks { self.new.breaks ≡ self.old.breaks }
         ensures kept { IsRope self.new }
         ensures made { made.new ≤ made.old + 16 * self.old.depth + 32 }
@@ -124,48 +144,65 @@ impl Rope {
         self.remove_chars(start, end, made)
     }
 
-    /// Takes the characters of a range out.
+    /// As `remove`, for any range.
     ///
-    /// It refuses a bound past the end, then a start after the end, then for want of memory, and leaves the rope as it was
-    /// where it refuses. An empty range within the text takes no memory.
+    /// # Errors
+    ///
+    /// First `CharRangeOutOfBounds`, with the bounds and the number of characters, where a bound is past
+    /// `len_chars()`; then `CharRangeInvalid`, where the start is past the end; then `OutOfMemory`. A refused call
+    /// leaves the rope as it was.
     pub fn try_remove<R: IndexRange + Drop>(&mut self, range: R) -> Result<()>
-        ensures ok { OnOk result ((char_range_error (R.told_start range) (R.told_end range) (length self.old.text) ≡ None)
-            × (self.new.text ≡ removed self.old.text (range_start (R.told_start range)) (range_end (R.told_end range) (length self.old.text)))) }
-        ensures refused { IfErr result (IsRefusal (char_range_error (R.told_start range) (R.told_end range) (length self.old.text))) }
+        ensures ok { OnOk result ((char_range_error (R.given_start range) (R.given_end range) (length self.old.text) ≡ None)
+            × (self.new.text ≡ removed self.old.text (range_start (R.given_start range)) (range_end (R.given_end range) (length self.old.text)))) }
+        ensures refused { IfErr result (IsRefusal (char_range_error (R.given_start range) (R.given_end range) (length self.old.text))) }
         ensures err { OnErr result (self.new ≡ self.old) }
-        ensures empty { char_range_error (R.told_start range) (R.told_end range) (length self.old.text) ≡ None
-            → range_start (R.told_start range) ≡ range_end (R.told_end range) (length self.old.text) → IsOk result × (self.new ≡ self.old) }
+        ensures empty { char_range_error (R.given_start range) (R.given_end range) (length self.old.text) ≡ None
+            → range_start (R.given_start range) ≡ range_end (R.given_end range) (length self.old.text) → IsOk result × (self.new ≡ self.old) }
         ensures breaks { self.new.breaks ≡ self.old.breaks }
         ensures kept { IsRope self.new }
     {
         self.remove_range(range, &mut 0)
     }
 
-    /// Takes the characters of a range within the text out, as `try_remove` does.
+    /// Takes the characters of a range out of the text.
+    ///
+    /// The range's bounds are at most `len_chars()`, and its start is at most its end. An empty range takes no
+    /// memory and changes nothing; any other takes memory for at most 17 h + 12 nodes, where h is the rope's depth,
+    /// and it is tried first without memory, in the chunk where the characters lie. No text is walked.
+    ///
+    /// # Errors
+    ///
+    /// `OutOfMemory`. A refused call leaves the rope as it was.
     pub fn remove<R: IndexRange + Drop>(&mut self, range: R) -> Result<()>
-        requires { char_range_error (R.told_start range) (R.told_end range) (length self.old.text) ≡ None }
-        ensures ok { OnOk result (self.new.text ≡ removed self.old.text (range_start (R.told_start range)) (range_end (R.told_end range) (length self.old.text))) }
+        requires { char_range_error (R.given_start range) (R.given_end range) (length self.old.text) ≡ None }
+        ensures ok { OnOk result (self.new.text ≡ removed self.old.text (range_start (R.given_start range)) (range_end (R.given_end range) (length self.old.text))) }
         ensures refused { IfErr result (λ e. e ≡ OutOfMemory) }
         ensures err { OnErr result (self.new ≡ self.old) }
-        ensures empty { range_start (R.told_start range) ≡ range_end (R.told_end range) (length self.old.text) → IsOk result × (self.new ≡ self.old) }
+        ensures empty { range_start (R.given_start range) ≡ range_end (R.given_end range) (length self.old.text) → IsOk result × (self.new ≡ self.old) }
         ensures breaks { self.new.breaks ≡ self.old.breaks }
         ensures kept { IsRope self.new }
     {
         self.try_remove(range)
     }
 
-    /// Does what `remove` does, and counts the nodes that it makes; all counts are 0 before. What it promises of the counts is
-    /// `made` alone: of the nodes that it enters and the totals that it compares nothing is told.
+    /// As `remove`, and sets `steps` to what it did: `made` counts the nodes that were made, at most 16 d + 32 for
+    /// a rope of depth d, refused or not.
+    ///
+    /// The range's bounds are at most `len_chars()`, and its start is at most its end.
+    ///
+    /// # Errors
+    ///
+    /// `OutOfMemory`. A refused call leaves the rope as it was.
     pub fn remove_counted<R: IndexRange + Drop>(
         &mut self,
         range: R,
         steps: &mut Steps,
     ) -> Result<()>
-        requires { char_range_error (R.told_start range) (R.told_end range) (length self.old.text) ≡ None }
-        ensures ok { OnOk result (self.new.text ≡ removed self.old.text (range_start (R.told_start range)) (range_end (R.told_end range) (length self.old.text))) }
+        requires { char_range_error (R.given_start range) (R.given_end range) (length self.old.text) ≡ None }
+        ensures ok { OnOk result (self.new.text ≡ removed self.old.text (range_start (R.given_start range)) (range_end (R.given_end range) (length self.old.text))) }
         ensures refused { IfErr result (λ e. e ≡ OutOfMemory) }
         ensures err { OnErr result (self.new ≡ self.old) }
-        ensures empty { range_start (R.told_start range) ≡ range_end (R.told_end range) (length self.old.text) → IsOk result × (self.new ≡ self.old) }
+        ensures empty { range_start (R.given_start range) ≡ range_end (R.given_end range) (length self.old.text) → IsOk result × (self.new ≡ self.old) }
         ensures breaks { self.new.breaks ≡ self.old.breaks }
         ensures kept { IsRope self.new }
         ensures made { steps.new.made ≤ 16 * self.old.depth + 32 }
@@ -174,7 +211,7 @@ impl Rope {
         self.remove_range(range, &mut steps.made)
     }
 
-    // Appends where only want of memory refuses it, and counts the nodes that are made.
+    // Appends where only running out of memory refuses it, and counts the nodes that are made.
     fn append_rope(&mut self, other: &Rope, made: &mut u64) -> Result<()>
         requires same_breaks { other.now.breaks ≡ self.old.breaks }
         requires fits { byte_len self.old.text + byte_len other.now.text < 2 ^ 63 }
@@ -221,11 +258,16 @@ impl Rope {
         self.append_rope(&other, made)
     }
 
-    /// Puts the text of another rope behind this one's.
+    /// Puts the text of another rope behind this one's. The rope shares what it can of the other's tree.
     ///
-    /// It refuses a rope with another set of line breaks, then a text longer than `isize::MAX` bytes, then for want of
-    /// memory, and leaves the rope as it was where it refuses. Where one of the two is empty it takes no memory, and the
-    /// rope has the chunks of the other.
+    /// Where one of the two is empty it takes no memory, and the rope has the chunks of the other; else it takes
+    /// memory for at most 16 h + 11 nodes, where h is the greater depth of the two. No text is walked.
+    ///
+    /// # Errors
+    ///
+    /// First `LineBreaksDiffer`, where the two have different sets of line breaks, empty or not; then `TooLong`,
+    /// where the text would have more than `isize::MAX` bytes; then `OutOfMemory`. A refused call leaves the rope
+    /// as it was.
     pub fn append(&mut self, other: Rope) -> Result<()>
         ensures ok { OnOk result ((append_error self.old.breaks other.breaks self.old.text other.text ≡ None) × (self.new.text ≡ self.old.text ++ other.text)) }
         ensures refused { IfErr result (IsRefusal (append_error self.old.breaks other.breaks self.old.text other.text)) }
@@ -238,8 +280,13 @@ impl Rope {
         self.append_made(other, &mut 0)
     }
 
-    /// Does what `append` does, and counts the nodes that it makes; all counts are 0 before. What it promises of the counts is
-    /// `made` alone: of the nodes that it enters and the totals that it compares nothing is told.
+    /// As `append`, and sets `steps` to what it did: `made` counts the nodes that were made, at most 16 d + 32
+    /// where d is the greater depth of the two, refused or not.
+    ///
+    /// # Errors
+    ///
+    /// First `LineBreaksDiffer`, then `TooLong`, then `OutOfMemory`, as for `append`. A refused call leaves the
+    /// rope as it was.
     pub fn append_counted(&mut self, other: Rope, steps: &mut Steps) -> Result<()>
         ensures ok { OnOk result ((append_error self.old.breaks other.breaks self.old.text other.text ≡ None) × (self.new.text ≡ self.old.text ++ other.text)) }
         ensures refused { IfErr result (IsRefusal (append_error self.old.breaks other.breaks self.old.text other.text)) }

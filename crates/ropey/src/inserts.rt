@@ -1,4 +1,6 @@
-//! Texts and characters put into ropes.
+//! Texts and characters inserted into ropes.
+//!
+//! With the text `"held"`, `insert(3, "lo worl")` makes `"hello world"`, and `insert_char(0, '>')` makes `">held"`.
 ghost use Rattle.std.specs.Prelude.{◌≡◌, ◌+◌, ◌*◌, ◌<◌, ◌≤◌, ◌^◌, [], ◌∷◌, length, None, IsOk, IfErr, OnOk, OnErr};
 ghost use Rattle.std.specs.Str.{chars};
 ghost use Rattle.rope_text.specs.declared.error.Error.TheVariants.{OutOfMemory};
@@ -45,7 +47,7 @@ impl Rope {
         Ok(())
     }
 
-    // Puts a text that isn't empty where only want of memory refuses it, and counts the nodes that are made.
+    // Puts a text that isn't empty where only running out of memory refuses it, and counts the nodes that are made.
     fn insert_some(&mut self, char_idx: usize, text: &str, made: &mut u64) -> Result<()>
         requires within { char_idx ≤ length self.old.text }
         requires fits { byte_len self.old.text + length text.now < 2 ^ 63 }
@@ -103,10 +105,13 @@ impl Rope {
         self.insert_made(char_idx, c.encode_utf8(&mut buffer), made)
     }
 
-    /// Puts `text` before the character `char_idx`, or at the end.
+    /// As `insert`, for any index.
     ///
-    /// It refuses a character past the end, then a text longer than `isize::MAX` bytes, then for want of memory, and
-    /// leaves the rope as it was where it refuses. An empty text takes no memory.
+    /// # Errors
+    ///
+    /// First `CharIndexOutOfBounds`, with the index and the number of characters, where the index is past
+    /// `len_chars()`; then `TooLong`, where the text would have more than `isize::MAX` bytes; then `OutOfMemory`. A
+    /// refused call leaves the rope as it was.
     pub fn try_insert(&mut self, char_idx: usize, text: &str) -> Result<()>
         ensures ok { OnOk result ((insert_error self.old.text char_idx (chars text.now) ≡ None)
             × (self.new.text ≡ inserted self.old.text char_idx (chars text.now))) }
@@ -120,7 +125,16 @@ impl Rope {
         self.insert_made(char_idx, text, &mut 0)
     }
 
-    /// Puts `text` before a character of the rope, or at the end, as `try_insert` does.
+    /// Inserts `text` before the character `char_idx`; for `len_chars()`, at the end.
+    ///
+    /// The index is at most `len_chars()`. An empty text takes no memory. A short one is tried first without
+    /// memory, in the chunk where the place lies; else nodes on the way down are made, and a text of more than 981
+    /// bytes becomes a tree of its own first. No text of the rope is walked.
+    ///
+    /// # Errors
+    ///
+    /// First `TooLong`, where the text would have more than `isize::MAX` bytes; then `OutOfMemory`. A refused call
+    /// leaves the rope as it was.
     pub fn insert(&mut self, char_idx: usize, text: &str) -> Result<()>
         requires { char_idx ≤ length self.old.text }
         ensures ok { OnOk result ((insert_error self.old.text char_idx (chars text.now) ≡ None)
@@ -135,10 +149,13 @@ impl Rope {
         self.try_insert(char_idx, text)
     }
 
-    /// Puts the character `c` before the character `char_idx`, or at the end.
+    /// As `insert_char`, for any index.
     ///
-    /// It refuses a character past the end, then a text longer than `isize::MAX` bytes, then for want of memory, and
-    /// leaves the rope as it was where it refuses.
+    /// # Errors
+    ///
+    /// First `CharIndexOutOfBounds`, with the index and the number of characters, where the index is past
+    /// `len_chars()`; then `TooLong`, where the text would have more than `isize::MAX` bytes; then `OutOfMemory`. A
+    /// refused call leaves the rope as it was.
     pub fn try_insert_char(&mut self, char_idx: usize, c: char) -> Result<()>
         ensures ok { OnOk result ((insert_error self.old.text char_idx (c ∷ []) ≡ None)
             × (self.new.text ≡ inserted self.old.text char_idx (c ∷ []))) }
@@ -150,8 +167,15 @@ impl Rope {
         self.insert_char_made(char_idx, c, &mut 0)
     }
 
-    /// Puts the character `c` before a character of the rope, or at the end, as `try_insert_char` does. The index is at
-    /// most `len_chars()`.
+    /// Inserts the character `c` before the character `char_idx`; for `len_chars()`, at the end.
+    ///
+    /// The index is at most `len_chars()`. It is tried first without memory, in the chunk where the place lies;
+    /// else it takes memory for at most 8 d + 16 nodes, where d is the rope's depth. No text is walked.
+    ///
+    /// # Errors
+    ///
+    /// First `TooLong`, where the text would have more than `isize::MAX` bytes; then `OutOfMemory`. A refused call
+    /// leaves the rope as it was.
     pub fn insert_char(&mut self, char_idx: usize, c: char) -> Result<()>
         requires { char_idx ≤ length self.old.text }
         ensures ok { OnOk result ((insert_error self.old.text char_idx (c ∷ []) ≡ None)
@@ -164,8 +188,14 @@ impl Rope {
         self.try_insert_char(char_idx, c)
     }
 
-    /// Does what `insert_char` does, and counts the nodes that it makes; all counts are 0 before. What it promises of the counts
-    /// is `made` alone: of the nodes that it enters and the totals that it compares nothing is told.
+    /// As `insert_char`, and sets `steps` to what it did: `made` counts the nodes that were made, at most 8 d + 16
+    /// for a rope of depth d, refused or not.
+    ///
+    /// The index is at most `len_chars()`.
+    ///
+    /// # Errors
+    ///
+    /// First `TooLong`, then `OutOfMemory`, as for `insert_char`. A refused call leaves the rope as it was.
     pub fn insert_char_counted(&mut self, char_idx: usize, c: char, steps: &mut Steps) -> Result<()>
         requires { char_idx ≤ length self.old.text }
         ensures ok { OnOk result ((insert_error self.old.text char_idx (c ∷ []) ≡ None)

@@ -1,7 +1,10 @@
 //! Ropes read from readers and written to writers.
 //!
-//! A reader or a writer may be handed over, or lent as a `Source` or a `Sink`, which marks its failures: then it can be
-//! asked afterwards whether it was the device that failed. `Watched` makes one of any reader or writer.
+//! `Rope::from_reader(alloc, b"one\n".as_slice())` returns a rope of `"one\n"`, and `write_to(&mut bytes)` writes
+//! it into a vector.
+//!
+//! A reader or a writer may be handed over, or lent as a `Source` or a `Sink`, which marks its failures: then it
+//! can be asked afterwards whether it was the device that failed. `Watched` makes one of any reader or writer.
 ghost use Rattle.std.specs.Prelude.{◌≡◌, ℕ, List, Bool, Option, true, ◌↔◌, OnOk, IfOk, IfSome, IsErr};
 ghost use Rattle.std.specs.Io.KnownBytes.{Appends};
 ghost use Rattle.std.specs.Str.{encode_utf8_all};
@@ -20,14 +23,14 @@ use std::alloc::Global;
 use std::io::{self, Read, Write};
 
 impl Rope {
-    /// The text that a reader gives to its end, with Unicode's line breaks, in at most one chunk for each 981 bytes and
-    /// one more for the rest. The bytes are read as UTF-8. It takes memory.
+    /// A rope of the text that a reader gives up to its end, read as UTF-8, with Unicode's line breaks, in at most
+    /// (n + 980) / 981 chunks for n bytes. Takes time and memory in proportion to the text.
     ///
     /// # Errors
     ///
-    /// A failed read is answered at once as `Read`, an interrupted one too. Bytes that are no UTF-8 are answered as
-    /// `InvalidData`, at the end of the input or once 1,968 bytes have been read from the first on that is not. A text
-    /// of more than `isize::MAX` bytes so far, and want of memory, are answered as `Rope`.
+    /// `Read`, with the reader's error, at once where a read fails, an interrupted one too. `InvalidData`, where
+    /// bytes are no UTF-8: at the end of the input, or once 1,968 bytes have been read from the first one that is
+    /// not. `Rope(TooLong)`, where the text so far has more than `isize::MAX` bytes, and `Rope(OutOfMemory)`.
     pub fn from_reader<T: Read + Drop>(
         alloc: Global,
         reader: T,
@@ -42,8 +45,12 @@ impl Rope {
         Rope::from_reader_with(alloc, reader, LineBreaks::Unicode)
     }
 
-    /// As `from_reader`, of a source that is lent. The mark is cleared first, and is set afterwards exactly where the
-    /// answer is `Read`.
+    /// As `from_reader`, of a source that is lent. The source's mark is cleared first.
+    ///
+    /// # Errors
+    ///
+    /// `Read`, `InvalidData` and `Rope`, as for `from_reader`; the mark is set afterwards exactly where the answer
+    /// is `Read`.
     pub fn from_watched<S: Source>(
         alloc: Global,
         source: &mut S,
@@ -51,7 +58,7 @@ impl Rope {
         // The bytes that were given decide the answer,
         ensures answer { Reads text_of (S.remaining source.old) (S.remaining source.new) (S.marked source.new) result }
 
-        // so an `Ok` has the text of the whole input, and the mark tells a failed device.
+        // so an `Ok` has the text of the whole input, and the mark says a failed device.
         ensures ok { IfOk result (λ rope. IfSome (S.remaining source.old) (λ bytes. encode_utf8_all rope.text ≡ bytes)) }
         ensures failed { IsReadFailure result ↔ (S.marked source.new ≡ true) }
         ensures breaks { IfOk result (λ rope. rope.breaks ≡ Unicode) }
@@ -61,7 +68,11 @@ impl Rope {
         Rope::from_watched_with(alloc, source, LineBreaks::Unicode)
     }
 
-    /// As `from_reader`, with these line breaks.
+    /// As `from_reader`, with this set of line breaks.
+    ///
+    /// # Errors
+    ///
+    /// `Read`, `InvalidData` and `Rope`, as for `from_reader`.
     pub fn from_reader_with<T: Read + Drop>(
         alloc: Global,
         reader: T,
@@ -77,7 +88,12 @@ impl Rope {
         Rope::from_watched_with(alloc, &mut Watched::new(reader), breaks)
     }
 
-    /// As `from_watched`, with these line breaks.
+    /// As `from_watched`, with this set of line breaks.
+    ///
+    /// # Errors
+    ///
+    /// `Read`, `InvalidData` and `Rope`, as for `from_reader`; the mark is set afterwards exactly where the answer
+    /// is `Read`.
     pub fn from_watched_with<S: Source>(
         alloc: Global,
         source: &mut S,
@@ -96,18 +112,23 @@ impl Rope {
         }
     }
 
-    /// Writes the whole text as UTF-8, chunk by chunk, and flushes nothing. It takes no memory of its own.
+    /// Writes the whole text as UTF-8, chunk by chunk, and does not flush. Takes no memory of its own.
     ///
     /// # Errors
     ///
-    /// A write's error is answered at once, an interrupted one's too; a write that takes no byte of some is an error of
-    /// the kind `WriteZero`. Then a beginning of the text has been written.
+    /// A write's error, at once, an interrupted one too; of the kind `WriteZero` where the writer takes no byte of
+    /// some. Then a beginning of the text has been written.
     pub fn write_to<T: Write + Drop>(&self, writer: T) -> io::Result<()> {
         self.write_watched(&mut Watched::new(writer))
     }
 
-    /// As `write_to`, to a sink that is lent. The mark is cleared first, and is set afterwards exactly where an error
-    /// is answered.
+    /// As `write_to`, to a sink that is lent. The sink's mark is cleared first.
+    ///
+    /// # Errors
+    ///
+    /// A write's error, at once, an interrupted one too; of the kind `WriteZero` where the writer takes no byte of
+    /// some. Then a beginning of the text has been written. The mark is set afterwards exactly where an error is
+    /// returned.
     pub fn write_watched<S: Sink>(&self, sink: &mut S) -> io::Result<()>
         ensures ok { OnOk result (Appends (S.contents sink.old) (S.contents sink.new) (encode_utf8_all self.now.text)) }
         ensures front { AppendsFront (S.contents sink.old) (S.contents sink.new) (encode_utf8_all self.now.text) }

@@ -1,4 +1,6 @@
-//! The rope.
+//! The rope: how it is made, cloned and measured.
+//!
+//! A rope of `"one\ntwo"` has 7 bytes, 7 characters, 7 UTF-16 code units and 2 lines, in one chunk at depth 0.
 ghost use Rattle.std.specs.Prelude.{◌≡◌, ℕ, ◌+◌, ◌-◌, ◌*◌, ◌<◌, ◌≤◌, [], ◌∷◌, ◌++◌, length, ◌^◌, min, None, IsOk, IfOk, IfErr, OnOk, OnErr};
 ghost use Rattle.std.specs.Str.{chars};
 ghost use Rattle.rope_text.specs.declared.error.Error.TheVariants.{OutOfMemory};
@@ -20,7 +22,8 @@ use std::alloc::{AllocError, Global};
 use std::marker::Model;
 use std::rc::Rc;
 
-/// A text of at most `isize::MAX` bytes, cut into chunks of 1 to `MAX_BYTES` bytes, which are the leaves of a tree.
+/// A text of at most `isize::MAX` bytes, cut into chunks of 1 to `MAX_BYTES` bytes, which are the leaves of a
+/// balanced tree. No cut lies inside a character or between CR and LF.
 #[derive(Drop)]
 pub struct Rope {
     pub(crate) root: Rc<Node>,
@@ -38,8 +41,8 @@ impl Model for Rope {
     ghost invariant = { λ r. IsTree r.root.value };
 }
 
-/// A clone has its original's text, chunks, set of line breaks and depth: it shares all nodes with it until one of the two is
-/// edited, which leaves the other as it was. It may be refused for want of memory.
+/// A clone has its original's text, chunks, set of line breaks and depth. It shares every node with it until one of
+/// the two is edited, which leaves the other as it was. Cloning takes constant time, and may be refused for memory.
 impl Clone for Rope {
     ghost use Rattle.std.specs.Prelude.{◌≡◌};
 
@@ -68,7 +71,11 @@ fn append_chunk(builder: &mut Builder, chunk: &str) -> Result<()>
 }
 
 impl Rope {
-    /// The empty text, with Unicode's line breaks, in no chunk. It takes memory, and refuses for want of it alone.
+    /// A rope of the empty text, with Unicode's line breaks, in no chunk. Takes memory for one node.
+    ///
+    /// # Errors
+    ///
+    /// `OutOfMemory`.
     pub fn new(alloc: Global) -> Result<Rope>
         ensures text { IfOk result (λ rope. rope.text ≡ []) }
         ensures chunks { IfOk result (λ rope. rope.chunks ≡ []) }
@@ -79,8 +86,12 @@ impl Rope {
         Rope::new_with(alloc, LineBreaks::Unicode)
     }
 
-    /// A copy of the text, with Unicode's line breaks, in at most one chunk for each 981 bytes and one more for the rest.
-    /// It takes memory, and refuses for want of it alone.
+    /// A rope of a copy of the text, with Unicode's line breaks. It has at most (n + 980) / 981 chunks for n bytes,
+    /// and takes time and memory in proportion to the text.
+    ///
+    /// # Errors
+    ///
+    /// `OutOfMemory`.
     pub fn from_str(alloc: Global, text: &str) -> Result<Rope>
         ensures text { IfOk result (λ rope. rope.text ≡ chars text.now) }
         ensures breaks { IfOk result (λ rope. rope.breaks ≡ Unicode) }
@@ -91,7 +102,11 @@ impl Rope {
         Rope::from_str_with(alloc, text, LineBreaks::Unicode)
     }
 
-    /// The empty text with these line breaks, in no chunk, as `new` makes it.
+    /// A rope of the empty text, with this set of line breaks, in no chunk. Takes memory for one node.
+    ///
+    /// # Errors
+    ///
+    /// `OutOfMemory`.
     pub fn new_with(alloc: Global, breaks: LineBreaks) -> Result<Rope>
         ensures text { IfOk result (λ rope. rope.text ≡ []) }
         ensures chunks { IfOk result (λ rope. rope.chunks ≡ []) }
@@ -102,8 +117,12 @@ impl Rope {
         Rope::from_str_with(alloc, "", breaks)
     }
 
-    /// A copy of the text with these line breaks, in chunks as `from_str` makes them.
-    /// It takes memory, and refuses for want of it alone.
+    /// A rope of a copy of the text, with this set of line breaks. It has at most (n + 980) / 981 chunks for n
+    /// bytes, and takes time and memory in proportion to the text.
+    ///
+    /// # Errors
+    ///
+    /// `OutOfMemory`.
     pub fn from_str_with(alloc: Global, text: &str, breaks: LineBreaks) -> Result<Rope>
         ensures text { IfOk result (λ rope. rope.text ≡ chars text.now) }
         ensures breaks { IfOk result (λ rope. rope.breaks ≡ breaks) }
@@ -128,14 +147,14 @@ impl Rope {
         node
     }
 
-    /// The set of line breaks.
+    /// The set of line breaks by which lines are counted. Takes constant time and no memory.
     pub fn line_breaks(&self) -> LineBreaks
         ensures { result ≡ self.now.breaks }
     {
         self.root.line_breaks()
     }
 
-    /// The length in bytes. No text is read.
+    /// The length in bytes. Takes constant time and no memory.
     pub fn len_bytes(&self) -> usize
         ensures value { result ≡ byte_len self.now.text }
         ensures kept { IsRope self.now }
@@ -143,21 +162,21 @@ impl Rope {
         self.root.info().bytes
     }
 
-    /// The length in characters. No text is read.
+    /// The length in characters. Takes constant time and no memory.
     pub fn len_chars(&self) -> usize
         ensures { result ≡ length self.now.text }
     {
         self.root.info().chars
     }
 
-    /// The number of lines: one more than there are line breaks. No text is read.
+    /// The number of lines: one more than there are line breaks. Takes constant time and no memory.
     pub fn len_lines(&self) -> usize
         ensures { result ≡ line_count self.now.breaks self.now.text }
     {
         self.root.info().line_breaks + 1
     }
 
-    /// The length in code units of UTF-16. No text is read.
+    /// The length in UTF-16 code units. Takes constant time and no memory.
     pub fn len_utf16_cu(&self) -> usize
         ensures { result ≡ utf16_len self.now.text }
     {
@@ -165,8 +184,8 @@ impl Rope {
         info.chars + info.utf16_surrogates
     }
 
-    /// How many levels the tree has above the chunks: 0 where there is at most one chunk, and 18 at the most. No text is
-    /// read.
+    /// How many levels of the tree lie above the chunks: 0 where there is at most one chunk, and never more than
+    /// 18. Takes constant time and no memory.
     pub fn depth(&self) -> usize
         ensures value { result ≡ self.now.depth }
         ensures kept { IsRope self.now }
@@ -174,17 +193,21 @@ impl Rope {
         self.root.height()
     }
 
-    /// The bytes that the chunks have room for: `MAX_BYTES` for each chunk, and `usize::MAX` at the most. The inner nodes of
-    /// the tree are counted, and no text is read.
+    /// The bytes for which the chunks have room: `MAX_BYTES` for each chunk, and `usize::MAX` at most. Enters each
+    /// inner node of the tree once, reads no text and takes no memory.
     pub fn capacity(&self) -> usize
         ensures { result ≡ min (984 * length self.now.chunks) (2 ^ 64 - 1) }
     {
         leaf_count(&self.root).saturating_mul(MAX_BYTES)
     }
 
-    /// Cuts the text anew, into at most one chunk for each 981 bytes and one more for the rest.
+    /// Cuts the same text into as few chunks as `from_str` does: at most (n + 980) / 981 for n bytes.
     ///
-    /// It takes memory for all of the text, refuses for want of it alone, and leaves the rope as it was where it refuses.
+    /// Takes time and memory in proportion to the text.
+    ///
+    /// # Errors
+    ///
+    /// `OutOfMemory`. A refused call leaves the rope as it was.
     pub fn shrink_to_fit(&mut self) -> Result<()>
         ensures text { self.new.text ≡ self.old.text }
         ensures breaks { self.new.breaks ≡ self.old.breaks }
@@ -199,7 +222,7 @@ impl Rope {
         Ok(())
     }
 
-    // A builder to which the chunks were handed in.
+    // A builder to which the chunks were passed in.
     fn with_chunks(&self) -> Result<Builder>
         ensures text { IfOk result (λ builder. builder.text ≡ self.now.text) }
         ensures breaks { IfOk result (λ builder. builder.breaks ≡ self.now.breaks) }
@@ -212,7 +235,7 @@ impl Rope {
         Ok(builder)
     }
 
-    /// A cursor over the chunks, before the first, facing forward. No memory is taken.
+    /// A cursor over the chunks, before the first, facing forward. Costs one look-up; takes no memory.
     pub fn chunks(&self) -> Chunks<'_>
         ensures cut { result ≡ at_start self.now.chunks }
         ensures few { length self.now.chunks < 2 ^ 63 }

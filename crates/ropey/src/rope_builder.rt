@@ -1,4 +1,6 @@
-//! Ropes of texts that are handed in one after the other.
+//! Ropes made of texts that are passed in one after the other.
+//!
+//! After `append("one\n")` and `append("two")`, `finish` returns a rope of `"one\ntwo"`.
 ghost use Rattle.std.specs.Prelude.{◌≡◌, ◌+◌, ◌++◌, [], Some, None, length, IsOk, IfOk, IfErr, OnOk};
 ghost use Rattle.std.specs.Str.{chars};
 ghost use Rattle.rope_text.specs.declared.line_breaks.LineBreaks.TheVariants.{Unicode};
@@ -13,8 +15,8 @@ use std::alloc::Global;
 use std::fmt;
 use std::marker::Model;
 
-/// Makes a rope of texts that are handed in one after the other, with no copy of the whole text beside it. It is seen as the
-/// text so far, the set of line breaks, and the error that it was refused with, if there was one.
+/// Makes a rope of texts that are passed in one after the other, with no second copy of the whole text. Contracts
+/// see it as the text so far, the set of line breaks, and the error with which it was refused, if there was one.
 #[derive(Drop)]
 pub struct RopeBuilder {
     builder: Builder,
@@ -31,7 +33,8 @@ impl Model for RopeBuilder {
 }
 
 impl RopeBuilder {
-    /// Nothing is handed in yet. The rope will have Unicode's line breaks. It takes no memory.
+    /// A builder with no text yet, whose rope will have Unicode's line breaks. It always succeeds, and takes no
+    /// memory.
     pub fn new(alloc: Global) -> Result<RopeBuilder>
         ensures ok { IsOk result }
         ensures text { IfOk result (λ builder. builder.text ≡ []) }
@@ -41,7 +44,8 @@ impl RopeBuilder {
         RopeBuilder::new_with(alloc, LineBreaks::Unicode)
     }
 
-    /// Nothing is handed in yet. The rope will have these line breaks. It takes no memory.
+    /// A builder with no text yet, whose rope will have this set of line breaks. It always succeeds, and takes no
+    /// memory.
     pub fn new_with(alloc: Global, breaks: LineBreaks) -> Result<RopeBuilder>
         ensures ok { IsOk result }
         ensures text { IfOk result (λ builder. builder.text ≡ []) }
@@ -51,7 +55,7 @@ impl RopeBuilder {
         Ok(RopeBuilder::empty(alloc, breaks))
     }
 
-    // Nothing is handed in yet.
+    // Nothing is passed in yet.
     pub(crate) fn empty(alloc: Global, breaks: LineBreaks) -> RopeBuilder
         ensures text { result.text ≡ [] }
         ensures breaks { result.breaks ≡ breaks }
@@ -64,10 +68,15 @@ impl RopeBuilder {
         }
     }
 
-    /// Puts a text behind those that were handed in.
+    /// Adds a text behind those that were passed in.
     ///
-    /// It refuses with the error of an earlier refusal, then a text of more than `isize::MAX` bytes so far, then for want of
-    /// memory. Where nothing was refused before, an empty text takes no memory.
+    /// Takes time in proportion to the added text, and memory for full chunks of it; an empty text takes none where
+    /// nothing was refused before.
+    ///
+    /// # Errors
+    ///
+    /// First the error of an earlier refusal; then `TooLong`, where all texts so far would have more than
+    /// `isize::MAX` bytes; then `OutOfMemory`. After a refusal every later call returns that error.
     pub fn append(&mut self, text: &str) -> Result<()>
         ensures ok { OnOk result ((or_else self.old.failed (size_error (byte_len self.old.text + length text.now)) ≡ None)
             × (self.new.text ≡ self.old.text ++ chars text.now) × (self.new.failed ≡ None)) }
@@ -90,9 +99,12 @@ impl RopeBuilder {
         Ok(())
     }
 
-    /// The rope of the texts that were handed in, in at most one chunk for each 981 bytes and one more for the rest.
+    /// The rope of the texts that were passed in, in at most (n + 980) / 981 chunks for n bytes. Takes memory for
+    /// the last chunks and the nodes above them.
     ///
-    /// It refuses with the error of an earlier refusal, then for want of memory.
+    /// # Errors
+    ///
+    /// First the error of an earlier refusal, then `OutOfMemory`.
     pub fn finish(self) -> Result<Rope>
         ensures text { IfOk result (λ rope. rope.text ≡ self.text) }
         ensures breaks { IfOk result (λ rope. rope.breaks ≡ self.breaks) }
@@ -112,7 +124,7 @@ impl RopeBuilder {
     }
 }
 
-/// Shows how many bytes were handed in and what refused it, if anything did; no text.
+/// Shows how many bytes were passed in, and the error that refused the builder, if there was one; no text.
 impl fmt::Debug for RopeBuilder {
     fn fmt<W: fmt::Write>(&self, f: &mut fmt::Formatter<W>) -> fmt::Result {
         f.debug_struct("RopeBuilder")

@@ -1,4 +1,6 @@
-//! Slices of a rope.
+//! Slices of a rope, and ropes of slices.
+//!
+//! With the text `"hello world"`, `slice(6..)` has the text `"world"`, and `byte_slice(..5)` has `"hello"`.
 ghost use Rattle.std.specs.Prelude.{◌≡◌, ◌≢◌, length, None, Some, IfOk, IfErr, MatchOption};
 ghost use Rattle.rope_text.specs.Text.{byte_len};
 ghost use Rattle.rope_text.specs.Conversions.{byte_to_char};
@@ -23,69 +25,77 @@ impl Rope {
         RopeSlice::of_node(self.root())
     }
 
-    /// The characters of a range, as a slice that lends them: their text, the chunks clipped to them, the same set of line
-    /// breaks.
+    /// The characters of a range, as a slice that borrows them: their text, the chunks clipped to them, and the
+    /// same set of line breaks. Nothing is copied.
     ///
-    /// The range's bounds are at most `len_chars()`, and its start is at most its end. No memory is taken.
+    /// The range's bounds are at most `len_chars()`, and its start is at most its end. Costs two look-ups; takes no
+    /// memory.
     pub fn slice<R: IndexRange + Drop>(&self, range: R) -> RopeSlice<'_>
-        requires { char_range_error (R.told_start range) (R.told_end range) (length self.now.text) ≡ None }
-        ensures { IsSlice (content self.now) (range_start (R.told_start range)) (range_end (R.told_end range) (length self.now.text))
+        requires { char_range_error (R.given_start range) (R.given_end range) (length self.now.text) ≡ None }
+        ensures { IsSlice (content self.now) (range_start (R.given_start range)) (range_end (R.given_end range) (length self.now.text))
             (content_of result) }
     {
         self.whole().slice(range)
     }
 
-    /// What `slice` answers, or none where the range's start is past its end or a bound is past `len_chars()`. No memory is
-    /// taken.
+    /// As `slice`, or `None` exactly where a bound is past `len_chars()` or the range's start is past its end.
+    /// Costs two look-ups; takes no memory.
     pub fn get_slice<R: IndexRange + Drop>(&self, range: R) -> Option<RopeSlice<'_>>
-        ensures { MatchOption result (char_range_error (R.told_start range) (R.told_end range) (length self.now.text) ≢ None)
-            (λ slice. (char_range_error (R.told_start range) (R.told_end range) (length self.now.text) ≡ None)
-            × IsSlice (content self.now) (range_start (R.told_start range)) (range_end (R.told_end range) (length self.now.text))
+        ensures { MatchOption result (char_range_error (R.given_start range) (R.given_end range) (length self.now.text) ≢ None)
+            (λ slice. (char_range_error (R.given_start range) (R.given_end range) (length self.now.text) ≡ None)
+            × IsSlice (content self.now) (range_start (R.given_start range)) (range_end (R.given_end range) (length self.now.text))
             (content_of slice)) }
     {
         self.whole().get_slice(range)
     }
 
-    /// The bytes of a range, as a slice that lends them, as `slice` does.
+    /// The bytes of a range, as a slice that borrows them, as `slice` does.
     ///
-    /// The range is within the text, and its bounds lie at characters' starts or the end. No memory is taken.
+    /// The range's bounds are at most `len_bytes()`, its start is at most its end, and no bound lies inside a
+    /// character. Costs two look-ups; takes no memory.
     pub fn byte_slice<R: IndexRange + Drop>(&self, range: R) -> RopeSlice<'_>
-        requires { byte_range_error self.now.text (R.told_start range) (R.told_end range) ≡ None }
-        ensures { IsSlice (content self.now) (byte_to_char self.now.text (range_start (R.told_start range)))
-            (byte_to_char self.now.text (range_end (R.told_end range) (byte_len self.now.text))) (content_of result) }
+        requires { byte_range_error self.now.text (R.given_start range) (R.given_end range) ≡ None }
+        ensures { IsSlice (content self.now) (byte_to_char self.now.text (range_start (R.given_start range)))
+            (byte_to_char self.now.text (range_end (R.given_end range) (byte_len self.now.text))) (content_of result) }
     {
         self.whole().byte_slice(range)
     }
 
-    /// What `byte_slice` answers. No memory is taken.
+    /// As `byte_slice`, for any range. Costs two look-ups; takes no memory.
     ///
     /// # Errors
     ///
-    /// First `ByteRangeInvalid` where both bounds are given and the start is past the end, then `ByteRangeOutOfBounds` where a
-    /// given bound is past `len_bytes()`, then `ByteRangeNotCharBoundary` where a given bound lies inside a character.
+    /// First `ByteRangeInvalid`, where both bounds are given and the start is past the end; then
+    /// `ByteRangeOutOfBounds`, where a given bound is past `len_bytes()`; then `ByteRangeNotCharBoundary`, where a
+    /// given bound lies inside a character.
     pub fn try_byte_slice<R: IndexRange + Drop>(&self, range: R) -> Result<RopeSlice<'_>>
-        ensures ok { IfOk result (λ slice. (byte_range_error self.now.text (R.told_start range) (R.told_end range) ≡ None)
-            × IsSlice (content self.now) (byte_to_char self.now.text (range_start (R.told_start range)))
-            (byte_to_char self.now.text (range_end (R.told_end range) (byte_len self.now.text))) (content_of slice)) }
-        ensures refused { IfErr result (λ fault. byte_range_error self.now.text (R.told_start range) (R.told_end range) ≡ Some fault) }
+        ensures ok { IfOk result (λ slice. (byte_range_error self.now.text (R.given_start range) (R.given_end range) ≡ None)
+            × IsSlice (content self.now) (byte_to_char self.now.text (range_start (R.given_start range)))
+            (byte_to_char self.now.text (range_end (R.given_end range) (byte_len self.now.text))) (content_of slice)) }
+        ensures refused { IfErr result (λ fault. byte_range_error self.now.text (R.given_start range) (R.given_end range) ≡ Some fault) }
     {
         self.whole().try_byte_slice(range)
     }
 
-    /// What `byte_slice` answers, or none where `try_byte_slice` refuses. No memory is taken.
+    /// As `byte_slice`, or `None` exactly where `try_byte_slice` returns an error. Costs two look-ups; takes no
+    /// memory.
     pub fn get_byte_slice<R: IndexRange + Drop>(&self, range: R) -> Option<RopeSlice<'_>>
-        ensures { MatchOption result (byte_range_error self.now.text (R.told_start range) (R.told_end range) ≢ None)
-            (λ slice. (byte_range_error self.now.text (R.told_start range) (R.told_end range) ≡ None)
-            × IsSlice (content self.now) (byte_to_char self.now.text (range_start (R.told_start range)))
-            (byte_to_char self.now.text (range_end (R.told_end range) (byte_len self.now.text))) (content_of slice)) }
+        ensures { MatchOption result (byte_range_error self.now.text (R.given_start range) (R.given_end range) ≢ None)
+            (λ slice. (byte_range_error self.now.text (R.given_start range) (R.given_end range) ≡ None)
+            × IsSlice (content self.now) (byte_to_char self.now.text (range_start (R.given_start range)))
+            (byte_to_char self.now.text (range_end (R.given_end range) (byte_len self.now.text))) (content_of slice)) }
     {
         self.whole().get_byte_slice(range)
     }
 
-    /// A rope of the slice's text, with its set of line breaks. It shares what of a rope's tree lies within the slice; a plain
-    /// text is copied.
+    /// A rope of the slice's text, with its set of line breaks. It shares what of a rope's tree lies within the
+    /// slice; a plain text is copied.
     ///
-    /// It takes memory, and refuses for want of it alone.
+    /// Takes memory for the nodes along the two cuts, or for all of a plain text.
+    ///
+    /// # Errors
+    ///
+    /// `OutOfMemory`.
     pub fn from_slice(alloc: Global, slice: RopeSlice<'_>) -> Result<Rope>
         ensures text { IfOk result (λ rope. rope.text ≡ text_of slice.entry) }
         ensures breaks { IfOk result (λ rope. rope.breaks ≡ breaks_of slice.entry) }

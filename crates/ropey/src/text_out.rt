@@ -1,4 +1,6 @@
-//! A rope's text, copied, shown or lent.
+//! A rope's text, copied, shown or borrowed.
+//!
+//! Of a rope of `"hello"`, `try_to_string(alloc)` is the string `"hello"`, and `{rope}` prints it.
 ghost use Rattle.std.specs.Prelude.{◌≡◌, ◌≤◌, ◌↔◌, length, IsOk, IfOk, IfErr};
 ghost use Rattle.std.specs.Cow.{cow_str_bytes, IsBorrowedStr, IsOwnedStr};
 ghost use Rattle.std.specs.Str.{chars};
@@ -12,7 +14,11 @@ use std::borrow::CowStr;
 use std::fmt;
 
 impl Rope {
-    /// A copy of the text. It takes memory once, and refuses for want of it alone.
+    /// A copy of the text as a string. Takes time in proportion to the text, and memory once.
+    ///
+    /// # Errors
+    ///
+    /// `OutOfMemory`.
     pub fn try_to_string(&self, alloc: Global) -> Result<String>
         ensures text { IfOk result (λ text. chars (string_bytes text) ≡ self.now.text) }
         ensures err { IfErr result (λ e. e ≡ OutOfMemory) }
@@ -20,8 +26,12 @@ impl Rope {
         self.whole().try_to_string(alloc)
     }
 
-    /// The text as a string, by the rope's own allocator. It takes memory once, and refuses for want of it alone: the rope is
-    /// gone then.
+    /// The text as a string, by the rope's own allocator; the rope is gone afterwards, refused or not. Takes time
+    /// in proportion to the text, and memory once.
+    ///
+    /// # Errors
+    ///
+    /// `OutOfMemory`.
     pub fn try_into_string(self) -> Result<String>
         ensures text { IfOk result (λ text. chars (string_bytes text) ≡ self.text) }
         ensures err { IfErr result (λ e. e ≡ OutOfMemory) }
@@ -29,8 +39,12 @@ impl Rope {
         self.try_to_string(self.alloc)
     }
 
-    /// The text: borrowed where it is at most one chunk, which takes no memory, and else a copy. It refuses for want of memory
-    /// alone.
+    /// The text: borrowed exactly where the rope has at most one chunk, which takes no memory and never fails; else
+    /// a copy.
+    ///
+    /// # Errors
+    ///
+    /// `OutOfMemory`, only where the rope has more than one chunk.
     pub fn try_to_cow(&self, alloc: Global) -> Result<CowStr<'_>>
         ensures text { IfOk result (λ cow. chars (cow_str_bytes cow) ≡ self.now.text) }
         ensures borrowed { IfOk result (λ cow. IsBorrowedStr cow ↔ (length self.now.chunks ≤ 1)) }
@@ -40,7 +54,11 @@ impl Rope {
         self.whole().try_to_cow(alloc)
     }
 
-    /// The text, owned, as `try_into_string` gives it.
+    /// The text as an owned string, as `try_into_string` returns it.
+    ///
+    /// # Errors
+    ///
+    /// `OutOfMemory`.
     pub fn try_into_cow(self) -> Result<CowStr<'static>>
         ensures text { IfOk result (λ cow. chars (cow_str_bytes cow) ≡ self.text) }
         ensures owned { IfOk result IsOwnedStr }

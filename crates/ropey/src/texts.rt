@@ -1,4 +1,6 @@
-//! Ropes of texts that are owned, or that an iterator gives.
+//! Ropes of owned texts, and of texts that an iterator gives.
+//!
+//! `from_str_iter(alloc, ["one\n", "two"])` returns a rope of `"one\ntwo"`.
 ghost use Rattle.std.specs.Prelude.{◌≡◌, List, ℕ, IfOk, IfErr};
 ghost use Rattle.std.specs.Str.{chars};
 ghost use Rattle.std.specs.String.{string_bytes};
@@ -19,7 +21,13 @@ use std::borrow::CowStr;
 use std::convert::AsStr;
 
 impl Rope {
-    /// A copy of the text, as `from_str` makes it.
+    /// A rope of a copy of the owned text, with Unicode's line breaks, as `from_str` makes it.
+    ///
+    /// Takes time and memory in proportion to the text.
+    ///
+    /// # Errors
+    ///
+    /// `OutOfMemory`.
     pub fn from_string(alloc: Global, text: String) -> Result<Rope>
         ensures text { IfOk result (λ rope. rope.text ≡ chars (string_bytes text)) }
         ensures breaks { IfOk result (λ rope. rope.breaks ≡ Unicode) }
@@ -30,7 +38,13 @@ impl Rope {
         Rope::from_str(alloc, text.as_str())
     }
 
-    /// A copy of the text, borrowed or owned, as `from_str` makes it.
+    /// A rope of a copy of the text, borrowed or owned, with Unicode's line breaks, as `from_str` makes it.
+    ///
+    /// Takes time and memory in proportion to the text.
+    ///
+    /// # Errors
+    ///
+    /// `OutOfMemory`.
     pub fn from_cow(alloc: Global, cow: CowStr<'_>) -> Result<Rope>
         ensures text { IfOk result (λ rope. rope.text ≡ chars (cow_str_bytes cow.entry)) }
         ensures breaks { IfOk result (λ rope. rope.breaks ≡ Unicode) }
@@ -41,10 +55,15 @@ impl Rope {
         Rope::from_str(alloc, cow.as_str())
     }
 
-    /// The texts that the iterator gives, one after the other, with Unicode's line breaks, in at most one chunk for each 981
-    /// bytes and one more for the rest. The iterator must end.
+    /// A rope of the texts that the iterator gives, one behind the other, with Unicode's line breaks, in at most (n
+    /// + 980) / 981 chunks for n bytes.
     ///
-    /// It refuses texts of more than `isize::MAX` bytes so far, then for want of memory, and takes no text after that.
+    /// The iterator must end. Takes time and memory in proportion to the text.
+    ///
+    /// # Errors
+    ///
+    /// `TooLong`, once the texts so far have more than `isize::MAX` bytes; else `OutOfMemory`. No text is taken
+    /// after a refusal.
     pub fn from_str_iter<'a, I: IntoIterator<Item = &'a str>>(
         alloc: Global,
         iter: I,
@@ -60,6 +79,12 @@ impl Rope {
     }
 
     /// As `from_str_iter`, of owned texts.
+    ///
+    /// The iterator must end.
+    ///
+    /// # Errors
+    ///
+    /// `TooLong`, then `OutOfMemory`, as for `from_str_iter`.
     pub fn from_string_iter<I: IntoIterator<Item = String>>(alloc: Global, iter: I) -> Result<Rope>
         requires ends { IsFiniteIterable I.into_iter_gives I.IntoIter.can_next I.IntoIter.remaining iter }
         ensures text { IfOk result (λ rope. IsAllOf I.into_iter_gives I.IntoIter.next_gives string_bytes iter rope.text) }
@@ -72,6 +97,12 @@ impl Rope {
     }
 
     /// As `from_str_iter`, of texts that are borrowed or owned.
+    ///
+    /// The iterator must end.
+    ///
+    /// # Errors
+    ///
+    /// `TooLong`, then `OutOfMemory`, as for `from_str_iter`.
     pub fn from_cow_iter<'a, I: IntoIterator<Item = CowStr<'a>>>(
         alloc: Global,
         iter: I,

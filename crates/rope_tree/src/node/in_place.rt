@@ -41,7 +41,7 @@ impl Children {
         }
     }
 
-    /// Puts a text before the character `at`, where no node on the way is shared and the leaf has room; whether it did.
+    /// Puts a text before the character `at`, where no node on the way is shared and the leaf has room; returns whether it did.
     #[cycle(in_place)]
     fn insert_in_place(&mut self, at: usize, added: &ShortText<'_>, to_right: bool) -> bool
         requires children { AreChildren (breaks_of self.old) (height_of self.old) self.old }
@@ -67,7 +67,7 @@ impl Children {
 }
 
 impl Node {
-    /// Puts a text before the character `at`, where no node on the way is shared and the leaf has room; whether it did. It
+    /// Puts a text before the character `at`, where no node on the way is shared and the leaf has room; returns whether it did. It
     /// takes no memory.
     #[cycle(in_place)]
     pub fn insert_in_place(&mut self, at: usize, added: &ShortText<'_>, to_right: bool) -> bool

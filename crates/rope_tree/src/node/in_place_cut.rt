@@ -18,7 +18,7 @@ use std::rc::Rc;
 
 impl Children {
     /// Puts a text before the character `at`, where no node on the way is shared, the leaf has no room for it, and the node over
-    /// the leaf has room for one more; whether it did. Where memory is refused, nothing is changed.
+    /// the leaf has room for one more; returns whether it did. Where memory is refused, nothing is changed.
     #[cycle(in_place_cut)]
     fn insert_by_cut(
         &mut self,
@@ -99,7 +99,7 @@ impl Children {
 
 impl Node {
     /// Puts a text before the character `at` of an inner node's text, where no node on the way is shared, the leaf has no room
-    /// for it, and the node over the leaf has room for one more; whether it did. Where memory is refused, nothing is changed.
+    /// for it, and the node over the leaf has room for one more; returns whether it did. Where memory is refused, nothing is changed.
     #[cycle(in_place_cut)]
     pub fn insert_by_cut(
         &mut self,

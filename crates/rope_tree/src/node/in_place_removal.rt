@@ -13,7 +13,7 @@ use std::rc::Rc;
 
 impl Children {
     /// Takes the characters from `start` up to `end` out, where they lie in one leaf that may do without them and no node on
-    /// the way is shared; whether it did.
+    /// the way is shared; returns whether it did.
     #[cycle(in_place_removal)]
     fn remove_in_place(&mut self, start: usize, end: usize) -> bool
         requires children { AreChildren (breaks_of self.old) (height_of self.old) self.old }
@@ -42,7 +42,7 @@ impl Children {
 
 impl Node {
     /// Takes the characters from `start` up to `end` out, where they lie in one leaf that may do without them and no node on
-    /// the way is shared; whether it did. It takes no memory.
+    /// the way is shared; returns whether it did. It takes no memory.
     #[cycle(in_place_removal)]
     pub fn remove_in_place(&mut self, start: usize, end: usize) -> bool
         requires ordered { start < end }

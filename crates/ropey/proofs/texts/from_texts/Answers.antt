@@ -1,4 +1,4 @@
--- What was handed in is what the iterator gave.
+-- What was passed in is what the iterator gave.
 use Rattle.std.proofs.Common.{◌≡◌, ◌++◌, ◌∷◌, [], ap, subst, sym, refl, ◌∙◌}
 use Rattle.std.proofs.lemmas.Result.{IfErr-weaker}
 use Rattle.std.specs.Str.{chars}

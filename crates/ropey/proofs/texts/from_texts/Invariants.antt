@@ -1,4 +1,4 @@
--- What was handed in is what the iterator gave.
+-- What was passed in is what the iterator gave.
 use Rattle.std.proofs.Common.{◌≡◌}
 use Rattle.std.specs.Prelude.{None}
 use Rattle.rope_text.specs.declared.line_breaks.LineBreaks.TheVariants.{Unicode}

@@ -1,4 +1,4 @@
--- What was handed in and the next chunk are a front of the text.
+-- What was passed in and the next chunk are a front of the text.
 use Rattle.std.proofs.Common.{◌∙◌, ◌++◌, ap, sym, arith}
 use Rattle.std.specs.List.{concat}
 use Rattle.std.specs.Str.{chars}

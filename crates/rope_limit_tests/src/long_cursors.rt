@@ -1,0 +1,147 @@
+//! Cursors over texts of 2^62 bytes, started at both ends and in the middle.
+use crate::long_texts::{Place, Unit, WHOLE, all};
+use rope_plain::given::given;
+use ropey::Rope;
+use std::test::Fail;
+
+/// The character of a repeated text with that index, or none past its end.
+pub fn char_at(unit: &Unit, char_idx: usize) -> Option<char> {
+    if char_idx >= unit.char_count() {
+        return None;
+    }
+    unit.text.chars().nth(char_idx.checked_rem(unit.chars)?)
+}
+
+/// A cursor over the characters gives the one behind the place and the one before it, and says how many are left.
+fn has_chars(rope: &Rope, unit: &Unit, place: Place) -> Result<bool, Fail> {
+    let mut chars = given(rope.get_chars_at(place.char_idx))?;
+    let left = unit.char_count().saturating_sub(place.char_idx);
+    let counts = chars.len() == left && chars.size_hint() == (left, Some(left));
+    let next = chars.next();
+    if next.is_some() {
+        chars.prev();
+    }
+    let before = match place.char_idx.checked_sub(1) {
+        Some(before) => char_at(unit, before),
+        None => None,
+    };
+    Ok(counts && next == char_at(unit, place.char_idx) && chars.prev() == before)
+}
+
+/// A cursor over the bytes does the same.
+fn has_bytes(rope: &Rope, place: Place) -> Result<bool, Fail> {
+    let mut bytes = given(rope.get_bytes_at(place.byte_idx))?;
+    let left = WHOLE.saturating_sub(place.byte_idx);
+    let counts = bytes.len() == left && bytes.size_hint() == (left, Some(left));
+    let next = bytes.next();
+    if next.is_some() {
+        bytes.prev();
+    }
+    let before = match place.byte_idx.checked_sub(1) {
+        Some(before) => rope.get_byte(before),
+        None => None,
+    };
+    Ok(counts && next == rope.get_byte(place.byte_idx) && bytes.prev() == before)
+}
+
+#[test]
+fn bytes_and_chars(rt: HostRuntime) -> Result<(), Fail> {
+    for long in all(rt.alloc())? {
+        for place in long.unit.places() {
+            assert!(rt; has_chars(&long.rope, &long.unit, place)?);
+            assert!(rt; has_bytes(&long.rope, place)?);
+        }
+        for past in [WHOLE.saturating_add(1), usize::MAX] {
+            assert!(rt; long.rope.get_chars_at(past).is_none());
+            assert!(rt; long.rope.get_bytes_at(past).is_none());
+        }
+    }
+    Ok(())
+}
+
+#[test]
+fn chunks(rt: HostRuntime) -> Result<(), Fail> {
+    for long in all(rt.alloc())? {
+        for place in long.unit.places() {
+            let (mut by_byte, byte_idx, _, _) = given(
+                long.rope.get_chunks_at_byte(place.byte_idx),
+            )?;
+            let (mut by_char, start, char_idx, breaks) = given(
+                long.rope.get_chunks_at_char(place.char_idx),
+            )?;
+            let before = long.unit.place(char_idx);
+            assert_eq!(rt; [byte_idx, start], [before.byte_idx, before.byte_idx]);
+            assert_eq!(rt; breaks, before.line_idx);
+            let chunk = by_byte.next();
+            assert!(rt; chunk == by_char.next());
+            assert_eq!(rt; chunk.is_none(), place.char_idx == long.unit.char_count());
+        }
+        assert!(rt; long.rope.get_chunks_at_byte(usize::MAX).is_none());
+        assert!(rt; long.rope.get_chunks_at_char(usize::MAX).is_none());
+        assert!(rt; long.rope.get_chunks_at_line_break(usize::MAX).is_none());
+    }
+    Ok(())
+}
+
+#[test]
+fn chunks_past_the_last_line(rt: HostRuntime) -> Result<(), Fail> {
+    for long in all(rt.alloc())? {
+        let breaks = long.unit.break_count();
+        let lines = breaks.saturating_add(1);
+        let (mut chunks, byte_idx, char_idx, before) = given(
+            long.rope.get_chunks_at_line_break(lines),
+        )?;
+        let expected = [WHOLE, long.unit.char_count(), breaks];
+        assert_eq!(rt; [byte_idx, char_idx, before], expected);
+        assert!(rt; chunks.next().is_none() && chunks.prev().is_some());
+        let past = lines.saturating_add(1);
+        assert!(rt; long.rope.get_chunks_at_line_break(past).is_none());
+    }
+    Ok(())
+}
+
+/// The characters of a line that a cursor gave.
+fn chars_of_line(line: Option<ropey::RopeSlice<'_>>) -> Option<usize> {
+    Some(line?.len_chars())
+}
+
+#[test]
+fn lines(rt: HostRuntime) -> Result<(), Fail> {
+    for long in all(rt.alloc())? {
+        let breaks = long.unit.break_count();
+        for line_idx in [0, breaks / 2, breaks, breaks.saturating_add(1)] {
+            let mut lines = given(long.rope.get_lines_at(line_idx))?;
+            assert_eq!(rt;
+                lines.len(),
+                breaks.saturating_add(1).saturating_sub(line_idx)
+            );
+            if 0 < line_idx && line_idx < breaks {
+                assert_eq!(rt; chars_of_line(lines.next()), Some(long.unit.chars));
+                assert_eq!(rt; chars_of_line(lines.prev()), Some(long.unit.chars));
+                assert_eq!(rt; chars_of_line(lines.prev()), Some(long.unit.chars));
+                let line = given(long.rope.get_line(line_idx))?;
+                assert!(rt; line.eq_str(long.unit.text));
+            }
+        }
+        assert!(rt; long.rope.get_lines_at(breaks.saturating_add(2)).is_none());
+        assert!(rt; long.rope.get_lines_at(usize::MAX).is_none());
+        assert!(rt; long.rope.get_line(breaks.saturating_add(1)).is_none());
+        assert!(rt; long.rope.get_line(usize::MAX).is_none());
+    }
+    Ok(())
+}
+
+#[test]
+fn the_last_lines_of_texts_with_breaks(rt: HostRuntime) -> Result<(), Fail> {
+    for long in all(rt.alloc())? {
+        let breaks = long.unit.break_count();
+        if breaks > 0 {
+            let mut lines = given(long.rope.get_lines_at(breaks))?;
+            assert_eq!(rt; chars_of_line(lines.next()), Some(0));
+            assert_eq!(rt; chars_of_line(lines.next()), None);
+            assert_eq!(rt; chars_of_line(lines.prev()), Some(0));
+            assert_eq!(rt; chars_of_line(lines.prev()), Some(long.unit.chars));
+        }
+    }
+    Ok(())
+}

@@ -1,0 +1,50 @@
+//! Ropes that a builder makes of one character after the other.
+use crate::words::{BREAKS, LONGEST, SHORTEST, WIDE, around, words};
+use rope_plain::compare::{compare, has_few_chunks};
+use rope_plain::texts::chars_of;
+use ropey::{LineBreaks, RopeBuilder};
+use std::alloc::Global;
+use std::test::Fail;
+
+/// A rope of these characters, passed in one by one.
+fn build(alloc: Global, plain: &[char], set: LineBreaks) -> Result<(), Fail> {
+    let mut builder = RopeBuilder::new_with(alloc, set)?;
+    let mut bytes = [0; 4];
+    for c in plain {
+        builder.append(c.encode_utf8(&mut bytes))?;
+    }
+    let rope = builder.finish()?;
+    compare(&rope, plain, set)?;
+    has_few_chunks(&rope)?;
+    Ok(())
+}
+
+/// Ropes of each text with such a word where a leaf is cut.
+fn build_words(alloc: Global, letters: &[&str], count: usize, set: LineBreaks) -> Result<(), Fail> {
+    let all = words(alloc, letters, count)?;
+    for before in SHORTEST..=LONGEST {
+        for word in &all {
+            let text = around(alloc, before, word.as_str())?;
+            build(alloc, &chars_of(alloc, text.as_str())?, set)?;
+        }
+    }
+    Ok(())
+}
+
+#[test]
+fn breaks_one_by_one(rt: HostRuntime) -> Result<(), Fail> {
+    for set in [LineBreaks::Lf, LineBreaks::CrLf, LineBreaks::Unicode] {
+        for count in 0..=4usize {
+            build_words(rt.alloc(), &BREAKS, count, set)?;
+        }
+    }
+    Ok(())
+}
+
+#[test]
+fn wide_characters_one_by_one(rt: HostRuntime) -> Result<(), Fail> {
+    for count in 0..=2usize {
+        build_words(rt.alloc(), &WIDE, count, LineBreaks::Unicode)?;
+    }
+    Ok(())
+}
