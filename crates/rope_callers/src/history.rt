@@ -31,7 +31,8 @@ impl History {
     /// Takes the newest of the old texts back; answers false where there is none.
     pub fn undo(&mut self) -> bool
         ensures undone { OnTrue result (self.old.past.items ≡ self.new.past.items ++ self.new.text ∷ []) }
-        ensures none { OnFalse result ((self.new.text ≡ self.old.text) × (self.old.past.items ≡ []) × (self.new.past.items ≡ [])) }
+        ensures none { OnFalse result ((self.new.text ≡ self.old.text)
+            × (self.old.past.items ≡ []) × (self.new.past.items ≡ [])) }
     {
         match self.past.pop() {
             Some(before) => {
