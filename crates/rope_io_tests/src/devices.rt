@@ -1,4 +1,8 @@
 //! Readers and writers.
+ghost use Rattle.std.specs.Prelude.{◌≡◌, IfOk};
+
+use std::alloc::Global;
+use std::cell::Cell;
 use std::io::{self, ErrorKind, Read, Write};
 
 /// Never: no device gives or takes so many bytes.
@@ -129,6 +133,118 @@ impl Write for Narrow {
         }
         self.kept.extend_from_slice(&buf[..count])?;
         self.room -= count;
+        Ok(count)
+    }
+
+    /// No flush is asked for.
+    fn flush(&mut self) -> io::Result<()> {
+        self.kept.clear();
+        Ok(())
+    }
+}
+
+/// Gives one byte a read. Once so many were given one read fails, or says an end, and would be followed by the others.
+#[derive(Drop)]
+pub struct Stumbling<'a> {
+    rest: &'a [u8],
+    before: usize,
+    stumble: Option<Stumble>,
+    calls: &'a Cell<usize>,
+}
+
+/// What a device does once, where it would go on afterwards.
+#[derive(Clone, Copy)]
+pub enum Stumble {
+    Fails(ErrorKind),
+    MovesNone,
+}
+
+impl Stumble {
+    fn answer(self) -> io::Result<usize>
+        ensures { IfOk result (λ count. count ≡ 0) }
+    {
+        match self {
+            Stumble::Fails(kind) => Err(io::Error::from(kind)),
+            Stumble::MovesNone => Ok(0),
+        }
+    }
+}
+
+impl<'a> Stumbling<'a> {
+    /// It counts its reads, the one that stumbles among them.
+    pub fn new(
+        bytes: &'a [u8],
+        before: usize,
+        stumble: Stumble,
+        calls: &'a Cell<usize>,
+    ) -> Stumbling<'a> {
+        Stumbling {
+            rest: bytes,
+            before,
+            stumble: Some(stumble),
+            calls,
+        }
+    }
+}
+
+impl Read for Stumbling<'_> {
+    fn read(&mut self, buf: &mut [u8]) -> io::Result<usize> {
+        self.calls.set(self.calls.get().saturating_add(1));
+        if self.before == 0
+            && let Some(stumble) = self.stumble.take()
+        {
+            return stumble.answer();
+        }
+        let count = 1.min(self.rest.len()).min(buf.len());
+        let (given, rest) = self.rest.split_at(count);
+        buf[..count].copy_from_slice(given);
+        self.rest = rest;
+        self.before = self.before.saturating_sub(count);
+        Ok(count)
+    }
+}
+
+/// Keeps at most so many bytes a write. Once so many were kept one write fails, or takes none, and the next would go on.
+#[derive(Drop)]
+pub struct Halting<'a> {
+    pub kept: Vec<u8>,
+    most: usize,
+    room: usize,
+    stumble: Option<Stumble>,
+    calls: &'a Cell<usize>,
+}
+
+impl<'a> Halting<'a> {
+    /// It counts its writes, the one that stumbles among them.
+    pub fn new(
+        alloc: Global,
+        most: usize,
+        room: usize,
+        stumble: Stumble,
+        calls: &'a Cell<usize>,
+    ) -> Halting<'a> {
+        Halting {
+            kept: Vec::new(alloc),
+            most,
+            room,
+            stumble: Some(stumble),
+            calls,
+        }
+    }
+}
+
+impl Write for Halting<'_> {
+    fn write(&mut self, buf: &[u8]) -> io::Result<usize> {
+        self.calls.set(self.calls.get().saturating_add(1));
+        if self.room == 0
+            && let Some(stumble) = self.stumble.take()
+        {
+            return stumble.answer();
+        }
+        let room = if self.room == 0 { buf.len() } else { self.room };
+        let count = self.most.min(room).min(buf.len());
+        self.kept.extend_from_slice(&buf[..count])?;
+        self.room = self.room.saturating_sub(count);
         Ok(count)
     }
 

@@ -8,4 +8,8 @@ mod example;
 #[cfg(test)]
 mod reading;
 #[cfg(test)]
+mod seams;
+#[cfg(test)]
+mod stumbles;
+#[cfg(test)]
 mod writing;
