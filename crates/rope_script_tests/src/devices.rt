@@ -129,3 +129,85 @@ impl Write for Telling<'_> {
         Ok(())
     }
 }
+
+/// Gives one part a read. Once so many were given one read is interrupted, and the next would go on. It counts its reads.
+#[derive(Drop)]
+pub struct Stumbling<'a> {
+    parts: &'a [&'a str],
+    given: usize,
+    fails_at: usize,
+    has_failed: bool,
+    pub reads: usize,
+}
+
+impl<'a> Stumbling<'a> {
+    /// Each part has at most as many bytes as are read at once.
+    pub fn new(parts: &'a [&'a str], fails_at: usize) -> Stumbling<'a> {
+        Stumbling {
+            parts,
+            given: 0,
+            fails_at,
+            has_failed: false,
+            reads: 0,
+        }
+    }
+}
+
+impl Read for Stumbling<'_> {
+    fn read(&mut self, buf: &mut [u8]) -> io::Result<usize> {
+        self.reads = self.reads.saturating_add(1);
+        if self.given == self.fails_at && !self.has_failed {
+            self.has_failed = true;
+            return Err(io::Error::from(ErrorKind::Interrupted));
+        }
+        let Some(part) = self.parts.get(self.given) else {
+            return Ok(0);
+        };
+        if part.len() > buf.len() {
+            return Err(io::Error::from(ErrorKind::InvalidInput));
+        }
+        buf[..part.len()].copy_from_slice(part.as_bytes());
+        self.given = self.given.saturating_add(1);
+        Ok(part.len())
+    }
+}
+
+/// Keeps one byte a write. Once so many were kept one write is interrupted, or takes none, and the next would go on.
+#[derive(Drop)]
+pub struct Halting {
+    pub kept: Vec<u8>,
+    room: usize,
+    takes_none: bool,
+    has_halted: bool,
+}
+
+impl Halting {
+    /// It is interrupted once, or else takes none once.
+    pub fn new(alloc: Global, room: usize, takes_none: bool) -> Halting {
+        Halting {
+            kept: Vec::new(alloc),
+            room,
+            takes_none,
+            has_halted: false,
+        }
+    }
+}
+
+impl Write for Halting {
+    fn write(&mut self, buf: &[u8]) -> io::Result<usize> {
+        if self.kept.len() == self.room && !self.has_halted {
+            self.has_halted = true;
+            if self.takes_none {
+                return Ok(0);
+            }
+            return Err(io::Error::from(ErrorKind::Interrupted));
+        }
+        let count = 1.min(buf.len());
+        self.kept.extend_from_slice(&buf[..count])?;
+        Ok(count)
+    }
+
+    fn flush(&mut self) -> io::Result<()> {
+        Ok(())
+    }
+}

@@ -1,5 +1,5 @@
 //! Lines that come in parts, devices that fail, and how a run ends.
-use crate::devices::{Asking, Dripping, Narrow, Telling};
+use crate::devices::{Asking, Dripping, Halting, Narrow, Stumbling, Telling};
 use crate::served::told;
 use rope_language::{Ended, serve};
 use std::cell::Cell;
@@ -175,6 +175,44 @@ fn replies_come_before_the_next_read(rt: HostRuntime) -> Result<(), Fail> {
         let mut writer = Telling::new(&flushed);
         serve(rt.alloc(), &mut reader, &mut writer);
         assert_eq!(rt; reader.seen.as_slice(), seen);
+    }
+    Ok(())
+}
+
+#[test]
+fn reads_that_fail_once(rt: HostRuntime) -> Result<(), Fail> {
+    let parts = ["text a\n", "len 0\nsh", "ow 0\n"];
+    for (fails_at, replies) in [
+        (0usize, ""),
+        (1, "rope 0\n"),
+        (2, "rope 0\n1 1 1 1\n"),
+        (3, "rope 0\n1 1 1 1\n\"a\"\n"),
+    ] {
+        let mut reader = Stumbling::new(&parts, fails_at);
+        let mut writer = Narrow::new(rt.alloc(), 1000);
+        assert_eq!(rt; serve(rt.alloc(), &mut reader, &mut writer), Ended::Failed);
+        assert_eq!(rt; reader.reads, fails_at.saturating_add(1));
+        assert_eq!(rt; String::from_utf8(writer.kept)?.as_str(), replies);
+    }
+    Ok(())
+}
+
+// The standard library's `write_all` tries an interrupted write again.
+#[test]
+fn writes_that_stumble_once(rt: HostRuntime) -> Result<(), Fail> {
+    let replies = b"rope 0\n1 1 1 1\n".as_slice();
+    for room in 0..15usize {
+        let mut reader = b"text a\nlen 0\nfrob\n".as_slice();
+        let mut writer = Halting::new(rt.alloc(), room, true);
+        assert_eq!(rt; serve(rt.alloc(), &mut reader, &mut writer), Ended::Failed);
+        assert!(rt; writer.kept.as_slice() == &replies[..room]);
+        let mut reader = b"text a\nlen 0\nfrob\n".as_slice();
+        let mut writer = Halting::new(rt.alloc(), room, false);
+        assert_eq!(rt;
+            serve(rt.alloc(), &mut reader, &mut writer),
+            Ended::BadLine(3)
+        );
+        assert!(rt; writer.kept.as_slice() == replies);
     }
     Ok(())
 }
