@@ -5,7 +5,7 @@ use std::alloc::Global;
 use std::process::Abort;
 use std::test::Fail;
 
-/// Serves each line alone: nothing is written, and it is told as a bad one.
+/// Serves each line alone: nothing is written, and it is reported as a bad one.
 fn refuse(rt: &impl Abort, alloc: Global, lines: &[&[u8]]) -> Result<(), Fail> {
     for line in lines {
         let mut input = Vec::new(alloc);

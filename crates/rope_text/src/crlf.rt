@@ -121,6 +121,7 @@ pub fn nearest_internal_break(text: &[u8], at: usize) -> usize
 
 /// The cut at `at`, or else the nearest cut before it or after it, before it where `bias_left` says so,
 /// unless no cut inside the text lies on that side: then it is the nearest on the other one, the ends of the text among them.
+/// `at` is at most the length. Reads the bytes around the place; takes no memory.
 pub fn find_good_split(at: usize, text: &[u8], bias_left: bool) -> usize
     requires { at ≤ length text.now }
     ensures boundary { IsUtf8 text.now → IsCharBoundary text.now result }

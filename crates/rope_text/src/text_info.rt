@@ -26,7 +26,7 @@ pub struct TextInfo {
 impl TextInfo {
     ghost use Rattle.rope_text.specs.Cutting.{parts_crlf};
 
-    /// The counts of the empty text: all 0.
+    /// The counts of the empty text: all 0. Takes constant time and no memory.
     pub fn new() -> TextInfo
         ensures { (set : LineBreaks) → result ≡ info_of set [] }
     {

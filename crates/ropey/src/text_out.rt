@@ -54,7 +54,7 @@ impl Rope {
         self.whole().try_to_cow(alloc)
     }
 
-    /// The text as an owned string, as `try_into_string` returns it.
+    /// The text as an owned string, as `try_into_string` returns it, in as much time and memory.
     ///
     /// # Errors
     ///
