@@ -13,7 +13,7 @@ use Rattle.rope_text.proofs.CuttingLaws.{concat-append}
 use Rattle.rope_text.proofs.InfoLaws.{info_of-append_apart}
 use Rattle.rope_tree.specs.declared.search.Unit.{Unit}
 use Rattle.rope_tree.specs.Leaves.{AreLeaves, IsSeam}
-use Rattle.rope_tree.specs.Tree.{Tree, text, joined, leaves_of, height_of, breaks_of, tree_over, leaf_tree, IsTree}
+use Rattle.rope_tree.specs.Tree.{Tree, text, joined, leaves_of, breaks_of, tree_over, leaf_tree, IsTree}
 use Rattle.rope_tree.specs.Search.{count_of, IsSmall}
 use Rattle.rope_tree.specs.Found.{IsFound}
 use Rattle.rope_tree.proofs.LeafLaws.{seam_of_left, leaves_seam}

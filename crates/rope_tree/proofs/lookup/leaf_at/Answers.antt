@@ -1,5 +1,4 @@
 use Rattle.std.proofs.Common.{◌≡◌, ap, refl, arith}
-use Rattle.std.specs.declared.alloc.Global.{Global}
 use Rattle.rope_tree.specs.Tree.{Tree, breaks_of}
 use Rattle.rope_tree.specs.Search.{IsSmall}
 use Rattle.rope_text.specs.TextInfo.{info_sum}

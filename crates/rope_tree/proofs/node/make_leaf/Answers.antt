@@ -1,4 +1,3 @@
-use Rattle.std.proofs.Common.{◌≡◌, ◌≤◌, subst, sym}
 use Rattle.rope_tree.proofs.Infos.{IsLow, low_info}
 use Rattle.rope_tree.proofs.node.make_leaf.Goals.{After-as_str}
 use Rattle.rope_tree.proofs.node.make_leaf.Goals as goal

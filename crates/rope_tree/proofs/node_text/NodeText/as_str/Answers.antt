@@ -1,5 +1,5 @@
 -- What is known of a leaf: its text.
-use Rattle.std.proofs.Common.{◌≡◌, ap, ◌∙◌, sym, subst, arith}
+use Rattle.std.proofs.Common.{ap, ◌∙◌, sym, subst, arith}
 use Rattle.std.proofs.lemmas.Str.{scalars-chars, IsUtf8-from_is_utf8}
 use Rattle.std.specs.Str.{chars, all_scalars, IsUtf8}
 use Rattle.rope_tree.proofs.LeafTexts.{bytes_of, len_of}
