@@ -14,7 +14,6 @@ pub mod StepLaws
 pub mod PositionLaws
 pub mod LineLaws
 pub mod CuttingLaws
-pub mod ShapeLaws
 pub mod ChunkLaws
 pub mod SliceLaws
 pub mod CompareLaws

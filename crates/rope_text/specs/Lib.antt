@@ -10,7 +10,6 @@ pub mod Edit
 pub mod Compare
 pub mod Read
 pub mod Position
-pub mod Shape
 pub mod Laws
 pub mod Bytes
 pub mod Cuts
