@@ -87,6 +87,7 @@ impl Rope {
 
     /// As `split_off`, and sets `steps` to what it did: `made` counts the nodes that were made, at most 16 d + 32
     /// for a rope of depth d, refused or not.
+    /// Of the other two counts nothing is promised.
     ///
     /// The index is at most `len_chars()`.
     ///
@@ -187,6 +188,7 @@ impl Rope {
 
     /// As `remove`, and sets `steps` to what it did: `made` counts the nodes that were made, at most 16 d + 32 for
     /// a rope of depth d, refused or not.
+    /// Of the other two counts nothing is promised.
     ///
     /// The range's bounds are at most `len_chars()`, and its start is at most its end.
     ///
@@ -282,6 +284,7 @@ impl Rope {
 
     /// As `append`, and sets `steps` to what it did: `made` counts the nodes that were made, at most 16 d + 32
     /// where d is the greater depth of the two, refused or not.
+    /// Of the other two counts nothing is promised.
     ///
     /// # Errors
     ///

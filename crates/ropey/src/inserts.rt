@@ -190,6 +190,7 @@ impl Rope {
 
     /// As `insert_char`, and sets `steps` to what it did: `made` counts the nodes that were made, at most 8 d + 16
     /// for a rope of depth d, refused or not.
+    /// Of the other two counts nothing is promised.
     ///
     /// The index is at most `len_chars()`.
     ///
