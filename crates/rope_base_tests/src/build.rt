@@ -10,7 +10,7 @@ fn levels(rt: HostRuntime) {
     assert_eq!(rt; made, 25);
     assert_eq!(rt; node.height(), 1);
     assert_eq!(rt; node.info().bytes, 23_616);
-    assert_eq!(rt; node.info().line_breaks, 2952);
+    assert_eq!(rt; node.info().break_count, 2952);
     let text = "Hello!\r\n".repeat(rt.alloc(), 2953).expect(&rt, "memory");
     let mut made = 0;
     let node = build(rt.alloc(), text.as_str(), LineBreaks::CrLf, &mut made).expect(&rt, "memory");

@@ -13,7 +13,7 @@ fn pieces(rt: HostRuntime) {
     }
     let node = builder.finish(&mut 0).expect(&rt, "memory");
     assert_eq!(rt; node.info().bytes, 16_000);
-    assert_eq!(rt; node.info().line_breaks, 1000);
+    assert_eq!(rt; node.info().break_count, 1000);
     assert_eq!(rt; node.height(), 1);
 }
 

@@ -32,7 +32,7 @@ fn removes_in_place_or_by_copies(rt: HostRuntime) {
     assert!(rt; remove(rt.alloc(), &mut root, 4000, 4008, &mut made).expect(&rt, "memory"));
     assert_eq!(rt; made, 0);
     assert_eq!(rt; root.info().bytes, 7992);
-    assert_eq!(rt; root.info().line_breaks, 999);
+    assert_eq!(rt; root.info().break_count, 999);
     let other = share(&root).expect(&rt, "memory");
     assert!(rt; remove(rt.alloc(), &mut root, 4003, 4005, &mut made).expect(&rt, "memory"));
     assert_eq!(rt; made, 2);
@@ -66,8 +66,8 @@ fn bares_no_end_of_a_leaf(rt: HostRuntime) {
     assert!(rt; !remove(rt.alloc(), &mut root, 983, 984, &mut made).expect(&rt, "memory"));
     assert!(rt; !remove(rt.alloc(), &mut root, 984, 991, &mut made).expect(&rt, "memory"));
     assert!(rt; remove(rt.alloc(), &mut root, 982, 984, &mut made).expect(&rt, "memory"));
-    assert_eq!(rt; root.info().line_breaks, 999);
+    assert_eq!(rt; root.info().break_count, 999);
     assert!(rt; remove(rt.alloc(), &mut root, 7, 15, &mut made).expect(&rt, "memory"));
-    assert_eq!(rt; root.info().line_breaks, 998);
+    assert_eq!(rt; root.info().break_count, 998);
     assert_eq!(rt; root.info().chars, 7990);
 }

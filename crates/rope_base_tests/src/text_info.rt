@@ -11,7 +11,7 @@ use std::process::Abort;
 #[derive(Clone, Copy)]
 struct Counts {
     chars: u8,
-    breaks: usize,
+    break_count: usize,
     pairs: u8,
 }
 
@@ -49,7 +49,7 @@ fn check_counts(rt: &impl Abort, text: &str, k: u8, more: u8, counts: Counts) {
     assert_eq!(rt; info.bytes, text.len());
     assert_eq!(rt; info.chars, chars);
     assert_eq!(rt; info.utf16_surrogates, pairs);
-    assert_eq!(rt; info.line_breaks, counts.breaks);
+    assert_eq!(rt; info.break_count, counts.breaks);
     assert_eq!(rt; count_utf16(text), chars + pairs);
 }
 
@@ -71,7 +71,7 @@ fn check_places(rt: &impl Abort, text: &str, byte: usize, k: u8, counts: Counts)
 
 #[test]
 fn patterns_at_each_place(rt: HostRuntime) -> Result<(), AllocError> {
-    for (pattern, chars, breaks, pairs) in [
+    for (pattern, chars, break_count, pairs) in [
         ("\n", 1, 1, 0),
         ("\r\n", 2, 1, 0),
         ("\n\r", 2, 2, 0),
@@ -83,7 +83,7 @@ fn patterns_at_each_place(rt: HostRuntime) -> Result<(), AllocError> {
     ] {
         let counts = Counts {
             chars,
-            breaks,
+            break_count,
             pairs,
         };
         at_each_place(&rt, rt.alloc(), pattern, counts)?;
@@ -97,12 +97,12 @@ fn sums(rt: HostRuntime) {
         bytes: 3,
         chars: 3,
         utf16_surrogates: 0,
-        line_breaks: 1,
+        break_count: 1,
     };
     let back = TextInfo::from_str("こ\u{10028}\n", LineBreaks::CrLf);
     let whole = TextInfo::from_str("a\r\nこ\u{10028}\n", LineBreaks::CrLf);
     assert_eq!(rt; TextInfo::from_str("a\r\n", LineBreaks::CrLf), front);
-    assert_eq!(rt; (whole.bytes, whole.chars, whole.line_breaks), (11, 6, 2));
+    assert_eq!(rt; (whole.bytes, whole.chars, whole.break_count), (11, 6, 2));
     assert_eq!(rt; (back.bytes, back.chars, back.utf16_surrogates), (8, 3, 1));
     assert_eq!(rt; front.plus(front).minus(front), front);
     assert_eq!(rt; TextInfo::new(), TextInfo::from_str("", LineBreaks::Lf));

@@ -33,7 +33,7 @@ impl Counted {
     fn count(self, text: &str) -> usize {
         match self {
             Counted::Chars => str_utils::count_chars(text),
-            Counted::Breaks(set) => str_utils::count_breaks(text, set),
+            Counted::Breaks(breaks) => str_utils::count_breaks(text, breaks),
             Counted::Pairs => str_utils::count_surrogates(text),
         }
     }

@@ -68,9 +68,9 @@ module _ (p : Place) (chunks : List (List ℕ)) (same : leaves p ≡ chunks) (fu
       (λ _. omega (arith, ap byte_len upto_here, IsMeasure-byte_len.joined (concat p.before) p.here))
 
 -- a cursor before the k-th chunk, and what lies before that
-pub record IsPlaced (set : LineBreaks) (chunks : List (List ℕ)) (k : ℕ) (s : Sides (List ℕ)) (bytes chars breaks : ℕ) : Type 0 where
+pub record IsPlaced (breaks : LineBreaks) (chunks : List (List ℕ)) (k : ℕ) (s : Sides (List ℕ)) (bytes chars count : ℕ) : Type 0 where
   pub place_is : place s ≡ k
-  pub before : LieBefore (found_chunk set chunks k) bytes chars breaks
+  pub before : LieBefore (found_chunk breaks chunks k) bytes chars count
 
 -- the chunk that a span stands at
 module _ (p : Place) (text : List ℕ) (chunks : List (List ℕ)) (cut : IsCutting text chunks) (whole : concat (leaves p) ≡ text) (same : 0 < length text → leaves p ≡ chunks) (chars : ℕ) (all : chars ≡ length text) where
@@ -80,10 +80,10 @@ module _ (p : Place) (text : List ℕ) (chunks : List (List ℕ)) (cut : IsCutti
       let parts = ap length (sym whole ∙ concat-append p.before (p.here ∷ p.after)) ∙ length-append (concat p.before) (p.here ++ concat p.after) in
       nil_from_length (concat p.before) (omega arith)
 
-  pub is_placed : (set : LineBreaks) (k bytes cs breaks : ℕ) → AreBefore set text p.before bytes cs breaks → k ≤ length chunks - 1 → (0 < length text → k ≡ length p.before)
-      → IsPlaced set chunks k (at_chunk p (chars == 0) false false) bytes cs breaks
+  pub is_placed : (breaks : LineBreaks) (k bytes cs count : ℕ) → AreBefore breaks text p.before bytes cs count → k ≤ length chunks - 1 → (0 < length text → k ≡ length p.before)
+      → IsPlaced breaks chunks k (at_chunk p (chars == 0) false false) bytes cs count
   unfolding found_chunk
-  is_placed set k bytes cs breaks a least here = elim (cases_eq chars 0) [
+  is_placed breaks k bytes cs count a least here = elim (cases_eq chars 0) [
     | inl none ↦
         let empty : (chars == 0) ≡ true = grind (arith, nat_tests) in
         let first : k ≡ 0 = omega (arith, no_chunks chunks cut.nonempty (omega (arith, ap length cut.joined))) in
@@ -93,7 +93,7 @@ module _ (p : Place) (text : List ℕ) (chunks : List (List ℕ)) (cut : IsCutti
           before = record {
             bytes_are = a.bytes_are ∙ ap byte_len nothing;
             chars_are = a.chars_are ∙ ap length nothing;
-            breaks_are = a.breaks_are ∙ ap (char_to_line set text) (a.chars_are ∙ ap length nothing) ∙ ap (λ t. char_to_line set t 0) (sym cut.joined);
+            count_is = a.count_is ∙ ap (char_to_line breaks text) (a.chars_are ∙ ap length nothing) ∙ ap (λ t. char_to_line breaks t 0) (sym cut.joined);
           };
         }
     | inr some ↦
@@ -105,7 +105,7 @@ module _ (p : Place) (text : List ℕ) (chunks : List (List ℕ)) (cut : IsCutti
           before = record {
             bytes_are = a.bytes_are ∙ ap byte_len front;
             chars_are = a.chars_are ∙ ap length front;
-            breaks_are = a.breaks_are ∙ ap (char_to_line set text) (a.chars_are ∙ ap length front) ∙ ap (λ t. char_to_line set t (length (front_chunks chunks k))) (sym cut.joined);
+            count_is = a.count_is ∙ ap (char_to_line breaks text) (a.chars_are ∙ ap length front) ∙ ap (λ t. char_to_line breaks t (length (front_chunks chunks k))) (sym cut.joined);
           };
         }
   ]
@@ -146,16 +146,16 @@ module _ (p : Place) (text : List ℕ) (chunks : List (List ℕ)) (cut : IsCutti
   ]
 
 -- the place is past the last chunk at the end of the text, and else that of the chunk that is found
-pub placed_inside : (set : LineBreaks) (chunks : List (List ℕ)) (i n k : ℕ) (s : Sides (List ℕ)) (bytes chars breaks : ℕ) → (i ≡ n → ⊥) → IsPlaced set chunks k s bytes chars breaks
-    → IsPlaced set chunks (if i == n then length chunks else k) s bytes chars breaks
-placed_inside set chunks i n k s bytes chars breaks other placed =
+pub placed_inside : (breaks : LineBreaks) (chunks : List (List ℕ)) (i n k : ℕ) (s : Sides (List ℕ)) (bytes chars count : ℕ) → (i ≡ n → ⊥) → IsPlaced breaks chunks k s bytes chars count
+    → IsPlaced breaks chunks (if i == n then length chunks else k) s bytes chars count
+placed_inside breaks chunks i n k s bytes chars count other placed =
     let e : (i == n) ≡ false = grind (arith, nat_tests) in
     rw e placed
 
 -- the counts of the whole text lie before its end
-pub all_before : (set : LineBreaks) (chunks : List (List ℕ)) (bytes chars breaks : ℕ) → bytes ≡ byte_len (concat chunks) → chars ≡ length (concat chunks) → breaks ≡ break_count set (concat chunks)
-    → LieBefore (found_chunk set chunks (length chunks)) bytes chars breaks
+pub all_before : (breaks : LineBreaks) (chunks : List (List ℕ)) (bytes chars count : ℕ) → bytes ≡ byte_len (concat chunks) → chars ≡ length (concat chunks) → count ≡ break_count breaks (concat chunks)
+    → LieBefore (found_chunk breaks chunks (length chunks)) bytes chars count
 unfolding found_chunk
-all_before set chunks bytes chars breaks b c l =
+all_before breaks chunks bytes chars count b c l =
     let all : front_chunks chunks (length chunks) ≡ concat chunks = ap concat (take_all (length chunks) chunks (omega arith)) in
-    rw all (record { bytes_are = b; chars_are = c; breaks_are = l ∙ sym (char_to_line_end set (concat chunks)) })
+    rw all (record { bytes_are = b; chars_are = c; count_is = l ∙ sym (char_to_line_end breaks (concat chunks)) })

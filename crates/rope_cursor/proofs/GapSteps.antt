@@ -69,7 +69,7 @@ module _ (c : Content) (p : Place) (at i b : ℕ) (kept : IsPart c) (text_is : c
       ∙ sym (drop-append-add (concat p.before) (p.here ++ concat p.after) at) ∙ ap (λ n. drop n (concat p.before ++ (p.here ++ concat p.after))) place ∙ ap (drop i) (sym parts)
 
 -- a line's step from a place
-module _ (set : LineBreaks) (p : Place) (b : ℕ) (g : IsGap p b) (info : TextInfo) (e : info ≡ info_of set (first_line set (drop (byte_to_char p.here b) p.here))) where
+module _ (breaks : LineBreaks) (p : Place) (b : ℕ) (g : IsGap p b) (info : TextInfo) (e : info ≡ info_of breaks (first_line breaks (drop (byte_to_char p.here b) p.here))) where
   rest_apart : parts_crlf (drop (byte_to_char p.here b) p.here) (concat p.after) ≡ false
   rest_apart =
       let j : ℕ = byte_to_char p.here b in
@@ -91,26 +91,26 @@ module _ (set : LineBreaks) (p : Place) (b : ℕ) (g : IsGap p b) (info : TextIn
   pub info_half : AreHalf info
   info_half =
       let j : ℕ = byte_to_char p.here b in
-      half_of set (first_line set (drop j p.here)) info e (omega (arith, parts_fit, size_front (line_start set (drop j p.here) 1) (drop j p.here)))
+      half_of breaks (first_line breaks (drop j p.here)) info e (omega (arith, parts_fit, size_front (line_start breaks (drop j p.here) 1) (drop j p.here)))
 
   pub place_fits : b + info.bytes < 2 ^ 63
   place_fits =
       let j : ℕ = byte_to_char p.here b in
-      omega (arith, parts_fit, g.between, ap (λ x. x.bytes) e, size_front (line_start set (drop j p.here) 1) (drop j p.here))
+      omega (arith, parts_fit, g.between, ap (λ x. x.bytes) e, size_front (line_start breaks (drop j p.here) 1) (drop j p.here))
 
-  pub pass_inside : 0 < info.line_breaks → PassesLine set (halves_at p b).front (halves_at p b).back p (b + info.bytes) info
+  pub pass_inside : 0 < info.break_count → PassesLine breaks (halves_at p b).front (halves_at p b).back p (b + info.bytes) info
   pass_inside some =
       let j : ℕ = byte_to_char p.here b in
       let back : List ℕ = drop j p.here in
       let r : List ℕ = concat p.after in
       let before : List ℕ = concat p.before in
-      let k : ℕ = line_start set back 1 in
+      let k : ℕ = line_start breaks back 1 in
       let low = byte_to_char-le-length p.here b in
-      let within : j + k ≤ length p.here = omega (arith, line_start-le-length set back 1, length-drop j p.here) in
+      let within : j + k ≤ length p.here = omega (arith, line_start-le-length breaks back 1, length-drop j p.here) in
       let size = ap byte_len (take-add j k p.here) ∙ size_two (take j p.here) (take k back) in
       let bytes : b + info.bytes ≡ byte_len (take (j + k) p.here) = omega (arith, size, g.between, ap (λ x. x.bytes) e) in
       let place : byte_to_char p.here (b + info.bytes) ≡ j + k = ap (byte_to_char p.here) bytes ∙ front_place p.here (j + k) within in
-      let line : first_line set (back ++ r) ≡ take k back = first_line-left set back r rest_apart (some_break set back info e some) in
+      let line : first_line breaks (back ++ r) ≡ take k back = first_line-left breaks back r rest_apart (some_break breaks back info e some) in
       record {
         gap = record {
           between = ap (λ m. byte_len (take m p.here)) place ∙ sym bytes;
@@ -119,29 +119,29 @@ module _ (set : LineBreaks) (p : Place) (b : ℕ) (g : IsGap p b) (info : TextIn
         front_is = ap (λ m. before ++ take m p.here) place ∙ ap (λ t. before ++ t) (take-add j k p.here) ∙ sym (append_assoc before (take j p.here) (take k back))
             ∙ ap (λ t. (before ++ take j p.here) ++ t) (sym line);
         back_is = ap (λ t. t ++ r) (sym (take-append-drop k back)) ∙ append_assoc (take k back) (drop k back) r ∙ ap (λ t. t ++ (drop k back ++ r)) (sym line)
-            ∙ ap (λ t. first_line set (back ++ r) ++ (t ++ r)) (drop-drop k j p.here) ∙ ap (λ m. first_line set (back ++ r) ++ (drop m p.here ++ r)) (sym place);
-        counts = e ∙ ap (info_of set) (sym line);
+            ∙ ap (λ t. first_line breaks (back ++ r) ++ (t ++ r)) (drop-drop k j p.here) ∙ ap (λ m. first_line breaks (back ++ r) ++ (drop m p.here ++ r)) (sym place);
+        counts = e ∙ ap (info_of breaks) (sym line);
       }
 
-  module _ (q : Place) (d : ℕ) (more : TextInfo) (few : info.line_breaks ≤ 0) (h : PassesLine set (concat p.before ++ p.here) (concat p.after) q d more) where
+  module _ (q : Place) (d : ℕ) (more : TextInfo) (few : info.break_count ≤ 0) (h : PassesLine breaks (concat p.before ++ p.here) (concat p.after) q d more) where
     pub more_half : AreHalf more
-    more_half = half_of set (first_line set (concat p.after)) more h.counts (omega (arith, parts_fit, size_front (line_start set (concat p.after) 1) (concat p.after)))
+    more_half = half_of breaks (first_line breaks (concat p.after)) more h.counts (omega (arith, parts_fit, size_front (line_start breaks (concat p.after) 1) (concat p.after)))
 
-    pub pass_over : (sum : TextInfo) → sum ≡ info_sum info more → PassesLine set (halves_at p b).front (halves_at p b).back q d sum
+    pub pass_over : (sum : TextInfo) → sum ≡ info_sum info more → PassesLine breaks (halves_at p b).front (halves_at p b).back q d sum
     pass_over sum sum_is =
         let j : ℕ = byte_to_char p.here b in
         let back : List ℕ = drop j p.here in
         let r : List ℕ = concat p.after in
         let before : List ℕ = concat p.before in
-        let none = no_break_at_all set back (let lines = ap (λ x. x.line_breaks) e in omega arith) in
-        let all = first_line-all set back none in
-        let line : first_line set (back ++ r) ≡ back ++ first_line set r = first_line-right set back r rest_apart none in
-        let apart = parts_crlf-take back r (line_start set r 1) rest_apart in
+        let none = no_break_at_all breaks back (let lines = ap (λ x. x.break_count) e in omega arith) in
+        let all = first_line-all breaks back none in
+        let line : first_line breaks (back ++ r) ≡ back ++ first_line breaks r = first_line-right breaks back r rest_apart none in
+        let apart = parts_crlf-take back r (line_start breaks r 1) rest_apart in
         record {
           gap = h.gap;
-          front_is = h.front_is ∙ ap (λ t. t ++ first_line set r) (ap (λ t. before ++ t) (sym (take-append-drop j p.here)) ∙ sym (append_assoc before (take j p.here) back))
-              ∙ append_assoc (before ++ take j p.here) back (first_line set r) ∙ ap (λ t. (before ++ take j p.here) ++ t) (sym line);
-          back_is = ap (λ t. back ++ t) h.back_is ∙ sym (append_assoc back (first_line set r) (halves_at q d).back) ∙ ap (λ t. t ++ (halves_at q d).back) (sym line);
-          counts = sum_is ∙ ap (λ x. info_sum x more) (e ∙ ap (info_of set) all) ∙ ap (λ x. info_sum (info_of set back) x) h.counts
-              ∙ sym (info_of-append_apart set back (first_line set r) apart) ∙ ap (info_of set) (sym line);
+          front_is = h.front_is ∙ ap (λ t. t ++ first_line breaks r) (ap (λ t. before ++ t) (sym (take-append-drop j p.here)) ∙ sym (append_assoc before (take j p.here) back))
+              ∙ append_assoc (before ++ take j p.here) back (first_line breaks r) ∙ ap (λ t. (before ++ take j p.here) ++ t) (sym line);
+          back_is = ap (λ t. back ++ t) h.back_is ∙ sym (append_assoc back (first_line breaks r) (halves_at q d).back) ∙ ap (λ t. t ++ (halves_at q d).back) (sym line);
+          counts = sum_is ∙ ap (λ x. info_sum x more) (e ∙ ap (info_of breaks) all) ∙ ap (λ x. info_sum (info_of breaks back) x) h.counts
+              ∙ sym (info_of-append_apart breaks back (first_line breaks r) apart) ∙ ap (info_of breaks) (sym line);
         }

@@ -50,16 +50,16 @@ pub record AreHalf (info : TextInfo) : Type 0 where
   pub bytes : info.bytes < 2 ^ 63
   pub chars : info.chars < 2 ^ 63
   pub utf16_surrogates : info.utf16_surrogates < 2 ^ 63
-  pub line_breaks : info.line_breaks < 2 ^ 63
+  pub break_count : info.break_count < 2 ^ 63
 
-pub half_of : (set : LineBreaks) (text : List ℕ) (info : TextInfo) → info ≡ info_of set text → byte_len text < 2 ^ 63 → AreHalf info
-half_of set text info e fits =
+pub half_of : (breaks : LineBreaks) (text : List ℕ) (info : TextInfo) → info ≡ info_of breaks text → byte_len text < 2 ^ 63 → AreHalf info
+half_of breaks text info e fits =
     let long = length-le-encodes text in
     record {
       bytes = omega (arith, ap (λ x. x.bytes) e);
       chars = omega (arith, ap (λ x. x.chars) e);
       utf16_surrogates = omega (arith, ap (λ x. x.utf16_surrogates) e, count_by-le-length (λ c. nat_le 65536 c) text);
-      line_breaks = omega (arith, ap (λ x. x.line_breaks) e, break_count-le-length set text);
+      break_count = omega (arith, ap (λ x. x.break_count) e, break_count-le-length breaks text);
     }
 
 -- the size of a text within the chunks
@@ -80,27 +80,27 @@ pub front_between : (here : List ℕ) (n : ℕ) → n ≤ length here → IsBetw
 front_between here n within = ap (λ k. byte_len (take k here)) (front_place here n within)
 
 -- a first line with a break is of a text with one
-pub some_break : (set : LineBreaks) (text : List ℕ) (info : TextInfo) → info ≡ info_of set (first_line set text) → 0 < info.line_breaks → 0 < break_count set text
-some_break set text info e some = elim (cases_lt 0 (break_count set text)) [
+pub some_break : (breaks : LineBreaks) (text : List ℕ) (info : TextInfo) → info ≡ info_of breaks (first_line breaks text) → 0 < info.break_count → 0 < break_count breaks text
+some_break breaks text info e some = elim (cases_lt 0 (break_count breaks text)) [
   | inl less ↦ less
-  | inr none ↦ absurd (let all = ap (break_count set) (first_line-all set text (omega arith)) in let lines = ap (λ x. x.line_breaks) e in omega arith)
+  | inr none ↦ absurd (let all = ap (break_count breaks) (first_line-all breaks text (omega arith)) in let lines = ap (λ x. x.break_count) e in omega arith)
 ]
 
-module _ (set : LineBreaks) (old : Place) where
-  pub passed_none : (info : TextInfo) → AreChunks old → info ≡ info_of set [] → PassedChunks set old old info
+module _ (breaks : LineBreaks) (old : Place) where
+  pub passed_none : (info : TextInfo) → AreChunks old → info ≡ info_of breaks [] → PassedChunks breaks old old info
   passed_none info h e = (
     [],
     record {
       chunks = h;
       front_is = sym (append-nil (concat old.before ++ old.here));
       back_is = refl;
-      none = ap length (break_ends-nil set);
+      none = ap length (break_ends-nil breaks);
       counts = e;
       apart = refl;
     },
   )
 
-  module _ (p q : Place) (info : TextInfo) (text : List ℕ) (h : PassedTexts set old p info text) (n : IsNext p q) where
+  module _ (p q : Place) (info : TextInfo) (text : List ℕ) (h : PassedTexts breaks old p info text) (n : IsNext p q) where
     next_chunks : AreChunks q
     next_chunks = chunks_next p q n h.chunks
 
@@ -116,40 +116,40 @@ module _ (set : LineBreaks) (old : Place) where
     back_next : concat old.after ≡ (text ++ q.here) ++ concat q.after
     back_next = h.back_is ∙ ap (λ t. text ++ t) ahead_is ∙ sym (append_assoc text q.here (concat q.after))
 
-    counts_next : (more sum : TextInfo) (k : ℕ) → more ≡ info_of set (take k q.here) → sum ≡ info_sum info more → sum ≡ info_of set (text ++ take k q.here)
+    counts_next : (more sum : TextInfo) (k : ℕ) → more ≡ info_of breaks (take k q.here) → sum ≡ info_sum info more → sum ≡ info_of breaks (text ++ take k q.here)
     counts_next more sum k e s =
-        s ∙ ap (λ x. info_sum x more) h.counts ∙ ap (λ x. info_sum (info_of set text) x) e
-        ∙ sym (info_of-append_apart set text (take k q.here) (parts_crlf-take text q.here k (apart_front text q.here (concat q.after) joined_apart)))
+        s ∙ ap (λ x. info_sum x more) h.counts ∙ ap (λ x. info_sum (info_of breaks text) x) e
+        ∙ sym (info_of-append_apart breaks text (take k q.here) (parts_crlf-take text q.here k (apart_front text q.here (concat q.after) joined_apart)))
 
     -- a chunk without a break
-    pub passed_more : (more sum : TextInfo) → more ≡ info_of set (first_line set q.here) → sum ≡ info_sum info more → more.line_breaks ≤ 0 → PassedChunks set old q sum
+    pub passed_more : (more sum : TextInfo) → more ≡ info_of breaks (first_line breaks q.here) → sum ≡ info_sum info more → more.break_count ≤ 0 → PassedChunks breaks old q sum
     passed_more more sum e s few =
-        let none = no_break_at_all set q.here (let lines = ap (λ x. x.line_breaks) e in omega arith) in
-        let all = first_line-all set q.here none in
+        let none = no_break_at_all breaks q.here (let lines = ap (λ x. x.break_count) e in omega arith) in
+        let all = first_line-all breaks q.here none in
         let front = apart_front text q.here (concat q.after) joined_apart in (
           text ++ q.here,
           record {
             chunks = next_chunks;
             front_is = ap (λ t. t ++ q.here) (front_next ∙ h.front_is) ∙ append_assoc (concat old.before ++ old.here) text q.here;
             back_is = back_next;
-            none = break_count-apart set text q.here front ∙ (let a = h.none in omega arith);
-            counts = counts_next more sum (line_start set q.here 1) e s ∙ ap (λ t. info_of set (text ++ t)) all;
+            none = break_count-apart breaks text q.here front ∙ (let a = h.none in omega arith);
+            counts = counts_next more sum (line_start breaks q.here 1) e s ∙ ap (λ t. info_of breaks (text ++ t)) all;
             apart = apart_joined text q.here (concat q.after) joined_apart (here_apart q next_chunks);
           },
         )
 
     -- a chunk with a break: the line ends in it
-    pub passes_line : (more sum : TextInfo) → more ≡ info_of set (first_line set q.here) → sum ≡ info_sum info more → 0 < more.line_breaks
-        → PassesLine set (concat old.before ++ old.here) (concat old.after) q more.bytes sum
+    pub passes_line : (more sum : TextInfo) → more ≡ info_of breaks (first_line breaks q.here) → sum ≡ info_sum info more → 0 < more.break_count
+        → PassesLine breaks (concat old.before ++ old.here) (concat old.after) q more.bytes sum
     passes_line more sum e s some =
-        let k : ℕ = line_start set q.here 1 in
-        let within = line_start-le-length set q.here 1 in
+        let k : ℕ = line_start breaks q.here 1 in
+        let within = line_start-le-length breaks q.here 1 in
         let place : byte_to_char q.here more.bytes ≡ k = ap (byte_to_char q.here) (ap (λ x. x.bytes) e) ∙ front_place q.here k within in
-        let breaks = some_break set q.here more e some in
-        let line : first_line set (concat old.after) ≡ text ++ take k q.here =
-        ap (first_line set) (h.back_is ∙ ap (λ t. text ++ t) ahead_is)
-        ∙ first_line-right set text (q.here ++ concat q.after) joined_apart h.none
-        ∙ ap (λ t. text ++ t) (first_line-left set q.here (concat q.after) (here_apart q next_chunks) breaks) in
+        let count = some_break breaks q.here more e some in
+        let line : first_line breaks (concat old.after) ≡ text ++ take k q.here =
+        ap (first_line breaks) (h.back_is ∙ ap (λ t. text ++ t) ahead_is)
+        ∙ first_line-right breaks text (q.here ++ concat q.after) joined_apart h.none
+        ∙ ap (λ t. text ++ t) (first_line-left breaks q.here (concat q.after) (here_apart q next_chunks) count) in
         record {
           gap = record {
             between = ap (λ j. byte_len (take j q.here)) place ∙ sym (ap (λ x. x.bytes) e);
@@ -159,22 +159,22 @@ module _ (set : LineBreaks) (old : Place) where
               ∙ append_assoc (concat old.before ++ old.here) text (take k q.here) ∙ ap (λ t. (concat old.before ++ old.here) ++ t) (sym line);
           back_is = h.back_is ∙ ap (λ t. text ++ t) (ahead_is ∙ ap (λ t. t ++ concat q.after) (sym (take-append-drop k q.here)) ∙ append_assoc (take k q.here) (drop k q.here) (concat q.after))
               ∙ sym (append_assoc text (take k q.here) (drop k q.here ++ concat q.after))
-              ∙ ap (λ t. t ++ (drop k q.here ++ concat q.after)) (sym line) ∙ ap (λ j. first_line set (concat old.after) ++ (drop j q.here ++ concat q.after)) (sym place);
-          counts = counts_next more sum k e s ∙ ap (info_of set) (sym line);
+              ∙ ap (λ t. t ++ (drop k q.here ++ concat q.after)) (sym line) ∙ ap (λ j. first_line breaks (concat old.after) ++ (drop j q.here ++ concat q.after)) (sym place);
+          counts = counts_next more sum k e s ∙ ap (info_of breaks) (sym line);
         }
 
     -- the sums fit
-    pub more_fits : (more : TextInfo) → more ≡ info_of set (first_line set q.here) → AreHalf info × AreHalf more
+    pub more_fits : (more : TextInfo) → more ≡ info_of breaks (first_line breaks q.here) → AreHalf info × AreHalf more
     more_fits more e =
         let whole = ap byte_len (whole_text p) ∙ size_two (concat p.before ++ p.here) (concat p.after) in
         let front = ap byte_len h.front_is ∙ size_two (concat old.before ++ old.here) text in
         let back = ap byte_len ahead_is ∙ size_two q.here (concat q.after) in
-        let line = size_front (line_start set q.here 1) q.here in
-        (half_of set text info h.counts (omega (arith, h.chunks.fits)), half_of set (first_line set q.here) more e (omega (arith, h.chunks.fits)))
+        let line = size_front (line_start breaks q.here 1) q.here in
+        (half_of breaks text info h.counts (omega (arith, h.chunks.fits)), half_of breaks (first_line breaks q.here) more e (omega (arith, h.chunks.fits)))
 
   -- no chunk is left: the line ends with the text
-  pub passes_all : (p : Place) (info : TextInfo) (bytes : ℕ) → PassedChunks set old p info → p.after ≡ [] → bytes ≡ byte_len p.here
-      → PassesLine set (concat old.before ++ old.here) (concat old.after) p bytes info
+  pub passes_all : (p : Place) (info : TextInfo) (bytes : ℕ) → PassedChunks breaks old p info → p.after ≡ [] → bytes ≡ byte_len p.here
+      → PassesLine breaks (concat old.before ++ old.here) (concat old.after) p bytes info
   passes_all p info bytes passed end all =
       let text = passed.0 in
       let h = passed.1 in
@@ -182,7 +182,7 @@ module _ (set : LineBreaks) (old : Place) where
       let place : byte_to_char p.here bytes ≡ length p.here = ap (byte_to_char p.here) size ∙ front_place p.here (length p.here) (omega arith) in
       let none : concat p.after ≡ [] = ap concat end in
       let back : concat old.after ≡ text = h.back_is ∙ ap (λ t. text ++ t) none ∙ append-nil text in
-      let line : first_line set (concat old.after) ≡ text = ap (first_line set) back ∙ first_line-all set text h.none in
+      let line : first_line breaks (concat old.after) ≡ text = ap (first_line breaks) back ∙ first_line-all breaks text h.none in
       let rest : drop (byte_to_char p.here bytes) p.here ++ concat p.after ≡ [] =
       ap (λ j. drop j p.here ++ concat p.after) place ∙ ap (λ t. t ++ concat p.after) (drop_all (length p.here) p.here (omega arith)) ∙ none in
       record {
@@ -192,12 +192,12 @@ module _ (set : LineBreaks) (old : Place) where
         };
         front_is = ap (λ j. concat p.before ++ take j p.here) place ∙ ap (λ t. concat p.before ++ t) (take_all (length p.here) p.here (omega arith)) ∙ h.front_is
             ∙ ap (λ t. (concat old.before ++ old.here) ++ t) (sym line);
-        back_is = back ∙ sym (append-nil text) ∙ ap (λ t. t ++ []) (sym line) ∙ ap (λ t. first_line set (concat old.after) ++ t) (sym rest);
-        counts = h.counts ∙ ap (info_of set) (sym line);
+        back_is = back ∙ sym (append-nil text) ∙ ap (λ t. t ++ []) (sym line) ∙ ap (λ t. first_line breaks (concat old.after) ++ t) (sym rest);
+        counts = h.counts ∙ ap (info_of breaks) (sym line);
       }
 
   -- the same, of the place as it was left
-  pub passes_end : (p q : Place) (info : TextInfo) (bytes : ℕ) → PassedChunks set old p info → q ≡ p → p.after ≡ [] → bytes ≡ byte_len q.here
-      → PassesLine set (concat old.before ++ old.here) (concat old.after) q bytes info
+  pub passes_end : (p q : Place) (info : TextInfo) (bytes : ℕ) → PassedChunks breaks old p info → q ≡ p → p.after ≡ [] → bytes ≡ byte_len q.here
+      → PassesLine breaks (concat old.before ++ old.here) (concat old.after) q bytes info
   passes_end p q info bytes passed same end all =
-      subst (λ r. PassesLine set (concat old.before ++ old.here) (concat old.after) r bytes info) (sym same) (passes_all p info bytes passed end (all ∙ ap (λ r. byte_len r.here) same))
+      subst (λ r. PassesLine breaks (concat old.before ++ old.here) (concat old.after) r bytes info) (sym same) (passes_all p info bytes passed end (all ∙ ap (λ r. byte_len r.here) same))

@@ -33,24 +33,24 @@ apart_chunks : (p q : List (List ℕ)) → KeepsCrlf (p ++ q) → parts_crlf (co
 apart_chunks [] q kept = refl
 apart_chunks (x ∷ p) q kept = apart_joined x (concat p) (concat q) (ap (parts_crlf x) (sym (concat-append p q)) ∙ kept.0) (apart_chunks p q kept.1)
 
-line_start_zero : (set : LineBreaks) (text : List ℕ) → line_start set text 0 ≡ 0
-line_start_zero set text = elim (cases_lt 0 (line_start set text 0)) [
-  | inl some ↦ absurd (let early = char_to_line_early set text 0 0 some in omega arith)
+line_start_zero : (breaks : LineBreaks) (text : List ℕ) → line_start breaks text 0 ≡ 0
+line_start_zero breaks text = elim (cases_lt 0 (line_start breaks text 0)) [
+  | inl some ↦ absurd (let early = char_to_line_early breaks text 0 0 some in omega arith)
   | inr none ↦ omega arith
 ]
 
-line_start_some : (set : LineBreaks) (text : List ℕ) (l : ℕ) → 0 < l → l ≤ break_count set text → 0 < line_start set text l
-line_start_some set text l some within = elim (cases_lt 0 (line_start set text l)) [
+line_start_some : (breaks : LineBreaks) (text : List ℕ) (l : ℕ) → 0 < l → l ≤ break_count breaks text → 0 < line_start breaks text l
+line_start_some breaks text l some within = elim (cases_lt 0 (line_start breaks text l)) [
   | inl more ↦ more
   | inr none ↦
-      let zero : line_start set text l ≡ 0 = omega arith in
-      let here = ap (char_to_line set text) zero in
-      absurd (omega (arith, char_to_line-line_start set text l (omega arith), char_to_line_start set text))
+      let zero : line_start breaks text l ≡ 0 = omega arith in
+      let here = ap (char_to_line breaks text) zero in
+      absurd (omega (arith, char_to_line-line_start breaks text l (omega arith), char_to_line_start breaks text))
 ]
 
 -- too many breaks to pass: the start
-pub last_start_none : (set : LineBreaks) (text : List ℕ) (k : ℕ) → break_count set text ≤ k → last_start set text k ≡ 0
-last_start_none set text k few = ap (line_start set text) (let e : break_count set text - k ≡ 0 = omega arith in e) ∙ line_start_zero set text
+pub last_start_none : (breaks : LineBreaks) (text : List ℕ) (k : ℕ) → break_count breaks text ≤ k → last_start breaks text k ≡ 0
+last_start_none breaks text k few = ap (line_start breaks text) (let e : break_count breaks text - k ≡ 0 = omega arith in e) ∙ line_start_zero breaks text
 
 pub chunks_prev : (p q : Place) → IsNext q p → AreChunks p → AreChunks q
 chunks_prev p q n h = record {
@@ -59,9 +59,9 @@ chunks_prev p q n h = record {
 }
 
 -- one text x of the chunk here, with y behind it in the chunk, after the texts q were passed
-module _ (set : LineBreaks) (skip left : ℕ) (front back x y q : List ℕ) (p : Place) (start : ℕ) (more info : TextInfo) (chunks : AreChunks p)
-    (here_is : p.here ≡ x ++ y) (behind : y ++ concat p.after ≡ q ++ back) (front_is : front ≡ (concat p.before ++ x) ++ q) (few : break_count set q + left ≡ skip) (apart : parts_crlf x q ≡ false)
-    (start_is : start ≡ byte_len (take (last_start set x left) x)) (counts : more ≡ info_of set (drop (last_start set x left) x)) (passed : info ≡ info_of set q) where
+module _ (breaks : LineBreaks) (skip left : ℕ) (front back x y q : List ℕ) (p : Place) (start : ℕ) (more info : TextInfo) (chunks : AreChunks p)
+    (here_is : p.here ≡ x ++ y) (behind : y ++ concat p.after ≡ q ++ back) (front_is : front ≡ (concat p.before ++ x) ++ q) (few : break_count breaks q + left ≡ skip) (apart : parts_crlf x q ≡ false)
+    (start_is : start ≡ byte_len (take (last_start breaks x left) x)) (counts : more ≡ info_of breaks (drop (last_start breaks x left) x)) (passed : info ≡ info_of breaks q) where
   ahead_is : p.here ++ concat p.after ≡ (x ++ q) ++ back
   ahead_is = ap (λ t. t ++ concat p.after) here_is ∙ append_assoc x y (concat p.after) ∙ ap (λ t. x ++ t) behind ∙ sym (append_assoc x q back)
 
@@ -71,39 +71,39 @@ module _ (set : LineBreaks) (skip left : ℕ) (front back x y q : List ℕ) (p :
   whole_is : front ≡ concat p.before ++ (x ++ q)
   whole_is = front_is ∙ append_assoc (concat p.before) x q
 
-  within : last_start set x left ≤ length x
-  within = line_start-le-length set x (break_count set x - left)
+  within : last_start breaks x left ≤ length x
+  within = line_start-le-length breaks x (break_count breaks x - left)
 
-  last_apart : parts_crlf (drop (last_start set x left) x) q ≡ false
+  last_apart : parts_crlf (drop (last_start breaks x left) x) q ≡ false
   last_apart =
-      let k : ℕ = last_start set x left in
+      let k : ℕ = last_start breaks x left in
       apart_back (take k x) (drop k x) q (ap (λ t. parts_crlf t q) (take-append-drop k x) ∙ apart)
 
-  sum_is : (sum : TextInfo) → sum ≡ info_sum more info → sum ≡ info_of set (drop (last_start set x left) x ++ q)
+  sum_is : (sum : TextInfo) → sum ≡ info_sum more info → sum ≡ info_of breaks (drop (last_start breaks x left) x ++ q)
   sum_is sum s =
-      let rest : List ℕ = drop (last_start set x left) x in
-      s ∙ ap (λ t. info_sum t info) counts ∙ ap (λ t. info_sum (info_of set rest) t) passed ∙ sym (info_of-append_apart set rest q last_apart)
+      let rest : List ℕ = drop (last_start breaks x left) x in
+      s ∙ ap (λ t. info_sum t info) counts ∙ ap (λ t. info_sum (info_of breaks rest) t) passed ∙ sym (info_of-append_apart breaks rest q last_apart)
 
   -- the line starts in it
-  pub found_back : (sum : TextInfo) → sum ≡ info_sum more info → 0 < start → PassesBack set skip front back p start sum
+  pub found_back : (sum : TextInfo) → sum ≡ info_sum more info → 0 < start → PassesBack breaks skip front back p start sum
   found_back sum s some =
-      let k : ℕ = last_start set x left in
+      let k : ℕ = last_start breaks x left in
       let before : List ℕ = concat p.before in
       let after : List ℕ = concat p.after in
-      let enough : left < break_count set x = elim (cases_lt left (break_count set x)) [
+      let enough : left < break_count breaks x = elim (cases_lt left (break_count breaks x)) [
         | inl less ↦ less
-        | inr past ↦ absurd (let none = ap (λ n. byte_len (take n x)) (last_start_none set x left past) in omega arith)
+        | inr past ↦ absurd (let none = ap (λ n. byte_len (take n x)) (last_start_none breaks x left past) in omega arith)
       ] in
-      let rest : skip - break_count set q ≡ left = omega arith in
+      let rest : skip - break_count breaks q ≡ left = omega arith in
       let first_apart = apart_front before x q before_apart in
-      let line : last_start set front skip ≡ length before + k =
-      ap (λ t. last_start set t skip) front_is ∙ last_start-left set (before ++ x) q skip (apart_joined before x q before_apart apart) (omega arith)
-      ∙ ap (last_start set (before ++ x)) rest ∙ last_start-right set before x left first_apart enough in
+      let line : last_start breaks front skip ≡ length before + k =
+      ap (λ t. last_start breaks t skip) front_is ∙ last_start-left breaks (before ++ x) q skip (apart_joined before x q before_apart apart) (omega arith)
+      ∙ ap (last_start breaks (before ++ x)) rest ∙ last_start-right breaks before x left first_apart enough in
       let inside : take k p.here ≡ take k x = ap (take k) here_is ∙ take-append-le k x y within in
       let bytes : start ≡ byte_len (take k p.here) = start_is ∙ ap byte_len (sym inside) in
       let place : byte_to_char p.here start ≡ k =
       ap (byte_to_char p.here) bytes ∙ front_place p.here k (let long = ap length here_is in let two = length-append x y in let l = within in omega arith) in
-      let last : drop (last_start set front skip) front ≡ drop k x ++ q =
+      let last : drop (last_start breaks front skip) front ≡ drop k x ++ q =
       ap (λ n. drop n front) line ∙ ap (drop (length before + k)) whole_is ∙ drop-append-add before (x ++ q) k ∙ drop-append-le k x q within in
       record {
         gap = record {
@@ -114,95 +114,95 @@ module _ (set : LineBreaks) (skip left : ℕ) (front back x y q : List ℕ) (p :
             ∙ sym (take-append-add before (x ++ q) k) ∙ ap (take (length before + k)) (sym whole_is) ∙ ap (λ n. take n front) (sym line);
         back_is = ap (λ m. drop m p.here ++ after) place ∙ ap (λ t. drop k t ++ after) here_is ∙ ap (λ t. t ++ after) (drop-append-le k x y within)
             ∙ append_assoc (drop k x) y after ∙ ap (λ t. drop k x ++ t) behind ∙ sym (append_assoc (drop k x) q back) ∙ ap (λ t. t ++ back) (sym last);
-        counts = sum_is sum s ∙ ap (info_of set) (sym last);
+        counts = sum_is sum s ∙ ap (info_of breaks) (sym last);
       }
 
   -- it has too few breaks
-  none_inside : start ≤ 0 → last_start set x left ≡ 0
+  none_inside : start ≤ 0 → last_start breaks x left ≡ 0
   none_inside none =
-      let k : ℕ = last_start set x left in
+      let k : ℕ = last_start breaks x left in
       omega (arith, start_is, length-le-encodes (take k x), length-take-le k x within)
 
-  few_inside : start ≤ 0 → break_count set x ≤ left
-  few_inside none = elim (cases_lt left (break_count set x)) [
+  few_inside : start ≤ 0 → break_count breaks x ≤ left
+  few_inside none = elim (cases_lt left (break_count breaks x)) [
     | inr past ↦ past
-    | inl less ↦ absurd (let some = line_start_some set x (break_count set x - left) (omega arith) (omega arith) in let zero = none_inside none in omega arith)
+    | inl less ↦ absurd (let some = line_start_some breaks x (break_count breaks x - left) (omega arith) (omega arith) in let zero = none_inside none in omega arith)
   ]
 
-  all_inside : start ≤ 0 → more ≡ info_of set x
-  all_inside none = counts ∙ ap (λ n. info_of set (drop n x)) (none_inside none)
+  all_inside : start ≤ 0 → more ≡ info_of breaks x
+  all_inside none = counts ∙ ap (λ n. info_of breaks (drop n x)) (none_inside none)
 
-  pub breaks_left : start ≤ 0 → more.line_breaks ≤ left
-  breaks_left none = let few = few_inside none in omega (arith, ap (λ t. t.line_breaks) (all_inside none))
+  pub breaks_left : start ≤ 0 → more.break_count ≤ left
+  breaks_left none = let few = few_inside none in omega (arith, ap (λ t. t.break_count) (all_inside none))
 
-  pub over_back : (sum : TextInfo) → sum ≡ info_sum more info → start ≤ 0 → PassedBack set skip front back p sum (left - more.line_breaks) (x ++ q)
+  pub over_back : (sum : TextInfo) → sum ≡ info_sum more info → start ≤ 0 → PassedBack breaks skip front back p sum (left - more.break_count) (x ++ q)
   over_back sum s none =
       let inside = few_inside none in
       record {
         chunks = chunks;
         front_is = whole_is;
         back_is = ahead_is;
-        few = omega (arith, break_count-apart set x q apart, ap (λ t. t.line_breaks) (all_inside none));
-        counts = sum_is sum s ∙ ap (λ n. info_of set (drop n x ++ q)) (none_inside none);
+        few = omega (arith, break_count-apart breaks x q apart, ap (λ t. t.break_count) (all_inside none));
+        counts = sum_is sum s ∙ ap (λ n. info_of breaks (drop n x ++ q)) (none_inside none);
       }
 
   pub both_half : AreHalf more × AreHalf info
   both_half =
-      let k : ℕ = last_start set x left in
+      let k : ℕ = last_start breaks x left in
       let whole = ap byte_len (whole_text p) ∙ ap byte_len (append_assoc (concat p.before) p.here (concat p.after)) ∙ size_two (concat p.before) (p.here ++ concat p.after) in
       let parts = ap byte_len ahead_is ∙ size_two (x ++ q) back in
       let two = size_two x q in
       let split = ap byte_len (sym (take-append-drop k x)) ∙ size_two (take k x) (drop k x) in
-      (half_of set (drop k x) more counts (omega (arith, chunks.fits)), half_of set q info passed (omega (arith, chunks.fits)))
+      (half_of breaks (drop k x) more counts (omega (arith, chunks.fits)), half_of breaks q info passed (omega (arith, chunks.fits)))
 
 -- what was passed, and then a line's start further back
-pub compose_back : (set : LineBreaks) (skip left : ℕ) (front back q : List ℕ) (p new : Place) (b : ℕ) (info more sum : TextInfo) → PassedBack set skip front back p info left q
-    → PassesBack set left (concat p.before) (p.here ++ concat p.after) new b more → sum ≡ info_sum more info → PassesBack set skip front back new b sum
-compose_back set skip left front back q p new b info more sum h r s =
+pub compose_back : (breaks : LineBreaks) (skip left : ℕ) (front back q : List ℕ) (p new : Place) (b : ℕ) (info more sum : TextInfo) → PassedBack breaks skip front back p info left q
+    → PassesBack breaks left (concat p.before) (p.here ++ concat p.after) new b more → sum ≡ info_sum more info → PassesBack breaks skip front back new b sum
+compose_back breaks skip left front back q p new b info more sum h r s =
     let before : List ℕ = concat p.before in
-    let k : ℕ = last_start set before left in
-    let within = line_start-le-length set before (break_count set before - left) in
+    let k : ℕ = last_start breaks before left in
+    let within = line_start-le-length breaks before (break_count breaks before - left) in
     let apart : parts_crlf before q ≡ false = apart_front before q back (ap (parts_crlf before) (sym h.back_is) ∙ apart_chunks p.before (p.here ∷ p.after) h.chunks.kept) in
-    let rest : skip - break_count set q ≡ left = (let f = h.few in omega arith) in
-    let line : last_start set front skip ≡ k =
-    ap (λ t. last_start set t skip) h.front_is ∙ last_start-left set before q skip apart (let f = h.few in omega arith) ∙ ap (last_start set before) rest in
-    let last : drop (last_start set front skip) front ≡ drop k before ++ q = ap (λ n. drop n front) line ∙ ap (drop k) h.front_is ∙ drop-append-le k before q within in
+    let rest : skip - break_count breaks q ≡ left = (let f = h.few in omega arith) in
+    let line : last_start breaks front skip ≡ k =
+    ap (λ t. last_start breaks t skip) h.front_is ∙ last_start-left breaks before q skip apart (let f = h.few in omega arith) ∙ ap (last_start breaks before) rest in
+    let last : drop (last_start breaks front skip) front ≡ drop k before ++ q = ap (λ n. drop n front) line ∙ ap (drop k) h.front_is ∙ drop-append-le k before q within in
     let meet = apart_back (take k before) (drop k before) q (ap (λ t. parts_crlf t q) (take-append-drop k before) ∙ apart) in
     record {
       gap = r.gap;
       front_is = r.front_is ∙ sym (take-append-le k before q within) ∙ ap (take k) (sym h.front_is) ∙ ap (λ n. take n front) (sym line);
       back_is = r.back_is ∙ ap (λ t. drop k before ++ t) h.back_is ∙ sym (append_assoc (drop k before) q back) ∙ ap (λ t. t ++ back) (sym last);
-      counts = s ∙ ap (λ t. info_sum t info) r.counts ∙ ap (λ t. info_sum (info_of set (drop k before)) t) h.counts ∙ sym (info_of-append_apart set (drop k before) q meet) ∙ ap (info_of set) (sym last);
+      counts = s ∙ ap (λ t. info_sum t info) r.counts ∙ ap (λ t. info_sum (info_of breaks (drop k before)) t) h.counts ∙ sym (info_of-append_apart breaks (drop k before) q meet) ∙ ap (info_of breaks) (sym last);
     }
 
-no_breaks : (set : LineBreaks) → break_count set [] ≡ 0
-no_breaks set = ap length (break_ends-nil set)
+no_breaks : (breaks : LineBreaks) → break_count breaks [] ≡ 0
+no_breaks breaks = ap length (break_ends-nil breaks)
 
 -- nothing was passed yet
-pub none_back : (set : LineBreaks) (skip : ℕ) (old : Place) (info : TextInfo) → AreChunks old → info ≡ info_of set [] → PassedBackTo set skip old old info skip
-none_back set skip old info h e = (
+pub none_back : (breaks : LineBreaks) (skip : ℕ) (old : Place) (info : TextInfo) → AreChunks old → info ≡ info_of breaks [] → PassedBackTo breaks skip old old info skip
+none_back breaks skip old info h e = (
   [],
   record {
     chunks = h;
     front_is = sym (append-nil (concat old.before));
     back_is = refl;
-    few = omega (arith, no_breaks set);
+    few = omega (arith, no_breaks breaks);
     counts = e;
   },
 )
 
 -- the start of the text
-pub end_back : (set : LineBreaks) (skip left : ℕ) (front back text : List ℕ) (p q : Place) (info : TextInfo) → PassedBack set skip front back p info left text → q ≡ p → p.before ≡ []
-    → PassesBack set skip front back q 0 info
-end_back set skip left front back text p q info h same none = subst (λ r. PassesBack set skip front back r 0 info) (sym same) at_start
+pub end_back : (breaks : LineBreaks) (skip left : ℕ) (front back text : List ℕ) (p q : Place) (info : TextInfo) → PassedBack breaks skip front back p info left text → q ≡ p → p.before ≡ []
+    → PassesBack breaks skip front back q 0 info
+end_back breaks skip left front back text p q info h same none = subst (λ r. PassesBack breaks skip front back r 0 info) (sym same) at_start
   where
-    at_start : PassesBack set skip front back p 0 info
+    at_start : PassesBack breaks skip front back p 0 info
     at_start =
         let place = front_place p.here 0 (omega arith) in
         let before : concat p.before ≡ [] = ap concat none in
         let all : front ≡ text = h.front_is ∙ ap (λ t. t ++ text) before in
-        let line : last_start set front skip ≡ 0 = last_start_none set front skip (omega (arith, h.few, ap (break_count set) all)) in
-        let last : drop (last_start set front skip) front ≡ text = ap (λ n. drop n front) line ∙ all in
+        let line : last_start breaks front skip ≡ 0 = last_start_none breaks front skip (omega (arith, h.few, ap (break_count breaks) all)) in
+        let last : drop (last_start breaks front skip) front ≡ text = ap (λ n. drop n front) line ∙ all in
         record {
           gap = record {
             between = ap (λ m. byte_len (take m p.here)) place;
@@ -210,12 +210,12 @@ end_back set skip left front back text p q info h same none = subst (λ r. Passe
           };
           front_is = ap (λ m. concat p.before ++ take m p.here) place ∙ ap (λ t. t ++ []) before ∙ sym (ap (λ n. take n front) line);
           back_is = ap (λ m. drop m p.here ++ concat p.after) place ∙ h.back_is ∙ ap (λ t. t ++ back) (sym last);
-          counts = h.counts ∙ ap (info_of set) (sym last);
+          counts = h.counts ∙ ap (info_of breaks) (sym last);
         }
 
 -- a chunk further back
-module _ (set : LineBreaks) (skip left : ℕ) (front back text : List ℕ) (p q : Place) (start : ℕ) (more info : TextInfo) (h : PassedBack set skip front back p info left text) (n : IsNext q p)
-    (start_is : start ≡ byte_len (take (last_start set q.here left) q.here)) (counts : more ≡ info_of set (drop (last_start set q.here left) q.here)) where
+module _ (breaks : LineBreaks) (skip left : ℕ) (front back text : List ℕ) (p q : Place) (start : ℕ) (more info : TextInfo) (h : PassedBack breaks skip front back p info left text) (n : IsNext q p)
+    (start_is : start ≡ byte_len (take (last_start breaks q.here left) q.here)) (counts : more ≡ info_of breaks (drop (last_start breaks q.here left) q.here)) where
   chunk_behind : concat q.after ≡ text ++ back
   chunk_behind = ap concat n.after ∙ h.back_is
 
@@ -225,61 +225,61 @@ module _ (set : LineBreaks) (skip left : ℕ) (front back text : List ℕ) (p q 
   chunk_apart : parts_crlf q.here text ≡ false
   chunk_apart = apart_front q.here text back (ap (parts_crlf q.here) (sym chunk_behind) ∙ here_apart q (chunks_prev p q n h.chunks))
 
-  pub chunk_found : (sum : TextInfo) → sum ≡ info_sum more info → 0 < start → PassesBack set skip front back q start sum
-  chunk_found = found_back set skip left front back q.here [] text q start more info (chunks_prev p q n h.chunks) (sym (append-nil q.here)) chunk_behind chunk_front h.few chunk_apart start_is counts h.counts
+  pub chunk_found : (sum : TextInfo) → sum ≡ info_sum more info → 0 < start → PassesBack breaks skip front back q start sum
+  chunk_found = found_back breaks skip left front back q.here [] text q start more info (chunks_prev p q n h.chunks) (sym (append-nil q.here)) chunk_behind chunk_front h.few chunk_apart start_is counts h.counts
 
-  pub chunk_left : start ≤ 0 → more.line_breaks ≤ left
-  chunk_left = breaks_left set skip left front back q.here [] text q start more info (chunks_prev p q n h.chunks) (sym (append-nil q.here)) chunk_behind chunk_front h.few chunk_apart start_is counts h.counts
+  pub chunk_left : start ≤ 0 → more.break_count ≤ left
+  chunk_left = breaks_left breaks skip left front back q.here [] text q start more info (chunks_prev p q n h.chunks) (sym (append-nil q.here)) chunk_behind chunk_front h.few chunk_apart start_is counts h.counts
 
-  pub chunk_over : (sum : TextInfo) → sum ≡ info_sum more info → start ≤ 0 → PassedBack set skip front back q sum (left - more.line_breaks) (q.here ++ text)
-  chunk_over = over_back set skip left front back q.here [] text q start more info (chunks_prev p q n h.chunks) (sym (append-nil q.here)) chunk_behind chunk_front h.few chunk_apart start_is counts h.counts
+  pub chunk_over : (sum : TextInfo) → sum ≡ info_sum more info → start ≤ 0 → PassedBack breaks skip front back q sum (left - more.break_count) (q.here ++ text)
+  chunk_over = over_back breaks skip left front back q.here [] text q start more info (chunks_prev p q n h.chunks) (sym (append-nil q.here)) chunk_behind chunk_front h.few chunk_apart start_is counts h.counts
 
   pub chunk_half : AreHalf more × AreHalf info
-  chunk_half = both_half set skip left front back q.here [] text q start more info (chunks_prev p q n h.chunks) (sym (append-nil q.here)) chunk_behind chunk_front h.few chunk_apart start_is counts h.counts
+  chunk_half = both_half breaks skip left front back q.here [] text q start more info (chunks_prev p q n h.chunks) (sym (append-nil q.here)) chunk_behind chunk_front h.few chunk_apart start_is counts h.counts
 
-nothing_more : (set : LineBreaks) (info : TextInfo) → info ≡ info_sum info (info_of set [])
-nothing_more set info = same_info info (info_sum info (info_of set [])) (omega arith) (omega arith) (omega arith) (omega (arith, no_breaks set))
+nothing_more : (breaks : LineBreaks) (info : TextInfo) → info ≡ info_sum info (info_of breaks [])
+nothing_more breaks info = same_info info (info_sum info (info_of breaks [])) (omega arith) (omega arith) (omega arith) (omega (arith, no_breaks breaks))
 
 -- the chunk here, up to a place in it
-module _ (set : LineBreaks) (skip : ℕ) (p : Place) (b start : ℕ) (more : TextInfo) (g : IsGap p b)
-    (start_is : start ≡ byte_len (take (last_start set (take (byte_to_char p.here b) p.here) skip) (take (byte_to_char p.here b) p.here)))
-    (counts : more ≡ info_of set (drop (last_start set (take (byte_to_char p.here b) p.here) skip) (take (byte_to_char p.here b) p.here))) where
+module _ (breaks : LineBreaks) (skip : ℕ) (p : Place) (b start : ℕ) (more : TextInfo) (g : IsGap p b)
+    (start_is : start ≡ byte_len (take (last_start breaks (take (byte_to_char p.here b) p.here) skip) (take (byte_to_char p.here b) p.here)))
+    (counts : more ≡ info_of breaks (drop (last_start breaks (take (byte_to_char p.here b) p.here) skip) (take (byte_to_char p.here b) p.here))) where
   here_split : p.here ≡ take (byte_to_char p.here b) p.here ++ drop (byte_to_char p.here b) p.here
   here_split = sym (take-append-drop (byte_to_char p.here b) p.here)
 
-  here_few : break_count set [] + skip ≡ skip
-  here_few = omega (arith, no_breaks set)
+  here_few : break_count breaks [] + skip ≡ skip
+  here_few = omega (arith, no_breaks breaks)
 
   here_front : concat p.before ++ take (byte_to_char p.here b) p.here ≡ (concat p.before ++ take (byte_to_char p.here b) p.here) ++ []
   here_front = sym (append-nil (concat p.before ++ take (byte_to_char p.here b) p.here))
 
-  pub gap_found : 0 < start → PassesBack set skip (halves_at p b).front (halves_at p b).back p start more
-  gap_found = found_back set skip skip (halves_at p b).front (halves_at p b).back (take (byte_to_char p.here b) p.here) (drop (byte_to_char p.here b) p.here) [] p start more (info_of set [])
-      g.chunks here_split refl here_front here_few (never (ends_in_cr (take (byte_to_char p.here b) p.here))) start_is counts refl more (nothing_more set more)
+  pub gap_found : 0 < start → PassesBack breaks skip (halves_at p b).front (halves_at p b).back p start more
+  gap_found = found_back breaks skip skip (halves_at p b).front (halves_at p b).back (take (byte_to_char p.here b) p.here) (drop (byte_to_char p.here b) p.here) [] p start more (info_of breaks [])
+      g.chunks here_split refl here_front here_few (never (ends_in_cr (take (byte_to_char p.here b) p.here))) start_is counts refl more (nothing_more breaks more)
 
-  pub gap_left : start ≤ 0 → more.line_breaks ≤ skip
-  gap_left = breaks_left set skip skip (halves_at p b).front (halves_at p b).back (take (byte_to_char p.here b) p.here) (drop (byte_to_char p.here b) p.here) [] p start more (info_of set [])
+  pub gap_left : start ≤ 0 → more.break_count ≤ skip
+  gap_left = breaks_left breaks skip skip (halves_at p b).front (halves_at p b).back (take (byte_to_char p.here b) p.here) (drop (byte_to_char p.here b) p.here) [] p start more (info_of breaks [])
       g.chunks here_split refl here_front here_few (never (ends_in_cr (take (byte_to_char p.here b) p.here))) start_is counts refl
 
   pub gap_half : AreHalf more
-  gap_half = (both_half set skip skip (halves_at p b).front (halves_at p b).back (take (byte_to_char p.here b) p.here) (drop (byte_to_char p.here b) p.here) [] p start more (info_of set [])
+  gap_half = (both_half breaks skip skip (halves_at p b).front (halves_at p b).back (take (byte_to_char p.here b) p.here) (drop (byte_to_char p.here b) p.here) [] p start more (info_of breaks [])
       g.chunks here_split refl here_front here_few (never (ends_in_cr (take (byte_to_char p.here b) p.here))) start_is counts refl).0
 
-  gap_over : start ≤ 0 → PassedBack set skip (halves_at p b).front (halves_at p b).back p more (skip - more.line_breaks) (take (byte_to_char p.here b) p.here ++ [])
-  gap_over = over_back set skip skip (halves_at p b).front (halves_at p b).back (take (byte_to_char p.here b) p.here) (drop (byte_to_char p.here b) p.here) [] p start more (info_of set [])
-      g.chunks here_split refl here_front here_few (never (ends_in_cr (take (byte_to_char p.here b) p.here))) start_is counts refl more (nothing_more set more)
+  gap_over : start ≤ 0 → PassedBack breaks skip (halves_at p b).front (halves_at p b).back p more (skip - more.break_count) (take (byte_to_char p.here b) p.here ++ [])
+  gap_over = over_back breaks skip skip (halves_at p b).front (halves_at p b).back (take (byte_to_char p.here b) p.here) (drop (byte_to_char p.here b) p.here) [] p start more (info_of breaks [])
+      g.chunks here_split refl here_front here_few (never (ends_in_cr (take (byte_to_char p.here b) p.here))) start_is counts refl more (nothing_more breaks more)
 
-  module _ (new : Place) (d : ℕ) (other : TextInfo) (none : start ≤ 0) (r : PassesBack set (skip - more.line_breaks) (concat p.before) (p.here ++ concat p.after) new d other) where
+  module _ (new : Place) (d : ℕ) (other : TextInfo) (none : start ≤ 0) (r : PassesBack breaks (skip - more.break_count) (concat p.before) (p.here ++ concat p.after) new d other) where
     pub other_half : AreHalf other
     other_half =
-        let k : ℕ = last_start set (concat p.before) (skip - more.line_breaks) in
+        let k : ℕ = last_start breaks (concat p.before) (skip - more.break_count) in
         let whole = ap byte_len (whole_text p) ∙ ap byte_len (append_assoc (concat p.before) p.here (concat p.after)) ∙ size_two (concat p.before) (p.here ++ concat p.after) in
         let split = ap byte_len (sym (take-append-drop k (concat p.before))) ∙ size_two (take k (concat p.before)) (drop k (concat p.before)) in
-        half_of set (drop k (concat p.before)) other r.counts (omega (arith, g.chunks.fits))
+        half_of breaks (drop k (concat p.before)) other r.counts (omega (arith, g.chunks.fits))
 
-    pub gap_composed : (sum : TextInfo) → sum ≡ info_sum other more → PassesBack set skip (halves_at p b).front (halves_at p b).back new d sum
+    pub gap_composed : (sum : TextInfo) → sum ≡ info_sum other more → PassesBack breaks skip (halves_at p b).front (halves_at p b).back new d sum
     gap_composed sum s =
-        compose_back set skip (skip - more.line_breaks) (halves_at p b).front (halves_at p b).back (take (byte_to_char p.here b) p.here ++ []) p new d more other sum (gap_over none) r s
+        compose_back breaks skip (skip - more.break_count) (halves_at p b).front (halves_at p b).back (take (byte_to_char p.here b) p.here ++ []) p new d more other sum (gap_over none) r s
 
 -- a place that parts no CR LF of the text parts none of the chunk
 pub gap_apart : (p : Place) (b : ℕ) → parts_crlf (halves_at p b).front (halves_at p b).back ≡ false → parts_crlf (take (byte_to_char p.here b) p.here) (drop (byte_to_char p.here b) p.here) ≡ false

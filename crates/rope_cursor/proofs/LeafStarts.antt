@@ -90,19 +90,19 @@ module _ (t : Tree) (start end : TextInfo) (p : Place) (info : TextInfo) (tree :
         ends = omega (arith, chars_are);
       }
 
-  lines_before : info.line_breaks - start.line_breaks ≡ char_to_line t.breaks (slice_range (text t) start.chars end.chars) (info.chars - start.chars)
+  lines_before : info.break_count - start.break_count ≡ char_to_line t.breaks (slice_range (text t) start.chars end.chars) (info.chars - start.chars)
   unfolding found_chunk
   lines_before =
       let part = leaf_in t start end p.here info tree s (length p.before) (index_within p t e) (here_is p t e) (i ∙ ap (info_of t.breaks) (front_is p t e)) starts ends in
-      let f = part.found _ (info.bytes - start.bytes) (info.chars - start.chars) (info.line_breaks - start.line_breaks) refl refl refl refl in
-      f.breaks_are ∙ ap (char_to_line t.breaks (concat (clip t.leaves start.chars end.chars))) (sym f.chars_are)
+      let f = part.found _ (info.bytes - start.bytes) (info.chars - start.chars) (info.break_count - start.break_count) refl refl refl refl in
+      f.count_is ∙ ap (char_to_line t.breaks (concat (clip t.leaves start.chars end.chars))) (sym f.chars_are)
       ∙ ap (λ x. char_to_line t.breaks x (info.chars - start.chars)) (concat-clip t.leaves start.chars end.chars)
 
-  pub are_before : AreBefore t.breaks (slice_range (text t) start.chars end.chars) (clip p.before start.chars end.chars) (info.bytes - start.bytes) (info.chars - start.chars) (info.line_breaks - start.line_breaks)
+  pub are_before : AreBefore t.breaks (slice_range (text t) start.chars end.chars) (clip p.before start.chars end.chars) (info.bytes - start.bytes) (info.chars - start.chars) (info.break_count - start.break_count)
   are_before = record {
     bytes_are = sym (bytes_before_within p info.bytes (record { bytes = start.bytes; chars = start.chars }) (record { bytes = end.bytes; chars = end.chars }) within);
     chars_are = omega (arith, chars_are, s.some, ap length (concat-clip p.before start.chars end.chars), length-slice_range (concat p.before) start.chars end.chars);
-    breaks_are = lines_before;
+    count_is = lines_before;
   }
 
   cut_text : concat (clip p.before start.chars end.chars) ++ slice_range p.here (start.chars - length (concat p.before)) (end.chars - length (concat p.before)) ≡ slice_range (concat p.before ++ p.here) start.chars end.chars

@@ -30,63 +30,63 @@ use Rattle.rope_part.proofs.Measured.{same_info}
 use Rattle.rope_cursor.proofs.PartsBetween.{char_at_byte}
 
 -- a line that ends before the text does has one break
-pub one_break : (set : LineBreaks) (text : List ℕ) → byte_len (first_line set text) < byte_len text → break_count set (first_line set text) ≡ 1
-one_break set text less = elim (cases_lt 0 (break_count set text)) [
-  | inl some ↦ omega (arith, break_count-front set text 1 (omega arith))
-  | inr none ↦ absurd (let all = ap byte_len (first_line-all set text (omega arith)) in omega arith)
+pub one_break : (breaks : LineBreaks) (text : List ℕ) → byte_len (first_line breaks text) < byte_len text → break_count breaks (first_line breaks text) ≡ 1
+one_break breaks text less = elim (cases_lt 0 (break_count breaks text)) [
+  | inl some ↦ omega (arith, break_count-front breaks text 1 (omega arith))
+  | inr none ↦ absurd (let all = ap byte_len (first_line-all breaks text (omega arith)) in omega arith)
 ]
 
 -- a line that ends with the text is the text
-pub only_line : (set : LineBreaks) (text : List ℕ) → byte_len text ≤ byte_len (first_line set text) → first_line set text ≡ text
-only_line set text past = elim (cases_lt (line_start set text 1) (length text)) [
-  | inr end ↦ take_all (line_start set text 1) text end
+pub only_line : (breaks : LineBreaks) (text : List ℕ) → byte_len text ≤ byte_len (first_line breaks text) → first_line breaks text ≡ text
+only_line breaks text past = elim (cases_lt (line_start breaks text 1) (length text)) [
+  | inr end ↦ take_all (line_start breaks text 1) text end
   | inl less ↦ absurd (
-      let shorter = size_lt byte_len IsMeasure-byte_len text (line_start set text 1) (length text) less (omega arith) in
+      let shorter = size_lt byte_len IsMeasure-byte_len text (line_start breaks text 1) (length text) less (omega arith) in
       let all = ap byte_len (take_all (length text) text (omega arith)) in
       omega arith)
 ]
 
 -- the counts, each found by itself
-pub line_counts : (set : LineBreaks) (text : List ℕ) (info : TextInfo) → info.bytes ≡ byte_len (first_line set text) → info.chars ≡ byte_to_char text info.bytes
-    → info.utf16_surrogates ≡ surrogate_count (take (byte_to_char text info.bytes) text) → info.line_breaks ≡ break_count set (first_line set text) → info ≡ info_of set (first_line set text)
-line_counts set text info bytes chars pairs breaks =
-    let n : ℕ = line_start set text 1 in
-    let within = line_start-le-length set text 1 in
+pub line_counts : (breaks : LineBreaks) (text : List ℕ) (info : TextInfo) → info.bytes ≡ byte_len (first_line breaks text) → info.chars ≡ byte_to_char text info.bytes
+    → info.utf16_surrogates ≡ surrogate_count (take (byte_to_char text info.bytes) text) → info.break_count ≡ break_count breaks (first_line breaks text) → info ≡ info_of breaks (first_line breaks text)
+line_counts breaks text info bytes chars pairs count =
+    let n : ℕ = line_start breaks text 1 in
+    let within = line_start-le-length breaks text 1 in
     let place : byte_to_char text info.bytes ≡ n = char_at_byte text info.bytes n within bytes in
-    same_info info (info_of set (first_line set text)) bytes (chars ∙ place ∙ sym (length-take-le n text within)) (pairs ∙ ap (λ k. surrogate_count (take k text)) place) breaks
+    same_info info (info_of breaks (first_line breaks text)) bytes (chars ∙ place ∙ sym (length-take-le n text within)) (pairs ∙ ap (λ k. surrogate_count (take k text)) place) count
 
 -- the breaks from a line's start on
-pub last_breaks : (set : LineBreaks) (text : List ℕ) (k : ℕ) → break_count set (drop (last_start set text k) text) ≡ min k (break_count set text)
-last_breaks set text k =
-    let l : ℕ = break_count set text - k in
-    omega (arith, break_count-drop set text (last_start set text k) (line_start-le-length set text l), char_to_line-line_start set text l (omega arith))
+pub last_breaks : (breaks : LineBreaks) (text : List ℕ) (k : ℕ) → break_count breaks (drop (last_start breaks text k) text) ≡ min k (break_count breaks text)
+last_breaks breaks text k =
+    let l : ℕ = break_count breaks text - k in
+    omega (arith, break_count-drop breaks text (last_start breaks text k) (line_start-le-length breaks text l), char_to_line-line_start breaks text l (omega arith))
 
-pub last_counts : (set : LineBreaks) (text rest : List ℕ) (k breaks : ℕ) (info : TextInfo) → rest ≡ drop (last_start set text k) text → breaks ≡ break_count set text → info.bytes ≡ byte_len rest
-    → info.chars ≡ length rest → info.utf16_surrogates ≡ surrogate_count rest → info.line_breaks ≡ min k breaks → info ≡ info_of set (drop (last_start set text k) text)
-last_counts set text rest k breaks info same all bytes chars pairs few =
-    same_info info (info_of set (drop (last_start set text k) text)) (bytes ∙ ap byte_len same) (chars ∙ ap length same) (pairs ∙ ap surrogate_count same)
-    (few ∙ ap (min k) all ∙ sym (last_breaks set text k))
+pub last_counts : (breaks : LineBreaks) (text rest : List ℕ) (k count : ℕ) (info : TextInfo) → rest ≡ drop (last_start breaks text k) text → count ≡ break_count breaks text → info.bytes ≡ byte_len rest
+    → info.chars ≡ length rest → info.utf16_surrogates ≡ surrogate_count rest → info.break_count ≡ min k count → info ≡ info_of breaks (drop (last_start breaks text k) text)
+last_counts breaks text rest k count info same all bytes chars pairs few =
+    same_info info (info_of breaks (drop (last_start breaks text k) text)) (bytes ∙ ap byte_len same) (chars ∙ ap length same) (pairs ∙ ap surrogate_count same)
+    (few ∙ ap (min k) all ∙ sym (last_breaks breaks text k))
 
 -- the last lines of the text behind a place in no CR LF
-module _ (set : LineBreaks) (text : List ℕ) (i skip : ℕ) (within : i ≤ length text) (apart : parts_crlf (take i text) (drop i text) ≡ false) (less : skip < break_count set (drop i text)) where
-  near_start : last_start set text skip ≡ i + last_start set (drop i text) skip
+module _ (breaks : LineBreaks) (text : List ℕ) (i skip : ℕ) (within : i ≤ length text) (apart : parts_crlf (take i text) (drop i text) ≡ false) (less : skip < break_count breaks (drop i text)) where
+  near_start : last_start breaks text skip ≡ i + last_start breaks (drop i text) skip
   near_start =
-      ap (λ t. last_start set t skip) (sym (take-append-drop i text)) ∙ last_start-right set (take i text) (drop i text) skip apart less
-      ∙ ap (λ n. n + last_start set (drop i text) skip) (length-take-le i text within)
+      ap (λ t. last_start breaks t skip) (sym (take-append-drop i text)) ∙ last_start-right breaks (take i text) (drop i text) skip apart less
+      ∙ ap (λ n. n + last_start breaks (drop i text) skip) (length-take-le i text within)
 
-  pub near_size : (b start : ℕ) → b ≡ byte_len (take i text) → start ≡ byte_len (take (last_start set (drop i text) skip) (drop i text)) → b + start ≡ byte_len (take (last_start set text skip) text)
+  pub near_size : (b start : ℕ) → b ≡ byte_len (take i text) → start ≡ byte_len (take (last_start breaks (drop i text) skip) (drop i text)) → b + start ≡ byte_len (take (last_start breaks text skip) text)
   near_size b start front back =
-      let k : ℕ = last_start set (drop i text) skip in
+      let k : ℕ = last_start breaks (drop i text) skip in
       let parts = ap byte_len (take-add i k text) ∙ size_two (take i text) (take k (drop i text)) in
       omega (arith, ap (λ n. byte_len (take n text)) near_start)
 
-  pub near_rest : drop (last_start set (drop i text) skip) (drop i text) ≡ drop (last_start set text skip) text
-  near_rest = drop-drop (last_start set (drop i text) skip) i text ∙ ap (λ n. drop n text) (sym near_start)
+  pub near_rest : drop (last_start breaks (drop i text) skip) (drop i text) ≡ drop (last_start breaks text skip) text
+  near_rest = drop-drop (last_start breaks (drop i text) skip) i text ∙ ap (λ n. drop n text) (sym near_start)
 
-pub near_enough : (set : LineBreaks) (text : List ℕ) (skip start : ℕ) → start ≡ byte_len (take (last_start set text skip) text) → 0 < start → skip < break_count set text
-near_enough set text skip start e some = elim (cases_lt skip (break_count set text)) [
+pub near_enough : (breaks : LineBreaks) (text : List ℕ) (skip start : ℕ) → start ≡ byte_len (take (last_start breaks text skip) text) → 0 < start → skip < break_count breaks text
+near_enough breaks text skip start e some = elim (cases_lt skip (break_count breaks text)) [
   | inl less ↦ less
-  | inr past ↦ absurd (let none = ap (λ n. byte_len (take n text)) (last_start_none set text skip past) in omega arith)
+  | inr past ↦ absurd (let none = ap (λ n. byte_len (take n text)) (last_start_none breaks text skip past) in omega arith)
 ]
 
 -- a byte at which the text may be cut

@@ -20,10 +20,10 @@ use Rattle.rope_cursor.specs.Lines.{IsLineStart}
 use Rattle.rope_cursor.proofs.Gaps.{AreHalf, half_of, size_front}
 
 -- counts up to a place, told by their own number of characters
-pub counts_at : (set : LineBreaks) (text : List ℕ) (n : ℕ) (info : TextInfo) → n ≤ length text → info ≡ info_of set (take n text) → (info.chars ≡ n) × (info ≡ info_of set (take info.chars text))
-counts_at set text n info within e =
+pub counts_at : (breaks : LineBreaks) (text : List ℕ) (n : ℕ) (info : TextInfo) → n ≤ length text → info ≡ info_of breaks (take n text) → (info.chars ≡ n) × (info ≡ info_of breaks (take info.chars text))
+counts_at breaks text n info within e =
     let chars : info.chars ≡ n = ap (λ x. x.chars) e ∙ length-take-le n text within in
-    (chars, e ∙ ap (λ k. info_of set (take k text)) (sym chars))
+    (chars, e ∙ ap (λ k. info_of breaks (take k text)) (sym chars))
 
 -- from one line's start to the next
 module _ (c : Content) (l : ℕ) (within : l < line_count c.breaks c.text) (from to : TextInfo) (from_is : from ≡ info_of c.breaks (take (line_start c.breaks c.text l) c.text))
@@ -53,16 +53,16 @@ module _ (c : Content) (l : ℕ) (within : l < line_count c.breaks c.text) (from
   line_is = ap (λ n. part_between c n to.chars) start_chars ∙ ap (part_between c (line_start c.breaks c.text l)) end_chars
 
 -- a step forward
-module _ (c : Content) (h new : Halves) (before passed : TextInfo) (l total : ℕ) (set : LineBreaks) (s : IsLineStart c h before l total) (less : l < total) (same : set ≡ c.breaks)
-    (front : new.front ≡ h.front ++ first_line set h.back) (back : h.back ≡ first_line set h.back ++ new.back) (counts : passed ≡ info_of set (first_line set h.back)) where
+module _ (c : Content) (h new : Halves) (before passed : TextInfo) (l total : ℕ) (breaks : LineBreaks) (s : IsLineStart c h before l total) (less : l < total) (same : breaks ≡ c.breaks)
+    (front : new.front ≡ h.front ++ first_line breaks h.back) (back : h.back ≡ first_line breaks h.back ++ new.back) (counts : passed ≡ info_of breaks (first_line breaks h.back)) where
   pub inside : l < line_count c.breaks c.text
   inside = omega (arith, s.total_is)
 
-  passed_is : first_line set h.back ≡ slice_range c.text (line_start c.breaks c.text l) (line_start c.breaks c.text (l + 1))
+  passed_is : first_line breaks h.back ≡ slice_range c.text (line_start c.breaks c.text l) (line_start c.breaks c.text (l + 1))
   passed_is = ap (λ b. first_line b h.back) same ∙ ap (first_line c.breaks) s.back_is ∙ first_line-drop c.breaks c.text l inside
 
   counts_are : passed ≡ info_of c.breaks (slice_range c.text (line_start c.breaks c.text l) (line_start c.breaks c.text (l + 1)))
-  counts_are = counts ∙ ap (λ b. info_of b (first_line set h.back)) same ∙ ap (info_of c.breaks) passed_is
+  counts_are = counts ∙ ap (λ b. info_of b (first_line breaks h.back)) same ∙ ap (info_of c.breaks) passed_is
 
   pub after_is : (after : TextInfo) → after ≡ info_sum before passed → after ≡ info_of c.breaks (take (line_start c.breaks c.text (l + 1)) c.text)
   after_is after sum =
@@ -74,13 +74,13 @@ module _ (c : Content) (h new : Halves) (before passed : TextInfo) (l total : �
       let a : ℕ = line_start c.breaks c.text l in
       let b : ℕ = line_start c.breaks c.text (l + 1) in
       let order = line_start_mono c.breaks c.text l (l + 1) (omega arith) in
-      let long : length (first_line set h.back) ≡ b - a = ap length passed_is ∙ length_part c.text a b (line_start-le-length c.breaks c.text (l + 1)) in
+      let long : length (first_line breaks h.back) ≡ b - a = ap length passed_is ∙ length_part c.text a b (line_start-le-length c.breaks c.text (l + 1)) in
       let rest : a + (b - a) ≡ b = omega arith in
       record {
         within = omega arith;
         total_is = s.total_is;
-        front_is = front ∙ ap (λ t. t ++ first_line set h.back) s.front_is ∙ ap (λ t. take a c.text ++ t) passed_is ∙ front_and_part c.text a b order;
-        back_is = sym (drop-append_seam (first_line set h.back) new.back) ∙ ap (drop (length (first_line set h.back))) (sym back) ∙ ap (λ n. drop n h.back) long
+        front_is = front ∙ ap (λ t. t ++ first_line breaks h.back) s.front_is ∙ ap (λ t. take a c.text ++ t) passed_is ∙ front_and_part c.text a b order;
+        back_is = sym (drop-append_seam (first_line breaks h.back) new.back) ∙ ap (drop (length (first_line breaks h.back))) (sym back) ∙ ap (λ n. drop n h.back) long
             ∙ ap (drop (b - a)) s.back_is ∙ drop-drop (b - a) a c.text ∙ ap (λ n. drop n c.text) rest;
         before_is = after_is after sum;
         fits = s.fits;
@@ -100,14 +100,14 @@ pub start_apart : (c : Content) (h : Halves) (before : TextInfo) (l total : ℕ)
 start_apart c h before l total s = ap (λ t. parts_crlf t h.back) s.front_is ∙ ap (parts_crlf (take (line_start c.breaks c.text l) c.text)) s.back_is ∙ line_start_apart c.breaks c.text l
 
 -- how many breaks are to be passed backward
-pub breaks_enough : (c : Content) (h : Halves) (before : TextInfo) (l total : ℕ) → IsLineStart c h before l total → l - 1 ≤ before.line_breaks
+pub breaks_enough : (c : Content) (h : Halves) (before : TextInfo) (l total : ℕ) → IsLineStart c h before l total → l - 1 ≤ before.break_count
 breaks_enough c h before l total s =
-    omega (arith, s.within, s.total_is, ap (λ x. x.line_breaks) s.before_is, break_count-front c.breaks c.text l (omega (arith, s.within, s.total_is)))
+    omega (arith, s.within, s.total_is, ap (λ x. x.break_count) s.before_is, break_count-front c.breaks c.text l (omega (arith, s.within, s.total_is)))
 
 -- a step backward
-module _ (c : Content) (h new : Halves) (before passed : TextInfo) (l total skip : ℕ) (set : LineBreaks) (s : IsLineStart c h before l total) (some : 0 < l) (same : set ≡ c.breaks)
-    (skip_is : skip ≡ before.line_breaks - (l - 1)) (front : new.front ≡ take (last_start set h.front skip) h.front) (back : new.back ≡ drop (last_start set h.front skip) h.front ++ h.back)
-    (counts : passed ≡ info_of set (drop (last_start set h.front skip) h.front)) where
+module _ (c : Content) (h new : Halves) (before passed : TextInfo) (l total skip : ℕ) (breaks : LineBreaks) (s : IsLineStart c h before l total) (some : 0 < l) (same : breaks ≡ c.breaks)
+    (skip_is : skip ≡ before.break_count - (l - 1)) (front : new.front ≡ take (last_start breaks h.front skip) h.front) (back : new.back ≡ drop (last_start breaks h.front skip) h.front ++ h.back)
+    (counts : passed ≡ info_of breaks (drop (last_start breaks h.front skip) h.front)) where
   pub inside_back : l - 1 < line_count c.breaks c.text
   inside_back = omega (arith, s.total_is, s.within)
 
@@ -117,19 +117,19 @@ module _ (c : Content) (h new : Halves) (before passed : TextInfo) (l total skip
   order : line_start c.breaks c.text (l - 1) ≤ line_start c.breaks c.text l
   order = line_start_mono c.breaks c.text (l - 1) l (omega arith)
 
-  last_is : last_start set h.front skip ≡ line_start c.breaks c.text (l - 1)
+  last_is : last_start breaks h.front skip ≡ line_start c.breaks c.text (l - 1)
   last_is =
       let known : l ≤ line_count c.breaks c.text = omega (arith, s.total_is, s.within) in
-      let breaks = ap (λ x. x.line_breaks) s.before_is ∙ break_count-front c.breaks c.text l known in
+      let count = ap (λ x. x.break_count) s.before_is ∙ break_count-front c.breaks c.text l known in
       ap (λ b. last_start b h.front skip) same ∙ ap (λ t. last_start c.breaks t skip) s.front_is ∙ last_start-take c.breaks c.text l skip some known (omega arith)
 
-  line_back : drop (last_start set h.front skip) h.front ≡ slice_range c.text (line_start c.breaks c.text (l - 1)) (line_start c.breaks c.text l)
+  line_back : drop (last_start breaks h.front skip) h.front ≡ slice_range c.text (line_start c.breaks c.text (l - 1)) (line_start c.breaks c.text l)
   line_back =
       ap (λ n. drop n h.front) last_is ∙ ap (drop (line_start c.breaks c.text (l - 1))) s.front_is
       ∙ sym (part_of_front c.text (line_start c.breaks c.text (l - 1)) (line_start c.breaks c.text l) order)
 
   counts_back : passed ≡ info_of c.breaks (slice_range c.text (line_start c.breaks c.text (l - 1)) (line_start c.breaks c.text l))
-  counts_back = counts ∙ ap (λ b. info_of b (drop (last_start set h.front skip) h.front)) same ∙ ap (info_of c.breaks) line_back
+  counts_back = counts ∙ ap (λ b. info_of b (drop (last_start breaks h.front skip) h.front)) same ∙ ap (info_of c.breaks) line_back
 
   pub before_sum : before ≡ info_sum (info_of c.breaks (take (line_start c.breaks c.text (l - 1)) c.text)) passed
   before_sum =
@@ -144,7 +144,7 @@ module _ (c : Content) (h new : Halves) (before passed : TextInfo) (l total skip
   start_is start sum =
       let first : TextInfo = info_of c.breaks (take (line_start c.breaks c.text (l - 1)) c.text) in
       let both = sum ∙ before_sum in
-      same_info start first (omega (arith, ap (λ x. x.bytes) both)) (omega (arith, ap (λ x. x.chars) both)) (omega (arith, ap (λ x. x.utf16_surrogates) both)) (omega (arith, ap (λ x. x.line_breaks) both))
+      same_info start first (omega (arith, ap (λ x. x.bytes) both)) (omega (arith, ap (λ x. x.chars) both)) (omega (arith, ap (λ x. x.utf16_surrogates) both)) (omega (arith, ap (λ x. x.break_count) both))
 
   pub prev_start : (start : TextInfo) → info_sum passed start ≡ before → IsLineStart c new start (l - 1) total
   prev_start start sum =

@@ -24,7 +24,7 @@ use Rattle.rope_cursor.proofs.GapSteps.{apart_back}
 use Rattle.rope_cursor.proofs.LineCounts.{last_breaks, near_size, near_rest}
 use Rattle.rope_cursor.specs.Gap.{IsBetween}
 
-module _ (set : LineBreaks) (text : List ℕ) (i j skip : ℕ) (within : j ≤ length text) (order : i ≤ j) (first : parts_crlf (take i text) (drop i text) ≡ false) (second : parts_crlf (take j text) (drop j text) ≡ false) where
+module _ (breaks : LineBreaks) (text : List ℕ) (i j skip : ℕ) (within : j ≤ length text) (order : i ≤ j) (first : parts_crlf (take i text) (drop i text) ≡ false) (second : parts_crlf (take j text) (drop j text) ≡ false) where
   near_is : drop i (take j text) ≡ take (j - i) (drop i text)
   near_is = sym (part_of_front text i j order)
 
@@ -45,65 +45,65 @@ module _ (set : LineBreaks) (text : List ℕ) (i j skip : ℕ) (within : j ≤ l
   pub near_len : (end cut : ℕ) → end ≡ byte_len (take j text) → cut ≡ byte_len (take i text) → end - cut ≡ byte_len (take (j - i) (drop i text))
   near_len end cut e b = omega (arith, size_part byte_len IsMeasure-byte_len text i j order)
 
-  near_lines : (breaks len : ℕ) → len ≡ byte_len (take (j - i) (drop i text)) → breaks ≡ byte_to_line set (drop i text) len → breaks ≡ char_to_line set (drop i text) (j - i)
-  near_lines breaks len e b = b ∙ byte_to_line-byte_to_char set (drop i text) len ∙ ap (char_to_line set (drop i text)) (char_at_byte (drop i text) len (j - i) near_within e)
+  near_lines : (count len : ℕ) → len ≡ byte_len (take (j - i) (drop i text)) → count ≡ byte_to_line breaks (drop i text) len → count ≡ char_to_line breaks (drop i text) (j - i)
+  near_lines count len e b = b ∙ byte_to_line-byte_to_char breaks (drop i text) len ∙ ap (char_to_line breaks (drop i text)) (char_at_byte (drop i text) len (j - i) near_within e)
 
-  pub near_breaks : (breaks len : ℕ) → len ≡ byte_len (take (j - i) (drop i text)) → breaks ≡ byte_to_line set (drop i text) len → breaks ≡ break_count set (drop i (take j text))
-  near_breaks breaks len e b = near_lines breaks len e b ∙ breaks_apart set (drop i text) (j - i) near_within end_apart ∙ ap (break_count set) (sym near_is)
+  pub near_breaks : (count len : ℕ) → len ≡ byte_len (take (j - i) (drop i text)) → count ≡ byte_to_line breaks (drop i text) len → count ≡ break_count breaks (drop i (take j text))
+  near_breaks count len e b = near_lines count len e b ∙ breaks_apart breaks (drop i text) (j - i) near_within end_apart ∙ ap (break_count breaks) (sym near_is)
 
   -- where the line starts
-  module _ (breaks len : ℕ) (e : len ≡ byte_len (take (j - i) (drop i text))) (b : breaks ≡ byte_to_line set (drop i text) len) where
-    pub line_inside : line_start set (drop i text) (breaks - skip) ≤ j - i
+  module _ (count len : ℕ) (e : len ≡ byte_len (take (j - i) (drop i text))) (b : count ≡ byte_to_line breaks (drop i text) len) where
+    pub line_inside : line_start breaks (drop i text) (count - skip) ≤ j - i
     line_inside =
-        let low = line_start_before set (drop i text) (j - i) near_within in
-        let mono = line_start_mono set (drop i text) (breaks - skip) (char_to_line set (drop i text) (j - i)) (omega (arith, near_lines breaks len e b)) in
+        let low = line_start_before breaks (drop i text) (j - i) near_within in
+        let mono = line_start_mono breaks (drop i text) (count - skip) (char_to_line breaks (drop i text) (j - i)) (omega (arith, near_lines count len e b)) in
         omega arith
 
-    pub line_same : line_start set (drop i text) (breaks - skip) ≡ last_start set (drop i (take j text)) skip
+    pub line_same : line_start breaks (drop i text) (count - skip) ≡ last_start breaks (drop i (take j text)) skip
     line_same =
-        let l : ℕ = breaks - skip in
-        let index : break_count set (drop i (take j text)) - skip ≡ l = omega (arith, near_breaks breaks len e b) in
-        let at = line_start-take set (drop i text) (j - i) l near_within in
-        sym (ap (line_start set (drop i (take j text))) index ∙ ap (λ t. line_start set t l) near_is ∙ at ∙ (let low = line_inside in omega arith))
+        let l : ℕ = count - skip in
+        let index : break_count breaks (drop i (take j text)) - skip ≡ l = omega (arith, near_breaks count len e b) in
+        let at = line_start-take breaks (drop i text) (j - i) l near_within in
+        sym (ap (line_start breaks (drop i (take j text))) index ∙ ap (λ t. line_start breaks t l) near_is ∙ at ∙ (let low = line_inside in omega arith))
 
-    pub line_bytes : (start : ℕ) → start ≡ byte_len (take (line_start set (drop i text) (breaks - skip)) (drop i text)) → start ≡ byte_len (take (last_start set (drop i (take j text)) skip) (drop i (take j text)))
+    pub line_bytes : (start : ℕ) → start ≡ byte_len (take (line_start breaks (drop i text) (count - skip)) (drop i text)) → start ≡ byte_len (take (last_start breaks (drop i (take j text)) skip) (drop i (take j text)))
     line_bytes start s =
-        let k : ℕ = line_start set (drop i text) (breaks - skip) in
+        let k : ℕ = line_start breaks (drop i text) (count - skip) in
         s ∙ ap byte_len (sym (take-take k (j - i) (drop i text) line_inside)) ∙ ap (λ t. byte_len (take k t)) (sym near_is) ∙ ap (λ n. byte_len (take n (drop i (take j text)))) line_same
 
     -- and its text
-    pub line_text : take ((j - i) - line_start set (drop i text) (breaks - skip)) (drop (line_start set (drop i text) (breaks - skip)) (drop i text)) ≡ drop (last_start set (drop i (take j text)) skip) (drop i (take j text))
+    pub line_text : take ((j - i) - line_start breaks (drop i text) (count - skip)) (drop (line_start breaks (drop i text) (count - skip)) (drop i text)) ≡ drop (last_start breaks (drop i (take j text)) skip) (drop i (take j text))
     line_text =
-        let k : ℕ = line_start set (drop i text) (breaks - skip) in
+        let k : ℕ = line_start breaks (drop i text) (count - skip) in
         part_of_front (drop i text) k (j - i) line_inside ∙ ap (drop k) (sym near_is) ∙ ap (λ n. drop n (drop i (take j text))) line_same
 
-    pub line_len : (start : ℕ) → start ≡ byte_len (take (line_start set (drop i text) (breaks - skip)) (drop i text))
-        → len - start ≡ byte_len (take ((j - i) - line_start set (drop i text) (breaks - skip)) (drop (line_start set (drop i text) (breaks - skip)) (drop i text)))
+    pub line_len : (start : ℕ) → start ≡ byte_len (take (line_start breaks (drop i text) (count - skip)) (drop i text))
+        → len - start ≡ byte_len (take ((j - i) - line_start breaks (drop i text) (count - skip)) (drop (line_start breaks (drop i text) (count - skip)) (drop i text)))
     line_len start s =
-        let k : ℕ = line_start set (drop i text) (breaks - skip) in
+        let k : ℕ = line_start breaks (drop i text) (count - skip) in
         omega (arith, size_part byte_len IsMeasure-byte_len (drop i text) k (j - i) line_inside)
 
-    pub start_within : (start : ℕ) → start ≡ byte_len (take (line_start set (drop i text) (breaks - skip)) (drop i text)) → start ≤ len
+    pub start_within : (start : ℕ) → start ≡ byte_len (take (line_start breaks (drop i text) (count - skip)) (drop i text)) → start ≤ len
     start_within start s =
-        let k : ℕ = line_start set (drop i text) (breaks - skip) in
+        let k : ℕ = line_start breaks (drop i text) (count - skip) in
         omega (arith, size_part byte_len IsMeasure-byte_len (drop i text) k (j - i) line_inside)
 
-    pub line_breaks_are : skip < breaks → skip ≡ break_count set (drop (last_start set (drop i (take j text)) skip) (drop i (take j text)))
-    line_breaks_are less = sym (last_breaks set (drop i (take j text)) skip ∙ (let all = near_breaks breaks len e b in omega arith))
+    pub line_breaks_are : skip < count → skip ≡ break_count breaks (drop (last_start breaks (drop i (take j text)) skip) (drop i (take j text)))
+    line_breaks_are less = sym (last_breaks breaks (drop i (take j text)) skip ∙ (let all = near_breaks count len e b in omega arith))
 
 -- the counts of a front
-pub front_counts : (set : LineBreaks) (text : List ℕ) (info : TextInfo) → byte_len (take (byte_to_char text info.bytes) text) ≡ info.bytes → info.chars ≡ byte_to_char text info.bytes
-    → info.utf16_surrogates ≡ surrogate_count (take (byte_to_char text info.bytes) text) → info.line_breaks ≡ break_count set (take (byte_to_char text info.bytes) text)
-    → info ≡ info_of set (take (byte_to_char text info.bytes) text)
-front_counts set text info place chars pairs breaks =
+pub front_counts : (breaks : LineBreaks) (text : List ℕ) (info : TextInfo) → byte_len (take (byte_to_char text info.bytes) text) ≡ info.bytes → info.chars ≡ byte_to_char text info.bytes
+    → info.utf16_surrogates ≡ surrogate_count (take (byte_to_char text info.bytes) text) → info.break_count ≡ break_count breaks (take (byte_to_char text info.bytes) text)
+    → info ≡ info_of breaks (take (byte_to_char text info.bytes) text)
+front_counts breaks text info place chars pairs count =
     let n : ℕ = byte_to_char text info.bytes in
-    same_info info (info_of set (take n text)) (sym place) (chars ∙ sym (length-take-le n text (byte_to_char-le-length text info.bytes))) pairs breaks
+    same_info info (info_of breaks (take n text)) (sym place) (chars ∙ sym (length-take-le n text (byte_to_char-le-length text info.bytes))) pairs count
 
 -- the same, of places in bytes
-module _ (set : LineBreaks) (text near : List ℕ) (skip end cut breaks start : ℕ) (at_end : IsBetween text end) (at_cut : IsBetween text cut) (before : cut ≤ end)
+module _ (breaks : LineBreaks) (text near : List ℕ) (skip end cut count start : ℕ) (at_end : IsBetween text end) (at_cut : IsBetween text cut) (before : cut ≤ end)
     (first : parts_crlf (take (byte_to_char text cut) text) (drop (byte_to_char text cut) text) ≡ false) (second : parts_crlf (take (byte_to_char text end) text) (drop (byte_to_char text end) text) ≡ false)
-    (near_text : near ≡ drop (byte_to_char text cut) text) (breaks_are : breaks ≡ byte_to_line set near (end - cut)) (less : skip < breaks)
-    (start_is : start ≡ byte_len (take (line_start set near (breaks - skip)) near)) where
+    (near_text : near ≡ drop (byte_to_char text cut) text) (count_is : count ≡ byte_to_line breaks near (end - cut)) (less : skip < count)
+    (start_is : start ≡ byte_len (take (line_start breaks near (count - skip)) near)) where
   inside : byte_to_char text end ≤ length text
   inside = byte_to_char-le-length text end
 
@@ -111,74 +111,74 @@ module _ (set : LineBreaks) (text near : List ℕ) (skip end cut breaks start : 
   ordered = byte_to_char-mono text cut end before
 
   len_is : end - cut ≡ byte_len (take (byte_to_char text end - byte_to_char text cut) (drop (byte_to_char text cut) text))
-  len_is = near_len set text (byte_to_char text cut) (byte_to_char text end) skip inside ordered first second end cut (sym at_end) (sym at_cut)
+  len_is = near_len breaks text (byte_to_char text cut) (byte_to_char text end) skip inside ordered first second end cut (sym at_end) (sym at_cut)
 
-  lines_are : breaks ≡ byte_to_line set (drop (byte_to_char text cut) text) (end - cut)
-  lines_are = breaks_are ∙ ap (λ t. byte_to_line set t (end - cut)) near_text
+  lines_are : count ≡ byte_to_line breaks (drop (byte_to_char text cut) text) (end - cut)
+  lines_are = count_is ∙ ap (λ t. byte_to_line breaks t (end - cut)) near_text
 
-  place_is : start ≡ byte_len (take (line_start set (drop (byte_to_char text cut) text) (breaks - skip)) (drop (byte_to_char text cut) text))
-  place_is = start_is ∙ ap (λ t. byte_len (take (line_start set t (breaks - skip)) t)) near_text
+  place_is : start ≡ byte_len (take (line_start breaks (drop (byte_to_char text cut) text) (count - skip)) (drop (byte_to_char text cut) text))
+  place_is = start_is ∙ ap (λ t. byte_len (take (line_start breaks t (count - skip)) t)) near_text
 
   pub start_between : IsBetween near start
-  start_between = byte_of_char near start (line_start set near (breaks - skip)) (line_start-le-length set near (breaks - skip)) start_is
+  start_between = byte_of_char near start (line_start breaks near (count - skip)) (line_start-le-length breaks near (count - skip)) start_is
 
   pub start_inside : start ≤ end - cut
-  start_inside = start_within set text (byte_to_char text cut) (byte_to_char text end) skip inside ordered first second breaks (end - cut) len_is lines_are start place_is
+  start_inside = start_within breaks text (byte_to_char text cut) (byte_to_char text end) skip inside ordered first second count (end - cut) len_is lines_are start place_is
 
-  enough : skip < break_count set (drop (byte_to_char text cut) (take (byte_to_char text end) text))
+  enough : skip < break_count breaks (drop (byte_to_char text cut) (take (byte_to_char text end) text))
   enough =
-      let all = near_breaks set text (byte_to_char text cut) (byte_to_char text end) skip inside ordered first second breaks (end - cut) len_is lines_are in
+      let all = near_breaks breaks text (byte_to_char text cut) (byte_to_char text end) skip inside ordered first second count (end - cut) len_is lines_are in
       omega (arith, less)
 
   front_within : byte_to_char text cut ≤ length (take (byte_to_char text end) text)
   front_within = omega (arith, length-take-le (byte_to_char text end) text inside, ordered)
 
-  pub found_start : cut + start ≡ byte_len (take (last_start set (take (byte_to_char text end) text) skip) (take (byte_to_char text end) text))
+  pub found_start : cut + start ≡ byte_len (take (last_start breaks (take (byte_to_char text end) text) skip) (take (byte_to_char text end) text))
   found_start =
-      near_size set (take (byte_to_char text end) text) (byte_to_char text cut) skip front_within
-      (near_apart set text (byte_to_char text cut) (byte_to_char text end) skip inside ordered first second) enough cut start
+      near_size breaks (take (byte_to_char text end) text) (byte_to_char text cut) skip front_within
+      (near_apart breaks text (byte_to_char text cut) (byte_to_char text end) skip inside ordered first second) enough cut start
       (sym at_cut ∙ ap byte_len (sym (take-take (byte_to_char text cut) (byte_to_char text end) text ordered)))
-      (line_bytes set text (byte_to_char text cut) (byte_to_char text end) skip inside ordered first second breaks (end - cut) len_is lines_are start place_is)
+      (line_bytes breaks text (byte_to_char text cut) (byte_to_char text end) skip inside ordered first second count (end - cut) len_is lines_are start place_is)
 
   pub found_fits : cut + start ≤ byte_len text
   found_fits =
       let j : ℕ = byte_to_char text end in
-      omega (arith, found_start, size_front (last_start set (take j text) skip) (take j text), size_front j text)
+      omega (arith, found_start, size_front (last_start breaks (take j text) skip) (take j text), size_front j text)
 
   module _ (rest : List ℕ) (rest_is : rest ≡ drop (byte_to_char near start) near) where
-    rest_text : rest ≡ drop (line_start set (drop (byte_to_char text cut) text) (breaks - skip)) (drop (byte_to_char text cut) text)
+    rest_text : rest ≡ drop (line_start breaks (drop (byte_to_char text cut) text) (count - skip)) (drop (byte_to_char text cut) text)
     rest_text =
         let w : List ℕ = drop (byte_to_char text cut) text in
         rest_is ∙ ap (λ t. drop (byte_to_char t start) t) near_text
-        ∙ ap (λ n. drop n w) (char_at_byte w start (line_start set w (breaks - skip)) (line_start-le-length set w (breaks - skip)) place_is)
+        ∙ ap (λ n. drop n w) (char_at_byte w start (line_start breaks w (count - skip)) (line_start-le-length breaks w (count - skip)) place_is)
 
-    left_within : (byte_to_char text end - byte_to_char text cut) - line_start set (drop (byte_to_char text cut) text) (breaks - skip) ≤ length rest
+    left_within : (byte_to_char text end - byte_to_char text cut) - line_start breaks (drop (byte_to_char text cut) text) (count - skip) ≤ length rest
     left_within =
         let w : List ℕ = drop (byte_to_char text cut) text in
-        let k : ℕ = line_start set w (breaks - skip) in
-        omega (arith, ap length rest_text, length-drop k w, near_within set text (byte_to_char text cut) (byte_to_char text end) skip inside ordered first second)
+        let k : ℕ = line_start breaks w (count - skip) in
+        omega (arith, ap length rest_text, length-drop k w, near_within breaks text (byte_to_char text cut) (byte_to_char text end) skip inside ordered first second)
 
-    left_bytes : (end - cut) - start ≡ byte_len (take ((byte_to_char text end - byte_to_char text cut) - line_start set (drop (byte_to_char text cut) text) (breaks - skip)) rest)
+    left_bytes : (end - cut) - start ≡ byte_len (take ((byte_to_char text end - byte_to_char text cut) - line_start breaks (drop (byte_to_char text cut) text) (count - skip)) rest)
     left_bytes =
-        let n : ℕ = (byte_to_char text end - byte_to_char text cut) - line_start set (drop (byte_to_char text cut) text) (breaks - skip) in
-        line_len set text (byte_to_char text cut) (byte_to_char text end) skip inside ordered first second breaks (end - cut) len_is lines_are start place_is ∙ ap (λ t. byte_len (take n t)) (sym rest_text)
+        let n : ℕ = (byte_to_char text end - byte_to_char text cut) - line_start breaks (drop (byte_to_char text cut) text) (count - skip) in
+        line_len breaks text (byte_to_char text cut) (byte_to_char text end) skip inside ordered first second count (end - cut) len_is lines_are start place_is ∙ ap (λ t. byte_len (take n t)) (sym rest_text)
 
     pub rest_between : IsBetween rest ((end - cut) - start)
     rest_between =
-        byte_of_char rest ((end - cut) - start) ((byte_to_char text end - byte_to_char text cut) - line_start set (drop (byte_to_char text cut) text) (breaks - skip)) left_within left_bytes
+        byte_of_char rest ((end - cut) - start) ((byte_to_char text end - byte_to_char text cut) - line_start breaks (drop (byte_to_char text cut) text) (count - skip)) left_within left_bytes
 
-    front_text : take (byte_to_char rest ((end - cut) - start)) rest ≡ drop (last_start set (drop (byte_to_char text cut) (take (byte_to_char text end) text)) skip) (drop (byte_to_char text cut) (take (byte_to_char text end) text))
+    front_text : take (byte_to_char rest ((end - cut) - start)) rest ≡ drop (last_start breaks (drop (byte_to_char text cut) (take (byte_to_char text end) text)) skip) (drop (byte_to_char text cut) (take (byte_to_char text end) text))
     front_text =
-        let n : ℕ = (byte_to_char text end - byte_to_char text cut) - line_start set (drop (byte_to_char text cut) text) (breaks - skip) in
+        let n : ℕ = (byte_to_char text end - byte_to_char text cut) - line_start breaks (drop (byte_to_char text cut) text) (count - skip) in
         ap (λ m. take m rest) (char_at_byte rest ((end - cut) - start) n left_within left_bytes) ∙ ap (take n) rest_text
-        ∙ line_text set text (byte_to_char text cut) (byte_to_char text end) skip inside ordered first second breaks (end - cut) len_is lines_are
+        ∙ line_text breaks text (byte_to_char text cut) (byte_to_char text end) skip inside ordered first second count (end - cut) len_is lines_are
 
-    pub rest_breaks : skip ≡ break_count set (take (byte_to_char rest ((end - cut) - start)) rest)
+    pub rest_breaks : skip ≡ break_count breaks (take (byte_to_char rest ((end - cut) - start)) rest)
     rest_breaks =
-        line_breaks_are set text (byte_to_char text cut) (byte_to_char text end) skip inside ordered first second breaks (end - cut) len_is lines_are less ∙ ap (break_count set) (sym front_text)
+        line_breaks_are breaks text (byte_to_char text cut) (byte_to_char text end) skip inside ordered first second count (end - cut) len_is lines_are less ∙ ap (break_count breaks) (sym front_text)
 
-    pub found_counts : (info : TextInfo) → info ≡ info_of set (take (byte_to_char rest ((end - cut) - start)) rest)
-        → info ≡ info_of set (drop (last_start set (take (byte_to_char text end) text) skip) (take (byte_to_char text end) text))
+    pub found_counts : (info : TextInfo) → info ≡ info_of breaks (take (byte_to_char rest ((end - cut) - start)) rest)
+        → info ≡ info_of breaks (drop (last_start breaks (take (byte_to_char text end) text) skip) (take (byte_to_char text end) text))
     found_counts info e =
-        e ∙ ap (info_of set) (front_text ∙ near_rest set (take (byte_to_char text end) text) (byte_to_char text cut) skip front_within
-        (near_apart set text (byte_to_char text cut) (byte_to_char text end) skip inside ordered first second) enough)
+        e ∙ ap (info_of breaks) (front_text ∙ near_rest breaks (take (byte_to_char text end) text) (byte_to_char text cut) skip front_within
+        (near_apart breaks text (byte_to_char text cut) (byte_to_char text end) skip inside ordered first second) enough)

@@ -22,10 +22,10 @@ use Rattle.rope_part.proofs.Stretches.{front_and_part, length_part, break_count_
 use Rattle.rope_part.proofs.Clips.{part_of_part}
 
 -- the breaks up to a place that lies in no CR LF
-pub breaks_apart : (set : LineBreaks) (text : List ℕ) (i : ℕ) → i ≤ length text → parts_crlf (take i text) (drop i text) ≡ false → char_to_line set text i ≡ break_count set (take i text)
-breaks_apart set text i within apart =
-    let none : cond {A = ℕ} (joins_break set (take i text) (drop i text)) 1 0 ≡ 0 = ap (λ (x : Bool). cond {A = ℕ} (x && is_break_char set 13) 1 0) apart in
-    omega (arith, break_count-take set text i within)
+pub breaks_apart : (breaks : LineBreaks) (text : List ℕ) (i : ℕ) → i ≤ length text → parts_crlf (take i text) (drop i text) ≡ false → char_to_line breaks text i ≡ break_count breaks (take i text)
+breaks_apart breaks text i within apart =
+    let none : cond {A = ℕ} (joins_break breaks (take i text) (drop i text)) 1 0 ≡ 0 = ap (λ (x : Bool). cond {A = ℕ} (x && is_break_char breaks 13) 1 0) apart in
+    omega (arith, break_count-take breaks text i within)
 
 -- the character that starts at a byte
 pub char_at_byte : (text : List ℕ) (b i : ℕ) → i ≤ length text → b ≡ byte_len (take i text) → byte_to_char text b ≡ i
@@ -35,28 +35,28 @@ pub byte_of_char : (text : List ℕ) (b i : ℕ) → i ≤ length text → b ≡
 byte_of_char text b i within place = ap (λ k. byte_len (take k text)) (char_at_byte text b i within place) ∙ sym place
 
 -- the counts up to a later place are those up to an earlier one and those between
-pub between_sum : (set : LineBreaks) (text : List ℕ) (from to : TextInfo) → from ≡ info_of set (take from.chars text) → to ≡ info_of set (take to.chars text) → from.chars ≤ to.chars
-    → parts_crlf (take from.chars text) (drop from.chars text) ≡ false → to ≡ info_sum from (info_of set (slice_range text from.chars to.chars))
-between_sum set text from to first last l apart =
+pub between_sum : (breaks : LineBreaks) (text : List ℕ) (from to : TextInfo) → from ≡ info_of breaks (take from.chars text) → to ≡ info_of breaks (take to.chars text) → from.chars ≤ to.chars
+    → parts_crlf (take from.chars text) (drop from.chars text) ≡ false → to ≡ info_sum from (info_of breaks (slice_range text from.chars to.chars))
+between_sum breaks text from to first last l apart =
     let i : ℕ = from.chars in
     let part : List ℕ = slice_range text i to.chars in
-    last ∙ ap (info_of set) (sym (front_and_part text i to.chars l))
-    ∙ info_of-append_apart set (take i text) part (parts_crlf-take (take i text) (drop i text) (to.chars - i) apart)
-    ∙ ap (λ x. info_sum x (info_of set part)) (sym first)
+    last ∙ ap (info_of breaks) (sym (front_and_part text i to.chars l))
+    ∙ info_of-append_apart breaks (take i text) part (parts_crlf-take (take i text) (drop i text) (to.chars - i) apart)
+    ∙ ap (λ x. info_sum x (info_of breaks part)) (sym first)
 
 -- the counts of a tree's text up to the ends of a part of a part
-module _ (set : LineBreaks) (text : List ℕ) (start end : TextInfo) (s : IsStretch set text start end) where
+module _ (breaks : LineBreaks) (text : List ℕ) (start end : TextInfo) (s : IsStretch breaks text start end) where
   front_of_own : (i : ℕ) → i ≤ end.chars - start.chars → take i (slice_range text start.chars end.chars) ≡ slice_range text start.chars (start.chars + i)
   front_of_own i l =
       let whole : i - 0 ≡ i = omega arith in
       ap (λ n. take n (slice_range text start.chars end.chars)) (sym whole)
       ∙ sym (part_of_part text start.chars end.chars 0 i start.chars (start.chars + i) l (omega arith) refl)
 
-  start_between : (from : TextInfo) → from ≡ info_of set (take from.chars (slice_range text start.chars end.chars)) → from.chars < end.chars - start.chars
+  start_between : (from : TextInfo) → from ≡ info_of breaks (take from.chars (slice_range text start.chars end.chars)) → from.chars < end.chars - start.chars
       → parts_crlf (take from.chars (slice_range text start.chars end.chars)) (drop from.chars (slice_range text start.chars end.chars)) ≡ false
-      → info_sum start from ≡ start_info set text (start.chars + from.chars)
+      → info_sum start from ≡ start_info breaks text (start.chars + from.chars)
   start_between from first less apart =
-      let m = measured set text start end s in
+      let m = measured breaks text start end s in
       let a : ℕ = start.chars in
       let i : ℕ = from.chars in
       let own : List ℕ = slice_range text a end.chars in
@@ -64,35 +64,35 @@ module _ (set : LineBreaks) (text : List ℕ) (start end : TextInfo) (s : IsStre
       let bytes = size_part byte_len IsMeasure-byte_len text a (a + i) (omega arith) in
       let pairs = ap surrogate_count (front_and_part text a (a + i) (omega arith)) in
       let sum = surrogate_count-append (take a text) (slice_range text a (a + i)) in
-      let breaks = char_to_line_part set text a end.chars s.some s.within i less in
-      let own_breaks = breaks_apart set own i (omega (arith, length_part text a end.chars s.within)) apart in
-      same_info (info_sum start from) (start_info set text (a + i))
+      let count = char_to_line_part breaks text a end.chars s.some s.within i less in
+      let own_breaks = breaks_apart breaks own i (omega (arith, length_part text a end.chars s.within)) apart in
+      same_info (info_sum start from) (start_info breaks text (a + i))
       (omega (arith, m.start_bytes, ap (λ x. x.bytes) first, ap byte_len same))
       refl
       (omega (arith, ap (λ x. x.utf16_surrogates) s.start_is, ap (λ x. x.utf16_surrogates) first, ap surrogate_count same))
-      (omega (arith, m.start_breaks, ap (λ x. x.line_breaks) first))
+      (omega (arith, m.start_breaks, ap (λ x. x.break_count) first))
 
-  end_between : (to : TextInfo) → to ≡ info_of set (take to.chars (slice_range text start.chars end.chars)) → 0 < to.chars → to.chars ≤ end.chars - start.chars
-      → info_sum start to ≡ end_info set text (start.chars + to.chars)
+  end_between : (to : TextInfo) → to ≡ info_of breaks (take to.chars (slice_range text start.chars end.chars)) → 0 < to.chars → to.chars ≤ end.chars - start.chars
+      → info_sum start to ≡ end_info breaks text (start.chars + to.chars)
   end_between to last some l =
-      let m = measured set text start end s in
+      let m = measured breaks text start end s in
       let a : ℕ = start.chars in
       let j : ℕ = to.chars in
       let same = front_of_own j l in
       let bytes = size_part byte_len IsMeasure-byte_len text a (a + j) (omega arith) in
       let pairs = ap surrogate_count (front_and_part text a (a + j) (omega arith)) in
       let sum = surrogate_count-append (take a text) (slice_range text a (a + j)) in
-      let breaks = break_count_part set text a (a + j) (omega arith) (omega (arith, m.within)) in
-      same_info (info_sum start to) (end_info set text (a + j))
+      let count = break_count_part breaks text a (a + j) (omega arith) (omega (arith, m.within)) in
+      same_info (info_sum start to) (end_info breaks text (a + j))
       (omega (arith, m.start_bytes, ap (λ x. x.bytes) last, ap byte_len same))
       (sym (length-take-le (a + j) text (omega (arith, m.within))))
       (omega (arith, ap (λ x. x.utf16_surrogates) s.start_is, ap (λ x. x.utf16_surrogates) last, ap surrogate_count same))
-      (omega (arith, m.start_breaks, ap (λ x. x.line_breaks) last, ap (break_count set) same))
+      (omega (arith, m.start_breaks, ap (λ x. x.break_count) last, ap (break_count breaks) same))
 
-  pub stretch_between : (from to : TextInfo) → from ≡ info_of set (take from.chars (slice_range text start.chars end.chars)) → to ≡ info_of set (take to.chars (slice_range text start.chars end.chars))
+  pub stretch_between : (from to : TextInfo) → from ≡ info_of breaks (take from.chars (slice_range text start.chars end.chars)) → to ≡ info_of breaks (take to.chars (slice_range text start.chars end.chars))
       → from.chars < to.chars → to.chars ≤ length (slice_range text start.chars end.chars)
       → parts_crlf (take from.chars (slice_range text start.chars end.chars)) (drop from.chars (slice_range text start.chars end.chars)) ≡ false
-      → IsStretch set text (info_sum start from) (info_sum start to)
+      → IsStretch breaks text (info_sum start from) (info_sum start to)
   stretch_between from to first last some within apart =
       let long = length_part text start.chars end.chars s.within in
       record {
@@ -107,13 +107,13 @@ pub record AreSmall (info : TextInfo) : Type 0 where
   pub bytes : info.bytes < 2 ^ 64
   pub chars : info.chars < 2 ^ 64
   pub utf16_surrogates : info.utf16_surrogates < 2 ^ 64
-  pub line_breaks : info.line_breaks < 2 ^ 64
+  pub break_count : info.break_count < 2 ^ 64
 
-pub small_between : (set : LineBreaks) (text : List ℕ) (start end : TextInfo) → IsStretch set text start end → byte_len text < 2 ^ 63 → AreSmall start × AreSmall end
-small_between set text start end s fits =
-    let m = measured set text start end s in (
-      record { bytes = omega arith; chars = omega arith; utf16_surrogates = omega arith; line_breaks = omega arith },
-      record { bytes = omega arith; chars = omega arith; utf16_surrogates = omega arith; line_breaks = omega arith },
+pub small_between : (breaks : LineBreaks) (text : List ℕ) (start end : TextInfo) → IsStretch breaks text start end → byte_len text < 2 ^ 63 → AreSmall start × AreSmall end
+small_between breaks text start end s fits =
+    let m = measured breaks text start end s in (
+      record { bytes = omega arith; chars = omega arith; utf16_surrogates = omega arith; break_count = omega arith },
+      record { bytes = omega arith; chars = omega arith; utf16_surrogates = omega arith; break_count = omega arith },
     )
 
 -- contents that are the same

@@ -333,6 +333,6 @@ held_in_leaf unit info at before after t leaf is within info_is leaves =
     record { info_is = info_is; not_past = omega arith; past = omega (arith, sum, ap (count_of unit) info_is, ap (λ s. count_of unit (info_of t.breaks s)) own) }
 
 -- a text that has a place has a leaf
-pub some_leaves : (unit : Unit) (set : LineBreaks) (at : ℕ) (ls : List (List ℕ)) → at < count_of unit (info_of set (concat ls)) → 0 < length ls
-some_leaves unit set at [] l = absurd (omega (arith, count_of-nil unit set))
-some_leaves unit set at (leaf ∷ ls) l = omega arith
+pub some_leaves : (unit : Unit) (breaks : LineBreaks) (at : ℕ) (ls : List (List ℕ)) → at < count_of unit (info_of breaks (concat ls)) → 0 < length ls
+some_leaves unit breaks at [] l = absurd (omega (arith, count_of-nil unit breaks))
+some_leaves unit breaks at (leaf ∷ ls) l = omega arith

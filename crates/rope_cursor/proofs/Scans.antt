@@ -8,7 +8,7 @@ use Rattle.rope_text.specs.declared.line_breaks.LineBreaks.TheVariants.{Lf, CrLf
 use Rattle.rope_text.specs.declared.text_info.TextInfo.{TextInfo}
 use Rattle.rope_text.specs.Bits.{ones_below}
 use Rattle.rope_text.specs.Breaks.{break_count}
-use Rattle.rope_text.specs.ByteBreaks.{break_at, byte_breaks, char_width}
+use Rattle.rope_text.specs.ByteBreaks.{break_at, byte_break_count, char_width}
 use Rattle.rope_text.specs.LineParts.{first_line}
 use Rattle.rope_text.specs.Lines.{line_start}
 use Rattle.rope_text.specs.Text.{byte_len, surrogate_count}
@@ -26,7 +26,7 @@ use Rattle.std.proofs.lemmas.Bool.{cases_lt}
 use Rattle.std.proofs.lemmas.List.{take_all, length-take-le}
 use Rattle.rope_text.specs.Bytes.{begins_char, begins_pair}
 use Rattle.rope_text.proofs.BitLaws.{ones_le, ones_more, no_marks}
-use Rattle.rope_text.proofs.Blocks.{count_by-drop, count_by-front, byte_breaks-drop, breaks_at}
+use Rattle.rope_text.proofs.Blocks.{count_by-drop, count_by-front, byte_break_count-drop, breaks_at}
 use Rattle.rope_cursor.specs.declared.scan.Front.{Front}
 use Rattle.rope_cursor.specs.Scan.{IsFront}
 
@@ -63,36 +63,36 @@ first_one (suc k) zero m few some = absurd (omega arith)
 first_one (suc k) (suc w) m few some = first_step k w m (m % 2) refl some (λ more. first_one k w (m / 2) (omega arith) more)
 
 -- one byte more in front, at which no break begins
-pub front_step : (set : LineBreaks) (xs : List ℕ) (f g : Front) → IsFront set xs f → f.bytes < length xs → breaks_at set xs f.bytes ≡ false → g.bytes ≡ f.bytes + 1
-    → g.chars ≡ f.chars + cond (begins_char (get_or xs f.bytes 0)) 1 0 → g.pairs ≡ f.pairs + cond (begins_pair (get_or xs f.bytes 0)) 1 0 → IsFront set xs g
-front_step set xs f g front inside off next chars pairs =
-    let step = byte_breaks-drop set xs f.bytes inside in
-    let no : cond {A = ℕ} (breaks_at set xs f.bytes) 1 0 ≡ 0 = ap (λ (t : Bool). cond {A = ℕ} t 1 0) off in
+pub front_step : (breaks : LineBreaks) (xs : List ℕ) (f g : Front) → IsFront breaks xs f → f.bytes < length xs → breaks_at breaks xs f.bytes ≡ false → g.bytes ≡ f.bytes + 1
+    → g.chars ≡ f.chars + cond (begins_char (get_or xs f.bytes 0)) 1 0 → g.pairs ≡ f.pairs + cond (begins_pair (get_or xs f.bytes 0)) 1 0 → IsFront breaks xs g
+front_step breaks xs f g front inside off next chars pairs =
+    let step = byte_break_count-drop breaks xs f.bytes inside in
+    let no : cond {A = ℕ} (breaks_at breaks xs f.bytes) 1 0 ≡ 0 = ap (λ (t : Bool). cond {A = ℕ} t 1 0) off in
     let to : drop g.bytes xs ≡ drop (f.bytes + 1) xs = ap (λ j. drop j xs) next in record {
       within = omega arith;
-      none = omega (arith, front.none, step, no, ap (byte_breaks set) to);
+      none = omega (arith, front.none, step, no, ap (byte_break_count breaks) to);
       chars = omega (arith, front.chars, count_by-drop begins_char xs f.bytes inside, ap (count_by begins_char) to);
       pairs = omega (arith, front.pairs, count_by-drop begins_pair xs f.bytes inside, ap (count_by begins_pair) to);
     }
 
 -- so many bytes more in front, among which no break begins
-pub front_block : (set : LineBreaks) (xs : List ℕ) (f g : Front) (n c p : ℕ) → IsFront set xs f → g.bytes ≡ f.bytes + n → g.bytes ≤ length xs → g.chars ≡ f.chars + c → g.pairs ≡ f.pairs + p
-    → byte_breaks set (drop f.bytes xs) ≡ byte_breaks set (drop (f.bytes + n) xs) → count_by begins_char (drop f.bytes xs) ≡ c + count_by begins_char (drop (f.bytes + n) xs)
-    → count_by begins_pair (drop f.bytes xs) ≡ p + count_by begins_pair (drop (f.bytes + n) xs) → IsFront set xs g
-front_block set xs f g n c p front next within chars pairs breaks more_chars more_pairs =
+pub front_block : (breaks : LineBreaks) (xs : List ℕ) (f g : Front) (n c p : ℕ) → IsFront breaks xs f → g.bytes ≡ f.bytes + n → g.bytes ≤ length xs → g.chars ≡ f.chars + c → g.pairs ≡ f.pairs + p
+    → byte_break_count breaks (drop f.bytes xs) ≡ byte_break_count breaks (drop (f.bytes + n) xs) → count_by begins_char (drop f.bytes xs) ≡ c + count_by begins_char (drop (f.bytes + n) xs)
+    → count_by begins_pair (drop f.bytes xs) ≡ p + count_by begins_pair (drop (f.bytes + n) xs) → IsFront breaks xs g
+front_block breaks xs f g n c p front next within chars pairs count more_chars more_pairs =
     let to : drop g.bytes xs ≡ drop (f.bytes + n) xs = ap (λ j. drop j xs) next in record {
       within = within;
-      none = omega (arith, front.none, breaks, ap (byte_breaks set) to);
+      none = omega (arith, front.none, count, ap (byte_break_count breaks) to);
       chars = omega (arith, front.chars, chars, more_chars, ap (count_by begins_char) to);
       pairs = omega (arith, front.pairs, pairs, more_pairs, ap (count_by begins_pair) to);
     }
 
 -- nothing is in front of the first byte
-pub front_start : (set : LineBreaks) (xs : List ℕ) (f : Front) → f.bytes ≡ 0 → f.chars ≡ 0 → f.pairs ≡ 0 → IsFront set xs f
-front_start set xs f none chars pairs =
+pub front_start : (breaks : LineBreaks) (xs : List ℕ) (f : Front) → f.bytes ≡ 0 → f.chars ≡ 0 → f.pairs ≡ 0 → IsFront breaks xs f
+front_start breaks xs f none chars pairs =
     let to : drop f.bytes xs ≡ xs = ap (λ j. drop j xs) none in record {
       within = omega arith;
-      none = ap (byte_breaks set) (sym to);
+      none = ap (byte_break_count breaks) (sym to);
       chars = omega (arith, chars, ap (count_by begins_char) to);
       pairs = omega (arith, pairs, ap (count_by begins_pair) to);
     }
@@ -105,7 +105,7 @@ record IsNarrow (x y z : ℕ) : Type 0 where
   pub second : 1 < char_width x → begins_pair y ≡ false
   pub third : 2 < char_width x → begins_pair z ≡ false
 
-narrow : (set : LineBreaks) (x y z : ℕ) → break_at set x y z ≡ true → IsNarrow x y z
+narrow : (breaks : LineBreaks) (x y z : ℕ) → break_at breaks x y z ≡ true → IsNarrow x y z
 narrow Lf x y z e = record { some = grind (arith, nat_tests); most = grind (arith, nat_tests); first = grind (arith, nat_tests); second = λ w. grind (arith, nat_tests); third = λ w. grind (arith, nat_tests) }
 narrow CrLf x y z e = record { some = grind (arith, nat_tests); most = grind (arith, nat_tests); first = grind (arith, nat_tests); second = λ w. grind (arith, nat_tests); third = λ w. grind (arith, nat_tests) }
 narrow Unicode x y z e = record { some = grind (arith, nat_tests); most = grind (arith, nat_tests); first = grind (arith, nat_tests); second = λ w. grind (arith, nat_tests); third = λ w. grind (arith, nat_tests) }
@@ -130,38 +130,38 @@ no_pairs xs p w wide h = elim (cases_lt 1 w) [
 ]
 
 -- the counts of a text's first line, by what is in front of the break at its end
-pub scanned_line : (set : LineBreaks) (bs : List ℕ) (f : Front) (info : TextInfo) → IsUtf8 bs → IsFront set bs f → f.bytes < length bs → breaks_at set bs f.bytes ≡ true
-    → info.bytes ≡ f.bytes + char_width (get_or bs f.bytes 0) → info.chars ≡ f.chars + 1 → info.utf16_surrogates ≡ f.pairs → info.line_breaks ≡ 1 → info ≡ info_of set (first_line set (chars bs))
-scanned_line set bs f info u front inside begin bytes counted pairs breaks =
+pub scanned_line : (breaks : LineBreaks) (bs : List ℕ) (f : Front) (info : TextInfo) → IsUtf8 bs → IsFront breaks bs f → f.bytes < length bs → breaks_at breaks bs f.bytes ≡ true
+    → info.bytes ≡ f.bytes + char_width (get_or bs f.bytes 0) → info.chars ≡ f.chars + 1 → info.utf16_surrogates ≡ f.pairs → info.break_count ≡ 1 → info ≡ info_of breaks (first_line breaks (chars bs))
+scanned_line breaks bs f info u front inside begin bytes counted pairs count =
     let cs : List ℕ = chars bs in
-    let k : ℕ = line_start set cs 1 in
+    let k : ℕ = line_start breaks cs 1 in
     let p : ℕ = f.bytes in
     let w : ℕ = char_width (get_or bs p 0) in
-    let fore : byte_breaks set bs ≡ 0 + byte_breaks set (drop p bs) = omega (arith, front.none) in
-    let place : p + w ≡ byte_len (take k cs) = break_place set bs 0 p u inside fore begin in
-    let start : f.chars + 1 ≡ k = break_char set bs 0 p f.chars u inside fore begin front.chars in
-    let within = line_start-le-length set cs 1 in
-    let same : count_by begins_pair (drop p bs) ≡ count_by begins_pair (drop (p + w) bs) = no_pairs bs p w refl (narrow set (get_or bs p 0) (get_or bs (p + 1) 0) (get_or bs (p + 2) 0) begin) in
+    let fore : byte_break_count breaks bs ≡ 0 + byte_break_count breaks (drop p bs) = omega (arith, front.none) in
+    let place : p + w ≡ byte_len (take k cs) = break_place breaks bs 0 p u inside fore begin in
+    let start : f.chars + 1 ≡ k = break_char breaks bs 0 p f.chars u inside fore begin front.chars in
+    let within = line_start-le-length breaks cs 1 in
+    let same : count_by begins_pair (drop p bs) ≡ count_by begins_pair (drop (p + w) bs) = no_pairs bs p w refl (narrow breaks (get_or bs p 0) (get_or bs (p + 1) 0) (get_or bs (p + 2) 0) begin) in
     let before : count_by begins_pair (take (p + w) bs) ≡ surrogate_count (take k cs) = ap (λ j. count_by begins_pair (take j bs)) place ∙ pairs_before bs k u in
-    let on : cond {A = ℕ} (breaks_at set bs p) 1 0 ≡ 1 = ap (λ (t : Bool). cond {A = ℕ} t 1 0) begin in
-    let some : 1 ≤ break_count set cs = omega (arith, break_count-chars set bs u, front.none, byte_breaks-drop set bs p inside, on) in
-    same_info info (info_of set (first_line set cs)) (bytes ∙ place) (counted ∙ start ∙ sym (length-take-le k cs within))
-    (omega (arith, pairs, front.pairs, same, before, count_by-front begins_pair bs (p + w))) (omega (arith, breaks, break_count-front set cs 1 (omega (arith, some)), some))
+    let on : cond {A = ℕ} (breaks_at breaks bs p) 1 0 ≡ 1 = ap (λ (t : Bool). cond {A = ℕ} t 1 0) begin in
+    let some : 1 ≤ break_count breaks cs = omega (arith, break_count-chars breaks bs u, front.none, byte_break_count-drop breaks bs p inside, on) in
+    same_info info (info_of breaks (first_line breaks cs)) (bytes ∙ place) (counted ∙ start ∙ sym (length-take-le k cs within))
+    (omega (arith, pairs, front.pairs, same, before, count_by-front begins_pair bs (p + w))) (omega (arith, count, break_count-front breaks cs 1 (omega (arith, some)), some))
 
 -- the counts of a text that has no break
-pub scanned_all : (set : LineBreaks) (bs : List ℕ) (f : Front) (info : TextInfo) → IsUtf8 bs → IsFront set bs f → f.bytes ≡ length bs
-    → info.bytes ≡ f.bytes → info.chars ≡ f.chars → info.utf16_surrogates ≡ f.pairs → info.line_breaks ≡ 0 → info ≡ info_of set (first_line set (chars bs))
-scanned_all set bs f info u front end bytes counted pairs breaks =
+pub scanned_all : (breaks : LineBreaks) (bs : List ℕ) (f : Front) (info : TextInfo) → IsUtf8 bs → IsFront breaks bs f → f.bytes ≡ length bs
+    → info.bytes ≡ f.bytes → info.chars ≡ f.chars → info.utf16_surrogates ≡ f.pairs → info.break_count ≡ 0 → info ≡ info_of breaks (first_line breaks (chars bs))
+scanned_all breaks bs f info u front end bytes counted pairs count =
     let cs : List ℕ = chars bs in
     let rest : drop f.bytes bs ≡ [] = drop_of_length-le bs (let past : length bs ≤ f.bytes = omega arith in past) in
-    let none : byte_breaks set bs ≡ 0 = front.none ∙ ap (byte_breaks set) rest in
-    let whole : first_line set cs ≡ cs = take_all (line_start set cs 1) cs (omega (arith, no_break_line set bs 0 u (omega (arith, none)))) in
+    let none : byte_break_count breaks bs ≡ 0 = front.none ∙ ap (byte_break_count breaks) rest in
+    let whole : first_line breaks cs ≡ cs = take_all (line_start breaks cs 1) cs (omega (arith, no_break_line breaks bs 0 u (omega (arith, none)))) in
     let all : take (length cs) cs ≡ cs = take_all (length cs) cs (omega arith) in
     let size = byte_len-chars bs u in
     let front_size : byte_len (take (length cs) cs) ≡ length bs = ap byte_len all ∙ size in
     let before : count_by begins_pair bs ≡ surrogate_count cs =
     ap (count_by begins_pair) (sym (take_all (length bs) bs (omega arith))) ∙ ap (λ j. count_by begins_pair (take j bs)) (sym front_size) ∙ pairs_before bs (length cs) u ∙ ap surrogate_count all in
-    same_info info (info_of set (first_line set cs)) (bytes ∙ end ∙ sym size ∙ ap byte_len (sym whole))
+    same_info info (info_of breaks (first_line breaks cs)) (bytes ∙ end ∙ sym size ∙ ap byte_len (sym whole))
     (omega (arith, counted, front.chars, ap (count_by begins_char) rest, length-chars bs u, ap length whole))
     (omega (arith, pairs, front.pairs, ap (count_by begins_pair) rest, before, ap surrogate_count whole))
-    (omega (arith, breaks, none, break_count-chars set bs u, ap (break_count set) whole))
+    (omega (arith, count, none, break_count-chars breaks bs u, ap (break_count breaks) whole))

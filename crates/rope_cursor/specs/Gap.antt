@@ -40,38 +40,38 @@ pub record IsGap (p : Place) (b : ℕ) : Type 0 where
   pub chunks : AreChunks p
 
 -- a line was passed: the text before and after, up to a break and all that follows, and the counts of what was passed
-pub record PassesLine (set : LineBreaks) (front back : List ℕ) (p : Place) (b : ℕ) (info : TextInfo) : Type 0 where
+pub record PassesLine (breaks : LineBreaks) (front back : List ℕ) (p : Place) (b : ℕ) (info : TextInfo) : Type 0 where
   pub gap : IsGap p b
-  pub front_is : (halves_at p b).front ≡ front ++ first_line set back
-  pub back_is : back ≡ first_line set back ++ (halves_at p b).back
-  pub counts : info ≡ info_of set (first_line set back)
+  pub front_is : (halves_at p b).front ≡ front ++ first_line breaks back
+  pub back_is : back ≡ first_line breaks back ++ (halves_at p b).back
+  pub counts : info ≡ info_of breaks (first_line breaks back)
 
 -- texts without a break were passed, up to the end of a chunk
-pub record PassedTexts (set : LineBreaks) (old new : Place) (info : TextInfo) (text : List ℕ) : Type 0 where
+pub record PassedTexts (breaks : LineBreaks) (old new : Place) (info : TextInfo) (text : List ℕ) : Type 0 where
   pub chunks : AreChunks new
   pub front_is : concat new.before ++ new.here ≡ (concat old.before ++ old.here) ++ text
   pub back_is : concat old.after ≡ text ++ concat new.after
-  pub none : break_count set text ≡ 0
-  pub counts : info ≡ info_of set text
+  pub none : break_count breaks text ≡ 0
+  pub counts : info ≡ info_of breaks text
   pub apart : parts_crlf text (concat new.after) ≡ false
 
 abbrev pub PassedChunks : LineBreaks → Place → Place → TextInfo → Type 0
-PassedChunks set old new info = (text : List ℕ) × PassedTexts set old new info text
+PassedChunks breaks old new info = (text : List ℕ) × PassedTexts breaks old new info text
 
 -- line breaks were passed backward: up to the start of a line, so many breaks before the last
-pub record PassesBack (set : LineBreaks) (skip : ℕ) (front back : List ℕ) (p : Place) (b : ℕ) (info : TextInfo) : Type 0 where
+pub record PassesBack (breaks : LineBreaks) (skip : ℕ) (front back : List ℕ) (p : Place) (b : ℕ) (info : TextInfo) : Type 0 where
   pub gap : IsGap p b
-  pub front_is : (halves_at p b).front ≡ take (last_start set front skip) front
-  pub back_is : (halves_at p b).back ≡ drop (last_start set front skip) front ++ back
-  pub counts : info ≡ info_of set (drop (last_start set front skip) front)
+  pub front_is : (halves_at p b).front ≡ take (last_start breaks front skip) front
+  pub back_is : (halves_at p b).back ≡ drop (last_start breaks front skip) front ++ back
+  pub counts : info ≡ info_of breaks (drop (last_start breaks front skip) front)
 
 -- texts with too few breaks were passed backward, up to the start of a chunk; so many breaks are left to pass
-pub record PassedBack (set : LineBreaks) (skip : ℕ) (front back : List ℕ) (p : Place) (info : TextInfo) (left : ℕ) (text : List ℕ) : Type 0 where
+pub record PassedBack (breaks : LineBreaks) (skip : ℕ) (front back : List ℕ) (p : Place) (info : TextInfo) (left : ℕ) (text : List ℕ) : Type 0 where
   pub chunks : AreChunks p
   pub front_is : front ≡ concat p.before ++ text
   pub back_is : p.here ++ concat p.after ≡ text ++ back
-  pub few : break_count set text + left ≡ skip
-  pub counts : info ≡ info_of set text
+  pub few : break_count breaks text + left ≡ skip
+  pub counts : info ≡ info_of breaks text
 
 abbrev pub PassedBackTo : LineBreaks → ℕ → Place → Place → TextInfo → ℕ → Type 0
-PassedBackTo set skip old new info left = (text : List ℕ) × PassedBack set skip (concat old.before) (old.here ++ concat old.after) new info left text
+PassedBackTo breaks skip old new info left = (text : List ℕ) × PassedBack breaks skip (concat old.before) (old.here ++ concat old.after) new info left text

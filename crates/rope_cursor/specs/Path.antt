@@ -28,10 +28,10 @@ pub record IsNext (old new : Place) : Type 0 where
   pub after : old.after ≡ new.here ∷ new.after
 
 -- the leaf here holds a place of the text of all the leaves, counted in a unit; `info` are the counts of the text before it
-pub record HoldsPlace (unit : Unit) (set : LineBreaks) (at : ℕ) (before : List (List ℕ)) (here : List ℕ) (info : TextInfo) : Type 0 where
-  pub info_is : info ≡ info_of set (concat before)
+pub record HoldsPlace (unit : Unit) (breaks : LineBreaks) (at : ℕ) (before : List (List ℕ)) (here : List ℕ) (info : TextInfo) : Type 0 where
+  pub info_is : info ≡ info_of breaks (concat before)
   pub not_past : count_of unit info ≤ at
-  pub past : at < count_of unit (info_of set (concat before ++ here))
+  pub past : at < count_of unit (info_of breaks (concat before ++ here))
 
 -- the leaves below some nodes
 abbrev pub leaves_below : List (Rc Node Global) → List (List ℕ)

@@ -10,10 +10,10 @@ use Rattle.rope_part.specs.declared.stretch.Stretch.{Stretch}
 use Rattle.rope_cursor.specs.Path.{Place, leaves}
 
 -- the bytes, the characters and the line breaks of a text that lie in its first chunks; only breaks that end there are counted
-pub record AreBefore (set : LineBreaks) (text : List ℕ) (chunks : List (List ℕ)) (bytes chars breaks : ℕ) : Type 0 where
+pub record AreBefore (breaks : LineBreaks) (text : List ℕ) (chunks : List (List ℕ)) (bytes chars count : ℕ) : Type 0 where
   pub bytes_are : bytes ≡ byte_len (concat chunks)
   pub chars_are : chars ≡ length (concat chunks)
-  pub breaks_are : breaks ≡ char_to_line set text chars
+  pub count_is : count ≡ char_to_line breaks text chars
 
 -- a leaf of the tree that has a character of the stretch, and the counts of the text before it
 pub record MeetsLeaf (s : Stretch) (p : Place) (before : TextInfo) : Type 0 where

@@ -52,7 +52,7 @@ impl<'a> Chunks<'a> {
             is_past: true,
             is_backward: false,
         };
-        (chunks, info.bytes, info.chars, info.line_breaks)
+        (chunks, info.bytes, info.chars, info.break_count)
     }
 
     /// A cursor before the first chunk, facing forward.
@@ -83,14 +83,14 @@ impl<'a> Chunks<'a> {
         if byte_idx == info.bytes {
             Chunks::at_end(part)
         } else {
-            let (span, bytes, chars, breaks) = Span::with_byte(part, byte_idx);
+            let (span, bytes, chars, break_count) = Span::with_byte(part, byte_idx);
             let chunks = Chunks {
                 span,
                 is_empty: info.chars == 0,
                 is_past: false,
                 is_backward: false,
             };
-            (chunks, bytes, chars, breaks)
+            (chunks, bytes, chars, break_count)
         }
     }
 
@@ -108,14 +108,14 @@ impl<'a> Chunks<'a> {
         if char_idx == info.chars {
             Chunks::at_end(part)
         } else {
-            let (span, bytes, chars, breaks) = Span::with_char(part, char_idx);
+            let (span, bytes, chars, break_count) = Span::with_char(part, char_idx);
             let chunks = Chunks {
                 span,
                 is_empty: info.chars == 0,
                 is_past: false,
                 is_backward: false,
             };
-            (chunks, bytes, chars, breaks)
+            (chunks, bytes, chars, break_count)
         }
     }
 
@@ -137,14 +137,14 @@ impl<'a> Chunks<'a> {
             Chunks::at_end(part)
         } else {
             let end = part.line_to_char(line_break_idx);
-            let (span, bytes, chars, breaks) = Span::with_char(part, end.saturating_sub(1));
+            let (span, bytes, chars, break_count) = Span::with_char(part, end.saturating_sub(1));
             let chunks = Chunks {
                 span,
                 is_empty: info.chars == 0,
                 is_past: false,
                 is_backward: false,
             };
-            (chunks, bytes, chars, breaks)
+            (chunks, bytes, chars, break_count)
         }
     }
 

@@ -57,39 +57,39 @@ fn width_of(byte: u8) -> usize
 // The counts of a text up to the end of its first line break, or of all of it: the text is read once, up to there.
 // Inlined, since what a call answers through memory has to be waited for.
 #[inline(always)]
-fn count_line(text: &str, set: LineBreaks) -> TextInfo
-    ensures { result ≡ info_of set (first_line set (chars text.now)) }
+fn count_line(text: &str, breaks: LineBreaks) -> TextInfo
+    ensures { result ≡ info_of breaks (first_line breaks (chars text.now)) }
 {
     let bytes = text.as_bytes();
-    let front = to_first_break(bytes, set);
+    let front = to_first_break(bytes, breaks);
     if front.bytes == bytes.len() {
         return TextInfo {
             bytes: front.bytes,
             chars: front.chars,
             utf16_surrogates: front.pairs,
-            line_breaks: 0,
+            break_count: 0,
         };
     }
     TextInfo {
         bytes: front.bytes + width_of(bytes[front.bytes]),
         chars: front.chars + 1,
         utf16_surrogates: front.pairs,
-        line_breaks: 1,
+        break_count: 1,
     }
 }
 
 // From the end of a chunk to the end of a line: the place in the last chunk, and the counts of what was passed. Never
 // inlined, so that a step within one chunk is kept short.
 #[inline(never)]
-fn pass_chunks(span: &mut Span<'_>, set: LineBreaks) -> (usize, TextInfo)
+fn pass_chunks(span: &mut Span<'_>, breaks: LineBreaks) -> (usize, TextInfo)
     requires { AreChunks span.old }
-    ensures { PassesLine set (concat span.old.before ++ span.old.here) (concat span.old.after) span.new result.0 result.1 }
+    ensures { PassesLine breaks (concat span.old.before ++ span.old.here) (concat span.old.after) span.new result.0 result.1 }
 {
     let mut passed = TextInfo::new();
     while span.advance() {
-        let more = count_line(span.chunk(), set);
+        let more = count_line(span.chunk(), breaks);
         passed = passed.plus(more);
-        if more.line_breaks > 0 {
+        if more.break_count > 0 {
             return (more.bytes, passed);
         }
     }
@@ -111,59 +111,59 @@ fn cut_before(text: &str, end: usize, near: usize) -> usize
 
 // The byte at which the last line of a text starts, or the one so many line breaks before it, and the counts from there on.
 // All of the text is read.
-fn count_last_of_all(text: &str, skip: usize, set: LineBreaks) -> (usize, TextInfo)
-    ensures start { result.0 ≡ byte_len (take (last_start set (chars text.now) skip) (chars text.now)) }
-    ensures counts { result.1 ≡ info_of set (drop (last_start set (chars text.now) skip) (chars text.now)) }
+fn count_last_of_all(text: &str, skip: usize, breaks: LineBreaks) -> (usize, TextInfo)
+    ensures start { result.0 ≡ byte_len (take (last_start breaks (chars text.now) skip) (chars text.now)) }
+    ensures counts { result.1 ≡ info_of breaks (drop (last_start breaks (chars text.now) skip) (chars text.now)) }
 {
-    let breaks = count_breaks(text, set);
-    let start = line_to_byte_with(text, breaks.saturating_sub(skip), set);
+    let break_count = count_breaks(text, breaks);
+    let start = line_to_byte_with(text, break_count.saturating_sub(skip), breaks);
     let rest = text_after(text, start);
     let info = TextInfo {
         bytes: byte_len_of(rest),
         chars: count_chars(rest),
         utf16_surrogates: count_surrogates(rest),
-        line_breaks: skip.min(breaks),
+        break_count: skip.min(break_count),
     };
     (start, info)
 }
 
 // The same, found near the end of the text where it is there.
-fn count_last(text: &str, skip: usize, set: LineBreaks) -> (usize, TextInfo)
-    ensures start { result.0 ≡ byte_len (take (last_start set (chars text.now) skip) (chars text.now)) }
-    ensures counts { result.1 ≡ info_of set (drop (last_start set (chars text.now) skip) (chars text.now)) }
+fn count_last(text: &str, skip: usize, breaks: LineBreaks) -> (usize, TextInfo)
+    ensures start { result.0 ≡ byte_len (take (last_start breaks (chars text.now) skip) (chars text.now)) }
+    ensures counts { result.1 ≡ info_of breaks (drop (last_start breaks (chars text.now) skip) (chars text.now)) }
 {
     let _ = byte_len_of(text);
     let cut = cut_before(text, text.len(), NEAR_BYTES);
-    let (start, last) = count_last_of_all(text_after(text, cut), skip, set);
+    let (start, last) = count_last_of_all(text_after(text, cut), skip, breaks);
     if start > 0 {
         return (cut + start, last);
     }
-    count_last_of_all(text, skip, set)
+    count_last_of_all(text, skip, breaks)
 }
 
 // The counts of the first bytes of a text, which have so many line breaks.
-fn count_front(text: &str, bytes: usize, line_breaks: usize, set: LineBreaks) -> TextInfo
+fn count_front(text: &str, bytes: usize, count: usize, breaks: LineBreaks) -> TextInfo
     requires between { IsBetween (chars text.now) bytes }
-    requires breaks { line_breaks ≡ break_count set (before_byte (chars text.now) bytes) }
-    ensures { result ≡ info_of set (before_byte (chars text.now) bytes) }
+    requires count { count ≡ break_count breaks (before_byte (chars text.now) bytes) }
+    ensures { result ≡ info_of breaks (before_byte (chars text.now) bytes) }
 {
     TextInfo {
         bytes,
         chars: byte_to_char_idx(text, bytes),
         utf16_surrogates: byte_to_surrogates(text, bytes),
-        line_breaks,
+        break_count: count,
     }
 }
 
 // The byte at which a line of a text starts. Mostly it is the second line, since so little text is looked at.
-fn start_of_line(text: &str, line_idx: usize, set: LineBreaks) -> usize
-    ensures { result ≡ line_to_byte set (chars text.now) line_idx }
+fn start_of_line(text: &str, line_idx: usize, breaks: LineBreaks) -> usize
+    ensures { result ≡ line_to_byte breaks (chars text.now) line_idx }
 {
     if line_idx == 1 {
-        let first = count_line(text, set);
+        let first = count_line(text, breaks);
         return first.bytes;
     }
-    line_to_byte_with(text, line_idx, set)
+    line_to_byte_with(text, line_idx, breaks)
 }
 
 // What `count_last` answers of a text's front, where it is found in the bytes near the front's end. What follows the front
@@ -173,23 +173,23 @@ fn find_last(
     end: usize,
     near: usize,
     skip: usize,
-    set: LineBreaks,
+    breaks: LineBreaks,
 ) -> Option<(usize, TextInfo)>
     requires between { IsBetween (chars text.now) end }
     requires apart { parts_crlf (before_byte (chars text.now) end) (after_byte (chars text.now) end) ≡ false }
     ensures start { IfSome result (λ found. found.0
-        ≡ byte_len (take (last_start set (before_byte (chars text.now) end) skip) (before_byte (chars text.now) end))) }
+        ≡ byte_len (take (last_start breaks (before_byte (chars text.now) end) skip) (before_byte (chars text.now) end))) }
     ensures counts { IfSome result (λ found. found.1
-        ≡ info_of set (drop (last_start set (before_byte (chars text.now) end) skip) (before_byte (chars text.now) end))) }
+        ≡ info_of breaks (drop (last_start breaks (before_byte (chars text.now) end) skip) (before_byte (chars text.now) end))) }
 {
     let _ = byte_len_of(text);
     let cut = cut_before(text, end, near);
     let near = text_after(text, cut);
     let len = end - cut;
-    let breaks = byte_to_line_with(near, len, set);
-    if breaks > skip {
-        let start = start_of_line(near, breaks - skip, set);
-        let info = count_front(text_after(near, start), len - start, skip, set);
+    let break_count = byte_to_line_with(near, len, breaks);
+    if break_count > skip {
+        let start = start_of_line(near, break_count - skip, breaks);
+        let info = count_front(text_after(near, start), len - start, skip, breaks);
         return Some((cut + start, info));
     }
     None
@@ -197,38 +197,38 @@ fn find_last(
 
 // What `count_last` answers of a text's front. It is looked for near the front's end, and then in twice as many bytes,
 // so a line costs its own length, however long the text is before it.
-fn count_last_before(text: &str, end: usize, skip: usize, set: LineBreaks) -> (usize, TextInfo)
+fn count_last_before(text: &str, end: usize, skip: usize, breaks: LineBreaks) -> (usize, TextInfo)
     requires between { IsBetween (chars text.now) end }
     requires apart { parts_crlf (before_byte (chars text.now) end) (after_byte (chars text.now) end) ≡ false }
-    ensures start { result.0 ≡ byte_len (take (last_start set (before_byte (chars text.now) end) skip) (before_byte (chars text.now) end)) }
-    ensures counts { result.1 ≡ info_of set (drop (last_start set (before_byte (chars text.now) end) skip) (before_byte (chars text.now) end)) }
+    ensures start { result.0 ≡ byte_len (take (last_start breaks (before_byte (chars text.now) end) skip) (before_byte (chars text.now) end)) }
+    ensures counts { result.1 ≡ info_of breaks (drop (last_start breaks (before_byte (chars text.now) end) skip) (before_byte (chars text.now) end)) }
 {
     let mut near = NEAR_BYTES;
     loop {
-        if let Some(found) = find_last(text, end, near, skip, set) {
+        if let Some(found) = find_last(text, end, near, skip, breaks) {
             return found;
         }
         if near >= end {
-            return count_last_of_all(text_before(text, end), skip, set);
+            return count_last_of_all(text_before(text, end), skip, breaks);
         }
         near = near.saturating_mul(2);
     }
 }
 
 // From the start of a chunk back to the start of a line: the place in the last chunk, and the counts of what was passed.
-fn pass_chunks_back(span: &mut Span<'_>, skip: usize, set: LineBreaks) -> (usize, TextInfo)
+fn pass_chunks_back(span: &mut Span<'_>, skip: usize, breaks: LineBreaks) -> (usize, TextInfo)
     requires { AreChunks span.old }
-    ensures { PassesBack set skip (concat span.old.before) (span.old.here ++ concat span.old.after) span.new result.0 result.1 }
+    ensures { PassesBack breaks skip (concat span.old.before) (span.old.here ++ concat span.old.after) span.new result.0 result.1 }
 {
     let mut passed = TextInfo::new();
     let mut left = skip;
     while span.retreat() {
-        let (start, more) = count_last(span.chunk(), left, set);
+        let (start, more) = count_last(span.chunk(), left, breaks);
         passed = more.plus(passed);
         if start > 0 {
             return (start, passed);
         }
-        left -= more.line_breaks;
+        left -= more.break_count;
     }
     (0, passed)
 }
@@ -257,35 +257,35 @@ impl<'a> Gap<'a> {
     }
 
     /// Goes on past the next line break, or to the end. Answers the counts of what it passed.
-    pub fn pass_line(&mut self, set: LineBreaks) -> TextInfo
-        ensures front { self.new.front ≡ self.old.front ++ first_line set self.old.back }
-        ensures back { self.old.back ≡ first_line set self.old.back ++ self.new.back }
-        ensures counts { result ≡ info_of set (first_line set self.old.back) }
+    pub fn pass_line(&mut self, breaks: LineBreaks) -> TextInfo
+        ensures front { self.new.front ≡ self.old.front ++ first_line breaks self.old.back }
+        ensures back { self.old.back ≡ first_line breaks self.old.back ++ self.new.back }
+        ensures counts { result ≡ info_of breaks (first_line breaks self.old.back) }
     {
-        let first = count_line(text_after(self.span.chunk(), self.inside), set);
-        if first.line_breaks > 0 {
+        let first = count_line(text_after(self.span.chunk(), self.inside), breaks);
+        if first.break_count > 0 {
             self.inside += first.bytes;
             return first;
         }
-        let (inside, more) = pass_chunks(&mut self.span, set);
+        let (inside, more) = pass_chunks(&mut self.span, breaks);
         self.inside = inside;
         first.plus(more)
     }
 
     /// Goes back past so many line breaks, and on to the end of the one before, or to the start. Answers the counts of what it
     /// passed. It is in no CR LF.
-    pub fn pass_line_back(&mut self, skip: usize, set: LineBreaks) -> TextInfo
+    pub fn pass_line_back(&mut self, skip: usize, breaks: LineBreaks) -> TextInfo
         requires { parts_crlf self.old.front self.old.back ≡ false }
-        ensures front { self.new.front ≡ take (last_start set self.old.front skip) self.old.front }
-        ensures back { self.new.back ≡ drop (last_start set self.old.front skip) self.old.front ++ self.old.back }
-        ensures counts { result ≡ info_of set (drop (last_start set self.old.front skip) self.old.front) }
+        ensures front { self.new.front ≡ take (last_start breaks self.old.front skip) self.old.front }
+        ensures back { self.new.back ≡ drop (last_start breaks self.old.front skip) self.old.front ++ self.old.back }
+        ensures counts { result ≡ info_of breaks (drop (last_start breaks self.old.front skip) self.old.front) }
     {
-        let (start, last) = count_last_before(self.span.chunk(), self.inside, skip, set);
+        let (start, last) = count_last_before(self.span.chunk(), self.inside, skip, breaks);
         if start > 0 {
             self.inside = start;
             return last;
         }
-        let (inside, more) = pass_chunks_back(&mut self.span, skip - last.line_breaks, set);
+        let (inside, more) = pass_chunks_back(&mut self.span, skip - last.break_count, breaks);
         self.inside = inside;
         more.plus(last)
     }

@@ -91,7 +91,7 @@ impl<'a> Lines<'a> {
             return None;
         }
         let line = self.line - 1;
-        let skip = self.before.line_breaks - line;
+        let skip = self.before.break_count - line;
         let passed = self.gap.pass_line_back(skip, self.part.line_breaks());
         let start = self.before.minus(passed);
         let item = between(&self.part, start, self.before);

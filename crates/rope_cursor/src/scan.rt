@@ -2,7 +2,7 @@
 ghost use Rattle.std.specs.Prelude.{◌≡◌, ◌+◌, ◌<◌, ◌≤◌, length, count_by, drop, slice_index, cond, IsTrue, ℕ};
 ghost use Rattle.rope_text.specs.Bits.{ones_below};
 ghost use Rattle.rope_text.specs.Bytes.{begins_char, begins_pair};
-ghost use Rattle.rope_text.specs.ByteBreaks.{break_at, byte_breaks};
+ghost use Rattle.rope_text.specs.ByteBreaks.{break_at, byte_break_count};
 ghost use Rattle.rope_cursor.specs.Scan.{IsFront};
 
 use rope_text::LineBreaks;
@@ -59,7 +59,7 @@ fn pair_mask(bytes: &[u8], at: usize) -> u64
 #[inline(always)]
 fn lf_mask(bytes: &[u8], at: usize) -> u64
     requires { at + 34 ≤ length bytes.now }
-    ensures { (n : ℕ) → n ≤ 32 → byte_breaks LineBreaks.Lf (drop at bytes.now) ≡ ones_below result n + byte_breaks LineBreaks.Lf (drop (at + n) bytes.now) }
+    ensures { (n : ℕ) → n ≤ 32 → byte_break_count LineBreaks.Lf (drop at bytes.now) ≡ ones_below result n + byte_break_count LineBreaks.Lf (drop (at + n) bytes.now) }
 {
     let x = u8x32::from_slice(&bytes[at..]);
     x.simd_eq(u8x32::splat(b'\n')).to_bitmask()
@@ -68,7 +68,7 @@ fn lf_mask(bytes: &[u8], at: usize) -> u64
 #[inline(always)]
 fn cr_lf_mask(bytes: &[u8], at: usize) -> u64
     requires { at + 34 ≤ length bytes.now }
-    ensures { (n : ℕ) → n ≤ 32 → byte_breaks LineBreaks.CrLf (drop at bytes.now) ≡ ones_below result n + byte_breaks LineBreaks.CrLf (drop (at + n) bytes.now) }
+    ensures { (n : ℕ) → n ≤ 32 → byte_break_count LineBreaks.CrLf (drop at bytes.now) ≡ ones_below result n + byte_break_count LineBreaks.CrLf (drop (at + n) bytes.now) }
 {
     let x = u8x32::from_slice(&bytes[at..]);
     let y = u8x32::from_slice(&bytes[at + 1..]);
@@ -79,7 +79,7 @@ fn cr_lf_mask(bytes: &[u8], at: usize) -> u64
 #[inline(always)]
 fn unicode_mask(bytes: &[u8], at: usize) -> u64
     requires { at + 34 ≤ length bytes.now }
-    ensures { (n : ℕ) → n ≤ 32 → byte_breaks LineBreaks.Unicode (drop at bytes.now) ≡ ones_below result n + byte_breaks LineBreaks.Unicode (drop (at + n) bytes.now) }
+    ensures { (n : ℕ) → n ≤ 32 → byte_break_count LineBreaks.Unicode (drop at bytes.now) ≡ ones_below result n + byte_break_count LineBreaks.Unicode (drop (at + n) bytes.now) }
 {
     let x = u8x32::from_slice(&bytes[at..]);
     let y = u8x32::from_slice(&bytes[at + 1..]);
@@ -97,11 +97,11 @@ fn unicode_mask(bytes: &[u8], at: usize) -> u64
 
 // The bytes, of the 32 from `at` on, at which a break begins: loads one and two bytes on see across the end of the block.
 #[inline(always)]
-fn break_mask(bytes: &[u8], at: usize, set: LineBreaks) -> u64
+fn break_mask(bytes: &[u8], at: usize, breaks: LineBreaks) -> u64
     requires { at + 34 ≤ length bytes.now }
-    ensures { (n : ℕ) → n ≤ 32 → byte_breaks set (drop at bytes.now) ≡ ones_below result n + byte_breaks set (drop (at + n) bytes.now) }
+    ensures { (n : ℕ) → n ≤ 32 → byte_break_count breaks (drop at bytes.now) ≡ ones_below result n + byte_break_count breaks (drop (at + n) bytes.now) }
 {
-    match set {
+    match breaks {
         LineBreaks::Lf => lf_mask(bytes, at),
         LineBreaks::CrLf => cr_lf_mask(bytes, at),
         LineBreaks::Unicode => unicode_mask(bytes, at),
@@ -109,11 +109,11 @@ fn break_mask(bytes: &[u8], at: usize, set: LineBreaks) -> u64
 }
 
 #[inline(always)]
-fn begins_break(x: u8, y: u8, z: u8, set: LineBreaks) -> bool
-    ensures { result ≡ break_at set x y z }
+fn begins_break(x: u8, y: u8, z: u8, breaks: LineBreaks) -> bool
+    ensures { result ≡ break_at breaks x y z }
 {
     let is_lone_cr = x == b'\r' && y != b'\n';
-    match set {
+    match breaks {
         LineBreaks::Lf => x == b'\n',
         LineBreaks::CrLf => x == b'\n' || is_lone_cr,
         LineBreaks::Unicode => {
@@ -134,9 +134,9 @@ fn byte_or_zero(bytes: &[u8], at: usize) -> u8
 
 // Whether a character that ends a break begins at the byte `at`.
 #[inline(always)]
-fn is_break_begin(bytes: &[u8], at: usize, set: LineBreaks) -> bool
+fn is_break_begin(bytes: &[u8], at: usize, breaks: LineBreaks) -> bool
     requires { at < length bytes.now }
-    ensures { result ≡ break_at set (slice_index bytes.now at) (slice_index bytes.now (at + 1)) (slice_index bytes.now (at + 2)) }
+    ensures { result ≡ break_at breaks (slice_index bytes.now at) (slice_index bytes.now (at + 1)) (slice_index bytes.now (at + 2)) }
 {
     let byte = bytes[at];
     // Letters and the bytes after a character's first begin none.
@@ -144,7 +144,7 @@ fn is_break_begin(bytes: &[u8], at: usize, set: LineBreaks) -> bool
         return false;
     }
     let next = byte_or_zero(bytes, at + 1);
-    begins_break(byte, next, byte_or_zero(bytes, at + 2), set)
+    begins_break(byte, next, byte_or_zero(bytes, at + 2), breaks)
 }
 
 #[inline(always)]
@@ -163,16 +163,16 @@ fn pairs_begun(byte: u8) -> usize
 
 // From a place on a byte at a time. Never inlined: it is done once a chunk.
 #[inline(never)]
-fn go_byte_by_byte(bytes: &[u8], from: Front, set: LineBreaks) -> Front
-    requires { IsFront set bytes.now from }
-    ensures front { IsFront set bytes.now result }
+fn go_byte_by_byte(bytes: &[u8], from: Front, breaks: LineBreaks) -> Front
+    requires { IsFront breaks bytes.now from }
+    ensures front { IsFront breaks bytes.now result }
     ensures inside { result.bytes < length bytes.now
-        → IsTrue (break_at set (slice_index bytes.now result.bytes) (slice_index bytes.now (result.bytes + 1)) (slice_index bytes.now (result.bytes + 2))) }
+        → IsTrue (break_at breaks (slice_index bytes.now result.bytes) (slice_index bytes.now (result.bytes + 1)) (slice_index bytes.now (result.bytes + 2))) }
 {
     let mut chars = from.chars;
     let mut pairs = from.pairs;
     for at in from.bytes..bytes.len() {
-        if is_break_begin(bytes, at, set) {
+        if is_break_begin(bytes, at, breaks) {
             return Front {
                 bytes: at,
                 chars,
@@ -191,16 +191,16 @@ fn go_byte_by_byte(bytes: &[u8], from: Front, set: LineBreaks) -> Front
 
 // A block at a time. A set that is known where this is called leaves no test for it in the loop.
 #[inline(always)]
-fn go_by_blocks(bytes: &[u8], set: LineBreaks) -> Front
-    ensures front { IsFront set bytes.now result }
+fn go_by_blocks(bytes: &[u8], breaks: LineBreaks) -> Front
+    ensures front { IsFront breaks bytes.now result }
     ensures inside { result.bytes < length bytes.now
-        → IsTrue (break_at set (slice_index bytes.now result.bytes) (slice_index bytes.now (result.bytes + 1)) (slice_index bytes.now (result.bytes + 2))) }
+        → IsTrue (break_at breaks (slice_index bytes.now result.bytes) (slice_index bytes.now (result.bytes + 1)) (slice_index bytes.now (result.bytes + 2))) }
 {
     let mut at = 0;
     let mut chars = 0;
     let mut pairs = 0;
     while bytes.len() - at >= 34 {
-        let breaks = break_mask(bytes, at, set);
+        let breaks = break_mask(bytes, at, breaks);
         let begins = char_mask(bytes, at);
         let doubles = pair_mask(bytes, at);
         if ones_before(breaks, 32) > 0 {
@@ -220,7 +220,7 @@ fn go_by_blocks(bytes: &[u8], set: LineBreaks) -> Front
         chars,
         pairs,
     };
-    go_byte_by_byte(bytes, from, set)
+    go_byte_by_byte(bytes, from, breaks)
 }
 
 #[inline(always)]
@@ -253,12 +253,12 @@ fn to_first_unicode(bytes: &[u8]) -> Front
 /// The bytes before the one at which the last character of the first line break begins, or all. Each set has a loop of its
 /// own, since marks that come from one of three places are slow to put together.
 #[inline(always)]
-pub(crate) fn to_first_break(bytes: &[u8], set: LineBreaks) -> Front
-    ensures front { IsFront set bytes.now result }
+pub(crate) fn to_first_break(bytes: &[u8], breaks: LineBreaks) -> Front
+    ensures front { IsFront breaks bytes.now result }
     ensures inside { result.bytes < length bytes.now
-        → IsTrue (break_at set (slice_index bytes.now result.bytes) (slice_index bytes.now (result.bytes + 1)) (slice_index bytes.now (result.bytes + 2))) }
+        → IsTrue (break_at breaks (slice_index bytes.now result.bytes) (slice_index bytes.now (result.bytes + 1)) (slice_index bytes.now (result.bytes + 2))) }
 {
-    match set {
+    match breaks {
         LineBreaks::Lf => to_first_lf(bytes),
         LineBreaks::CrLf => to_first_cr_lf(bytes),
         LineBreaks::Unicode => to_first_unicode(bytes),

@@ -82,7 +82,7 @@ impl<'a> Span<'a> {
             span,
             before.bytes.saturating_sub(start.bytes),
             before.chars.saturating_sub(start.chars),
-            before.line_breaks.saturating_sub(start.line_breaks),
+            before.break_count.saturating_sub(start.break_count),
         )
     }
 

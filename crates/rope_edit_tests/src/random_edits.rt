@@ -156,18 +156,18 @@ fn edit(
     Ok(())
 }
 
-fn compare_all(pairs: &[Pair], set: LineBreaks) -> Result<(), Fail> {
+fn compare_all(pairs: &[Pair], breaks: LineBreaks) -> Result<(), Fail> {
     for pair in pairs {
-        compare(&pair.rope, &pair.plain, set)?;
+        compare(&pair.rope, &pair.plain, breaks)?;
     }
     Ok(())
 }
 
 /// Re-chunks all ropes.
-fn shrink_all(pairs: &mut [Pair], set: LineBreaks) -> Result<(), Fail> {
+fn shrink_all(pairs: &mut [Pair], breaks: LineBreaks) -> Result<(), Fail> {
     for pair in pairs.iter_mut() {
         pair.rope.shrink_to_fit()?;
-        compare(&pair.rope, &pair.plain, set)?;
+        compare(&pair.rope, &pair.plain, breaks)?;
         has_few_chunks(&pair.rope)?;
     }
     Ok(())
@@ -178,24 +178,24 @@ const BETWEEN_SHRINKS: usize = 16;
 
 /// Edits of several ropes of one set of line breaks, which are compared after each hundred of them, and the clones made before
 /// it too.
-fn edit_and_compare(alloc: Global, set: LineBreaks, rounds: usize) -> Result<(), Fail> {
+fn edit_and_compare(alloc: Global, breaks: LineBreaks, rounds: usize) -> Result<(), Fail> {
     let mut numbers = Numbers::new(0x9E37_79B9_7F4A_7C15);
     let mut pairs = Vec::new(alloc);
     keep(
         &mut pairs,
         Pair {
-            rope: Rope::new_with(alloc, set)?,
+            rope: Rope::new_with(alloc, breaks)?,
             plain: Vec::new(alloc),
         },
     )?;
     for round in 1..=rounds {
         let clones = copies(&pairs, alloc)?;
         edit(&mut pairs, alloc, &mut numbers, BETWEEN)?;
-        compare_all(&pairs, set)?;
+        compare_all(&pairs, breaks)?;
         if round % BETWEEN_SHRINKS == 0 {
-            shrink_all(&mut pairs, set)?;
+            shrink_all(&mut pairs, breaks)?;
         }
-        compare_all(&clones, set)?;
+        compare_all(&clones, breaks)?;
     }
     Ok(())
 }

@@ -21,9 +21,9 @@ ascii = refl
 pub is_first : (t bytes : List ℕ) → encode_utf8_all t ≡ bytes → bytes ≡ first → t ≡ first
 is_first t bytes e f = encodes_same t first (e ∙ f ∙ sym ascii)
 
-pub four_lines : (set : LineBreaks) (t : List ℕ) → set ≡ Unicode → t ≡ first → line_count set t ≡ 4
+pub four_lines : (breaks : LineBreaks) (t : List ℕ) → breaks ≡ Unicode → t ≡ first → line_count breaks t ≡ 4
 unfolding break_ends
-four_lines set t e f = rw (e, f) refl
+four_lines breaks t e f = rw (e, f) refl
 
 pub may_remove : (t : List ℕ) → t ≡ first → char_range_error (Some 4) (Some 8) (length t) ≡ None
 may_remove t f = rw f refl

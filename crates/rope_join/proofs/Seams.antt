@@ -27,7 +27,7 @@ ends_at xs i x e =
 
 -- two trees with no CR LF between them
 pub can_join : (a b : Tree) → AreLeaves a.leaves → AreLeaves b.leaves → b.breaks ≡ a.breaks → IsSeam (text a) (text b) → byte_len (text a) + byte_len (text b) < 2 ^ 63 → CanJoin a b
-can_join a b i j set s fits = record { same_breaks = set; leaves = leaves-append a.leaves b.leaves i j s; fits = fits }
+can_join a b i j breaks s fits = record { same_breaks = breaks; leaves = leaves-append a.leaves b.leaves i j s; fits = fits }
 
 pub join_text : (a b r : Tree) → IsJoin a b r → text r ≡ text a ++ text b
 join_text a b r j = j.recuts.same_text ∙ concat-append a.leaves b.leaves
@@ -36,7 +36,7 @@ pub byte_len-pair : byte_len (13 ∷ 10 ∷ []) ≡ 2
 unfolding lib.Utf8.encode
 byte_len-pair = refl
 
-module _ (a p b : Tree) (ia : IsTree a) (ip : IsTree p) (ib : IsTree b) (set : b.breaks ≡ a.breaks) (e : p ≡ leaf_tree a.breaks (13 ∷ 10 ∷ [])) (fits : byte_len (text a) + byte_len (text b) + 2 < 2 ^ 63) where
+module _ (a p b : Tree) (ia : IsTree a) (ip : IsTree p) (ib : IsTree b) (breaks : b.breaks ≡ a.breaks) (e : p ≡ leaf_tree a.breaks (13 ∷ 10 ∷ [])) (fits : byte_len (text a) + byte_len (text b) + 2 < 2 ^ 63) where
   pair_is : text p ≡ 13 ∷ 10 ∷ []
   pair_is = text_of_leaf a.breaks p (13 ∷ 10 ∷ []) e
 
@@ -52,7 +52,7 @@ module _ (a p b : Tree) (ia : IsTree a) (ip : IsTree p) (ib : IsTree b) (set : b
     pub pair_second : CanJoin f b
     pair_second =
         let s : IsSeam (text f) (text b) = record { apart = rw (front_is, ends_in_cr-append (text a) 13 (10 ∷ [])) refl } in
-        can_join f b j.recuts.leaves ib.leaves (set ∙ sym j.same_breaks) s (omega (arith, fits, ap byte_len front_is, IsMeasure-byte_len.joined (text a) (13 ∷ 10 ∷ []), byte_len-pair))
+        can_join f b j.recuts.leaves ib.leaves (breaks ∙ sym j.same_breaks) s (omega (arith, fits, ap byte_len front_is, IsMeasure-byte_len.joined (text a) (13 ∷ 10 ∷ []), byte_len-pair))
 
     pub pair_joined : (r : Tree) → IsJoin f b r → text r ≡ text a ++ 13 ∷ 10 ∷ text b
     pair_joined r k = join_text f b r k ∙ ap (λ z. z ++ text b) front_is ∙ append_assoc (text a) (13 ∷ 10 ∷ []) (text b)

@@ -126,11 +126,11 @@ module _ (br : LineBreaks) (h : ℕ) (t u : Tree) (ts : List Tree) (c : IsChild 
   ]
 
   pub right_parts : u.breaks ≡ br → u.height ≤ h → IsUnion u t ts → All (IsChild br h) ts × (1 ≤ length ts) × (length ts ≤ 2)
-  right_parts set le i = elim (cases_lt u.height h) [
-    | inl l ↦ are_children t.width (t.width + 1) (omega arith) (rw (set, c.at_height) at (i.lower (omega (arith, c.at_height))))
+  right_parts breaks le i = elim (cases_lt u.height h) [
+    | inl l ↦ are_children t.width (t.width + 1) (omega arith) (rw (breaks, c.at_height) at (i.lower (omega (arith, c.at_height))))
     | inr ge ↦
         let e : u.height ≡ t.height = omega (arith, c.at_height) in
-        are_children (u.width + t.width) (u.width + t.width) (omega arith) (rw (set, e, c.at_height) at (i.equal e))
+        are_children (u.width + t.width) (u.width + t.width) (omega arith) (rw (breaks, e, c.at_height) at (i.equal e))
   ]
 
 weaker_parts : (br : LineBreaks) (v w m n h : ℕ) (ts : List Tree) → v ≤ w → m ≤ n → AreParts br w m h ts → AreParts br v n h ts
@@ -143,7 +143,7 @@ weaker_parts br v w m n h ts le lm p = record {
 }
 
 -- a higher tree takes a lower one at its end
-module _ (a b last : Tree) (init : List Tree) (br : LineBreaks) (h : ℕ) (ea : a ≡ tree_over (init ++ last ∷ [])) (ca : AreChildren br h (init ++ last ∷ [])) (set : a.breaks ≡ br) (above : a.height ≡ h + 1) (j : CanJoin a b) (below : b.height < a.height) where
+module _ (a b last : Tree) (init : List Tree) (br : LineBreaks) (h : ℕ) (ea : a ≡ tree_over (init ++ last ∷ [])) (ca : AreChildren br h (init ++ last ∷ [])) (breaks : a.breaks ≡ br) (above : a.height ≡ h + 1) (j : CanJoin a b) (below : b.height < a.height) where
   pub end_child : IsChild br h last
   end_child = All-head (IsChild br h) last [] (all_right (IsChild br h) init (last ∷ []) ca.each)
 
@@ -158,7 +158,7 @@ module _ (a b last : Tree) (init : List Tree) (br : LineBreaks) (h : ℕ) (ea : 
 
   pub end_can_join : CanJoin last b
   end_can_join = record {
-    same_breaks = j.same_breaks ∙ set ∙ sym end_child.same_breaks;
+    same_breaks = j.same_breaks ∙ breaks ∙ sym end_child.same_breaks;
     leaves = leaves_right (leaves_of init) (last.leaves ++ b.leaves) end_are;
     fits = omega (arith, j.fits, end_text);
   }
@@ -198,17 +198,17 @@ module _ (a b last : Tree) (init : List Tree) (br : LineBreaks) (h : ℕ) (ea : 
         let n = length (init ++ ts) in
         let ew : a.width ≡ length (init ++ last ∷ []) = ap (λ t. t.width) ea in
         let eh : height_of (init ++ ts) + 1 ≡ a.height = ap (λ k. k + 1) (height_of_is br h (init ++ ts) end_some end_each) ∙ sym above in
-        let es : breaks_of (init ++ ts) ≡ a.breaks = breaks_of_is br h (init ++ ts) end_some end_each ∙ sym set in
+        let es : breaks_of (init ++ ts) ≡ a.breaks = breaks_of_is br h (init ++ ts) end_some end_each ∙ sym breaks in
         let r : Recuts (a.leaves ++ b.leaves) (leaves_of us) = rw (end_leaves, el, leaves_of-append) end_recuts in
         higher_union a b us r below (weaker_parts a.breaks a.width n n (a.width + 1) a.height us (omega (arith, end_count.2)) (omega (arith, end_count.3)) (rw (eh, es) at p))
 
 -- a lower tree goes to the front of a higher one
-module _ (a b first : Tree) (rest : List Tree) (br : LineBreaks) (h : ℕ) (eb : b ≡ tree_over (first ∷ rest)) (cb : AreChildren br h (first ∷ rest)) (set : b.breaks ≡ br) (above : b.height ≡ h + 1) (j : CanJoin a b) (below : a.height < b.height) where
+module _ (a b first : Tree) (rest : List Tree) (br : LineBreaks) (h : ℕ) (eb : b ≡ tree_over (first ∷ rest)) (cb : AreChildren br h (first ∷ rest)) (breaks : b.breaks ≡ br) (above : b.height ≡ h + 1) (j : CanJoin a b) (below : a.height < b.height) where
   pub front_child : IsChild br h first
   front_child = All-head (IsChild br h) first rest cb.each
 
   front_set : a.breaks ≡ br
-  front_set = sym j.same_breaks ∙ set
+  front_set = sym j.same_breaks ∙ breaks
 
   front_leaves : a.leaves ++ b.leaves ≡ (a.leaves ++ first.leaves) ++ leaves_of rest
   front_leaves = rw (eb, append_assoc) refl

@@ -65,9 +65,9 @@ reply_words (Byte b) = decimal b
 reply_words (Char c) = quoted (c ∷ [])
 reply_words (Text s) = quoted (chars (string_bytes s))
 reply_words (Texts v) = decimal (length v.items) ++ flat_map (λ s. codes " " ++ quoted (chars (string_bytes s))) v.items
-reply_words (Breaks set) = breaks_word set
-reply_words (Chunk s bytes characters breaks) =
-    quoted (chars (string_bytes s)) ++ (codes " " ++ (decimal bytes ++ (codes " " ++ (decimal characters ++ (codes " " ++ decimal breaks)))))
+reply_words (Breaks breaks) = breaks_word breaks
+reply_words (Chunk s bytes characters count) =
+    quoted (chars (string_bytes s)) ++ (codes " " ++ (decimal bytes ++ (codes " " ++ (decimal characters ++ (codes " " ++ decimal count)))))
 reply_words (Walk v) = decimal (length v.items) ++ flat_map (λ found. codes " " ++ item_words found) v.items
 reply_words (Order order) = order_word order
 reply_words (Position line column) = decimal line ++ (codes " " ++ decimal column)

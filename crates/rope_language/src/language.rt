@@ -60,10 +60,10 @@ fn make(alloc: Global, words: &str) -> Result<Option<Command>, AllocError> {
 
 /// `SET TEXT`, of a rope to be made.
 fn make_with(alloc: Global, words: &str) -> Result<Option<Command>, AllocError> {
-    let Some((set, text)) = words.split_once(' ') else {
+    let Some((breaks, text)) = words.split_once(' ') else {
         return Ok(None);
     };
-    let Some(breaks) = line_breaks(set) else {
+    let Some(breaks) = line_breaks(breaks) else {
         return Ok(None);
     };
     match unescape(alloc, text)? {

@@ -43,8 +43,8 @@ fn write_reply(out: &mut String, reply: &Reply) -> Result<(), AllocError>
         Reply::Char(c) => quote_alone(out, *c)?,
         Reply::Text(text) => quote(out, text.as_str())?,
         Reply::Texts(texts) => write_texts(out, texts)?,
-        Reply::Breaks(breaks) => out.push_str(breaks_word(*breaks))?,
-        Reply::Chunk(text, bytes, chars, breaks) => {
+        Reply::Breaks(break_count) => out.push_str(breaks_word(*break_count))?,
+        Reply::Chunk(text, bytes, chars, break_count) => {
             quote(out, text.as_str())?;
             write!(out, " {bytes} {chars} {breaks}")?;
         }
@@ -56,10 +56,10 @@ fn write_reply(out: &mut String, reply: &Reply) -> Result<(), AllocError>
 }
 
 /// The word that names a set of line breaks.
-fn breaks_word(breaks: LineBreaks) -> &'static str
-    ensures { result.now ≡ words.breaks_word breaks }
+fn breaks_word(break_count: LineBreaks) -> &'static str
+    ensures { result.now ≡ words.breaks_word break_count }
 {
-    match breaks {
+    match break_count {
         LineBreaks::Lf => "lf",
         LineBreaks::CrLf => "crlf",
         LineBreaks::Unicode => "unicode",

@@ -66,12 +66,12 @@ fn chunks(rt: HostRuntime) -> Result<(), Fail> {
             let (mut by_byte, byte_idx, _, _) = given(
                 long.rope.get_chunks_at_byte(place.byte_idx),
             )?;
-            let (mut by_char, start, char_idx, breaks) = given(
+            let (mut by_char, start, char_idx, break_count) = given(
                 long.rope.get_chunks_at_char(place.char_idx),
             )?;
             let before = long.unit.place(char_idx);
             assert_eq!(rt; [byte_idx, start], [before.byte_idx, before.byte_idx]);
-            assert_eq!(rt; breaks, before.line_idx);
+            assert_eq!(rt; break_count, before.line_idx);
             let chunk = by_byte.next();
             assert!(rt; chunk == by_char.next());
             assert_eq!(rt; chunk.is_none(), place.char_idx == long.unit.char_count());
@@ -86,12 +86,12 @@ fn chunks(rt: HostRuntime) -> Result<(), Fail> {
 #[test]
 fn chunks_past_the_last_line(rt: HostRuntime) -> Result<(), Fail> {
     for long in all(rt.alloc())? {
-        let breaks = long.unit.break_count();
-        let lines = breaks.saturating_add(1);
+        let break_count = long.unit.break_count();
+        let lines = break_count.saturating_add(1);
         let (mut chunks, byte_idx, char_idx, before) = given(
             long.rope.get_chunks_at_line_break(lines),
         )?;
-        let expected = [WHOLE, long.unit.char_count(), breaks];
+        let expected = [WHOLE, long.unit.char_count(), break_count];
         assert_eq!(rt; [byte_idx, char_idx, before], expected);
         assert!(rt; chunks.next().is_none() && chunks.prev().is_some());
         let past = lines.saturating_add(1);
@@ -108,14 +108,14 @@ fn chars_of_line(line: Option<ropey::RopeSlice<'_>>) -> Option<usize> {
 #[test]
 fn lines(rt: HostRuntime) -> Result<(), Fail> {
     for long in all(rt.alloc())? {
-        let breaks = long.unit.break_count();
-        for line_idx in [0, breaks / 2, breaks, breaks.saturating_add(1)] {
+        let break_count = long.unit.break_count();
+        for line_idx in [0, break_count / 2, break_count, break_count.saturating_add(1)] {
             let mut lines = given(long.rope.get_lines_at(line_idx))?;
             assert_eq!(rt;
                 lines.len(),
-                breaks.saturating_add(1).saturating_sub(line_idx)
+                break_count.saturating_add(1).saturating_sub(line_idx)
             );
-            if 0 < line_idx && line_idx < breaks {
+            if 0 < line_idx && line_idx < break_count {
                 assert_eq!(rt; chars_of_line(lines.next()), Some(long.unit.chars));
                 assert_eq!(rt; chars_of_line(lines.prev()), Some(long.unit.chars));
                 assert_eq!(rt; chars_of_line(lines.prev()), Some(long.unit.chars));
@@ -123,9 +123,9 @@ fn lines(rt: HostRuntime) -> Result<(), Fail> {
                 assert!(rt; line.eq_str(long.unit.text));
             }
         }
-        assert!(rt; long.rope.get_lines_at(breaks.saturating_add(2)).is_none());
+        assert!(rt; long.rope.get_lines_at(break_count.saturating_add(2)).is_none());
         assert!(rt; long.rope.get_lines_at(usize::MAX).is_none());
-        assert!(rt; long.rope.get_line(breaks.saturating_add(1)).is_none());
+        assert!(rt; long.rope.get_line(break_count.saturating_add(1)).is_none());
         assert!(rt; long.rope.get_line(usize::MAX).is_none());
     }
     Ok(())
@@ -134,9 +134,9 @@ fn lines(rt: HostRuntime) -> Result<(), Fail> {
 #[test]
 fn the_last_lines_of_texts_with_breaks(rt: HostRuntime) -> Result<(), Fail> {
     for long in all(rt.alloc())? {
-        let breaks = long.unit.break_count();
-        if breaks > 0 {
-            let mut lines = given(long.rope.get_lines_at(breaks))?;
+        let break_count = long.unit.break_count();
+        if break_count > 0 {
+            let mut lines = given(long.rope.get_lines_at(break_count))?;
             assert_eq!(rt; chars_of_line(lines.next()), Some(0));
             assert_eq!(rt; chars_of_line(lines.next()), None);
             assert_eq!(rt; chars_of_line(lines.prev()), Some(0));

@@ -18,7 +18,7 @@ pub struct Unit {
     pub bytes_a_char: usize,
     pub units_a_char: usize,
     /// Its line breaks, the last at its end.
-    pub breaks: usize,
+    pub break_count: usize,
     /// How often it is doubled, to 2^62 bytes.
     pub times: u32,
 }
@@ -30,7 +30,7 @@ pub const UNITS: [Unit; 4] = [
         chars: 1,
         bytes_a_char: 1,
         units_a_char: 1,
-        breaks: 0,
+        break_count: 0,
         times: 62,
     },
     Unit {
@@ -38,7 +38,7 @@ pub const UNITS: [Unit; 4] = [
         chars: 2,
         bytes_a_char: 1,
         units_a_char: 1,
-        breaks: 1,
+        break_count: 1,
         times: 61,
     },
     Unit {
@@ -46,7 +46,7 @@ pub const UNITS: [Unit; 4] = [
         chars: 1,
         bytes_a_char: 4,
         units_a_char: 2,
-        breaks: 0,
+        break_count: 0,
         times: 60,
     },
     Unit {
@@ -54,7 +54,7 @@ pub const UNITS: [Unit; 4] = [
         chars: 4,
         bytes_a_char: 1,
         units_a_char: 1,
-        breaks: 1,
+        break_count: 1,
         times: 60,
     },
 ];
@@ -282,11 +282,11 @@ fn items(rt: HostRuntime) -> Result<(), Fail> {
 
 /// A chunk holds a place, or ends there at the text's end, and begins where the counts say.
 fn holds(found: (&str, usize, usize, usize), unit: &Unit, place: Place) -> bool {
-    let (chunk, byte_idx, char_idx, breaks) = found;
+    let (chunk, byte_idx, char_idx, break_count) = found;
     let start = unit.place(char_idx);
     let end = byte_idx.saturating_add(chunk.len());
     let is_in = place.byte_idx < end || (end == WHOLE && place.byte_idx == end);
-    start.byte_idx == byte_idx && start.line_idx == breaks && byte_idx <= place.byte_idx && is_in
+    start.byte_idx == byte_idx && start.line_idx == break_count && byte_idx <= place.byte_idx && is_in
 }
 
 #[test]
@@ -305,9 +305,9 @@ fn chunks(rt: HostRuntime) -> Result<(), Fail> {
 #[test]
 fn chunks_at_line_breaks(rt: HostRuntime) -> Result<(), Fail> {
     for long in all(rt.alloc())? {
-        let breaks = long.unit.break_count();
-        for line_break in [0, 1, breaks / 2, breaks] {
-            let line_break = line_break.min(breaks);
+        let break_count = long.unit.break_count();
+        for line_break in [0, 1, break_count / 2, break_count] {
+            let line_break = line_break.min(break_count);
             let (chunk, byte_idx, char_idx, before) = given(
                 long.rope.get_chunk_at_line_break(line_break),
             )?;

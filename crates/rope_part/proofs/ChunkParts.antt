@@ -37,7 +37,7 @@ pub boundary_of : (bs cs : List ℕ) (i p : ℕ) → IsUtf8 bs → chars bs ≡ 
 boundary_of bs cs i p u same from = rw (from ∙ ap (λ s. byte_len (take i s)) (sym same)) (byte_len_boundary bs i u)
 
 -- the k-th of some chunks, none of them empty, with a character of the part from a up to b
-module _ (set : LineBreaks) (chunks : List (List ℕ)) (a b k : ℕ) (l : k < length chunks) (some : a < b) (within : b ≤ length (concat chunks)) (full : All (λ chunk. 0 < length chunk) chunks) (kept : KeepsCrlf chunks)
+module _ (breaks : LineBreaks) (chunks : List (List ℕ)) (a b k : ℕ) (l : k < length chunks) (some : a < b) (within : b ≤ length (concat chunks)) (full : All (λ chunk. 0 < length chunk) chunks) (kept : KeepsCrlf chunks)
     (starts : length (before chunks k) < b) (ends : a < length (before chunks k) + length (get_or chunks k [])) where
   leaf_bytes : (i : ℕ) → i ≤ length (before chunks k) + length (get_or chunks k []) → byte_len (take (i - length (before chunks k)) (get_or chunks k [])) ≡ byte_len (take i (concat chunks)) - byte_len (before chunks k)
   leaf_bytes i most = elim (cases_lt i (length (before chunks k))) [
@@ -88,22 +88,22 @@ module _ (set : LineBreaks) (chunks : List (List ℕ)) (a b k : ℕ) (l : k < le
       let e : ℕ = min (length (before chunks k) + length (get_or chunks k [])) b in
       omega (arith, ap length c.upto, size_of_part length IsMeasure-length (concat chunks) a e, length-take a (concat chunks), length-take e (concat chunks))
 
-  line_of : char_to_line set (concat chunks) (length (before chunks k)) ≡ break_count set (before chunks k)
-  line_of = breaks_before set chunks k full kept
+  line_of : char_to_line breaks (concat chunks) (length (before chunks k)) ≡ break_count breaks (before chunks k)
+  line_of = breaks_before breaks chunks k full kept
 
-  lines_before : char_to_line set (concat (clip chunks a b)) (length (before chunks k) - a) ≡ break_count set (before chunks k) - char_to_line set (concat chunks) a
+  lines_before : char_to_line breaks (concat (clip chunks a b)) (length (before chunks k) - a) ≡ break_count breaks (before chunks k) - char_to_line breaks (concat chunks) a
   lines_before = elim (cases_lt a (length (before chunks k))) [
     | inl inside ↦
         let n : ℕ = length (before chunks k) in
         let back : a + (n - a) ≡ n = omega arith in
-        let part = rw back at (char_to_line_part set (concat chunks) a b some within (n - a) (omega arith)) in
-        omega (arith, line_of, ap (λ s. char_to_line set s (n - a)) (concat-clip chunks a b))
+        let part = rw back at (char_to_line_part breaks (concat chunks) a b some within (n - a) (omega arith)) in
+        omega (arith, line_of, ap (λ s. char_to_line breaks s (n - a)) (concat-clip chunks a b))
     | inr before_it ↦
         let n : ℕ = length (before chunks k) in
         let none : n - a ≡ 0 = omega arith in
         let on : n + (a - n) ≡ a = omega arith in
-        let later = rw on at (char_to_line-drop set (concat chunks) n (a - n) (omega arith)) in
-        rw none (omega (arith, char_to_line_start set (concat (clip chunks a b)), line_of))
+        let later = rw on at (char_to_line-drop breaks (concat chunks) n (a - n) (omega arith)) in
+        rw none (omega (arith, char_to_line_start breaks (concat (clip chunks a b)), line_of))
   ]
 
   pub index_of_first : chunk_index_at_char (clip chunks a b) (length (before chunks k) - a) ≡ length (clip (take k chunks) a b)
@@ -112,17 +112,17 @@ module _ (set : LineBreaks) (chunks : List (List ℕ)) (a b k : ℕ) (l : k < le
       let nonempty = full k [] l in
       chunk_index_at_char_is (clip chunks a b) (length (before chunks k) - a) (length (clip (take k chunks) a b)) c.within (omega (arith, chars_before)) (λ _. omega (arith, chars_upto))
 
-  pub found_in : (chunk : List ℕ) (bytes chars breaks : ℕ) → chunk ≡ slice_range (get_or chunks k []) (a - length (before chunks k)) (b - length (before chunks k))
-      → bytes ≡ byte_len (before chunks k) - byte_len (take a (concat chunks)) → chars ≡ length (before chunks k) - a → breaks ≡ break_count set (before chunks k) - char_to_line set (concat chunks) a
-      → IsFoundChunk (found_chunk set (clip chunks a b) (chunk_index_at_char (clip chunks a b) (length (before chunks k) - a))) chunk bytes chars breaks
+  pub found_in : (chunk : List ℕ) (bytes chars count : ℕ) → chunk ≡ slice_range (get_or chunks k []) (a - length (before chunks k)) (b - length (before chunks k))
+      → bytes ≡ byte_len (before chunks k) - byte_len (take a (concat chunks)) → chars ≡ length (before chunks k) - a → count ≡ break_count breaks (before chunks k) - char_to_line breaks (concat chunks) a
+      → IsFoundChunk (found_chunk breaks (clip chunks a b) (chunk_index_at_char (clip chunks a b) (length (before chunks k) - a))) chunk bytes chars count
   unfolding found_chunk
-  found_in chunk bytes chars breaks t m n o =
+  found_in chunk bytes chars count t m n o =
       let c = clip_at in
       rw index_of_first record {
         text_is = t ∙ sym c.chunk;
         bytes_are = m ∙ sym bytes_before;
         chars_are = n ∙ sym chars_before;
-        breaks_are = o ∙ sym lines_before ∙ ap (char_to_line set (concat (clip chunks a b))) (sym chars_before);
+        count_is = o ∙ sym lines_before ∙ ap (char_to_line breaks (concat (clip chunks a b))) (sym chars_before);
       }
 
   -- it holds the place of the part, or it is the last chunk of the part and the place is the end

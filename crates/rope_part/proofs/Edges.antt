@@ -38,7 +38,7 @@ back_apart s (c ∷ t) rest apart some = sym (parts_crlf-append s c t rest) ∙ 
 
 module _ (i : ℕ) (t : Tree) (leaf : List ℕ) (front : TextInfo) (tree : IsTree t) (f : IsFound Char i t leaf front) where
   pub start_found : (bytes pairs lines : ℕ) → bytes ≡ char_to_byte leaf (i - front.chars) → pairs ≡ surrogate_count (take (i - front.chars) leaf) → lines ≡ char_to_line t.breaks leaf (i - front.chars)
-      → record { bytes = front.bytes + bytes; chars = i; utf16_surrogates = front.utf16_surrogates + pairs; line_breaks = front.line_breaks + lines } ≡ start_info t.breaks (text t) i
+      → record { bytes = front.bytes + bytes; chars = i; utf16_surrogates = front.utf16_surrogates + pairs; break_count = front.break_count + lines } ≡ start_info t.breaks (text t) i
   start_found bytes pairs lines b p l =
       let k : ℕ = i - front.chars in
       let within = (found_char i t leaf front f).0 in
@@ -47,7 +47,7 @@ module _ (i : ℕ) (t : Tree) (leaf : List ℕ) (front : TextInfo) (tree : IsTre
       let long = length-take-le i (text t) (omega (arith, f.not_past, whole, at.chars, length-append (before t.leaves f.index) (leaf ++ after t.leaves f.index), length-append leaf (after t.leaves f.index))) in
       let short = length-take-le k leaf (omega arith) in
       let units = found_char_to_utf16 i t leaf front tree f in
-      same_info (record { bytes = front.bytes + bytes; chars = i; utf16_surrogates = front.utf16_surrogates + pairs; line_breaks = front.line_breaks + lines }) (start_info t.breaks (text t) i)
+      same_info (record { bytes = front.bytes + bytes; chars = i; utf16_surrogates = front.utf16_surrogates + pairs; break_count = front.break_count + lines }) (start_info t.breaks (text t) i)
       (omega (arith, found_char_to_byte i t leaf front tree f, b)) refl (omega (arith, units, long, short, p, f.not_past)) (omega (arith, found_char_to_line i t leaf front tree f, l))
 
   pub seam_before : parts_crlf (before t.leaves f.index) (take (i - front.chars) leaf) ≡ false
@@ -68,35 +68,35 @@ module _ (i : ℕ) (t : Tree) (leaf : List ℕ) (front : TextInfo) (tree : IsTre
 
 -- the counts before a line that starts behind a break of the leaf
 module _ (line : ℕ) (t : Tree) (leaf : List ℕ) (front : TextInfo) (tree : IsTree t) (f : IsFound LineBreak (line - 1) t leaf front) (later : 0 < line) (within : line ≤ break_count t.breaks (text t)) where
-  pub line_front : take (line_start t.breaks (text t) line) (text t) ≡ before t.leaves f.index ++ take (line_start t.breaks leaf (line - front.line_breaks)) leaf
+  pub line_front : take (line_start t.breaks (text t) line) (text t) ≡ before t.leaves f.index ++ take (line_start t.breaks leaf (line - front.break_count)) leaf
   line_front =
       let at = lies_at LineBreak (line - 1) t leaf front f in
-      let k : ℕ = line_start t.breaks leaf (line - front.line_breaks) in
-      let short = line_start-le-length t.breaks leaf (line - front.line_breaks) in
+      let k : ℕ = line_start t.breaks leaf (line - front.break_count) in
+      let short = line_start-le-length t.breaks leaf (line - front.break_count) in
       let back : (front.chars + k) - front.chars ≡ k = omega arith in
       ap (λ n. take n (text t)) (found_line_start (line - 1) line t leaf front tree f (omega arith))
       ∙ front_in (front.chars + k) t leaf front tree f.index at (omega arith) (omega arith)
       ∙ ap (λ n. before t.leaves f.index ++ take n leaf) back
 
-  pub line_found : (bytes chars pairs : ℕ) → bytes ≡ line_to_byte t.breaks leaf (line - front.line_breaks)
-      → chars ≡ length (take (line_start t.breaks leaf (line - front.line_breaks)) leaf)
-      → pairs ≡ surrogate_count (take (line_start t.breaks leaf (line - front.line_breaks)) leaf)
-      → record { bytes = front.bytes + bytes; chars = front.chars + chars; utf16_surrogates = front.utf16_surrogates + pairs; line_breaks = line } ≡ info_of t.breaks (take (line_start t.breaks (text t) line) (text t))
+  pub line_found : (bytes chars pairs : ℕ) → bytes ≡ line_to_byte t.breaks leaf (line - front.break_count)
+      → chars ≡ length (take (line_start t.breaks leaf (line - front.break_count)) leaf)
+      → pairs ≡ surrogate_count (take (line_start t.breaks leaf (line - front.break_count)) leaf)
+      → record { bytes = front.bytes + bytes; chars = front.chars + chars; utf16_surrogates = front.utf16_surrogates + pairs; break_count = line } ≡ info_of t.breaks (take (line_start t.breaks (text t) line) (text t))
   line_found bytes chars pairs b n p =
       let at = lies_at LineBreak (line - 1) t leaf front f in
-      let here : List ℕ = take (line_start t.breaks leaf (line - front.line_breaks)) leaf in
-      same_info (record { bytes = front.bytes + bytes; chars = front.chars + chars; utf16_surrogates = front.utf16_surrogates + pairs; line_breaks = line })
+      let here : List ℕ = take (line_start t.breaks leaf (line - front.break_count)) leaf in
+      same_info (record { bytes = front.bytes + bytes; chars = front.chars + chars; utf16_surrogates = front.utf16_surrogates + pairs; break_count = line })
       (info_of t.breaks (take (line_start t.breaks (text t) line) (text t)))
       (omega (arith, b, found_line_to_byte (line - 1) line t leaf front tree f (omega arith)))
       (omega (arith, n, ap length line_front, length-append (before t.leaves f.index) here, at.chars))
       (omega (arith, p, ap surrogate_count line_front, surrogate_count-append (before t.leaves f.index) here, ap (λ x. x.utf16_surrogates) f.before_is))
       (omega (arith, break_count-front t.breaks (text t) line (omega arith)))
 
-  pub line_rest : IsLeafFrom t (line_start t.breaks (text t) line) (drop (line_start t.breaks leaf (line - front.line_breaks)) leaf)
+  pub line_rest : IsLeafFrom t (line_start t.breaks (text t) line) (drop (line_start t.breaks leaf (line - front.break_count)) leaf)
   line_rest =
       let at = lies_at LineBreak (line - 1) t leaf front f in
-      let k : ℕ = line_start t.breaks leaf (line - front.line_breaks) in
-      let short = line_start-le-length t.breaks leaf (line - front.line_breaks) in
+      let k : ℕ = line_start t.breaks leaf (line - front.break_count) in
+      let short = line_start-le-length t.breaks leaf (line - front.break_count) in
       let next = after t.leaves f.index in
       let seam : parts_crlf leaf next ≡ false = ap (λ s. parts_crlf s next) (sym at.leaf_is) ∙ KeepsCrlf_at t.leaves f.index f.within tree.leaves.whole in
       record {

@@ -34,8 +34,8 @@ single_whole : (text : List ℕ) → KeepsCrlf (single_chunk text)
 single_whole [] = tt
 single_whole (c ∷ text) = (never (ends_in_cr (c ∷ text)), tt)
 
-pub plain_kept : (set : LineBreaks) (text : List ℕ) → all_scalars text ≡ true → byte_len text < 2 ^ 63 → IsPart (record { text = text; chunks = single_chunk text; breaks = set })
-plain_kept set text scalars fits = record { cut = single_cut text; whole = single_whole text; scalars = scalars; fits = fits }
+pub plain_kept : (breaks : LineBreaks) (text : List ℕ) → all_scalars text ≡ true → byte_len text < 2 ^ 63 → IsPart (record { text = text; chunks = single_chunk text; breaks = breaks })
+plain_kept breaks text scalars fits = record { cut = single_cut text; whole = single_whole text; scalars = scalars; fits = fits }
 
 -- the text of a tree's leaves is one of scalar values
 scalars-append : (s t : List ℕ) → all_scalars s ≡ true → all_scalars t ≡ true → all_scalars (s ++ t) ≡ true

@@ -26,9 +26,9 @@ pub record LeafIn (t : Tree) (start end : TextInfo) (leaf : List ℕ) (front : T
   pub from_bytes : byte_len (take (start.chars - front.chars) leaf) ≡ start.bytes - front.bytes
   pub to_bytes : byte_len (take (end.chars - front.chars) leaf) ≡ min (end.bytes - front.bytes) (byte_len leaf)
   pub some : start.chars < end.chars
-  pub found : (chunk : List ℕ) (bytes chars breaks : ℕ) → chunk ≡ slice_range leaf (start.chars - front.chars) (end.chars - front.chars)
-      → bytes ≡ front.bytes - start.bytes → chars ≡ front.chars - start.chars → breaks ≡ front.line_breaks - start.line_breaks
-      → IsFoundChunk (found_chunk t.breaks (clip t.leaves start.chars end.chars) (chunk_index_at_char (clip t.leaves start.chars end.chars) (front.chars - start.chars))) chunk bytes chars breaks
+  pub found : (chunk : List ℕ) (bytes chars count : ℕ) → chunk ≡ slice_range leaf (start.chars - front.chars) (end.chars - front.chars)
+      → bytes ≡ front.bytes - start.bytes → chars ≡ front.chars - start.chars → count ≡ front.break_count - start.break_count
+      → IsFoundChunk (found_chunk t.breaks (clip t.leaves start.chars end.chars) (chunk_index_at_char (clip t.leaves start.chars end.chars) (front.chars - start.chars))) chunk bytes chars count
   pub at_char : (i : ℕ) → front.chars ≤ min (start.chars + i) (end.chars - 1) → min (start.chars + i) (end.chars - 1) < front.chars + length leaf
       → chunk_index_at_char (clip t.leaves start.chars end.chars) i ≡ chunk_index_at_char (clip t.leaves start.chars end.chars) (front.chars - start.chars)
   pub at_byte : (n : ℕ) → front.bytes ≤ min (start.bytes + n) (end.bytes - 1) → min (start.bytes + n) (end.bytes - 1) < front.bytes + byte_len leaf
@@ -57,7 +57,7 @@ leaf_in t start end leaf front tree s k within leaf_is front_is starts ends =
       some = m.some;
       found = λ chunk b n l chunk_is b_is n_is l_is.
           (let found = found_in t.breaks t.leaves start.chars end.chars k within m.some m.within full kept early late chunk b n l
-          (rw (here, chars) chunk_is) (omega (arith, m.start_bytes)) (omega arith) (omega (arith, ap (λ x. x.line_breaks) front_is, m.start_breaks)) in
+          (rw (here, chars) chunk_is) (omega (arith, m.start_bytes)) (omega arith) (omega (arith, ap (λ x. x.break_count) front_is, m.start_breaks)) in
           rw chars at found);
       at_char = λ i low high.
           (let same = index_at_char t.breaks t.leaves start.chars end.chars k within m.some m.within full kept early late i (omega arith) (omega arith) in rw chars at same);

@@ -20,7 +20,7 @@ use Rattle.rope_text.proofs.InfoLaws.{break_count-le-length}
 use Rattle.rope_part.specs.Edge.{start_info, end_info, IsStretch}
 use Rattle.rope_part.proofs.Stretches.{length_part, size_part, break_count_part, front_and_part}
 
-pub record Measured (set : LineBreaks) (text : List ℕ) (start end : TextInfo) : Type 0 where
+pub record Measured (breaks : LineBreaks) (text : List ℕ) (start end : TextInfo) : Type 0 where
   pub some : start.chars < end.chars
   pub within : end.chars ≤ length text
   pub chars : end.chars ≡ start.chars + length (slice_range text start.chars end.chars)
@@ -32,14 +32,14 @@ pub record Measured (set : LineBreaks) (text : List ℕ) (start end : TextInfo) 
   pub start_units : start.chars + start.utf16_surrogates ≡ utf16_len (take start.chars text)
   pub surrogates : end.utf16_surrogates ≡ start.utf16_surrogates + surrogate_count (slice_range text start.chars end.chars)
   pub all_units : end.chars + end.utf16_surrogates ≤ utf16_len text
-  pub start_breaks : start.line_breaks ≡ char_to_line set text start.chars
-  pub breaks : end.line_breaks ≡ start.line_breaks + break_count set (slice_range text start.chars end.chars)
-  pub all_breaks : end.line_breaks ≤ break_count set text
+  pub start_breaks : start.break_count ≡ char_to_line breaks text start.chars
+  pub count : end.break_count ≡ start.break_count + break_count breaks (slice_range text start.chars end.chars)
+  pub all_breaks : end.break_count ≤ break_count breaks text
   pub few_chars : length text ≤ byte_len text
   pub few_units : utf16_len text ≤ 2 * byte_len text
-  pub few_breaks : break_count set text ≤ length text
+  pub few_breaks : break_count breaks text ≤ length text
 
-lf_ends : (set : LineBreaks) (rest : List ℕ) → ends_break set 10 rest ≡ true
+lf_ends : (breaks : LineBreaks) (rest : List ℕ) → ends_break breaks 10 rest ≡ true
 lf_ends Lf rest = refl
 lf_ends CrLf rest = refl
 lf_ends Unicode rest = refl
@@ -53,24 +53,24 @@ at_most_one true = omega arith
 at_most_one false = omega arith
 
 -- the LF behind a CR ends a break
-shared_le : (set : LineBreaks) (s t : List ℕ) → cond {A = ℕ} (joins_break set s t) 1 0 ≤ break_count set t
-shared_le set s t = elim (cases_Bool (begins_with_lf t)) [
+shared_le : (breaks : LineBreaks) (s t : List ℕ) → cond {A = ℕ} (joins_break breaks s t) 1 0 ≤ break_count breaks t
+shared_le breaks s t = elim (cases_Bool (begins_with_lf t)) [
   | inl lf ↦
-      let one : break_count set t ≡ 1 + break_count set (drop 1 t) =
-      ap (break_count set) (lf_first t lf) ∙ break_count-cons set 10 (drop 1 t) ∙ ap (λ (b : Bool). cond {A = ℕ} b 1 0 + break_count set (drop 1 t)) (lf_ends set (drop 1 t)) in
-      omega (arith, at_most_one (joins_break set s t))
+      let one : break_count breaks t ≡ 1 + break_count breaks (drop 1 t) =
+      ap (break_count breaks) (lf_first t lf) ∙ break_count-cons breaks 10 (drop 1 t) ∙ ap (λ (b : Bool). cond {A = ℕ} b 1 0 + break_count breaks (drop 1 t)) (lf_ends breaks (drop 1 t)) in
+      omega (arith, at_most_one (joins_break breaks s t))
   | inr other ↦
-      let none : cond {A = ℕ} (joins_break set s t) 1 0 ≡ 0 = ap (λ (b : Bool). cond {A = ℕ} ((ends_in_cr s && b) && is_break_char set 13) 1 0) other ∙ never (ends_in_cr s) (is_break_char set 13) in
+      let none : cond {A = ℕ} (joins_break breaks s t) 1 0 ≡ 0 = ap (λ (b : Bool). cond {A = ℕ} ((ends_in_cr s && b) && is_break_char breaks 13) 1 0) other ∙ never (ends_in_cr s) (is_break_char breaks 13) in
       omega arith
 ]
 
 -- a front by itself has no more breaks than the text
-pub break_count-front : (set : LineBreaks) (text : List ℕ) (i : ℕ) → break_count set (take i text) ≤ break_count set text
-break_count-front set text i =
-    omega (arith, break_count-append set (take i text) (drop i text), ap (break_count set) (take-append-drop i text), shared_le set (take i text) (drop i text))
+pub break_count-front : (breaks : LineBreaks) (text : List ℕ) (i : ℕ) → break_count breaks (take i text) ≤ break_count breaks text
+break_count-front breaks text i =
+    omega (arith, break_count-append breaks (take i text) (drop i text), ap (break_count breaks) (take-append-drop i text), shared_le breaks (take i text) (drop i text))
 
-pub measured : (set : LineBreaks) (text : List ℕ) (start end : TextInfo) → IsStretch set text start end → Measured set text start end
-measured set text start end s =
+pub measured : (breaks : LineBreaks) (text : List ℕ) (start end : TextInfo) → IsStretch breaks text start end → Measured breaks text start end
+measured breaks text start end s =
     let a : ℕ = start.chars in
     let b : ℕ = end.chars in
     let less : a < b = s.some in
@@ -81,8 +81,8 @@ measured set text start end s =
     let end_bytes : end.bytes ≡ byte_len (take b text) = ap (λ x. x.bytes) s.end_is in
     let start_pairs : start.utf16_surrogates ≡ surrogate_count (take a text) = ap (λ x. x.utf16_surrogates) s.start_is in
     let end_pairs : end.utf16_surrogates ≡ surrogate_count (take b text) = ap (λ x. x.utf16_surrogates) s.end_is in
-    let start_breaks : start.line_breaks ≡ char_to_line set text a = ap (λ x. x.line_breaks) s.start_is in
-    let end_breaks : end.line_breaks ≡ break_count set (take b text) = ap (λ x. x.line_breaks) s.end_is in
+    let start_breaks : start.break_count ≡ char_to_line breaks text a = ap (λ x. x.break_count) s.start_is in
+    let end_breaks : end.break_count ≡ break_count breaks (take b text) = ap (λ x. x.break_count) s.end_is in
     record {
       some = less;
       within = within;
@@ -96,45 +96,45 @@ measured set text start end s =
       surrogates = omega (arith, ap surrogate_count (front_and_part text a b (omega arith)), surrogate_count-append (take a text) (slice_range text a b));
       all_units = omega (arith, size_le_all utf16_len IsMeasure-utf16_len text b);
       start_breaks = start_breaks;
-      breaks = omega (arith, break_count_part set text a b less within);
-      all_breaks = omega (arith, break_count-front set text b);
+      count = omega (arith, break_count_part breaks text a b less within);
+      all_breaks = omega (arith, break_count-front breaks text b);
       few_chars = length-le-encodes text;
       few_units = utf16_len-le text;
-      few_breaks = break_count-le-length set text;
+      few_breaks = break_count-le-length breaks text;
     }
 
 -- four counts that are the same
-pub same_info : (x y : TextInfo) → x.bytes ≡ y.bytes → x.chars ≡ y.chars → x.utf16_surrogates ≡ y.utf16_surrogates → x.line_breaks ≡ y.line_breaks → x ≡ y
-same_info x y bytes chars pairs breaks =
-    let first : x ≡ record { bytes = y.bytes; chars = x.chars; utf16_surrogates = x.utf16_surrogates; line_breaks = x.line_breaks } =
-    ap (λ (n : ℕ). (let r : TextInfo = record { bytes = n; chars = x.chars; utf16_surrogates = x.utf16_surrogates; line_breaks = x.line_breaks } in r)) bytes in
-    let second : record { bytes = y.bytes; chars = x.chars; utf16_surrogates = x.utf16_surrogates; line_breaks = x.line_breaks } ≡ record { bytes = y.bytes; chars = y.chars; utf16_surrogates = x.utf16_surrogates; line_breaks = x.line_breaks } =
-    ap (λ (n : ℕ). (let r : TextInfo = record { bytes = y.bytes; chars = n; utf16_surrogates = x.utf16_surrogates; line_breaks = x.line_breaks } in r)) chars in
-    let third : record { bytes = y.bytes; chars = y.chars; utf16_surrogates = x.utf16_surrogates; line_breaks = x.line_breaks } ≡ record { bytes = y.bytes; chars = y.chars; utf16_surrogates = y.utf16_surrogates; line_breaks = x.line_breaks } =
-    ap (λ (n : ℕ). (let r : TextInfo = record { bytes = y.bytes; chars = y.chars; utf16_surrogates = n; line_breaks = x.line_breaks } in r)) pairs in
-    let fourth : record { bytes = y.bytes; chars = y.chars; utf16_surrogates = y.utf16_surrogates; line_breaks = x.line_breaks } ≡ y =
-    ap (λ (n : ℕ). (let r : TextInfo = record { bytes = y.bytes; chars = y.chars; utf16_surrogates = y.utf16_surrogates; line_breaks = n } in r)) breaks in
+pub same_info : (x y : TextInfo) → x.bytes ≡ y.bytes → x.chars ≡ y.chars → x.utf16_surrogates ≡ y.utf16_surrogates → x.break_count ≡ y.break_count → x ≡ y
+same_info x y bytes chars pairs count =
+    let first : x ≡ record { bytes = y.bytes; chars = x.chars; utf16_surrogates = x.utf16_surrogates; break_count = x.break_count } =
+    ap (λ (n : ℕ). (let r : TextInfo = record { bytes = n; chars = x.chars; utf16_surrogates = x.utf16_surrogates; break_count = x.break_count } in r)) bytes in
+    let second : record { bytes = y.bytes; chars = x.chars; utf16_surrogates = x.utf16_surrogates; break_count = x.break_count } ≡ record { bytes = y.bytes; chars = y.chars; utf16_surrogates = x.utf16_surrogates; break_count = x.break_count } =
+    ap (λ (n : ℕ). (let r : TextInfo = record { bytes = y.bytes; chars = n; utf16_surrogates = x.utf16_surrogates; break_count = x.break_count } in r)) chars in
+    let third : record { bytes = y.bytes; chars = y.chars; utf16_surrogates = x.utf16_surrogates; break_count = x.break_count } ≡ record { bytes = y.bytes; chars = y.chars; utf16_surrogates = y.utf16_surrogates; break_count = x.break_count } =
+    ap (λ (n : ℕ). (let r : TextInfo = record { bytes = y.bytes; chars = y.chars; utf16_surrogates = n; break_count = x.break_count } in r)) pairs in
+    let fourth : record { bytes = y.bytes; chars = y.chars; utf16_surrogates = y.utf16_surrogates; break_count = x.break_count } ≡ y =
+    ap (λ (n : ℕ). (let r : TextInfo = record { bytes = y.bytes; chars = y.chars; utf16_surrogates = y.utf16_surrogates; break_count = n } in r)) count in
     first ∙ second ∙ third ∙ fourth
 
 -- the counts of the text of a stretch are the differences
-pub info_part : (set : LineBreaks) (text : List ℕ) (start end info : TextInfo) → IsStretch set text start end → info_sum start info ≡ end → info ≡ info_of set (slice_range text start.chars end.chars)
-info_part set text start end info s sum =
-    let m = measured set text start end s in
+pub info_part : (breaks : LineBreaks) (text : List ℕ) (start end info : TextInfo) → IsStretch breaks text start end → info_sum start info ≡ end → info ≡ info_of breaks (slice_range text start.chars end.chars)
+info_part breaks text start end info s sum =
+    let m = measured breaks text start end s in
     let bytes : info.bytes ≡ byte_len (slice_range text start.chars end.chars) = omega (arith, ap (λ x. x.bytes) sum) in
     let chars : info.chars ≡ length (slice_range text start.chars end.chars) = omega (arith, ap (λ x. x.chars) sum) in
     let pairs : info.utf16_surrogates ≡ surrogate_count (slice_range text start.chars end.chars) = omega (arith, ap (λ x. x.utf16_surrogates) sum) in
-    let breaks : info.line_breaks ≡ break_count set (slice_range text start.chars end.chars) = omega (arith, ap (λ x. x.line_breaks) sum) in
-    same_info info (info_of set (slice_range text start.chars end.chars)) bytes chars pairs breaks
+    let count : info.break_count ≡ break_count breaks (slice_range text start.chars end.chars) = omega (arith, ap (λ x. x.break_count) sum) in
+    same_info info (info_of breaks (slice_range text start.chars end.chars)) bytes chars pairs count
 
 -- a whole text as a stretch
-pub whole_stretch : (set : LineBreaks) (text : List ℕ) (start end : TextInfo) → 0 < length text → start ≡ info_of set [] → end ≡ info_of set text → IsStretch set text start end
-whole_stretch set text start end some first last =
+pub whole_stretch : (breaks : LineBreaks) (text : List ℕ) (start end : TextInfo) → 0 < length text → start ≡ info_of breaks [] → end ≡ info_of breaks text → IsStretch breaks text start end
+whole_stretch breaks text start end some first last =
     let none : start.chars ≡ 0 = ap (λ x. x.chars) first in
     let all : end.chars ≡ length text = ap (λ x. x.chars) last in
-    let no_break : break_count set [] ≡ char_to_line set text 0 = ap length (break_ends-nil set) ∙ sym (char_to_line_start set text) in
+    let no_break : break_count breaks [] ≡ char_to_line breaks text 0 = ap length (break_ends-nil breaks) ∙ sym (char_to_line_start breaks text) in
     record {
       some = omega arith;
       within = omega arith;
-      start_is = first ∙ same_info (info_of set []) (start_info set text 0) refl refl refl no_break ∙ sym (ap (start_info set text) none);
-      end_is = last ∙ sym (ap (end_info set text) all ∙ ap (info_of set) (take_all (length text) text (omega arith)));
+      start_is = first ∙ same_info (info_of breaks []) (start_info breaks text 0) refl refl refl no_break ∙ sym (ap (start_info breaks text) none);
+      end_is = last ∙ sym (ap (end_info breaks text) all ∙ ap (info_of breaks) (take_all (length text) text (omega arith)));
     }

@@ -33,68 +33,68 @@ bytes_of_min text i j = elim (cases_lt i j) [
   | inr more ↦ let same : min i j ≡ j = omega arith in rw same (omega (arith, size_le byte_len IsMeasure-byte_len text j i more))
 ]
 
-module _ (set : LineBreaks) (text : List ℕ) (start end : TextInfo) (s : IsStretch set text start end) where
+module _ (breaks : LineBreaks) (text : List ℕ) (start end : TextInfo) (s : IsStretch breaks text start end) where
   pub stretch_byte_to_char : (n : ℕ) → n ≤ byte_len (slice_range text start.chars end.chars) → byte_to_char text (start.bytes + n) ≡ start.chars + byte_to_char (slice_range text start.chars end.chars) n
   stretch_byte_to_char n fits =
-      let m = measured set text start end s in
+      let m = measured breaks text start end s in
       ap (λ k. byte_to_char text (k + n)) m.start_bytes ∙ byte_to_char_part text start.chars end.chars n (omega arith) m.within fits
 
   pub stretch_utf16_to_char : (n : ℕ) → n ≤ utf16_len (slice_range text start.chars end.chars)
       → utf16_to_char text ((start.chars + start.utf16_surrogates) + n) ≡ start.chars + utf16_to_char (slice_range text start.chars end.chars) n
   stretch_utf16_to_char n fits =
-      let m = measured set text start end s in
+      let m = measured breaks text start end s in
       ap (λ k. utf16_to_char text (k + n)) m.start_units ∙ utf16_to_char_part text start.chars end.chars n (omega arith) m.within fits
 
   pub stretch_char_to_byte : (i : ℕ) → i ≤ length (slice_range text start.chars end.chars) → char_to_byte text (start.chars + i) ≡ start.bytes + char_to_byte (slice_range text start.chars end.chars) i
   stretch_char_to_byte i fits =
-      let m = measured set text start end s in
+      let m = measured breaks text start end s in
       size_of_front byte_len IsMeasure-byte_len text start.chars end.chars i (omega arith) ∙ ap (λ k. k + byte_len (take i (slice_range text start.chars end.chars))) (sym m.start_bytes)
 
   pub stretch_char_to_utf16 : (i : ℕ) → i ≤ length (slice_range text start.chars end.chars)
       → char_to_utf16 text (start.chars + i) ≡ (start.chars + start.utf16_surrogates) + char_to_utf16 (slice_range text start.chars end.chars) i
   stretch_char_to_utf16 i fits =
-      let m = measured set text start end s in
+      let m = measured breaks text start end s in
       size_of_front utf16_len IsMeasure-utf16_len text start.chars end.chars i (omega arith) ∙ ap (λ k. k + utf16_len (take i (slice_range text start.chars end.chars))) (sym m.start_units)
 
-  pub stretch_char_to_line : (i : ℕ) → start.chars + i < end.chars → char_to_line set text (start.chars + i) ≡ start.line_breaks + char_to_line set (slice_range text start.chars end.chars) i
+  pub stretch_char_to_line : (i : ℕ) → start.chars + i < end.chars → char_to_line breaks text (start.chars + i) ≡ start.break_count + char_to_line breaks (slice_range text start.chars end.chars) i
   stretch_char_to_line i less =
-      let m = measured set text start end s in
-      char_to_line_part set text start.chars end.chars m.some m.within i (omega arith) ∙ ap (λ k. k + char_to_line set (slice_range text start.chars end.chars) i) (sym m.start_breaks)
+      let m = measured breaks text start end s in
+      char_to_line_part breaks text start.chars end.chars m.some m.within i (omega arith) ∙ ap (λ k. k + char_to_line breaks (slice_range text start.chars end.chars) i) (sym m.start_breaks)
 
-  pub stretch_char_to_line_end : (i : ℕ) → start.chars + i ≡ end.chars → end.line_breaks ≡ start.line_breaks + char_to_line set (slice_range text start.chars end.chars) i
+  pub stretch_char_to_line_end : (i : ℕ) → start.chars + i ≡ end.chars → end.break_count ≡ start.break_count + char_to_line breaks (slice_range text start.chars end.chars) i
   stretch_char_to_line_end i e =
-      let m = measured set text start end s in
-      omega (arith, char_to_line_past set (slice_range text start.chars end.chars) i (omega arith))
+      let m = measured breaks text start end s in
+      omega (arith, char_to_line_past breaks (slice_range text start.chars end.chars) i (omega arith))
 
-  pub stretch_byte_to_line : (n : ℕ) → start.bytes + n < end.bytes → byte_to_line set text (start.bytes + n) ≡ start.line_breaks + byte_to_line set (slice_range text start.chars end.chars) n
+  pub stretch_byte_to_line : (n : ℕ) → start.bytes + n < end.bytes → byte_to_line breaks text (start.bytes + n) ≡ start.break_count + byte_to_line breaks (slice_range text start.chars end.chars) n
   stretch_byte_to_line n less =
-      let m = measured set text start end s in
-      ap (λ k. byte_to_line set text (k + n)) m.start_bytes ∙ byte_to_line_part set text start.chars end.chars m.some m.within n (omega arith)
-      ∙ ap (λ k. k + byte_to_line set (slice_range text start.chars end.chars) n) (sym m.start_breaks)
+      let m = measured breaks text start end s in
+      ap (λ k. byte_to_line breaks text (k + n)) m.start_bytes ∙ byte_to_line_part breaks text start.chars end.chars m.some m.within n (omega arith)
+      ∙ ap (λ k. k + byte_to_line breaks (slice_range text start.chars end.chars) n) (sym m.start_breaks)
 
-  pub stretch_byte_to_line_end : (n : ℕ) → start.bytes + n ≡ end.bytes → end.line_breaks ≡ start.line_breaks + byte_to_line set (slice_range text start.chars end.chars) n
+  pub stretch_byte_to_line_end : (n : ℕ) → start.bytes + n ≡ end.bytes → end.break_count ≡ start.break_count + byte_to_line breaks (slice_range text start.chars end.chars) n
   stretch_byte_to_line_end n e =
-      let m = measured set text start end s in
+      let m = measured breaks text start end s in
       let whole : n ≡ byte_len (slice_range text start.chars end.chars) = omega arith in
-      omega (arith, ap (byte_to_line set (slice_range text start.chars end.chars)) whole, byte_to_line_end set (slice_range text start.chars end.chars))
+      omega (arith, ap (byte_to_line breaks (slice_range text start.chars end.chars)) whole, byte_to_line_end breaks (slice_range text start.chars end.chars))
 
-  pub stretch_line_to_char : (l : ℕ) → 0 < l → min (line_to_char set text (start.line_breaks + l)) end.chars ≡ start.chars + line_to_char set (slice_range text start.chars end.chars) l
+  pub stretch_line_to_char : (l : ℕ) → 0 < l → min (line_to_char breaks text (start.break_count + l)) end.chars ≡ start.chars + line_to_char breaks (slice_range text start.chars end.chars) l
   stretch_line_to_char l later =
-      let m = measured set text start end s in
-      ap (λ k. min (line_start set text (k + l)) end.chars) m.start_breaks ∙ sym (line_start_part set text start.chars end.chars m.some m.within l later)
+      let m = measured breaks text start end s in
+      ap (λ k. min (line_start breaks text (k + l)) end.chars) m.start_breaks ∙ sym (line_start_part breaks text start.chars end.chars m.some m.within l later)
 
-  pub stretch_line_to_byte : (l : ℕ) → 0 < l → min (line_to_byte set text (start.line_breaks + l)) end.bytes ≡ start.bytes + line_to_byte set (slice_range text start.chars end.chars) l
+  pub stretch_line_to_byte : (l : ℕ) → 0 < l → min (line_to_byte breaks text (start.break_count + l)) end.bytes ≡ start.bytes + line_to_byte breaks (slice_range text start.chars end.chars) l
   stretch_line_to_byte l later =
-      let m = measured set text start end s in
-      let place : ℕ = line_start set text (start.line_breaks + l) in
-      let here : ℕ = line_start set (slice_range text start.chars end.chars) l in
-      let short = line_start-le-length set (slice_range text start.chars end.chars) l in
+      let m = measured breaks text start end s in
+      let place : ℕ = line_start breaks text (start.break_count + l) in
+      let here : ℕ = line_start breaks (slice_range text start.chars end.chars) l in
+      let short = line_start-le-length breaks (slice_range text start.chars end.chars) l in
       ap (min (byte_len (take place text))) m.end_bytes ∙ sym (bytes_of_min text place end.chars)
       ∙ ap (λ k. byte_len (take k text)) (stretch_line_to_char l later) ∙ stretch_char_to_byte here short
 
   pub stretch_byte : (n : ℕ) → n < byte_len (slice_range text start.chars end.chars) → slice_get (encode_utf8_all text) (start.bytes + n) ≡ slice_get (encode_utf8_all (slice_range text start.chars end.chars)) n
   stretch_byte n less =
-      let m = measured set text start end s in
+      let m = measured breaks text start end s in
       let before : List ℕ = take start.chars text in
       let rest : List ℕ = drop end.chars text in
       ap (λ k. slice_get (encode_utf8_all text) (k + n)) m.start_bytes
@@ -104,7 +104,7 @@ module _ (set : LineBreaks) (text : List ℕ) (start end : TextInfo) (s : IsStre
 
   pub stretch_char : (i : ℕ) → i < length (slice_range text start.chars end.chars) → slice_get text (start.chars + i) ≡ slice_get (slice_range text start.chars end.chars) i
   stretch_char i less =
-      let m = measured set text start end s in
+      let m = measured breaks text start end s in
       let before : List ℕ = take start.chars text in
       let size : length before ≡ start.chars = length-take-le start.chars text (omega arith) in
       ap (λ k. slice_get text (k + i)) (sym size)

@@ -104,31 +104,31 @@ pub size_of_front : (size : List ℕ → ℕ) → IsMeasure size → (text : Lis
 size_of_front size m text a b i l = ap size (front_of_part text a b i l) ∙ m.joined (take a text) (take i (slice_range text a b))
 
 -- the breaks of a part with one character or more: those of what stands before its end, but for those that end at its start or before
-module _ (set : LineBreaks) (text : List ℕ) (a b : ℕ) (some : a < b) (within : b ≤ length text) where
+module _ (breaks : LineBreaks) (text : List ℕ) (a b : ℕ) (some : a < b) (within : b ≤ length text) where
   inside : a ≤ length (take b text)
   inside = omega (arith, length-take-le b text within)
 
-  pub break_count_part : break_count set (take b text) ≡ char_to_line set text a + break_count set (slice_range text a b)
+  pub break_count_part : break_count breaks (take b text) ≡ char_to_line breaks text a + break_count breaks (slice_range text a b)
   break_count_part =
-      let whole = rw (← part_of_front text a b (omega arith)) at (break_count-drop set (take b text) a inside) in
-      omega (arith, char_to_line-take set text b a some)
+      let whole = rw (← part_of_front text a b (omega arith)) at (break_count-drop breaks (take b text) a inside) in
+      omega (arith, char_to_line-take breaks text b a some)
 
-  pub char_to_line_part : (i : ℕ) → i < b - a → char_to_line set text (a + i) ≡ char_to_line set text a + char_to_line set (slice_range text a b) i
+  pub char_to_line_part : (i : ℕ) → i < b - a → char_to_line breaks text (a + i) ≡ char_to_line breaks text a + char_to_line breaks (slice_range text a b) i
   char_to_line_part i less =
-      let whole = rw (← part_of_front text a b (omega arith)) at (char_to_line-drop set (take b text) a i inside) in
-      omega (arith, char_to_line-take set text b a some, char_to_line-take set text b (a + i) (omega arith))
+      let whole = rw (← part_of_front text a b (omega arith)) at (char_to_line-drop breaks (take b text) a i inside) in
+      omega (arith, char_to_line-take breaks text b a some, char_to_line-take breaks text b (a + i) (omega arith))
 
-  pub byte_to_line_part : (n : ℕ) → n < byte_len (slice_range text a b) → byte_to_line set text (byte_len (take a text) + n) ≡ char_to_line set text a + byte_to_line set (slice_range text a b) n
+  pub byte_to_line_part : (n : ℕ) → n < byte_len (slice_range text a b) → byte_to_line breaks text (byte_len (take a text) + n) ≡ char_to_line breaks text a + byte_to_line breaks (slice_range text a b) n
   byte_to_line_part n less =
       let part : List ℕ = slice_range text a b in
       let short : byte_to_char part n < b - a = omega (arith, byte_to_char-less part n less, length_part text a b within) in
-      byte_to_line-byte_to_char set text (byte_len (take a text) + n)
-      ∙ ap (char_to_line set text) (byte_to_char_part text a b n (omega arith) within (omega arith))
+      byte_to_line-byte_to_char breaks text (byte_len (take a text) + n)
+      ∙ ap (char_to_line breaks text) (byte_to_char_part text a b n (omega arith) within (omega arith))
       ∙ char_to_line_part (byte_to_char part n) short
-      ∙ ap (λ k. char_to_line set text a + k) (sym (byte_to_line-byte_to_char set part n))
+      ∙ ap (λ k. char_to_line breaks text a + k) (sym (byte_to_line-byte_to_char breaks part n))
 
   -- the lines after the first start where those of the text do, or at the end
-  pub line_start_part : (l : ℕ) → 0 < l → a + line_start set (slice_range text a b) l ≡ min (line_start set text (char_to_line set text a + l)) b
+  pub line_start_part : (l : ℕ) → 0 < l → a + line_start breaks (slice_range text a b) l ≡ min (line_start breaks text (char_to_line breaks text a + l)) b
   line_start_part l later =
-      let whole = rw (← part_of_front text a b (omega arith)) at (line_start-drop set (take b text) a l inside later) in
-      whole ∙ ap (λ n. line_start set (take b text) (n + l)) (char_to_line-take set text b a some) ∙ line_start-take set text b (char_to_line set text a + l) within
+      let whole = rw (← part_of_front text a b (omega arith)) at (line_start-drop breaks (take b text) a l inside later) in
+      whole ∙ ap (λ n. line_start breaks (take b text) (n + l)) (char_to_line-take breaks text b a some) ∙ line_start-take breaks text b (char_to_line breaks text a + l) within

@@ -12,31 +12,31 @@ use Rattle.rope_tree.specs.Tree.{Tree, text}
 -- the counts of the text before a part's start. Its breaks are those that end there or before: the CR of a CR LF that the
 -- start lies in is none of them, since the LF is a break of the part
 abbrev pub start_info : LineBreaks → List ℕ → ℕ → TextInfo
-start_info set text i = record {
+start_info breaks text i = record {
   bytes = byte_len (take i text);
   chars = i;
   utf16_surrogates = surrogate_count (take i text);
-  line_breaks = char_to_line set text i;
+  break_count = char_to_line breaks text i;
 }
 
 -- the counts of the text before a part's end. Its breaks are those of that text by itself: the CR of a CR LF that the
 -- end lies in is one of them, since it is a break of the part
 abbrev pub end_info : LineBreaks → List ℕ → ℕ → TextInfo
-end_info set text i = info_of set (take i text)
+end_info breaks text i = info_of breaks (take i text)
 
 -- characters of a text, one at least, with the counts up to their start and up to their end
-pub record IsStretch (set : LineBreaks) (text : List ℕ) (start end : TextInfo) : Type 0 where
+pub record IsStretch (breaks : LineBreaks) (text : List ℕ) (start end : TextInfo) : Type 0 where
   pub some : start.chars < end.chars
   pub within : end.chars ≤ length text
-  pub start_is : start ≡ start_info set text start.chars
-  pub end_is : end ≡ end_info set text end.chars
+  pub start_is : start ≡ start_info breaks text start.chars
+  pub end_is : end ≡ end_info breaks text end.chars
 
 -- there is at most one proof of it
-pub IsStretch-prop : (set : LineBreaks) (text : List ℕ) (start end : TextInfo) → IsProp (IsStretch set text start end)
-IsStretch-prop set text start end = hlevel props
+pub IsStretch-prop : (breaks : LineBreaks) (text : List ℕ) (start end : TextInfo) → IsProp (IsStretch breaks text start end)
+IsStretch-prop breaks text start end = hlevel props
 
-pub IsInfo-prop : (set : LineBreaks) (text : List ℕ) (info : TextInfo) → IsProp (info ≡ info_of set text)
-IsInfo-prop set text info = hlevel props
+pub IsInfo-prop : (breaks : LineBreaks) (text : List ℕ) (info : TextInfo) → IsProp (info ≡ info_of breaks text)
+IsInfo-prop breaks text info = hlevel props
 
 -- the end of a leaf, from a character of the text on: what follows it follows it in the text, and parts no CR LF from it
 pub record IsLeafFrom (t : Tree) (i : ℕ) (rest : List ℕ) : Type 0 where

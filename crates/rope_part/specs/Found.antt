@@ -7,11 +7,11 @@ use Rattle.rope_text.specs.Lookup.{FoundChunk}
 use Rattle.rope_part.specs.declared.stretch.Stretch.{Stretch}
 
 -- a chunk and the three numbers are those that the look-up found
-pub record IsFoundChunk (found : FoundChunk) (chunk : List ℕ) (bytes chars breaks : ℕ) : Type 0 where
+pub record IsFoundChunk (found : FoundChunk) (chunk : List ℕ) (bytes chars count : ℕ) : Type 0 where
   pub text_is : chunk ≡ found.text
   pub bytes_are : bytes ≡ found.bytes
   pub chars_are : chars ≡ found.chars
-  pub breaks_are : breaks ≡ found.breaks
+  pub count_is : count ≡ found.break_count
 
 -- a leaf of the tree that has a character of the stretch, and the counts of the text before it
 pub record MeetsLeaf (s : Stretch) (leaf : List ℕ) (before : TextInfo) : Type 0 where

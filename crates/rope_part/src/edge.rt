@@ -30,7 +30,7 @@ pub fn start_at(node: &Node, char_idx: usize) -> TextInfo
         bytes: found.before.bytes + bytes,
         chars: char_idx,
         utf16_surrogates: found.before.utf16_surrogates + count_surrogates(&leaf[..bytes]),
-        line_breaks: found.before.line_breaks + char_to_line_with(leaf, chars, node.line_breaks()),
+        break_count: found.before.break_count + char_to_line_with(leaf, chars, node.line_breaks()),
     }
 }
 
@@ -71,14 +71,14 @@ fn line_start_at<'a>(node: &'a Node, line_idx: usize) -> LineStart<'a>
     let _ = node.info();
     let found = leaf_at(node, Unit::LineBreak, line_idx - 1, &mut Steps::new());
     let leaf = found.leaf.as_str();
-    let line = line_idx - found.before.line_breaks;
+    let line = line_idx - found.before.break_count;
     let bytes = line_to_byte_with(leaf, line, node.line_breaks());
     let front = &leaf[..bytes];
     let before = TextInfo {
         bytes: found.before.bytes + bytes,
         chars: found.before.chars + count_chars(front),
         utf16_surrogates: found.before.utf16_surrogates + count_surrogates(front),
-        line_breaks: line_idx,
+        break_count: line_idx,
     };
     LineStart {
         before,
@@ -93,7 +93,7 @@ pub fn before_line(node: &Node, line_idx: usize) -> TextInfo
     ensures { result ≡ info_of node.now.breaks (take (line_start node.now.breaks (text node.now) line_idx) (text node.now)) }
 {
     let info = node.info();
-    if line_idx > info.line_breaks {
+    if line_idx > info.break_count {
         return info;
     }
     let start = line_start_at(node, line_idx);
@@ -101,14 +101,14 @@ pub fn before_line(node: &Node, line_idx: usize) -> TextInfo
 }
 
 // The counts of a text's first line, where it ends before the text does.
-fn first_line_info(text: &str, set: LineBreaks) -> Option<TextInfo>
-    ensures { IfSome result (λ info. (0 < break_count set (chars text.now)) × (info ≡ info_of set (first_line set (chars text.now)))) }
+fn first_line_info(text: &str, breaks: LineBreaks) -> Option<TextInfo>
+    ensures { IfSome result (λ info. (0 < break_count breaks (chars text.now)) × (info ≡ info_of breaks (first_line breaks (chars text.now)))) }
 {
-    let bytes = line_to_byte_with(text, 1, set);
+    let bytes = line_to_byte_with(text, 1, breaks);
     if bytes == text.len() {
         return None;
     }
-    Some(TextInfo::from_str(&text[..bytes], set))
+    Some(TextInfo::from_str(&text[..bytes], breaks))
 }
 
 /// The counts of the text before a line that is not the first, and before the next one. It is one look-up where the line

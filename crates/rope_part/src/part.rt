@@ -101,7 +101,7 @@ impl<'a> Part<'a> {
     pub fn len_lines(&self) -> usize
         ensures { result ≡ line_count (breaks_of self.now) (text_of self.now) }
     {
-        self.info().line_breaks + 1
+        self.info().break_count + 1
     }
 
     /// The length in code units of UTF-16. No text is read.

@@ -120,9 +120,9 @@ impl<'a> Stretch<'a> {
         let _ = self.node.height();
         let place = self.start.bytes + byte_idx;
         if place == self.end.bytes {
-            return self.end.line_breaks - self.start.line_breaks;
+            return self.end.break_count - self.start.break_count;
         }
-        conversions::byte_to_line(self.node, place, &mut Steps::new()) - self.start.line_breaks
+        conversions::byte_to_line(self.node, place, &mut Steps::new()) - self.start.break_count
     }
 
     /// The byte at which a character starts; at the end of the text its length.
@@ -143,9 +143,9 @@ impl<'a> Stretch<'a> {
         let _ = self.node.height();
         let place = self.start.chars + char_idx;
         if place == self.end.chars {
-            return self.end.line_breaks - self.start.line_breaks;
+            return self.end.break_count - self.start.break_count;
         }
-        conversions::char_to_line(self.node, place, &mut Steps::new()) - self.start.line_breaks
+        conversions::char_to_line(self.node, place, &mut Steps::new()) - self.start.break_count
     }
 
     /// The code unit at which a character starts; at the end of the text its length in code units.
@@ -179,7 +179,7 @@ impl<'a> Stretch<'a> {
             return 0;
         }
         let _ = self.node.height();
-        let line = self.start.line_breaks + line_idx;
+        let line = self.start.break_count + line_idx;
         let place = conversions::line_to_char(self.node, line, &mut Steps::new());
         place.min(self.end.chars) - self.start.chars
     }
@@ -193,7 +193,7 @@ impl<'a> Stretch<'a> {
             return 0;
         }
         let _ = self.node.height();
-        let line = self.start.line_breaks + line_idx;
+        let line = self.start.break_count + line_idx;
         let place = conversions::line_to_byte(self.node, line, &mut Steps::new());
         place.min(self.end.bytes) - self.start.bytes
     }
@@ -220,7 +220,7 @@ impl<'a> Stretch<'a> {
             return TextInfo::new();
         }
         let _ = self.node.height();
-        self.counts_to(before_line(self.node, self.start.line_breaks + line_idx))
+        self.counts_to(before_line(self.node, self.start.break_count + line_idx))
     }
 
     /// The counts of its text before a line, and before the next one; past the last line those of all of it.
@@ -233,7 +233,7 @@ impl<'a> Stretch<'a> {
             return (TextInfo::new(), self.before_line(1));
         }
         let _ = self.node.height();
-        let (start, end) = around_line(self.node, self.start.line_breaks + line_idx);
+        let (start, end) = around_line(self.node, self.start.break_count + line_idx);
         (self.counts_to(start), self.counts_to(end))
     }
 }

@@ -28,7 +28,7 @@ impl<'a> Stretch<'a> {
             &leaf[from..to],
             before.bytes.saturating_sub(self.start.bytes),
             before.chars.saturating_sub(self.start.chars),
-            before.line_breaks.saturating_sub(self.start.line_breaks),
+            before.break_count.saturating_sub(self.start.break_count),
         )
     }
 

@@ -53,8 +53,8 @@ pub fn lens(rope: &Rope) -> [usize; 4] {
 }
 
 /// The rope has the text, its lengths by the set of line breaks, and its chunks are cut by the rules.
-pub fn compare(rope: &Rope, text: &[char], set: LineBreaks) -> Result<(), Difference> {
-    compare_lengths(rope, text, set)?;
+pub fn compare(rope: &Rope, text: &[char], breaks: LineBreaks) -> Result<(), Difference> {
+    compare_lengths(rope, text, breaks)?;
     compare_chunks(rope)?;
     compare_text(rope, text)
 }
@@ -64,8 +64,8 @@ pub fn compare_unicode(rope: &Rope, text: &[char]) -> Result<(), Difference> {
     compare(rope, text, LineBreaks::Unicode)
 }
 
-fn compare_lengths(rope: &Rope, text: &[char], set: LineBreaks) -> Result<(), Difference> {
-    if rope.line_breaks() != set {
+fn compare_lengths(rope: &Rope, text: &[char], breaks: LineBreaks) -> Result<(), Difference> {
+    if rope.line_breaks() != breaks {
         return Err(Difference::LineBreaks);
     }
     if rope.len_bytes() != plain_text::char_to_byte(text, text.len()) {
@@ -77,7 +77,7 @@ fn compare_lengths(rope: &Rope, text: &[char], set: LineBreaks) -> Result<(), Di
     if rope.len_utf16_cu() != plain_text::char_to_utf16(text, text.len()) {
         return Err(Difference::Units);
     }
-    if rope.len_lines() != plain_text::char_to_line(text, text.len(), set).saturating_add(1) {
+    if rope.len_lines() != plain_text::char_to_line(text, text.len(), breaks).saturating_add(1) {
         return Err(Difference::Lines);
     }
     Ok(())

@@ -69,10 +69,10 @@ fn compare_chunk(
         rope.get_chunk_at_char(char_idx),
         rope.get_chunk_at_byte(byte),
     ] {
-        let Some((chunk, bytes, chars, breaks)) = found else {
+        let Some((chunk, bytes, chars, break_count)) = found else {
             return Err(Difference::ChunkAt);
         };
-        if chunk != expected || (bytes, chars, breaks) != (before.byte, start, before.line) {
+        if chunk != expected || (bytes, chars, break_count) != (before.byte, start, before.line) {
             return Err(Difference::ChunkAt);
         }
     }
@@ -81,17 +81,17 @@ fn compare_chunk(
 
 /// The chunk at a line break: the first by whose end so many breaks have ended, or the last one.
 fn compare_break(rope: &Rope, text: &[char], line: usize) -> Result<(), Difference> {
-    let set = rope.line_breaks();
-    let Some((chunk, bytes, start, breaks)) = rope.get_chunk_at_line_break(line) else {
+    let breaks = rope.line_breaks();
+    let Some((chunk, bytes, start, break_count)) = rope.get_chunk_at_line_break(line) else {
         return Err(Difference::ChunkAtBreak);
     };
     let (expected, expected_start) = chunk_of(rope, start);
-    let before = place_of(text, start, set);
+    let before = place_of(text, start, breaks);
     let end = start.saturating_add(chunk.chars().count());
     let is_chunk = chunk == expected && start == expected_start;
-    let is_told = (bytes, breaks) == (before.byte, before.line);
-    let is_first = start == 0 || breaks < line;
-    let has_ended = end == text.len() || place_of(text, end, set).line >= line;
+    let is_told = (bytes, break_count) == (before.byte, before.line);
+    let is_first = start == 0 || break_count < line;
+    let has_ended = end == text.len() || place_of(text, end, breaks).line >= line;
     if is_chunk && is_told && is_first && has_ended {
         return Ok(());
     }

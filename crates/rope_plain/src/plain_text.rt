@@ -4,9 +4,9 @@ use rope_text::LineBreaks;
 use std::alloc::{AllocError, Global};
 
 /// Whether the character ends a line break.
-fn is_break(c: char, set: LineBreaks) -> bool {
+fn is_break(c: char, breaks: LineBreaks) -> bool {
     let is_unicode = matches!(c, '\u{B}' | '\u{C}' | '\u{85}' | '\u{2028}' | '\u{2029}');
-    match set {
+    match breaks {
         LineBreaks::Lf => c == '\n',
         LineBreaks::CrLf => c == '\n' || c == '\r',
         LineBreaks::Unicode => c == '\n' || c == '\r' || is_unicode,
@@ -14,7 +14,7 @@ fn is_break(c: char, set: LineBreaks) -> bool {
 }
 
 /// Whether a break ends after `place` characters.
-fn is_break_end(text: &[char], place: usize, set: LineBreaks) -> bool {
+fn is_break_end(text: &[char], place: usize, breaks: LineBreaks) -> bool {
     let Some(before) = place.checked_sub(1) else {
         return false;
     };
@@ -22,7 +22,7 @@ fn is_break_end(text: &[char], place: usize, set: LineBreaks) -> bool {
         return false;
     };
     let parts_pair = *last == '\r' && text.get(place) == Some(&'\n');
-    is_break(*last, set) && !parts_pair
+    is_break(*last, breaks) && !parts_pair
 }
 
 /// The bytes of the first characters.
@@ -72,26 +72,26 @@ pub fn utf16_to_char(text: &[char], unit: usize) -> usize {
 }
 
 /// How many breaks end at or before a place.
-pub fn char_to_line(text: &[char], place: usize, set: LineBreaks) -> usize {
-    let mut breaks: usize = 0;
+pub fn char_to_line(text: &[char], place: usize, breaks: LineBreaks) -> usize {
+    let mut break_count: usize = 0;
     for end in 1..=place.min(text.len()) {
-        if is_break_end(text, end, set) {
-            breaks = breaks.saturating_add(1);
+        if is_break_end(text, end, breaks) {
+            break_count = break_count.saturating_add(1);
         }
     }
-    breaks
+    break_count
 }
 
 /// Where a line starts; past the last line the end.
-pub fn line_to_char(text: &[char], line: usize, set: LineBreaks) -> usize {
+pub fn line_to_char(text: &[char], line: usize, breaks: LineBreaks) -> usize {
     if line == 0 {
         return 0;
     }
-    let mut breaks: usize = 0;
+    let mut break_count: usize = 0;
     for end in 1..=text.len() {
-        if is_break_end(text, end, set) {
-            breaks = breaks.saturating_add(1);
-            if breaks == line {
+        if is_break_end(text, end, breaks) {
+            break_count = break_count.saturating_add(1);
+            if break_count == line {
                 return end;
             }
         }
@@ -120,11 +120,11 @@ pub const START: Place = Place {
 
 impl Place {
     /// The place behind a character, with which so many have passed.
-    fn after(self, c: char, text: &[char], passed: usize, set: LineBreaks) -> Place {
+    fn after(self, c: char, text: &[char], passed: usize, breaks: LineBreaks) -> Place {
         let mut place = self;
         place.byte = place.byte.saturating_add(c.len_utf8());
         place.unit = place.unit.saturating_add(c.len_utf16());
-        if is_break_end(text, passed, set) {
+        if is_break_end(text, passed, breaks) {
             place.line = place.line.saturating_add(1);
             place.line_start_char = passed;
             place.line_start_byte = place.byte;
@@ -134,23 +134,23 @@ impl Place {
 }
 
 /// The place behind the first characters, by one pass over them.
-pub fn place_of(text: &[char], char_idx: usize, set: LineBreaks) -> Place {
+pub fn place_of(text: &[char], char_idx: usize, breaks: LineBreaks) -> Place {
     let mut place = START;
     let mut passed: usize = 0;
     for c in text.iter().take(char_idx) {
         passed = passed.saturating_add(1);
-        place = place.after(*c, text, passed, set);
+        place = place.after(*c, text, passed, breaks);
     }
     place
 }
 
 /// All places of a text, from its start to its end, by one pass.
-pub fn places(alloc: Global, text: &[char], set: LineBreaks) -> Result<Vec<Place>, AllocError> {
+pub fn places(alloc: Global, text: &[char], breaks: LineBreaks) -> Result<Vec<Place>, AllocError> {
     let mut all = Vec::new(alloc);
     let mut place = START;
     all.push(place)?;
     for c in text.iter() {
-        place = place.after(*c, text, all.len(), set);
+        place = place.after(*c, text, all.len(), breaks);
         all.push(place)?;
     }
     Ok(all)

@@ -22,9 +22,9 @@ use Rattle.rope_text.specs.Answer.{checked}
 use Rattle.rope_position.specs.Positions.{position_at, PositionsReturn}
 
 -- a character's line is one of the text's
-pub char_to_line-less : (set : LineBreaks) (text : List ℕ) (i : ℕ) → char_to_line set text i < line_count set text
+pub char_to_line-less : (breaks : LineBreaks) (text : List ℕ) (i : ℕ) → char_to_line breaks text i < line_count breaks text
 unfolding char_to_line
-char_to_line-less set text i = omega (arith, count_by-le-length (λ p. nat_le p i) (break_ends set text))
+char_to_line-less breaks text i = omega (arith, count_by-le-length (λ p. nat_le p i) (break_ends breaks text))
 
 -- the code units before a place are those before an earlier one and those between
 units_between : (text : List ℕ) (a i : ℕ) → a ≤ i → utf16_len (take i text) ≡ utf16_len (take a text) + utf16_len (slice_range text a i)
@@ -33,34 +33,34 @@ units_between text a i l =
     ap (λ k. utf16_len (take k text)) (sym whole) ∙ ap utf16_len (take-add a (i - a) text) ∙ IsMeasure-utf16_len.joined (take a text) (take (i - a) (drop a text))
 
 -- a column is what the code units before the line lack of those before the place
-pub column_is : (set : LineBreaks) (text : List ℕ) (i : ℕ) → i ≤ length text
-    → utf16_len (take i text) ≡ utf16_len (take (line_start set text (char_to_line set text i)) text) + char_to_column set text i
-column_is set text i l = units_between text (line_start set text (char_to_line set text i)) i (line_start_before set text i l)
+pub column_is : (breaks : LineBreaks) (text : List ℕ) (i : ℕ) → i ≤ length text
+    → utf16_len (take i text) ≡ utf16_len (take (line_start breaks text (char_to_line breaks text i)) text) + char_to_column breaks text i
+column_is breaks text i l = units_between text (line_start breaks text (char_to_line breaks text i)) i (line_start_before breaks text i l)
 
 -- the column of a character is at most its line's code units
-column-le : (set : LineBreaks) (text : List ℕ) (i : ℕ) → i ≤ length text → char_to_column set text i ≤ utf16_len (line set text (char_to_line set text i))
-column-le set text i l =
-    let n = char_to_line set text i in
-    let start = line_start set text n in
-    let end = line_start set text (n + 1) in
-    let before : start ≤ i = line_start_before set text i l in
-    let after : i ≤ end = line_start_after set text i l in
-    let front : take (i - start) (line set text n) ≡ slice_range text start i = take-take (i - start) (end - start) (drop start text) (omega arith) in
-    rw (← front) (size_le_all utf16_len IsMeasure-utf16_len (line set text n) (i - start))
+column-le : (breaks : LineBreaks) (text : List ℕ) (i : ℕ) → i ≤ length text → char_to_column breaks text i ≤ utf16_len (line breaks text (char_to_line breaks text i))
+column-le breaks text i l =
+    let n = char_to_line breaks text i in
+    let start = line_start breaks text n in
+    let end = line_start breaks text (n + 1) in
+    let before : start ≤ i = line_start_before breaks text i l in
+    let after : i ≤ end = line_start_after breaks text i l in
+    let front : take (i - start) (line breaks text n) ≡ slice_range text start i = take-take (i - start) (end - start) (drop start text) (omega arith) in
+    rw (← front) (size_le_all utf16_len IsMeasure-utf16_len (line breaks text n) (i - start))
 
 -- a character of a line lies in the text
-pub in_text : (set : LineBreaks) (text : List ℕ) (l c : ℕ) → position_to_char set text l c ≤ length text
+pub in_text : (breaks : LineBreaks) (text : List ℕ) (l c : ℕ) → position_to_char breaks text l c ≤ length text
 unfolding utf16_to_char
-in_text set text l c =
-    let inside = front-le-length utf16_len IsMeasure-utf16_len (line set text l) c in
-    let start = line_start-le-length set text l in
-    omega (arith, length-take (line_start set text (l + 1) - line_start set text l) (drop (line_start set text l) text), length-drop (line_start set text l) text)
+in_text breaks text l c =
+    let inside = front-le-length utf16_len IsMeasure-utf16_len (line breaks text l) c in
+    let start = line_start-le-length breaks text l in
+    omega (arith, length-take (line_start breaks text (l + 1) - line_start breaks text l) (drop (line_start breaks text l) text), length-drop (line_start breaks text l) text)
 
 pub positions_are_fine : PositionsReturn
-positions_are_fine set text i l =
-    let line_is = char_to_line-less set text i in
-    let column = column-le set text i l in
-    (grind (arith, nat_tests), position_to_char-char_to_position set text i l)
+positions_are_fine breaks text i l =
+    let line_is = char_to_line-less breaks text i in
+    let column = column-le breaks text i l in
+    (grind (arith, nat_tests), position_to_char-char_to_position breaks text i l)
 
 same_position : (l m c d : ℕ) → l ≡ m → c ≡ d → ◌≡◌ {A = Position} (record { line = l; column = c }) (record { line = m; column = d })
 same_position l m c d e f =
@@ -68,14 +68,14 @@ same_position l m c d e f =
     ap (λ line. at line c) e ∙ ap (at m) f
 
 -- a position that was found by the code units before its line and before its place
-pub position_by : (set : LineBreaks) (text : List ℕ) (i line start before all : ℕ) → i ≤ length text → line ≡ char_to_line set text i → start ≡ line_start set text line
+pub position_by : (breaks : LineBreaks) (text : List ℕ) (i line start before all : ℕ) → i ≤ length text → line ≡ char_to_line breaks text i → start ≡ line_start breaks text line
     → before ≡ utf16_len (take start text) → all ≡ utf16_len (take i text)
-    → (before ≤ all) × ◌≡◌ {A = Position} (record { line = line; column = all - before }) (position_at set text i)
-position_by set text i line start before all l line_is start_is before_is all_is =
-    let column = column_is set text i l in
-    let place : start ≡ line_start set text (char_to_line set text i) = start_is ∙ ap (line_start set text) line_is in
-    let units : before ≡ utf16_len (take (line_start set text (char_to_line set text i)) text) = before_is ∙ ap (λ k. utf16_len (take k text)) place in
-    (omega arith, same_position line (char_to_line set text i) (all - before) (char_to_column set text i) line_is (omega arith))
+    → (before ≤ all) × ◌≡◌ {A = Position} (record { line = line; column = all - before }) (position_at breaks text i)
+position_by breaks text i line start before all l line_is start_is before_is all_is =
+    let column = column_is breaks text i l in
+    let place : start ≡ line_start breaks text (char_to_line breaks text i) = start_is ∙ ap (line_start breaks text) line_is in
+    let units : before ≡ utf16_len (take (line_start breaks text (char_to_line breaks text i)) text) = before_is ∙ ap (λ k. utf16_len (take k text)) place in
+    (omega arith, same_position line (char_to_line breaks text i) (all - before) (char_to_column breaks text i) line_is (omega arith))
 
 -- an index that isn't refused has its position
 pub position_fine : (i len : ℕ) (p q : Position) → i ≤ len → p ≡ q → ◌≡◌ {A = Result Position Error} (Ok p) (checked (char_index_error i len) q)

@@ -72,16 +72,16 @@ either : (b : Bool) (P Q : Type 0) → MatchBool b P Q → P ⊎ Q
 either true P Q m = inl m
 either false P Q m = inr m
 
-changes_keep : (old new : List Content) (r : ℕ) (set : LineBreaks) (text : List ℕ) (Q : Content → Type 0) (reply : Reply) → All IsRope old → Changes r set text Q old reply new → All IsRope new
-changes_keep old new r set text Q reply k s = rw s.4 (All-set IsRope old r s.0 s.1.kept k)
+changes_keep : (old new : List Content) (r : ℕ) (breaks : LineBreaks) (text : List ℕ) (Q : Content → Type 0) (reply : Reply) → All IsRope old → Changes r breaks text Q old reply new → All IsRope new
+changes_keep old new r breaks text Q reply k s = rw s.4 (All-set IsRope old r s.0 s.1.kept k)
 
-edits_keep : (old new : List Content) (r : ℕ) (set : LineBreaks) (error : Option Error) (idle : Bool) (text : List ℕ) (reply : Reply) → All IsRope old
-    → Edits r set error idle text old reply new → All IsRope new
-edits_keep old new r set error idle text reply k s = elim (allowed error _ old new reply s) [
+edits_keep : (old new : List Content) (r : ℕ) (breaks : LineBreaks) (error : Option Error) (idle : Bool) (text : List ℕ) (reply : Reply) → All IsRope old
+    → Edits r breaks error idle text old reply new → All IsRope new
+edits_keep old new r breaks error idle text reply k s = elim (allowed error _ old new reply s) [
   | inl refused ↦ rw refused k
   | inr fine ↦ elim (either idle _ _ fine) [
     | inl still ↦ rw still.1 k
-    | inr full ↦ elim full [ inl changed ↦ changes_keep old new r set text Any reply k changed | inr memory ↦ rw memory.1 k ]
+    | inr full ↦ elim full [ inl changed ↦ changes_keep old new r breaks text Any reply k changed | inr memory ↦ rw memory.1 k ]
   ]
 ]
 
@@ -133,9 +133,9 @@ shrinks_keep old new r reply k s = elim (found old r _ _ k s) [
   | inr some ↦ elim some.2 [ inl changed ↦ changes_keep old new r some.0.breaks some.0.text HasFewChunks reply k changed | inr memory ↦ rw memory.1 k ]
 ]
 
-adds_keep : (old new : List Content) (text : List ℕ) (set : LineBreaks) (Q : Content → Type 0) (reply : Reply) → All IsRope old → OrNoMemory (Adds text set Q old reply new) old reply new → All IsRope new
-adds_keep old new text set Q reply k (inl s) = rw s.4 (added_keep old s.0 k s.1.kept)
-adds_keep old new text set Q reply k (inr s) = rw s.1 k
+adds_keep : (old new : List Content) (text : List ℕ) (breaks : LineBreaks) (Q : Content → Type 0) (reply : Reply) → All IsRope old → OrNoMemory (Adds text breaks Q old reply new) old reply new → All IsRope new
+adds_keep old new text breaks Q reply k (inl s) = rw s.4 (added_keep old s.0 k s.1.kept)
+adds_keep old new text breaks Q reply k (inr s) = rw s.1 k
 
 clones_keep : (old new : List Content) (rope : Content) (reply : Reply) → All IsRope old → IsRope rope → OrNoMemory (AddsSame rope old reply new) old reply new → All IsRope new
 clones_keep old new rope reply k p (inl s) = rw s.1 (added_keep old rope k p)
@@ -167,7 +167,7 @@ asks_keep old new r range query reply k s = elim (found old r _ _ k s) [
 step_keeps : (old new : List Content) (command : Command) (reply : Reply) → All IsRope old → Step old command reply new → All IsRope new
 step_keeps old new command.New reply k s = adds_keep old new [] Unicode HasFewChunks reply k s
 step_keeps old new (command.Text t) reply k s = adds_keep old new (chars (string_bytes t)) Unicode HasFewChunks reply k s
-step_keeps old new (command.TextWith set t) reply k s = adds_keep old new (chars (string_bytes t)) set HasFewChunks reply k s
+step_keeps old new (command.TextWith breaks t) reply k s = adds_keep old new (chars (string_bytes t)) breaks HasFewChunks reply k s
 step_keeps old new (command.Clone r) reply k s = elim (found old r _ _ k s) [ inl none ↦ rw none.1 k | inr some ↦ clones_keep old new some.0 reply k some.1 some.2 ]
 step_keeps old new (command.Copy (r, range)) reply k s = copies_keep old new r range reply k s
 step_keeps old new (command.Insert r i t) reply k s = inserts_keep old new r i (chars (string_bytes t)) reply k s

@@ -82,7 +82,7 @@ IsTextsReply _ texts = ⊥
 
 -- the reply has this chunk, and what lies before it
 abbrev pub IsChunkReply : Reply → FoundChunk → Type 0
-IsChunkReply (reply.Chunk s bytes characters breaks) found = IsFoundChunk found (chars (string_bytes s)) bytes characters breaks
+IsChunkReply (reply.Chunk s bytes characters count) found = IsFoundChunk found (chars (string_bytes s)) bytes characters count
 IsChunkReply _ found = ⊥
 
 -- how the part is ordered against another, of the ropes that there are: first the rope is looked for, and then its part

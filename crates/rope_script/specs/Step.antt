@@ -119,7 +119,7 @@ Asks r range query old reply new = OfRope r (λ rope. OfPart rope range (λ part
 abbrev pub Step : List Content → Command → Reply → List Content → Type 0
 Step old command.New reply new = OrNoMemory (Adds [] Unicode HasFewChunks old reply new) old reply new
 Step old (command.Text s) reply new = OrNoMemory (Adds (chars (string_bytes s)) Unicode HasFewChunks old reply new) old reply new
-Step old (command.TextWith set s) reply new = OrNoMemory (Adds (chars (string_bytes s)) set HasFewChunks old reply new) old reply new
+Step old (command.TextWith breaks s) reply new = OrNoMemory (Adds (chars (string_bytes s)) breaks HasFewChunks old reply new) old reply new
 Step old (command.Clone r) reply new = OfRope r (λ rope. OrNoMemory (AddsSame rope old reply new) old reply new) old reply new
 Step old (command.Copy (r, range)) reply new = Copies r range old reply new
 Step old (command.Insert r i s) reply new = Inserts r i (chars (string_bytes s)) old reply new

@@ -189,8 +189,8 @@ fn chunk_at(alloc: Global, part: &RopeSlice<'_>, at: At, index: usize) -> Result
 {
     match find_chunk(part, at, index) {
         None => Ok(Reply::Absent),
-        Some((chunk, bytes, chars, breaks)) => {
-            Ok(Reply::Chunk(copy_of(alloc, chunk)?, bytes, chars, breaks))
+        Some((chunk, bytes, chars, break_count)) => {
+            Ok(Reply::Chunk(copy_of(alloc, chunk)?, bytes, chars, break_count))
         }
     }
 }

@@ -7,25 +7,25 @@ use std::alloc::Global;
 use std::test::Fail;
 
 /// A rope of these characters, passed in one by one.
-fn build(alloc: Global, plain: &[char], set: LineBreaks) -> Result<(), Fail> {
-    let mut builder = RopeBuilder::new_with(alloc, set)?;
+fn build(alloc: Global, plain: &[char], breaks: LineBreaks) -> Result<(), Fail> {
+    let mut builder = RopeBuilder::new_with(alloc, breaks)?;
     let mut bytes = [0; 4];
     for c in plain {
         builder.append(c.encode_utf8(&mut bytes))?;
     }
     let rope = builder.finish()?;
-    compare(&rope, plain, set)?;
+    compare(&rope, plain, breaks)?;
     has_few_chunks(&rope)?;
     Ok(())
 }
 
 /// Ropes of each text with such a word where a leaf is cut.
-fn build_words(alloc: Global, letters: &[&str], count: usize, set: LineBreaks) -> Result<(), Fail> {
+fn build_words(alloc: Global, letters: &[&str], count: usize, breaks: LineBreaks) -> Result<(), Fail> {
     let all = words(alloc, letters, count)?;
     for before in SHORTEST..=LONGEST {
         for word in &all {
             let text = around(alloc, before, word.as_str())?;
-            build(alloc, &chars_of(alloc, text.as_str())?, set)?;
+            build(alloc, &chars_of(alloc, text.as_str())?, breaks)?;
         }
     }
     Ok(())
@@ -33,9 +33,9 @@ fn build_words(alloc: Global, letters: &[&str], count: usize, set: LineBreaks) -
 
 #[test]
 fn breaks_one_by_one(rt: HostRuntime) -> Result<(), Fail> {
-    for set in [LineBreaks::Lf, LineBreaks::CrLf, LineBreaks::Unicode] {
+    for breaks in [LineBreaks::Lf, LineBreaks::CrLf, LineBreaks::Unicode] {
         for count in 0..=4usize {
-            build_words(rt.alloc(), &BREAKS, count, set)?;
+            build_words(rt.alloc(), &BREAKS, count, breaks)?;
         }
     }
     Ok(())

@@ -25,12 +25,12 @@ fn without(alloc: Global, plain: &[char], at: usize) -> Result<Vec<char>, Fail> 
 
 /// Splits the rope, compares both parts, and joins them again.
 fn split_and_join(alloc: Global, rope: &mut Rope, plain: &[char], at: usize) -> Result<(), Fail> {
-    let set = rope.line_breaks();
+    let breaks = rope.line_breaks();
     let back = rope.try_split_off(at)?;
     let mut front = inserted(alloc, plain, 0, "")?;
     front.truncate(at);
-    compare(rope, &front, set)?;
-    compare(&back, &part_from(alloc, plain, at)?, set)?;
+    compare(rope, &front, breaks)?;
+    compare(&back, &part_from(alloc, plain, at)?, breaks)?;
     rope.append(back)?;
     Ok(())
 }
@@ -65,15 +65,15 @@ struct Given<'a> {
     text: &'a str,
     plain: &'a [char],
     rope: &'a Rope,
-    set: LineBreaks,
+    breaks: LineBreaks,
 }
 
 impl Given<'_> {
     /// One edit of a rope of its own, and of a clone, whose original stays.
     fn edit_both(&self, alloc: Global, at: usize, edit: Edit<'_>) -> Result<(), Fail> {
-        let mut alone = Rope::from_str_with(alloc, self.text, self.set)?;
+        let mut alone = Rope::from_str_with(alloc, self.text, self.breaks)?;
         let expected = edited(alloc, &mut alone, self.plain, at, edit)?;
-        compare(&alone, &expected, self.set)?;
+        compare(&alone, &expected, self.breaks)?;
         let mut clone = self.rope.clone()?;
         edited(alloc, &mut clone, self.plain, at, edit)?;
         if clone != alone || lens(&clone) != lens(&alone) {
@@ -100,22 +100,22 @@ fn edit_around(
     alloc: Global,
     before: usize,
     word: &str,
-    set: LineBreaks,
+    breaks: LineBreaks,
     texts: &[&str],
 ) -> Result<(), Fail> {
     let text = around(alloc, before, word)?;
     let plain = chars_of(alloc, text.as_str())?;
-    let rope = Rope::from_str_with(alloc, text.as_str(), set)?;
+    let rope = Rope::from_str_with(alloc, text.as_str(), breaks)?;
     let given = Given {
         text: text.as_str(),
         plain: &plain,
         rope: &rope,
-        set,
+        breaks,
     };
     for at in before.saturating_sub(1)..=before.saturating_add(5) {
         given.edit_at(alloc, at, texts)?;
     }
-    compare(&rope, &plain, set)?;
+    compare(&rope, &plain, breaks)?;
     Ok(())
 }
 
@@ -124,13 +124,13 @@ fn sweep(
     alloc: Global,
     letters: &[&str],
     count: usize,
-    set: LineBreaks,
+    breaks: LineBreaks,
     texts: &[&str],
 ) -> Result<(), Fail> {
     let all = words(alloc, letters, count)?;
     for before in SHORTEST..=LONGEST {
         for word in &all {
-            edit_around(alloc, before, word.as_str(), set, texts)?;
+            edit_around(alloc, before, word.as_str(), breaks, texts)?;
         }
     }
     Ok(())
@@ -140,9 +140,9 @@ fn sweep(
 const PUT_IN: [&str; 3] = ["\r", "\n", "\r\n"];
 
 /// All words of at most four breaks.
-fn sweep_breaks(alloc: Global, set: LineBreaks) -> Result<(), Fail> {
+fn sweep_breaks(alloc: Global, breaks: LineBreaks) -> Result<(), Fail> {
     for count in 0..=4usize {
-        sweep(alloc, &BREAKS, count, set, &PUT_IN)?;
+        sweep(alloc, &BREAKS, count, breaks, &PUT_IN)?;
     }
     Ok(())
 }

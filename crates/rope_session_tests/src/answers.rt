@@ -123,10 +123,10 @@ impl Asked {
     }
 
     /// The first chunk by whose end so many breaks have ended, or the last.
-    fn chunk_of_break(&self, breaks: usize) -> usize {
+    fn chunk_of_break(&self, break_count: usize) -> usize {
         for index in 0..self.part.chunks.len() {
             let end = self.chunk_start(index.saturating_add(1));
-            if place_at(&self.places, end).line >= breaks {
+            if place_at(&self.places, end).line >= break_count {
                 return index;
             }
         }
@@ -150,14 +150,14 @@ impl Asked {
     fn is_chunk_reply(&self, at: &At, index: usize, reply: &Reply) -> bool {
         match (self.chunk_index(at, index), reply) {
             (None, Reply::Absent) => true,
-            (Some((found, _)), Reply::Chunk(text, bytes, chars, breaks)) => {
+            (Some((found, _)), Reply::Chunk(text, bytes, chars, break_count)) => {
                 let start = self.chunk_start(found);
                 let place = place_at(&self.places, start);
                 let is_there = match self.part.chunks.get(found) {
                     Some(chunk) => is_text(text.as_str(), chunk),
                     None => text.is_empty(),
                 };
-                is_there && (*bytes, *chars, *breaks) == (place.byte, start, place.line)
+                is_there && (*bytes, *chars, *break_count) == (place.byte, start, place.line)
             }
             _ => false,
         }
@@ -317,7 +317,7 @@ pub fn answers(
         }
         (Query::Show, _) => Ok(is_text_or_absent(Some(&asked.part.text), reply)),
         (Query::Chunks, Reply::Texts(texts)) => Ok(are_texts(texts, &asked.part.chunks)),
-        (Query::Breaks, Reply::Breaks(set)) => Ok(*set == asked.part.set),
+        (Query::Breaks, Reply::Breaks(breaks)) => Ok(*breaks == asked.part.breaks),
         (Query::Convert(conversion, index), _) => {
             Ok(is_number(asked.convert(conversion, *index), reply))
         }

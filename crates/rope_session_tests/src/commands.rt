@@ -60,11 +60,11 @@ fn add(
     alloc: Global,
     ropes: &mut Vec<PlainRope>,
     text: Vec<char>,
-    set: LineBreaks,
+    breaks: LineBreaks,
     is_few: bool,
 ) -> Result<Effect, Fail> {
     let number = ropes.len();
-    ropes.push(PlainRope::new(text, set, alloc))?;
+    ropes.push(PlainRope::new(text, breaks, alloc))?;
     Ok(Effect {
         outcome: Outcome::Made,
         recut: [Some(number), None],
@@ -144,9 +144,9 @@ fn cut(
         return Ok(effect_of(Outcome::Refused(error)));
     }
     let back = part_from(alloc, &rope.text, index)?;
-    let set = rope.set;
+    let breaks = rope.breaks;
     rope.text.truncate(index);
-    let mut effect = add(alloc, ropes, back, set, false)?;
+    let mut effect = add(alloc, ropes, back, breaks, false)?;
     effect.recut = [effect.recut[0], Some(number)];
     Ok(effect)
 }
@@ -155,7 +155,7 @@ fn join(ropes: &mut [PlainRope], number: usize, other: usize) -> Result<Effect, 
     let (Some(rope), Some(more)) = (ropes.get(number), ropes.get(other)) else {
         return Ok(effect_of(Outcome::NoRope));
     };
-    if rope.set != more.set {
+    if rope.breaks != more.breaks {
         return Ok(effect_of(Outcome::Refused(Error::LineBreaksDiffer)));
     }
     let is_first = rope.text.is_empty();
@@ -193,7 +193,7 @@ fn copy(
         return Ok(effect_of(Outcome::NoRope));
     };
     match rope.part(alloc, range)? {
-        Some(part) => add(alloc, ropes, part.text, part.set, false),
+        Some(part) => add(alloc, ropes, part.text, part.breaks, false),
         None => Ok(effect_of(Outcome::NoSlice)),
     }
 }
@@ -209,9 +209,9 @@ pub fn apply(alloc: Global, ropes: &mut Vec<PlainRope>, command: &Command) -> Re
             let text = chars_of(alloc, text.as_str())?;
             add(alloc, ropes, text, LineBreaks::Unicode, true)
         }
-        Command::TextWith(set, text) => {
+        Command::TextWith(breaks, text) => {
             let text = chars_of(alloc, text.as_str())?;
-            add(alloc, ropes, text, *set, true)
+            add(alloc, ropes, text, *breaks, true)
         }
         Command::Clone(number) => clone(ropes, *number),
         Command::Copy((number, range)) => copy(alloc, ropes, *number, *range),

@@ -17,7 +17,7 @@ pub fn between(alloc: Global, text: &[char], start: usize, end: usize) -> Result
 pub struct PlainRope {
     pub text: Vec<char>,
     pub chunks: Vec<Vec<char>>,
-    pub set: LineBreaks,
+    pub breaks: LineBreaks,
 }
 
 /// Its bytes, characters, lines and code units.
@@ -31,11 +31,11 @@ pub struct Lengths {
 
 impl PlainRope {
     /// A text that is not cut yet.
-    pub fn new(text: Vec<char>, set: LineBreaks, alloc: Global) -> PlainRope {
+    pub fn new(text: Vec<char>, breaks: LineBreaks, alloc: Global) -> PlainRope {
         PlainRope {
             text,
             chunks: Vec::new(alloc),
-            set,
+            breaks,
         }
     }
 
@@ -44,13 +44,13 @@ impl PlainRope {
         Ok(PlainRope {
             text: self.text.clone()?,
             chunks: self.chunks.clone()?,
-            set: self.set,
+            breaks: self.breaks,
         })
     }
 
     /// The places before each character and at the end.
     pub fn places(&self, alloc: Global) -> Result<Vec<Place>, Fail> {
-        Ok(places(alloc, &self.text, self.set)?)
+        Ok(places(alloc, &self.text, self.breaks)?)
     }
 
     /// The part from one character up to another, with the chunks clipped; none where that is no range of the text.
@@ -76,7 +76,7 @@ impl PlainRope {
         Ok(Some(PlainRope {
             text: between(alloc, &self.text, start, end)?,
             chunks,
-            set: self.set,
+            breaks: self.breaks,
         }))
     }
 }

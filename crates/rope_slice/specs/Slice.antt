@@ -15,7 +15,7 @@ content_of slice = of_part.content_of slice.part
 
 -- what a plain text with these line breaks shows: itself, as one chunk or none
 abbrev pub plain_content : LineBreaks → List ℕ → Content
-plain_content set text = record { text = text; chunks = single_chunk text; breaks = set }
+plain_content breaks text = record { text = text; chunks = single_chunk text; breaks = breaks }
 
 abbrev pub text_of : RopeSlice → List ℕ
 text_of slice = (content_of slice).text

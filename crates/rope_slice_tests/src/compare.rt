@@ -7,7 +7,7 @@ use ropey::{Error, RopeSlice};
 
 /// The lengths, the set of line breaks, the text where it is one chunk, and the indices past the end.
 pub fn compare_whole(slice: &RopeSlice<'_>, plain: &PlainSlice<'_>) -> Result<(), Difference> {
-    if slice.line_breaks() != plain.set {
+    if slice.line_breaks() != plain.breaks {
         return Err(Difference::LineBreaks);
     }
     compare_lengths(slice, plain)?;
@@ -17,7 +17,7 @@ pub fn compare_whole(slice: &RopeSlice<'_>, plain: &PlainSlice<'_>) -> Result<()
 
 fn compare_lengths(slice: &RopeSlice<'_>, plain: &PlainSlice<'_>) -> Result<(), Difference> {
     let chars = plain.text.len();
-    let end = place_of(plain.text, chars, plain.set);
+    let end = place_of(plain.text, chars, plain.breaks);
     for (answer, expected, difference) in [
         (slice.len_bytes(), end.byte, Difference::Bytes),
         (slice.len_chars(), chars, Difference::Chars),
@@ -82,7 +82,7 @@ pub fn compare_at(
     plain: &PlainSlice<'_>,
     char_idx: usize,
 ) -> Result<(), Difference> {
-    let place = place_of(plain.text, char_idx, plain.set);
+    let place = place_of(plain.text, char_idx, plain.breaks);
     compare_place(slice, char_idx, place)?;
     match plain.text.get(char_idx) {
         Some(c) => compare_char(slice, char_idx, place, *c)?,
@@ -160,10 +160,10 @@ fn compare_chunk(
         slice.get_chunk_at_char(char_idx),
         slice.try_chunk_at_byte(byte).ok(),
     ] {
-        let Some((chunk, bytes, before, breaks)) = found else {
+        let Some((chunk, bytes, before, break_count)) = found else {
             return Err(Difference::ChunkAt);
         };
-        if !is_text(chunk, chars) || (bytes, before, breaks) != plain.counts_before(start) {
+        if !is_text(chunk, chars) || (bytes, before, break_count) != plain.counts_before(start) {
             return Err(Difference::ChunkAt);
         }
     }
@@ -178,10 +178,10 @@ fn compare_break(
 ) -> Result<(), Difference> {
     let (start, end) = plain.chunk_at_line_break(line);
     let chars = plain.part(start, end).text;
-    let Some((chunk, bytes, before, breaks)) = slice.get_chunk_at_line_break(line) else {
+    let Some((chunk, bytes, before, break_count)) = slice.get_chunk_at_line_break(line) else {
         return Err(Difference::ChunkAtBreak);
     };
-    if !is_text(chunk, chars) || (bytes, before, breaks) != plain.counts_before(start) {
+    if !is_text(chunk, chars) || (bytes, before, break_count) != plain.counts_before(start) {
         return Err(Difference::ChunkAtBreak);
     }
     Ok(())

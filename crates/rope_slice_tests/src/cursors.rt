@@ -69,16 +69,16 @@ fn characters_turned_round(rt: HostRuntime) -> Result<(), Fail> {
 fn chunks_at_the_end(rt: HostRuntime) -> Result<(), Fail> {
     let text = repeated(rt.alloc(), "a", 20_000)?;
     let rope = Rope::from_str(rt.alloc(), text.as_str())?;
-    let (mut chunks, bytes, chars, breaks) = given(rope.get_chunks_at_byte(20_000))?;
-    assert_eq!(rt; [bytes, chars, breaks], [20_000, 20_000, 0]);
+    let (mut chunks, bytes, chars, break_count) = given(rope.get_chunks_at_byte(20_000))?;
+    assert_eq!(rt; [bytes, chars, break_count], [20_000, 20_000, 0]);
     assert!(rt; chunks.next().is_none());
     let (last, _, _, _) = given(rope.get_chunk_at_byte(20_000))?;
     assert!(rt; chunks.prev() == Some(last));
     assert!(rt; chunks.next() == Some(last) && chunks.next().is_none());
-    let (mut chunks, bytes, chars, breaks) = given(RopeSlice::from("abc").get_chunks_at_line_break(
+    let (mut chunks, bytes, chars, break_count) = given(RopeSlice::from("abc").get_chunks_at_line_break(
         1,
     ))?;
-    assert_eq!(rt; [bytes, chars, breaks], [3, 3, 0]);
+    assert_eq!(rt; [bytes, chars, break_count], [3, 3, 0]);
     assert!(rt; chunks.next().is_none());
     assert!(rt; chunks.prev() == Some("abc") && chunks.prev().is_none());
     Ok(())

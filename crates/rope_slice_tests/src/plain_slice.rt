@@ -12,7 +12,7 @@ pub struct PlainSlice<'a> {
     /// Where each chunk of the whole text ends, in its characters.
     pub ends: &'a [usize],
     /// The set of line breaks.
-    pub set: LineBreaks,
+    pub breaks: LineBreaks,
 }
 
 impl<'a> PlainSlice<'a> {
@@ -24,7 +24,7 @@ impl<'a> PlainSlice<'a> {
             text,
             before: self.before.saturating_add(start),
             ends: self.ends,
-            set: self.set,
+            breaks: self.breaks,
         }
     }
 
@@ -51,7 +51,7 @@ impl<'a> PlainSlice<'a> {
         let mut start = 0;
         for end in self.ends {
             let end = self.clipped(*end);
-            let has_ended = end > 0 && char_to_line(self.text, end, self.set) >= line;
+            let has_ended = end > 0 && char_to_line(self.text, end, self.breaks) >= line;
             if has_ended || end == self.text.len() {
                 return (start, end);
             }
@@ -62,7 +62,7 @@ impl<'a> PlainSlice<'a> {
 
     /// The bytes, characters and line breaks that end before a place.
     pub fn counts_before(&self, char_idx: usize) -> (usize, usize, usize) {
-        let place = place_of(self.text, char_idx, self.set);
+        let place = place_of(self.text, char_idx, self.breaks);
         (place.byte, char_idx, place.line)
     }
 }

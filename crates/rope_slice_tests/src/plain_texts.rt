@@ -11,11 +11,11 @@ fn a_plain_text_is_one_chunk(rt: HostRuntime) -> Result<(), Fail> {
         slice.get_chunk_at_char(3),
         slice.get_chunk_at_line_break(1),
     ] {
-        let Some((chunk, bytes, chars, breaks)) = found else {
+        let Some((chunk, bytes, chars, break_count)) = found else {
             return Err(Fail::from("a place within the text has no chunk"));
         };
         assert!(rt; chunk == "abc");
-        assert_eq!(rt; [bytes, chars, breaks], [0, 0, 0]);
+        assert_eq!(rt; [bytes, chars, break_count], [0, 0, 0]);
     }
     assert!(rt; slice.get_chunk_at_line_break(2).is_none());
     Ok(())
@@ -30,13 +30,13 @@ fn the_empty_text(rt: HostRuntime) {
 
 #[test]
 fn lines_by_set(rt: HostRuntime) {
-    for (set, lines) in [
+    for (breaks, lines) in [
         (LineBreaks::Lf, 2),
         (LineBreaks::CrLf, 3),
         (LineBreaks::Unicode, 4),
     ] {
-        let slice = RopeSlice::from_str_with("a\r\nb\rc\u{2028}", set);
-        assert!(rt; slice.line_breaks() == set && slice.len_lines() == lines);
+        let slice = RopeSlice::from_str_with("a\r\nb\rc\u{2028}", breaks);
+        assert!(rt; slice.line_breaks() == breaks && slice.len_lines() == lines);
     }
     assert!(rt; RopeSlice::from("a").line_breaks() == LineBreaks::Unicode);
 }

@@ -30,10 +30,10 @@ pub struct Pair {
 
 impl Pair {
     /// A rope of a random text.
-    fn new(alloc: Global, numbers: &mut Numbers, set: LineBreaks) -> Result<Pair, Fail> {
+    fn new(alloc: Global, numbers: &mut Numbers, breaks: LineBreaks) -> Result<Pair, Fail> {
         let text = random_text(alloc, numbers, 4_000)?;
         Ok(Pair {
-            rope: Rope::from_str_with(alloc, text.as_str(), set)?,
+            rope: Rope::from_str_with(alloc, text.as_str(), breaks)?,
             plain: chars_of(alloc, text.as_str())?,
         })
     }
@@ -70,8 +70,8 @@ impl Pair {
 }
 
 /// A rope whose chunks are of uneven lengths.
-pub fn edited(alloc: Global, numbers: &mut Numbers, set: LineBreaks) -> Result<Pair, Fail> {
-    let mut pair = Pair::new(alloc, numbers, set)?;
+pub fn edited(alloc: Global, numbers: &mut Numbers, breaks: LineBreaks) -> Result<Pair, Fail> {
+    let mut pair = Pair::new(alloc, numbers, breaks)?;
     for _ in 0..EDITS {
         pair.insert(alloc, numbers)?;
         pair.remove(alloc, numbers)?;
@@ -169,14 +169,14 @@ fn compare_nested<'a>(
 }
 
 /// Slices of one rope.
-fn compare_rope(alloc: Global, numbers: &mut Numbers, set: LineBreaks) -> Result<(), Fail> {
-    let pair = edited(alloc, numbers, set)?;
+fn compare_rope(alloc: Global, numbers: &mut Numbers, breaks: LineBreaks) -> Result<(), Fail> {
+    let pair = edited(alloc, numbers, breaks)?;
     let ends = chunk_ends(alloc, &pair.rope)?;
     let all = PlainSlice {
         text: &pair.plain,
         before: 0,
         ends: &ends,
-        set,
+        breaks,
     };
     for _ in 0..4 {
         let (start, end) = random_range(numbers, pair.plain.len());
@@ -187,7 +187,7 @@ fn compare_rope(alloc: Global, numbers: &mut Numbers, set: LineBreaks) -> Result
 }
 
 /// Slices of one plain text.
-fn compare_str(alloc: Global, numbers: &mut Numbers, set: LineBreaks) -> Result<(), Fail> {
+fn compare_str(alloc: Global, numbers: &mut Numbers, breaks: LineBreaks) -> Result<(), Fail> {
     let text = random_text(alloc, numbers, 2_000)?;
     let plain = chars_of(alloc, text.as_str())?;
     let ends = [plain.len()];
@@ -195,17 +195,17 @@ fn compare_str(alloc: Global, numbers: &mut Numbers, set: LineBreaks) -> Result<
         text: &plain,
         before: 0,
         ends: &ends,
-        set,
+        breaks,
     };
-    compare_nested(numbers, RopeSlice::from_str_with(text.as_str(), set), all)
+    compare_nested(numbers, RopeSlice::from_str_with(text.as_str(), breaks), all)
 }
 
 #[test]
 fn slices_of_ropes(rt: HostRuntime) -> Result<(), Fail> {
     let mut numbers = Numbers::new(0x9E37_79B9_7F4A_7C15);
     for _ in 0..40 {
-        for set in SETS {
-            compare_rope(rt.alloc(), &mut numbers, set)?;
+        for breaks in SETS {
+            compare_rope(rt.alloc(), &mut numbers, breaks)?;
         }
     }
     Ok(())
@@ -215,8 +215,8 @@ fn slices_of_ropes(rt: HostRuntime) -> Result<(), Fail> {
 fn slices_of_plain_texts(rt: HostRuntime) -> Result<(), Fail> {
     let mut numbers = Numbers::new(0xD1B5_4A32_D192_ED03);
     for _ in 0..100 {
-        for set in SETS {
-            compare_str(rt.alloc(), &mut numbers, set)?;
+        for breaks in SETS {
+            compare_str(rt.alloc(), &mut numbers, breaks)?;
         }
     }
     Ok(())

@@ -134,7 +134,7 @@ impl<'p> Items<'p> {
     }
 
     fn line_count(&self) -> usize {
-        char_to_line(self.plain.text, self.plain.text.len(), self.plain.set).saturating_add(1)
+        char_to_line(self.plain.text, self.plain.text.len(), self.plain.breaks).saturating_add(1)
     }
 
     /// Whether this is the item with that index.
@@ -156,8 +156,8 @@ impl<'p> Items<'p> {
                 }
             }
             Item::Line(line) => {
-                let start = line_to_char(self.plain.text, index, self.plain.set);
-                let end = line_to_char(self.plain.text, next, self.plain.set);
+                let start = line_to_char(self.plain.text, index, self.plain.breaks);
+                let end = line_to_char(self.plain.text, next, self.plain.breaks);
                 compare_whole(&line, &self.plain.part(start, end)).is_ok()
             }
         }
@@ -235,7 +235,7 @@ fn walk_chunks(
 ) -> Result<(), Fail> {
     let chars = items.plain.text.len();
     for place in [char_idx, chars] {
-        let (cursor, bytes, before, breaks) = given(slice.get_chunks_at_char(place))?;
+        let (cursor, bytes, before, break_count) = given(slice.get_chunks_at_char(place))?;
         let mut index: usize = 0;
         let mut start: usize = 0;
         for end in &items.ends {
@@ -244,7 +244,7 @@ fn walk_chunks(
                 start = *end;
             }
         }
-        if (bytes, before, breaks) != items.plain.counts_before(start) {
+        if (bytes, before, break_count) != items.plain.counts_before(start) {
             return Err(Fail::from("a cursor gives other counts"));
         }
         let plain = PlainCursor::at(items.ends.len(), index);
@@ -254,14 +254,14 @@ fn walk_chunks(
 }
 
 /// Walks over a rope and over two slices of it.
-fn walk_rope(alloc: Global, numbers: &mut Numbers, set: LineBreaks) -> Result<(), Fail> {
-    let pair = edited(alloc, numbers, set)?;
+fn walk_rope(alloc: Global, numbers: &mut Numbers, breaks: LineBreaks) -> Result<(), Fail> {
+    let pair = edited(alloc, numbers, breaks)?;
     let ends = pair.chunk_ends(alloc)?;
     let all = PlainSlice {
         text: pair.plain(),
         before: 0,
         ends: &ends,
-        set,
+        breaks,
     };
     for _ in 0..3 {
         let (start, end) = random_range(numbers, pair.plain().len());
@@ -273,7 +273,7 @@ fn walk_rope(alloc: Global, numbers: &mut Numbers, set: LineBreaks) -> Result<()
 }
 
 /// Walks over a plain text.
-fn walk_str(alloc: Global, numbers: &mut Numbers, set: LineBreaks) -> Result<(), Fail> {
+fn walk_str(alloc: Global, numbers: &mut Numbers, breaks: LineBreaks) -> Result<(), Fail> {
     let text = random_text(alloc, numbers, 300)?;
     let plain = chars_of(alloc, text.as_str())?;
     let ends = [plain.len()];
@@ -281,12 +281,12 @@ fn walk_str(alloc: Global, numbers: &mut Numbers, set: LineBreaks) -> Result<(),
         text: &plain,
         before: 0,
         ends: &ends,
-        set,
+        breaks,
     };
     let items = Items::new(alloc, all)?;
     walk_all(
         numbers,
-        &RopeSlice::from_str_with(text.as_str(), set),
+        &RopeSlice::from_str_with(text.as_str(), breaks),
         &items,
     )
 }
@@ -295,8 +295,8 @@ fn walk_str(alloc: Global, numbers: &mut Numbers, set: LineBreaks) -> Result<(),
 fn walks_over_ropes(rt: HostRuntime) -> Result<(), Fail> {
     let mut numbers = Numbers::new(0x2545_F491_4F6C_DD1D);
     for _ in 0..115 {
-        for set in SETS {
-            walk_rope(rt.alloc(), &mut numbers, set)?;
+        for breaks in SETS {
+            walk_rope(rt.alloc(), &mut numbers, breaks)?;
         }
     }
     Ok(())
@@ -306,8 +306,8 @@ fn walks_over_ropes(rt: HostRuntime) -> Result<(), Fail> {
 fn walks_over_plain_texts(rt: HostRuntime) -> Result<(), Fail> {
     let mut numbers = Numbers::new(0x8CB9_2BA7_2F3D_8DD7);
     for _ in 0..330 {
-        for set in SETS {
-            walk_str(rt.alloc(), &mut numbers, set)?;
+        for breaks in SETS {
+            walk_str(rt.alloc(), &mut numbers, breaks)?;
         }
     }
     Ok(())

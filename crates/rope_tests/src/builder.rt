@@ -11,15 +11,15 @@ use std::test::Fail;
 struct Pair {
     builder: RopeBuilder,
     plain: Vec<char>,
-    set: LineBreaks,
+    breaks: LineBreaks,
 }
 
 impl Pair {
-    fn new(alloc: Global, set: LineBreaks) -> Result<Pair, Fail> {
+    fn new(alloc: Global, breaks: LineBreaks) -> Result<Pair, Fail> {
         Ok(Pair {
-            builder: RopeBuilder::new_with(alloc, set)?,
+            builder: RopeBuilder::new_with(alloc, breaks)?,
             plain: Vec::new(alloc),
-            set,
+            breaks,
         })
     }
 
@@ -34,7 +34,7 @@ impl Pair {
     /// The rope, which has the text in few chunks.
     fn finish(self) -> Result<Rope, Fail> {
         let rope = self.builder.finish()?;
-        compare(&rope, &self.plain, self.set)?;
+        compare(&rope, &self.plain, self.breaks)?;
         has_few_chunks(&rope)?;
         Ok(rope)
     }
@@ -127,10 +127,10 @@ fn build_with_seams(
     last: &str,
     first: &str,
     bytes: usize,
-    set: LineBreaks,
+    breaks: LineBreaks,
 ) -> Result<(), Fail> {
     for middle in [0, 1, 462, 978, 984, 1_968] {
-        let mut pair = Pair::new(alloc, set)?;
+        let mut pair = Pair::new(alloc, breaks)?;
         pair.append(padded(alloc, "", bytes, last)?.as_str())?;
         pair.append(padded(alloc, first, middle, last)?.as_str())?;
         pair.append(padded(alloc, first, bytes, "")?.as_str())?;
@@ -143,8 +143,8 @@ fn build_with_seams(
 fn build_lengths(alloc: Global, from: usize, to: usize) -> Result<(), Fail> {
     for bytes in from..=to {
         for (last, first) in SEAMS {
-            for set in [LineBreaks::Lf, LineBreaks::CrLf, LineBreaks::Unicode] {
-                build_with_seams(alloc, last, first, bytes, set)?;
+            for breaks in [LineBreaks::Lf, LineBreaks::CrLf, LineBreaks::Unicode] {
+                build_with_seams(alloc, last, first, bytes, breaks)?;
             }
         }
     }
@@ -175,8 +175,8 @@ fn pieces_of_nearly_two_leaves(rt: HostRuntime) -> Result<(), Fail> {
 const MOST: [usize; 6] = [3, 12, 100, 990, 2_000, 9_000];
 
 /// Many pieces, most of them short.
-fn build_at_random(alloc: Global, numbers: &mut Numbers, set: LineBreaks) -> Result<(), Fail> {
-    let mut pair = Pair::new(alloc, set)?;
+fn build_at_random(alloc: Global, numbers: &mut Numbers, breaks: LineBreaks) -> Result<(), Fail> {
+    let mut pair = Pair::new(alloc, breaks)?;
     let kinds = numbers.up_to(5);
     for _ in 0..numbers.up_to(60) {
         let most = MOST[numbers.up_to(kinds) % 6];
@@ -190,8 +190,8 @@ fn build_at_random(alloc: Global, numbers: &mut Numbers, set: LineBreaks) -> Res
 fn many_random_pieces(rt: HostRuntime) -> Result<(), Fail> {
     let mut numbers = Numbers::new(0x9E37_79B9_7F4A_7C15);
     for _ in 0..100 {
-        for set in [LineBreaks::Lf, LineBreaks::CrLf, LineBreaks::Unicode] {
-            build_at_random(rt.alloc(), &mut numbers, set)?;
+        for breaks in [LineBreaks::Lf, LineBreaks::CrLf, LineBreaks::Unicode] {
+            build_at_random(rt.alloc(), &mut numbers, breaks)?;
         }
     }
     Ok(())

@@ -67,22 +67,22 @@ fn compare_places(rt: &impl Abort, sample: &Sample, from: usize) {
 }
 
 /// Compares lines by a set of line breaks, from the character `from` on.
-fn compare_lines(rt: &impl Abort, sample: &Sample, from: usize, set: LineBreaks) {
+fn compare_lines(rt: &impl Abort, sample: &Sample, from: usize, breaks: LineBreaks) {
     let text = sample.text.as_str();
     let chars = sample.chars.as_slice();
-    let breaks = plain_text::char_to_line(chars, chars.len(), set);
-    assert!(rt; str_utils::count_breaks(text, set) == breaks);
+    let break_count = plain_text::char_to_line(chars, chars.len(), breaks);
+    assert!(rt; str_utils::count_breaks(text, breaks) == break_count);
     for i in from..=chars.len() {
         let byte = plain_text::char_to_byte(chars, i);
-        let line = plain_text::char_to_line(chars, i, set);
-        assert!(rt; str_utils::char_to_line_with(text, i, set) == line);
-        assert!(rt; str_utils::byte_to_line_with(text, byte, set) == line);
+        let line = plain_text::char_to_line(chars, i, breaks);
+        assert!(rt; str_utils::char_to_line_with(text, i, breaks) == line);
+        assert!(rt; str_utils::byte_to_line_with(text, byte, breaks) == line);
     }
-    for line in 0..=breaks.saturating_add(2) {
-        let start = plain_text::line_to_char(chars, line, set);
-        assert!(rt; str_utils::line_to_char_with(text, line, set) == start);
+    for line in 0..=break_count.saturating_add(2) {
+        let start = plain_text::line_to_char(chars, line, breaks);
+        assert!(rt; str_utils::line_to_char_with(text, line, breaks) == start);
         assert!(rt;
-            str_utils::line_to_byte_with(text, line, set) == plain_text::char_to_byte(chars, start)
+            str_utils::line_to_byte_with(text, line, breaks) == plain_text::char_to_byte(chars, start)
         );
     }
 }

@@ -16,11 +16,11 @@ fn empty_ropes(rt: HostRuntime) -> Result<(), Fail> {
             [rope.depth(), rope.capacity(), rope.chunks().count()],
             [0, 0, 0]
         );
-        let Some((chunk, bytes, chars, breaks)) = rope.get_chunk_at_byte(0) else {
+        let Some((chunk, bytes, chars, break_count)) = rope.get_chunk_at_byte(0) else {
             return Err(Fail::from("the empty rope has no chunk at 0"));
         };
         assert!(rt; chunk.is_empty());
-        assert_eq!(rt; [bytes, chars, breaks], [0, 0, 0]);
+        assert_eq!(rt; [bytes, chars, break_count], [0, 0, 0]);
     }
     Ok(())
 }

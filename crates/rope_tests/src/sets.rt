@@ -9,13 +9,13 @@ use std::test::Fail;
 
 #[test]
 fn lines_of_chars_by_set(rt: HostRuntime) -> Result<(), Fail> {
-    for (set, count, lines) in [
+    for (breaks, count, lines) in [
         (LineBreaks::Lf, 3, [0, 1, 2, 2, 2]),
         (LineBreaks::CrLf, 4, [0, 1, 2, 3, 3]),
         (LineBreaks::Unicode, 9, [0, 1, 2, 3, 8]),
     ] {
-        let rope = Rope::from_str_with(rt.alloc(), BREAKS, set)?;
-        assert!(rt; rope.line_breaks() == set && rope.len_lines() == count);
+        let rope = Rope::from_str_with(rt.alloc(), BREAKS, breaks)?;
+        assert!(rt; rope.line_breaks() == breaks && rope.len_lines() == count);
         for (char_idx, line) in [0, 1, 8, 9, 37].iter().zip(lines.iter()) {
             assert_eq!(rt; rope.try_char_to_line(*char_idx)?, *line);
         }
@@ -24,8 +24,8 @@ fn lines_of_chars_by_set(rt: HostRuntime) -> Result<(), Fail> {
 }
 
 /// The starts of all lines are these, and the end follows them.
-fn assert_starts(alloc: Global, set: LineBreaks, starts: &[usize]) -> Result<(), Fail> {
-    let rope = Rope::from_str_with(alloc, BREAKS, set)?;
+fn assert_starts(alloc: Global, breaks: LineBreaks, starts: &[usize]) -> Result<(), Fail> {
+    let rope = Rope::from_str_with(alloc, BREAKS, breaks)?;
     for (line, start) in starts.iter().enumerate() {
         if rope.try_line_to_char(line)? != *start {
             return Err(Fail::from("a line starts elsewhere"));
@@ -62,18 +62,18 @@ fn ropes_of_two_sets(rt: HostRuntime) -> Result<(), Fail> {
 
 #[test]
 fn empty_ropes_by_set(rt: HostRuntime) -> Result<(), Fail> {
-    for set in [LineBreaks::Lf, LineBreaks::CrLf, LineBreaks::Unicode] {
-        compare(&Rope::new_with(rt.alloc(), set)?, &[], set)?;
+    for breaks in [LineBreaks::Lf, LineBreaks::CrLf, LineBreaks::Unicode] {
+        compare(&Rope::new_with(rt.alloc(), breaks)?, &[], breaks)?;
     }
     Ok(())
 }
 
 /// A rope of a text of up to 4,000 bytes, compared in whole and at some places.
-fn make_and_compare(alloc: Global, numbers: &mut Numbers, set: LineBreaks) -> Result<(), Fail> {
+fn make_and_compare(alloc: Global, numbers: &mut Numbers, breaks: LineBreaks) -> Result<(), Fail> {
     let text = random_text(alloc, numbers, 4_000)?;
     let plain = chars_of(alloc, text.as_str())?;
-    let rope = Rope::from_str_with(alloc, text.as_str(), set)?;
-    compare(&rope, &plain, set)?;
+    let rope = Rope::from_str_with(alloc, text.as_str(), breaks)?;
+    compare(&rope, &plain, breaks)?;
     has_few_chunks(&rope)?;
     for _ in 0..20 {
         compare_at(&rope, &plain, numbers.up_to(plain.len()))?;
@@ -85,8 +85,8 @@ fn make_and_compare(alloc: Global, numbers: &mut Numbers, set: LineBreaks) -> Re
 fn random_texts_by_set(rt: HostRuntime) -> Result<(), Fail> {
     let mut numbers = Numbers::new(0x9E37_79B9_7F4A_7C15);
     for _ in 0..50 {
-        for set in [LineBreaks::Lf, LineBreaks::CrLf, LineBreaks::Unicode] {
-            make_and_compare(rt.alloc(), &mut numbers, set)?;
+        for breaks in [LineBreaks::Lf, LineBreaks::CrLf, LineBreaks::Unicode] {
+            make_and_compare(rt.alloc(), &mut numbers, breaks)?;
         }
     }
     Ok(())

@@ -7,34 +7,34 @@ use Rattle.std.proofs.lemmas.List.Sums.{sum_by-cons, sum_by-append, count_by-le-
 use Rattle.std.proofs.lemmas.Simd.{chunk-drop}
 use Rattle.rope_text.specs.declared.line_breaks.LineBreaks.{LineBreaks}
 use Rattle.rope_text.specs.Bytes.{begins_char, begins_pair}
-use Rattle.rope_text.specs.ByteBreaks.{break_at, byte_breaks}
+use Rattle.rope_text.specs.ByteBreaks.{break_at, byte_break_count}
 use Rattle.rope_text.proofs.BitLaws.{one_at_most}
 
 -- whether a break begins at the byte k
 abbrev pub breaks_at : LineBreaks → List ℕ → ℕ → Bool
 breaks_at b xs k = break_at b (get_or xs k 0) (get_or xs (k + 1) 0) (get_or xs (k + 2) 0)
 
-pub byte_breaks-drop : (b : LineBreaks) (xs : List ℕ) (i : ℕ) → i < length xs →
-    byte_breaks b (drop i xs) ≡ cond (breaks_at b xs i) 1 0 + byte_breaks b (drop (i + 1) xs)
-byte_breaks-drop b xs i h =
-    at_drop_more (byte_breaks b) xs i 0 h
+pub byte_break_count-drop : (b : LineBreaks) (xs : List ℕ) (i : ℕ) → i < length xs →
+    byte_break_count b (drop i xs) ≡ cond (breaks_at b xs i) 1 0 + byte_break_count b (drop (i + 1) xs)
+byte_break_count-drop b xs i h =
+    at_drop_more (byte_break_count b) xs i 0 h
     ∙ simp (get_or-drop) (rw (let e : (i + 1) + 0 ≡ i + 1 = omega arith in e, let e : (i + 1) + 1 ≡ i + 2 = omega arith in e))
 
-pub byte_breaks-block : (b : LineBreaks) (xs : List ℕ) (i n : ℕ) → i + n ≤ length xs →
-    byte_breaks b (drop i xs) ≡ count_by (breaks_at b xs) (range_with_len i n) + byte_breaks b (drop (i + n) xs)
-byte_breaks-block b xs i zero h = omega (arith, ap (λ j. byte_breaks b (drop j xs)) (let e : i + 0 ≡ i = omega arith in e))
-byte_breaks-block b xs i (suc n) h =
+pub byte_break_count-block : (b : LineBreaks) (xs : List ℕ) (i n : ℕ) → i + n ≤ length xs →
+    byte_break_count b (drop i xs) ≡ count_by (breaks_at b xs) (range_with_len i n) + byte_break_count b (drop (i + n) xs)
+byte_break_count-block b xs i zero h = omega (arith, ap (λ j. byte_break_count b (drop j xs)) (let e : i + 0 ≡ i = omega arith in e))
+byte_break_count-block b xs i (suc n) h =
     omega (
       arith,
-      byte_breaks-drop b xs i (omega arith),
+      byte_break_count-drop b xs i (omega arith),
       sum_by-cons (λ k. cond (breaks_at b xs k) 1 0) i (range_with_len (i + 1) n),
-      byte_breaks-block b xs (i + 1) n (omega arith),
-      ap (λ j. byte_breaks b (drop j xs)) (let e : i + suc n ≡ (i + 1) + n = omega arith in e),
+      byte_break_count-block b xs (i + 1) n (omega arith),
+      ap (λ j. byte_break_count b (drop j xs)) (let e : i + suc n ≡ (i + 1) + n = omega arith in e),
     )
 
-pub byte_breaks_le : (b : LineBreaks) (xs : List ℕ) → byte_breaks b xs ≤ length xs
-byte_breaks_le b [] = omega arith
-byte_breaks_le b (x ∷ xs) = omega (arith, byte_breaks_le b xs, one_at_most (break_at b x (get_or xs 0 0) (get_or xs 1 0)))
+pub byte_break_count_le : (b : LineBreaks) (xs : List ℕ) → byte_break_count b xs ≤ length xs
+byte_break_count_le b [] = omega arith
+byte_break_count_le b (x ∷ xs) = omega (arith, byte_break_count_le b xs, one_at_most (break_at b x (get_or xs 0 0) (get_or xs 1 0)))
 
 pub begins_le : (xs : List ℕ) → count_by begins_char xs ≤ length xs
 begins_le xs = count_by-le-length begins_char xs

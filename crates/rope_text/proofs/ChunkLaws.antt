@@ -65,27 +65,27 @@ utf16_to_char_at parts k u l past less =
     ∙ ap (λ n. length (before parts k) + n) (utf16_to_char-append_left (get_or parts k []) (after parts k) (u - utf16_len (before parts k)) less)
 
 -- where no CRLF is cut: the line of a character or a byte, and the start of a line, of the k-th part
-module _ (set : LineBreaks) (parts : List (List ℕ)) (k : ℕ) (l : k < length parts) (full : All (λ part. 0 < length part) parts) (kept : KeepsCrlf parts) where
+module _ (breaks : LineBreaks) (parts : List (List ℕ)) (k : ℕ) (l : k < length parts) (full : All (λ part. 0 < length part) parts) (kept : KeepsCrlf parts) where
   apart : parts_crlf (before parts k) (get_or parts k [] ++ after parts k) ≡ false
   apart = ap (parts_crlf (before parts k)) (sym (concat-drop parts k l)) ∙ KeepsCrlf_before parts k full kept
 
   pub char_to_line_at : (i : ℕ) → length (before parts k) ≤ i → i - length (before parts k) ≤ length (get_or parts k [])
-      → char_to_line set (concat parts) i ≡ break_count set (before parts k) + char_to_line set (get_or parts k []) (i - length (before parts k))
+      → char_to_line breaks (concat parts) i ≡ break_count breaks (before parts k) + char_to_line breaks (get_or parts k []) (i - length (before parts k))
   char_to_line_at i past within =
-      ap (λ t. char_to_line set t i) (concat_at parts k l) ∙ char_to_line-append_right set (before parts k) (get_or parts k [] ++ after parts k) i apart past
-      ∙ ap (λ n. break_count set (before parts k) + n) (char_to_line-append_left set (get_or parts k []) (after parts k) (i - length (before parts k)) (KeepsCrlf_at parts k l kept) within)
+      ap (λ t. char_to_line breaks t i) (concat_at parts k l) ∙ char_to_line-append_right breaks (before parts k) (get_or parts k [] ++ after parts k) i apart past
+      ∙ ap (λ n. break_count breaks (before parts k) + n) (char_to_line-append_left breaks (get_or parts k []) (after parts k) (i - length (before parts k)) (KeepsCrlf_at parts k l kept) within)
 
   pub byte_to_line_at : (b : ℕ) → byte_len (before parts k) ≤ b → b - byte_len (before parts k) < byte_len (get_or parts k [])
-      → byte_to_line set (concat parts) b ≡ break_count set (before parts k) + byte_to_line set (get_or parts k []) (b - byte_len (before parts k))
+      → byte_to_line breaks (concat parts) b ≡ break_count breaks (before parts k) + byte_to_line breaks (get_or parts k []) (b - byte_len (before parts k))
   byte_to_line_at b past less =
-      ap (λ t. byte_to_line set t b) (concat_at parts k l) ∙ byte_to_line-append_right set (before parts k) (get_or parts k [] ++ after parts k) b apart past
-      ∙ ap (λ n. break_count set (before parts k) + n) (byte_to_line-append_left set (get_or parts k []) (after parts k) (b - byte_len (before parts k)) (KeepsCrlf_at parts k l kept) less)
+      ap (λ t. byte_to_line breaks t b) (concat_at parts k l) ∙ byte_to_line-append_right breaks (before parts k) (get_or parts k [] ++ after parts k) b apart past
+      ∙ ap (λ n. break_count breaks (before parts k) + n) (byte_to_line-append_left breaks (get_or parts k []) (after parts k) (b - byte_len (before parts k)) (KeepsCrlf_at parts k l kept) less)
 
-  pub line_start_at : (n : ℕ) → break_count set (before parts k) < n → n - break_count set (before parts k) ≤ break_count set (get_or parts k [])
-      → line_start set (concat parts) n ≡ length (before parts k) + line_start set (get_or parts k []) (n - break_count set (before parts k))
+  pub line_start_at : (n : ℕ) → break_count breaks (before parts k) < n → n - break_count breaks (before parts k) ≤ break_count breaks (get_or parts k [])
+      → line_start breaks (concat parts) n ≡ length (before parts k) + line_start breaks (get_or parts k []) (n - break_count breaks (before parts k))
   line_start_at n past within =
-      ap (λ t. line_start set t n) (concat_at parts k l) ∙ line_start-append_right set (before parts k) (get_or parts k [] ++ after parts k) n apart past
-      ∙ ap (λ m. length (before parts k) + m) (line_start-append_left set (get_or parts k []) (after parts k) (n - break_count set (before parts k)) (KeepsCrlf_at parts k l kept) within)
+      ap (λ t. line_start breaks t n) (concat_at parts k l) ∙ line_start-append_right breaks (before parts k) (get_or parts k [] ++ after parts k) n apart past
+      ∙ ap (λ m. length (before parts k) + m) (line_start-append_left breaks (get_or parts k []) (after parts k) (n - break_count breaks (before parts k)) (KeepsCrlf_at parts k l kept) within)
 
 -- a cutting's front and back keep their pairs, and none is cut between them
 pub KeepsCrlf-right : (p q : List (List ℕ)) → KeepsCrlf (p ++ q) → KeepsCrlf q

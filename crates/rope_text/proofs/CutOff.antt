@@ -30,5 +30,5 @@ cut_off bs r u some inside cut =
     }
 
 -- their counts add up
-pub counts_of_parts : (bs : List ℕ) (r : ℕ) (set : LineBreaks) → IsCutOff bs r → info_of set (chars bs) ≡ info_sum (info_of set (chars (take r bs))) (info_of set (chars (drop r bs)))
-counts_of_parts bs r set off = ap (info_of set) (sym off.whole) ∙ info_of-append_apart set (chars (take r bs)) (chars (drop r bs)) off.apart
+pub counts_of_parts : (bs : List ℕ) (r : ℕ) (breaks : LineBreaks) → IsCutOff bs r → info_of breaks (chars bs) ≡ info_sum (info_of breaks (chars (take r bs))) (info_of breaks (chars (drop r bs)))
+counts_of_parts bs r breaks off = ap (info_of breaks) (sym off.whole) ∙ info_of-append_apart breaks (chars (take r bs)) (chars (drop r bs)) off.apart

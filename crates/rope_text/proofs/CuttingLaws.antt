@@ -40,12 +40,12 @@ size-concat size m (x ∷ chunks) =
     omega (arith, m.joined x (concat chunks), size-concat size m chunks, sum_by-append size (x ∷ []) chunks)
 
 -- the breaks of the whole are the breaks of the chunks, where no CRLF is cut
-pub break_count-concat : (set : LineBreaks) (chunks : List (List ℕ)) → KeepsCrlf chunks → break_count set (concat chunks) ≡ sum_by (break_count set) chunks
-break_count-concat set [] kept = ap length (break_ends-nil set)
-break_count-concat set (x ∷ chunks) kept =
-    let none : joins_break set x (concat chunks) ≡ false = ap (λ b. b && is_break_char set 13) kept.0 in
-    let both = rw none at (break_count-append set x (concat chunks)) in
-    omega (arith, break_count-concat set chunks kept.1, sum_by-append (break_count set) (x ∷ []) chunks)
+pub break_count-concat : (breaks : LineBreaks) (chunks : List (List ℕ)) → KeepsCrlf chunks → break_count breaks (concat chunks) ≡ sum_by (break_count breaks) chunks
+break_count-concat breaks [] kept = ap length (break_ends-nil breaks)
+break_count-concat breaks (x ∷ chunks) kept =
+    let none : joins_break breaks x (concat chunks) ≡ false = ap (λ b. b && is_break_char breaks 13) kept.0 in
+    let both = rw none at (break_count-append breaks x (concat chunks)) in
+    omega (arith, break_count-concat breaks chunks kept.1, sum_by-append (break_count breaks) (x ∷ []) chunks)
 
 -- a slice's chunks are a cutting of the slice
 clip_nonempty : (chunks : List (List ℕ)) (a b : ℕ) → All (λ chunk. 0 < length chunk) (clip chunks a b)

@@ -78,11 +78,11 @@ child_of_break : map (chunk_index_at_line_break Unicode children) (0 ∷ 1 ∷ 2
 unfolding chunk_index_at_line_break char_to_line break_ends
 child_of_break = refl
 
-breaks_before : map (λ k. (found_chunk Unicode children (chunk_index_at_line_break Unicode children k)).breaks) (0 ∷ 1 ∷ 2 ∷ 3 ∷ 4 ∷ []) ≡ 0 ∷ 0 ∷ 1 ∷ 1 ∷ 3 ∷ []
+breaks_before : map (λ k. (found_chunk Unicode children (chunk_index_at_line_break Unicode children k)).break_count) (0 ∷ 1 ∷ 2 ∷ 3 ∷ 4 ∷ []) ≡ 0 ∷ 0 ∷ 1 ∷ 1 ∷ 3 ∷ []
 unfolding found_chunk chunk_index_at_line_break char_to_line break_ends
 breaks_before = refl
 
-no_chunk : found_chunk Unicode [] (chunk_index_at_byte [] 0) ≡ record { text = []; bytes = 0; chars = 0; breaks = 0 }
+no_chunk : found_chunk Unicode [] (chunk_index_at_byte [] 0) ≡ record { text = []; bytes = 0; chars = 0; break_count = 0 }
 unfolding found_chunk chunk_index_at_byte char_to_line break_ends
 no_chunk = refl
 
@@ -141,6 +141,6 @@ break_chunks : map (chunk_index_at_line_break Unicode lines_of_words) (0 ∷ 1 �
 unfolding chunk_index_at_line_break char_to_line break_ends
 break_chunks = refl
 
-line_breaks_before : map (λ k. (found_chunk Unicode lines_of_words (chunk_index_at_line_break Unicode lines_of_words k)).breaks) (0 ∷ 1 ∷ 2 ∷ 3 ∷ 4 ∷ []) ≡ 0 ∷ 0 ∷ 1 ∷ 1 ∷ 3 ∷ []
+line_breaks_before : map (λ k. (found_chunk Unicode lines_of_words (chunk_index_at_line_break Unicode lines_of_words k)).break_count) (0 ∷ 1 ∷ 2 ∷ 3 ∷ 4 ∷ []) ≡ 0 ∷ 0 ∷ 1 ∷ 1 ∷ 3 ∷ []
 unfolding found_chunk chunk_index_at_line_break char_to_line break_ends
 line_breaks_before = refl

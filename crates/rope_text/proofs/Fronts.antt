@@ -10,13 +10,13 @@ use Rattle.rope_text.specs.declared.line_breaks.LineBreaks.{LineBreaks}
 use Rattle.rope_text.specs.declared.line_breaks.LineBreaks.TheVariants.{Lf, CrLf, Unicode}
 use Rattle.rope_text.specs.Text.{byte_len, utf16_len, surrogate_count}
 use Rattle.rope_text.specs.Bytes.{begins_char, begins_pair}
-use Rattle.rope_text.specs.ByteBreaks.{break_at, byte_breaks, unit_count, char_width}
+use Rattle.rope_text.specs.ByteBreaks.{break_at, byte_break_count, unit_count, char_width}
 use Rattle.rope_text.specs.Breaks.{begins_with_lf, ends_break, break_ends, break_count}
 use Rattle.rope_text.specs.Lines.{line_start}
 use Rattle.rope_text.specs.Conversions.{byte_to_char, utf16_to_char, char_to_line}
 use Rattle.rope_text.proofs.Blocks.{count_by-block}
 use Rattle.rope_text.proofs.ByteLaws.{length-chars, utf16_len-chars, length-from_bytes, pairs-from_bytes}
-use Rattle.rope_text.proofs.ByteBreakLaws.{byte_breaks-encodes, break_count-chars, byte_breaks-past, break_first, width_first}
+use Rattle.rope_text.proofs.ByteBreakLaws.{byte_break_count-encodes, break_count-chars, byte_break_count-past, break_first, width_first}
 use Rattle.rope_text.proofs.ConversionLaws.{byte_to_char_is, utf16_to_char_is, byte_len_more, char_to_line_more, char_to_line_past}
 use Rattle.rope_text.proofs.Encoded.{Encoded-encode}
 use Rattle.rope_text.proofs.FirstBytes.{first_scalar, rest_scalars, starts_same}
@@ -68,8 +68,8 @@ begins_from bs k u = ap (count_by begins_char) (drop-bytes bs k u) ∙ length-fr
 units_from : (bs : List ℕ) (k : ℕ) → IsUtf8 bs → unit_count (drop (byte_len (take k (chars bs))) bs) ≡ utf16_len (drop k (chars bs))
 units_from bs k u = ap unit_count (drop-bytes bs k u) ∙ omega (arith, length-from_bytes (drop k (chars bs)), pairs-from_bytes (drop k (chars bs)))
 
-breaks_from : (set : LineBreaks) (bs : List ℕ) (k : ℕ) → IsUtf8 bs → byte_breaks set (drop (byte_len (take k (chars bs))) bs) ≡ break_count set (drop k (chars bs))
-breaks_from set bs k u = ap (byte_breaks set) (drop-bytes bs k u) ∙ byte_breaks-encodes set (drop k (chars bs)) (all_scalars-drop k (chars bs) (scalars-chars bs u))
+breaks_from : (breaks : LineBreaks) (bs : List ℕ) (k : ℕ) → IsUtf8 bs → byte_break_count breaks (drop (byte_len (take k (chars bs))) bs) ≡ break_count breaks (drop k (chars bs))
+breaks_from breaks bs k u = ap (byte_break_count breaks) (drop-bytes bs k u) ∙ byte_break_count-encodes breaks (drop k (chars bs)) (all_scalars-drop k (chars bs) (scalars-chars bs u))
 
 -- the byte that has n characters before it, or the end
 pub char_place : (bs : List ℕ) (n p : ℕ) → IsUtf8 bs → p ≤ length bs
@@ -128,25 +128,25 @@ unit_place bs n p u within begins before after =
     omega (arith, parts (suc f.0), units_from bs (suc f.0) u, after inside)))
 
 -- the breaks up to character k are those that begin before its byte
-pub line_place : (set : LineBreaks) (bs : List ℕ) (k : ℕ) → IsUtf8 bs → byte_breaks set bs ≡ char_to_line set (chars bs) k + byte_breaks set (drop (byte_len (take k (chars bs))) bs)
-line_place set bs k u =
+pub line_place : (breaks : LineBreaks) (bs : List ℕ) (k : ℕ) → IsUtf8 bs → byte_break_count breaks bs ≡ char_to_line breaks (chars bs) k + byte_break_count breaks (drop (byte_len (take k (chars bs))) bs)
+line_place breaks bs k u =
     elim (cases_lt k (length (chars bs))) [
-      | inl less ↦ omega (arith, break_count-drop set (chars bs) k (omega arith), breaks_from set bs k u, break_count-chars set bs u)
+      | inl less ↦ omega (arith, break_count-drop breaks (chars bs) k (omega arith), breaks_from breaks bs k u, break_count-chars breaks bs u)
       | inr past ↦
           let end : length bs ≤ byte_len (take k (chars bs)) = omega (arith, ap byte_len (take_all k (chars bs) past), byte_len-chars bs u) in
-          omega (arith, char_to_line_past set (chars bs) k past, byte_breaks-past set bs (byte_len (take k (chars bs))) end, break_count-chars set bs u)
+          omega (arith, char_to_line_past breaks (chars bs) k past, byte_break_count-past breaks bs (byte_len (take k (chars bs))) end, break_count-chars breaks bs u)
     ]
 
-break_begins : (set : LineBreaks) (x y z : ℕ) → break_at set x y z ≡ true → begins_char x ≡ true
+break_begins : (breaks : LineBreaks) (x y z : ℕ) → break_at breaks x y z ≡ true → begins_char x ≡ true
 break_begins Lf x y z e = grind (arith, nat_tests)
 break_begins CrLf x y z e = grind (arith, nat_tests)
 break_begins Unicode x y z e = grind (arith, nat_tests)
 
 -- the first character of what follows the place p
-pub first_after : (set : LineBreaks) (bs : List ℕ) (p k : ℕ) → IsUtf8 bs → byte_len (take k (chars bs)) ≡ p → k < length (chars bs)
-    → (break_at set (get_or bs p 0) (get_or bs (p + 1) 0) (get_or bs (p + 2) 0) ≡ ends_break set (get_or (chars bs) k 0) (drop (suc k) (chars bs)))
+pub first_after : (breaks : LineBreaks) (bs : List ℕ) (p k : ℕ) → IsUtf8 bs → byte_len (take k (chars bs)) ≡ p → k < length (chars bs)
+    → (break_at breaks (get_or bs p 0) (get_or bs (p + 1) 0) (get_or bs (p + 2) 0) ≡ ends_break breaks (get_or (chars bs) k 0) (drop (suc k) (chars bs)))
     × (char_width (get_or bs p 0) ≡ length (encode_utf8 (get_or (chars bs) k 0)))
-first_after set bs p k u place less =
+first_after breaks bs p k u place less =
     let cs : List ℕ = chars bs in
     let c : ℕ = get_or cs k 0 in
     let rest : List ℕ = drop (suc k) cs in
@@ -157,51 +157,51 @@ first_after set bs p k u place less =
     let lf = starts_same rest (rest_scalars c rest scalars) in
     let at : (j : ℕ) → get_or bs (p + j) 0 ≡ get_or (encode_utf8 c ++ encode_utf8_all rest) j 0 = λ j. sym (get_or-drop p bs j 0) ∙ ap (λ ds. get_or ds j 0) bytes in
     let first : get_or bs p 0 ≡ get_or (encode_utf8 c ++ encode_utf8_all rest) 0 0 = ap (λ q. get_or bs q 0) (let e : p ≡ p + 0 = omega arith in e) ∙ at 0 in
-    (rw (first, at 1, at 2) (break_first set c (encode_utf8 c) (encode_utf8_all rest) (begins_with_lf rest) whole lf), rw first (width_first c (encode_utf8 c) (encode_utf8_all rest) whole))
+    (rw (first, at 1, at 2) (break_first breaks c (encode_utf8 c) (encode_utf8_all rest) (begins_with_lf rest) whole lf), rw first (width_first c (encode_utf8 c) (encode_utf8_all rest) whole))
 
 -- the last character of the n-th break, the one before line n + 1
-break_front : (set : LineBreaks) (bs : List ℕ) (n p : ℕ) → IsUtf8 bs → p < length bs → byte_breaks set bs ≡ n + byte_breaks set (drop p bs)
-    → break_at set (get_or bs p 0) (get_or bs (p + 1) 0) (get_or bs (p + 2) 0) ≡ true
-    → (k : ℕ) × (k < length (chars bs)) × (byte_len (take k (chars bs)) ≡ p) × (line_start set (chars bs) (suc n) ≡ suc k)
+break_front : (breaks : LineBreaks) (bs : List ℕ) (n p : ℕ) → IsUtf8 bs → p < length bs → byte_break_count breaks bs ≡ n + byte_break_count breaks (drop p bs)
+    → break_at breaks (get_or bs p 0) (get_or bs (p + 1) 0) (get_or bs (p + 2) 0) ≡ true
+    → (k : ℕ) × (k < length (chars bs)) × (byte_len (take k (chars bs)) ≡ p) × (line_start breaks (chars bs) (suc n) ≡ suc k)
     × (char_width (get_or bs p 0) ≡ length (encode_utf8 (get_or (chars bs) k 0)))
-break_front set bs n p u inside before begin =
+break_front breaks bs n p u inside before begin =
     let cs : List ℕ = chars bs in
-    let f = front_at bs p u (boundary_of_begin bs p (omega arith) (λ _. break_begins set (get_or bs p 0) (get_or bs (p + 1) 0) (get_or bs (p + 2) 0) begin)) in
+    let f = front_at bs p u (boundary_of_begin bs p (omega arith) (λ _. break_begins breaks (get_or bs p 0) (get_or bs (p + 1) 0) (get_or bs (p + 2) 0) begin)) in
     let few : f.0 < length cs = elim (cases_lt f.0 (length cs)) [
       | inl less ↦ less
       | inr past ↦ absurd (omega (arith, f.2, ap byte_len (take_all f.0 cs past), byte_len-chars bs u))
     ] in
-    let first = first_after set bs p f.0 u f.2 few in
-    let line : char_to_line set cs f.0 ≡ n = omega (arith, rw f.2 at (line_place set bs f.0 u)) in
-    let ended : cond {A = ℕ} (ends_break set (get_or cs f.0 0) (drop (suc f.0) cs)) 1 0 ≡ 1 = ap (λ (t : Bool). cond {A = ℕ} t 1 0) (sym first.0 ∙ begin) in
-    let next : line_start set cs (suc n) ≡ suc f.0 =
-    line_start_is set cs (suc n) (suc f.0) few (λ _. omega (arith, line)) (λ less. omega (arith, line, ended, char_to_line_more set cs f.0 few)) in
+    let first = first_after breaks bs p f.0 u f.2 few in
+    let line : char_to_line breaks cs f.0 ≡ n = omega (arith, rw f.2 at (line_place breaks bs f.0 u)) in
+    let ended : cond {A = ℕ} (ends_break breaks (get_or cs f.0 0) (drop (suc f.0) cs)) 1 0 ≡ 1 = ap (λ (t : Bool). cond {A = ℕ} t 1 0) (sym first.0 ∙ begin) in
+    let next : line_start breaks cs (suc n) ≡ suc f.0 =
+    line_start_is breaks cs (suc n) (suc f.0) few (λ _. omega (arith, line)) (λ less. omega (arith, line, ended, char_to_line_more breaks cs f.0 few)) in
     (f.0, few, f.2, next, first.1)
 
 -- the end of the n-th break is where line n + 1 starts
-pub break_place : (set : LineBreaks) (bs : List ℕ) (n p : ℕ) → IsUtf8 bs → p < length bs → byte_breaks set bs ≡ n + byte_breaks set (drop p bs)
-    → break_at set (get_or bs p 0) (get_or bs (p + 1) 0) (get_or bs (p + 2) 0) ≡ true
-    → p + char_width (get_or bs p 0) ≡ byte_len (take (line_start set (chars bs) (suc n)) (chars bs))
-break_place set bs n p u inside before begin =
+pub break_place : (breaks : LineBreaks) (bs : List ℕ) (n p : ℕ) → IsUtf8 bs → p < length bs → byte_break_count breaks bs ≡ n + byte_break_count breaks (drop p bs)
+    → break_at breaks (get_or bs p 0) (get_or bs (p + 1) 0) (get_or bs (p + 2) 0) ≡ true
+    → p + char_width (get_or bs p 0) ≡ byte_len (take (line_start breaks (chars bs) (suc n)) (chars bs))
+break_place breaks bs n p u inside before begin =
     let cs : List ℕ = chars bs in
-    let f = break_front set bs n p u inside before begin in
+    let f = break_front breaks bs n p u inside before begin in
     let size : byte_len (take (suc f.0) cs) ≡ p + char_width (get_or bs p 0) =
     byte_len_more cs f.0 (get_or cs f.0 0) (f.1, get_or_default cs f.0 0 (get_or cs f.0 0) f.1) ∙ omega (arith, f.2, f.4, length-encode (get_or cs f.0 0)) in
     sym size ∙ ap (λ j. byte_len (take j cs)) (sym f.3)
 
-pub break_char : (set : LineBreaks) (bs : List ℕ) (n p k : ℕ) → IsUtf8 bs → p < length bs → byte_breaks set bs ≡ n + byte_breaks set (drop p bs)
-    → break_at set (get_or bs p 0) (get_or bs (p + 1) 0) (get_or bs (p + 2) 0) ≡ true → count_by begins_char bs ≡ k + count_by begins_char (drop p bs)
-    → k + 1 ≡ line_start set (chars bs) (suc n)
-break_char set bs n p k u inside before begin counted =
-    let f = break_front set bs n p u inside before begin in
+pub break_char : (breaks : LineBreaks) (bs : List ℕ) (n p k : ℕ) → IsUtf8 bs → p < length bs → byte_break_count breaks bs ≡ n + byte_break_count breaks (drop p bs)
+    → break_at breaks (get_or bs p 0) (get_or bs (p + 1) 0) (get_or bs (p + 2) 0) ≡ true → count_by begins_char bs ≡ k + count_by begins_char (drop p bs)
+    → k + 1 ≡ line_start breaks (chars bs) (suc n)
+break_char breaks bs n p k u inside before begin counted =
+    let f = break_front breaks bs n p u inside before begin in
     let rest = rw f.2 at (begins_from bs f.0 u) in
     omega (arith, f.1, f.3, rest, length-chars bs u, length-drop f.0 (chars bs))
 
 -- past the last break a line starts at the end
-pub no_break_line : (set : LineBreaks) (bs : List ℕ) (n : ℕ) → IsUtf8 bs → byte_breaks set bs ≤ n → line_start set (chars bs) (suc n) ≡ length (chars bs)
+pub no_break_line : (breaks : LineBreaks) (bs : List ℕ) (n : ℕ) → IsUtf8 bs → byte_break_count breaks bs ≤ n → line_start breaks (chars bs) (suc n) ≡ length (chars bs)
 unfolding line_start
-no_break_line set bs n u few = get_or_past (break_ends set (chars bs)) n (length (chars bs)) (omega (arith, break_count-chars set bs u))
+no_break_line breaks bs n u few = get_or_past (break_ends breaks (chars bs)) n (length (chars bs)) (omega (arith, break_count-chars breaks bs u))
 
-pub no_break_place : (set : LineBreaks) (bs : List ℕ) (n : ℕ) → IsUtf8 bs → byte_breaks set bs ≤ n → byte_len (take (line_start set (chars bs) (suc n)) (chars bs)) ≡ length bs
-no_break_place set bs n u few =
-    ap byte_len (ap (λ j. take j (chars bs)) (no_break_line set bs n u few) ∙ take_all (length (chars bs)) (chars bs) (omega arith)) ∙ byte_len-chars bs u
+pub no_break_place : (breaks : LineBreaks) (bs : List ℕ) (n : ℕ) → IsUtf8 bs → byte_break_count breaks bs ≤ n → byte_len (take (line_start breaks (chars bs) (suc n)) (chars bs)) ≡ length bs
+no_break_place breaks bs n u few =
+    ap byte_len (ap (λ j. take j (chars bs)) (no_break_line breaks bs n u few) ∙ take_all (length (chars bs)) (chars bs) (omega arith)) ∙ byte_len-chars bs u

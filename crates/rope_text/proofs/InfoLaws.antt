@@ -14,24 +14,24 @@ use Rattle.rope_text.proofs.BreakLaws.{break_count-append}
 pub surrogate_count-append : (s t : List ℕ) → surrogate_count (s ++ t) ≡ surrogate_count s + surrogate_count t
 surrogate_count-append s t = sum_by-append (λ c. cond (nat_le 65536 c) 1 0) s t
 
-pub info_of-append : (set : LineBreaks) (s t : List ℕ) → info_of set (s ++ t) ≡ less_breaks (info_sum (info_of set s) (info_of set t)) (shared_breaks set s t)
-info_of-append set s t =
+pub info_of-append : (breaks : LineBreaks) (s t : List ℕ) → info_of breaks (s ++ t) ≡ less_breaks (info_sum (info_of breaks s) (info_of breaks t)) (shared_breaks breaks s t)
+info_of-append breaks s t =
     let bytes = IsMeasure-byte_len.joined s t in
     let pairs = surrogate_count-append s t in
     let chars = length-append s t in
-    let breaks : break_count set (s ++ t) ≡ (break_count set s + break_count set t) - shared_breaks set s t = omega (arith, break_count-append set s t) in
+    let count : break_count breaks (s ++ t) ≡ (break_count breaks s + break_count breaks t) - shared_breaks breaks s t = omega (arith, break_count-append breaks s t) in
     cc
 
 -- where CR doesn't meet LF, the sums
-pub info_of-append_apart : (set : LineBreaks) (s t : List ℕ) → parts_crlf s t ≡ false → info_of set (s ++ t) ≡ info_sum (info_of set s) (info_of set t)
-info_of-append_apart set s t apart =
-    let none : shared_breaks set s t ≡ 0 = ap (λ (x : Bool). cond {A = ℕ} (x && is_break_char set 13) 1 0) apart in
-    let same : (break_count set s + break_count set t) - 0 ≡ break_count set s + break_count set t = omega arith in
-    let whole : less_breaks (info_sum (info_of set s) (info_of set t)) 0 ≡ info_sum (info_of set s) (info_of set t) = rw same refl in
-    info_of-append set s t ∙ ap (less_breaks (info_sum (info_of set s) (info_of set t))) none ∙ whole
+pub info_of-append_apart : (breaks : LineBreaks) (s t : List ℕ) → parts_crlf s t ≡ false → info_of breaks (s ++ t) ≡ info_sum (info_of breaks s) (info_of breaks t)
+info_of-append_apart breaks s t apart =
+    let none : shared_breaks breaks s t ≡ 0 = ap (λ (x : Bool). cond {A = ℕ} (x && is_break_char breaks 13) 1 0) apart in
+    let same : (break_count breaks s + break_count breaks t) - 0 ≡ break_count breaks s + break_count breaks t = omega arith in
+    let whole : less_breaks (info_sum (info_of breaks s) (info_of breaks t)) 0 ≡ info_sum (info_of breaks s) (info_of breaks t) = rw same refl in
+    info_of-append breaks s t ∙ ap (less_breaks (info_sum (info_of breaks s) (info_of breaks t))) none ∙ whole
 
 -- no more breaks than characters
-pub break_count-le-length : (set : LineBreaks) (text : List ℕ) → break_count set text ≤ length text
+pub break_count-le-length : (breaks : LineBreaks) (text : List ℕ) → break_count breaks text ≤ length text
 unfolding break_ends
-break_count-le-length set text =
-    omega (arith, length-filter (is_break_end set text) (range_with_len 1 (length text)), count_by-le-length (is_break_end set text) (range_with_len 1 (length text)), length-range_with_len 1 (length text))
+break_count-le-length breaks text =
+    omega (arith, length-filter (is_break_end breaks text) (range_with_len 1 (length text)), count_by-le-length (is_break_end breaks text) (range_with_len 1 (length text)), length-range_with_len 1 (length text))

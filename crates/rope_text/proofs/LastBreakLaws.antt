@@ -41,9 +41,9 @@ last_place bs p u some at before last =
     (f.0, omega arith, f.2)
 
 -- whether a break ends at the end, by the bytes from there on
-pub last_ends : (set : LineBreaks) (bs : List ℕ) (p k : ℕ) → IsUtf8 bs → length (chars bs) ≡ suc k → byte_len (take k (chars bs)) ≡ p
-    → break_at set (get_or bs p 0) (get_or bs (p + 1) 0) (get_or bs (p + 2) 0) ≡ ends_in_break set (chars bs)
-last_ends set bs p k u long place = (first_after set bs p k u place (omega (arith, long))).0 ∙ ap (is_break_end set (chars bs)) (sym long)
+pub last_ends : (breaks : LineBreaks) (bs : List ℕ) (p k : ℕ) → IsUtf8 bs → length (chars bs) ≡ suc k → byte_len (take k (chars bs)) ≡ p
+    → break_at breaks (get_or bs p 0) (get_or bs (p + 1) 0) (get_or bs (p + 2) 0) ≡ ends_in_break breaks (chars bs)
+last_ends breaks bs p k u long place = (first_after breaks bs p k u place (omega (arith, long))).0 ∙ ap (is_break_end breaks (chars bs)) (sym long)
 
 last_byte : (c : ℕ) (bs : List ℕ) → Encoded c bs → eqb (get_or bs (length bs - 1) 0) 13 ≡ eqb c 13
 last_byte c bs (one h) = refl
@@ -95,14 +95,14 @@ last_crlf bs p k u within long place =
     ]
 
 -- the bytes before the break at the end
-pub no_break : (set : LineBreaks) (bs : List ℕ) → IsUtf8 bs → ends_in_break set (chars bs) ≡ false → length bs ≡ byte_len (without_break set (chars bs))
-no_break set bs u none =
+pub no_break : (breaks : LineBreaks) (bs : List ℕ) → IsUtf8 bs → ends_in_break breaks (chars bs) ≡ false → length bs ≡ byte_len (without_break breaks (chars bs))
+no_break breaks bs u none =
     let cs : List ℕ = chars bs in
     rw none (sym (byte_len-chars bs u) ∙ ap byte_len (sym (take_all (length cs - 0) cs (omega arith))))
 
-pub one_break : (set : LineBreaks) (bs : List ℕ) (p k : ℕ) → length (chars bs) ≡ suc k → byte_len (take k (chars bs)) ≡ p
-    → ends_in_break set (chars bs) ≡ true → (is_break_char set 13 && ends_in_crlf (chars bs)) ≡ false → p ≡ byte_len (without_break set (chars bs))
-one_break set bs p k long place ends lone =
+pub one_break : (breaks : LineBreaks) (bs : List ℕ) (p k : ℕ) → length (chars bs) ≡ suc k → byte_len (take k (chars bs)) ≡ p
+    → ends_in_break breaks (chars bs) ≡ true → (is_break_char breaks 13 && ends_in_crlf (chars bs)) ≡ false → p ≡ byte_len (without_break breaks (chars bs))
+one_break breaks bs p k long place ends lone =
     let same : k ≡ length (chars bs) - 1 = omega (arith, long) in
     rw (ends, lone) (sym place ∙ ap (λ j. byte_len (take j (chars bs))) same)
 
@@ -113,11 +113,11 @@ front_and_cr (c ∷ []) (suc j) long e = absurd (omega arith)
 front_and_cr (c ∷ d ∷ cs) zero long e = absurd (omega arith)
 front_and_cr (c ∷ d ∷ cs) (suc j) long e = front_and_cr (d ∷ cs) j (omega arith) e
 
-pub crlf_break : (set : LineBreaks) (bs : List ℕ) (p k : ℕ) → IsUtf8 bs → length (chars bs) ≡ suc k → byte_len (take k (chars bs)) ≡ p
-    → ends_in_break set (chars bs) ≡ true → (is_break_char set 13 && ends_in_crlf (chars bs)) ≡ true → p - 1 ≡ byte_len (without_break set (chars bs))
-crlf_break set bs p k u long place ends pair =
+pub crlf_break : (breaks : LineBreaks) (bs : List ℕ) (p k : ℕ) → IsUtf8 bs → length (chars bs) ≡ suc k → byte_len (take k (chars bs)) ≡ p
+    → ends_in_break breaks (chars bs) ≡ true → (is_break_char breaks 13 && ends_in_crlf (chars bs)) ≡ true → p - 1 ≡ byte_len (without_break breaks (chars bs))
+crlf_break breaks bs p k u long place ends pair =
     let cs : List ℕ = chars bs in
-    let crlf = (and_parts (is_break_char set 13) (ends_in_crlf cs) pair).1 in
+    let crlf = (and_parts (is_break_char breaks 13) (ends_in_crlf cs) pair).1 in
     let same : length cs - 1 ≡ k = omega (arith, long) in
     let cr : ends_in_cr (take k cs) ≡ true = ap (λ j. ends_in_cr (take j cs)) (sym same) ∙ (and_parts (ends_in_cr (take (length cs - 1) cs)) (eqb (get_or cs (length cs - 1) 0) 10) crlf).0 in
     let size = length-take-le k cs (omega (arith, long)) in
@@ -132,11 +132,11 @@ crlf_break set bs p k u long place ends pair =
     rw (ends, pair) (place_back ∙ ap (λ j. byte_len (take j cs)) end)
 
 -- an empty text has no break
-pub no_bytes : (set : LineBreaks) (bs : List ℕ) → IsUtf8 bs → length bs ≡ 0 → ends_in_break set (chars bs) ≡ false
-no_bytes set bs u none =
+pub no_bytes : (breaks : LineBreaks) (bs : List ℕ) → IsUtf8 bs → length bs ≡ 0 → ends_in_break breaks (chars bs) ≡ false
+no_bytes breaks bs u none =
     let long = length-le-encodes (chars bs) in
     let empty : length (chars bs) ≡ 0 = omega (arith, byte_len-chars bs u) in
-    ap (is_break_end set (chars bs)) empty
+    ap (is_break_end breaks (chars bs)) empty
 
-pub some_bytes : (set : LineBreaks) (bs : List ℕ) → IsUtf8 bs → ends_in_break set (chars bs) ≡ true → 0 < length bs
-some_bytes set bs u ends = elim (cases_lt 0 (length bs)) [ inl some ↦ some | inr none ↦ absurd (let off = no_bytes set bs u (omega arith) in grind (arith, nat_tests)) ]
+pub some_bytes : (breaks : LineBreaks) (bs : List ℕ) → IsUtf8 bs → ends_in_break breaks (chars bs) ≡ true → 0 < length bs
+some_bytes breaks bs u ends = elim (cases_lt 0 (length bs)) [ inl some ↦ some | inr none ↦ absurd (let off = no_bytes breaks bs u (omega arith) in grind (arith, nat_tests)) ]

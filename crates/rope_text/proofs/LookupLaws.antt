@@ -41,9 +41,9 @@ pub chunk_index_at_char-le : (chunks : List (List ℕ)) (i : ℕ) → chunk_inde
 unfolding chunk_index_at_char
 chunk_index_at_char-le chunks i = greatest-le (λ k. nat_le (length (front_chunks chunks k)) i) (length chunks - 1)
 
-pub chunk_index_at_line_break-le : (set : LineBreaks) (chunks : List (List ℕ)) (k : ℕ) → chunk_index_at_line_break set chunks k ≤ length chunks - 1
+pub chunk_index_at_line_break-le : (breaks : LineBreaks) (chunks : List (List ℕ)) (k : ℕ) → chunk_index_at_line_break breaks chunks k ≤ length chunks - 1
 unfolding chunk_index_at_line_break
-chunk_index_at_line_break-le set chunks k = least-le (λ j. nat_le k (char_to_line set (concat chunks) (length (front_chunks chunks (j + 1))))) (length chunks - 1)
+chunk_index_at_line_break-le breaks chunks k = least-le (λ j. nat_le k (char_to_line breaks (concat chunks) (length (front_chunks chunks (j + 1))))) (length chunks - 1)
 
 -- more chunks are as long, or longer
 pub size-front_chunks : (size : List ℕ → ℕ) → IsMeasure size → (chunks : List (List ℕ)) (j k : ℕ) → j ≤ k → size (front_chunks chunks j) ≤ size (front_chunks chunks k)
@@ -70,20 +70,20 @@ unfolding chunk_index_at_char
 chunk_index_at_char_is chunks i k within starts ends = chunk_is length IsMeasure-length chunks i k within starts ends
 
 -- where no CRLF is cut, the breaks of the whole before a chunk are the breaks of the chunks before it
-pub breaks_before : (set : LineBreaks) (chunks : List (List ℕ)) (k : ℕ) → All (λ chunk. 0 < length chunk) chunks → KeepsCrlf chunks
-    → char_to_line set (concat chunks) (length (front_chunks chunks k)) ≡ break_count set (front_chunks chunks k)
-breaks_before set chunks k full kept =
+pub breaks_before : (breaks : LineBreaks) (chunks : List (List ℕ)) (k : ℕ) → All (λ chunk. 0 < length chunk) chunks → KeepsCrlf chunks
+    → char_to_line breaks (concat chunks) (length (front_chunks chunks k)) ≡ break_count breaks (front_chunks chunks k)
+breaks_before breaks chunks k full kept =
     let parts = ap concat (sym (take-append-drop k chunks)) ∙ concat-append (take k chunks) (drop k chunks) in
-    ap (λ t. char_to_line set t (length (front_chunks chunks k))) parts
-    ∙ char_to_line-append_left set (front_chunks chunks k) (concat (drop k chunks)) (length (front_chunks chunks k)) (KeepsCrlf_before chunks k full kept) (omega arith)
-    ∙ char_to_line_end set (front_chunks chunks k)
+    ap (λ t. char_to_line breaks t (length (front_chunks chunks k))) parts
+    ∙ char_to_line-append_left breaks (front_chunks chunks k) (concat (drop k chunks)) (length (front_chunks chunks k)) (KeepsCrlf_before chunks k full kept) (omega arith)
+    ∙ char_to_line_end breaks (front_chunks chunks k)
 
 -- the first chunk by whose end k breaks have ended, or the last
-pub chunk_index_at_line_break_is : (set : LineBreaks) (chunks : List (List ℕ)) (k j : ℕ) → j < length chunks → All (λ chunk. 0 < length chunk) chunks → KeepsCrlf chunks
-    → (suc j < length chunks → k ≤ break_count set (front_chunks chunks (suc j))) → ((i : ℕ) → i < j → break_count set (front_chunks chunks (suc i)) < k) → chunk_index_at_line_break set chunks k ≡ j
+pub chunk_index_at_line_break_is : (breaks : LineBreaks) (chunks : List (List ℕ)) (k j : ℕ) → j < length chunks → All (λ chunk. 0 < length chunk) chunks → KeepsCrlf chunks
+    → (suc j < length chunks → k ≤ break_count breaks (front_chunks chunks (suc j))) → ((i : ℕ) → i < j → break_count breaks (front_chunks chunks (suc i)) < k) → chunk_index_at_line_break breaks chunks k ≡ j
 unfolding chunk_index_at_line_break
-chunk_index_at_line_break_is set chunks k j within full kept ended before =
-    let counts : (i : ℕ) → char_to_line set (concat chunks) (length (front_chunks chunks (i + 1))) ≡ break_count set (front_chunks chunks (suc i)) = λ i. rw (add-one i) (breaks_before set chunks (suc i) full kept) in
-    least_is (λ i. nat_le k (char_to_line set (concat chunks) (length (front_chunks chunks (i + 1))))) (length chunks - 1) j (omega arith)
+chunk_index_at_line_break_is breaks chunks k j within full kept ended before =
+    let counts : (i : ℕ) → char_to_line breaks (concat chunks) (length (front_chunks chunks (i + 1))) ≡ break_count breaks (front_chunks chunks (suc i)) = λ i. rw (add-one i) (breaks_before breaks chunks (suc i) full kept) in
+    least_is (λ i. nat_le k (char_to_line breaks (concat chunks) (length (front_chunks chunks (i + 1))))) (length chunks - 1) j (omega arith)
     (λ less. le-leb _ _ (let e = ended (omega arith) in let same = counts j in omega arith))
     (λ i less. lt-leb _ _ (let e = before i less in let same = counts i in omega arith))

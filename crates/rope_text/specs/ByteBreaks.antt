@@ -17,9 +17,9 @@ break_at Unicode x y z =
     (is_in_range 10 12 x || lone_cr x y) || ((x == 0xC2 && y == 0x85) || (x == 0xE2 && (y == 0x80 && (z == 0xA8 || z == 0xA9))))
 
 -- how many such characters there are
-abbrev pub byte_breaks : LineBreaks → List ℕ → ℕ
-byte_breaks set [] = 0
-byte_breaks set (x ∷ xs) = cond (break_at set x (get_or xs 0 0) (get_or xs 1 0)) 1 0 + byte_breaks set xs
+abbrev pub byte_break_count : LineBreaks → List ℕ → ℕ
+byte_break_count breaks [] = 0
+byte_break_count breaks (x ∷ xs) = cond (break_at breaks x (get_or xs 0 0) (get_or xs 1 0)) 1 0 + byte_break_count breaks xs
 
 -- how many code units the bytes take in UTF-16
 abbrev pub unit_count : List ℕ → ℕ

@@ -5,7 +5,7 @@ use Rattle.rope_text.specs.Breaks.{is_break_char, ends_in_cr, is_break_end}
 
 -- whether a line break ends at the end of the text
 abbrev pub ends_in_break : LineBreaks → List ℕ → Bool
-ends_in_break set text = is_break_end set text (length text)
+ends_in_break breaks text = is_break_end breaks text (length text)
 
 -- whether CR LF ends the text
 abbrev pub ends_in_crlf : List ℕ → Bool
@@ -13,8 +13,8 @@ ends_in_crlf text = ends_in_cr (take (length text - 1) text) && slice_index text
 
 -- how many characters the line break at the end has: none, two where it is CR LF, or one
 abbrev pub last_break_len : LineBreaks → List ℕ → ℕ
-last_break_len set text = if ends_in_break set text then (if is_break_char set 13 && ends_in_crlf text then 2 else 1) else 0
+last_break_len breaks text = if ends_in_break breaks text then (if is_break_char breaks 13 && ends_in_crlf text then 2 else 1) else 0
 
 -- the text without the line break at its end
 abbrev pub without_break : LineBreaks → List ℕ → List ℕ
-without_break set text = take (length text - last_break_len set text) text
+without_break breaks text = take (length text - last_break_len breaks text) text

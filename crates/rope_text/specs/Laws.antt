@@ -28,15 +28,15 @@ CharsRoundTrip = (text : List ℕ) (i : ℕ) → i ≤ length text → (byte_to_
 
 -- the counts of joined texts are the sums, with one break less where CR meets LF and is a break by itself
 abbrev pub CountsJoin : Type 0
-CountsJoin = (set : LineBreaks) (s t : List ℕ) → info_of set (s ++ t) ≡ less_breaks (info_sum (info_of set s) (info_of set t)) (shared_breaks set s t)
+CountsJoin = (breaks : LineBreaks) (s t : List ℕ) → info_of breaks (s ++ t) ≡ less_breaks (info_sum (info_of breaks s) (info_of breaks t)) (shared_breaks breaks s t)
 
 -- a line's start lies on that line
 abbrev pub LinesRoundTrip : Type 0
-LinesRoundTrip = (set : LineBreaks) (text : List ℕ) (l : ℕ) → l < line_count set text → char_to_line set text (line_start set text l) ≡ l
+LinesRoundTrip = (breaks : LineBreaks) (text : List ℕ) (l : ℕ) → l < line_count breaks text → char_to_line breaks text (line_start breaks text l) ≡ l
 
 -- a position is that of its character
 abbrev pub PositionsRoundTrip : Type 0
-PositionsRoundTrip = (set : LineBreaks) (text : List ℕ) (i : ℕ) → i ≤ length text → position_to_char set text (char_to_line set text i) (char_to_column set text i) ≡ i
+PositionsRoundTrip = (breaks : LineBreaks) (text : List ℕ) (i : ℕ) → i ≤ length text → position_to_char breaks text (char_to_line breaks text i) (char_to_column breaks text i) ≡ i
 
 -- a slice of a slice is the slice at the added offsets, text and chunks
 abbrev pub SlicesNest : Type 0

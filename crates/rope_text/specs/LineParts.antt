@@ -21,8 +21,8 @@ lines_of c = map (line_of c) (range_with_len 0 (line_count c.breaks c.text))
 
 -- the text up to the end of its first line break, or all of it
 abbrev pub first_line : LineBreaks → List ℕ → List ℕ
-first_line set text = take (line_start set text 1) text
+first_line breaks text = take (line_start breaks text 1) text
 
 -- where the last line starts, or the k-th before it: there, k line breaks end after it
 abbrev pub last_start : LineBreaks → List ℕ → ℕ → ℕ
-last_start set text k = line_start set text (break_count set text - k)
+last_start breaks text k = line_start breaks text (break_count breaks text - k)

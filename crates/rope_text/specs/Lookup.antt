@@ -26,23 +26,23 @@ chunk_index_at_char chunks i = greatest (λ k. nat_le (length (front_chunks chun
 
 -- the first chunk by whose end k breaks of the whole text have ended, or else the last
 unfoldable pub chunk_index_at_line_break : LineBreaks → List (List ℕ) → ℕ → ℕ
-chunk_index_at_line_break set chunks k =
-    least (λ j. nat_le k (char_to_line set (concat chunks) (length (front_chunks chunks (j + 1))))) (length chunks - 1)
+chunk_index_at_line_break breaks chunks k =
+    least (λ j. nat_le k (char_to_line breaks (concat chunks) (length (front_chunks chunks (j + 1))))) (length chunks - 1)
 
 -- what a look-up answers: a chunk, and the bytes, characters and breaks of the whole text before it
 pub record FoundChunk : Type 0 where
   pub text : List ℕ
   pub bytes : ℕ
   pub chars : ℕ
-  pub breaks : ℕ
+  pub break_count : ℕ
 
 -- the answer at the k-th chunk; with no chunk the empty text and zeros
 unfoldable pub found_chunk : LineBreaks → List (List ℕ) → ℕ → FoundChunk
-found_chunk set chunks k = record {
+found_chunk breaks chunks k = record {
   text = slice_index_or chunks k [];
   bytes = byte_len (front_chunks chunks k);
   chars = length (front_chunks chunks k);
-  breaks = char_to_line set (concat chunks) (length (front_chunks chunks k));
+  break_count = char_to_line breaks (concat chunks) (length (front_chunks chunks k));
 }
 
 -- where a cursor over the chunks starts: before the chunk that the look-up answers, and at the end for the end of the text.
@@ -54,15 +54,15 @@ abbrev pub chunk_place_at_char : List (List ℕ) → ℕ → ℕ
 chunk_place_at_char chunks i = if i == length (concat chunks) then length chunks else chunk_index_at_char chunks i
 
 abbrev pub chunk_place_at_line_break : LineBreaks → List (List ℕ) → ℕ → ℕ
-chunk_place_at_line_break set chunks k = if k == line_count set (concat chunks) then length chunks else chunk_index_at_line_break set chunks k
+chunk_place_at_line_break breaks chunks k = if k == line_count breaks (concat chunks) then length chunks else chunk_index_at_line_break breaks chunks k
 
 -- the bytes, the characters and the breaks of the whole text before a chunk
-pub record LieBefore (found : FoundChunk) (bytes chars breaks : ℕ) : Type 0 where
+pub record LieBefore (found : FoundChunk) (bytes chars count : ℕ) : Type 0 where
   pub bytes_are : bytes ≡ found.bytes
   pub chars_are : chars ≡ found.chars
-  pub breaks_are : breaks ≡ found.breaks
+  pub count_is : count ≡ found.break_count
 
 -- a cursor over the chunks that stands before the k-th, or past the last, with what lies before it
-pub record StandsAt (set : LineBreaks) (chunks : List (List ℕ)) (k : ℕ) (cursor : Sides (List ℕ)) (bytes chars breaks : ℕ) : Type 0 where
+pub record StandsAt (breaks : LineBreaks) (chunks : List (List ℕ)) (k : ℕ) (cursor : Sides (List ℕ)) (bytes chars count : ℕ) : Type 0 where
   pub cursor_is : cursor ≡ at_place chunks k
-  pub before : LieBefore (found_chunk set chunks k) bytes chars breaks
+  pub before : LieBefore (found_chunk breaks chunks k) bytes chars count

@@ -8,7 +8,7 @@ use Rattle.rope_text.specs.Cutting.{parts_crlf}
 
 -- the counts of a text, its breaks by the set
 abbrev pub info_of : LineBreaks → List ℕ → TextInfo
-info_of set text = record { bytes = byte_len text; chars = length text; utf16_surrogates = surrogate_count text; line_breaks = break_count set text }
+info_of breaks text = record { bytes = byte_len text; chars = length text; utf16_surrogates = surrogate_count text; break_count = break_count breaks text }
 
 -- the sums, count by count
 abbrev pub info_sum : TextInfo → TextInfo → TextInfo
@@ -16,13 +16,13 @@ info_sum s t = record {
   bytes = s.bytes + t.bytes;
   chars = s.chars + t.chars;
   utf16_surrogates = s.utf16_surrogates + t.utf16_surrogates;
-  line_breaks = s.line_breaks + t.line_breaks;
+  break_count = s.break_count + t.break_count;
 }
 
 -- one break, where CR meets LF and CR is a break by itself: the two are one break of the joined text
 abbrev pub shared_breaks : LineBreaks → List ℕ → List ℕ → ℕ
-shared_breaks set s t = cond (parts_crlf s t && is_break_char set 13) 1 0
+shared_breaks breaks s t = cond (parts_crlf s t && is_break_char breaks 13) 1 0
 
 -- the counts with so many breaks less
 abbrev pub less_breaks : TextInfo → ℕ → TextInfo
-less_breaks info n = record { bytes = info.bytes; chars = info.chars; utf16_surrogates = info.utf16_surrogates; line_breaks = info.line_breaks - n }
+less_breaks info n = record { bytes = info.bytes; chars = info.chars; utf16_surrogates = info.utf16_surrogates; break_count = info.break_count - n }

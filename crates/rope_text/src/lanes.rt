@@ -2,7 +2,7 @@
 ghost use Rattle.std.specs.Prelude.{◌≡◌, ◌+◌, ◌-◌, ◌<◌, ◌≤◌, length, count_by, drop, slice_index, ℕ};
 ghost use Rattle.rope_text.specs.Bits.{ones_below};
 ghost use Rattle.rope_text.specs.Bytes.{begins_char, begins_pair};
-ghost use Rattle.rope_text.specs.ByteBreaks.{break_at, byte_breaks, unit_count};
+ghost use Rattle.rope_text.specs.ByteBreaks.{break_at, byte_break_count, unit_count};
 
 use crate::bits::{ones_before, ones_between};
 use crate::line_breaks::LineBreaks;
@@ -31,7 +31,7 @@ pub(crate) fn pair_mask(bytes: &[u8], at: usize) -> u64
 #[inline(always)]
 fn lf_mask(bytes: &[u8], at: usize) -> u64
     requires { at + 34 ≤ length bytes.now }
-    ensures { (n : ℕ) → n ≤ 32 → byte_breaks LineBreaks.Lf (drop at bytes.now) ≡ ones_below result n + byte_breaks LineBreaks.Lf (drop (at + n) bytes.now) }
+    ensures { (n : ℕ) → n ≤ 32 → byte_break_count LineBreaks.Lf (drop at bytes.now) ≡ ones_below result n + byte_break_count LineBreaks.Lf (drop (at + n) bytes.now) }
 {
     let x = u8x32::from_slice(&bytes[at..]);
     x.simd_eq(u8x32::splat(b'\n')).to_bitmask()
@@ -40,7 +40,7 @@ fn lf_mask(bytes: &[u8], at: usize) -> u64
 #[inline(always)]
 fn cr_lf_mask(bytes: &[u8], at: usize) -> u64
     requires { at + 34 ≤ length bytes.now }
-    ensures { (n : ℕ) → n ≤ 32 → byte_breaks LineBreaks.CrLf (drop at bytes.now) ≡ ones_below result n + byte_breaks LineBreaks.CrLf (drop (at + n) bytes.now) }
+    ensures { (n : ℕ) → n ≤ 32 → byte_break_count LineBreaks.CrLf (drop at bytes.now) ≡ ones_below result n + byte_break_count LineBreaks.CrLf (drop (at + n) bytes.now) }
 {
     let x = u8x32::from_slice(&bytes[at..]);
     let y = u8x32::from_slice(&bytes[at + 1..]);
@@ -51,7 +51,7 @@ fn cr_lf_mask(bytes: &[u8], at: usize) -> u64
 #[inline(always)]
 fn unicode_mask(bytes: &[u8], at: usize) -> u64
     requires { at + 34 ≤ length bytes.now }
-    ensures { (n : ℕ) → n ≤ 32 → byte_breaks LineBreaks.Unicode (drop at bytes.now) ≡ ones_below result n + byte_breaks LineBreaks.Unicode (drop (at + n) bytes.now) }
+    ensures { (n : ℕ) → n ≤ 32 → byte_break_count LineBreaks.Unicode (drop at bytes.now) ≡ ones_below result n + byte_break_count LineBreaks.Unicode (drop (at + n) bytes.now) }
 {
     let x = u8x32::from_slice(&bytes[at..]);
     let y = u8x32::from_slice(&bytes[at + 1..]);
@@ -71,7 +71,7 @@ fn unicode_mask(bytes: &[u8], at: usize) -> u64
 #[inline(never)]
 fn lf_mask_apart(bytes: &[u8], at: usize) -> u64
     requires { at + 34 ≤ length bytes.now }
-    ensures { (n : ℕ) → n ≤ 32 → byte_breaks LineBreaks.Lf (drop at bytes.now) ≡ ones_below result n + byte_breaks LineBreaks.Lf (drop (at + n) bytes.now) }
+    ensures { (n : ℕ) → n ≤ 32 → byte_break_count LineBreaks.Lf (drop at bytes.now) ≡ ones_below result n + byte_break_count LineBreaks.Lf (drop (at + n) bytes.now) }
 {
     lf_mask(bytes, at)
 }
@@ -79,18 +79,18 @@ fn lf_mask_apart(bytes: &[u8], at: usize) -> u64
 #[inline(never)]
 fn cr_lf_mask_apart(bytes: &[u8], at: usize) -> u64
     requires { at + 34 ≤ length bytes.now }
-    ensures { (n : ℕ) → n ≤ 32 → byte_breaks LineBreaks.CrLf (drop at bytes.now) ≡ ones_below result n + byte_breaks LineBreaks.CrLf (drop (at + n) bytes.now) }
+    ensures { (n : ℕ) → n ≤ 32 → byte_break_count LineBreaks.CrLf (drop at bytes.now) ≡ ones_below result n + byte_break_count LineBreaks.CrLf (drop (at + n) bytes.now) }
 {
     cr_lf_mask(bytes, at)
 }
 
 // The bytes, of the 32 from `at` on, at which a break begins: loads one and two bytes on see across the end of the block.
 #[inline(always)]
-pub(crate) fn break_mask(bytes: &[u8], at: usize, set: LineBreaks) -> u64
+pub(crate) fn break_mask(bytes: &[u8], at: usize, breaks: LineBreaks) -> u64
     requires { at + 34 ≤ length bytes.now }
-    ensures { (n : ℕ) → n ≤ 32 → byte_breaks set (drop at bytes.now) ≡ ones_below result n + byte_breaks set (drop (at + n) bytes.now) }
+    ensures { (n : ℕ) → n ≤ 32 → byte_break_count breaks (drop at bytes.now) ≡ ones_below result n + byte_break_count breaks (drop (at + n) bytes.now) }
 {
-    match set {
+    match breaks {
         LineBreaks::Lf => lf_mask_apart(bytes, at),
         LineBreaks::CrLf => cr_lf_mask_apart(bytes, at),
         LineBreaks::Unicode => unicode_mask(bytes, at),
@@ -129,7 +129,7 @@ pub(crate) fn pairs_in(bytes: &[u8], at: usize) -> usize
 #[inline(never)]
 fn wide_breaks_in(bytes: &[u8], at: usize) -> usize
     requires { at + 34 ≤ length bytes.now }
-    ensures { byte_breaks LineBreaks.Unicode (drop at bytes.now) ≡ result + byte_breaks LineBreaks.Unicode (drop (at + 32) bytes.now) }
+    ensures { byte_break_count LineBreaks.Unicode (drop at bytes.now) ≡ result + byte_break_count LineBreaks.Unicode (drop (at + 32) bytes.now) }
 {
     ones_before(unicode_mask(bytes, at), 32)
 }
@@ -137,7 +137,7 @@ fn wide_breaks_in(bytes: &[u8], at: usize) -> usize
 #[inline(always)]
 fn unicode_breaks_in(bytes: &[u8], at: usize) -> usize
     requires { at + 34 ≤ length bytes.now }
-    ensures { byte_breaks LineBreaks.Unicode (drop at bytes.now) ≡ result + byte_breaks LineBreaks.Unicode (drop (at + 32) bytes.now) }
+    ensures { byte_break_count LineBreaks.Unicode (drop at bytes.now) ≡ result + byte_break_count LineBreaks.Unicode (drop (at + 32) bytes.now) }
 {
     let x = u8x32::from_slice(&bytes[at..]);
     let y = u8x32::from_slice(&bytes[at + 1..]);
@@ -155,11 +155,11 @@ fn unicode_breaks_in(bytes: &[u8], at: usize) -> usize
 
 // How many breaks begin in the 32 bytes from `at` on.
 #[inline(always)]
-pub(crate) fn breaks_in(bytes: &[u8], at: usize, set: LineBreaks) -> usize
+pub(crate) fn breaks_in(bytes: &[u8], at: usize, breaks: LineBreaks) -> usize
     requires { at + 34 ≤ length bytes.now }
-    ensures { byte_breaks set (drop at bytes.now) ≡ result + byte_breaks set (drop (at + 32) bytes.now) }
+    ensures { byte_break_count breaks (drop at bytes.now) ≡ result + byte_break_count breaks (drop (at + 32) bytes.now) }
 {
-    match set {
+    match breaks {
         LineBreaks::Lf => ones_before(lf_mask(bytes, at), 32),
         LineBreaks::CrLf => ones_before(cr_lf_mask(bytes, at), 32),
         LineBreaks::Unicode => unicode_breaks_in(bytes, at),
@@ -167,11 +167,11 @@ pub(crate) fn breaks_in(bytes: &[u8], at: usize, set: LineBreaks) -> usize
 }
 
 #[inline(always)]
-fn begins_break(x: u8, y: u8, z: u8, set: LineBreaks) -> bool
-    ensures { result ≡ break_at set x y z }
+fn begins_break(x: u8, y: u8, z: u8, breaks: LineBreaks) -> bool
+    ensures { result ≡ break_at breaks x y z }
 {
     let is_lone_cr = x == b'\r' && y != b'\n';
-    match set {
+    match breaks {
         LineBreaks::Lf => x == b'\n',
         LineBreaks::CrLf => x == b'\n' || is_lone_cr,
         LineBreaks::Unicode => {
@@ -192,9 +192,9 @@ fn byte_or_zero(bytes: &[u8], at: usize) -> u8
 
 // Whether a character that ends a break begins at the byte `at`.
 #[inline(always)]
-pub(crate) fn is_break_begin(bytes: &[u8], at: usize, set: LineBreaks) -> bool
+pub(crate) fn is_break_begin(bytes: &[u8], at: usize, breaks: LineBreaks) -> bool
     requires { at < length bytes.now }
-    ensures { result ≡ break_at set (slice_index bytes.now at) (slice_index bytes.now (at + 1)) (slice_index bytes.now (at + 2)) }
+    ensures { result ≡ break_at breaks (slice_index bytes.now at) (slice_index bytes.now (at + 1)) (slice_index bytes.now (at + 2)) }
 {
     let byte = bytes[at];
     // Letters and the bytes after a character's first begin none.
@@ -202,18 +202,18 @@ pub(crate) fn is_break_begin(bytes: &[u8], at: usize, set: LineBreaks) -> bool
         return false;
     }
     let next = byte_or_zero(bytes, at + 1);
-    begins_break(byte, next, byte_or_zero(bytes, at + 2), set)
+    begins_break(byte, next, byte_or_zero(bytes, at + 2), breaks)
 }
 
 // The breaks that begin from `from` on and before `to`, a byte at a time.
-fn breaks_byte_by_byte(bytes: &[u8], from: usize, to: usize, set: LineBreaks) -> usize
+fn breaks_byte_by_byte(bytes: &[u8], from: usize, to: usize, breaks: LineBreaks) -> usize
     requires from { from ≤ to }
     requires to { to ≤ length bytes.now }
-    ensures { byte_breaks set (drop from bytes.now) ≡ result + byte_breaks set (drop to bytes.now) }
+    ensures { byte_break_count breaks (drop from bytes.now) ≡ result + byte_break_count breaks (drop to bytes.now) }
 {
     let mut total = 0;
     for i in from..to {
-        if is_break_begin(bytes, i, set) {
+        if is_break_begin(bytes, i, breaks) {
             total += 1;
         }
     }
@@ -223,16 +223,16 @@ fn breaks_byte_by_byte(bytes: &[u8], from: usize, to: usize, set: LineBreaks) ->
 // The breaks that begin from `from` on and before `to`, at once where they are few: near the end of the bytes by the last
 // block that can be read, without what it has before `from`.
 #[inline(always)]
-pub(crate) fn breaks_between(bytes: &[u8], from: usize, to: usize, set: LineBreaks) -> usize
+pub(crate) fn breaks_between(bytes: &[u8], from: usize, to: usize, breaks: LineBreaks) -> usize
     requires from { from ≤ to }
     requires to { to ≤ length bytes.now }
-    ensures { byte_breaks set (drop from bytes.now) ≡ result + byte_breaks set (drop to bytes.now) }
+    ensures { byte_break_count breaks (drop from bytes.now) ≡ result + byte_break_count breaks (drop to bytes.now) }
 {
     if to - from <= 32 && bytes.len() >= 34 && to <= bytes.len() - 2 {
         let at = from.min(bytes.len() - 34);
-        return ones_between(break_mask(bytes, at, set), from - at, to - at);
+        return ones_between(break_mask(bytes, at, breaks), from - at, to - at);
     }
-    breaks_byte_by_byte(bytes, from, to, set)
+    breaks_byte_by_byte(bytes, from, to, breaks)
 }
 
 fn begins_byte_by_byte(bytes: &[u8]) -> usize
@@ -334,59 +334,59 @@ pub(crate) fn count_units(bytes: &[u8]) -> usize
 }
 
 /// How many breaks begin before the byte `to`.
-#[tactic(auto, using(crate::proofs::Blocks::byte_breaks_le))]
-pub(crate) fn count_breaks_before(bytes: &[u8], to: usize, set: LineBreaks) -> usize
+#[tactic(auto, using(crate::proofs::Blocks::byte_break_count_le))]
+pub(crate) fn count_breaks_before(bytes: &[u8], to: usize, breaks: LineBreaks) -> usize
     requires { to ≤ length bytes.now }
-    ensures { byte_breaks set bytes.now ≡ result + byte_breaks set (drop to bytes.now) }
+    ensures { byte_break_count breaks bytes.now ≡ result + byte_break_count breaks (drop to bytes.now) }
 {
     // A block is read two bytes past its end.
     let end = to.min(bytes.len().saturating_sub(2));
     let mut total = 0;
     let mut i = 0;
     while end - i >= 32 {
-        total += breaks_in(bytes, i, set);
+        total += breaks_in(bytes, i, breaks);
         i += 32;
     }
-    total += breaks_between(bytes, i, end, set);
-    total + breaks_byte_by_byte(bytes, end, to, set)
+    total += breaks_between(bytes, i, end, breaks);
+    total + breaks_byte_by_byte(bytes, end, to, breaks)
 }
 
 // The counts of whole blocks: their end, the characters in them, those of two code units, and the breaks.
-#[tactic(auto, using(crate::proofs::Blocks::begins_le, crate::proofs::Blocks::pairs_le, crate::proofs::Blocks::byte_breaks_le))]
+#[tactic(auto, using(crate::proofs::Blocks::begins_le, crate::proofs::Blocks::pairs_le, crate::proofs::Blocks::byte_break_count_le))]
 #[inline(always)]
-fn count_blocks(bytes: &[u8], set: LineBreaks) -> (usize, usize, usize, usize)
+fn count_blocks(bytes: &[u8], breaks: LineBreaks) -> (usize, usize, usize, usize)
     ensures bound { result.0 ≤ length bytes.now }
     ensures chars { count_by begins_char bytes.now ≡ result.1 + count_by begins_char (drop result.0 bytes.now) }
     ensures pairs { count_by begins_pair bytes.now ≡ result.2 + count_by begins_pair (drop result.0 bytes.now) }
-    ensures breaks { byte_breaks set bytes.now ≡ result.3 + byte_breaks set (drop result.0 bytes.now) }
+    ensures break_count { byte_break_count breaks bytes.now ≡ result.3 + byte_break_count breaks (drop result.0 bytes.now) }
 {
     let mut chars = 0;
     let mut pairs = 0;
-    let mut breaks = 0;
+    let mut break_count = 0;
     let mut i = 0;
     while bytes.len() - i >= 34 {
         chars += chars_in(bytes, i);
         pairs += pairs_in(bytes, i);
-        breaks += breaks_in(bytes, i, set);
+        break_count += breaks_in(bytes, i, breaks);
         i += 32;
     }
-    (i, chars, pairs, breaks)
+    (i, chars, pairs, break_count)
 }
 
 /// How many characters the bytes begin, how many of two code units, and how many breaks, by one pass.
-#[tactic(auto, using(crate::proofs::Blocks::begins_le, crate::proofs::Blocks::pairs_le, crate::proofs::Blocks::byte_breaks_le))]
-pub(crate) fn count_all(bytes: &[u8], set: LineBreaks) -> (usize, usize, usize)
+#[tactic(auto, using(crate::proofs::Blocks::begins_le, crate::proofs::Blocks::pairs_le, crate::proofs::Blocks::byte_break_count_le))]
+pub(crate) fn count_all(bytes: &[u8], breaks: LineBreaks) -> (usize, usize, usize)
     ensures chars { result.0 ≡ count_by begins_char bytes.now }
     ensures pairs { result.1 ≡ count_by begins_pair bytes.now }
-    ensures breaks { byte_breaks set bytes.now ≡ result.2 + byte_breaks set (drop (length bytes.now) bytes.now) }
+    ensures break_count { byte_break_count breaks bytes.now ≡ result.2 + byte_break_count breaks (drop (length bytes.now) bytes.now) }
 {
-    let (i, chars, pairs, breaks) = count_blocks(bytes, set);
+    let (i, chars, pairs, break_count) = count_blocks(bytes, breaks);
     let end = bytes.len();
     let last = i.max(end.saturating_sub(2));
-    let more = breaks_between(bytes, i, last, set) + breaks_byte_by_byte(bytes, last, end, set);
+    let more = breaks_between(bytes, i, last, breaks) + breaks_byte_by_byte(bytes, last, end, breaks);
     (
         chars + begins_between(bytes, i, end),
         pairs + pairs_between(bytes, i, end),
-        breaks + more,
+        break_count + more,
     )
 }

@@ -3,7 +3,7 @@
 //! A place that isn't there is the end.
 ghost use Rattle.std.specs.Prelude.{◌≡◌, ◌+◌, ◌<◌, ◌≤◌, length, count_by, drop, slice_index, IsTrue};
 ghost use Rattle.rope_text.specs.Bytes.{begins_char, begins_pair};
-ghost use Rattle.rope_text.specs.ByteBreaks.{break_at, byte_breaks, unit_count};
+ghost use Rattle.rope_text.specs.ByteBreaks.{break_at, byte_break_count, unit_count};
 
 use crate::bits::{ones_before, place_of_mark};
 use crate::lanes::{
@@ -77,26 +77,26 @@ pub(crate) fn place_of_char(bytes: &[u8], n: usize) -> usize
 }
 
 // The blocks before the character `n`: their end, which character it is from there on, and the breaks in them.
-#[tactic(auto, using(crate::proofs::Blocks::byte_breaks_le))]
+#[tactic(auto, using(crate::proofs::Blocks::byte_break_count_le))]
 #[inline(always)]
-fn skip_chars_with_breaks(bytes: &[u8], n: usize, set: LineBreaks) -> (usize, usize, usize)
+fn skip_chars_with_breaks(bytes: &[u8], n: usize, breaks: LineBreaks) -> (usize, usize, usize)
     ensures bound { result.0 ≤ length bytes.now }
     ensures counted { count_by begins_char bytes.now + result.1 ≡ n + count_by begins_char (drop result.0 bytes.now) }
-    ensures breaks { byte_breaks set bytes.now ≡ result.2 + byte_breaks set (drop result.0 bytes.now) }
+    ensures break_count { byte_break_count breaks bytes.now ≡ result.2 + byte_break_count breaks (drop result.0 bytes.now) }
 {
     let mut at = 0;
     let mut left = n;
-    let mut breaks = 0;
+    let mut break_count = 0;
     while bytes.len() - at >= 34 {
         let passed = chars_in(bytes, at);
         if left < passed {
-            return (at, left, breaks);
+            return (at, left, break_count);
         }
         left -= passed;
-        breaks += breaks_in(bytes, at, set);
+        break_count += breaks_in(bytes, at, breaks);
         at += 32;
     }
-    (at, left, breaks)
+    (at, left, break_count)
 }
 
 #[inline(always)]
@@ -119,19 +119,19 @@ fn find_char_near(bytes: &[u8], from: usize, n: usize) -> usize
 }
 
 /// The byte at which the character `n` begins, and how many breaks begin before it.
-#[tactic(auto, using(crate::proofs::Blocks::byte_breaks_le))]
+#[tactic(auto, using(crate::proofs::Blocks::byte_break_count_le))]
 #[inline(always)]
-pub(crate) fn line_of_char(bytes: &[u8], n: usize, set: LineBreaks) -> (usize, usize)
+pub(crate) fn line_of_char(bytes: &[u8], n: usize, breaks: LineBreaks) -> (usize, usize)
     ensures bound { result.0 ≤ length bytes.now }
     ensures inside { result.0 < length bytes.now
         → (count_by begins_char bytes.now ≡ n + count_by begins_char (drop result.0 bytes.now))
         × IsTrue (begins_char (slice_index bytes.now result.0)) }
     ensures end { result.0 ≡ length bytes.now → count_by begins_char bytes.now ≤ n }
-    ensures breaks { byte_breaks set bytes.now ≡ result.1 + byte_breaks set (drop result.0 bytes.now) }
+    ensures break_count { byte_break_count breaks bytes.now ≡ result.1 + byte_break_count breaks (drop result.0 bytes.now) }
 {
-    let (from, left, before) = skip_chars_with_breaks(bytes, n, set);
+    let (from, left, before) = skip_chars_with_breaks(bytes, n, breaks);
     let to = find_char_near(bytes, from, left);
-    (to, before + breaks_between(bytes, from, to, set))
+    (to, before + breaks_between(bytes, from, to, breaks))
 }
 
 fn find_unit(bytes: &[u8], from: usize, n: usize) -> usize
@@ -186,14 +186,14 @@ pub(crate) fn place_of_unit(bytes: &[u8], n: usize) -> (usize, usize)
 }
 
 // The blocks before the break `n`: their end, and which break it is from there on.
-fn skip_breaks(bytes: &[u8], n: usize, set: LineBreaks) -> (usize, usize)
+fn skip_breaks(bytes: &[u8], n: usize, breaks: LineBreaks) -> (usize, usize)
     ensures bound { result.0 ≤ length bytes.now }
-    ensures counted { byte_breaks set bytes.now + result.1 ≡ n + byte_breaks set (drop result.0 bytes.now) }
+    ensures counted { byte_break_count breaks bytes.now + result.1 ≡ n + byte_break_count breaks (drop result.0 bytes.now) }
 {
     let mut at = 0;
     let mut left = n;
     while bytes.len() - at >= 34 {
-        let passed = breaks_in(bytes, at, set);
+        let passed = breaks_in(bytes, at, breaks);
         if left < passed {
             return (at, left);
         }
@@ -204,18 +204,18 @@ fn skip_breaks(bytes: &[u8], n: usize, set: LineBreaks) -> (usize, usize)
 }
 
 // A byte at a time.
-fn find_break_byte_by_byte(bytes: &[u8], from: usize, n: usize, set: LineBreaks) -> usize
+fn find_break_byte_by_byte(bytes: &[u8], from: usize, n: usize, breaks: LineBreaks) -> usize
     requires { from ≤ length bytes.now }
     ensures from { from ≤ result }
     ensures bound { result ≤ length bytes.now }
     ensures inside { result < length bytes.now
-        → (byte_breaks set (drop from bytes.now) ≡ n + byte_breaks set (drop result bytes.now))
-        × IsTrue (break_at set (slice_index bytes.now result) (slice_index bytes.now (result + 1)) (slice_index bytes.now (result + 2))) }
-    ensures end { result ≡ length bytes.now → byte_breaks set (drop from bytes.now) ≤ n }
+        → (byte_break_count breaks (drop from bytes.now) ≡ n + byte_break_count breaks (drop result bytes.now))
+        × IsTrue (break_at breaks (slice_index bytes.now result) (slice_index bytes.now (result + 1)) (slice_index bytes.now (result + 2))) }
+    ensures end { result ≡ length bytes.now → byte_break_count breaks (drop from bytes.now) ≤ n }
 {
     let mut left = n;
     for at in from..bytes.len() {
-        if is_break_begin(bytes, at, set) {
+        if is_break_begin(bytes, at, breaks) {
             if left == 0 {
                 return at;
             }
@@ -226,48 +226,48 @@ fn find_break_byte_by_byte(bytes: &[u8], from: usize, n: usize, set: LineBreaks)
 }
 
 #[inline(always)]
-fn find_break(bytes: &[u8], from: usize, n: usize, set: LineBreaks) -> usize
+fn find_break(bytes: &[u8], from: usize, n: usize, breaks: LineBreaks) -> usize
     requires { from ≤ length bytes.now }
     ensures from { from ≤ result }
     ensures bound { result ≤ length bytes.now }
     ensures inside { result < length bytes.now
-        → (byte_breaks set (drop from bytes.now) ≡ n + byte_breaks set (drop result bytes.now))
-        × IsTrue (break_at set (slice_index bytes.now result) (slice_index bytes.now (result + 1)) (slice_index bytes.now (result + 2))) }
-    ensures end { result ≡ length bytes.now → byte_breaks set (drop from bytes.now) ≤ n }
+        → (byte_break_count breaks (drop from bytes.now) ≡ n + byte_break_count breaks (drop result bytes.now))
+        × IsTrue (break_at breaks (slice_index bytes.now result) (slice_index bytes.now (result + 1)) (slice_index bytes.now (result + 2))) }
+    ensures end { result ≡ length bytes.now → byte_break_count breaks (drop from bytes.now) ≤ n }
 {
     if bytes.len() - from >= 34 {
-        let mask = break_mask(bytes, from, set);
+        let mask = break_mask(bytes, from, breaks);
         if n < ones_before(mask, 32) {
             return from + place_of_mark(mask, 0, n);
         }
     }
-    find_break_byte_by_byte(bytes, from, n, set)
+    find_break_byte_by_byte(bytes, from, n, breaks)
 }
 
 /// The byte at which the last character of the break `n` begins, the breaks counted from 0.
-pub(crate) fn place_of_break(bytes: &[u8], n: usize, set: LineBreaks) -> usize
+pub(crate) fn place_of_break(bytes: &[u8], n: usize, breaks: LineBreaks) -> usize
     ensures bound { result ≤ length bytes.now }
     ensures inside { result < length bytes.now
-        → (byte_breaks set bytes.now ≡ n + byte_breaks set (drop result bytes.now))
-        × IsTrue (break_at set (slice_index bytes.now result) (slice_index bytes.now (result + 1)) (slice_index bytes.now (result + 2))) }
-    ensures end { result ≡ length bytes.now → byte_breaks set bytes.now ≤ n }
+        → (byte_break_count breaks bytes.now ≡ n + byte_break_count breaks (drop result bytes.now))
+        × IsTrue (break_at breaks (slice_index bytes.now result) (slice_index bytes.now (result + 1)) (slice_index bytes.now (result + 2))) }
+    ensures end { result ≡ length bytes.now → byte_break_count breaks bytes.now ≤ n }
 {
-    let (at, left) = skip_breaks(bytes, n, set);
-    find_break(bytes, at, left, set)
+    let (at, left) = skip_breaks(bytes, n, breaks);
+    find_break(bytes, at, left, breaks)
 }
 
 // The blocks before the break `n`: their end, which break it is from there on, and the characters in them.
 #[tactic(auto, using(crate::proofs::Blocks::begins_le))]
-fn skip_breaks_with_chars(bytes: &[u8], n: usize, set: LineBreaks) -> (usize, usize, usize)
+fn skip_breaks_with_chars(bytes: &[u8], n: usize, breaks: LineBreaks) -> (usize, usize, usize)
     ensures bound { result.0 ≤ length bytes.now }
-    ensures counted { byte_breaks set bytes.now + result.1 ≡ n + byte_breaks set (drop result.0 bytes.now) }
+    ensures counted { byte_break_count breaks bytes.now + result.1 ≡ n + byte_break_count breaks (drop result.0 bytes.now) }
     ensures chars { count_by begins_char bytes.now ≡ result.2 + count_by begins_char (drop result.0 bytes.now) }
 {
     let mut at = 0;
     let mut left = n;
     let mut chars = 0;
     while bytes.len() - at >= 34 {
-        let passed = breaks_in(bytes, at, set);
+        let passed = breaks_in(bytes, at, breaks);
         if left < passed {
             return (at, left, chars);
         }
@@ -280,15 +280,15 @@ fn skip_breaks_with_chars(bytes: &[u8], n: usize, set: LineBreaks) -> (usize, us
 
 /// The byte at which the last character of the break `n` begins, and how many characters begin before it.
 #[tactic(auto, using(crate::proofs::Blocks::begins_le))]
-pub(crate) fn char_of_break(bytes: &[u8], n: usize, set: LineBreaks) -> (usize, usize)
+pub(crate) fn char_of_break(bytes: &[u8], n: usize, breaks: LineBreaks) -> (usize, usize)
     ensures bound { result.0 ≤ length bytes.now }
     ensures inside { result.0 < length bytes.now
-        → (byte_breaks set bytes.now ≡ n + byte_breaks set (drop result.0 bytes.now))
-        × IsTrue (break_at set (slice_index bytes.now result.0) (slice_index bytes.now (result.0 + 1)) (slice_index bytes.now (result.0 + 2))) }
-    ensures end { result.0 ≡ length bytes.now → byte_breaks set bytes.now ≤ n }
+        → (byte_break_count breaks bytes.now ≡ n + byte_break_count breaks (drop result.0 bytes.now))
+        × IsTrue (break_at breaks (slice_index bytes.now result.0) (slice_index bytes.now (result.0 + 1)) (slice_index bytes.now (result.0 + 2))) }
+    ensures end { result.0 ≡ length bytes.now → byte_break_count breaks bytes.now ≤ n }
     ensures chars { count_by begins_char bytes.now ≡ result.1 + count_by begins_char (drop result.0 bytes.now) }
 {
-    let (from, left, before) = skip_breaks_with_chars(bytes, n, set);
-    let to = find_break(bytes, from, left, set);
+    let (from, left, before) = skip_breaks_with_chars(bytes, n, breaks);
+    let to = find_break(bytes, from, left, breaks);
     (to, before + begins_between(bytes, from, to))
 }

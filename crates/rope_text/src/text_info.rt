@@ -18,7 +18,7 @@ pub struct TextInfo {
     /// The characters that take two code units in UTF-16.
     pub utf16_surrogates: usize,
     /// The line breaks, by the set that was named.
-    pub line_breaks: usize,
+    pub break_count: usize,
     /// The bytes.
     pub bytes: usize,
 }
@@ -28,26 +28,26 @@ impl TextInfo {
 
     /// The counts of the empty text: all 0. Takes constant time and no memory.
     pub fn new() -> TextInfo
-        ensures { (set : LineBreaks) → result ≡ info_of set [] }
+        ensures { (breaks : LineBreaks) → result ≡ info_of breaks [] }
     {
         TextInfo {
             bytes: 0,
             chars: 0,
             utf16_surrogates: 0,
-            line_breaks: 0,
+            break_count: 0,
         }
     }
 
     /// The counts of a text, its line breaks by the set. Reads the text once; takes no memory.
-    pub fn from_str(text: &str, set: LineBreaks) -> TextInfo
-        ensures { result ≡ info_of set (chars text.now) }
+    pub fn from_str(text: &str, breaks: LineBreaks) -> TextInfo
+        ensures { result ≡ info_of breaks (chars text.now) }
     {
-        let (chars, pairs, breaks) = counts(text, set);
+        let (chars, pairs, break_count) = counts(text, breaks);
         TextInfo {
             bytes: text.len(),
             chars,
             utf16_surrogates: pairs,
-            line_breaks: breaks,
+            break_count,
         }
     }
 
@@ -57,16 +57,16 @@ impl TextInfo {
         requires bytes { self.bytes + other.bytes < 2 ^ 64 }
         requires chars { self.chars + other.chars < 2 ^ 64 }
         requires utf16_surrogates { self.utf16_surrogates + other.utf16_surrogates < 2 ^ 64 }
-        requires line_breaks { self.line_breaks + other.line_breaks < 2 ^ 64 }
+        requires break_count { self.break_count + other.break_count < 2 ^ 64 }
         ensures sum { result ≡ info_sum self other }
-        ensures joined { (set : LineBreaks) (s t : List ℕ) → self ≡ info_of set s → other ≡ info_of set t → parts_crlf s t ≡ false
-            → result ≡ info_of set (s ++ t) }
+        ensures joined { (breaks : LineBreaks) (s t : List ℕ) → self ≡ info_of breaks s → other ≡ info_of breaks t → parts_crlf s t ≡ false
+            → result ≡ info_of breaks (s ++ t) }
     {
         TextInfo {
             bytes: self.bytes + other.bytes,
             chars: self.chars + other.chars,
             utf16_surrogates: self.utf16_surrogates + other.utf16_surrogates,
-            line_breaks: self.line_breaks + other.line_breaks,
+            break_count: self.break_count + other.break_count,
         }
     }
 
@@ -76,16 +76,16 @@ impl TextInfo {
         requires bytes { front.bytes ≤ self.bytes }
         requires chars { front.chars ≤ self.chars }
         requires utf16_surrogates { front.utf16_surrogates ≤ self.utf16_surrogates }
-        requires line_breaks { front.line_breaks ≤ self.line_breaks }
+        requires break_count { front.break_count ≤ self.break_count }
         ensures sum { info_sum front result ≡ self }
-        ensures rest { (set : LineBreaks) (s t : List ℕ) → self ≡ info_of set (s ++ t) → front ≡ info_of set s → parts_crlf s t ≡ false
-            → result ≡ info_of set t }
+        ensures rest { (breaks : LineBreaks) (s t : List ℕ) → self ≡ info_of breaks (s ++ t) → front ≡ info_of breaks s → parts_crlf s t ≡ false
+            → result ≡ info_of breaks t }
     {
         TextInfo {
             bytes: self.bytes - front.bytes,
             chars: self.chars - front.chars,
             utf16_surrogates: self.utf16_surrogates - front.utf16_surrogates,
-            line_breaks: self.line_breaks - front.line_breaks,
+            break_count: self.break_count - front.break_count,
         }
     }
 }

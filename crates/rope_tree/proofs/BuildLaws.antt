@@ -40,23 +40,23 @@ fronts_more text leaves rest x y fronts parts leaf seam =
       apart = subst (λ t. IsSeam t y) (sym all) (seam_left_longer (concat leaves) x y before seam);
     }
 
-pub no_nodes : (set : LineBreaks) (text : List ℕ) → AreFrontNodes set text [] text
-no_nodes set text = record { each = All-nil (IsChild set 0); fronts = record { whole = refl; are_leaves = no_leaves; apart = nil-seam text } }
+pub no_nodes : (breaks : LineBreaks) (text : List ℕ) → AreFrontNodes breaks text [] text
+no_nodes breaks text = record { each = All-nil (IsChild breaks 0); fronts = record { whole = refl; are_leaves = no_leaves; apart = nil-seam text } }
 
 one_leaf_is : (x : List ℕ) → 1 ≤ length x → one_leaf x ≡ x ∷ []
 one_leaf_is [] some = absurd (omega arith)
 one_leaf_is (c ∷ cs) some = refl
 
 -- the leaves below one node more
-pub leaves_more : (set : LineBreaks) (ts : List Tree) (t : Tree) (x : List ℕ) → 1 ≤ length x → t ≡ leaf_tree set x → leaves_of (ts ++ t ∷ []) ≡ leaves_of ts ++ x ∷ []
-leaves_more set ts t x some is =
+pub leaves_more : (breaks : LineBreaks) (ts : List Tree) (t : Tree) (x : List ℕ) → 1 ≤ length x → t ≡ leaf_tree breaks x → leaves_of (ts ++ t ∷ []) ≡ leaves_of ts ++ x ∷ []
+leaves_more breaks ts t x some is =
     leaves_of-append ts (t ∷ []) ∙ ap (λ ls. leaves_of ts ++ ls) (append-nil t.leaves ∙ ap (λ u. u.leaves) is ∙ one_leaf_is x some)
 
-nodes_more : (set : LineBreaks) (text : List ℕ) (ts : List Tree) (rest x y : List ℕ) (t : Tree) → AreFrontNodes set text ts rest → x ++ y ≡ rest → IsLeafText x → IsSeam x y
-    → t ≡ leaf_tree set x → IsTree t → AreFrontNodes set text (ts ++ t ∷ []) y
-nodes_more set text ts rest x y t a parts leaf seam is tree = record {
-  each = All-push (IsChild set 0) ts t a.each (wide_leaf set 12 t x is tree leaf.some);
-  fronts = subst (λ ls. AreFronts text ls y) (sym (leaves_more set ts t x leaf.some is)) (fronts_more text (leaves_of ts) rest x y a.fronts parts leaf seam);
+nodes_more : (breaks : LineBreaks) (text : List ℕ) (ts : List Tree) (rest x y : List ℕ) (t : Tree) → AreFrontNodes breaks text ts rest → x ++ y ≡ rest → IsLeafText x → IsSeam x y
+    → t ≡ leaf_tree breaks x → IsTree t → AreFrontNodes breaks text (ts ++ t ∷ []) y
+nodes_more breaks text ts rest x y t a parts leaf seam is tree = record {
+  each = All-push (IsChild breaks 0) ts t a.each (wide_leaf breaks 12 t x is tree leaf.some);
+  fronts = subst (λ ls. AreFronts text ls y) (sym (leaves_more breaks ts t x leaf.some is)) (fronts_more text (leaves_of ts) rest x y a.fronts parts leaf seam);
 }
 
 pub some_chars : (x : List ℕ) → 1 ≤ byte_len x → 1 ≤ length x
@@ -64,13 +64,13 @@ some_chars [] some = absurd (omega arith)
 some_chars (c ∷ x) some = omega arith
 
 -- one node more, for the front of the rest
-pub nodes_front : (set : LineBreaks) (text : List ℕ) (ts : List Tree) (rest x y : List ℕ) (t : Tree) → AreFrontNodes set text ts rest → x ++ y ≡ rest → 1 ≤ byte_len x → IsSeam x y
-    → t ≡ leaf_tree set x → IsTree t → AreFrontNodes set text (ts ++ t ∷ []) y × (length (leaves_of (ts ++ t ∷ [])) ≡ length (leaves_of ts) + 1)
-nodes_front set text ts rest x y t a parts some seam is tree =
+pub nodes_front : (breaks : LineBreaks) (text : List ℕ) (ts : List Tree) (rest x y : List ℕ) (t : Tree) → AreFrontNodes breaks text ts rest → x ++ y ≡ rest → 1 ≤ byte_len x → IsSeam x y
+    → t ≡ leaf_tree breaks x → IsTree t → AreFrontNodes breaks text (ts ++ t ∷ []) y × (length (leaves_of (ts ++ t ∷ [])) ≡ length (leaves_of ts) + 1)
+nodes_front breaks text ts rest x y t a parts some seam is tree =
     let inside : 1 ≤ length x = some_chars x some in
     let lone : t.leaves ≡ x ∷ [] = ap (λ u. u.leaves) is ∙ one_leaf_is x inside in
     let i : IsLeafText x = All-head IsLeafText x [] (subst (All IsLeafText) lone tree.leaves.each) in
-    (nodes_more set text ts rest x y t a parts i seam is tree, ap length (leaves_more set ts t x inside is) ∙ length-append (leaves_of ts) (x ∷ []))
+    (nodes_more breaks text ts rest x y t a parts i seam is tree, ap length (leaves_more breaks ts t x inside is) ∙ length-append (leaves_of ts) (x ∷ []))
 
 -- bytes of a text that fit in a leaf
 leaf_of_bytes : (bs : List ℕ) → IsUtf8 bs → 0 < length bs → length bs ≤ 984 → IsLeafText (chars bs)
@@ -79,38 +79,38 @@ leaf_of_bytes bs u some short =
     record { some = some_chars (chars bs) (omega arith); fits = omega arith; scalars = scalars-chars bs u }
 
 -- one node more, for the bytes of a front that is cut off at a cut
-pub nodes_cut : (set : LineBreaks) (text : List ℕ) (ts : List Tree) (bs front back leaf : List ℕ) (r : ℕ) (t : Tree) → AreFrontNodes set text ts (chars bs)
+pub nodes_cut : (breaks : LineBreaks) (text : List ℕ) (ts : List Tree) (bs front back leaf : List ℕ) (r : ℕ) (t : Tree) → AreFrontNodes breaks text ts (chars bs)
     → IsUtf8 bs → IsUtf8 front → IsUtf8 back → front ≡ take (r - 0) bs → back ≡ drop r bs → 0 < r → r < length bs → r ≤ 984 → is_cut bs r ≡ true
-    → leaf ≡ chars front → t ≡ leaf_tree set leaf → IsTree t
-    → AreFrontNodes set text (ts ++ t ∷ []) (chars back) × (length (leaves_of (ts ++ t ∷ [])) ≡ length (leaves_of ts) + 1)
-nodes_cut set text ts bs front back leaf r t a u v w is_front is_back some inside short cut of_front is tree =
+    → leaf ≡ chars front → t ≡ leaf_tree breaks leaf → IsTree t
+    → AreFrontNodes breaks text (ts ++ t ∷ []) (chars back) × (length (leaves_of (ts ++ t ∷ [])) ≡ length (leaves_of ts) + 1)
+nodes_cut breaks text ts bs front back leaf r t a u v w is_front is_back some inside short cut of_front is tree =
     let e : front ≡ take r bs = is_front ∙ ap (λ k. take k bs) (omega arith) in
     let n : length front ≡ r = ap length e ∙ length-take-le r bs (omega arith) in
     let parts : chars front ++ chars back ≡ chars bs = sym (chars-append front back v) ∙ ap chars (ap₂ (λ a b. a ++ b) e is_back ∙ take-append-drop r bs) in
     let seam : IsSeam (chars front) (chars back) = record { apart = ap₂ (λ a b. parts_crlf (chars a) (chars b)) e is_back ∙ apart_at_cut bs r (subst IsUtf8 e v) (subst IsUtf8 is_back w) some inside cut } in
-    let own : t ≡ leaf_tree set (chars front) = is ∙ ap (leaf_tree set) of_front in
+    let own : t ≡ leaf_tree breaks (chars front) = is ∙ ap (leaf_tree breaks) of_front in
     let i : IsLeafText (chars front) = leaf_of_bytes front v (omega arith) (omega arith) in (
-      nodes_more set text ts (chars bs) (chars front) (chars back) t a parts i seam own tree,
-      ap length (leaves_more set ts t (chars front) i.some own) ∙ length-append (leaves_of ts) (chars front ∷ []),
+      nodes_more breaks text ts (chars bs) (chars front) (chars back) t a parts i seam own tree,
+      ap length (leaves_more breaks ts t (chars front) i.some own) ∙ length-append (leaves_of ts) (chars front ∷ []),
     )
 
 -- the last node has all that is left
-pub nodes_last : (set : LineBreaks) (text : List ℕ) (ts : List Tree) (bs leaf : List ℕ) (t : Tree) → AreFrontNodes set text ts (chars bs)
-    → IsUtf8 bs → 0 < length bs → length bs ≤ 984 → leaf ≡ chars bs → t ≡ leaf_tree set leaf → IsTree t
-    → AreFrontNodes set text (ts ++ t ∷ []) [] × (length (leaves_of (ts ++ t ∷ [])) ≡ length (leaves_of ts) + 1)
-nodes_last set text ts bs leaf t a u some short of_rest is tree =
-    let own : t ≡ leaf_tree set (chars bs) = is ∙ ap (leaf_tree set) of_rest in
+pub nodes_last : (breaks : LineBreaks) (text : List ℕ) (ts : List Tree) (bs leaf : List ℕ) (t : Tree) → AreFrontNodes breaks text ts (chars bs)
+    → IsUtf8 bs → 0 < length bs → length bs ≤ 984 → leaf ≡ chars bs → t ≡ leaf_tree breaks leaf → IsTree t
+    → AreFrontNodes breaks text (ts ++ t ∷ []) [] × (length (leaves_of (ts ++ t ∷ [])) ≡ length (leaves_of ts) + 1)
+nodes_last breaks text ts bs leaf t a u some short of_rest is tree =
+    let own : t ≡ leaf_tree breaks (chars bs) = is ∙ ap (leaf_tree breaks) of_rest in
     let i : IsLeafText (chars bs) = leaf_of_bytes bs u some short in (
-      nodes_more set text ts (chars bs) (chars bs) [] t a (append-nil (chars bs)) i (seam-nil (chars bs)) own tree,
-      ap length (leaves_more set ts t (chars bs) i.some own) ∙ length-append (leaves_of ts) (chars bs ∷ []),
+      nodes_more breaks text ts (chars bs) (chars bs) [] t a (append-nil (chars bs)) i (seam-nil (chars bs)) own tree,
+      ap length (leaves_more breaks ts t (chars bs) i.some own) ∙ length-append (leaves_of ts) (chars bs ∷ []),
     )
 
 -- where nothing is left
-pub nodes_whole : (set : LineBreaks) (text : List ℕ) (ts : List Tree) → AreFrontNodes set text ts [] → joined ts ≡ text
-nodes_whole set text ts a = sym (append-nil (joined ts)) ∙ a.fronts.whole
+pub nodes_whole : (breaks : LineBreaks) (text : List ℕ) (ts : List Tree) → AreFrontNodes breaks text ts [] → joined ts ≡ text
+nodes_whole breaks text ts a = sym (append-nil (joined ts)) ∙ a.fronts.whole
 
-pub siblings_whole : (set : LineBreaks) (text : List ℕ) (ts : List Tree) → AreFrontNodes set text ts [] → byte_len text < 2 ^ 63 → AreSiblings set 0 ts
-siblings_whole set text ts a few = record { each = a.each; leaves = a.fronts.are_leaves; fits = omega (arith, ap byte_len (nodes_whole set text ts a)) }
+pub siblings_whole : (breaks : LineBreaks) (text : List ℕ) (ts : List Tree) → AreFrontNodes breaks text ts [] → byte_len text < 2 ^ 63 → AreSiblings breaks 0 ts
+siblings_whole breaks text ts a few = record { each = a.each; leaves = a.fronts.are_leaves; fits = omega (arith, ap byte_len (nodes_whole breaks text ts a)) }
 
 -- one leaf alone, or none
 pub leaf_few : (x : List ℕ) → length (one_leaf x) ≤ (byte_len x + 980) / 981
@@ -146,44 +146,44 @@ most_after left (suc g) some most =
     ]
 
 -- the nodes made so far over a front of the nodes, and those that are left
-pub record AreOver (set : LineBreaks) (h : ℕ) (whole done rest : List Tree) : Type 0 where
-  pub each : All (IsChild set (h + 1)) done
-  pub left : AreSiblings set h rest
+pub record AreOver (breaks : LineBreaks) (h : ℕ) (whole done rest : List Tree) : Type 0 where
+  pub each : All (IsChild breaks (h + 1)) done
+  pub left : AreSiblings breaks h rest
   pub same : leaves_of done ++ leaves_of rest ≡ leaves_of whole
 
-pub none_over : (set : LineBreaks) (h : ℕ) (whole : List Tree) → AreSiblings set h whole → AreOver set h whole [] whole
-none_over set h whole a = record { each = All-nil (IsChild set (h + 1)); left = a; same = refl }
+pub none_over : (breaks : LineBreaks) (h : ℕ) (whole : List Tree) → AreSiblings breaks h whole → AreOver breaks h whole [] whole
+none_over breaks h whole a = record { each = All-nil (IsChild breaks (h + 1)); left = a; same = refl }
 
 -- the next group of children
-pub group_children : (set : LineBreaks) (h : ℕ) (rest : List Tree) (n : ℕ) → AreSiblings set h rest → 12 ≤ n → n ≤ 24 → n ≤ length rest → AreChildren set h (take n rest)
-group_children set h rest n a least most within =
-    let s : AreSiblings set h (take n rest ++ drop n rest) = rw take-append-drop a in
+pub group_children : (breaks : LineBreaks) (h : ℕ) (rest : List Tree) (n : ℕ) → AreSiblings breaks h rest → 12 ≤ n → n ≤ 24 → n ≤ length rest → AreChildren breaks h (take n rest)
+group_children breaks h rest n a least most within =
+    let s : AreSiblings breaks h (take n rest ++ drop n rest) = rw take-append-drop a in
     let l = length-take-le n rest within in
-    children_of set h (take n rest) (siblings_left set h (take n rest) (drop n rest) s) (omega arith) (omega arith)
+    children_of breaks h (take n rest) (siblings_left breaks h (take n rest) (drop n rest) s) (omega arith) (omega arith)
 
 -- one node more
-pub over_more : (set : LineBreaks) (h : ℕ) (whole done rest : List Tree) (n : ℕ) (t : Tree) → AreOver set h whole done rest → 12 ≤ n → n ≤ 24 → n ≤ length rest
-    → t ≡ tree_over (take n rest) → AreOver set h whole (done ++ t ∷ []) (drop n rest)
-over_more set h whole done rest n t a least most within is =
-    let s : AreSiblings set h (take n rest ++ drop n rest) = rw take-append-drop a.left in
+pub over_more : (breaks : LineBreaks) (h : ℕ) (whole done rest : List Tree) (n : ℕ) (t : Tree) → AreOver breaks h whole done rest → 12 ≤ n → n ≤ 24 → n ≤ length rest
+    → t ≡ tree_over (take n rest) → AreOver breaks h whole (done ++ t ∷ []) (drop n rest)
+over_more breaks h whole done rest n t a least most within is =
+    let s : AreSiblings breaks h (take n rest ++ drop n rest) = rw take-append-drop a.left in
     let l = length-take-le n rest within in
-    let child : IsChild set (h + 1) t = subst (IsChild set (h + 1)) (sym is) (is_wide_over set 12 h (take n rest) (group_children set h rest n a.left least most within) (omega arith)) in
+    let child : IsChild breaks (h + 1) t = subst (IsChild breaks (h + 1)) (sym is) (is_wide_over breaks 12 h (take n rest) (group_children breaks h rest n a.left least most within) (omega arith)) in
     let front : leaves_of (done ++ t ∷ []) ≡ leaves_of done ++ leaves_of (take n rest) = leaves_of-append done (t ∷ []) ∙ ap (λ ls. leaves_of done ++ ls) (append-nil t.leaves ∙ ap (λ u. u.leaves) is) in
     let both : leaves_of (take n rest) ++ leaves_of (drop n rest) ≡ leaves_of rest = sym (leaves_of-append (take n rest) (drop n rest)) ∙ ap leaves_of (take-append-drop n rest) in
     record {
-      each = All-push (IsChild set (h + 1)) done t a.each child;
-      left = siblings_right set h (take n rest) (drop n rest) s;
+      each = All-push (IsChild breaks (h + 1)) done t a.each child;
+      left = siblings_right breaks h (take n rest) (drop n rest) s;
       same = ap (λ ls. ls ++ leaves_of (drop n rest)) front ∙ append_assoc (leaves_of done) (leaves_of (take n rest)) (leaves_of (drop n rest)) ∙ ap (λ ls. leaves_of done ++ ls) both ∙ a.same;
     }
 
 -- where no node is left
-pub over_same : (set : LineBreaks) (h : ℕ) (whole done rest : List Tree) → AreOver set h whole done rest → length rest ≡ 0 → leaves_of done ≡ leaves_of whole
-over_same set h whole done [] a none = sym (append-nil (leaves_of done)) ∙ a.same
-over_same set h whole done (t ∷ ts) a none = absurd (omega arith)
+pub over_same : (breaks : LineBreaks) (h : ℕ) (whole done rest : List Tree) → AreOver breaks h whole done rest → length rest ≡ 0 → leaves_of done ≡ leaves_of whole
+over_same breaks h whole done [] a none = sym (append-nil (leaves_of done)) ∙ a.same
+over_same breaks h whole done (t ∷ ts) a none = absurd (omega arith)
 
-pub over_siblings : (set : LineBreaks) (h : ℕ) (whole done rest : List Tree) → AreOver set h whole done rest → length rest ≡ 0 → AreSiblings set h whole → AreSiblings set (h + 1) done
-over_siblings set h whole done rest a none all =
-    let e : leaves_of done ≡ leaves_of whole = over_same set h whole done rest a none in
+pub over_siblings : (breaks : LineBreaks) (h : ℕ) (whole done rest : List Tree) → AreOver breaks h whole done rest → length rest ≡ 0 → AreSiblings breaks h whole → AreSiblings breaks (h + 1) done
+over_siblings breaks h whole done rest a none all =
+    let e : leaves_of done ≡ leaves_of whole = over_same breaks h whole done rest a none in
     record { each = a.each; leaves = subst AreLeaves (sym e) all.leaves; fits = omega (arith, all.fits, ap (λ ls. byte_len (concat ls)) e) }
 
 -- what slices of nodes are seen as
@@ -204,22 +204,22 @@ lone_leaves [] t one here = absurd (omega arith)
 lone_leaves (u ∷ []) t one here = append-nil u.leaves ∙ ap (λ v. v.leaves) here
 lone_leaves (u ∷ v ∷ us) t one here = absurd (omega arith)
 
-pub lone_child : (set : LineBreaks) (h : ℕ) (ts : List Tree) (t : Tree) → All (IsChild set h) ts → length ts ≡ 1 → get_or ts 0 t ≡ t → IsChild set h t
-lone_child set h ts t each one here = subst (IsChild set h) here (All-get_or (IsChild set h) ts 0 t (omega arith) each)
+pub lone_child : (breaks : LineBreaks) (h : ℕ) (ts : List Tree) (t : Tree) → All (IsChild breaks h) ts → length ts ≡ 1 → get_or ts 0 t ≡ t → IsChild breaks h t
+lone_child breaks h ts t each one here = subst (IsChild breaks h) here (All-get_or (IsChild breaks h) ts 0 t (omega arith) each)
 
 -- the next level
-pub level_up : (set : LineBreaks) (h : ℕ) (ts us : List Tree) → AreSiblings set h ts → 1 ≤ length ts → AreSiblings (breaks_of ts) (height_of ts + 1) us → 1 ≤ length us → AreSiblings set (height_of us) us
-level_up set h ts us a some b more =
+pub level_up : (breaks : LineBreaks) (h : ℕ) (ts us : List Tree) → AreSiblings breaks h ts → 1 ≤ length ts → AreSiblings (breaks_of ts) (height_of ts + 1) us → 1 ≤ length us → AreSiblings breaks (height_of us) us
+level_up breaks h ts us a some b more =
     let e : height_of us ≡ height_of ts + 1 = height_of_is (breaks_of ts) (height_of ts + 1) us more b.each in
-    let s : AreSiblings set (height_of ts + 1) us = subst (λ x. AreSiblings x (height_of ts + 1) us) (breaks_of_is set h ts some a.each) b in
-    subst (λ k. AreSiblings set k us) (sym e) s
+    let s : AreSiblings breaks (height_of ts + 1) us = subst (λ x. AreSiblings x (height_of ts + 1) us) (breaks_of_is breaks h ts some a.each) b in
+    subst (λ k. AreSiblings breaks k us) (sym e) s
 
 pub no_chars : (bs : List ℕ) → length bs ≡ 0 → chars bs ≡ []
 no_chars [] none = chars-nil
 no_chars (b ∷ bs) none = absurd (omega arith)
 
 -- each node has a leaf
-pub nodes_le : (set : LineBreaks) (h : ℕ) (ts : List Tree) → All (IsChild set h) ts → length ts ≤ length (leaves_of ts)
-nodes_le set h [] each = omega arith
-nodes_le set h (t ∷ ts) each =
-    omega (arith, (All-head (IsChild set h) t ts each).some, nodes_le set h ts (All-tail (IsChild set h) t ts each), length-append t.leaves (leaves_of ts))
+pub nodes_le : (breaks : LineBreaks) (h : ℕ) (ts : List Tree) → All (IsChild breaks h) ts → length ts ≤ length (leaves_of ts)
+nodes_le breaks h [] each = omega arith
+nodes_le breaks h (t ∷ ts) each =
+    omega (arith, (All-head (IsChild breaks h) t ts each).some, nodes_le breaks h ts (All-tail (IsChild breaks h) t ts each), length-append t.leaves (leaves_of ts))

@@ -44,9 +44,9 @@ module _ (size : List ℕ → ℕ) (m : IsMeasure size) where
       let whole = ap (λ ps. size (concat ps)) (take_all (length parts) parts (omega arith)) in
       omega (arith, front_short parts k full lt, size-front_chunks size m parts (suc k) (length parts) (omega arith), whole)
 
-char_to_line-rises : (set : LineBreaks) (text : List ℕ) (i j : ℕ) → i ≤ j → char_to_line set text i ≤ char_to_line set text j
+char_to_line-rises : (breaks : LineBreaks) (text : List ℕ) (i j : ℕ) → i ≤ j → char_to_line breaks text i ≤ char_to_line breaks text j
 unfolding char_to_line
-char_to_line-rises set text i j le = rises (break_ends set text) where
+char_to_line-rises breaks text i j le = rises (break_ends breaks text) where
   rises : (ends : List ℕ) → count_by (λ p. nat_le p i) ends ≤ count_by (λ p. nat_le p j) ends
   rises [] = omega arith
   rises (e ∷ ends) = omega (arith, count_by-cons (λ p. nat_le p i) e ends, count_by-cons (λ p. nat_le p j) e ends, rises ends, one (nat_le e i) (nat_le e j) (λ p. le-leb e j (omega (arith, leb-true e i p)))) where
@@ -77,7 +77,7 @@ chunk_of unit at t leaf front k i f same =
       bytes = sym l.bytes;
       chars = sym l.chars;
       surrogates = ap (λ x. x.utf16_surrogates) f.before_is;
-      breaks = sym l.breaks ∙ sym (breaks_before t.breaks t.leaves f.index full i.leaves.whole);
+      count = sym l.count ∙ sym (breaks_before t.breaks t.leaves f.index full i.leaves.whole);
     })
 
 module _ (t : Tree) (leaf : List ℕ) (front : TextInfo) (i : IsTree t) where
@@ -119,7 +119,7 @@ module _ (t : Tree) (leaf : List ℕ) (front : TextInfo) (i : IsTree t) where
       let more : at < break_count t.breaks (front_chunks t.leaves (suc f.index)) = (let e : f.index + 1 ≡ suc f.index = omega arith in omega (arith, f.past, ap (λ n. break_count t.breaks (concat (take n t.leaves))) e)) in
       chunk_of LineBreak at t leaf front (chunk_index_at_line_break t.breaks t.leaves b) i f
       (chunk_index_at_line_break_is t.breaks t.leaves b f.index f.within full i.leaves.whole (λ _. omega arith)
-      (λ j less. omega (arith, l.breaks, f.not_past, breaks_rise t (suc j) f.index i (omega arith))))
+      (λ j less. omega (arith, l.count, f.not_past, breaks_rise t (suc j) f.index i (omega arith))))
 
   pub chunk_by_last : (at b : ℕ) → IsFound Char at t leaf front → at + 1 ≡ length (text t) → break_count t.breaks (text t) < b → IsChunkAt t (chunk_index_at_line_break t.breaks t.leaves b) leaf front
   chunk_by_last at b f last past =
@@ -133,7 +133,7 @@ module _ (t : Tree) (leaf : List ℕ) (front : TextInfo) (i : IsTree t) where
       (λ j less. omega (arith, whole, past, breaks_rise t (suc j) (length t.leaves) i (omega (arith, f.within)))))
 
 -- with no leaf there is no chunk
-pub chunk_of_none : (t : Tree) (k : ℕ) (leaf : List ℕ) (front : TextInfo) → t.leaves ≡ [] → leaf ≡ [] → ((set : LineBreaks) → front ≡ info_of set []) → IsChunkAt t k leaf front
+pub chunk_of_none : (t : Tree) (k : ℕ) (leaf : List ℕ) (front : TextInfo) → t.leaves ≡ [] → leaf ≡ [] → ((breaks : LineBreaks) → front ≡ info_of breaks []) → IsChunkAt t k leaf front
 unfolding found_chunk
 chunk_of_none t k leaf front none empty zeros =
     let no_front : front_chunks t.leaves k ≡ [] = ap (λ ps. front_chunks ps k) none ∙ front_of_none k in
@@ -142,7 +142,7 @@ chunk_of_none t k leaf front none empty zeros =
       bytes = ap (λ x. x.bytes) (zeros t.breaks) ∙ sym (ap byte_len no_front);
       chars = ap (λ x. x.chars) (zeros t.breaks) ∙ sym (ap length no_front);
       surrogates = ap (λ x. x.utf16_surrogates) (zeros t.breaks) ∙ sym (ap surrogate_count no_front);
-      breaks = ap (λ x. x.line_breaks) (zeros t.breaks) ∙ ap length (break_ends-nil t.breaks) ∙ sym (ap (λ ps. char_to_line t.breaks (concat ps) (length (front_chunks ps k))) none ∙ ap (λ xs. char_to_line t.breaks [] (length xs)) (front_of_none k) ∙ char_to_line_start t.breaks []);
+      count = ap (λ x. x.break_count) (zeros t.breaks) ∙ ap length (break_ends-nil t.breaks) ∙ sym (ap (λ ps. char_to_line t.breaks (concat ps) (length (front_chunks ps k))) none ∙ ap (λ xs. char_to_line t.breaks [] (length xs)) (front_of_none k) ∙ char_to_line_start t.breaks []);
     }
   where
     front_of_none : (k : ℕ) → front_chunks [] k ≡ []

@@ -33,19 +33,19 @@ count_of-sum Char a b = refl
 count_of-sum CodeUnit a b = omega arith
 count_of-sum LineBreak a b = refl
 
-pub count_of-nil : (unit : Unit) (set : LineBreaks) → count_of unit (info_of set []) ≡ 0
-count_of-nil Byte set = refl
-count_of-nil Char set = refl
-count_of-nil CodeUnit set = refl
-count_of-nil LineBreak set = ap length (break_ends-nil set)
+pub count_of-nil : (unit : Unit) (breaks : LineBreaks) → count_of unit (info_of breaks []) ≡ 0
+count_of-nil Byte breaks = refl
+count_of-nil Char breaks = refl
+count_of-nil CodeUnit breaks = refl
+count_of-nil LineBreak breaks = ap length (break_ends-nil breaks)
 
 -- the counts before a place, as the code finds them
-pub front_is : (set : LineBreaks) (totals : List TextInfo) (ts : List Tree) (k : ℕ) (front : TextInfo) → HasTotals set totals ts → k ≤ length totals
-    → (k ≡ 0 → (s : LineBreaks) → front ≡ info_of s []) → ((d : TextInfo) → 0 < k → front ≡ get_or totals (k - 1) d) → front ≡ info_of set (joined (take k ts))
-front_is set totals ts zero front h within first later = first refl set
-front_is set totals ts (suc k) front h within first later =
+pub front_is : (breaks : LineBreaks) (totals : List TextInfo) (ts : List Tree) (k : ℕ) (front : TextInfo) → HasTotals breaks totals ts → k ≤ length totals
+    → (k ≡ 0 → (s : LineBreaks) → front ≡ info_of s []) → ((d : TextInfo) → 0 < k → front ≡ get_or totals (k - 1) d) → front ≡ info_of breaks (joined (take k ts))
+front_is breaks totals ts zero front h within first later = first refl breaks
+front_is breaks totals ts (suc k) front h within first later =
     let e : suc k - 1 ≡ k = omega arith in
-    later front (omega arith) ∙ ap (λ n. get_or totals n front) e ∙ h.total_at k front (omega (arith, h.as_many)) ∙ (let f : k + 1 ≡ suc k = omega arith in ap (λ n. info_of set (joined (take n ts))) f)
+    later front (omega arith) ∙ ap (λ n. get_or totals n front) e ∙ h.total_at k front (omega (arith, h.as_many)) ∙ (let f : k + 1 ≡ suc k = omega arith in ap (λ n. info_of breaks (joined (take n ts))) f)
 
 -- the leaves around those of the k-th child
 pub leaves_at : (ts : List Tree) (k : ℕ) (d : Tree) → k < length ts → leaves_of ts ≡ leaves_of (take k ts) ++ ((get_or ts k d).leaves ++ leaves_of (drop (k + 1) ts))
@@ -57,7 +57,7 @@ leaves_at ts k d l =
     ∙ append_assoc (leaves_of (take k ts)) (get_or ts k d).leaves (leaves_of (drop (k + 1) ts))
 
 -- the counts of the text up to a leaf of the k-th child
-module _ (set : LineBreaks) (left own right : List (List ℕ)) (a : AreLeaves (left ++ (own ++ right))) where
+module _ (breaks : LineBreaks) (left own right : List (List ℕ)) (a : AreLeaves (left ++ (own ++ right))) where
   pub front_leaves : (i : ℕ) → i ≤ length own → take (length left + i) (left ++ (own ++ right)) ≡ left ++ take i own
   front_leaves i le = take-append-add left (own ++ right) i ∙ ap (λ xs. left ++ xs) (take-append-le i own right le)
 
@@ -70,19 +70,19 @@ module _ (set : LineBreaks) (left own right : List (List ℕ)) (a : AreLeaves (l
       ∙ append_assoc (concat (take i own)) (concat (drop i own)) (concat right) in
       (seam_of_left (concat left) (concat (take i own)) rest (subst (IsSeam (concat left)) e seam)).apart
 
-  pub front_info : (i : ℕ) → i ≤ length own → info_of set (concat (take (length left + i) (left ++ (own ++ right)))) ≡ info_sum (info_of set (concat left)) (info_of set (concat (take i own)))
+  pub front_info : (i : ℕ) → i ≤ length own → info_of breaks (concat (take (length left + i) (left ++ (own ++ right)))) ≡ info_sum (info_of breaks (concat left)) (info_of breaks (concat (take i own)))
   front_info i le =
-      ap (λ xs. info_of set (concat xs)) (front_leaves i le) ∙ ap (info_of set) (concat-append left (take i own))
-      ∙ info_of-append_apart set (concat left) (concat (take i own)) (front_apart i)
+      ap (λ xs. info_of breaks (concat xs)) (front_leaves i le) ∙ ap (info_of breaks) (concat-append left (take i own))
+      ∙ info_of-append_apart breaks (concat left) (concat (take i own)) (front_apart i)
 
 -- the place is in the k-th child
-pub record Descends (set : LineBreaks) (unit : Unit) (at : ℕ) (ts : List Tree) (k : ℕ) (child : Tree) (front : TextInfo) : Type 0 where
-  pub children : AreChildren set (height_of ts) ts
+pub record Descends (breaks : LineBreaks) (unit : Unit) (at : ℕ) (ts : List Tree) (k : ℕ) (child : Tree) (front : TextInfo) : Type 0 where
+  pub children : AreChildren breaks (height_of ts) ts
   pub within : k < length ts
   pub child_is : get_or ts k child ≡ child
-  pub front_is : front ≡ info_of set (joined (take k ts))
+  pub front_is : front ≡ info_of breaks (joined (take k ts))
   pub small : IsSmall front
-  pub own : IsChild set (height_of ts) child
+  pub own : IsChild breaks (height_of ts) child
   pub not_past : count_of unit front ≤ at
   pub past : at < count_of unit front + count_of unit (info_of child.breaks (text child))
 
@@ -92,23 +92,23 @@ pub descends_to : (unit : Unit) (at : ℕ) (ts : List Tree) (totals : List TextI
     → ((d : TextInfo) → 0 < k → count_of unit (get_or totals (k - 1) d) ≤ at) → ((d : TextInfo) → at < count_of unit (get_or totals k d))
     → Descends (breaks_of ts) unit at ts k child front
 descends_to unit at ts totals k child front a h lt here first later not_past past =
-    let set = breaks_of ts in
+    let breaks = breaks_of ts in
     let l : k < length ts = omega (arith, h.as_many) in
-    let f = front_is set totals ts k front h (omega arith) first later in
-    let own = child_at set (height_of ts) ts k child a l here in
-    let more = more_at set (height_of ts) ts k child a l here in
+    let f = front_is breaks totals ts k front h (omega arith) first later in
+    let own = child_at breaks (height_of ts) ts k child a l here in
+    let more = more_at breaks (height_of ts) ts k child a l here in
     record {
       children = a;
       within = l;
       child_is = here;
       front_is = f;
       own = own;
-      small = rw f (small_info set (joined (take k ts)) (omega (arith, byte_len-joined ts k, a.fits)));
+      small = rw f (small_info breaks (joined (take k ts)) (omega (arith, byte_len-joined ts k, a.fits)));
       not_past = first_front unit at k totals front first later not_past;
       past = let total = ap (count_of unit) (h.total_at k front l ∙ more) in
           let own_counts = ap (λ b. count_of unit (info_of b (text child))) own.same_breaks in
           let fronts = ap (count_of unit) f in
-          omega (arith, past front, total, own_counts, fronts, count_of-sum unit (info_of set (joined (take k ts))) (info_of set (text child)));
+          omega (arith, past front, total, own_counts, fronts, count_of-sum unit (info_of breaks (joined (take k ts))) (info_of breaks (text child)));
     }
   where
     first_front : (unit : Unit) (at k : ℕ) (totals : List TextInfo) (front : TextInfo) → (k ≡ 0 → (s : LineBreaks) → front ≡ info_of s []) → ((d : TextInfo) → 0 < k → front ≡ get_or totals (k - 1) d)
@@ -127,44 +127,44 @@ descends unit at rcs totals k item child front a h lt is value first later not_p
     descends_to unit at (trees rcs) totals k child front a h lt (tree_at rcs k item child l is value) first later not_past past
 
 -- what the child finds, the node finds
-pub found_inner : (set : LineBreaks) (unit : Unit) (at : ℕ) (t : Tree) (ts : List Tree) (k : ℕ) (child : Tree) (front before : TextInfo) (leaf : List ℕ)
-    → t ≡ tree_over ts → breaks_of ts ≡ set → Descends set unit at ts k child front → IsFound unit (at - count_of unit front) child leaf before → IsFound unit at t leaf (info_sum front before)
-found_inner set unit at t ts k child front before leaf is same d f =
+pub found_inner : (breaks : LineBreaks) (unit : Unit) (at : ℕ) (t : Tree) (ts : List Tree) (k : ℕ) (child : Tree) (front before : TextInfo) (leaf : List ℕ)
+    → t ≡ tree_over ts → breaks_of ts ≡ breaks → Descends breaks unit at ts k child front → IsFound unit (at - count_of unit front) child leaf before → IsFound unit at t leaf (info_sum front before)
+found_inner breaks unit at t ts k child front before leaf is same d f =
     let left = leaves_of (take k ts) in
     let own = child.leaves in
     let right = leaves_of (drop (k + 1) ts) in
     let around : leaves_of ts ≡ left ++ (own ++ right) = subst (λ u. leaves_of ts ≡ left ++ (u.leaves ++ right)) d.child_is (leaves_at ts k child d.within) in
     let whole : t.leaves ≡ left ++ (own ++ right) = ap (λ u. u.leaves) is ∙ around in
-    let sets : t.breaks ≡ set = ap (λ u. u.breaks) is ∙ same in
+    let sets : t.breaks ≡ breaks = ap (λ u. u.breaks) is ∙ same in
     let a : AreLeaves (left ++ (own ++ right)) = subst AreLeaves around d.children.leaves in
     let i = f.index in
     let le : i ≤ length own = omega (arith, f.within) in
     let le' : i + 1 ≤ length own = omega (arith, f.within) in
-    let here = front_info set left own right a i le in
-    let next = front_info set left own right a (i + 1) le' in
-    let old_before : before ≡ info_of set (concat (take i own)) = f.before_is ∙ ap (λ b. info_of b (concat (take i own))) d.own.same_breaks in
+    let here = front_info breaks left own right a i le in
+    let next = front_info breaks left own right a (i + 1) le' in
+    let old_before : before ≡ info_of breaks (concat (take i own)) = f.before_is ∙ ap (λ b. info_of b (concat (take i own))) d.own.same_breaks in
     let old_past = ap (λ b. count_of unit (info_of b (concat (take (i + 1) own)))) d.own.same_breaks in
-    let fronts : info_of set (concat left) ≡ front = sym d.front_is in
+    let fronts : info_of breaks (concat left) ≡ front = sym d.front_is in
     let next_count = ap (count_of unit) next in
     let shift : length left + (i + 1) ≡ length left + i + 1 = omega arith in
     record {
       index = length left + i;
       within = rw whole (omega (arith, f.within, length-append left (own ++ right), length-append own right));
       leaf_is = f.leaf_is ∙ sym (ap (λ xs. get_or xs (length left + i) []) whole ∙ get_or-append-add left (own ++ right) i [] ∙ get_or_append_left own right [] i f.within);
-      before_is = sym (ap (λ b. info_of b (concat (take (length left + i) t.leaves))) sets ∙ ap (λ xs. info_of set (concat (take (length left + i) xs))) whole ∙ here
-          ∙ ap (λ x. info_sum x (info_of set (concat (take i own)))) fronts ∙ ap (info_sum front) (sym old_before));
+      before_is = sym (ap (λ b. info_of b (concat (take (length left + i) t.leaves))) sets ∙ ap (λ xs. info_of breaks (concat (take (length left + i) xs))) whole ∙ here
+          ∙ ap (λ x. info_sum x (info_of breaks (concat (take i own)))) fronts ∙ ap (info_sum front) (sym old_before));
       not_past = omega (arith, count_of-sum unit front before, f.not_past, d.not_past);
       past =
-          let total : count_of unit (info_of t.breaks (concat (take (length left + i + 1) t.leaves))) ≡ count_of unit (info_sum (info_of set (concat left)) (info_of set (concat (take (i + 1) own)))) =
-          ap (λ b. count_of unit (info_of b (concat (take (length left + i + 1) t.leaves)))) sets ∙ ap (λ xs. count_of unit (info_of set (concat (take (length left + i + 1) xs)))) whole
-          ∙ ap (λ n. count_of unit (info_of set (concat (take n (left ++ (own ++ right)))))) (sym shift) ∙ next_count in
-          let sum = count_of-sum unit (info_of set (concat left)) (info_of set (concat (take (i + 1) own))) in
+          let total : count_of unit (info_of t.breaks (concat (take (length left + i + 1) t.leaves))) ≡ count_of unit (info_sum (info_of breaks (concat left)) (info_of breaks (concat (take (i + 1) own)))) =
+          ap (λ b. count_of unit (info_of b (concat (take (length left + i + 1) t.leaves)))) sets ∙ ap (λ xs. count_of unit (info_of breaks (concat (take (length left + i + 1) xs)))) whole
+          ∙ ap (λ n. count_of unit (info_of breaks (concat (take n (left ++ (own ++ right)))))) (sym shift) ∙ next_count in
+          let sum = count_of-sum unit (info_of breaks (concat left)) (info_of breaks (concat (take (i + 1) own))) in
           let fronts_count = ap (count_of unit) fronts in
           omega (arith, total, sum, fronts_count, old_past, f.past, d.not_past);
     }
 
 -- what is found in a leaf
-pub found_leaf : (unit : Unit) (at : ℕ) (t : Tree) (leaf : List ℕ) (before : TextInfo) → t ≡ leaf_tree t.breaks leaf → ((set : LineBreaks) → before ≡ info_of set []) → at < count_of unit (info_of t.breaks (text t)) → IsFound unit at t leaf before
+pub found_leaf : (unit : Unit) (at : ℕ) (t : Tree) (leaf : List ℕ) (before : TextInfo) → t ≡ leaf_tree t.breaks leaf → ((breaks : LineBreaks) → before ≡ info_of breaks []) → at < count_of unit (info_of t.breaks (text t)) → IsFound unit at t leaf before
 found_leaf unit at t [] before is none lt = absurd (omega (arith, ap (λ u. count_of unit (info_of t.breaks (text u))) is, count_of-nil unit t.breaks))
 found_leaf unit at t (c ∷ cs) before is none lt =
     let leaves : t.leaves ≡ (c ∷ cs) ∷ [] = ap (λ u. u.leaves) is in

@@ -40,22 +40,22 @@ char_to_byte_end text = ap byte_len (take_all (length text) text (omega arith))
 pub char_to_utf16_end : (text : List ℕ) → char_to_utf16 text (length text) ≡ utf16_len text
 char_to_utf16_end text = ap utf16_len (take_all (length text) text (omega arith))
 
-pub byte_to_line_end : (set : LineBreaks) (text : List ℕ) → byte_to_line set text (byte_len text) ≡ break_count set text
-byte_to_line_end set text = byte_to_line-byte_to_char set text (byte_len text) ∙ ap (char_to_line set text) (byte_to_char_end text) ∙ char_to_line_end set text
+pub byte_to_line_end : (breaks : LineBreaks) (text : List ℕ) → byte_to_line breaks text (byte_len text) ≡ break_count breaks text
+byte_to_line_end breaks text = byte_to_line-byte_to_char breaks text (byte_len text) ∙ ap (char_to_line breaks text) (byte_to_char_end text) ∙ char_to_line_end breaks text
 
 -- the first line starts the text, and past the last line is its end
-pub line_start_first : (set : LineBreaks) (text : List ℕ) → line_start set text 0 ≡ 0
+pub line_start_first : (breaks : LineBreaks) (text : List ℕ) → line_start breaks text 0 ≡ 0
 unfolding line_start
-line_start_first set text = refl
+line_start_first breaks text = refl
 
 get_or_past : (xs : List ℕ) (i d : ℕ) → length xs ≤ i → get_or xs i d ≡ d
 get_or_past [] i d h = refl
 get_or_past (x ∷ xs) zero d h = absurd (omega arith)
 get_or_past (x ∷ xs) (suc i) d h = get_or_past xs i d (omega arith)
 
-pub line_start_past : (set : LineBreaks) (text : List ℕ) (l : ℕ) → break_count set text < l → line_start set text l ≡ length text
+pub line_start_past : (breaks : LineBreaks) (text : List ℕ) (l : ℕ) → break_count breaks text < l → line_start breaks text l ≡ length text
 unfolding line_start
-line_start_past set text l h = get_or_past (0 ∷ break_ends set text) l (length text) (omega arith)
+line_start_past breaks text l h = get_or_past (0 ∷ break_ends breaks text) l (length text) (omega arith)
 
 -- the breaks up to the end of a leaf
 break_count_apart : (t : Tree) (leaf : List ℕ) (k : ℕ) → IsTree t → k < length t.leaves → get_or t.leaves k [] ≡ leaf → break_count t.breaks (before t.leaves k ++ leaf) ≡ break_count t.breaks (before t.leaves k) + break_count t.breaks leaf
@@ -65,7 +65,7 @@ break_count_apart t leaf k i lt is =
     let e : take (k + 1) t.leaves ≡ take k t.leaves ++ leaf ∷ [] = take_more t.leaves k [] lt ∙ ap (λ s. take k t.leaves ++ s ∷ []) is in
     let seam = leaves_seam (take k t.leaves) (leaf ∷ []) (subst AreLeaves e front) in
     let apart : parts_crlf (before t.leaves k) leaf ≡ false = (rw append-nil at seam.apart) in
-    ap (λ x. x.line_breaks) (info_of-append_apart t.breaks (before t.leaves k) leaf apart)
+    ap (λ x. x.break_count) (info_of-append_apart t.breaks (before t.leaves k) leaf apart)
 
 -- the leaf's place in the text, and the text up to its end
 pub record LiesAt (t : Tree) (leaf : List ℕ) (front : TextInfo) (k : ℕ) : Type 0 where
@@ -74,7 +74,7 @@ pub record LiesAt (t : Tree) (leaf : List ℕ) (front : TextInfo) (k : ℕ) : Ty
   pub bytes : byte_len (before t.leaves k) ≡ front.bytes
   pub chars : length (before t.leaves k) ≡ front.chars
   pub units : utf16_len (before t.leaves k) ≡ front.chars + front.utf16_surrogates
-  pub breaks : break_count t.breaks (before t.leaves k) ≡ front.line_breaks
+  pub count : break_count t.breaks (before t.leaves k) ≡ front.break_count
   pub more : concat (take (k + 1) t.leaves) ≡ before t.leaves k ++ leaf
   pub around : text t ≡ before t.leaves k ++ (leaf ++ after t.leaves k)
 
@@ -88,7 +88,7 @@ lies_at unit at t leaf front f =
       bytes = ap (λ x. x.bytes) (sym f.before_is);
       chars = ap (λ x. x.chars) (sym f.before_is);
       units = ap (λ x. x.chars + x.utf16_surrogates) (sym f.before_is);
-      breaks = ap (λ x. x.line_breaks) (sym f.before_is);
+      count = ap (λ x. x.break_count) (sym f.before_is);
       more = ap (λ n. concat (take n t.leaves)) shift ∙ before_more t.leaves f.index f.within ∙ ap (λ s. before t.leaves f.index ++ s) here;
       around = concat_at t.leaves f.index f.within ∙ ap (λ s. before t.leaves f.index ++ (s ++ after t.leaves f.index)) here;
     }
@@ -113,21 +113,21 @@ module _ (at : ℕ) (t : Tree) (leaf : List ℕ) (front : TextInfo) (i : IsTree 
       ∙ ap (λ s. front.chars + utf16_to_char s (at - utf16_len (before t.leaves f.index))) l.leaf_is
       ∙ ap (λ n. front.chars + utf16_to_char leaf (at - n)) l.units
 
-  pub found_char_to_line : IsFound Char at t leaf front → char_to_line t.breaks (text t) at ≡ front.line_breaks + char_to_line t.breaks leaf (at - front.chars)
+  pub found_char_to_line : IsFound Char at t leaf front → char_to_line t.breaks (text t) at ≡ front.break_count + char_to_line t.breaks leaf (at - front.chars)
   found_char_to_line f =
       let l = lies_at Char at t leaf front f in
       let more = ap length l.more ∙ length-append (before t.leaves f.index) leaf in
       let size = ap length l.leaf_is in
       char_to_line_at t.breaks t.leaves f.index f.within (nonempty_leaves t.leaves i.leaves.each) i.leaves.whole at (omega (arith, l.chars, f.not_past)) (omega (arith, l.chars, f.not_past, f.past, more, size))
-      ∙ (rw (l.breaks, l.leaf_is, l.chars) refl)
+      ∙ (rw (l.count, l.leaf_is, l.chars) refl)
 
-  pub found_byte_to_line : IsFound Byte at t leaf front → byte_to_line t.breaks (text t) at ≡ front.line_breaks + byte_to_line t.breaks leaf (at - front.bytes)
+  pub found_byte_to_line : IsFound Byte at t leaf front → byte_to_line t.breaks (text t) at ≡ front.break_count + byte_to_line t.breaks leaf (at - front.bytes)
   found_byte_to_line f =
       let l = lies_at Byte at t leaf front f in
       let more = ap byte_len l.more ∙ IsMeasure-byte_len.joined (before t.leaves f.index) leaf in
       let size = ap byte_len l.leaf_is in
       byte_to_line_at t.breaks t.leaves f.index f.within (nonempty_leaves t.leaves i.leaves.each) i.leaves.whole at (omega (arith, l.bytes, f.not_past)) (omega (arith, l.bytes, f.not_past, f.past, more, size))
-      ∙ (rw (l.breaks, l.leaf_is, l.bytes) refl)
+      ∙ (rw (l.count, l.leaf_is, l.bytes) refl)
 
   -- the first characters of the text are those before the leaf, and the first of the leaf
   pub front_in : (k : ℕ) → LiesAt t leaf front k → front.chars ≤ at → at ≤ front.chars + length leaf → take at (text t) ≡ before t.leaves k ++ take (at - front.chars) leaf
@@ -152,19 +152,19 @@ module _ (at : ℕ) (t : Tree) (leaf : List ℕ) (front : TextInfo) (i : IsTree 
 
 -- the line that starts after the break `at`, counted from 0
 module _ (at line : ℕ) (t : Tree) (leaf : List ℕ) (front : TextInfo) (i : IsTree t) (f : IsFound LineBreak at t leaf front) (next : line ≡ at + 1) where
-  pub found_line_start : line_start t.breaks (text t) line ≡ front.chars + line_start t.breaks leaf (line - front.line_breaks)
+  pub found_line_start : line_start t.breaks (text t) line ≡ front.chars + line_start t.breaks leaf (line - front.break_count)
   found_line_start =
       let l = lies_at LineBreak at t leaf front f in
       let more = ap (break_count t.breaks) l.more ∙ break_count_apart t leaf f.index i f.within l.leaf_is in
       let size = ap (break_count t.breaks) l.leaf_is in
-      line_start_at t.breaks t.leaves f.index f.within (nonempty_leaves t.leaves i.leaves.each) i.leaves.whole line (omega (arith, l.breaks, f.not_past)) (omega (arith, l.breaks, f.not_past, f.past, more, size))
-      ∙ (rw (l.chars, l.leaf_is, l.breaks) refl)
+      line_start_at t.breaks t.leaves f.index f.within (nonempty_leaves t.leaves i.leaves.each) i.leaves.whole line (omega (arith, l.count, f.not_past)) (omega (arith, l.count, f.not_past, f.past, more, size))
+      ∙ (rw (l.chars, l.leaf_is, l.count) refl)
 
-  pub found_line_to_byte : line_to_byte t.breaks (text t) line ≡ front.bytes + line_to_byte t.breaks leaf (line - front.line_breaks)
+  pub found_line_to_byte : line_to_byte t.breaks (text t) line ≡ front.bytes + line_to_byte t.breaks leaf (line - front.break_count)
   found_line_to_byte =
       let l = lies_at LineBreak at t leaf front f in
-      let s = line_start t.breaks leaf (line - front.line_breaks) in
-      let short = line_start-le-length t.breaks leaf (line - front.line_breaks) in
+      let s = line_start t.breaks leaf (line - front.break_count) in
+      let short = line_start-le-length t.breaks leaf (line - front.break_count) in
       let back : (front.chars + s) - front.chars ≡ s = omega arith in
       ap (λ n. byte_len (take n (text t))) found_line_start
       ∙ ap byte_len (front_in (front.chars + s) t leaf front i f.index l (omega arith) (omega arith)) ∙ IsMeasure-byte_len.joined (before t.leaves f.index) (take ((front.chars + s) - front.chars) leaf)
@@ -175,12 +175,12 @@ pub utf16_to_char-le : (text : List ℕ) (u : ℕ) → utf16_to_char text u ≤ 
 unfolding utf16_to_char
 utf16_to_char-le text u = front-le-length utf16_len IsMeasure-utf16_len text u
 
-pub char_to_line-le : (set : LineBreaks) (text : List ℕ) (i : ℕ) → char_to_line set text i ≤ length text
+pub char_to_line-le : (breaks : LineBreaks) (text : List ℕ) (i : ℕ) → char_to_line breaks text i ≤ length text
 unfolding char_to_line
-char_to_line-le set text i = omega (arith, count_by-le-length (λ p. nat_le p i) (break_ends set text), break_count-le-length set text)
+char_to_line-le breaks text i = omega (arith, count_by-le-length (λ p. nat_le p i) (break_ends breaks text), break_count-le-length breaks text)
 
-pub byte_to_line-le : (set : LineBreaks) (text : List ℕ) (b : ℕ) → byte_to_line set text b ≤ length text
-byte_to_line-le set text b = omega (arith, byte_to_line-byte_to_char set text b, char_to_line-le set text (byte_to_char text b))
+pub byte_to_line-le : (breaks : LineBreaks) (text : List ℕ) (b : ℕ) → byte_to_line breaks text b ≤ length text
+byte_to_line-le breaks text b = omega (arith, byte_to_line-byte_to_char breaks text b, char_to_line-le breaks text (byte_to_char text b))
 
 -- an element of three lists in a row that lies in the second
 within_middle : (xs ys zs : List ℕ) (n i : ℕ) → n ≡ length xs + i → i < length ys → slice_get (xs ++ (ys ++ zs)) n ≡ Some (get_or ys i 0)

@@ -10,24 +10,24 @@ use Rattle.rope_text.proofs.InfoLaws.{break_count-le-length}
 use Rattle.rope_tree.specs.Search.{IsSmall}
 
 -- the counts of a text of at most isize::MAX bytes
-pub small_info : (set : LineBreaks) (text : List ℕ) → byte_len text < 2 ^ 63 → IsSmall (info_of set text)
-small_info set text fits = record {
+pub small_info : (breaks : LineBreaks) (text : List ℕ) → byte_len text < 2 ^ 63 → IsSmall (info_of breaks text)
+small_info breaks text fits = record {
   bytes = fits;
   chars = length-le-encodes text;
   surrogates = count_by-le-length (λ c. nat_le 65536 c) text;
-  breaks = break_count-le-length set text;
+  count = break_count-le-length breaks text;
 }
 
 -- none of a leaf's counts is above its bytes
 pub record IsLow (info : TextInfo) (most : ℕ) : Type 0 where
   pub chars : info.chars ≤ most
   pub surrogates : info.utf16_surrogates ≤ most
-  pub breaks : info.line_breaks ≤ most
+  pub count : info.break_count ≤ most
   pub bytes : info.bytes ≤ most
 
-pub low_info : (set : LineBreaks) (text : List ℕ) (most : ℕ) → byte_len text ≤ most → IsLow (info_of set text) most
-low_info set text most fits =
+pub low_info : (breaks : LineBreaks) (text : List ℕ) (most : ℕ) → byte_len text ≤ most → IsLow (info_of breaks text) most
+low_info breaks text most fits =
     let chars = length-le-encodes text in
     let surrogates = count_by-le-length (λ c. nat_le 65536 c) text in
-    let breaks = break_count-le-length set text in
-    record { chars = omega (arith, chars, fits); surrogates = omega (arith, chars, surrogates, fits); breaks = omega (arith, chars, breaks, fits); bytes = fits }
+    let count = break_count-le-length breaks text in
+    record { chars = omega (arith, chars, fits); surrogates = omega (arith, chars, surrogates, fits); count = omega (arith, chars, count, fits); bytes = fits }

@@ -17,14 +17,14 @@ use Rattle.rope_tree.proofs.NodeLaws.{tree_at, child_at}
 use Rattle.rope_tree.proofs.InsertLaws.{begins_some}
 
 -- the last total counts the whole text
-pub last_total : (set : LineBreaks) (totals : List TextInfo) (ts : List Tree) → HasTotals set totals ts → 1 ≤ length ts → (d : TextInfo) → get_or totals (length totals - 1) d ≡ info_of set (joined ts)
-last_total set totals ts h some d =
+pub last_total : (breaks : LineBreaks) (totals : List TextInfo) (ts : List Tree) → HasTotals breaks totals ts → 1 ≤ length ts → (d : TextInfo) → get_or totals (length totals - 1) d ≡ info_of breaks (joined ts)
+last_total breaks totals ts h some d =
     let e : length totals - 1 + 1 ≡ length ts = omega (arith, h.as_many) in
-    h.total_at (length totals - 1) d (omega (arith, h.as_many)) ∙ ap (λ n. info_of set (joined (take n ts))) e ∙ ap (λ us. info_of set (joined us)) (take_all (length ts) ts (omega arith))
+    h.total_at (length totals - 1) d (omega (arith, h.as_many)) ∙ ap (λ n. info_of breaks (joined (take n ts))) e ∙ ap (λ us. info_of breaks (joined us)) (take_all (length ts) ts (omega arith))
 
 -- an inner node has some text
-pub inner_some : (set : LineBreaks) (h : ℕ) (ts : List Tree) → AreChildren set h ts → 1 ≤ length (joined ts)
-inner_some set h ts a = omega (arith, (is_wide_over set 2 h ts a a.at_least_two).some, leaves_le (leaves_of ts) a.leaves.each)
+pub inner_some : (breaks : LineBreaks) (h : ℕ) (ts : List Tree) → AreChildren breaks h ts → 1 ≤ length (joined ts)
+inner_some breaks h ts a = omega (arith, (is_wide_over breaks 2 h ts a a.at_least_two).some, leaves_le (leaves_of ts) a.leaves.each)
 
 -- before an LF lies a character
 pub right_within : (t : Tree) (at : ℕ) (s : List ℕ) (to_right : Bool) → MayInsert t at s to_right → to_right ≡ true → at < length (text t)

@@ -12,9 +12,9 @@ use Rattle.rope_tree.specs.Insert.{IsInserted}
 use Rattle.rope_tree.proofs.LeafLaws.{leaves-append}
 use Rattle.rope_tree.proofs.NodeLaws.{leaf_text, joined_one}
 
-pub wide_leaf : (set : LineBreaks) (w : ℕ) (x : Tree) (leaf : List ℕ) → x ≡ leaf_tree set leaf → IsTree x → 1 ≤ length leaf → IsWide set w 0 x
-wide_leaf set w x [] is tree some = absurd (omega arith)
-wide_leaf set w x (c ∷ cs) is tree some = record {
+pub wide_leaf : (breaks : LineBreaks) (w : ℕ) (x : Tree) (leaf : List ℕ) → x ≡ leaf_tree breaks leaf → IsTree x → 1 ≤ length leaf → IsWide breaks w 0 x
+wide_leaf breaks w x [] is tree some = absurd (omega arith)
+wide_leaf breaks w x (c ∷ cs) is tree some = record {
   same_breaks = ap (λ u. u.breaks) is;
   at_height = ap (λ u. u.height) is;
   wide = λ p. absurd (omega arith);
@@ -22,33 +22,33 @@ wide_leaf set w x (c ∷ cs) is tree some = record {
   tree = tree;
 }
 
-pub text_of_leaf : (set : LineBreaks) (x : Tree) (leaf : List ℕ) → x ≡ leaf_tree set leaf → text x ≡ leaf
-text_of_leaf set x leaf is = ap text is ∙ leaf_text leaf
+pub text_of_leaf : (breaks : LineBreaks) (x : Tree) (leaf : List ℕ) → x ≡ leaf_tree breaks leaf → text x ≡ leaf
+text_of_leaf breaks x leaf is = ap text is ∙ leaf_text leaf
 
-pub one_inserted : (set : LineBreaks) (old leaf new : List ℕ) (x : Tree) → x ≡ leaf_tree set leaf → IsTree x → leaf ≡ new → 1 ≤ length new → IsInserted (leaf_tree set old) (x ∷ []) new
-one_inserted set old leaf new x is tree same some =
-    let w = wide_leaf set (min 12 0) x leaf is tree (omega (arith, ap length same)) in
+pub one_inserted : (breaks : LineBreaks) (old leaf new : List ℕ) (x : Tree) → x ≡ leaf_tree breaks leaf → IsTree x → leaf ≡ new → 1 ≤ length new → IsInserted (leaf_tree breaks old) (x ∷ []) new
+one_inserted breaks old leaf new x is tree same some =
+    let w = wide_leaf breaks (min 12 0) x leaf is tree (omega (arith, ap length same)) in
     record {
-      text_is = joined_one x ∙ text_of_leaf set x leaf is ∙ same;
+      text_is = joined_one x ∙ text_of_leaf breaks x leaf is ∙ same;
       leaves = rw append-nil tree.leaves;
       parts = record {
         some = omega arith;
         at_most_two = omega arith;
-        each = All-cons (IsWide set (min 12 0) 0) x [] w (All-nil (IsWide set (min 12 0) 0));
+        each = All-cons (IsWide breaks (min 12 0) 0) x [] w (All-nil (IsWide breaks (min 12 0) 0));
         two = λ p. absurd (omega arith);
         full = λ p _. absurd (omega arith);
       };
     }
 
-pub two_inserted : (set : LineBreaks) (old front back new : List ℕ) (x y : Tree) → x ≡ leaf_tree set front → y ≡ leaf_tree set back → IsTree x → IsTree y → front ++ back ≡ new
-    → (0 < length front) × (0 < length back) × (parts_crlf front back ≡ false) → IsInserted (leaf_tree set old) (x ∷ y ∷ []) new
-two_inserted set old front back new x y is_x is_y tree_x tree_y same some =
-    let wx = wide_leaf set (min 12 0) x front is_x tree_x some.0 in
-    let wy = wide_leaf set (min 12 0) y back is_y tree_y some.1 in
-    let vx = wide_leaf set 12 x front is_x tree_x some.0 in
-    let vy = wide_leaf set 12 y back is_y tree_y some.1 in
-    let tx = text_of_leaf set x front is_x in
-    let ty = text_of_leaf set y back is_y in
+pub two_inserted : (breaks : LineBreaks) (old front back new : List ℕ) (x y : Tree) → x ≡ leaf_tree breaks front → y ≡ leaf_tree breaks back → IsTree x → IsTree y → front ++ back ≡ new
+    → (0 < length front) × (0 < length back) × (parts_crlf front back ≡ false) → IsInserted (leaf_tree breaks old) (x ∷ y ∷ []) new
+two_inserted breaks old front back new x y is_x is_y tree_x tree_y same some =
+    let wx = wide_leaf breaks (min 12 0) x front is_x tree_x some.0 in
+    let wy = wide_leaf breaks (min 12 0) y back is_y tree_y some.1 in
+    let vx = wide_leaf breaks 12 x front is_x tree_x some.0 in
+    let vy = wide_leaf breaks 12 y back is_y tree_y some.1 in
+    let tx = text_of_leaf breaks x front is_x in
+    let ty = text_of_leaf breaks y back is_y in
     let seam : IsSeam (text x) (text y) = record { apart = rw (tx, ty) some.2 } in
     let both : AreLeaves (x.leaves ++ y.leaves) = leaves-append x.leaves y.leaves tree_x.leaves tree_y.leaves seam in
     let flat : leaves_of (x ∷ y ∷ []) ≡ x.leaves ++ y.leaves = ap (λ ls. x.leaves ++ ls) (append-nil y.leaves) in
@@ -58,8 +58,8 @@ two_inserted set old front back new x y is_x is_y tree_x tree_y same some =
       parts = record {
         some = omega arith;
         at_most_two = omega arith;
-        each = All-cons (IsWide set (min 12 0) 0) x (y ∷ []) wx (All-cons (IsWide set (min 12 0) 0) y [] wy (All-nil (IsWide set (min 12 0) 0)));
-        two = λ _. All-cons (IsWide set 12 0) x (y ∷ []) vx (All-cons (IsWide set 12 0) y [] vy (All-nil (IsWide set 12 0)));
+        each = All-cons (IsWide breaks (min 12 0) 0) x (y ∷ []) wx (All-cons (IsWide breaks (min 12 0) 0) y [] wy (All-nil (IsWide breaks (min 12 0) 0)));
+        two = λ _. All-cons (IsWide breaks 12 0) x (y ∷ []) vx (All-cons (IsWide breaks 12 0) y [] vy (All-nil (IsWide breaks 12 0)));
         full = λ _ p. absurd (omega arith);
       };
     }

@@ -39,10 +39,10 @@ around rcs k ms vs e =
     let f : take (length rcs - (k + 1)) (drop (k + 1) rcs) ≡ drop (k + 1) rcs = take_all (length rcs - (k + 1)) (drop (k + 1) rcs) (simp length-drop (omega arith)) in
     e ∙ (rw (f, take-map, drop-map) refl)
 
-pub siblings_of_first : (set : LineBreaks) (h : ℕ) (ts : List Tree) → 1 ≤ length ts → AreSiblings set h ts → AreSiblings (breaks_of ts) (height_of ts) ts
-siblings_of_first set h ts some a = rw (height_of_is set h ts some a.each, breaks_of_is set h ts some a.each) a
+pub siblings_of_first : (breaks : LineBreaks) (h : ℕ) (ts : List Tree) → 1 ≤ length ts → AreSiblings breaks h ts → AreSiblings (breaks_of ts) (height_of ts) ts
+siblings_of_first breaks h ts some a = rw (height_of_is breaks h ts some a.each, breaks_of_is breaks h ts some a.each) a
 
-module _ (set : LineBreaks) (h : ℕ) (ts : List Tree) (k : ℕ) (child : Tree) (a : AreChildren set h ts) (lt : k < length ts) (here : get_or ts k child ≡ child) where
+module _ (breaks : LineBreaks) (h : ℕ) (ts : List Tree) (k : ℕ) (child : Tree) (a : AreChildren breaks h ts) (lt : k < length ts) (here : get_or ts k child ≡ child) where
   left_text : List ℕ
   left_text = joined (take k ts)
 
@@ -101,8 +101,8 @@ module _ (set : LineBreaks) (h : ℕ) (ts : List Tree) (k : ℕ) (child : Tree) 
       middle_text : joined ps ≡ take i (text child) ++ (s ++ drop i (text child))
       middle_text = new.text_is ∙ inserted_is (text child) i s
 
-      own : IsChild set h child
-      own = child_at set h ts k child a lt here
+      own : IsChild breaks h child
+      own = child_at breaks h ts k child a lt here
 
       pub new_text : joined (take k ts ++ (ps ++ drop (k + 1) ts)) ≡ inserted (text t) at s
       new_text =
@@ -122,16 +122,16 @@ module _ (set : LineBreaks) (h : ℕ) (ts : List Tree) (k : ℕ) (child : Tree) 
           subst AreLeaves (sym (leaves_of-append (take k ts) (ps ++ drop (k + 1) ts) ∙ ap (λ xs. leaves_of (take k ts) ++ xs) (leaves_of-append ps (drop (k + 1) ts))))
           (leaves-append (leaves_of (take k ts)) (leaves_of ps ++ leaves_of (drop (k + 1) ts)) left both before_both)
 
-      new_each : All (IsChild set h) (take k ts ++ (ps ++ drop (k + 1) ts))
+      new_each : All (IsChild breaks h) (take k ts ++ (ps ++ drop (k + 1) ts))
       new_each =
-          let all : All (IsChild set h) (take k ts ++ drop k ts) = rw take-append-drop a.each in
-          let all' : All (IsChild set h) (take (k + 1) ts ++ drop (k + 1) ts) = rw take-append-drop a.each in
-          let wide : (u : Tree) → IsWide child.breaks (min 12 child.width) child.height u → IsChild set h u =
-          λ u w. wide_more set (min 12 child.width) h u (λ p. omega (arith, own.wide p)) (rw (own.same_breaks, own.at_height) at w) in
-          All-append (IsChild set h) (take k ts) (ps ++ drop (k + 1) ts) (all_left (IsChild set h) (take k ts) (drop k ts) all)
-          (All-append (IsChild set h) ps (drop (k + 1) ts) (All-weaker (IsWide child.breaks (min 12 child.width) child.height) (IsChild set h) wide ps new.parts.each) (all_right (IsChild set h) (take (k + 1) ts) (drop (k + 1) ts) all'))
+          let all : All (IsChild breaks h) (take k ts ++ drop k ts) = rw take-append-drop a.each in
+          let all' : All (IsChild breaks h) (take (k + 1) ts ++ drop (k + 1) ts) = rw take-append-drop a.each in
+          let wide : (u : Tree) → IsWide child.breaks (min 12 child.width) child.height u → IsChild breaks h u =
+          λ u w. wide_more breaks (min 12 child.width) h u (λ p. omega (arith, own.wide p)) (rw (own.same_breaks, own.at_height) at w) in
+          All-append (IsChild breaks h) (take k ts) (ps ++ drop (k + 1) ts) (all_left (IsChild breaks h) (take k ts) (drop k ts) all)
+          (All-append (IsChild breaks h) ps (drop (k + 1) ts) (All-weaker (IsWide child.breaks (min 12 child.width) child.height) (IsChild breaks h) wide ps new.parts.each) (all_right (IsChild breaks h) (take (k + 1) ts) (drop (k + 1) ts) all'))
 
-      pub new_siblings : AreSiblings set h (take k ts ++ (ps ++ drop (k + 1) ts))
+      pub new_siblings : AreSiblings breaks h (take k ts ++ (ps ++ drop (k + 1) ts))
       new_siblings = record {
         each = new_each;
         leaves = new_leaves;
@@ -148,8 +148,8 @@ module _ (set : LineBreaks) (h : ℕ) (ts : List Tree) (k : ℕ) (child : Tree) 
       new_node rs leaves parts =
           let us = take k ts ++ (ps ++ drop (k + 1) ts) in
           let some_us : 1 ≤ length us = omega (arith, new_length, new.parts.some, a.at_least_two) in
-          let sets : breaks_of us ≡ t.breaks = breaks_of_is set h us some_us new_each ∙ sym (ap (λ u. u.breaks) is ∙ breaks_of_is set h ts (omega (arith, a.at_least_two)) a.each) in
-          let heights : height_of us + 1 ≡ t.height = ap (λ n. n + 1) (height_of_is set h us some_us new_each ∙ sym (height_of_is set h ts (omega (arith, a.at_least_two)) a.each)) ∙ sym (ap (λ u. u.height) is) in
+          let sets : breaks_of us ≡ t.breaks = breaks_of_is breaks h us some_us new_each ∙ sym (ap (λ u. u.breaks) is ∙ breaks_of_is breaks h ts (omega (arith, a.at_least_two)) a.each) in
+          let heights : height_of us + 1 ≡ t.height = ap (λ n. n + 1) (height_of_is breaks h us some_us new_each ∙ sym (height_of_is breaks h ts (omega (arith, a.at_least_two)) a.each)) ∙ sym (ap (λ u. u.height) is) in
           let widths : t.width ≡ length ts = ap (λ u. u.width) is in
           let p : AreParts t.breaks (length us) (length us) t.height rs = rw (sets, heights) at parts in
           record {

@@ -26,18 +26,18 @@ leaves_more rcs i item n lt at is =
     omega (arith, ap length split, ap length one, length-append (leaves_of (take i ts)) (leaves_of (n ∷ [])))
 
 -- a list of trees has no more leaves than bytes
-pub few_leaves : (set : LineBreaks) (h : ℕ) (ts : List Tree) (i : ℕ) → AreChildren set h ts → length (leaves_of (take i ts)) < 2 ^ 63
-few_leaves set h ts i a =
+pub few_leaves : (breaks : LineBreaks) (h : ℕ) (ts : List Tree) (i : ℕ) → AreChildren breaks h ts → length (leaves_of (take i ts)) < 2 ^ 63
+few_leaves breaks h ts i a =
     let whole = ap length (leaves_of-append (take i ts) (drop i ts)) in
     let same = ap (λ us. length (leaves_of us)) (take-append-drop i ts) in
     omega (arith, whole, same, length-append (leaves_of (take i ts)) (leaves_of (drop i ts)), leaves_le (leaves_of ts) a.leaves.each, length-le-encodes (concat (leaves_of ts)), a.fits)
 
 -- leaves side by side, none of them empty
-pub lowest : (set : LineBreaks) (ts : List Tree) → All (IsChild set 0) ts → length (leaves_of ts) ≡ length ts
-lowest set [] each = refl
-lowest set (t ∷ ts) each =
-    let c = All-head (IsChild set 0) t ts each in
-    omega (arith, length-append t.leaves (leaves_of ts), lowest set ts (All-tail (IsChild set 0) t ts each), c.some, c.tree.lone c.at_height)
+pub lowest : (breaks : LineBreaks) (ts : List Tree) → All (IsChild breaks 0) ts → length (leaves_of ts) ≡ length ts
+lowest breaks [] each = refl
+lowest breaks (t ∷ ts) each =
+    let c = All-head (IsChild breaks 0) t ts each in
+    omega (arith, length-append t.leaves (leaves_of ts), lowest breaks ts (All-tail (IsChild breaks 0) t ts each), c.some, c.tree.lone c.at_height)
 
 pub lone_count : (leaf : List ℕ) → length (one_leaf leaf) ≡ min (byte_len leaf) 1
 lone_count [] = refl

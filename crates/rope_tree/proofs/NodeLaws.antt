@@ -41,25 +41,25 @@ pub leaf_text : (leaf : List ℕ) → concat (one_leaf leaf) ≡ leaf
 leaf_text [] = refl
 leaf_text (c ∷ cs) = append-nil (c ∷ cs)
 
-pub tree_of_inner : (set : LineBreaks) (h : ℕ) (ts : List Tree) (n : ℕ) → 1 ≤ h → AreChildren set (h - 1) ts → n ≡ length ts
-    → ◌≡◌ {A = Tree} (record { breaks = set; leaves = leaves_of ts; height = h; width = n }) (tree_over ts)
-tree_of_inner set h ts n p a e =
-    let f : h ≡ height_of ts + 1 = omega (arith, height_of_is set (h - 1) ts (omega (arith, a.at_least_two)) a.each) in
-    let g : set ≡ breaks_of ts = sym (breaks_of_is set (h - 1) ts (omega (arith, a.at_least_two)) a.each) in
+pub tree_of_inner : (breaks : LineBreaks) (h : ℕ) (ts : List Tree) (n : ℕ) → 1 ≤ h → AreChildren breaks (h - 1) ts → n ≡ length ts
+    → ◌≡◌ {A = Tree} (record { breaks = breaks; leaves = leaves_of ts; height = h; width = n }) (tree_over ts)
+tree_of_inner breaks h ts n p a e =
+    let f : h ≡ height_of ts + 1 = omega (arith, height_of_is breaks (h - 1) ts (omega (arith, a.at_least_two)) a.each) in
+    let g : breaks ≡ breaks_of ts = sym (breaks_of_is breaks (h - 1) ts (omega (arith, a.at_least_two)) a.each) in
     cc
 
-is_tree_of_body : (set : LineBreaks) (h : ℕ) (b : Body) → IsBody set h b → IsTree (record { breaks = set; leaves = body_leaves b; height = h; width = body_width b })
-is_tree_of_body set h (Leaf n l) i = rw i.0 (is_leaf_tree set l i.1 i.2 (rw leaf_text (omega (arith, i.1))))
-is_tree_of_body set h (Inner c) i = rw (tree_of_inner set h c (length c) i.0 i.1 refl) (is_tree_over set (h - 1) c i.1)
+is_tree_of_body : (breaks : LineBreaks) (h : ℕ) (b : Body) → IsBody breaks h b → IsTree (record { breaks = breaks; leaves = body_leaves b; height = h; width = body_width b })
+is_tree_of_body breaks h (Leaf n l) i = rw i.0 (is_leaf_tree breaks l i.1 i.2 (rw leaf_text (omega (arith, i.1))))
+is_tree_of_body breaks h (Inner c) i = rw (tree_of_inner breaks h c (length c) i.0 i.1 refl) (is_tree_over breaks (h - 1) c i.1)
 
 pub is_tree_of : (a : Inside) → IsNode a → IsTree (tree_of a)
 is_tree_of a i = is_tree_of_body a.breaks a.height a.body i.body
 
 -- children by the facts of the first of them
-pub children_of_first : (set : LineBreaks) (h : ℕ) (ts : List Tree) → AreChildren set h ts → AreChildren (breaks_of ts) (height_of ts) ts
-children_of_first set h ts a =
+pub children_of_first : (breaks : LineBreaks) (h : ℕ) (ts : List Tree) → AreChildren breaks h ts → AreChildren (breaks_of ts) (height_of ts) ts
+children_of_first breaks h ts a =
     let some : 1 ≤ length ts = omega (arith, a.at_least_two) in
-    rw (height_of_is set h ts some a.each, breaks_of_is set h ts some a.each) a
+    rw (height_of_is breaks h ts some a.each, breaks_of_is breaks h ts some a.each) a
 
 -- the text up to the end of one more tree
 pub joined_more : (ts : List Tree) (k : ℕ) (d : Tree) → k < length ts → joined (take (k + 1) ts) ≡ joined (take k ts) ++ text (get_or ts k d)
@@ -81,9 +81,9 @@ joined_apart ts k d l a =
     (leaves_seam (leaves_of (take k ts)) (get_or ts k d).leaves (subst AreLeaves e front)).apart
 
 -- one more total
-pub totals_more : (set : LineBreaks) (ts : List Tree) (i : ℕ) (totals : List TextInfo) (total : TextInfo) → i < length ts → HasTotals set totals (take i ts)
-    → total ≡ info_of set (joined (take (i + 1) ts)) → HasTotals set (totals ++ total ∷ []) (take (i + 1) ts)
-totals_more set ts i totals total lt h e =
+pub totals_more : (breaks : LineBreaks) (ts : List Tree) (i : ℕ) (totals : List TextInfo) (total : TextInfo) → i < length ts → HasTotals breaks totals (take i ts)
+    → total ≡ info_of breaks (joined (take (i + 1) ts)) → HasTotals breaks (totals ++ total ∷ []) (take (i + 1) ts)
+totals_more breaks ts i totals total lt h e =
     let n : length (take i ts) ≡ i = length-take-le i ts (omega arith) in
     let m : length (take (i + 1) ts) ≡ i + 1 = length-take-le (i + 1) ts (omega arith) in
     record {
@@ -93,23 +93,23 @@ totals_more set ts i totals total lt h e =
             let a : get_or (totals ++ total ∷ []) k d ≡ get_or totals k d = get_or_append_left totals (total ∷ []) d k (omega (arith, h.as_many)) in
             let b : take (k + 1) (take i ts) ≡ take (k + 1) ts = take-take (k + 1) i ts (omega arith) in
             let c : take (k + 1) (take (i + 1) ts) ≡ take (k + 1) ts = take-take (k + 1) (i + 1) ts (omega arith) in
-            a ∙ h.total_at k d (omega arith) ∙ ap (λ us. info_of set (joined us)) (b ∙ sym c)
+            a ∙ h.total_at k d (omega arith) ∙ ap (λ us. info_of breaks (joined us)) (b ∙ sym c)
         | inr ge ↦
             let q : k ≡ i = omega arith in
             let a : get_or (totals ++ total ∷ []) k d ≡ total = get_or_push totals total d k (omega (arith, h.as_many)) in
             let b : take (k + 1) (take (i + 1) ts) ≡ take (i + 1) ts = take_all (k + 1) (take (i + 1) ts) (omega arith) in
-            a ∙ e ∙ ap (λ us. info_of set (joined us)) (sym b)
+            a ∙ e ∙ ap (λ us. info_of breaks (joined us)) (sym b)
       ];
     }
 
-pub no_totals : (set : LineBreaks) (ts : List Tree) → HasTotals set [] (take 0 ts)
-no_totals set ts = record { as_many = refl; total_at = λ k d p. absurd (omega arith) }
+pub no_totals : (breaks : LineBreaks) (ts : List Tree) → HasTotals breaks [] (take 0 ts)
+no_totals breaks ts = record { as_many = refl; total_at = λ k d p. absurd (omega arith) }
 
 -- every total is small
-pub small_totals : (set : LineBreaks) (totals : List TextInfo) (ts : List Tree) → HasTotals set totals ts → byte_len (joined ts) < 2 ^ 63
+pub small_totals : (breaks : LineBreaks) (totals : List TextInfo) (ts : List Tree) → HasTotals breaks totals ts → byte_len (joined ts) < 2 ^ 63
     → (k : ℕ) (d : TextInfo) → k < length totals → IsSmall (get_or totals k d)
-small_totals set totals ts h fits k d l =
-    rw (h.total_at k d (omega (arith, h.as_many))) (small_info set (joined (take (k + 1) ts)) (omega (arith, byte_len-joined ts (k + 1))))
+small_totals breaks totals ts h fits k d l =
+    rw (h.total_at k d (omega (arith, h.as_many))) (small_info breaks (joined (take (k + 1) ts)) (omega (arith, byte_len-joined ts (k + 1))))
 
 -- the node at a place, as a tree
 pub tree_at : (rcs : List (Rc Node Global)) (i : ℕ) (item : Rc Node Global) (n : Tree) → i < length rcs → item ≡ get_or rcs i item → n ≡ item.value → get_or (trees rcs) i n ≡ n
@@ -125,33 +125,33 @@ first_breaks [] d some = absurd (omega arith)
 first_breaks (rc ∷ rcs) d some = refl
 
 -- the tree at a place among children, and the counts up to its end
-pub child_at : (set : LineBreaks) (h : ℕ) (ts : List Tree) (k : ℕ) (child : Tree) → AreChildren set h ts → k < length ts → get_or ts k child ≡ child → IsChild set h child
-child_at set h ts k child a l here = subst (IsChild set h) here (All-get_or (IsChild set h) ts k child l a.each)
+pub child_at : (breaks : LineBreaks) (h : ℕ) (ts : List Tree) (k : ℕ) (child : Tree) → AreChildren breaks h ts → k < length ts → get_or ts k child ≡ child → IsChild breaks h child
+child_at breaks h ts k child a l here = subst (IsChild breaks h) here (All-get_or (IsChild breaks h) ts k child l a.each)
 
-pub more_at : (set : LineBreaks) (h : ℕ) (ts : List Tree) (k : ℕ) (child : Tree) → AreChildren set h ts → k < length ts → get_or ts k child ≡ child
-    → info_of set (joined (take (k + 1) ts)) ≡ info_sum (info_of set (joined (take k ts))) (info_of set (text child))
-more_at set h ts k child a l here =
+pub more_at : (breaks : LineBreaks) (h : ℕ) (ts : List Tree) (k : ℕ) (child : Tree) → AreChildren breaks h ts → k < length ts → get_or ts k child ≡ child
+    → info_of breaks (joined (take (k + 1) ts)) ≡ info_sum (info_of breaks (joined (take k ts))) (info_of breaks (text child))
+more_at breaks h ts k child a l here =
     let apart : parts_crlf (joined (take k ts)) (text child) ≡ false = subst (λ u. parts_crlf (joined (take k ts)) (text u) ≡ false) here (joined_apart ts k child l a.leaves) in
     let longer : joined (take (k + 1) ts) ≡ joined (take k ts) ++ text child = subst (λ u. joined (take (k + 1) ts) ≡ joined (take k ts) ++ text u) here (joined_more ts k child l) in
-    ap (info_of set) longer ∙ info_of-append_apart set (joined (take k ts)) (text child) apart
+    ap (info_of breaks) longer ∙ info_of-append_apart breaks (joined (take k ts)) (text child) apart
 
 -- one more node is counted
-pub record AddsNode (set : LineBreaks) (ts : List Tree) (i : ℕ) (total info : TextInfo) : Type 0 where
+pub record AddsNode (breaks : LineBreaks) (ts : List Tree) (i : ℕ) (total info : TextInfo) : Type 0 where
   pub small_total : IsSmall total
   pub small_info : IsSmall info
-  pub more : info_of set (joined (take (i + 1) ts)) ≡ info_sum total info
+  pub more : info_of breaks (joined (take (i + 1) ts)) ≡ info_sum total info
 
-pub adds_node : (set : LineBreaks) (h : ℕ) (rcs : List (Rc Node Global)) (i : ℕ) (item : Rc Node Global) (n : Tree) (total info : TextInfo)
-    → AreChildren set h (trees rcs) → i < length rcs → item ≡ get_or rcs i item → n ≡ item.value
-    → total ≡ info_of set (joined (take i (trees rcs))) → info ≡ info_of n.breaks (text n) → AddsNode set (trees rcs) i total info
-adds_node set h rcs i item n total info a lt at is front own =
+pub adds_node : (breaks : LineBreaks) (h : ℕ) (rcs : List (Rc Node Global)) (i : ℕ) (item : Rc Node Global) (n : Tree) (total info : TextInfo)
+    → AreChildren breaks h (trees rcs) → i < length rcs → item ≡ get_or rcs i item → n ≡ item.value
+    → total ≡ info_of breaks (joined (take i (trees rcs))) → info ≡ info_of n.breaks (text n) → AddsNode breaks (trees rcs) i total info
+adds_node breaks h rcs i item n total info a lt at is front own =
     let ts = trees rcs in
     let l : i < length ts = omega (arith, length-map rcs (λ rc. rc.value)) in
     let here : get_or ts i n ≡ n = tree_at rcs i item n lt at is in
-    let child = child_at set h ts i n a l here in
-    let counts : info ≡ info_of set (text n) = own ∙ ap (λ b. info_of b (text n)) child.same_breaks in
+    let child = child_at breaks h ts i n a l here in
+    let counts : info ≡ info_of breaks (text n) = own ∙ ap (λ b. info_of b (text n)) child.same_breaks in
     record {
-      small_total = rw front (small_info set (joined (take i ts)) (omega (arith, byte_len-joined ts i, a.fits)));
-      small_info = rw counts (small_info set (text n) child.tree.fits);
-      more = more_at set h ts i n a l here ∙ (rw (front, counts) refl);
+      small_total = rw front (small_info breaks (joined (take i ts)) (omega (arith, byte_len-joined ts i, a.fits)));
+      small_info = rw counts (small_info breaks (text n) child.tree.fits);
+      more = more_at breaks h ts i n a l here ∙ (rw (front, counts) refl);
     }

@@ -37,7 +37,7 @@ pub record GoesDown (height low : ℕ) (old new : Steps) : Type 0 where
   pub counted : old.compares + height ≤ new.compares + low
   pub made : new.made ≡ old.made
 
-pub at_start : (unit : Unit) (at : ℕ) (t : Tree) (before : TextInfo) → ((set : LineBreaks) → before ≡ info_of set []) → at < count_of unit (info_of t.breaks (text t))
+pub at_start : (unit : Unit) (at : ℕ) (t : Tree) (before : TextInfo) → ((breaks : LineBreaks) → before ≡ info_of breaks []) → at < count_of unit (info_of t.breaks (text t))
     → IsOnWay unit at t t at before
 at_start unit at t before none lt = record {
   left = [];

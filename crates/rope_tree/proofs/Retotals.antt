@@ -15,5 +15,5 @@ traded a m x old new front is =
     let bytes : x.bytes + old.bytes ≡ a.bytes + new.bytes = omega (arith, ap (λ i. i.bytes) front, ap (λ i. i.bytes) is) in
     let chars : x.chars + old.chars ≡ a.chars + new.chars = omega (arith, ap (λ i. i.chars) front, ap (λ i. i.chars) is) in
     let pairs : x.utf16_surrogates + old.utf16_surrogates ≡ a.utf16_surrogates + new.utf16_surrogates = omega (arith, ap (λ i. i.utf16_surrogates) front, ap (λ i. i.utf16_surrogates) is) in
-    let breaks : x.line_breaks + old.line_breaks ≡ a.line_breaks + new.line_breaks = omega (arith, ap (λ i. i.line_breaks) front, ap (λ i. i.line_breaks) is) in
+    let breaks : x.break_count + old.break_count ≡ a.break_count + new.break_count = omega (arith, ap (λ i. i.break_count) front, ap (λ i. i.break_count) is) in
     cc

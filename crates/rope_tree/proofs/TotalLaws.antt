@@ -11,16 +11,16 @@ use Rattle.rope_tree.specs.Listed.{HasTotals}
 use Rattle.rope_tree.proofs.NodeLaws.{more_at}
 
 -- four equal counts
-same_counts : (a b : TextInfo) → a.bytes ≡ b.bytes → a.chars ≡ b.chars → a.utf16_surrogates ≡ b.utf16_surrogates → a.line_breaks ≡ b.line_breaks → a ≡ b
+same_counts : (a b : TextInfo) → a.bytes ≡ b.bytes → a.chars ≡ b.chars → a.utf16_surrogates ≡ b.utf16_surrogates → a.break_count ≡ b.break_count → a ≡ b
 same_counts a b bytes chars pairs breaks =
-    let same : ◌≡◌ {A = TextInfo} (record { bytes = a.bytes; chars = a.chars; utf16_surrogates = a.utf16_surrogates; line_breaks = a.line_breaks })
-    (record { bytes = b.bytes; chars = b.chars; utf16_surrogates = b.utf16_surrogates; line_breaks = b.line_breaks }) = cc in
+    let same : ◌≡◌ {A = TextInfo} (record { bytes = a.bytes; chars = a.chars; utf16_surrogates = a.utf16_surrogates; break_count = a.break_count })
+    (record { bytes = b.bytes; chars = b.chars; utf16_surrogates = b.utf16_surrogates; break_count = b.break_count }) = cc in
     same
 
 sums_more : (x y i j n : TextInfo) → info_sum x i ≡ info_sum y j → info_sum (info_sum x n) i ≡ info_sum (info_sum y n) j
 sums_more x y i j n e =
     same_counts (info_sum (info_sum x n) i) (info_sum (info_sum y n) j)
-    (omega (arith, ap (λ t. t.bytes) e)) (omega (arith, ap (λ t. t.chars) e)) (omega (arith, ap (λ t. t.utf16_surrogates) e)) (omega (arith, ap (λ t. t.line_breaks) e))
+    (omega (arith, ap (λ t. t.bytes) e)) (omega (arith, ap (λ t. t.chars) e)) (omega (arith, ap (λ t. t.utf16_surrogates) e)) (omega (arith, ap (λ t. t.break_count) e))
 
 sums_turned : (x i j : TextInfo) → info_sum (info_sum x j) i ≡ info_sum (info_sum x i) j
 sums_turned x i j =
@@ -28,13 +28,13 @@ sums_turned x i j =
 
 sums_cancel : (x y i : TextInfo) → info_sum x i ≡ info_sum y i → x ≡ y
 sums_cancel x y i e =
-    same_counts x y (omega (arith, ap (λ t. t.bytes) e)) (omega (arith, ap (λ t. t.chars) e)) (omega (arith, ap (λ t. t.utf16_surrogates) e)) (omega (arith, ap (λ t. t.line_breaks) e))
+    same_counts x y (omega (arith, ap (λ t. t.bytes) e)) (omega (arith, ap (λ t. t.chars) e)) (omega (arith, ap (λ t. t.utf16_surrogates) e)) (omega (arith, ap (λ t. t.break_count) e))
 
 part_last : (x i : TextInfo) → HasPart (info_sum x i) i
-part_last x i = record { bytes = omega arith; chars = omega arith; surrogates = omega arith; breaks = omega arith }
+part_last x i = record { bytes = omega arith; chars = omega arith; surrogates = omega arith; count = omega arith }
 
 part_more : (x i n : TextInfo) → HasPart x i → HasPart (info_sum x n) i
-part_more x i n p = record { bytes = omega (arith, p.bytes); chars = omega (arith, p.chars); surrogates = omega (arith, p.surrogates); breaks = omega (arith, p.breaks) }
+part_more x i n p = record { bytes = omega (arith, p.bytes); chars = omega (arith, p.chars); surrogates = omega (arith, p.surrogates); count = omega (arith, p.count) }
 
 get_or_self : (xs : List Tree) (m : ℕ) (d : Tree) → m < length xs → get_or xs m (get_or xs m d) ≡ get_or xs m d
 get_or_self xs m d within = get_or_default xs m (get_or xs m d) d within

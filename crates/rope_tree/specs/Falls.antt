@@ -19,11 +19,11 @@ pub deep_le_tallest : (rcs : List (Rc Node Global)) → max (most (λ (rc : Rc N
 deep_le_tallest [] = omega arith
 deep_le_tallest (rc ∷ rcs) = omega (arith, deep_le_tallest rcs)
 
-pub tallest_below : (set : LineBreaks) (h : ℕ) (ts : List Tree) → All (IsChild set h) ts → tallest ts ≤ h + h + 1
-tallest_below set h [] each = omega arith
-tallest_below set h (t ∷ ts) each =
-    omega (arith, (All-head (IsChild set h) t ts each).at_height, tallest_below set h ts (All-tail (IsChild set h) t ts each))
+pub tallest_below : (breaks : LineBreaks) (h : ℕ) (ts : List Tree) → All (IsChild breaks h) ts → tallest ts ≤ h + h + 1
+tallest_below breaks h [] each = omega arith
+tallest_below breaks h (t ∷ ts) each =
+    omega (arith, (All-head (IsChild breaks h) t ts each).at_height, tallest_below breaks h ts (All-tail (IsChild breaks h) t ts each))
 
-pub deep_le_height : (set : LineBreaks) (h : ℕ) (b : Body) → IsBody set h b → max (deep-Body b) 0 ≤ h + h
-deep_le_height set h (Leaf n l) i = omega arith
-deep_le_height set h (Inner c) i = omega (arith, i.0, tallest_below set (h - 1) c i.1.each)
+pub deep_le_height : (breaks : LineBreaks) (h : ℕ) (b : Body) → IsBody breaks h b → max (deep-Body b) 0 ≤ h + h
+deep_le_height breaks h (Leaf n l) i = omega arith
+deep_le_height breaks h (Inner c) i = omega (arith, i.0, tallest_below breaks (h - 1) c i.1.each)

@@ -24,4 +24,4 @@ pub record IsChunkAt (t : Tree) (k : ℕ) (leaf : List ℕ) (before : TextInfo) 
   pub bytes : before.bytes ≡ (found_chunk t.breaks t.leaves k).bytes
   pub chars : before.chars ≡ (found_chunk t.breaks t.leaves k).chars
   pub surrogates : before.utf16_surrogates ≡ surrogate_count (front_chunks t.leaves k)
-  pub breaks : before.line_breaks ≡ (found_chunk t.breaks t.leaves k).breaks
+  pub count : before.break_count ≡ (found_chunk t.breaks t.leaves k).break_count

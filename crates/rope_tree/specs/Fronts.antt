@@ -15,8 +15,8 @@ pub record AreFronts (text : List ℕ) (leaves : List (List ℕ)) (rest : List �
   pub apart : IsSeam (concat leaves) rest
 
 -- leaf nodes side by side, and the rest of the text
-pub record AreFrontNodes (set : LineBreaks) (text : List ℕ) (ts : List Tree) (rest : List ℕ) : Type 0 where
-  pub each : All (IsChild set 0) ts
+pub record AreFrontNodes (breaks : LineBreaks) (text : List ℕ) (ts : List Tree) (rest : List ℕ) : Type 0 where
+  pub each : All (IsChild breaks 0) ts
   pub fronts : AreFronts text (leaves_of ts) rest
 
 -- the text passed in so far, and the set of line breaks of the tree to come

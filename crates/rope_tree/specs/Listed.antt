@@ -19,9 +19,9 @@ tallest [] = 0
 tallest (t ∷ ts) = max (t.height + t.height + 1) (tallest ts)
 
 -- each total has the counts of the text up to the end of its child
-pub record HasTotals (set : LineBreaks) (totals : List TextInfo) (ts : List Tree) : Type 0 where
+pub record HasTotals (breaks : LineBreaks) (totals : List TextInfo) (ts : List Tree) : Type 0 where
   pub as_many : length totals ≡ length ts
-  pub total_at : (k : ℕ) (d : TextInfo) → k < length ts → slice_index_or totals k d ≡ info_of set (joined (take (k + 1) ts))
+  pub total_at : (k : ℕ) (d : TextInfo) → k < length ts → slice_index_or totals k d ≡ info_of breaks (joined (take (k + 1) ts))
 
 abbrev pub IsListed : Inside → Type 0
 IsListed a = HasTotals (breaks_of (trees a.nodes.items)) a.totals.items (trees a.nodes.items)

@@ -9,18 +9,18 @@ abbrev pub count_of : Unit → TextInfo → ℕ
 count_of Byte info = info.bytes
 count_of Char info = info.chars
 count_of CodeUnit info = info.chars + info.utf16_surrogates
-count_of LineBreak info = info.line_breaks
+count_of LineBreak info = info.break_count
 
 -- the counts are in the bounds that the counts of a rope's text keep
 pub record IsSmall (info : TextInfo) : Type 0 where
   pub bytes : info.bytes < 2 ^ 63
   pub chars : info.chars ≤ info.bytes
   pub surrogates : info.utf16_surrogates ≤ info.chars
-  pub breaks : info.line_breaks ≤ info.chars
+  pub count : info.break_count ≤ info.chars
 
 -- the part is in the total, count by count
 pub record HasPart (total part : TextInfo) : Type 0 where
   pub bytes : part.bytes ≤ total.bytes
   pub chars : part.chars ≤ total.chars
   pub surrogates : part.utf16_surrogates ≤ total.utf16_surrogates
-  pub breaks : part.line_breaks ≤ total.line_breaks
+  pub count : part.break_count ≤ total.break_count

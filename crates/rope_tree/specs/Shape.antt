@@ -22,8 +22,8 @@ tree_of a = record { breaks = a.breaks; leaves = body_leaves a.body; height = a.
 
 -- a leaf's text with its counts, or children of one set of line breaks one level lower
 abbrev pub IsBody : LineBreaks → ℕ → Body → Type 0
-IsBody set h (Leaf i l) = (h ≡ 0) × (byte_len l ≤ 984) × (all_scalars l ≡ true) × (i ≡ info_of set l)
-IsBody set h (Inner c) = (1 ≤ h) × AreChildren set (h - 1) c
+IsBody breaks h (Leaf i l) = (h ≡ 0) × (byte_len l ≤ 984) × (all_scalars l ≡ true) × (i ≡ info_of breaks l)
+IsBody breaks h (Inner c) = (1 ≤ h) × AreChildren breaks (h - 1) c
 
 pub record IsNode (a : Inside) : Type 0 where
   pub body : IsBody a.breaks a.height a.body

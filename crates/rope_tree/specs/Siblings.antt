@@ -7,15 +7,15 @@ use Rattle.rope_tree.specs.Leaves.{AreLeaves}
 use Rattle.rope_tree.specs.Tree.{Tree, joined, leaves_of, IsWide, IsChild}
 
 -- trees of height h side by side, of one set of line breaks
-pub record AreSiblings (set : LineBreaks) (h : ℕ) (ts : List Tree) : Type 0 where
-  pub each : All (IsChild set h) ts
+pub record AreSiblings (breaks : LineBreaks) (h : ℕ) (ts : List Tree) : Type 0 where
+  pub each : All (IsChild breaks h) ts
   pub leaves : AreLeaves (leaves_of ts)
   pub fits : byte_len (joined ts) < 2 ^ 63
 
 -- one tree or two of height h, whose roots have at least 12 children, or `least` where that is fewer; there are two only where more than 24 children were there, of at most `most`
-pub record AreParts (set : LineBreaks) (least most h : ℕ) (ts : List Tree) : Type 0 where
+pub record AreParts (breaks : LineBreaks) (least most h : ℕ) (ts : List Tree) : Type 0 where
   pub some : 1 ≤ length ts
   pub at_most_two : length ts ≤ 2
-  pub each : All (IsWide set (min 12 least) h) ts
-  pub two : length ts ≡ 2 → All (IsChild set h) ts
+  pub each : All (IsWide breaks (min 12 least) h) ts
+  pub two : length ts ≡ 2 → All (IsChild breaks h) ts
   pub full : length ts ≡ 2 → 1 ≤ h → 24 < most

@@ -41,7 +41,7 @@ one_leaf (c ∷ cs) = (c ∷ cs) ∷ []
 
 -- the tree that is a leaf
 abbrev pub leaf_tree : LineBreaks → List ℕ → Tree
-leaf_tree set leaf = record { breaks = set; leaves = one_leaf leaf; height = 0; width = 0 }
+leaf_tree breaks leaf = record { breaks = breaks; leaves = one_leaf leaf; height = 0; width = 0 }
 
 -- the tree with these children
 abbrev pub tree_over : List Tree → Tree
@@ -58,8 +58,8 @@ pub record IsTree (t : Tree) : Type 0 where
   pub fits : byte_len (concat t.leaves) < 2 ^ 63
 
 -- a tree of height h with this set of line breaks that is not empty and whose root, unless it is a leaf, has at least w children
-pub record IsWide (set : LineBreaks) (w h : ℕ) (t : Tree) : Type 0 where
-  pub same_breaks : t.breaks ≡ set
+pub record IsWide (breaks : LineBreaks) (w h : ℕ) (t : Tree) : Type 0 where
+  pub same_breaks : t.breaks ≡ breaks
   pub at_height : t.height ≡ h
   pub wide : 1 ≤ h → w ≤ t.width
   pub some : 1 ≤ length t.leaves
@@ -67,12 +67,12 @@ pub record IsWide (set : LineBreaks) (w h : ℕ) (t : Tree) : Type 0 where
 
 -- what may stand below another node, at height h
 abbrev pub IsChild : LineBreaks → ℕ → Tree → Type 0
-IsChild set h t = IsWide set 12 h t
+IsChild breaks h t = IsWide breaks 12 h t
 
 -- the children of a node at height h + 1
-pub record AreChildren (set : LineBreaks) (h : ℕ) (ts : List Tree) : Type 0 where
+pub record AreChildren (breaks : LineBreaks) (h : ℕ) (ts : List Tree) : Type 0 where
   pub at_least_two : 2 ≤ length ts
   pub at_most_24 : length ts ≤ 24
-  pub each : All (IsChild set h) ts
+  pub each : All (IsChild breaks h) ts
   pub leaves : AreLeaves (leaves_of ts)
   pub fits : byte_len (joined ts) < 2 ^ 63

@@ -70,7 +70,7 @@ pub fn chunk_at_line_break(node: &Node, line_break_idx: usize) -> Found<'_>
     if line_break_idx == 0 {
         return leaf_at(node, Unit::Char, 0, &mut Steps::new());
     }
-    if line_break_idx > info.line_breaks {
+    if line_break_idx > info.break_count {
         return leaf_at(node, Unit::Char, info.chars - 1, &mut Steps::new());
     }
     leaf_at(node, Unit::LineBreak, line_break_idx - 1, &mut Steps::new())

@@ -42,12 +42,12 @@ pub fn byte_to_line(node: &Node, byte_idx: usize, steps: &mut Steps) -> usize
     let _ = node.height();
     let info = node.info();
     if byte_idx == info.bytes {
-        return info.line_breaks;
+        return info.break_count;
     }
     let found = leaf_at(node, Unit::Byte, byte_idx, steps);
     let leaf = found.leaf.as_str();
     let at = byte_idx - found.before.bytes;
-    found.before.line_breaks + str_utils::byte_to_line_with(leaf, at, node.line_breaks())
+    found.before.break_count + str_utils::byte_to_line_with(leaf, at, node.line_breaks())
 }
 
 /// The byte at which a character starts; at the end of the text its length.
@@ -81,12 +81,12 @@ pub fn char_to_line(node: &Node, char_idx: usize, steps: &mut Steps) -> usize
     let _ = node.height();
     let info = node.info();
     if char_idx == info.chars {
-        return info.line_breaks;
+        return info.break_count;
     }
     let found = leaf_at(node, Unit::Char, char_idx, steps);
     let leaf = found.leaf.as_str();
     let at = char_idx - found.before.chars;
-    found.before.line_breaks + str_utils::char_to_line_with(leaf, at, node.line_breaks())
+    found.before.break_count + str_utils::char_to_line_with(leaf, at, node.line_breaks())
 }
 
 /// The code unit at which a character starts; at the end of the text its length in code units.
@@ -144,12 +144,12 @@ pub fn line_to_char(node: &Node, line_idx: usize, steps: &mut Steps) -> usize
     if line_idx == 0 {
         return 0;
     }
-    if line_idx > info.line_breaks {
+    if line_idx > info.break_count {
         return info.chars;
     }
     let found = leaf_at(node, Unit::LineBreak, line_idx - 1, steps);
     let leaf = found.leaf.as_str();
-    let line = line_idx - found.before.line_breaks;
+    let line = line_idx - found.before.break_count;
     found.before.chars + str_utils::line_to_char_with(leaf, line, node.line_breaks())
 }
 
@@ -168,11 +168,11 @@ pub fn line_to_byte(node: &Node, line_idx: usize, steps: &mut Steps) -> usize
     if line_idx == 0 {
         return 0;
     }
-    if line_idx > info.line_breaks {
+    if line_idx > info.break_count {
         return info.bytes;
     }
     let found = leaf_at(node, Unit::LineBreak, line_idx - 1, steps);
     let leaf = found.leaf.as_str();
-    let line = line_idx - found.before.line_breaks;
+    let line = line_idx - found.before.break_count;
     found.before.bytes + str_utils::line_to_byte_with(leaf, line, node.line_breaks())
 }

@@ -28,10 +28,10 @@ fn begins_with_lf(text: &str) -> bool
 }
 
 /// How many breaks two texts have less where they are joined: one where a CR that is a break meets an LF.
-fn shared_breaks(first: &str, second: &str, set: LineBreaks) -> usize
-    ensures { result ≡ shared_breaks set (chars first.now) (chars second.now) }
+fn shared_breaks(first: &str, second: &str, breaks: LineBreaks) -> usize
+    ensures { result ≡ shared_breaks breaks (chars first.now) (chars second.now) }
 {
-    if ends_in_cr(first) && begins_with_lf(second) && set.is_break('\r') {
+    if ends_in_cr(first) && begins_with_lf(second) && breaks.is_break('\r') {
         1
     } else {
         0
@@ -40,18 +40,18 @@ fn shared_breaks(first: &str, second: &str, set: LineBreaks) -> usize
 
 /// The counts of a text with another between its front and its back, by the counts of the whole: only the new text is gone
 /// over, and the ends.
-fn info_between(info: TextInfo, front: &str, added: &str, back: &str, set: LineBreaks) -> TextInfo
-    requires info { info ≡ info_of set (chars front.now ++ chars back.now) }
+fn info_between(info: TextInfo, front: &str, added: &str, back: &str, breaks: LineBreaks) -> TextInfo
+    requires info { info ≡ info_of breaks (chars front.now ++ chars back.now) }
     requires fits { info.bytes ≤ 984 }
     requires short { length added.now ≤ 984 }
     requires some { 1 ≤ length (chars added.now) }
-    ensures { result ≡ info_of set (chars front.now ++ (chars added.now ++ chars back.now)) }
+    ensures { result ≡ info_of breaks (chars front.now ++ (chars added.now ++ chars back.now)) }
 {
-    let more = info.plus(TextInfo::from_str(added, set));
-    let apart = shared_breaks(front, back, set);
-    let met = shared_breaks(front, added, set) + shared_breaks(added, back, set);
+    let more = info.plus(TextInfo::from_str(added, breaks));
+    let apart = shared_breaks(front, back, breaks);
+    let met = shared_breaks(front, added, breaks) + shared_breaks(added, back, breaks);
     TextInfo {
-        line_breaks: more.line_breaks + apart - met,
+        break_count: more.break_count + apart - met,
         ..more
     }
 }
@@ -62,15 +62,15 @@ pub fn info_with(
     leaf: &NodeText,
     at: usize,
     added: &ShortText<'_>,
-    set: LineBreaks,
+    breaks: LineBreaks,
 ) -> TextInfo
-    requires info { info ≡ info_of set leaf.now }
+    requires info { info ≡ info_of breaks leaf.now }
     requires some { 1 ≤ length added.now }
-    ensures { result ≡ info_of set (inserted leaf.now at added.now) }
+    ensures { result ≡ info_of breaks (inserted leaf.now at added.now) }
 {
     let text = leaf.as_str();
     let place = char_to_byte_idx(text, at);
-    info_between(info, &text[..place], added.as_str(), &text[place..], set)
+    info_between(info, &text[..place], added.as_str(), &text[place..], breaks)
 }
 
 /// Puts a text before the character `at` of a leaf that has room for it, and gives the counts of the whole, by those of what
@@ -80,38 +80,38 @@ pub fn put_in(
     at: usize,
     added: &ShortText<'_>,
     info: TextInfo,
-    set: LineBreaks,
+    breaks: LineBreaks,
 ) -> TextInfo
-    requires info { info ≡ info_of set leaf.old }
+    requires info { info ≡ info_of breaks leaf.old }
     requires some { 1 ≤ length added.now }
     requires fits { byte_len leaf.old + byte_len added.now ≤ 984 }
     ensures text { leaf.new ≡ inserted leaf.old at added.now }
-    ensures info { result ≡ info_of set (inserted leaf.old at added.now) }
+    ensures info { result ≡ info_of breaks (inserted leaf.old at added.now) }
 {
     let text = leaf.as_str();
     let place = char_to_byte_idx(text, at);
     let added = added.as_str();
-    let info = info_between(info, &text[..place], added, &text[place..], set);
+    let info = info_between(info, &text[..place], added, &text[place..], breaks);
     leaf.insert_bytes(place, added);
     info
 }
 
 /// The counts of a text without the part between its front and its back, by the counts of the whole: only the part is gone
 /// over, and the ends.
-fn info_without(info: TextInfo, front: &str, part: &str, back: &str, set: LineBreaks) -> TextInfo
-    requires info { info ≡ info_of set (chars front.now ++ (chars part.now ++ chars back.now)) }
+fn info_without(info: TextInfo, front: &str, part: &str, back: &str, breaks: LineBreaks) -> TextInfo
+    requires info { info ≡ info_of breaks (chars front.now ++ (chars part.now ++ chars back.now)) }
     requires fits { info.bytes ≤ 984 }
     requires some { 1 ≤ length (chars part.now) }
-    ensures { result ≡ info_of set (chars front.now ++ chars back.now) }
+    ensures { result ≡ info_of breaks (chars front.now ++ chars back.now) }
 {
-    let less = TextInfo::from_str(part, set);
-    let met = shared_breaks(front, part, set) + shared_breaks(part, back, set);
-    let meeting = shared_breaks(front, back, set);
+    let less = TextInfo::from_str(part, breaks);
+    let met = shared_breaks(front, part, breaks) + shared_breaks(part, back, breaks);
+    let meeting = shared_breaks(front, back, breaks);
     TextInfo {
         bytes: info.bytes - less.bytes,
         chars: info.chars - less.chars,
         utf16_surrogates: info.utf16_surrogates - less.utf16_surrogates,
-        line_breaks: info.line_breaks + met - less.line_breaks - meeting,
+        break_count: info.break_count + met - less.break_count - meeting,
     }
 }
 
@@ -136,13 +136,13 @@ pub fn take_out(
     start: usize,
     end: usize,
     info: TextInfo,
-    set: LineBreaks,
+    breaks: LineBreaks,
 ) -> Option<TextInfo>
-    requires info { info ≡ info_of set leaf.old }
+    requires info { info ≡ info_of breaks leaf.old }
     requires ordered { start < end }
     requires within { end ≤ length leaf.old }
     ensures text { IfSome result (λ _. leaf.new ≡ removed leaf.old start end) }
-    ensures info { IfSome result (λ left. left ≡ info_of set (removed leaf.old start end)) }
+    ensures info { IfSome result (λ left. left ≡ info_of breaks (removed leaf.old start end)) }
     ensures some { IfSome result (λ _. 1 ≤ length (removed leaf.old start end)) }
     ensures ends { IfSome result (λ _. KeepsEnds leaf.old (removed leaf.old start end)) }
     ensures kept { IfNone result (leaf.new ≡ leaf.old) }
@@ -155,7 +155,7 @@ pub fn take_out(
     if bares_an_end(front, back) {
         return None;
     }
-    let info = info_without(info, front, part, back, set);
+    let info = info_without(info, front, part, back, breaks);
     leaf.remove_bytes(range);
     Some(info)
 }

@@ -9,7 +9,7 @@ use std::marker::Model;
 pub(crate) struct LeafInfo {
     chars: u16,
     utf16_surrogates: u16,
-    line_breaks: u16,
+    break_count: u16,
     bytes: u16,
 }
 
@@ -18,9 +18,9 @@ impl Model for LeafInfo {
 
     ghost Value = { TextInfo };
 
-    ghost view = { λ a. record { chars = a.chars; utf16_surrogates = a.utf16_surrogates; line_breaks = a.line_breaks; bytes = a.bytes } };
+    ghost view = { λ a. record { chars = a.chars; utf16_surrogates = a.utf16_surrogates; break_count = a.break_count; bytes = a.bytes } };
 
-    ghost inverse = { λ i. record { chars = i.chars; utf16_surrogates = i.utf16_surrogates; line_breaks = i.line_breaks; bytes = i.bytes } };
+    ghost inverse = { λ i. record { chars = i.chars; utf16_surrogates = i.utf16_surrogates; break_count = i.break_count; bytes = i.bytes } };
 }
 
 impl LeafInfo {
@@ -28,14 +28,14 @@ impl LeafInfo {
     pub(crate) fn new(info: TextInfo) -> LeafInfo
         requires chars { info.chars ≤ 984 }
         requires surrogates { info.utf16_surrogates ≤ 984 }
-        requires breaks { info.line_breaks ≤ 984 }
+        requires break_count { info.break_count ≤ 984 }
         requires bytes { info.bytes ≤ 984 }
         ensures { result ≡ info }
     {
         LeafInfo {
             chars: info.chars as u16,
             utf16_surrogates: info.utf16_surrogates as u16,
-            line_breaks: info.line_breaks as u16,
+            break_count: info.break_count as u16,
             bytes: info.bytes as u16,
         }
     }
@@ -47,7 +47,7 @@ impl LeafInfo {
         TextInfo {
             chars: usize::from(self.chars),
             utf16_surrogates: usize::from(self.utf16_surrogates),
-            line_breaks: usize::from(self.line_breaks),
+            break_count: usize::from(self.break_count),
             bytes: usize::from(self.bytes),
         }
     }

@@ -27,7 +27,7 @@ pub struct Found<'a> {
 #[inline(always)]
 pub fn total_before(totals: &[TextInfo], place: usize) -> TextInfo
     requires { place ≤ length totals.now }
-    ensures first { place ≡ 0 → (set : LineBreaks) → result ≡ info_of set [] }
+    ensures first { place ≡ 0 → (breaks : LineBreaks) → result ≡ info_of breaks [] }
     ensures later { (d : TextInfo) → 0 < place → result ≡ slice_index_or totals.now (place - 1) d }
 {
     if place == 0 {

@@ -25,7 +25,7 @@ pub fn count(info: TextInfo, unit: Unit) -> usize
         Unit::Byte => info.bytes,
         Unit::Char => info.chars,
         Unit::CodeUnit => info.chars + info.utf16_surrogates,
-        Unit::LineBreak => info.line_breaks,
+        Unit::LineBreak => info.break_count,
     }
 }
 

@@ -24,9 +24,9 @@ inserted_none text i new none =
     sym (take-append-drop i text) ∙ ap (λ t. t ++ drop i text) (sym (append-nil (take i text))) ∙ ap (λ n. (take i text ++ n) ++ drop i text) (sym none)
 
 -- an append that nothing refuses but memory
-pub append_error-none : (set other : LineBreaks) (text new : List ℕ) → other ≡ set → byte_len text + byte_len new < 2 ^ 63 → append_error set other text new ≡ None
-append_error-none set other text new same fits =
-    let one : same_breaks set other ≡ true = ap (same_breaks set) same ∙ reflexive set in
+pub append_error-none : (breaks other : LineBreaks) (text new : List ℕ) → other ≡ breaks → byte_len text + byte_len new < 2 ^ 63 → append_error breaks other text new ≡ None
+append_error-none breaks other text new same fits =
+    let one : same_breaks breaks other ≡ true = ap (same_breaks breaks) same ∙ reflexive breaks in
     ap (λ o. or_else o (size_error (byte_len text + byte_len new))) (cond-true _ _ _ one) ∙ cond-true _ _ _ (lt-ltb (byte_len text + byte_len new) (2 ^ 63) fits)
   where
     reflexive : (br : LineBreaks) → same_breaks br br ≡ true

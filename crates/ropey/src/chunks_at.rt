@@ -18,14 +18,14 @@ fn chunk_and_counts(found: Found<'_>) -> (&str, usize, usize, usize)
     ensures text { chars result.0.now ≡ found.entry.leaf.now }
     ensures bytes { result.1 ≡ found.entry.before.bytes }
     ensures chars { result.2 ≡ found.entry.before.chars }
-    ensures breaks { result.3 ≡ found.entry.before.line_breaks }
+    ensures breaks { result.3 ≡ found.entry.before.break_count }
 {
     let before = found.before;
     (
         found.leaf.as_str(),
         before.bytes,
         before.chars,
-        before.line_breaks,
+        before.break_count,
     )
 }
 

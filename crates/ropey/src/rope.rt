@@ -173,7 +173,7 @@ impl Rope {
     pub fn len_lines(&self) -> usize
         ensures { result ≡ line_count self.now.breaks self.now.text }
     {
-        self.root.info().line_breaks + 1
+        self.root.info().break_count + 1
     }
 
     /// The length in UTF-16 code units. Takes constant time and no memory.

@@ -37,9 +37,9 @@ pub plus-requires-clause-utf16_surrogates : goal.plus-requires-clause-utf16_surr
 plus-requires-clause-utf16_surrogates c =
     (small c.args.stretch.now c.args.from c.args.to (kept c.args.stretch.now c.args.from c.args.to c.requires.from_is c.requires.to_is c.requires.some c.requires.within c.requires.apart) c.height.ensures.tree.fits).0.utf16_surrogates
 
-pub plus-requires-clause-line_breaks : goal.plus-requires-clause-line_breaks
-plus-requires-clause-line_breaks c =
-    (small c.args.stretch.now c.args.from c.args.to (kept c.args.stretch.now c.args.from c.args.to c.requires.from_is c.requires.to_is c.requires.some c.requires.within c.requires.apart) c.height.ensures.tree.fits).0.line_breaks
+pub plus-requires-clause-break_count : goal.plus-requires-clause-break_count
+plus-requires-clause-break_count c =
+    (small c.args.stretch.now c.args.from c.args.to (kept c.args.stretch.now c.args.from c.args.to c.requires.from_is c.requires.to_is c.requires.some c.requires.within c.requires.apart) c.height.ensures.tree.fits).0.break_count
 
 pub plus-requires-2-clause-bytes : goal.plus-requires-2-clause-bytes
 plus-requires-2-clause-bytes c =
@@ -53,9 +53,9 @@ pub plus-requires-2-clause-utf16_surrogates : goal.plus-requires-2-clause-utf16_
 plus-requires-2-clause-utf16_surrogates c =
     (small c.args.stretch.now c.args.from c.args.to (kept c.args.stretch.now c.args.from c.args.to c.requires.from_is c.requires.to_is c.requires.some c.requires.within c.requires.apart) c.height.ensures.tree.fits).1.utf16_surrogates
 
-pub plus-requires-2-clause-line_breaks : goal.plus-requires-2-clause-line_breaks
-plus-requires-2-clause-line_breaks c =
-    (small c.args.stretch.now c.args.from c.args.to (kept c.args.stretch.now c.args.from c.args.to c.requires.from_is c.requires.to_is c.requires.some c.requires.within c.requires.apart) c.height.ensures.tree.fits).1.line_breaks
+pub plus-requires-2-clause-break_count : goal.plus-requires-2-clause-break_count
+plus-requires-2-clause-break_count c =
+    (small c.args.stretch.now c.args.from c.args.to (kept c.args.stretch.now c.args.from c.args.to c.requires.from_is c.requires.to_is c.requires.some c.requires.within c.requires.apart) c.height.ensures.tree.fits).1.break_count
 
 pub invariant_of-result : goal.invariant_of-result
 invariant_of-result c =

@@ -19,8 +19,8 @@ minus-info-requires-clause-bytes c = let e = between_sum c.args.plain.now.breaks
 pub minus-info-requires-clause-utf16_surrogates : goal.minus-info-requires-clause-utf16_surrogates
 minus-info-requires-clause-utf16_surrogates c = let e = between_sum c.args.plain.now.breaks (text_of c.args.plain.now) c.args.from c.args.to c.requires.from_is c.requires.to_is c.requires.ordered c.requires.apart in omega (arith, ap (λ x. x.utf16_surrogates) e)
 
-pub minus-info-requires-clause-line_breaks : goal.minus-info-requires-clause-line_breaks
-minus-info-requires-clause-line_breaks c = let e = between_sum c.args.plain.now.breaks (text_of c.args.plain.now) c.args.from c.args.to c.requires.from_is c.requires.to_is c.requires.ordered c.requires.apart in omega (arith, ap (λ x. x.line_breaks) e)
+pub minus-info-requires-clause-break_count : goal.minus-info-requires-clause-break_count
+minus-info-requires-clause-break_count c = let e = between_sum c.args.plain.now.breaks (text_of c.args.plain.now) c.args.from c.args.to c.requires.from_is c.requires.to_is c.requires.ordered c.requires.apart in omega (arith, ap (λ x. x.break_count) e)
 
 pub text_after-rest-requires : goal.text_after-rest-requires
 text_after-rest-requires c =
@@ -39,7 +39,7 @@ part_is text rest front part b n i j ordered within place size same cut short =
 
 -- the counts of the part
 size_is : (from to info : TextInfo) (part : LineBreaks) (text : List ℕ) → to ≡ info_sum from (info_of part text) → info_sum from info ≡ to → info.bytes ≡ byte_len text
-size_is from to info set text whole sum = omega (arith, ap (λ x. x.bytes) whole, ap (λ x. x.bytes) sum)
+size_is from to info breaks text whole sum = omega (arith, ap (λ x. x.bytes) whole, ap (λ x. x.bytes) sum)
 
 pub text_before-requires : goal.text_before-requires
 text_before-requires c =
@@ -62,12 +62,12 @@ pub invariant_of-result : goal.invariant_of-result
 invariant_of-result c =
     let t = text_of c.args.plain.now in
     let i = c.args.from.chars in
-    let set = c.args.plain.now.breaks in
+    let breaks = c.args.plain.now.breaks in
     let part = part_is t (chars c.text_after-rest.result.now) (chars c.as_str.result.now) (chars c.text_before.result.now) c.args.from.bytes c.minus-info.result.bytes i c.args.to.chars
     c.requires.ordered c.requires.within (ap (λ x. x.bytes) c.requires.from_is)
-    (size_is c.args.from c.args.to c.minus-info.result set (slice_range t i c.args.to.chars) (between_sum c.args.plain.now.breaks (text_of c.args.plain.now) c.args.from c.args.to c.requires.from_is c.requires.to_is c.requires.ordered c.requires.apart) c.minus-info.ensures.sum)
+    (size_is c.args.from c.args.to c.minus-info.result breaks (slice_range t i c.args.to.chars) (between_sum c.args.plain.now.breaks (text_of c.args.plain.now) c.args.from c.args.to c.requires.from_is c.requires.to_is c.requires.ordered c.requires.apart) c.minus-info.ensures.sum)
     c.as_str.ensures c.text_after-rest.ensures c.text_before.ensures in
-    let counts = c.minus-info.ensures.rest set (take i t) (slice_range t i c.args.to.chars)
-    (c.requires.to_is ∙ ap (info_of set) (sym (front_and_part t i c.args.to.chars c.requires.ordered))) c.requires.from_is
+    let counts = c.minus-info.ensures.rest breaks (take i t) (slice_range t i c.args.to.chars)
+    (c.requires.to_is ∙ ap (info_of breaks) (sym (front_and_part t i c.args.to.chars c.requires.ordered))) c.requires.from_is
     (parts_crlf-take (take i t) (drop i t) (c.args.to.chars - i) c.requires.apart) in
-    record { counted = counts ∙ ap (info_of set) (sym part) }
+    record { counted = counts ∙ ap (info_of breaks) (sym part) }

@@ -11,13 +11,13 @@ use Rattle.rope_cursor.proofs.gap.count_last_of_all.Goals as goal
 
 pub text_after-rest-requires : goal.text_after-rest-requires
 text_after-rest-requires c =
-    byte_of_char (chars c.args.text.now) c.line_to_byte_with-start.result (last_start c.args.set (chars c.args.text.now) c.args.skip) (line_start-le-length c.args.set (chars c.args.text.now) (break_count c.args.set (chars c.args.text.now) - c.args.skip))
-    (c.line_to_byte_with-start.ensures.value ∙ ap (λ n. byte_len (take (line_start c.args.set (chars c.args.text.now) n) (chars c.args.text.now))) (c.saturating_sub.ensures ∙ ap (λ n. n - c.args.skip) c.count_breaks-breaks.ensures))
+    byte_of_char (chars c.args.text.now) c.line_to_byte_with-start.result (last_start c.args.breaks (chars c.args.text.now) c.args.skip) (line_start-le-length c.args.breaks (chars c.args.text.now) (break_count c.args.breaks (chars c.args.text.now) - c.args.skip))
+    (c.line_to_byte_with-start.ensures.value ∙ ap (λ n. byte_len (take (line_start c.args.breaks (chars c.args.text.now) n) (chars c.args.text.now))) (c.saturating_sub.ensures ∙ ap (λ n. n - c.args.skip) c.count_breaks-break_count.ensures))
 
 pub returns-clause-counts : goal.returns-clause-counts
 returns-clause-counts c =
     let text = chars c.args.text.now in
     let rest = c.text_after-rest.ensures ∙ ap (λ n. drop n text)
-    (char_at_byte text c.line_to_byte_with-start.result (last_start c.args.set text c.args.skip) (line_start-le-length c.args.set (chars c.args.text.now) (break_count c.args.set (chars c.args.text.now) - c.args.skip))
-    (c.line_to_byte_with-start.ensures.value ∙ ap (λ n. byte_len (take (line_start c.args.set (chars c.args.text.now) n) (chars c.args.text.now))) (c.saturating_sub.ensures ∙ ap (λ n. n - c.args.skip) c.count_breaks-breaks.ensures))) in
-    last_counts c.args.set text (chars c.text_after-rest.result.now) c.args.skip c.count_breaks-breaks.result _ rest c.count_breaks-breaks.ensures c.byte_len_of.ensures c.count_chars.ensures c.count_surrogates.ensures c.min.ensures
+    (char_at_byte text c.line_to_byte_with-start.result (last_start c.args.breaks text c.args.skip) (line_start-le-length c.args.breaks (chars c.args.text.now) (break_count c.args.breaks (chars c.args.text.now) - c.args.skip))
+    (c.line_to_byte_with-start.ensures.value ∙ ap (λ n. byte_len (take (line_start c.args.breaks (chars c.args.text.now) n) (chars c.args.text.now))) (c.saturating_sub.ensures ∙ ap (λ n. n - c.args.skip) c.count_breaks-break_count.ensures))) in
+    last_counts c.args.breaks text (chars c.text_after-rest.result.now) c.args.skip c.count_breaks-break_count.result _ rest c.count_breaks-break_count.ensures c.byte_len_of.ensures c.count_chars.ensures c.count_surrogates.ensures c.min.ensures

@@ -9,14 +9,14 @@ pub returns-then-front-bytes : goal.returns-then-front-bytes
 returns-then-front-bytes c =
     let bytes = c.as_bytes-bytes in
     let scan = c.to_first_break-front in
-    scanned_all c.args.set bytes.result.now scan.result _ bytes.ensures.utf8 scan.ensures.front c.if-front-bytes.true refl refl refl refl
-    ∙ ap (λ bs. info_of c.args.set (first_line c.args.set (chars bs))) bytes.ensures.value
+    scanned_all c.args.breaks bytes.result.now scan.result _ bytes.ensures.utf8 scan.ensures.front c.if-front-bytes.true refl refl refl refl
+    ∙ ap (λ bs. info_of c.args.breaks (first_line c.args.breaks (chars bs))) bytes.ensures.value
 
 pub returns : goal.returns
 returns c =
     let bytes = c.as_bytes-bytes in
     let scan = c.to_first_break-front in
     let inside : scan.result.bytes < length bytes.result.now = omega (arith, scan.ensures.front.within, c.if-front-bytes.false) in
-    scanned_line c.args.set bytes.result.now scan.result _ bytes.ensures.utf8 scan.ensures.front inside (scan.ensures.inside inside)
+    scanned_line c.args.breaks bytes.result.now scan.result _ bytes.ensures.utf8 scan.ensures.front inside (scan.ensures.inside inside)
     (ap (λ n. scan.result.bytes + n) c.width_of.ensures) refl refl refl
-    ∙ ap (λ bs. info_of c.args.set (first_line c.args.set (chars bs))) bytes.ensures.value
+    ∙ ap (λ bs. info_of c.args.breaks (first_line c.args.breaks (chars bs))) bytes.ensures.value

@@ -55,8 +55,8 @@ plus-requires-clause-chars t c = let e = (goal.at.plus-requires-clause-chars t c
 pub plus-requires-clause-utf16_surrogates : goal.plus-requires-clause-utf16_surrogates
 plus-requires-clause-utf16_surrogates t c = let e = (goal.at.plus-requires-clause-utf16_surrogates t c).After-deref in omega (arith, (enters t e).small, (found t e).small)
 
-pub plus-requires-clause-line_breaks : goal.plus-requires-clause-line_breaks
-plus-requires-clause-line_breaks t c = let e = (goal.at.plus-requires-clause-line_breaks t c).After-deref in omega (arith, (enters t e).small, (found t e).small)
+pub plus-requires-clause-break_count : goal.plus-requires-clause-break_count
+plus-requires-clause-break_count t c = let e = (goal.at.plus-requires-clause-break_count t c).After-deref in omega (arith, (enters t e).small, (found t e).small)
 
 pub enter_at-requires : goal.enter_at-requires
 enter_at-requires t c =

@@ -3,7 +3,7 @@ use Rattle.rope_cursor.specs.Scan.{IsFront}
 use Rattle.rope_cursor.proofs.scan.go_by_blocks.Given as goal
 
 abbrev pub invariant-loop-at : goal.invariant-loop-at
-invariant-loop-at l = IsFront l.set l.bytes (record { bytes = l.at; chars = l.chars; pairs = l.pairs })
+invariant-loop-at l = IsFront l.breaks l.bytes (record { bytes = l.at; chars = l.chars; pairs = l.pairs })
 
 abbrev pub decreases-loop-at : goal.decreases-loop-at
 decreases-loop-at l = length l.bytes - l.at

@@ -2,4 +2,4 @@ use Rattle.rope_cursor.specs.Scan.{IsFront}
 use Rattle.rope_cursor.proofs.scan.go_byte_by_byte.Given as goal
 
 abbrev pub invariant-loop-at : goal.invariant-loop-at
-invariant-loop-at l = IsFront l.set l.bytes (record { bytes = l.at; chars = l.chars; pairs = l.pairs })
+invariant-loop-at l = IsFront l.breaks l.bytes (record { bytes = l.at; chars = l.chars; pairs = l.pairs })

@@ -17,8 +17,8 @@ plus-info-requires-clause-chars c = let b = both c in omega (arith, b.0.chars, b
 pub plus-info-requires-clause-utf16_surrogates : goal.plus-info-requires-clause-utf16_surrogates
 plus-info-requires-clause-utf16_surrogates c = let b = both c in omega (arith, b.0.chars, b.0.bytes, b.1.chars, b.1.bytes, b.0.surrogates, b.1.surrogates)
 
-pub plus-info-requires-clause-line_breaks : goal.plus-info-requires-clause-line_breaks
-plus-info-requires-clause-line_breaks c = let b = both c in omega (arith, b.0.chars, b.0.bytes, b.1.chars, b.1.bytes, b.0.breaks, b.1.breaks)
+pub plus-info-requires-clause-break_count : goal.plus-info-requires-clause-break_count
+plus-info-requires-clause-break_count c = let b = both c in omega (arith, b.0.chars, b.0.bytes, b.1.chars, b.1.bytes, b.0.count, b.1.count)
 
 pub pack-requires-clause-siblings : goal.pack-requires-clause-siblings
 pack-requires-clause-siblings c =

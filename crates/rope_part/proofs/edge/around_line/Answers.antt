@@ -42,11 +42,11 @@ plus-requires-clause-utf16_surrogates c =
     let s = small here in
     omega (arith, ap (λ x. x.utf16_surrogates) (sum_is here))
 
-pub plus-requires-clause-line_breaks : goal.plus-requires-clause-line_breaks
-plus-requires-clause-line_breaks c =
-    let here = (goal.at.plus-requires-clause-line_breaks c).In-Some in
+pub plus-requires-clause-break_count : goal.plus-requires-clause-break_count
+plus-requires-clause-break_count c =
+    let here = (goal.at.plus-requires-clause-break_count c).In-Some in
     let s = small here in
-    omega (arith, ap (λ x. x.line_breaks) (sum_is here))
+    omega (arith, ap (λ x. x.break_count) (sum_is here))
 
 pub overflow_add-line_idx : goal.overflow_add-line_idx
 overflow_add-line_idx c =

@@ -7,11 +7,11 @@ use Rattle.rope_part.proofs.edge.before_line.Goals as goal
 
 pub returns-then-line_idx-info : goal.returns-then-line_idx-info
 returns-then-line_idx-info c =
-    let set = c.args.node.now.breaks in
+    let breaks = c.args.node.now.breaks in
     let t = text c.args.node.now in
-    let e = ap (λ x. x.line_breaks) c.info-info.ensures in
-    c.info-info.ensures ∙ sym (ap (info_of set) (ap (λ n. take n t) (line_start_past set t c.args.line_idx (omega (arith, e))) ∙ take_all (length t) t (omega arith)))
+    let e = ap (λ x. x.break_count) c.info-info.ensures in
+    c.info-info.ensures ∙ sym (ap (info_of breaks) (ap (λ n. take n t) (line_start_past breaks t c.args.line_idx (omega (arith, e))) ∙ take_all (length t) t (omega arith)))
 
 pub line_start_at-start-requires-clause-within : goal.line_start_at-start-requires-clause-within
 line_start_at-start-requires-clause-within c =
-    let e = ap (λ x. x.line_breaks) c.info-info.ensures in omega (arith, e)
+    let e = ap (λ x. x.break_count) c.info-info.ensures in omega (arith, e)

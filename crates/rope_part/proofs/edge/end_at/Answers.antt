@@ -29,7 +29,7 @@ plus-requires c =
       bytes = omega (arith, ap (λ x. x.bytes) is);
       chars = omega (arith, ap (λ x. x.chars) is);
       utf16_surrogates = omega (arith, ap (λ x. x.utf16_surrogates) is);
-      line_breaks = omega (arith, ap (λ x. x.line_breaks) is);
+      break_count = omega (arith, ap (λ x. x.break_count) is);
     }
 
 pub returns : goal.returns

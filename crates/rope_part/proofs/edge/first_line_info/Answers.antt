@@ -11,12 +11,12 @@ use Rattle.rope_part.proofs.edge.first_line_info.Goals as goal
 
 pub returns : goal.returns
 returns c =
-    let set = c.args.set in
+    let breaks = c.args.breaks in
     let bs = c.args.text.now in
-    let k = line_start set (chars bs) 1 in
+    let k = line_start breaks (chars bs) 1 in
     let less = part_front bs k c.utf8.text (λ e. absurd (omega (arith, e, c.line_to_byte_with-bytes.ensures.value, c.if-bytes-text.false))) in
-    let some : 0 < break_count set (chars bs) = elim (cases_lt 0 (break_count set (chars bs))) [
+    let some : 0 < break_count breaks (chars bs) = elim (cases_lt 0 (break_count breaks (chars bs))) [
       | inl lt ↦ lt
-      | inr none ↦ absurd (omega (arith, line_start_past set (chars bs) 1 (omega arith)))
+      | inr none ↦ absurd (omega (arith, line_start_past breaks (chars bs) 1 (omega arith)))
     ] in
-    (some, c.from_str.ensures ∙ ap (info_of set) (chars_front bs c.range.result.now (chars bs) k c.line_to_byte_with-bytes.result c.utf8.text refl c.line_to_byte_with-bytes.ensures.value c.range.ensures.value))
+    (some, c.from_str.ensures ∙ ap (info_of breaks) (chars_front bs c.range.result.now (chars bs) k c.line_to_byte_with-bytes.result c.utf8.text refl c.line_to_byte_with-bytes.ensures.value c.range.ensures.value))

@@ -2,8 +2,8 @@ use Rattle.std.proofs.Common.{◌+◌, ◌-◌, ◌%◌, ◌^◌, ◌&&◌, ◌|
 use Rattle.std.specs.List.{range_with_len}
 use Rattle.std.proofs.lemmas.List.FromFn.{length-range_with_len}
 use Rattle.rope_text.specs.declared.line_breaks.LineBreaks.TheVariants.{Unicode}
-use Rattle.rope_text.specs.ByteBreaks.{byte_breaks}
-use Rattle.rope_text.proofs.Blocks.{byte_breaks-block, breaks_at, count_by-unless, wide_off}
+use Rattle.rope_text.specs.ByteBreaks.{byte_break_count}
+use Rattle.rope_text.proofs.Blocks.{byte_break_count-block, breaks_at, count_by-unless, wide_off}
 use Rattle.rope_text.proofs.Marks.{compared, compared_both, computed, chosen, retested, counted_from, none_set, loaded, loaded_from}
 use Rattle.rope_text.proofs.UnicodeLanes.{low_break, no_wide_begin}
 use Rattle.rope_text.proofs.lanes.unicode_breaks_in.Goals as goal
@@ -28,5 +28,5 @@ returns c =
     (λ k off.
     wide_off (is_low k) (is_lone_cr k) (at k 194) (at k 226) (at (k + 1) 133) (at (k + 1) 128 && (at (k + 2) 168 || at (k + 2) 169))
     (no_wide_begin (get_or s k 0) off)) none in
-    byte_breaks-block Unicode s i 32 (omega arith)
-    ∙ ap (λ n. n + byte_breaks Unicode (drop (i + 32) s)) (sym (c.ones_before.ensures ∙ counted_from {m = 32} i 32 (omega arith) (omega arith) low ∙ same))
+    byte_break_count-block Unicode s i 32 (omega arith)
+    ∙ ap (λ n. n + byte_break_count Unicode (drop (i + 32) s)) (sym (c.ones_before.ensures ∙ counted_from {m = 32} i 32 (omega arith) (omega arith) low ∙ same))

@@ -1,8 +1,8 @@
 use Rattle.std.proofs.Common.{◌+◌, ◌-◌, ◌%◌, ◌^◌, eqb, leb, get_or, drop, sym, ap, ◌∙◌, arith}
 use Rattle.std.proofs.lemmas.List.FromFn.{length-range_with_len}
 use Rattle.rope_text.specs.declared.line_breaks.LineBreaks.TheVariants.{Unicode}
-use Rattle.rope_text.specs.ByteBreaks.{byte_breaks}
-use Rattle.rope_text.proofs.Blocks.{byte_breaks-block}
+use Rattle.rope_text.specs.ByteBreaks.{byte_break_count}
+use Rattle.rope_text.proofs.Blocks.{byte_break_count-block}
 use Rattle.rope_text.proofs.Marks.{compared, compared_both, computed, chosen, retested, both, either, counted_from, loaded, loaded_from}
 use Rattle.rope_text.proofs.UnicodeLanes.{low_break}
 use Rattle.rope_text.proofs.lanes.unicode_mask.Goals as goal
@@ -21,5 +21,5 @@ returns c = λ n few.
     let nel = both (compared eqb 194 32 long x) (compared eqb 133 32 long y) in
     let separator = either (compared eqb 168 32 long z) (compared eqb 169 32 long z) in
     let wide = both (compared eqb 226 32 long x) (both (compared eqb 128 32 long y) separator) in
-    byte_breaks-block Unicode s i n (omega arith)
-    ∙ ap (λ k. k + byte_breaks Unicode (drop (i + n) s)) (sym (counted_from i n few (omega arith) (either low (either nel wide))))
+    byte_break_count-block Unicode s i n (omega arith)
+    ∙ ap (λ k. k + byte_break_count Unicode (drop (i + n) s)) (sym (counted_from i n few (omega arith) (either low (either nel wide))))

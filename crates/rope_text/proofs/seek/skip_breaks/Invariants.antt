@@ -1,9 +1,9 @@
 use Rattle.std.proofs.Common.{◌≡◌, ◌≤◌, ◌+◌, ◌-◌, length, drop}
-use Rattle.rope_text.specs.ByteBreaks.{byte_breaks}
+use Rattle.rope_text.specs.ByteBreaks.{byte_break_count}
 use Rattle.rope_text.proofs.seek.skip_breaks.Given as goal
 
 abbrev pub invariant-loop-at : goal.invariant-loop-at
-invariant-loop-at l = (l.at ≤ length l.bytes) × (byte_breaks l.set l.bytes + l.left ≡ l.fn.n + byte_breaks l.set (drop l.at l.bytes))
+invariant-loop-at l = (l.at ≤ length l.bytes) × (byte_break_count l.breaks l.bytes + l.left ≡ l.fn.n + byte_break_count l.breaks (drop l.at l.bytes))
 
 abbrev pub decreases-loop-at : goal.decreases-loop-at
 decreases-loop-at l = length l.bytes - l.at

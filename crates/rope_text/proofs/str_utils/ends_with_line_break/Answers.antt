@@ -6,7 +6,7 @@ use Rattle.rope_text.proofs.str_utils.ends_with_line_break.Goals as goal
 pub returns-then-is_empty : goal.returns-then-is_empty
 returns-then-is_empty c =
     let none : length c.args.text.now ≡ 0 = grind (arith, nat_tests) in
-    sym (no_bytes c.args.set c.args.text.now c.utf8.text none)
+    sym (no_bytes c.args.breaks c.args.text.now c.utf8.text none)
 
 pub returns : goal.returns
 returns c =
@@ -14,4 +14,4 @@ returns c =
     let last = c.floor_char_boundary-last in
     let some : 0 < length text = grind (arith, nat_tests) in
     let place = last_place text last.result c.utf8.text some last.ensures.boundary last.ensures.bound last.ensures.nearest in
-    rw c.as_bytes.ensures.value at c.is_break_begin.ensures ∙ last_ends c.args.set text last.result place.0 c.utf8.text place.1 place.2
+    rw c.as_bytes.ensures.value at c.is_break_begin.ensures ∙ last_ends c.args.breaks text last.result place.0 c.utf8.text place.1 place.2

@@ -9,6 +9,6 @@ returns c =
     let bytes = c.as_bytes in
     let p = c.line_of_char-lines in
     let place = char_place bytes.result.now c.args.char_idx p.result.0 bytes.ensures.utf8 p.ensures.bound p.ensures.inside p.ensures.end in
-    let line = rw (sym place) at (line_place c.args.set bytes.result.now c.args.char_idx bytes.ensures.utf8) in
-    let same = ap (λ bs. char_to_line c.args.set (chars bs) c.args.char_idx) bytes.ensures.value in
-    omega (arith, line, same, p.ensures.breaks)
+    let line = rw (sym place) at (line_place c.args.breaks bytes.result.now c.args.char_idx bytes.ensures.utf8) in
+    let same = ap (λ bs. char_to_line c.args.breaks (chars bs) c.args.char_idx) bytes.ensures.value in
+    omega (arith, line, same, p.ensures.break_count)

@@ -8,8 +8,8 @@ use Rattle.rope_tree.proofs.NodeLaws.{children_of_first}
 use Rattle.rope_tree.proofs.BuildLaws.{AreOver, group_children, over_more, front_of, back_of, length_of, trees_push}
 use Rattle.rope_tree.proofs.build.level_over.Goals as goal
 
-over_at : {set : LineBreaks} {h : ℕ} {whole : List Tree} {done more rest left : List Tree} → more ≡ done → left ≡ rest → AreOver set h whole done rest → AreOver set h whole more left
-over_at {set = set} {h = h} {whole = whole} {more = more} {rest = rest} e f a = subst (AreOver set h whole more) (sym f) (subst (λ ts. AreOver set h whole ts rest) (sym e) a)
+over_at : {breaks : LineBreaks} {h : ℕ} {whole : List Tree} {done more rest left : List Tree} → more ≡ done → left ≡ rest → AreOver breaks h whole done rest → AreOver breaks h whole more left
+over_at {breaks = breaks} {h = h} {whole = whole} {more = more} {rest = rest} e f a = subst (AreOver breaks h whole more) (sym f) (subst (λ ts. AreOver breaks h whole ts rest) (sym e) a)
 
 pub make_inner-requires : goal.make_inner-requires
 make_inner-requires c =

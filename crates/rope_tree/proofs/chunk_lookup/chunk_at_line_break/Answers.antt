@@ -13,7 +13,7 @@ returns-then-line_break_idx-info c =
     let found = c.leaf_at-then-line_break_idx-info in
     let some = some_chars (text c.args.node.now) (omega (arith, ap (λ x. x.bytes) i)) in
     chunk_by_last c.args.node.now found.result.leaf.now found.result.before c.height.ensures.tree (c.info-info.result.chars - 1) c.args.line_break_idx found.ensures.found
-    (omega (arith, ap (λ x. x.chars) i, some)) (omega (arith, ap (λ x. x.line_breaks) i))
+    (omega (arith, ap (λ x. x.chars) i, some)) (omega (arith, ap (λ x. x.break_count) i))
 
 pub returns : goal.returns
 returns c =

@@ -7,9 +7,9 @@ use Rattle.rope_tree.proofs.FoundLaws.{byte_to_line_end, found_byte_to_line, byt
 use Rattle.rope_tree.proofs.conversions.byte_to_line.Goals.{After-byte_to_line_with}
 use Rattle.rope_tree.proofs.conversions.byte_to_line.Goals as goal
 
-value : (c : After-byte_to_line_with) → c.leaf_at-found.result.before.line_breaks + c.byte_to_line_with.result ≡ byte_to_line c.args.node.now.breaks (text c.args.node.now) c.args.byte_idx
+value : (c : After-byte_to_line_with) → c.leaf_at-found.result.before.break_count + c.byte_to_line_with.result ≡ byte_to_line c.args.node.now.breaks (text c.args.node.now) c.args.byte_idx
 value c =
-    ap (λ n. c.leaf_at-found.result.before.line_breaks + n) (c.byte_to_line_with.ensures ∙ ap (λ b. byte_to_line b (chars c.as_str-leaf.result.now) (c.args.byte_idx - c.leaf_at-found.result.before.bytes)) c.line_breaks.ensures ∙ ap (λ s. byte_to_line c.args.node.now.breaks s (c.args.byte_idx - c.leaf_at-found.result.before.bytes)) c.as_str-leaf.ensures.chars)
+    ap (λ n. c.leaf_at-found.result.before.break_count + n) (c.byte_to_line_with.ensures ∙ ap (λ b. byte_to_line b (chars c.as_str-leaf.result.now) (c.args.byte_idx - c.leaf_at-found.result.before.bytes)) c.line_breaks.ensures ∙ ap (λ s. byte_to_line c.args.node.now.breaks s (c.args.byte_idx - c.leaf_at-found.result.before.bytes)) c.as_str-leaf.ensures.chars)
     ∙ sym (found_byte_to_line c.args.byte_idx c.args.node.now c.leaf_at-found.result.leaf.now c.leaf_at-found.result.before c.height.ensures.tree c.leaf_at-found.ensures.found)
 
 pub overflow_add-result : goal.overflow_add-result
@@ -22,4 +22,4 @@ pub returns-then-byte_idx-info-clause-value : goal.returns-then-byte_idx-info-cl
 returns-then-byte_idx-info-clause-value c =
     let t = text c.args.node.now in
     let e = ap (λ x. x.bytes) c.info-info.ensures in
-    ap (λ x. x.line_breaks) c.info-info.ensures ∙ sym (ap (byte_to_line c.args.node.now.breaks t) (c.if-byte_idx-info.true ∙ e) ∙ byte_to_line_end c.args.node.now.breaks t)
+    ap (λ x. x.break_count) c.info-info.ensures ∙ sym (ap (byte_to_line c.args.node.now.breaks t) (c.if-byte_idx-info.true ∙ e) ∙ byte_to_line_end c.args.node.now.breaks t)

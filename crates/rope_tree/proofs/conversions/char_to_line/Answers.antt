@@ -8,9 +8,9 @@ use Rattle.rope_tree.proofs.FoundLaws.{found_char_to_line, char_to_line-le}
 use Rattle.rope_tree.proofs.conversions.char_to_line.Goals.{After-char_to_line_with}
 use Rattle.rope_tree.proofs.conversions.char_to_line.Goals as goal
 
-value : (c : After-char_to_line_with) → c.leaf_at-found.result.before.line_breaks + c.char_to_line_with.result ≡ char_to_line c.args.node.now.breaks (text c.args.node.now) c.args.char_idx
+value : (c : After-char_to_line_with) → c.leaf_at-found.result.before.break_count + c.char_to_line_with.result ≡ char_to_line c.args.node.now.breaks (text c.args.node.now) c.args.char_idx
 value c =
-    ap (λ n. c.leaf_at-found.result.before.line_breaks + n) (c.char_to_line_with.ensures ∙ ap (λ b. char_to_line b (chars c.as_str-leaf.result.now) (c.args.char_idx - c.leaf_at-found.result.before.chars)) c.line_breaks.ensures ∙ ap (λ s. char_to_line c.args.node.now.breaks s (c.args.char_idx - c.leaf_at-found.result.before.chars)) c.as_str-leaf.ensures.chars)
+    ap (λ n. c.leaf_at-found.result.before.break_count + n) (c.char_to_line_with.ensures ∙ ap (λ b. char_to_line b (chars c.as_str-leaf.result.now) (c.args.char_idx - c.leaf_at-found.result.before.chars)) c.line_breaks.ensures ∙ ap (λ s. char_to_line c.args.node.now.breaks s (c.args.char_idx - c.leaf_at-found.result.before.chars)) c.as_str-leaf.ensures.chars)
     ∙ sym (found_char_to_line c.args.char_idx c.args.node.now c.leaf_at-found.result.leaf.now c.leaf_at-found.result.before c.height.ensures.tree c.leaf_at-found.ensures.found)
 
 pub overflow_add-result : goal.overflow_add-result
@@ -23,4 +23,4 @@ pub returns-then-char_idx-info-clause-value : goal.returns-then-char_idx-info-cl
 returns-then-char_idx-info-clause-value c =
     let t = text c.args.node.now in
     let e = ap (λ x. x.chars) c.info-info.ensures in
-    ap (λ x. x.line_breaks) c.info-info.ensures ∙ sym (ap (char_to_line c.args.node.now.breaks t) (c.if-char_idx-info.true ∙ e) ∙ char_to_line_end c.args.node.now.breaks t)
+    ap (λ x. x.break_count) c.info-info.ensures ∙ sym (ap (char_to_line c.args.node.now.breaks t) (c.if-char_idx-info.true ∙ e) ∙ char_to_line_end c.args.node.now.breaks t)

@@ -11,7 +11,7 @@ use Rattle.rope_tree.proofs.conversions.line_to_char.Goals as goal
 
 value : (c : After-line_to_char_with) → c.leaf_at-found.result.before.chars + c.line_to_char_with.result ≡ line_to_char c.args.node.now.breaks (text c.args.node.now) c.args.line_idx
 value c =
-    ap (λ n. c.leaf_at-found.result.before.chars + n) (c.line_to_char_with.ensures ∙ ap (λ b. line_to_char b (chars c.as_str-leaf.result.now) (c.args.line_idx - c.leaf_at-found.result.before.line_breaks)) c.line_breaks.ensures ∙ ap (λ s. line_to_char c.args.node.now.breaks s (c.args.line_idx - c.leaf_at-found.result.before.line_breaks)) c.as_str-leaf.ensures.chars)
+    ap (λ n. c.leaf_at-found.result.before.chars + n) (c.line_to_char_with.ensures ∙ ap (λ b. line_to_char b (chars c.as_str-leaf.result.now) (c.args.line_idx - c.leaf_at-found.result.before.break_count)) c.line_breaks.ensures ∙ ap (λ s. line_to_char c.args.node.now.breaks s (c.args.line_idx - c.leaf_at-found.result.before.break_count)) c.as_str-leaf.ensures.chars)
     ∙ sym (found_line_start (c.args.line_idx - 1) c.args.line_idx c.args.node.now c.leaf_at-found.result.leaf.now c.leaf_at-found.result.before c.height.ensures.tree c.leaf_at-found.ensures.found (omega arith))
 
 pub overflow_add-result : goal.overflow_add-result
@@ -25,7 +25,7 @@ returns-then-line_idx-eq0-clause-value c = sym (ap (line_start c.args.node.now.b
 
 pub returns-then-line_idx-info-clause-value : goal.returns-then-line_idx-info-clause-value
 returns-then-line_idx-info-clause-value c =
-    let set = c.args.node.now.breaks in
+    let breaks = c.args.node.now.breaks in
     let t = text c.args.node.now in
-    let e = ap (λ x. x.line_breaks) c.info-info.ensures in
-    ap (λ x. x.chars) c.info-info.ensures ∙ sym (line_start_past set t c.args.line_idx (omega (arith, e)))
+    let e = ap (λ x. x.break_count) c.info-info.ensures in
+    ap (λ x. x.chars) c.info-info.ensures ∙ sym (line_start_past breaks t c.args.line_idx (omega (arith, e)))

@@ -12,10 +12,10 @@ use Rattle.rope_tree.proofs.counts.info_between.Goals.{After-from_str, After-sha
 use Rattle.rope_tree.proofs.counts.info_between.Goals as goal
 
 old : (c : After-from_str) → IsSmall c.args.info
-old c = rw c.requires.info (small_info c.args.set (chars c.args.front.now ++ chars c.args.back.now) (omega (arith, ap (λ i. i.bytes) c.requires.info, c.requires.fits)))
+old c = rw c.requires.info (small_info c.args.breaks (chars c.args.front.now ++ chars c.args.back.now) (omega (arith, ap (λ i. i.bytes) c.requires.info, c.requires.fits)))
 
 new : (c : After-from_str) → IsSmall c.from_str.result
-new c = rw c.from_str.ensures (small_info c.args.set (chars c.args.added.now) (omega (arith, byte_len-chars c.args.added.now c.utf8.added, c.requires.short)))
+new c = rw c.from_str.ensures (small_info c.args.breaks (chars c.args.added.now) (omega (arith, byte_len-chars c.args.added.now c.utf8.added, c.requires.short)))
 
 pub plus-more-requires-clause-chars : goal.plus-more-requires-clause-chars
 plus-more-requires-clause-chars c = let o = old c in let n = new c in omega (arith, o.chars, o.bytes, n.chars, n.bytes)
@@ -23,18 +23,18 @@ plus-more-requires-clause-chars c = let o = old c in let n = new c in omega (ari
 pub plus-more-requires-clause-utf16_surrogates : goal.plus-more-requires-clause-utf16_surrogates
 plus-more-requires-clause-utf16_surrogates c = let o = old c in let n = new c in omega (arith, o.chars, o.bytes, n.chars, n.bytes, o.surrogates, n.surrogates)
 
-pub plus-more-requires-clause-line_breaks : goal.plus-more-requires-clause-line_breaks
-plus-more-requires-clause-line_breaks c = let o = old c in let n = new c in omega (arith, o.chars, o.bytes, n.chars, n.bytes, o.breaks, n.breaks)
+pub plus-more-requires-clause-break_count : goal.plus-more-requires-clause-break_count
+plus-more-requires-clause-break_count c = let o = old c in let n = new c in omega (arith, o.chars, o.bytes, n.chars, n.bytes, o.count, n.count)
 
 -- the place between the front and the back
 pub between : (front a back : List ℕ) → inserted (front ++ back) (length front) a ≡ front ++ (a ++ back)
 between front a back = inserted_is (front ++ back) (length front) a ∙ ap₂ (λ x y. x ++ (a ++ y)) (take_at front back _ refl) (drop_at front back _ refl)
 
-met : (c : After-shared_breaks-2) → Corrects c.args.set (chars c.args.front.now ++ chars c.args.back.now) (chars c.args.added.now) (length (chars c.args.front.now)) c.plus-more.result c.shared_breaks-apart.result (c.shared_breaks.result + c.shared_breaks-2.result)
+met : (c : After-shared_breaks-2) → Corrects c.args.breaks (chars c.args.front.now ++ chars c.args.back.now) (chars c.args.added.now) (length (chars c.args.front.now)) c.plus-more.result c.shared_breaks-apart.result (c.shared_breaks.result + c.shared_breaks-2.result)
 met c =
     let front = chars c.args.front.now in
     let back = chars c.args.back.now in
-    corrects c.args.set (front ++ back) (chars c.args.added.now) front back (length front) c.plus-more.result c.shared_breaks-apart.result c.shared_breaks.result c.shared_breaks-2.result c.requires.some
+    corrects c.args.breaks (front ++ back) (chars c.args.added.now) front back (length front) c.plus-more.result c.shared_breaks-apart.result c.shared_breaks.result c.shared_breaks-2.result c.requires.some
     (sym (take_at front back _ refl))
     (sym (drop_at front back _ refl))
     (c.plus-more.ensures.sum ∙ ap₂ info_sum c.requires.info c.from_str.ensures)
@@ -46,13 +46,13 @@ overflow_add-result c =
     let o = old e in
     let n = new e in
     let m = met (goal.at.overflow_add-result c).After-shared_breaks-2 in
-    omega (arith, o.chars, o.bytes, n.chars, n.bytes, o.breaks, n.breaks, m.apart_le, ap (λ i. i.line_breaks) c.plus-more.ensures.sum)
+    omega (arith, o.chars, o.bytes, n.chars, n.bytes, o.count, n.count, m.apart_le, ap (λ i. i.break_count) c.plus-more.ensures.sum)
 
 pub overflow_sub-result : goal.overflow_sub-result
 overflow_sub-result c = (met (goal.at.overflow_sub-result c).After-shared_breaks-2).met_le
 
 pub returns : goal.returns
-returns c = (met (goal.at.returns c).After-shared_breaks-2).whole ∙ ap (info_of c.args.set) (between (chars c.args.front.now) (chars c.args.added.now) (chars c.args.back.now))
+returns c = (met (goal.at.returns c).After-shared_breaks-2).whole ∙ ap (info_of c.args.breaks) (between (chars c.args.front.now) (chars c.args.added.now) (chars c.args.back.now))
 
 pub plus-more-requires-clause-bytes : goal.plus-more-requires-clause-bytes
 plus-more-requires-clause-bytes c = let o = old c in let n = new c in omega (arith, o.bytes, n.bytes)

@@ -5,9 +5,9 @@ use Rattle.rope_tree.proofs.CountLaws.{Uncounts, uncounts}
 use Rattle.rope_tree.proofs.counts.info_without.Goals.{After-shared_breaks-meeting}
 use Rattle.rope_tree.proofs.counts.info_without.Goals as goal
 
-less : (c : After-shared_breaks-meeting) → Uncounts c.args.set (chars c.args.front.now) (chars c.args.back.now) c.args.info c.from_str-less.result (c.shared_breaks.result + c.shared_breaks-2.result) c.shared_breaks-meeting.result
+less : (c : After-shared_breaks-meeting) → Uncounts c.args.breaks (chars c.args.front.now) (chars c.args.back.now) c.args.info c.from_str-less.result (c.shared_breaks.result + c.shared_breaks-2.result) c.shared_breaks-meeting.result
 less c =
-    uncounts c.args.set (chars c.args.front.now) (chars c.args.part.now) (chars c.args.back.now) c.args.info c.from_str-less.result c.shared_breaks.result c.shared_breaks-2.result c.shared_breaks-meeting.result
+    uncounts c.args.breaks (chars c.args.front.now) (chars c.args.part.now) (chars c.args.back.now) c.args.info c.from_str-less.result c.shared_breaks.result c.shared_breaks-2.result c.shared_breaks-meeting.result
     c.requires.some c.requires.info c.from_str-less.ensures c.shared_breaks.ensures c.shared_breaks-2.ensures c.shared_breaks-meeting.ensures
 
 pub overflow_sub-result : goal.overflow_sub-result
@@ -22,8 +22,8 @@ overflow_sub-result-3 c = (less (goal.at.overflow_sub-result-3 c).After-shared_b
 pub overflow_add-result : goal.overflow_add-result
 overflow_add-result c =
     let whole = chars c.args.front.now ++ (chars c.args.part.now ++ chars c.args.back.now) in
-    let small = small_info c.args.set whole (omega (arith, c.requires.fits, ap (λ i. i.bytes) c.requires.info)) in
-    omega (arith, small.breaks, small.chars, ap (λ i. i.bytes) c.requires.info, ap (λ i. i.line_breaks) c.requires.info, (less (goal.at.overflow_add-result c).After-shared_breaks-meeting).met_le)
+    let small = small_info c.args.breaks whole (omega (arith, c.requires.fits, ap (λ i. i.bytes) c.requires.info)) in
+    omega (arith, small.count, small.chars, ap (λ i. i.bytes) c.requires.info, ap (λ i. i.break_count) c.requires.info, (less (goal.at.overflow_add-result c).After-shared_breaks-meeting).met_le)
 
 pub overflow_sub-result-4 : goal.overflow_sub-result-4
 overflow_sub-result-4 c = (less (goal.at.overflow_sub-result-4 c).After-shared_breaks-meeting).breaks_le

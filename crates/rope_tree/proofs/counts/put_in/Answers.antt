@@ -17,13 +17,13 @@ back c = chars_back c.as_str-text.result.now _ _ c.args.at _ c.as_str-text.utf8 
 pub info_between-info-requires-clause-info : goal.info_between-info-requires-clause-info
 info_between-info-requires-clause-info c =
     let e = (goal.at.info_between-info-requires-clause-info c).After-range_from in
-    c.requires.info ∙ ap (info_of c.args.set) (sym (ap₂ (λ x y. x ++ y) (front e) (back e) ∙ take-append-drop c.args.at c.args.leaf.now))
+    c.requires.info ∙ ap (info_of c.args.breaks) (sym (ap₂ (λ x y. x ++ y) (front e) (back e) ∙ take-append-drop c.args.at c.args.leaf.now))
 
 pub returns-clause-info : goal.returns-clause-info
 returns-clause-info c =
     let e = (goal.at.returns-clause-info c).After-range_from in
     let s = c.args.added.now in
-    c.info_between-info.ensures ∙ ap (info_of c.args.set) (ap₂ (λ x y. x ++ (chars c.as_str-added.result.now ++ y)) (front e) (back e)
+    c.info_between-info.ensures ∙ ap (info_of c.args.breaks) (ap₂ (λ x y. x ++ (chars c.as_str-added.result.now ++ y)) (front e) (back e)
     ∙ ap (λ x. take c.args.at c.args.leaf.now ++ (x ++ drop c.args.at c.args.leaf.now)) c.as_str-added.ensures.chars ∙ sym (inserted_is c.args.leaf.now c.args.at s))
 
 pub returns-clause-text : goal.returns-clause-text

@@ -72,7 +72,7 @@ range_from-back-requires c = λ _. to_boundary (goal.at.range_from-back-requires
 
 pub info_without-info-requires-clause-info : goal.info_without-info-requires-clause-info
 info_without-info-requires-clause-info c =
-    c.requires.info ∙ ap (info_of c.args.set) (sym (parts (goal.at.info_without-info-requires-clause-info c).After-range_from-back).whole)
+    c.requires.info ∙ ap (info_of c.args.breaks) (sym (parts (goal.at.info_without-info-requires-clause-info c).After-range_from-back).whole)
 
 pub info_without-info-requires-clause-some : goal.info_without-info-requires-clause-some
 info_without-info-requires-clause-some c = (parts (goal.at.info_without-info-requires-clause-some c).After-range_from-back).some
@@ -91,7 +91,7 @@ returns-clause-text c =
 pub returns-clause-info : goal.returns-clause-info
 returns-clause-info c =
     let p = parts (goal.at.returns-clause-info c).After-range_from-back in
-    c.info_without-info.ensures ∙ ap (info_of c.args.set) (ap₂ (λ x y. x ++ y) p.front_is p.back_is)
+    c.info_without-info.ensures ∙ ap (info_of c.args.breaks) (ap₂ (λ x y. x ++ y) p.front_is p.back_is)
 
 pub returns-clause-some : goal.returns-clause-some
 returns-clause-some c =

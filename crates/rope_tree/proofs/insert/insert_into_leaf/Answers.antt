@@ -16,16 +16,16 @@ same c = ap (inserted c.from_str-front.result c.args.at) c.as_str-2.ensures.char
 
 parted : (c : After-from_str-front_info) → c.insert_or_split.new.self ++ c.in-Some.back ≡ inserted c.args.leaf.now c.args.at c.args.added.now → c.info_with-info.result ≡ info_sum c.from_str-front_info.result (info_of c.line_breaks-breaks.result c.in-Some.back)
 parted c parts =
-    let set = c.line_breaks-breaks.result in
-    let front = c.from_str-front_info.ensures ∙ ap (info_of set) c.as_str-in-Some.ensures.chars in
-    c.info_with-info.ensures ∙ ap (info_of set) (sym parts)
-    ∙ info_of-append_apart set c.insert_or_split.new.self c.in-Some.back c.in-Some.ensures.parts.2 ∙ ap (λ i. info_sum i (info_of set c.in-Some.back)) (sym front)
+    let breaks = c.line_breaks-breaks.result in
+    let front = c.from_str-front_info.ensures ∙ ap (info_of breaks) c.as_str-in-Some.ensures.chars in
+    c.info_with-info.ensures ∙ ap (info_of breaks) (sym parts)
+    ∙ info_of-append_apart breaks c.insert_or_split.new.self c.in-Some.back c.in-Some.ensures.parts.2 ∙ ap (λ i. info_sum i (info_of breaks c.in-Some.back)) (sym front)
 
 pub minus-back_info-requires-clause-bytes : goal.minus-back_info-requires-clause-bytes
 minus-back_info-requires-clause-bytes c = omega (arith, ap (λ i. i.bytes) (parted c (c.in-Some.ensures.two.1 ∙ same (goal.at.minus-back_info-requires-clause-bytes c).After-insert_or_split)))
 
-pub minus-back_info-requires-clause-line_breaks : goal.minus-back_info-requires-clause-line_breaks
-minus-back_info-requires-clause-line_breaks c = omega (arith, ap (λ i. i.line_breaks) (parted c (c.in-Some.ensures.two.1 ∙ same (goal.at.minus-back_info-requires-clause-line_breaks c).After-insert_or_split)))
+pub minus-back_info-requires-clause-break_count : goal.minus-back_info-requires-clause-break_count
+minus-back_info-requires-clause-break_count c = omega (arith, ap (λ i. i.break_count) (parted c (c.in-Some.ensures.two.1 ∙ same (goal.at.minus-back_info-requires-clause-break_count c).After-insert_or_split)))
 
 pub returns-in_ok-make_leaf-in-None-clause-ok : goal.returns-in_ok-make_leaf-in-None-clause-ok
 returns-in_ok-make_leaf-in-None-clause-ok c =

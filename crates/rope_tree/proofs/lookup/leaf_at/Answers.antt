@@ -48,8 +48,8 @@ plus-before-requires-clause-chars c = let s = small (goal.at.plus-before-require
 pub plus-before-requires-clause-utf16_surrogates : goal.plus-before-requires-clause-utf16_surrogates
 plus-before-requires-clause-utf16_surrogates c = let s = small (goal.at.plus-before-requires-clause-utf16_surrogates c).After-total_before-front in omega (arith, s)
 
-pub plus-before-requires-clause-line_breaks : goal.plus-before-requires-clause-line_breaks
-plus-before-requires-clause-line_breaks c = let s = small (goal.at.plus-before-requires-clause-line_breaks c).After-total_before-front in omega (arith, s)
+pub plus-before-requires-clause-break_count : goal.plus-before-requires-clause-break_count
+plus-before-requires-clause-break_count c = let s = small (goal.at.plus-before-requires-clause-break_count c).After-total_before-front in omega (arith, s)
 
 pub down-smaller : goal.down-smaller
 down-smaller c =

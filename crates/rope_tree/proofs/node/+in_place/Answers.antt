@@ -97,9 +97,9 @@ pub Node::insert_in_place-new-requires-clause-surrogates :
     goal.Node::insert_in_place-new-requires-clause-surrogates
 Node::insert_in_place-new-requires-clause-surrogates t c = (low t c).surrogates
 
-pub Node::insert_in_place-new-requires-clause-breaks :
-    goal.Node::insert_in_place-new-requires-clause-breaks
-Node::insert_in_place-new-requires-clause-breaks t c = (low t c).breaks
+pub Node::insert_in_place-new-requires-clause-break_count :
+    goal.Node::insert_in_place-new-requires-clause-break_count
+Node::insert_in_place-new-requires-clause-break_count t c = (low t c).count
 
 pub Node::insert_in_place-invariant_of-self-2 : goal.Node::insert_in_place-invariant_of-self-2
 Node::insert_in_place-invariant_of-self-2 t c =

@@ -178,9 +178,9 @@ pub Node::remove_in_place-new-requires-clause-surrogates :
     goal.Node::remove_in_place-new-requires-clause-surrogates
 Node::remove_in_place-new-requires-clause-surrogates t c = (low t c).surrogates
 
-pub Node::remove_in_place-new-requires-clause-breaks :
-    goal.Node::remove_in_place-new-requires-clause-breaks
-Node::remove_in_place-new-requires-clause-breaks t c = (low t c).breaks
+pub Node::remove_in_place-new-requires-clause-break_count :
+    goal.Node::remove_in_place-new-requires-clause-break_count
+Node::remove_in_place-new-requires-clause-break_count t c = (low t c).count
 
 pub Node::remove_in_place-invariant_of-self-2 : goal.Node::remove_in_place-invariant_of-self-2
 Node::remove_in_place-invariant_of-self-2 t c =

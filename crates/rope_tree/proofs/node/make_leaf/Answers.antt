@@ -11,5 +11,5 @@ new-requires-clause-chars c = (low c).chars
 pub new-requires-clause-surrogates : goal.new-requires-clause-surrogates
 new-requires-clause-surrogates c = (low c).surrogates
 
-pub new-requires-clause-breaks : goal.new-requires-clause-breaks
-new-requires-clause-breaks c = (low c).breaks
+pub new-requires-clause-break_count : goal.new-requires-clause-break_count
+new-requires-clause-break_count c = (low c).count

@@ -22,8 +22,8 @@ plus-total-requires-clause-chars c = let n = next c in omega arith
 pub plus-total-requires-clause-utf16_surrogates : goal.plus-total-requires-clause-utf16_surrogates
 plus-total-requires-clause-utf16_surrogates c = let n = next c in omega arith
 
-pub plus-total-requires-clause-line_breaks : goal.plus-total-requires-clause-line_breaks
-plus-total-requires-clause-line_breaks c = let n = next c in omega arith
+pub plus-total-requires-clause-break_count : goal.plus-total-requires-clause-break_count
+plus-total-requires-clause-break_count c = let n = next c in omega arith
 
 pub loop-node-preserved : goal.loop-node-preserved
 loop-node-preserved c =

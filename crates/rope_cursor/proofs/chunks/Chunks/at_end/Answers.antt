@@ -18,5 +18,5 @@ returns-clause-before c =
     let part = c.args.part.now in
     let whole = sym c.info-info.ensures.kept.cut.joined in
     let info = c.info-info.ensures.value in
-    all_before (breaks_of part) (chunks_of part) c.info-info.result.bytes c.info-info.result.chars c.info-info.result.line_breaks
-    (ap (λ x. x.bytes) info ∙ ap byte_len whole) (ap (λ x. x.chars) info ∙ ap length whole) (ap (λ x. x.line_breaks) info ∙ ap (break_count (breaks_of part)) whole)
+    all_before (breaks_of part) (chunks_of part) c.info-info.result.bytes c.info-info.result.chars c.info-info.result.break_count
+    (ap (λ x. x.bytes) info ∙ ap byte_len whole) (ap (λ x. x.chars) info ∙ ap length whole) (ap (λ x. x.break_count) info ∙ ap (break_count (breaks_of part)) whole)

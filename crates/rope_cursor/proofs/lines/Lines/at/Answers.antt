@@ -7,16 +7,16 @@ use Rattle.rope_cursor.proofs.lines.Lines.at.Goals as goal
 
 pub at-requires : goal.at-requires
 at-requires c =
-    let set = breaks_of c.args.part.now in
+    let breaks = breaks_of c.args.part.now in
     let t = text_of c.args.part.now in
-    let short = line_start-le-length set t c.args.line_idx in
-    rw (counts_at set t (line_start set t c.args.line_idx) c.before_line-before.result short c.before_line-before.ensures).0 short
+    let short = line_start-le-length breaks t c.args.line_idx in
+    rw (counts_at breaks t (line_start breaks t c.args.line_idx) c.before_line-before.result short c.before_line-before.ensures).0 short
 
 pub invariant_of-result : goal.invariant_of-result
 invariant_of-result c =
-    let set = breaks_of c.args.part.now in
+    let breaks = breaks_of c.args.part.now in
     let t = text_of c.args.part.now in
-    let e = (counts_at set t (line_start set t c.args.line_idx) c.before_line-before.result (line_start-le-length set t c.args.line_idx) c.before_line-before.ensures).0 in
+    let e = (counts_at breaks t (line_start breaks t c.args.line_idx) c.before_line-before.result (line_start-le-length breaks t c.args.line_idx) c.before_line-before.ensures).0 in
     record {
       within = omega (arith, c.len_lines.ensures, c.requires);
       total_is = c.len_lines.ensures;

@@ -27,11 +27,11 @@ plus-after-requires-clause-utf16_surrogates c =
     (omega (arith, c.self.invariant.within, c.if-self.false)) c.line_breaks.ensures c.pass_line-passed.ensures.front c.pass_line-passed.ensures.back c.pass_line-passed.ensures.counts in
     omega (arith, half.0.utf16_surrogates, half.1.utf16_surrogates)
 
-pub plus-after-requires-clause-line_breaks : goal.plus-after-requires-clause-line_breaks
-plus-after-requires-clause-line_breaks c =
+pub plus-after-requires-clause-break_count : goal.plus-after-requires-clause-break_count
+plus-after-requires-clause-break_count c =
     let half = next_half (content_of c.self.inside.part) c.self.inside.gap c.pass_line-passed.new.self c.self.inside.before c.pass_line-passed.result c.self.inside.line c.self.inside.total c.line_breaks.result c.self.invariant
     (omega (arith, c.self.invariant.within, c.if-self.false)) c.line_breaks.ensures c.pass_line-passed.ensures.front c.pass_line-passed.ensures.back c.pass_line-passed.ensures.counts in
-    omega (arith, half.0.line_breaks, half.1.line_breaks)
+    omega (arith, half.0.break_count, half.1.break_count)
 
 pub between-item-requires-clause-to_is : goal.between-item-requires-clause-to_is
 between-item-requires-clause-to_is c =

@@ -76,4 +76,4 @@ returns-in-InTree-clause-text c =
 
 pub returns-in-Alone-clause-before : goal.returns-in-Alone-clause-before
 returns-in-Alone-clause-before c =
-    rw c.of_text.ensures.before (record { bytes_are = refl; chars_are = refl; breaks_are = sym (char_to_line_start (breaks_of c.args.part.now) (text_of c.args.part.now)) })
+    rw c.of_text.ensures.before (record { bytes_are = refl; chars_are = refl; count_is = sym (char_to_line_start (breaks_of c.args.part.now) (text_of c.args.part.now)) })

@@ -6,4 +6,4 @@ use Rattle.rope_part.proofs.part.Part.len_lines.Goals as goal
 pub overflow_add-result : goal.overflow_add-result
 overflow_add-result c =
     let small = small_info (breaks_of c.args.self.now) (text_of c.args.self.now) c.info.ensures.kept.fits in
-    omega (arith, ap (λ x. x.line_breaks) c.info.ensures.value)
+    omega (arith, ap (λ x. x.break_count) c.info.ensures.value)

@@ -9,7 +9,7 @@ use Rattle.rope_part.proofs.plain.Plain.before_line.Goals as goal
 
 pub returns : goal.returns
 returns c =
-    let set = c.args.self.now.breaks in
+    let breaks = c.args.self.now.breaks in
     let cs = text_of c.args.self.now in
     c.from_str.ensures
-    ∙ ap (info_of set) (chars_front c.as_str-text.result.now c.range.result.now cs (line_start set cs c.args.line_idx) c.line_to_byte_with-bytes.result c.as_str-text.utf8 c.as_str-text.ensures (c.line_to_byte_with-bytes.ensures.value ∙ ap (λ s. byte_len (take (line_start set s c.args.line_idx) (chars c.as_str-text.result.now))) c.as_str-text.ensures) c.range.ensures.value)
+    ∙ ap (info_of breaks) (chars_front c.as_str-text.result.now c.range.result.now cs (line_start breaks cs c.args.line_idx) c.line_to_byte_with-bytes.result c.as_str-text.utf8 c.as_str-text.ensures (c.line_to_byte_with-bytes.ensures.value ∙ ap (λ s. byte_len (take (line_start breaks s c.args.line_idx) (chars c.as_str-text.result.now))) c.as_str-text.ensures) c.range.ensures.value)

@@ -9,24 +9,24 @@ use Rattle.rope_part.proofs.StretchLines.{line_later, line_place_within, line_co
 use Rattle.rope_part.proofs.stretch.Stretch.around_line.Goals.{After-around_line}
 use Rattle.rope_part.proofs.stretch.Stretch.around_line.Goals as goal
 
-next_is : (c : After-around_line) → c.around_line.result.1 ≡ info_of c.args.self.now.node.now.breaks (take (line_start c.args.self.now.node.now.breaks (text c.args.self.now.node.now) (c.args.self.now.start.line_breaks + (c.args.line_idx + 1))) (text c.args.self.now.node.now))
+next_is : (c : After-around_line) → c.around_line.result.1 ≡ info_of c.args.self.now.node.now.breaks (take (line_start c.args.self.now.node.now.breaks (text c.args.self.now.node.now) (c.args.self.now.start.break_count + (c.args.line_idx + 1))) (text c.args.self.now.node.now))
 next_is c =
-    let set = breaks_of c.args.self.now in
+    let breaks = breaks_of c.args.self.now in
     let t = text c.args.self.now.node.now in
-    let same : (c.args.self.now.start.line_breaks + c.args.line_idx) + 1 ≡ c.args.self.now.start.line_breaks + (c.args.line_idx + 1) = omega arith in
-    c.around_line.ensures.end ∙ ap (λ l. info_of set (take (line_start set t l) t)) same
+    let same : (c.args.self.now.start.break_count + c.args.line_idx) + 1 ≡ c.args.self.now.start.break_count + (c.args.line_idx + 1) = omega arith in
+    c.around_line.ensures.end ∙ ap (λ l. info_of breaks (take (line_start breaks t l) t)) same
 
 pub returns-then-line_idx-eq0-clause-start : goal.returns-then-line_idx-eq0-clause-start
 returns-then-line_idx-eq0-clause-start c =
-    let set = breaks_of c.args.self.now in
+    let breaks = breaks_of c.args.self.now in
     let t = text_of c.args.self.now in
-    c.new.ensures set ∙ sym (ap (λ n. info_of set (take n t)) (ap (line_start set t) c.if-line_idx-eq0.true ∙ line_start_first set t))
+    c.new.ensures breaks ∙ sym (ap (λ n. info_of breaks (take n t)) (ap (line_start breaks t) c.if-line_idx-eq0.true ∙ line_start_first breaks t))
 
 pub returns-then-line_idx-eq0-clause-end : goal.returns-then-line_idx-eq0-clause-end
 returns-then-line_idx-eq0-clause-end c =
-    let set = breaks_of c.args.self.now in
+    let breaks = breaks_of c.args.self.now in
     let t = text_of c.args.self.now in
-    c.before_line.ensures ∙ sym (ap (λ l. info_of set (take (line_start set t (l + 1)) t)) c.if-line_idx-eq0.true)
+    c.before_line.ensures ∙ sym (ap (λ l. info_of breaks (take (line_start breaks t (l + 1)) t)) c.if-line_idx-eq0.true)
 
 pub overflow_add-self : goal.overflow_add-self
 overflow_add-self c = let m = measured _ _ _ _ c.args.self.now.is_stretch in omega (arith, c.height.ensures.tree.fits)

@@ -9,9 +9,9 @@ use Rattle.rope_part.proofs.stretch.Stretch.before_line.Goals as goal
 
 pub returns-then-line_idx-eq0 : goal.returns-then-line_idx-eq0
 returns-then-line_idx-eq0 c =
-    let set = breaks_of c.args.self.now in
+    let breaks = breaks_of c.args.self.now in
     let t = text_of c.args.self.now in
-    c.new.ensures set ∙ sym (ap (λ n. info_of set (take n t)) (ap (line_start set t) c.if-line_idx-eq0.true ∙ line_start_first set t))
+    c.new.ensures breaks ∙ sym (ap (λ n. info_of breaks (take n t)) (ap (line_start breaks t) c.if-line_idx-eq0.true ∙ line_start_first breaks t))
 
 pub overflow_add-self : goal.overflow_add-self
 overflow_add-self c = let m = measured _ _ _ _ c.args.self.now.is_stretch in omega (arith, c.height.ensures.tree.fits)

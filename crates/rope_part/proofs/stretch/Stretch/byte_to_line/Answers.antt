@@ -6,7 +6,7 @@ use Rattle.rope_part.proofs.StretchLaws.{stretch_byte_to_line, stretch_byte_to_l
 use Rattle.rope_part.proofs.stretch.Stretch.byte_to_line.Goals.{After-byte_to_line}
 use Rattle.rope_part.proofs.stretch.Stretch.byte_to_line.Goals as goal
 
-value : (c : After-byte_to_line) → c.byte_to_line.result ≡ c.args.self.now.start.line_breaks + byte_to_line (breaks_of c.args.self.now) (text_of c.args.self.now) c.args.byte_idx
+value : (c : After-byte_to_line) → c.byte_to_line.result ≡ c.args.self.now.start.break_count + byte_to_line (breaks_of c.args.self.now) (text_of c.args.self.now) c.args.byte_idx
 value c =
     let m = measured _ _ _ _ c.args.self.now.is_stretch in
     c.byte_to_line.ensures.value ∙ stretch_byte_to_line _ _ _ _ c.args.self.now.is_stretch c.args.byte_idx (omega arith)

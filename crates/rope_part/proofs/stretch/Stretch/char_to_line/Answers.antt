@@ -6,7 +6,7 @@ use Rattle.rope_part.proofs.StretchLaws.{stretch_char_to_line, stretch_char_to_l
 use Rattle.rope_part.proofs.stretch.Stretch.char_to_line.Goals.{After-char_to_line}
 use Rattle.rope_part.proofs.stretch.Stretch.char_to_line.Goals as goal
 
-value : (c : After-char_to_line) → c.char_to_line.result ≡ c.args.self.now.start.line_breaks + char_to_line (breaks_of c.args.self.now) (text_of c.args.self.now) c.args.char_idx
+value : (c : After-char_to_line) → c.char_to_line.result ≡ c.args.self.now.start.break_count + char_to_line (breaks_of c.args.self.now) (text_of c.args.self.now) c.args.char_idx
 value c =
     let m = measured _ _ _ _ c.args.self.now.is_stretch in
     c.char_to_line.ensures.value ∙ stretch_char_to_line _ _ _ _ c.args.self.now.is_stretch c.args.char_idx (omega arith)

@@ -21,10 +21,10 @@ minus-requires-clause-utf16_surrogates c =
     let m = measured _ _ _ _ (up_to _ _ _ _ _ c.args.self.now.is_stretch c.requires.later c.requires.counts (omega (arith, c.if-place-self.false))) in
     omega (arith, m.surrogates)
 
-pub minus-requires-clause-line_breaks : goal.minus-requires-clause-line_breaks
-minus-requires-clause-line_breaks c =
+pub minus-requires-clause-break_count : goal.minus-requires-clause-break_count
+minus-requires-clause-break_count c =
     let m = measured _ _ _ _ (up_to _ _ _ _ _ c.args.self.now.is_stretch c.requires.later c.requires.counts (omega (arith, c.if-place-self.false))) in
-    omega (arith, m.breaks)
+    omega (arith, m.count)
 
 pub returns : goal.returns
 returns c = counts_up_to _ _ _ _ _ c.args.self.now.is_stretch c.minus.result c.requires.later c.requires.counts (omega (arith, c.if-place-self.false)) c.minus.ensures.sum

@@ -9,8 +9,8 @@ minus-requires-clause-bytes c = let m = measured _ _ _ _ c.args.self.now.is_stre
 pub minus-requires-clause-utf16_surrogates : goal.minus-requires-clause-utf16_surrogates
 minus-requires-clause-utf16_surrogates c = let m = measured _ _ _ _ c.args.self.now.is_stretch in omega arith
 
-pub minus-requires-clause-line_breaks : goal.minus-requires-clause-line_breaks
-minus-requires-clause-line_breaks c = let m = measured _ _ _ _ c.args.self.now.is_stretch in omega arith
+pub minus-requires-clause-break_count : goal.minus-requires-clause-break_count
+minus-requires-clause-break_count c = let m = measured _ _ _ _ c.args.self.now.is_stretch in omega arith
 
 pub returns-clause-value : goal.returns-clause-value
 returns-clause-value c = info_part _ _ _ _ _ c.args.self.now.is_stretch c.minus.ensures.sum

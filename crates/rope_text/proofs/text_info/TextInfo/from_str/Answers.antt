@@ -5,4 +5,4 @@ pub returns : goal.returns
 returns c =
     let bytes = byte_len-chars c.args.text.now c.utf8.text in
     let counted = c.counts-chars.ensures in
-    cc (counted.chars, counted.surrogates, counted.breaks)
+    cc (counted.chars, counted.surrogates, counted.break_count)

@@ -4,4 +4,4 @@ use Rattle.rope_text.proofs.text_info.TextInfo.new.Goals as goal
 
 pub returns : goal.returns
 unfolding break_ends
-returns c set = refl
+returns c breaks = refl

@@ -22,16 +22,16 @@ low c fits = rw (counted c) (low_info c.self.inside.breaks c.insert_str_split-ba
 
 parted : (c : After-from_str-front_info) → c.info_with-info.result ≡ info_sum c.from_str-front_info.result (info_of c.self.inside.breaks c.insert_str_split-back.result)
 parted c =
-    let set = c.self.inside.breaks in
-    c.info_with-info.ensures ∙ ap (info_of set) (sym (whole c))
-    ∙ info_of-append_apart set c.insert_str_split-back.new.self c.insert_str_split-back.result c.insert_str_split-back.ensures.apart
-    ∙ ap (λ i. info_sum i (info_of set c.insert_str_split-back.result)) (sym (counted c))
+    let breaks = c.self.inside.breaks in
+    c.info_with-info.ensures ∙ ap (info_of breaks) (sym (whole c))
+    ∙ info_of-append_apart breaks c.insert_str_split-back.new.self c.insert_str_split-back.result c.insert_str_split-back.ensures.apart
+    ∙ ap (λ i. info_sum i (info_of breaks c.insert_str_split-back.result)) (sym (counted c))
 
 pub minus-back_info-requires-clause-bytes : goal.minus-back_info-requires-clause-bytes
 minus-back_info-requires-clause-bytes c = omega (arith, ap (λ i. i.bytes) (parted c))
 
-pub minus-back_info-requires-clause-line_breaks : goal.minus-back_info-requires-clause-line_breaks
-minus-back_info-requires-clause-line_breaks c = omega (arith, ap (λ i. i.line_breaks) (parted c))
+pub minus-back_info-requires-clause-break_count : goal.minus-back_info-requires-clause-break_count
+minus-back_info-requires-clause-break_count c = omega (arith, ap (λ i. i.break_count) (parted c))
 
 pub returns-clause-cut : goal.returns-clause-cut
 returns-clause-cut c =
@@ -46,5 +46,5 @@ new-requires-clause-chars c = (low (goal.at.new-requires-clause-chars c).After-f
 pub new-requires-clause-surrogates : goal.new-requires-clause-surrogates
 new-requires-clause-surrogates c = (low (goal.at.new-requires-clause-surrogates c).After-from_str-front_info c.as_str-4.ensures.fits).surrogates
 
-pub new-requires-clause-breaks : goal.new-requires-clause-breaks
-new-requires-clause-breaks c = (low (goal.at.new-requires-clause-breaks c).After-from_str-front_info c.as_str-4.ensures.fits).breaks
+pub new-requires-clause-break_count : goal.new-requires-clause-break_count
+new-requires-clause-break_count c = (low (goal.at.new-requires-clause-break_count c).After-from_str-front_info c.as_str-4.ensures.fits).count
