@@ -12,27 +12,27 @@ fn seams(rt: HostRuntime) {
 #[test]
 fn cuts(rt: HostRuntime) {
     let text = b"Hello world!\r\nHow's it going?";
-    assert!(rt; is_break(text, 0));
-    assert!(rt; is_break(text, 12));
-    assert!(rt; !is_break(text, 13));
-    assert!(rt; is_break(text, 14));
-    assert!(rt; is_break(text, 19));
-    assert_eq!(rt; prev_break(text, 14), 12);
-    assert_eq!(rt; next_break(text, 12), 14);
+    assert!(rt; is_break(0, text));
+    assert!(rt; is_break(12, text));
+    assert!(rt; !is_break(13, text));
+    assert!(rt; is_break(14, text));
+    assert!(rt; is_break(19, text));
+    assert_eq!(rt; prev_break(14, text), 12);
+    assert_eq!(rt; next_break(12, text), 14);
 }
 
 #[test]
 fn nearest_cuts(rt: HostRuntime) {
     let text = b"\r\nHello world!\r\n";
-    assert_eq!(rt; nearest_internal_break(text, 0), 2);
-    assert_eq!(rt; nearest_internal_break(text, 1), 2);
-    assert_eq!(rt; nearest_internal_break(text, 2), 2);
-    assert_eq!(rt; nearest_internal_break(text, 14), 14);
-    assert_eq!(rt; nearest_internal_break(text, 15), 14);
-    assert_eq!(rt; nearest_internal_break(text, 16), 14);
+    assert_eq!(rt; nearest_internal_break(0, text), 2);
+    assert_eq!(rt; nearest_internal_break(1, text), 2);
+    assert_eq!(rt; nearest_internal_break(2, text), 2);
+    assert_eq!(rt; nearest_internal_break(14, text), 14);
+    assert_eq!(rt; nearest_internal_break(15, text), 14);
+    assert_eq!(rt; nearest_internal_break(16, text), 14);
     let pair = b"\r\n";
-    assert_eq!(rt; nearest_internal_break(pair, 0), 2);
-    assert_eq!(rt; nearest_internal_break(pair, 1), 2);
-    assert_eq!(rt; nearest_internal_break(pair, 2), 2);
+    assert_eq!(rt; nearest_internal_break(0, pair), 2);
+    assert_eq!(rt; nearest_internal_break(1, pair), 2);
+    assert_eq!(rt; nearest_internal_break(2, pair), 2);
     assert_eq!(rt; find_good_split(1, "こ".as_bytes(), true), 3);
 }

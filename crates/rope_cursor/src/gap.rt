@@ -106,7 +106,7 @@ fn cut_before(text: &str, end: usize, near: usize) -> usize
     ensures apart { parts_crlf (before_byte (chars text.now) result) (after_byte (chars text.now) result) ≡ false }
     ensures before { result ≤ end }
 {
-    prev_break(text.as_bytes(), end.saturating_sub(near))
+    prev_break(end.saturating_sub(near), text.as_bytes())
 }
 
 // The byte at which the last line of a text starts, or the one so many line breaks before it, and the counts from there on.

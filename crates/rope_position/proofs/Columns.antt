@@ -14,17 +14,13 @@ use Rattle.rope_text.specs.Edit.{char_index_error}
 use Rattle.rope_text.specs.Lines.{line_start, line, line_count}
 use Rattle.rope_text.specs.Position.{char_to_column, position_to_char}
 use Rattle.rope_text.specs.Text.{utf16_len}
+use Rattle.rope_text.proofs.ConversionLaws.{char_to_line-less}
 use Rattle.rope_text.proofs.LineLaws.{line_start-le-length, line_start_before, line_start_after}
 use Rattle.rope_text.proofs.Measures.{IsMeasure-utf16_len, size_le_all, front-le-length}
 use Rattle.rope_text.proofs.PositionLaws.{position_to_char-char_to_position}
 use Rattle.rope_position.specs.declared.position.Position.{Position}
 use Rattle.rope_text.specs.Answer.{checked}
 use Rattle.rope_position.specs.Positions.{position_at, PositionsReturn}
-
--- a character's line is one of the text's
-pub char_to_line-less : (breaks : LineBreaks) (text : List ℕ) (i : ℕ) → char_to_line breaks text i < line_count breaks text
-unfolding char_to_line
-char_to_line-less breaks text i = omega (arith, count_by-le-length (λ p. nat_le p i) (break_ends breaks text))
 
 -- the code units before a place are those before an earlier one and those between
 units_between : (text : List ℕ) (a i : ℕ) → a ≤ i → utf16_len (take i text) ≡ utf16_len (take a text) + utf16_len (slice_range text a i)

@@ -24,7 +24,7 @@ pub fn seam_is_break(left: &[u8], right: &[u8]) -> bool
 
 /// Whether the text may be cut before the byte `at`, which is at most its length. Either end may be cut. Reads the
 /// bytes around the place; takes no memory.
-pub fn is_break(text: &[u8], at: usize) -> bool
+pub fn is_break(at: usize, text: &[u8]) -> bool
     requires { at ≤ length text.now }
     ensures value { result ≡ is_cut text.now at }
 {
@@ -34,7 +34,7 @@ pub fn is_break(text: &[u8], at: usize) -> bool
 /// The last place before the byte `at` where the text may be cut, or 0 where `at` is 0. `at` is at most the length.
 /// Reads the bytes around the place; takes no memory.
 #[tactic(auto, using(crate::proofs::CutFacts::boundary_of_cut))]
-pub fn prev_break(text: &[u8], at: usize) -> usize
+pub fn prev_break(at: usize, text: &[u8]) -> usize
     requires { at ≤ length text.now }
     ensures boundary { IsUtf8 text.now → IsCharBoundary text.now result }
     ensures cut { IsTrue (is_cut text.now result) }
@@ -46,7 +46,7 @@ pub fn prev_break(text: &[u8], at: usize) -> usize
         return 0;
     }
     let mut i = at - 1;
-    while !is_break(text, i) {
+    while !is_break(i, text) {
         i -= 1;
     }
     i
@@ -55,7 +55,7 @@ pub fn prev_break(text: &[u8], at: usize) -> usize
 /// The first place after the byte `at` where the text may be cut, or the end where `at` is the end. `at` is at most
 /// the length. Reads the bytes around the place; takes no memory.
 #[tactic(auto, using(crate::proofs::CutFacts::boundary_of_cut))]
-pub fn next_break(text: &[u8], at: usize) -> usize
+pub fn next_break(at: usize, text: &[u8]) -> usize
     requires { at ≤ length text.now }
     ensures boundary { IsUtf8 text.now → IsCharBoundary text.now result }
     ensures cut { IsTrue (is_cut text.now result) }
@@ -68,14 +68,14 @@ pub fn next_break(text: &[u8], at: usize) -> usize
         return at;
     }
     let mut i = at + 1;
-    while !is_break(text, i) {
+    while !is_break(i, text) {
         i += 1;
     }
     i
 }
 
 // The last cut up to `at`, and at the end the last one before it.
-fn break_up_to(text: &[u8], at: usize) -> usize
+fn break_up_to(at: usize, text: &[u8]) -> usize
     requires { at ≤ length text.now }
     ensures cut { IsTrue (is_cut text.now result) }
     ensures bound { result ≤ at }
@@ -83,19 +83,19 @@ fn break_up_to(text: &[u8], at: usize) -> usize
     ensures nearest { (k : ℕ) → k ≤ at → k < length text.now → IsTrue (is_cut text.now k) → k ≤ result }
 {
     if at == text.len() {
-        return prev_break(text, at);
+        return prev_break(at, text);
     }
-    if is_break(text, at) {
+    if is_break(at, text) {
         at
     } else {
-        prev_break(text, at)
+        prev_break(at, text)
     }
 }
 
 /// The place inside the text, nearest to the byte `at`, where it may be cut, the later one of two that are as near;
 /// the end, where there is no such place inside. `at` is at most the length. Reads the bytes around the place;
 /// takes no memory.
-pub fn nearest_internal_break(text: &[u8], at: usize) -> usize
+pub fn nearest_internal_break(at: usize, text: &[u8]) -> usize
     requires { at ≤ length text.now }
     ensures boundary { IsUtf8 text.now → IsCharBoundary text.now result }
     ensures cut { IsTrue (is_cut text.now result) }
@@ -108,8 +108,8 @@ pub fn nearest_internal_break(text: &[u8], at: usize) -> usize
         → distance at result ≡ distance at k → k ≤ result }
     ensures none { result ≡ 0 → length text.now ≡ 0 }
 {
-    let left = break_up_to(text, at);
-    let right = next_break(text, at);
+    let left = break_up_to(at, text);
+    let right = next_break(at, text);
     if left == 0 {
         return right;
     }
@@ -137,11 +137,11 @@ pub fn find_good_split(at: usize, text: &[u8], bias_left: bool) -> usize
     ensures no_right { bias_left ≡ false → ((k : ℕ) → at < k → k < length text.now → IsTrue (is_cut text.now k) → ⊥)
         → (result ≤ at) × ((k : ℕ) → k ≤ at → IsTrue (is_cut text.now k) → k ≤ result) }
 {
-    if is_break(text, at) {
+    if is_break(at, text) {
         return at;
     }
-    let before = prev_break(text, at);
-    let after = next_break(text, at);
+    let before = prev_break(at, text);
+    let after = next_break(at, text);
     if bias_left {
         return if before > 0 { before } else { after };
     }

@@ -383,7 +383,8 @@ pub(crate) fn count_all(bytes: &[u8], breaks: LineBreaks) -> (usize, usize, usiz
     let (i, chars, pairs, break_count) = count_blocks(bytes, breaks);
     let end = bytes.len();
     let last = i.max(end.saturating_sub(2));
-    let more = breaks_between(bytes, i, last, breaks) + breaks_byte_by_byte(bytes, last, end, breaks);
+    let more = breaks_between(bytes, i, last, breaks)
+        + breaks_byte_by_byte(bytes, last, end, breaks);
     (
         chars + begins_between(bytes, i, end),
         pairs + pairs_between(bytes, i, end),

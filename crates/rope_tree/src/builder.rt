@@ -31,7 +31,7 @@ fn ahead_len(text: &str) -> usize
     if text.len() <= MAX_AHEAD_BYTES {
         text.len()
     } else {
-        prev_break(text.as_bytes(), MAX_AHEAD_BYTES + 1)
+        prev_break(MAX_AHEAD_BYTES + 1, text.as_bytes())
     }
 }
 
@@ -95,7 +95,7 @@ fn cut_front(rest: &mut NodeText, text: &str) -> First
     ensures left { byte_len result.leaf + (byte_len rest.new + (length text.now - result.taken)) ≡ byte_len rest.old + length text.now }
 {
     let room = MAX_BYTES - rest.len();
-    let taken = prev_break(text.as_bytes(), room + 1);
+    let taken = prev_break(room + 1, text.as_bytes());
     if taken < MIN_CUT_BYTES.saturating_sub(rest.len()).max(1) {
         let front = cut_at_seam(rest, text);
         *rest = front.rest;

@@ -40,7 +40,13 @@ fn shared_breaks(first: &str, second: &str, breaks: LineBreaks) -> usize
 
 /// The counts of a text with another between its front and its back, by the counts of the whole: only the new text is gone
 /// over, and the ends.
-fn info_between(info: TextInfo, front: &str, added: &str, back: &str, breaks: LineBreaks) -> TextInfo
+fn info_between(
+    info: TextInfo,
+    front: &str,
+    added: &str,
+    back: &str,
+    breaks: LineBreaks,
+) -> TextInfo
     requires info { info ≡ info_of breaks (chars front.now ++ chars back.now) }
     requires fits { info.bytes ≤ 984 }
     requires short { length added.now ≤ 984 }

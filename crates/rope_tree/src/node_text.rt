@@ -36,7 +36,7 @@ fn split_place(text: &str) -> usize
     ensures left { (0 < result) × (result ≤ 984) }
     ensures right { (result < length text.now) × (length text.now ≤ result + 984) }
 {
-    next_break(text.as_bytes(), text.len() / 2 - 2)
+    next_break(text.len() / 2 - 2, text.as_bytes())
 }
 
 /// The bytes of some characters of a text: where the first of them starts, and where what follows them starts.
@@ -241,5 +241,5 @@ pub fn first_leaf_len(text: &str) -> usize
     ensures short { result ≤ 984 }
     ensures last { (k : ℕ) → k ≤ 984 → IsTrue (is_cut text.now k) → k ≤ result }
 {
-    prev_break(text.as_bytes(), MAX_BYTES + 1)
+    prev_break(MAX_BYTES + 1, text.as_bytes())
 }

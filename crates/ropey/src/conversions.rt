@@ -3,7 +3,7 @@
 //! For the text `"é\r\nx"` with Unicode's line breaks, `byte_to_char(1)` is 0, since byte 1 lies inside the `é`;
 //! `char_to_byte(1)` is 2; `char_to_line(2)` is 0, since the place between CR and LF lies on the first line;
 //! `line_to_char(1)` is 3.
-ghost use Rattle.std.specs.Prelude.{◌≡◌, ◌≤◌, length};
+ghost use Rattle.std.specs.Prelude.{◌≡◌, ◌≤◌, ◌<◌, ℕ, length};
 ghost use Rattle.rope_text.specs.Text.{byte_len, utf16_len};
 ghost use Rattle.rope_text.specs.Lines.{line_count};
 ghost use Rattle.rope_text.specs.Conversions.{byte_to_char, byte_to_line, char_to_byte, char_to_line, char_to_utf16, line_to_byte, line_to_char, utf16_to_char};
@@ -20,7 +20,8 @@ impl Rope {
     /// The index is at most `len_bytes()`. Costs one look-up; takes no memory.
     pub fn byte_to_char(&self, byte_idx: usize) -> usize
         requires { byte_idx ≤ byte_len self.now.text }
-        ensures { result ≡ byte_to_char self.now.text byte_idx }
+        ensures value { result ≡ byte_to_char self.now.text byte_idx }
+        ensures within { result ≤ length self.now.text }
     {
         self.byte_to_char_counted(byte_idx, &mut Steps::new())
     }
@@ -104,7 +105,8 @@ impl Rope {
     /// The index is at most `len_chars()`. Costs one look-up; takes no memory.
     pub fn char_to_line(&self, char_idx: usize) -> usize
         requires { char_idx ≤ length self.now.text }
-        ensures { result ≡ char_to_line self.now.breaks self.now.text char_idx }
+        ensures value { result ≡ char_to_line self.now.breaks self.now.text char_idx }
+        ensures within { result < line_count self.now.breaks self.now.text }
     {
         self.char_to_line_counted(char_idx, &mut Steps::new())
     }
@@ -214,7 +216,9 @@ impl Rope {
     /// The index is at most `len_lines()`. Costs one look-up; takes no memory.
     pub fn line_to_char(&self, line_idx: usize) -> usize
         requires { line_idx ≤ line_count self.now.breaks self.now.text }
-        ensures { result ≡ line_to_char self.now.breaks self.now.text line_idx }
+        ensures value { result ≡ line_to_char self.now.breaks self.now.text line_idx }
+        ensures within { result ≤ length self.now.text }
+        ensures ordered { (later : ℕ) → line_idx ≤ later → result ≤ line_to_char self.now.breaks self.now.text later }
     {
         self.line_to_char_counted(line_idx, &mut Steps::new())
     }

@@ -1,7 +1,8 @@
 use Rattle.std.proofs.Common.{arith}
 use Rattle.rope_text.proofs.LineLaws.{line_start-le-length}
 use Rattle.rope_slice.specs.Slice.{text_of, breaks_of}
-use Rattle.rope_position.proofs.Columns.{char_to_line-less, position_by, position_fine}
+use Rattle.rope_text.proofs.ConversionLaws.{char_to_line-less}
+use Rattle.rope_position.proofs.Columns.{position_by, position_fine}
 use Rattle.rope_position.proofs.slices.RopeSlicePositions.try_char_to_position.Goals as goal
 
 pub line_to_char-requires : goal.line_to_char-requires

@@ -2,7 +2,7 @@
 use Rattle.std.proofs.Common.{rules, ◌≡◌, ◌++◌, Bool, true, false, not, length, refl, sym, ap, ◌∙◌, arith}
 use Rattle.std.proofs.lemmas.List.{append-nil}
 use denote.Enum.Bare.{same_true}
-use Rattle.rope_text.specs.contracts.break_count.LineBreaks.{the_type}
+use Rattle.rope_text.specs.contracts.line_breaks.LineBreaks.{the_type}
 use Rattle.ropey.proofs.Refusals.{append_error-none, no_text}
 use Rattle.ropey.proofs.rope.Rope.append_made.Goals.{Else-ne}
 use Rattle.ropey.proofs.rope.Rope.append_made.Goals as goal
