@@ -2,7 +2,7 @@
 ghost use Rattle.std.specs.Prelude.{◌≡◌, ◌+◌, ◌≤◌, ◌<◌, ◌↔◌, length, IsTrue, IfOk, OnOk, OnErr};
 ghost use Rattle.std.specs.Bool.{OnTrue, OnFalse};
 ghost use Rattle.std.specs.Str.{chars};
-ghost use Rattle.rope_text.specs.Conversions.{byte_to_char, line_to_char};
+ghost use Rattle.rope_text.specs.Conversions.{byte_to_char, char_to_line, line_to_char};
 ghost use Rattle.rope_text.specs.Edit.{inserted, removed};
 ghost use Rattle.rope_text.specs.Lines.{line_count};
 ghost use Rattle.rope_text.specs.Text.{byte_len};
@@ -27,6 +27,14 @@ pub fn insert_at_byte(rope: &mut Rope, byte_idx: usize, text: &str) -> Result<()
 {
     let char_idx = rope.byte_to_char(byte_idx);
     rope.insert(char_idx, text)
+}
+
+/// The character at which the line starts on which the character `char_idx` lies.
+pub fn line_start_of(rope: &Rope, char_idx: usize) -> usize
+    requires { char_idx ≤ length rope.now.text }
+    ensures { result ≡ line_to_char rope.now.breaks rope.now.text (char_to_line rope.now.breaks rope.now.text char_idx) }
+{
+    rope.line_to_char(rope.char_to_line(char_idx))
 }
 
 /// Takes the line `line_idx` out, its break with it, and answers whether there is such a line.

@@ -2,7 +2,7 @@
 use rope_callers::copies::copy_without;
 use rope_callers::edits::titled;
 use rope_callers::history::History;
-use rope_callers::places::{insert_at_byte, put_at_end, remove_line};
+use rope_callers::places::{insert_at_byte, line_start_of, put_at_end, remove_line};
 use rope_callers::positions::insert_at_position;
 use rope_callers::search::insert_before_char;
 use rope_position::Position;
@@ -24,6 +24,8 @@ fn places_that_are_inside(rt: HostRuntime) -> Result<(), Fail> {
     assert!(rt; 1 <= rope.len_bytes());
     insert_at_byte(&mut rope, 1, "x")?;
     assert!(rt; rope.eq_str("xä\nb\nc\nd"));
+    assert!(rt; 6 <= rope.len_chars());
+    assert_eq!(rt; line_start_of(&rope, 6), 5);
     assert!(rt; remove_line(&mut rope, 1)?);
     assert!(rt; rope.eq_str("xä\nc\nd"));
     assert!(rt; !remove_line(&mut rope, 3)?);

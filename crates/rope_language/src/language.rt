@@ -60,10 +60,10 @@ fn make(alloc: Global, words: &str) -> Result<Option<Command>, AllocError> {
 
 /// `SET TEXT`, of a rope to be made.
 fn make_with(alloc: Global, words: &str) -> Result<Option<Command>, AllocError> {
-    let Some((breaks, text)) = words.split_once(' ') else {
+    let Some((word, text)) = words.split_once(' ') else {
         return Ok(None);
     };
-    let Some(breaks) = line_breaks(breaks) else {
+    let Some(breaks) = line_breaks(word) else {
         return Ok(None);
     };
     match unescape(alloc, text)? {

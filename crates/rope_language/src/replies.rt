@@ -43,10 +43,10 @@ fn write_reply(out: &mut String, reply: &Reply) -> Result<(), AllocError>
         Reply::Char(c) => quote_alone(out, *c)?,
         Reply::Text(text) => quote(out, text.as_str())?,
         Reply::Texts(texts) => write_texts(out, texts)?,
-        Reply::Breaks(break_count) => out.push_str(breaks_word(*break_count))?,
+        Reply::Breaks(breaks) => out.push_str(breaks_word(*breaks))?,
         Reply::Chunk(text, bytes, chars, break_count) => {
             quote(out, text.as_str())?;
-            write!(out, " {bytes} {chars} {breaks}")?;
+            write!(out, " {bytes} {chars} {break_count}")?;
         }
         Reply::Walk(items) => write_items(out, items)?,
         Reply::Order(order) => out.push_str(order_word(*order))?,
