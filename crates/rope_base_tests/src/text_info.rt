@@ -49,7 +49,7 @@ fn check_counts(rt: &impl Abort, text: &str, k: u8, more: u8, counts: Counts) {
     assert_eq!(rt; info.bytes, text.len());
     assert_eq!(rt; info.chars, chars);
     assert_eq!(rt; info.utf16_surrogates, pairs);
-    assert_eq!(rt; info.break_count, counts.breaks);
+    assert_eq!(rt; info.break_count, counts.break_count);
     assert_eq!(rt; count_utf16(text), chars + pairs);
 }
 
@@ -63,9 +63,9 @@ fn check_places(rt: &impl Abort, text: &str, byte: usize, k: u8, counts: Counts)
     assert_eq!(rt; char_to_utf16_idx(text, idx), unit);
     assert_eq!(rt; utf16_to_char_idx(text, unit), idx);
     assert_eq!(rt; byte_to_surrogates(text, byte), pairs);
-    assert_eq!(rt; char_to_line_idx(text, idx), counts.breaks);
-    if counts.breaks > 0 {
-        assert_eq!(rt; line_to_byte_idx(text, counts.breaks), byte);
+    assert_eq!(rt; char_to_line_idx(text, idx), counts.break_count);
+    if counts.break_count > 0 {
+        assert_eq!(rt; line_to_byte_idx(text, counts.break_count), byte);
     }
 }
 

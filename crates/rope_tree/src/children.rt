@@ -76,6 +76,7 @@ pub fn pack(alloc: Global, nodes: Vec<Rc<Node>>, made: &mut u64) -> Result<Nodes
     ensures leaves { IfOk result (λ p. leaves_of (trees_in p) ≡ leaves_of (trees nodes.items)) }
     ensures shape { IfOk result (λ p. AreParts (breaks_of (trees nodes.items)) (length (trees nodes.items)) (length (trees nodes.items)) (height_of (trees nodes.items) + 1) (trees_in p)) }
     ensures made { made.new ≤ made.old + 2 }
+    ensures rises { made.old ≤ made.new }
 {
     if nodes.len() <= MAX_CHILDREN {
         return Ok(Nodes::One(make_inner(alloc, nodes, made)?));

@@ -97,6 +97,7 @@ fn root_of(
     ensures text { IfOk result (λ node. text node.value ≡ inserted (text old.now) at added.now) }
     ensures breaks { IfOk result (λ node. node.value.breaks ≡ old.now.breaks) }
     ensures made { made.new ≤ made.old + 1 }
+    ensures rises { made.old ≤ made.new }
 {
     match nodes {
         Nodes::One(node) => Ok(node),
@@ -123,6 +124,7 @@ pub fn insert_short(
     ensures text { IfOk result (λ new. text new.value ≡ inserted (text node.now) at added.now) }
     ensures breaks { IfOk result (λ new. new.value.breaks ≡ node.now.breaks) }
     ensures made { made.new ≤ made.old + 2 * node.now.height + 3 }
+    ensures some_made { made.old < 18446744073709551615 → made.old < made.new }
 {
     let to_right = goes_right(node, at, added);
     let nodes = insert(alloc, node, at, added, to_right, made)?;

@@ -30,6 +30,7 @@ pub fn leaf_of(
     ensures ok { IfOk result (λ node. node.value ≡ leaf_tree breaks leaf) }
     ensures tree { IfOk result (λ node. IsTree node.value) }
     ensures made { made.new ≤ made.old + 1 }
+    ensures added { made.old < 18446744073709551615 → made.new ≡ made.old + 1 }
 {
     let info = TextInfo::from_str(leaf.as_str(), breaks);
     make_leaf(alloc, breaks, leaf, info, made)
@@ -50,6 +51,8 @@ fn insert_into_leaf(
     requires short { byte_len added.now ≤ 981 }
     ensures ok { IfOk result (λ nodes. IsInserted node.now (trees_in nodes) (inserted leaf.now at added.now)) }
     ensures made { made.new ≤ made.old + 2 }
+    ensures some_made { made.old < 18446744073709551615 → made.old < made.new }
+    ensures rises { made.old ≤ made.new }
 {
     let breaks = node.line_breaks();
     let info = info_with(node.info(), leaf, at, added, breaks);
@@ -83,6 +86,8 @@ pub fn insert(
     requires side { MayInsert node.now at added.now to_right }
     ensures ok { IfOk result (λ nodes. IsInserted node.now (trees_in nodes) (inserted (text node.now) at added.now)) }
     ensures made { made.new ≤ made.old + 2 * node.now.height + 2 }
+    ensures some_made { made.old < 18446744073709551615 → made.old < made.new }
+    ensures rises { made.old ≤ made.new }
 {
     let _ = node.height();
     match node.view() {

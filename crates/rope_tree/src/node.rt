@@ -190,7 +190,9 @@ pub enum Nodes {
 
 /// Counts a node that is made.
 fn add_made(made: &mut u64)
-    ensures { made.new ≤ made.old + 1 }
+    ensures most { made.new ≤ made.old + 1 }
+    ensures added { made.old < 18446744073709551615 → made.new ≡ made.old + 1 }
+    ensures rises { made.old ≤ made.new }
 {
     *made = made.saturating_add(1);
 }
@@ -207,6 +209,8 @@ pub fn make_leaf(
     ensures ok { IfOk result (λ node. node.value ≡ leaf_tree breaks leaf) }
     ensures tree { IfOk result (λ node. IsTree node.value) }
     ensures made { made.new ≤ made.old + 1 }
+    ensures added { made.old < 18446744073709551615 → made.new ≡ made.old + 1 }
+    ensures rises { made.old ≤ made.new }
 {
     add_made(made);
     let _ = leaf.as_str();
@@ -232,6 +236,8 @@ pub fn make_inner(
     requires { AreChildren (breaks_of (trees children.items)) (height_of (trees children.items)) (trees children.items) }
     ensures ok { IfOk result (λ node. node.value ≡ tree_over (trees children.items)) }
     ensures made { made.new ≤ made.old + 1 }
+    ensures added { made.old < 18446744073709551615 → made.new ≡ made.old + 1 }
+    ensures rises { made.old ≤ made.new }
 {
     add_made(made);
     let height = (children[0].height() + 1) as u8;

@@ -29,6 +29,8 @@ fn leaf_without(
     requires within { end ≤ length leaf.now }
     ensures ok { IfOk result (λ found. IfSome found (λ new. IsRemoved node.now new.value start end)) }
     ensures made { made.new ≤ made.old + 1 }
+    ensures some_made { IfOk result (λ found. IfSome found (λ _. made.old < 18446744073709551615 → made.old < made.new)) }
+    ensures rises { made.old ≤ made.new }
 {
     let breaks = node.line_breaks();
     let mut rest = NodeText::from_str(leaf.as_str());
@@ -51,6 +53,8 @@ pub fn without(
     requires within { end ≤ length (text node.now) }
     ensures ok { IfOk result (λ found. IfSome found (λ new. IsRemoved node.now new.value start end)) }
     ensures made { made.new ≤ made.old + node.now.height + 1 }
+    ensures some_made { IfOk result (λ found. IfSome found (λ _. made.old < 18446744073709551615 → made.old < made.new)) }
+    ensures rises { made.old ≤ made.new }
 {
     let _ = node.height();
     match node.view() {
