@@ -87,7 +87,7 @@ impl Unit {
 
     /// How many line breaks it has.
     pub fn break_count(&self) -> usize {
-        self.breaks.checked_shl(self.times).unwrap_or(0)
+        self.break_count.checked_shl(self.times).unwrap_or(0)
     }
 
     /// The place before a character or at the end.
@@ -97,9 +97,9 @@ impl Unit {
             char_idx,
             byte_idx: char_idx.saturating_mul(self.bytes_a_char),
             unit_idx: char_idx.saturating_mul(self.units_a_char),
-            line_idx: rounds.saturating_mul(self.breaks),
+            line_idx: rounds.saturating_mul(self.break_count),
             line_char: rounds
-                .saturating_mul(self.breaks)
+                .saturating_mul(self.break_count)
                 .saturating_mul(self.chars),
         }
     }
