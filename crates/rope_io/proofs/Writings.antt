@@ -1,18 +1,35 @@
 -- A writing under way.
-use Rattle.std.proofs.Common.{◌≡◌, ℕ, Bool, false, List, [], ◌++◌, sym, ap, subst, ◌∙◌, append_assoc, Option, None, Some}
+use Rattle.std.proofs.Common.{◌≡◌, ◌<◌, ◌==◌, ℕ, Bool, false, List, [], ◌++◌, length, arith, Ok, sym, ap, subst, ◌∙◌, append_assoc, Option, None, Some}
 use Rattle.std.specs.Io.KnownBytes.{Appends}
 use Rattle.std.specs.List.{concat}
 use Rattle.std.specs.Str.{chars, encode_utf8_all, IsUtf8}
+use Rattle.std.proofs.lemmas.Bool.{cond-true, cond-false, ne_eqb}
 use Rattle.std.proofs.lemmas.Str.{encodes-append, encodes-chars}
 use Rattle.std.proofs.lemmas.List.{append-nil}
+use Rattle.std.specs.declared.io.ErrorKind.{ErrorKind}
+use Rattle.std.specs.declared.io.ErrorKind.TheVariants.{WriteZero}
+use Rattle.rope_io.specs.Failing.{write_failure}
 use Rattle.rope_io.specs.Writing.{AppendsFront}
 
+-- no call has failed since the writing began
+pub record NoneFailed (marked : Bool) (failure : Option ErrorKind) (start now : ℕ) : Type 0 where
+  pub clear : marked ≡ false
+  pub none : failure ≡ None
+  pub same : now ≡ start
+
 -- the bytes but the rest have been appended
-pub record IsWriting (start now : Option (List ℕ)) (bytes rest : List ℕ) (marked : Bool) : Type 0 where
+pub record IsWriting (start now : Option (List ℕ)) (bytes rest : List ℕ) : Type 0 where
   pub done : List ℕ
   pub whole : bytes ≡ done ++ rest
   pub appended : Appends start now done
-  pub clear : marked ≡ false
+
+-- a write that took a byte has not failed
+pub took_some : (n : ℕ) (bs : List ℕ) → 0 < n → write_failure (Ok n) bs ≡ None
+took_some n bs some = cond-false _ _ _ (ne_eqb n 0 (λ e. omega (arith, e, some)))
+
+-- and one that took no byte of some has
+pub took_none : (n : ℕ) (bs : List ℕ) → n ≡ 0 → 0 < length bs → write_failure (Ok n) bs ≡ Some WriteZero
+took_none n bs none some = cond-true _ _ _ (ap (λ k. k == 0) none) ∙ cond-false _ _ _ (ne_eqb (length bs) 0 (λ e. omega (arith, e, some)))
 
 pub Appends-none : (known : Option (List ℕ)) → Appends known known []
 Appends-none None = tt
@@ -38,11 +55,10 @@ front_more start mid end bytes done next rest e p q = record {
 }
 
 -- the chunks but those ahead have been written
-pub record IsWritten (start now : Option (List ℕ)) (text : List ℕ) (ahead : List (List ℕ)) (marked : Bool) : Type 0 where
+pub record IsWritten (start now : Option (List ℕ)) (text : List ℕ) (ahead : List (List ℕ)) : Type 0 where
   pub before : List ℕ
   pub whole : text ≡ before ++ concat ahead
   pub appended : Appends start now (encode_utf8_all before)
-  pub clear : marked ≡ false
 
 -- one more chunk was written whole
 pub chunk_written : (start mid end : Option (List ℕ)) (before s : List ℕ) → IsUtf8 s → Appends start mid (encode_utf8_all before) → Appends mid end s

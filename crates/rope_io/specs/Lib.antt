@@ -1,3 +1,4 @@
+pub mod Failing
 pub mod Laws
 pub mod ReadErrorText
 pub mod Reading

@@ -1,5 +1,6 @@
 -- What a clause reads of a watched device.
-use Rattle.std.specs.Prelude.{Bool, false}
+use Rattle.std.specs.Prelude.{ℕ, Bool, false, Option, None}
+use Rattle.std.specs.declared.io.ErrorKind.{ErrorKind}
 use Rattle.rope_io.specs.declared.device.Watched.{Watched}
 
 -- the device
@@ -10,6 +11,14 @@ watched_inner w = w.inner
 abbrev pub watched_failed : {T : Type 0} → Watched T → Bool
 watched_failed w = w.failed
 
+-- how the last call failed
+abbrev pub watched_failure : {T : Type 0} → Watched T → Option ErrorKind
+watched_failure w = w.failure
+
+-- how many calls have failed
+abbrev pub watched_failures : {T : Type 0} → Watched T → ℕ
+watched_failures w = w.failures
+
 -- the same device, with no mark
 abbrev pub unmarked : {T : Type 0} → Watched T → Watched T
-unmarked w = record { inner = w.inner; failed = false }
+unmarked w = record { inner = w.inner; failed = false; failure = None; failures = w.failures }

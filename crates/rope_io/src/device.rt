@@ -1,17 +1,27 @@
 //! Readers and writers that mark their failures.
-ghost use Rattle.std.specs.Prelude.{◌≡◌, ℕ, ◌<◌, ◌⊎◌, Bool, true, false, List, length, OnOk, OnErr, IfOk, Option, refl};
+ghost use Rattle.std.specs.Prelude.{◌≡◌, ℕ, ◌<◌, ◌⊎◌, Bool, true, false, List, length, OnOk, OnErr, IfOk, Option, None, Some, refl};
 ghost use Rattle.std.specs.Io.{ReadsAtMost, WritesAtMost};
 ghost use Rattle.std.specs.Io.KnownBytes.{ReadConsumes, WriteAppends};
-ghost use Rattle.rope_io.specs.Watching.{watched_inner, watched_failed, unmarked};
+ghost use Rattle.std.specs.declared.io.ErrorKind.{ErrorKind};
+ghost use Rattle.rope_io.specs.Failing.{failure_of, write_failure, count_failure};
+ghost use Rattle.rope_io.specs.Watching.{watched_inner, watched_failed, watched_failure, watched_failures, unmarked};
 
-use std::io::{self, Read, Write};
+use std::io::{self, ErrorKind, Read, Write};
 
-/// A device that can be asked whether it has failed: it carries a mark.
+/// A device that can be asked whether it has failed: it carries a mark. Clauses also know how its last call failed, and
+/// how many have.
 pub trait Mark {
     /// Whether the mark is set.
     ghost marked: { Self → Bool };
 
-    /// The same device without the mark.
+    /// The kind in which the last read or write failed since the mark was last cleared. There is none where it didn't
+    /// fail, and none where nothing was read or written since. A write that takes no byte of some fails as `WriteZero`.
+    ghost failure: { Self → Option ErrorKind };
+
+    /// How many reads and writes have failed. It is never cleared, and stops at `u64::MAX`.
+    ghost failures: { Self → ℕ };
+
+    /// The same device without the mark, of which no failure is known but for the count.
     ghost cleared: { Self → Self };
 
     /// Takes the mark away, and reads and writes nothing.
@@ -23,6 +33,10 @@ pub trait Mark {
         ensures { result ≡ marked self.now };
 
     ghost cleared_unmarked: { (s : Self) → marked (cleared s) ≡ false };
+
+    ghost cleared_failure: { (s : Self) → failure (cleared s) ≡ None };
+
+    ghost cleared_failures: { (s : Self) → failures (cleared s) ≡ failures s };
 }
 
 /// A reader that marks its failures.
@@ -35,7 +49,9 @@ pub trait Source: Mark {
         ensures bound { ReadsAtMost result buf.new }
         ensures bytes { ReadConsumes (remaining self.old) (remaining self.new) result buf.new }
         ensures ok { OnOk result (Self.marked self.new ≡ Self.marked self.old) }
-        ensures err { OnErr result (Self.marked self.new ≡ true) };
+        ensures err { OnErr result (Self.marked self.new ≡ true) }
+        ensures failure { Self.failure self.new ≡ failure_of result }
+        ensures failures { Self.failures self.new ≡ count_failure (failure_of result) (Self.failures self.old) };
 
     ghost cleared_remaining: { (s : Self) → remaining (Self.cleared s) ≡ remaining s };
 }
@@ -52,16 +68,20 @@ pub trait Sink: Mark {
         ensures bytes { WriteAppends (contents self.old) (contents self.new) result buf.now }
         ensures ok { IfOk result (λ n. (0 < n) ⊎ (length buf.now ≡ 0) → Self.marked self.new ≡ Self.marked self.old) }
         ensures none { IfOk result (λ n. n ≡ 0 → 0 < length buf.now → Self.marked self.new ≡ true) }
-        ensures err { OnErr result (Self.marked self.new ≡ true) };
+        ensures err { OnErr result (Self.marked self.new ≡ true) }
+        ensures failure { Self.failure self.new ≡ write_failure result buf.now }
+        ensures failures { Self.failures self.new ≡ count_failure (write_failure result buf.now) (Self.failures self.old) };
 
     ghost cleared_contents: { (s : Self) → contents (Self.cleared s) ≡ contents s };
 }
 
-/// A reader or a writer, and whether it has failed. It passes reads and writes on.
+/// A reader or a writer, whether it has failed, and what clauses know of its failures. It passes reads and writes on.
 #[derive(Drop)]
 pub struct Watched<T> {
     inner: T,
     failed: bool,
+    failure: Option<ErrorKind>,
+    failures: u64,
 }
 
 impl<T> Watched<T> {
@@ -69,10 +89,14 @@ impl<T> Watched<T> {
     pub fn new(inner: T) -> Watched<T>
         ensures inner { watched_inner result ≡ inner }
         ensures failed { watched_failed result ≡ false }
+        ensures failure { watched_failure result ≡ None }
+        ensures failures { watched_failures result ≡ 0 }
     {
         Watched {
             inner,
             failed: false,
+            failure: None,
+            failures: 0,
         }
     }
 
@@ -80,20 +104,46 @@ impl<T> Watched<T> {
     pub fn into_inner(self) -> T
         ensures { result ≡ watched_inner self }
     {
-        let Watched { inner, failed: _ } = self;
+        let Watched {
+            inner,
+            failed: _,
+            failure: _,
+            failures: _,
+        } = self;
         inner
+    }
+
+    // Marks a failure of this kind.
+    fn fail(&mut self, kind: ErrorKind)
+        ensures inner { watched_inner self.new ≡ watched_inner self.old }
+        ensures failed { watched_failed self.new ≡ true }
+        ensures failure { watched_failure self.new ≡ Some kind }
+        ensures failures { watched_failures self.new ≡ count_failure (Some kind) (watched_failures self.old) }
+    {
+        self.failed = true;
+        self.failure = Some(kind);
+        self.failures = self.failures.saturating_add(1);
     }
 }
 
 impl<T> Mark for Watched<T> {
     ghost marked = { watched_failed };
 
+    ghost failure = { watched_failure };
+
+    ghost failures = { watched_failures };
+
     ghost cleared = { unmarked };
 
     ghost cleared_unmarked = { λ _. refl };
 
+    ghost cleared_failure = { λ _. refl };
+
+    ghost cleared_failures = { λ _. refl };
+
     fn clear(&mut self) {
         self.failed = false;
+        self.failure = None;
     }
 
     fn failed(&self) -> bool {
@@ -108,8 +158,9 @@ impl<T: Read> Source for Watched<T> {
 
     fn take(&mut self, buf: &mut [u8]) -> io::Result<usize> {
         let result = self.inner.read(buf);
-        if result.is_err() {
-            self.failed = true;
+        match &result {
+            Ok(_) => self.failure = None,
+            Err(error) => self.fail(error.kind()),
         }
         result
     }
@@ -123,9 +174,9 @@ impl<T: Write> Sink for Watched<T> {
     fn give(&mut self, buf: &[u8]) -> io::Result<usize> {
         let result = self.inner.write(buf);
         match &result {
-            Ok(0) if !buf.is_empty() => self.failed = true,
-            Ok(_) => {}
-            Err(_) => self.failed = true,
+            Ok(0) if !buf.is_empty() => self.fail(ErrorKind::WriteZero),
+            Ok(_) => self.failure = None,
+            Err(error) => self.fail(error.kind()),
         }
         result
     }

@@ -5,6 +5,7 @@ ghost use Rattle.rope_text.specs.Text.{byte_len};
 ghost use Rattle.rope_text.specs.Edit.{size_error, IsRefusal};
 ghost use Rattle.rope_text.specs.Read.{text_front, text_rest};
 ghost use Rattle.rope_tree.specs.Tree.{text, IsTree};
+ghost use Rattle.rope_io.specs.Failing.{reader_failure, count_failure};
 ghost use Rattle.rope_io.specs.Reading.{Reads};
 
 use crate::device::Source;
@@ -79,6 +80,8 @@ fn read_texts<S: Source>(
     requires clear { S.marked source.old ≡ false }
     ensures answer { Reads (λ _. builder.new.text) (S.remaining source.old) (S.remaining source.new)
         (S.marked source.new) result }
+    ensures failure { S.failure source.new ≡ reader_failure result }
+    ensures once { S.failures source.new ≡ count_failure (reader_failure result) (S.failures source.old) }
     ensures utf8 { OnOk result (IsUtf8 (encode_utf8_all builder.new.text)) }
     ensures fits { OnOk result (byte_len builder.new.text < 2 ^ 63) }
     ensures breaks { builder.new.breaks ≡ builder.old.breaks }
@@ -111,9 +114,10 @@ fn read_texts<S: Source>(
 ///
 /// # Errors
 ///
-/// A failed read is answered at once as `Read`, an interrupted one too. Bytes that are no UTF-8 are answered as
-/// `InvalidData`, at the end of the source or once 1,968 bytes have been read from the first on that is not. A text of
-/// more than `isize::MAX` bytes so far, and a refusal of memory, are returned as `Rope`.
+/// A failed read is answered at once as `Read`, an interrupted one too, and the source is not called again. Bytes that
+/// are no UTF-8 are answered as `InvalidData`, at the end of the source or once 1,968 bytes have been read from the
+/// first on that is not. A text of more than `isize::MAX` bytes so far, and a refusal of memory, are returned as
+/// `Rope`.
 pub fn read_tree<S: Source>(
     alloc: Global,
     source: &mut S,
@@ -121,6 +125,8 @@ pub fn read_tree<S: Source>(
 ) -> std::result::Result<Rc<Node>, ReadError>
     ensures answer { Reads (λ node. text node.value) (S.remaining source.old) (S.remaining source.new)
         (S.marked source.new) result }
+    ensures failure { S.failure source.new ≡ reader_failure result }
+    ensures once { S.failures source.new ≡ count_failure (reader_failure result) (S.failures source.old) }
     ensures breaks { IfOk result (λ node. node.value.breaks ≡ breaks) }
     ensures tree { IfOk result (λ node. IsTree node.value) }
     ensures few { IfOk result (λ node. length node.value.leaves ≤ (byte_len (text node.value) + 980) / 981) }

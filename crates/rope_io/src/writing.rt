@@ -1,8 +1,9 @@
 //! Texts written whole, chunk by chunk.
-ghost use Rattle.std.specs.Prelude.{◌≡◌, ◌↔◌, true, false, OnOk, OnErr, IsErr};
+ghost use Rattle.std.specs.Prelude.{◌≡◌, ◌↔◌, true, false, OnOk, OnErr, IsErr, None};
 ghost use Rattle.std.specs.Io.KnownBytes.{Appends};
 ghost use Rattle.std.specs.Str.{encode_utf8_all};
 ghost use Rattle.rope_part.specs.Part.{text_of};
+ghost use Rattle.rope_io.specs.Failing.{failure_of, count_failure};
 ghost use Rattle.rope_io.specs.Writing.{AppendsFront};
 
 use crate::device::Sink;
@@ -12,11 +13,14 @@ use std::io::{self, ErrorKind};
 
 // Writes all the bytes, in as many writes as it takes.
 fn write_bytes<S: Sink>(sink: &mut S, bytes: &[u8]) -> io::Result<()>
-    requires { S.marked sink.old ≡ false }
+    requires clear { S.marked sink.old ≡ false }
+    requires none { S.failure sink.old ≡ None }
     ensures ok { OnOk result (Appends (S.contents sink.old) (S.contents sink.new) bytes.now) }
     ensures clear { OnOk result (S.marked sink.new ≡ false) }
     ensures err { OnErr result (S.marked sink.new ≡ true) }
     ensures front { AppendsFront (S.contents sink.old) (S.contents sink.new) bytes.now }
+    ensures failure { S.failure sink.new ≡ failure_of result }
+    ensures once { S.failures sink.new ≡ count_failure (failure_of result) (S.failures sink.old) }
 {
     let mut rest = bytes;
     while !rest.is_empty() {
@@ -37,11 +41,13 @@ fn write_bytes<S: Sink>(sink: &mut S, bytes: &[u8]) -> io::Result<()>
 /// # Errors
 ///
 /// An error of the sink is answered at once, an interrupted write's too, and a write that takes no byte of some is an
-/// error of the kind `WriteZero`. Then a beginning of the text has been written.
+/// error of the kind `WriteZero`. Then a beginning of the text has been written, and the sink is not called again.
 pub fn write_part<S: Sink>(part: &Part<'_>, sink: &mut S) -> io::Result<()>
     ensures ok { OnOk result (Appends (S.contents sink.old) (S.contents sink.new) (encode_utf8_all (text_of part.now))) }
     ensures front { AppendsFront (S.contents sink.old) (S.contents sink.new) (encode_utf8_all (text_of part.now)) }
     ensures failed { IsErr result ↔ (S.marked sink.new ≡ true) }
+    ensures failure { S.failure sink.new ≡ failure_of result }
+    ensures once { S.failures sink.new ≡ count_failure (failure_of result) (S.failures sink.old) }
 {
     sink.clear();
     // This opens what every part keeps: its chunks join to its text.

@@ -9,6 +9,7 @@ ghost use Rattle.std.specs.Prelude.{◌≡◌, ℕ, List, Bool, Option, true, �
 ghost use Rattle.std.specs.Io.KnownBytes.{Appends};
 ghost use Rattle.std.specs.Str.{encode_utf8_all};
 ghost use Rattle.rope_text.specs.declared.line_breaks.LineBreaks.TheVariants.{Unicode};
+ghost use Rattle.rope_io.specs.Failing.{failure_of, reader_failure, count_failure};
 ghost use Rattle.rope_io.specs.Reading.{Reads, IsReadFailure};
 ghost use Rattle.rope_io.specs.Writing.{AppendsFront};
 ghost use Rattle.ropey.specs.View.{IsRope, HasFewChunks, text_of};
@@ -50,13 +51,15 @@ impl Rope {
     /// # Errors
     ///
     /// `Read`, `InvalidData` and `Rope`, as for `from_reader`; the mark is set afterwards exactly where the answer
-    /// is `Read`.
+    /// is `Read`. Then one read has failed, with the kind that is answered, and the source was not called again.
     pub fn from_watched<S: Source>(
         alloc: Global,
         source: &mut S,
     ) -> std::result::Result<Rope, ReadError>
         // The bytes that were given decide the answer,
         ensures answer { Reads text_of (S.remaining source.old) (S.remaining source.new) (S.marked source.new) result }
+        ensures failure { S.failure source.new ≡ reader_failure result }
+        ensures once { S.failures source.new ≡ count_failure (reader_failure result) (S.failures source.old) }
 
         // so an `Ok` has the text of the whole input, and the mark says a failed device.
         ensures ok { IfOk result (λ rope. IfSome (S.remaining source.old) (λ bytes. encode_utf8_all rope.text ≡ bytes)) }
@@ -93,13 +96,15 @@ impl Rope {
     /// # Errors
     ///
     /// `Read`, `InvalidData` and `Rope`, as for `from_reader`; the mark is set afterwards exactly where the answer
-    /// is `Read`.
+    /// is `Read`. Then one read has failed, with the kind that is answered, and the source was not called again.
     pub fn from_watched_with<S: Source>(
         alloc: Global,
         source: &mut S,
         breaks: LineBreaks,
     ) -> std::result::Result<Rope, ReadError>
         ensures answer { Reads text_of (S.remaining source.old) (S.remaining source.new) (S.marked source.new) result }
+        ensures failure { S.failure source.new ≡ reader_failure result }
+        ensures once { S.failures source.new ≡ count_failure (reader_failure result) (S.failures source.old) }
         ensures ok { IfOk result (λ rope. IfSome (S.remaining source.old) (λ bytes. encode_utf8_all rope.text ≡ bytes)) }
         ensures failed { IsReadFailure result ↔ (S.marked source.new ≡ true) }
         ensures breaks { IfOk result (λ rope. rope.breaks ≡ breaks) }
@@ -128,11 +133,13 @@ impl Rope {
     ///
     /// A write's error, at once, an interrupted one too; of the kind `WriteZero` where the writer takes no byte of
     /// some. Then a beginning of the text has been written. The mark is set afterwards exactly where an error is
-    /// returned.
+    /// returned; then one write has failed, with that kind, and the sink was not called again.
     pub fn write_watched<S: Sink>(&self, sink: &mut S) -> io::Result<()>
         ensures ok { OnOk result (Appends (S.contents sink.old) (S.contents sink.new) (encode_utf8_all self.now.text)) }
         ensures front { AppendsFront (S.contents sink.old) (S.contents sink.new) (encode_utf8_all self.now.text) }
         ensures failed { IsErr result ↔ (S.marked sink.new ≡ true) }
+        ensures failure { S.failure sink.new ≡ failure_of result }
+        ensures once { S.failures sink.new ≡ count_failure (failure_of result) (S.failures sink.old) }
     {
         write_part(&Part::of_node(self.root()), sink)
     }

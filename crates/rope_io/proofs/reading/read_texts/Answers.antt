@@ -12,6 +12,7 @@ loop-count-init g c = record {
     size = refl;
     clear = c.requires.clear;
   };
+  none_failed = refl;
   breaks = refl;
 }
 
@@ -127,5 +128,6 @@ loop-count-preserved g c =
         size = omega (arith, i.size, c.settle.auto.buffer);
         clear = c.in-Ok.ensures.ok ∙ i.clear;
       };
+      none_failed = c.in-Ok.ensures.failures ∙ c.loop-count.invariant.none_failed;
       breaks = e.breaks ∙ c.loop-count.invariant.breaks;
     }

@@ -10,27 +10,39 @@ pub loop-chunk-init : goal.loop-chunk-init
 loop-chunk-init g c =
     let old = c.args.sink.now in
     record {
-      before = [];
-      whole = sym c.info.ensures.kept.cut.joined ∙ ap (λ x. concat (ahead x)) (sym (c.into_iter-chunk-iterator.ensures.into_iter_gives ∙ c.new-chunk-items.ensures));
-      appended = rw (c.clear.ensures, g.met.S.Sink.cleared_contents old) (Appends-none (g.S.Sink.contents old));
-      clear = rw c.clear.ensures (g.met.S.Mark.cleared_unmarked old);
+      written = record {
+        before = [];
+        whole = sym c.info.ensures.kept.cut.joined ∙ ap (λ x. concat (ahead x)) (sym (c.into_iter-chunk-iterator.ensures.into_iter_gives ∙ c.new-chunk-items.ensures));
+        appended = rw (c.clear.ensures, g.met.S.Sink.cleared_contents old) (Appends-none (g.S.Sink.contents old));
+      };
+      none_failed = record {
+        clear = rw c.clear.ensures (g.met.S.Mark.cleared_unmarked old);
+        none = rw c.clear.ensures (g.met.S.Mark.cleared_failure old);
+        same = rw c.clear.ensures (g.met.S.Mark.cleared_failures old);
+      };
     }
 
 pub loop-chunk-preserved : goal.loop-chunk-preserved
 loop-chunk-preserved g c =
-    let i = c.loop-chunk.invariant in
+    let i = c.loop-chunk.invariant.written in
     let s = c.as_bytes.result.now in
     let more = ahead c.next.new.self in
     record {
-      before = i.before ++ chars s;
-      whole = i.whole ∙ ap (λ a. i.before ++ concat a) (c.in-Some.ensures.steps ∙ ap (λ b. chars b ∷ more) (sym c.as_bytes.ensures.value)) ∙ sym (append_assoc i.before (chars s) (concat more));
-      appended = chunk_written _ _ _ i.before s c.as_bytes.ensures.utf8 i.appended c.in-Ok.ensures.ok;
-      clear = c.in-Ok.ensures.clear;
+      written = record {
+        before = i.before ++ chars s;
+        whole = i.whole ∙ ap (λ a. i.before ++ concat a) (c.in-Some.ensures.steps ∙ ap (λ b. chars b ∷ more) (sym c.as_bytes.ensures.value)) ∙ sym (append_assoc i.before (chars s) (concat more));
+        appended = chunk_written _ _ _ i.before s c.as_bytes.ensures.utf8 i.appended c.in-Ok.ensures.ok;
+      };
+      none_failed = record {
+        clear = c.in-Ok.ensures.clear;
+        none = c.in-Ok.ensures.failure;
+        same = c.in-Ok.ensures.once ∙ c.loop-chunk.invariant.none_failed.same;
+      };
     }
 
 pub returns-in-Err-clause-front : goal.returns-in-Err-clause-front
 returns-in-Err-clause-front g c =
-    let i = c.loop-chunk.invariant in
+    let i = c.loop-chunk.invariant.written in
     let s = c.as_bytes.result.now in
     let more = ahead c.next.new.self in
     chunk_begun _ _ _ (text_of c.args.part.now) i.before s more c.as_bytes.ensures.utf8
@@ -39,5 +51,5 @@ returns-in-Err-clause-front g c =
 
 pub returns-clause-front : goal.returns-clause-front
 returns-clause-front g c =
-    let i = c.loop-chunk.invariant in
+    let i = c.loop-chunk.invariant.written in
     front_all _ _ _ (all_written _ _ _ i.before (ahead c.loop-chunk.chunk-iterator) c.in-None.ensures.steps.0 i.whole i.appended)
