@@ -109,7 +109,12 @@ fn chars_of_line(line: Option<ropey::RopeSlice<'_>>) -> Option<usize> {
 fn lines(rt: HostRuntime) -> Result<(), Fail> {
     for long in all(rt.alloc())? {
         let break_count = long.unit.break_count();
-        for line_idx in [0, break_count / 2, break_count, break_count.saturating_add(1)] {
+        for line_idx in [
+            0,
+            break_count / 2,
+            break_count,
+            break_count.saturating_add(1),
+        ] {
             let mut lines = given(long.rope.get_lines_at(line_idx))?;
             assert_eq!(rt;
                 lines.len(),
@@ -123,7 +128,11 @@ fn lines(rt: HostRuntime) -> Result<(), Fail> {
                 assert!(rt; line.eq_str(long.unit.text));
             }
         }
-        assert!(rt; long.rope.get_lines_at(break_count.saturating_add(2)).is_none());
+        assert!(rt;
+            long.rope
+                .get_lines_at(break_count.saturating_add(2))
+                .is_none()
+        );
         assert!(rt; long.rope.get_lines_at(usize::MAX).is_none());
         assert!(rt; long.rope.get_line(break_count.saturating_add(1)).is_none());
         assert!(rt; long.rope.get_line(usize::MAX).is_none());

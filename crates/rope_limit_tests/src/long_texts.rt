@@ -286,7 +286,10 @@ fn holds(found: (&str, usize, usize, usize), unit: &Unit, place: Place) -> bool 
     let start = unit.place(char_idx);
     let end = byte_idx.saturating_add(chunk.len());
     let is_in = place.byte_idx < end || (end == WHOLE && place.byte_idx == end);
-    start.byte_idx == byte_idx && start.line_idx == break_count && byte_idx <= place.byte_idx && is_in
+    start.byte_idx == byte_idx
+        && start.line_idx == break_count
+        && byte_idx <= place.byte_idx
+        && is_in
 }
 
 #[test]

@@ -143,7 +143,11 @@ fn show_reply(rt: &impl Print, reply: &Reply) -> Option<()> {
         Reply::Text(text) => println!(rt; "a text of {}", text.len()).ok(),
         Reply::Texts(texts) => println!(rt; "{} texts", texts.len()).ok(),
         Reply::Chunk(text, bytes, chars, break_count) => {
-            println!(rt; "a chunk of {} at {bytes} {chars} {break_count}", text.len()).ok()
+            println!(rt;
+                "a chunk of {} at {bytes} {chars} {break_count}",
+                text.len()
+            )
+            .ok()
         }
         Reply::Walk(items) => println!(rt; "{} items", items.len()).ok(),
         Reply::Order(Ordering::Less) => println!(rt; "less").ok(),

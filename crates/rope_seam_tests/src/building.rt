@@ -20,7 +20,12 @@ fn build(alloc: Global, plain: &[char], breaks: LineBreaks) -> Result<(), Fail> 
 }
 
 /// Ropes of each text with such a word where a leaf is cut.
-fn build_words(alloc: Global, letters: &[&str], count: usize, breaks: LineBreaks) -> Result<(), Fail> {
+fn build_words(
+    alloc: Global,
+    letters: &[&str],
+    count: usize,
+    breaks: LineBreaks,
+) -> Result<(), Fail> {
     let all = words(alloc, letters, count)?;
     for before in SHORTEST..=LONGEST {
         for word in &all {

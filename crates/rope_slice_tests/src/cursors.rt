@@ -75,9 +75,9 @@ fn chunks_at_the_end(rt: HostRuntime) -> Result<(), Fail> {
     let (last, _, _, _) = given(rope.get_chunk_at_byte(20_000))?;
     assert!(rt; chunks.prev() == Some(last));
     assert!(rt; chunks.next() == Some(last) && chunks.next().is_none());
-    let (mut chunks, bytes, chars, break_count) = given(RopeSlice::from("abc").get_chunks_at_line_break(
-        1,
-    ))?;
+    let (mut chunks, bytes, chars, break_count) = given(RopeSlice::from(
+        "abc",
+    ).get_chunks_at_line_break(1))?;
     assert_eq!(rt; [bytes, chars, break_count], [3, 3, 0]);
     assert!(rt; chunks.next().is_none());
     assert!(rt; chunks.prev() == Some("abc") && chunks.prev().is_none());

@@ -197,7 +197,11 @@ fn compare_str(alloc: Global, numbers: &mut Numbers, breaks: LineBreaks) -> Resu
         ends: &ends,
         breaks,
     };
-    compare_nested(numbers, RopeSlice::from_str_with(text.as_str(), breaks), all)
+    compare_nested(
+        numbers,
+        RopeSlice::from_str_with(text.as_str(), breaks),
+        all,
+    )
 }
 
 #[test]

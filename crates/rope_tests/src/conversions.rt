@@ -82,7 +82,8 @@ fn compare_lines(rt: &impl Abort, sample: &Sample, from: usize, breaks: LineBrea
         let start = plain_text::line_to_char(chars, line, breaks);
         assert!(rt; str_utils::line_to_char_with(text, line, breaks) == start);
         assert!(rt;
-            str_utils::line_to_byte_with(text, line, breaks) == plain_text::char_to_byte(chars, start)
+            str_utils::line_to_byte_with(text, line, breaks)
+                == plain_text::char_to_byte(chars, start)
         );
     }
 }
