@@ -39,6 +39,9 @@ fi
 # `rt must-fail` says a line for each change: refused, as it must be; NOT REFUSED; or BAD EDIT.
 (cd "$work" && rt must-fail "$crate") > "$work/said" 2>&1 || true
 refused=$(grep -c ': refused, as it must be' "$work/said" || true)
-grep -v ': refused, as it must be' "$work/said" || true
+if ! grep -q '^rt: must-fail ' "$work/said"; then
+    tail -n 5 "$work/said" >&2
+fi
+grep '^rt: must-fail ' "$work/said" | grep -v ': refused, as it must be' || true
 echo "$changes changes, each by itself: $refused refused, $((changes - refused)) not"
 [ "$refused" = "$changes" ]
