@@ -21,7 +21,7 @@ use Rattle.rope_text.proofs.CuttingLaws.{concat-append}
 use Rattle.rope_text.proofs.LineLaws.{line_start-le-length}
 use Rattle.rope_text.proofs.SliceLaws.{char_to_line_early}
 use Rattle.rope_text.proofs.LineSeams.{never, break_count-apart, last_start-left, last_start-right}
-use Rattle.rope_part.proofs.Measured.{same_info}
+use Rattle.rope_text.proofs.InfoLaws.{same_info}
 use Rattle.rope_cursor.specs.Path.{Place, IsNext}
 use Rattle.rope_cursor.specs.Gap.{halves_at, AreChunks, IsGap, PassesBack, PassedBack, PassedBackTo}
 use Rattle.rope_cursor.proofs.Spans.{leaves_next}

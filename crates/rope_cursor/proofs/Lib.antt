@@ -15,4 +15,3 @@ pub mod GapSteps
 pub mod GapsBack
 pub mod LineCounts
 pub mod LineNear
-pub mod Scans

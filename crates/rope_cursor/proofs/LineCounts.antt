@@ -26,7 +26,7 @@ use Rattle.rope_text.specs.LineParts.{first_line, last_start}
 use Rattle.rope_text.proofs.Measures.{size_lt, IsMeasure-byte_len}
 use Rattle.rope_text.proofs.LineLaws.{line_start-le-length}
 use Rattle.rope_text.proofs.LineSeams.{break_count-front, first_line-all, last_start-right}
-use Rattle.rope_part.proofs.Measured.{same_info}
+use Rattle.rope_text.proofs.InfoLaws.{same_info}
 use Rattle.rope_cursor.proofs.PartsBetween.{char_at_byte}
 
 -- a line that ends before the text does has one break

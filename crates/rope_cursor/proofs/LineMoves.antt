@@ -13,7 +13,7 @@ use Rattle.rope_text.specs.LineParts.{part_between, line_of, first_line, last_st
 use Rattle.rope_text.proofs.LineLaws.{line_start-le-length, line_start_mono}
 use Rattle.rope_text.proofs.LineSeams.{line_start_apart, break_count-front, first_line-drop, last_start-take}
 use Rattle.rope_part.proofs.LeafLines.{next_counts}
-use Rattle.rope_part.proofs.Measured.{same_info}
+use Rattle.rope_text.proofs.InfoLaws.{same_info}
 use Rattle.rope_part.proofs.Stretches.{front_and_part, part_of_front, length_part}
 use Rattle.rope_cursor.specs.Gap.{Halves}
 use Rattle.rope_cursor.specs.Lines.{IsLineStart}

@@ -16,7 +16,7 @@ use Rattle.rope_text.proofs.LineLaws.{line_start_before, line_start_mono, line_s
 use Rattle.rope_text.proofs.LineSeams.{parts_crlf-take}
 use Rattle.rope_text.proofs.SliceLaws.{line_start-take}
 use Rattle.rope_part.proofs.Clips.{byte_to_char-mono}
-use Rattle.rope_part.proofs.Measured.{same_info}
+use Rattle.rope_text.proofs.InfoLaws.{same_info}
 use Rattle.rope_part.proofs.Stretches.{front_and_part, part_of_front, size_part}
 use Rattle.rope_cursor.proofs.PartsBetween.{breaks_apart, char_at_byte, byte_of_char}
 use Rattle.rope_cursor.proofs.Gaps.{size_front}

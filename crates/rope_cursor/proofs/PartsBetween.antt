@@ -17,7 +17,8 @@ use Rattle.rope_text.proofs.InfoLaws.{surrogate_count-append, info_of-append_apa
 use Rattle.rope_text.proofs.LineSeams.{parts_crlf-take}
 use Rattle.rope_text.proofs.SliceLaws.{break_count-take}
 use Rattle.rope_part.specs.Edge.{start_info, end_info, IsStretch}
-use Rattle.rope_part.proofs.Measured.{measured, same_info}
+use Rattle.rope_part.proofs.Measured.{measured}
+use Rattle.rope_text.proofs.InfoLaws.{same_info}
 use Rattle.rope_part.proofs.Stretches.{front_and_part, length_part, break_count_part, char_to_line_part, size_part}
 use Rattle.rope_part.proofs.Clips.{part_of_part}
 

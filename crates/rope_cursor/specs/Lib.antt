@@ -7,4 +7,3 @@ pub mod Span
 pub mod Lines
 pub mod Starts
 pub mod Gap
-pub mod Scan

@@ -4,7 +4,6 @@ ghost use Rattle.rope_text.specs.Cutting.{parts_crlf};
 ghost use Rattle.std.specs.List.{concat};
 ghost use Rattle.std.specs.Str.{chars};
 ghost use Rattle.rope_text.specs.Breaks.{break_count};
-ghost use Rattle.rope_text.specs.ByteBreaks.{char_width};
 ghost use Rattle.rope_text.specs.Conversions.{line_to_byte};
 ghost use Rattle.rope_text.specs.LineParts.{first_line, last_start};
 ghost use Rattle.rope_text.specs.Text.{byte_len};
@@ -13,7 +12,6 @@ ghost use Rattle.rope_part.specs.Part.{text_of};
 ghost use Rattle.rope_cursor.specs.Gap.{before_byte, after_byte, AreChunks, IsBetween, PassesLine, PassesBack};
 
 use crate::cuts::{byte_len_of, text_after, text_before};
-use crate::scan::to_first_break;
 use crate::span::Span;
 use rope_part::Part;
 use rope_text::crlf::prev_break;
@@ -41,43 +39,6 @@ impl<'a> Model for Gap<'a> {
     ghost invariant = { λ a. IsGap a.span a.inside };
 }
 
-// How many bytes the character has that begins with a byte.
-#[inline(always)]
-fn width_of(byte: u8) -> usize
-    ensures { result ≡ char_width byte }
-{
-    match byte {
-        0..=0x7F => 1,
-        0x80..=0xDF => 2,
-        0xE0..=0xEF => 3,
-        0xF0..=0xFF => 4,
-    }
-}
-
-// The counts of a text up to the end of its first line break, or of all of it: the text is read once, up to there.
-// Inlined, since what a call answers through memory has to be waited for.
-#[inline(always)]
-fn count_line(text: &str, breaks: LineBreaks) -> TextInfo
-    ensures { result ≡ info_of breaks (first_line breaks (chars text.now)) }
-{
-    let bytes = text.as_bytes();
-    let front = to_first_break(bytes, breaks);
-    if front.bytes == bytes.len() {
-        return TextInfo {
-            bytes: front.bytes,
-            chars: front.chars,
-            utf16_surrogates: front.pairs,
-            break_count: 0,
-        };
-    }
-    TextInfo {
-        bytes: front.bytes + width_of(bytes[front.bytes]),
-        chars: front.chars + 1,
-        utf16_surrogates: front.pairs,
-        break_count: 1,
-    }
-}
-
 // From the end of a chunk to the end of a line: the place in the last chunk, and the counts of what was passed. Never
 // inlined, so that a step within one chunk is kept short.
 #[inline(never)]
@@ -87,7 +48,7 @@ fn pass_chunks(span: &mut Span<'_>, breaks: LineBreaks) -> (usize, TextInfo)
 {
     let mut passed = TextInfo::new();
     while span.advance() {
-        let more = count_line(span.chunk(), breaks);
+        let more = TextInfo::of_first_line(span.chunk(), breaks);
         passed = passed.plus(more);
         if more.break_count > 0 {
             return (more.bytes, passed);
@@ -160,7 +121,7 @@ fn start_of_line(text: &str, line_idx: usize, breaks: LineBreaks) -> usize
     ensures { result ≡ line_to_byte breaks (chars text.now) line_idx }
 {
     if line_idx == 1 {
-        let first = count_line(text, breaks);
+        let first = TextInfo::of_first_line(text, breaks);
         return first.bytes;
     }
     line_to_byte_with(text, line_idx, breaks)
@@ -262,7 +223,7 @@ impl<'a> Gap<'a> {
         ensures back { self.old.back ≡ first_line breaks self.old.back ++ self.new.back }
         ensures counts { result ≡ info_of breaks (first_line breaks self.old.back) }
     {
-        let first = count_line(text_after(self.span.chunk(), self.inside), breaks);
+        let first = TextInfo::of_first_line(text_after(self.span.chunk(), self.inside), breaks);
         if first.break_count > 0 {
             self.inside += first.bytes;
             return first;

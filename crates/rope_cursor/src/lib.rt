@@ -13,7 +13,6 @@ pub mod lines;
 pub mod path;
 pub mod pieces;
 mod point;
-mod scan;
 pub mod span;
 mod walk;
 

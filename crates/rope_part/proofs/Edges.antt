@@ -12,7 +12,8 @@ use Rattle.rope_text.specs.Cutting.{parts_crlf}
 use Rattle.rope_text.specs.Conversions.{char_to_byte, char_to_line, line_to_byte}
 use Rattle.rope_text.proofs.CuttingLaws.{concat-append, parts_crlf-append}
 use Rattle.rope_text.proofs.ChunkLaws.{before, after, KeepsCrlf_before, KeepsCrlf_at}
-use Rattle.rope_text.proofs.InfoLaws.{surrogate_count-append}
+use Rattle.rope_text.proofs.BreakLaws.{break_count-append}
+use Rattle.rope_text.proofs.InfoLaws.{surrogate_count-append, same_info}
 use Rattle.rope_text.proofs.LineLaws.{line_start-le-length}
 use Rattle.rope_text.proofs.LineSeams.{break_count-front}
 use Rattle.rope_tree.specs.declared.search.Unit.TheVariants.{Char, LineBreak}
@@ -21,7 +22,6 @@ use Rattle.rope_tree.specs.Found.{IsFound}
 use Rattle.rope_tree.proofs.FoundLaws.{lies_at, front_in, found_char, found_char_to_byte, found_char_to_utf16, found_char_to_line, found_line_start, found_line_to_byte}
 use Rattle.rope_tree.proofs.LeafLaws.{nonempty_leaves}
 use Rattle.rope_part.specs.Edge.{start_info, end_info, IsLeafFrom}
-use Rattle.rope_part.proofs.Measured.{same_info}
 
 front_apart : (s leaf rest : List ℕ) (k : ℕ) → 0 < length leaf → parts_crlf s (leaf ++ rest) ≡ false → parts_crlf s (take k leaf) ≡ false
 front_apart s [] rest k some apart = absurd (omega arith)
@@ -65,6 +65,13 @@ module _ (i : ℕ) (t : Tree) (leaf : List ℕ) (front : TextInfo) (tree : IsTre
       let at = lies_at Char i t leaf front f in
       let within = (found_char i t leaf front f).0 in
       e ∙ ap (info_of t.breaks) (sym (front_in i t leaf front tree f.index at f.not_past (omega (arith, f.not_past))))
+
+-- the leaf has the break before the line
+pub line_within : (line : ℕ) (t : Tree) (leaf : List ℕ) (front : TextInfo) → IsFound LineBreak (line - 1) t leaf front → 0 < line → line - front.break_count ≤ break_count t.breaks leaf
+line_within line t leaf front f later =
+    let at = lies_at LineBreak (line - 1) t leaf front f in
+    let past : line - 1 < break_count t.breaks (concat (take (f.index + 1) t.leaves)) = f.past in
+    omega (arith, past, later, ap (break_count t.breaks) at.more, break_count-append t.breaks (before t.leaves f.index) leaf, at.count)
 
 -- the counts before a line that starts behind a break of the leaf
 module _ (line : ℕ) (t : Tree) (leaf : List ℕ) (front : TextInfo) (tree : IsTree t) (f : IsFound LineBreak (line - 1) t leaf front) (later : 0 < line) (within : line ≤ break_count t.breaks (text t)) where

@@ -15,8 +15,7 @@ use Rattle.rope_text.proofs.BreakLaws.{break_count-append, break_count-cons, bre
 use Rattle.rope_text.proofs.TextParts.{lf_first}
 use Rattle.std.proofs.lemmas.Bool.{cases_Bool}
 use Rattle.rope_text.specs.declared.line_breaks.LineBreaks.TheVariants.{Lf, CrLf, Unicode}
-use Rattle.rope_text.proofs.InfoLaws.{surrogate_count-append}
-use Rattle.rope_text.proofs.InfoLaws.{break_count-le-length}
+use Rattle.rope_text.proofs.InfoLaws.{surrogate_count-append, break_count-le-length, same_info}
 use Rattle.rope_part.specs.Edge.{start_info, end_info, IsStretch}
 use Rattle.rope_part.proofs.Stretches.{length_part, size_part, break_count_part, front_and_part}
 
@@ -102,19 +101,6 @@ measured breaks text start end s =
       few_units = utf16_len-le text;
       few_breaks = break_count-le-length breaks text;
     }
-
--- four counts that are the same
-pub same_info : (x y : TextInfo) → x.bytes ≡ y.bytes → x.chars ≡ y.chars → x.utf16_surrogates ≡ y.utf16_surrogates → x.break_count ≡ y.break_count → x ≡ y
-same_info x y bytes chars pairs count =
-    let first : x ≡ record { bytes = y.bytes; chars = x.chars; utf16_surrogates = x.utf16_surrogates; break_count = x.break_count } =
-    ap (λ (n : ℕ). (let r : TextInfo = record { bytes = n; chars = x.chars; utf16_surrogates = x.utf16_surrogates; break_count = x.break_count } in r)) bytes in
-    let second : record { bytes = y.bytes; chars = x.chars; utf16_surrogates = x.utf16_surrogates; break_count = x.break_count } ≡ record { bytes = y.bytes; chars = y.chars; utf16_surrogates = x.utf16_surrogates; break_count = x.break_count } =
-    ap (λ (n : ℕ). (let r : TextInfo = record { bytes = y.bytes; chars = n; utf16_surrogates = x.utf16_surrogates; break_count = x.break_count } in r)) chars in
-    let third : record { bytes = y.bytes; chars = y.chars; utf16_surrogates = x.utf16_surrogates; break_count = x.break_count } ≡ record { bytes = y.bytes; chars = y.chars; utf16_surrogates = y.utf16_surrogates; break_count = x.break_count } =
-    ap (λ (n : ℕ). (let r : TextInfo = record { bytes = y.bytes; chars = y.chars; utf16_surrogates = n; break_count = x.break_count } in r)) pairs in
-    let fourth : record { bytes = y.bytes; chars = y.chars; utf16_surrogates = y.utf16_surrogates; break_count = x.break_count } ≡ y =
-    ap (λ (n : ℕ). (let r : TextInfo = record { bytes = y.bytes; chars = y.chars; utf16_surrogates = y.utf16_surrogates; break_count = n } in r)) count in
-    first ∙ second ∙ third ∙ fourth
 
 -- the counts of the text of a stretch are the differences
 pub info_part : (breaks : LineBreaks) (text : List ℕ) (start end info : TextInfo) → IsStretch breaks text start end → info_sum start info ≡ end → info ≡ info_of breaks (slice_range text start.chars end.chars)

@@ -8,9 +8,7 @@ ghost use Rattle.std.specs.Str.{chars};
 ghost use Rattle.rope_tree.specs.Tree.{text};
 ghost use Rattle.rope_part.specs.Edge.{start_info, end_info, IsLeafFrom};
 
-use rope_text::str_utils::{
-    char_to_byte_idx, char_to_line_with, count_chars, count_surrogates, line_to_byte_with,
-};
+use rope_text::str_utils::{char_to_byte_idx, char_to_line_with, count_surrogates};
 use rope_text::{LineBreaks, Steps, TextInfo};
 use rope_tree::lookup::leaf_at;
 use rope_tree::node::Node;
@@ -72,17 +70,16 @@ fn line_start_at<'a>(node: &'a Node, line_idx: usize) -> LineStart<'a>
     let found = leaf_at(node, Unit::LineBreak, line_idx - 1, &mut Steps::new());
     let leaf = found.leaf.as_str();
     let line = line_idx - found.before.break_count;
-    let bytes = line_to_byte_with(leaf, line, node.line_breaks());
-    let front = &leaf[..bytes];
+    let front = TextInfo::before_line(leaf, line, node.line_breaks());
     let before = TextInfo {
-        bytes: found.before.bytes + bytes,
-        chars: found.before.chars + count_chars(front),
-        utf16_surrogates: found.before.utf16_surrogates + count_surrogates(front),
+        bytes: found.before.bytes + front.bytes,
+        chars: found.before.chars + front.chars,
+        utf16_surrogates: found.before.utf16_surrogates + front.utf16_surrogates,
         break_count: line_idx,
     };
     LineStart {
         before,
-        rest: &leaf[bytes..],
+        rest: &leaf[front.bytes..],
     }
 }
 
@@ -100,15 +97,15 @@ pub fn before_line(node: &Node, line_idx: usize) -> TextInfo
     start.before
 }
 
-// The counts of a text's first line, where it ends before the text does.
+// The counts of a text's first line, where a break ends it.
 fn first_line_info(text: &str, breaks: LineBreaks) -> Option<TextInfo>
     ensures { IfSome result (λ info. (0 < break_count breaks (chars text.now)) × (info ≡ info_of breaks (first_line breaks (chars text.now)))) }
 {
-    let bytes = line_to_byte_with(text, 1, breaks);
-    if bytes == text.len() {
+    let line = TextInfo::of_first_line(text, breaks);
+    if line.break_count == 0 {
         return None;
     }
-    Some(TextInfo::from_str(&text[..bytes], breaks))
+    Some(line)
 }
 
 /// The counts of the text before a line that is not the first, and before the next one. It is one look-up where the line

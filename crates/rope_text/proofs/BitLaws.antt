@@ -2,7 +2,8 @@
 use Rattle.std.proofs.Common.{◌≡◌, ℕ, zero, suc, ◌+◌, ◌-◌, ◌*◌, ◌/◌, ◌%◌, ◌^◌, ◌≤◌, ◌<◌, Bool, true, false, cond, List, [], ◌∷◌, take, count_ones, refl, sym, ap, ap₂, ◌∙◌, arith, add-one}
 use Rattle.std.proofs.Math.Nat.{mod-one, div-one, zero-mod, div-div-eq-div-mul, pow-succ'}
 use Rattle.std.proofs.lemmas.Nat.{ones_le_self, mod-pow-add, pow-add}
-use lib.Count.{ones_step}
+use Rattle.std.specs.Int.Count.{count_trailing_zeros, ones-ones}
+use lib.Count.{ones_step, under}
 use lib.Lanes.{mask_l}
 use Rattle.rope_text.specs.Bits.{ones_below, marks_below}
 
@@ -69,3 +70,35 @@ pub found_mark : (mask n r here there next : ℕ) (t : Bool) → here ≡ ones_b
     → marks_below mask 0 r ≤ n → n < marks_below mask 0 (r + 1) → (here ≡ n + there) × (t ≡ true)
 found_mark mask n r here there next true front more one before after = (omega (arith, front, more, one, before, after, no_marks r, no_marks (r + 1)), refl)
 found_mark mask n r here there next false front more one before after = absurd (omega (arith, front, more, one, before, after, no_marks r, no_marks (r + 1)))
+
+-- the lowest set digit
+pub record IsFirst (m k t : ℕ) : Type 0 where
+  pub bound : t < k
+  pub before : ones_below m t ≡ 0
+  pub after : 0 < ones_below m (t + 1)
+
+ones_zero : (m : ℕ) → ones_below m 0 ≡ 0
+ones_zero m = omega (arith, ones_le m 0)
+
+no_digit : (m : ℕ) → m % 2 ≡ 0 → ones_below m 1 ≡ 0
+no_digit m even = ap count_ones even ∙ no_marks 0
+
+a_digit : (m d : ℕ) → m % 2 ≡ suc d → ones_below m 1 ≡ 1
+a_digit m d odd = ap count_ones (let one : m % 2 ≡ 1 = omega arith in one) ∙ ones-ones 1
+
+first_step : (k w m d : ℕ) → m % 2 ≡ d → 0 < ones_below m (suc k) → (0 < ones_below (m / 2) k → IsFirst (m / 2) k (count_trailing_zeros w (m / 2))) → IsFirst m (suc k) (under d (count_trailing_zeros w (m / 2)))
+first_step k w m zero e some rest =
+    let low = no_digit m e in
+    let half = rest (omega (arith, some, low, ones_more m 1 k (suc k) (omega arith))) in
+    let t : ℕ = count_trailing_zeros w (m / 2) in record {
+      bound = omega (arith, half.bound);
+      before = omega (arith, half.before, low, ones_more m 1 t (suc t) (omega arith));
+      after = omega (arith, half.after, low, ones_more m 1 (t + 1) (suc t + 1) (omega arith));
+    }
+first_step k w m (suc d) e some rest = record { bound = omega arith; before = ones_zero m; after = omega (arith, a_digit m d e) }
+
+pub first_one : (k w m : ℕ) → k ≤ w → 0 < ones_below m k → IsFirst m k (count_trailing_zeros w m)
+unfolding count_trailing_zeros
+first_one zero w m few some = absurd (omega (arith, some, ones_zero m))
+first_one (suc k) zero m few some = absurd (omega arith)
+first_one (suc k) (suc w) m few some = first_step k w m (m % 2) refl some (λ more. first_one k w (m / 2) (omega arith) more)

@@ -4,6 +4,7 @@ use Rattle.std.specs.List.{range_with_len}
 use Rattle.std.proofs.lemmas.List.Sums.{sum_by-append, length-filter, count_by-le-length}
 use Rattle.std.proofs.lemmas.List.FromFn.{length-range_with_len}
 use Rattle.rope_text.specs.declared.line_breaks.LineBreaks.{LineBreaks}
+use Rattle.rope_text.specs.declared.text_info.TextInfo.{TextInfo}
 use Rattle.rope_text.specs.Text.{surrogate_count}
 use Rattle.rope_text.specs.Breaks.{is_break_char, is_break_end, break_ends, break_count}
 use Rattle.rope_text.specs.Cutting.{parts_crlf}
@@ -35,3 +36,16 @@ pub break_count-le-length : (breaks : LineBreaks) (text : List ℕ) → break_co
 unfolding break_ends
 break_count-le-length breaks text =
     omega (arith, length-filter (is_break_end breaks text) (range_with_len 1 (length text)), count_by-le-length (is_break_end breaks text) (range_with_len 1 (length text)), length-range_with_len 1 (length text))
+
+-- four counts that are the same
+pub same_info : (x y : TextInfo) → x.bytes ≡ y.bytes → x.chars ≡ y.chars → x.utf16_surrogates ≡ y.utf16_surrogates → x.break_count ≡ y.break_count → x ≡ y
+same_info x y bytes chars pairs count =
+    let first : x ≡ record { bytes = y.bytes; chars = x.chars; utf16_surrogates = x.utf16_surrogates; break_count = x.break_count } =
+    ap (λ (n : ℕ). (let r : TextInfo = record { bytes = n; chars = x.chars; utf16_surrogates = x.utf16_surrogates; break_count = x.break_count } in r)) bytes in
+    let second : record { bytes = y.bytes; chars = x.chars; utf16_surrogates = x.utf16_surrogates; break_count = x.break_count } ≡ record { bytes = y.bytes; chars = y.chars; utf16_surrogates = x.utf16_surrogates; break_count = x.break_count } =
+    ap (λ (n : ℕ). (let r : TextInfo = record { bytes = y.bytes; chars = n; utf16_surrogates = x.utf16_surrogates; break_count = x.break_count } in r)) chars in
+    let third : record { bytes = y.bytes; chars = y.chars; utf16_surrogates = x.utf16_surrogates; break_count = x.break_count } ≡ record { bytes = y.bytes; chars = y.chars; utf16_surrogates = y.utf16_surrogates; break_count = x.break_count } =
+    ap (λ (n : ℕ). (let r : TextInfo = record { bytes = y.bytes; chars = y.chars; utf16_surrogates = n; break_count = x.break_count } in r)) pairs in
+    let fourth : record { bytes = y.bytes; chars = y.chars; utf16_surrogates = y.utf16_surrogates; break_count = x.break_count } ≡ y =
+    ap (λ (n : ℕ). (let r : TextInfo = record { bytes = y.bytes; chars = y.chars; utf16_surrogates = y.utf16_surrogates; break_count = n } in r)) count in
+    first ∙ second ∙ third ∙ fourth

@@ -41,3 +41,4 @@ mod Examples
 pub mod LinePartLaws
 pub mod LineSeams
 pub mod ByteOrder
+pub mod Scans

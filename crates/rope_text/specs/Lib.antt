@@ -22,3 +22,4 @@ pub mod TextInfo
 pub mod LastBreak
 pub mod LineParts
 pub mod Answer
+pub mod Scan

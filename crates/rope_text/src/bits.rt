@@ -21,6 +21,17 @@ pub(crate) fn ones_between(mask: u64, from: usize, to: usize) -> usize
     ones_before(mask >> from, to - from)
 }
 
+/// The first byte of a block that has a mark.
+#[inline(always)]
+pub(crate) fn first_mark(mask: u64) -> usize
+    requires { 0 < ones_below mask 32 }
+    ensures bound { result < 32 }
+    ensures before { ones_below mask result ≡ 0 }
+    ensures after { 0 < ones_below mask (result + 1) }
+{
+    mask.trailing_zeros() as usize
+}
+
 /// The byte with the mark `n` of two masks, counted from 0: it has at most `n` marks before it.
 #[inline(always)]
 pub(crate) fn place_of_mark(first: u64, second: u64, n: usize) -> usize

@@ -29,7 +29,7 @@ pub(crate) fn pair_mask(bytes: &[u8], at: usize) -> u64
 }
 
 #[inline(always)]
-fn lf_mask(bytes: &[u8], at: usize) -> u64
+pub(crate) fn lf_mask(bytes: &[u8], at: usize) -> u64
     requires { at + 34 ≤ length bytes.now }
     ensures { (n : ℕ) → n ≤ 32 → byte_break_count LineBreaks.Lf (drop at bytes.now) ≡ ones_below result n + byte_break_count LineBreaks.Lf (drop (at + n) bytes.now) }
 {
@@ -38,7 +38,7 @@ fn lf_mask(bytes: &[u8], at: usize) -> u64
 }
 
 #[inline(always)]
-fn cr_lf_mask(bytes: &[u8], at: usize) -> u64
+pub(crate) fn cr_lf_mask(bytes: &[u8], at: usize) -> u64
     requires { at + 34 ≤ length bytes.now }
     ensures { (n : ℕ) → n ≤ 32 → byte_break_count LineBreaks.CrLf (drop at bytes.now) ≡ ones_below result n + byte_break_count LineBreaks.CrLf (drop (at + n) bytes.now) }
 {
@@ -49,7 +49,7 @@ fn cr_lf_mask(bytes: &[u8], at: usize) -> u64
 }
 
 #[inline(always)]
-fn unicode_mask(bytes: &[u8], at: usize) -> u64
+pub(crate) fn unicode_mask(bytes: &[u8], at: usize) -> u64
     requires { at + 34 ≤ length bytes.now }
     ensures { (n : ℕ) → n ≤ 32 → byte_break_count LineBreaks.Unicode (drop at bytes.now) ≡ ones_below result n + byte_break_count LineBreaks.Unicode (drop (at + n) bytes.now) }
 {
@@ -261,9 +261,9 @@ fn pairs_byte_by_byte(bytes: &[u8]) -> usize
     bytes.iter().filter(|b| **b >= 0xF0).count()
 }
 
-// How many characters of two code units begin from the byte `from` on and before `to`.
+/// How many characters of two code units begin from the byte `from` on and before `to`.
 #[inline(always)]
-fn pairs_between(bytes: &[u8], from: usize, to: usize) -> usize
+pub(crate) fn pairs_between(bytes: &[u8], from: usize, to: usize) -> usize
     requires from { from ≤ to }
     requires to { to ≤ length bytes.now }
     ensures { count_by begins_pair (drop from bytes.now) ≡ result + count_by begins_pair (drop to bytes.now) }

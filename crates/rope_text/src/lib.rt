@@ -9,6 +9,7 @@ mod lanes;
 pub mod laws;
 pub mod line_breaks;
 pub mod range;
+mod scan;
 mod seek;
 pub mod steps;
 pub mod str_utils;

@@ -8,7 +8,7 @@ ghost use Rattle.rope_text.specs.ByteBreaks.{break_at, byte_break_count, unit_co
 use crate::bits::{ones_before, place_of_mark};
 use crate::lanes::{
     begins_between, break_mask, breaks_between, breaks_in, char_mask, chars_in, chars_in_two,
-    is_break_begin, pair_mask,
+    is_break_begin, pair_mask, pairs_between, pairs_in,
 };
 use crate::line_breaks::LineBreaks;
 
@@ -291,4 +291,56 @@ pub(crate) fn char_of_break(bytes: &[u8], n: usize, breaks: LineBreaks) -> (usiz
     let (from, left, before) = skip_breaks_with_chars(bytes, n, breaks);
     let to = find_break(bytes, from, left, breaks);
     (to, before + begins_between(bytes, from, to))
+}
+
+// The blocks before the break `n`: their end, which break it is from there on, the characters in them, and those of two
+// code units.
+#[tactic(auto, using(crate::proofs::Blocks::begins_le, crate::proofs::Blocks::pairs_le))]
+#[inline(always)]
+fn skip_breaks_with_counts(
+    bytes: &[u8],
+    n: usize,
+    breaks: LineBreaks,
+) -> (usize, usize, usize, usize)
+    ensures bound { result.0 ≤ length bytes.now }
+    ensures counted { byte_break_count breaks bytes.now + result.1 ≡ n + byte_break_count breaks (drop result.0 bytes.now) }
+    ensures chars { count_by begins_char bytes.now ≡ result.2 + count_by begins_char (drop result.0 bytes.now) }
+    ensures pairs { count_by begins_pair bytes.now ≡ result.3 + count_by begins_pair (drop result.0 bytes.now) }
+{
+    let mut at = 0;
+    let mut left = n;
+    let mut chars = 0;
+    let mut pairs = 0;
+    while bytes.len() - at >= 34 {
+        let passed = breaks_in(bytes, at, breaks);
+        if left < passed {
+            return (at, left, chars, pairs);
+        }
+        left -= passed;
+        chars += chars_in(bytes, at);
+        pairs += pairs_in(bytes, at);
+        at += 32;
+    }
+    (at, left, chars, pairs)
+}
+
+/// The byte at which the last character of the break `n` begins, and how many characters begin before it, and how many of
+/// those of two code units.
+#[tactic(auto, using(crate::proofs::Blocks::begins_le, crate::proofs::Blocks::pairs_le))]
+pub(crate) fn counts_to_break(bytes: &[u8], n: usize, breaks: LineBreaks) -> (usize, usize, usize)
+    ensures bound { result.0 ≤ length bytes.now }
+    ensures inside { result.0 < length bytes.now
+        → (byte_break_count breaks bytes.now ≡ n + byte_break_count breaks (drop result.0 bytes.now))
+        × IsTrue (break_at breaks (slice_index bytes.now result.0) (slice_index bytes.now (result.0 + 1)) (slice_index bytes.now (result.0 + 2))) }
+    ensures end { result.0 ≡ length bytes.now → byte_break_count breaks bytes.now ≤ n }
+    ensures chars { count_by begins_char bytes.now ≡ result.1 + count_by begins_char (drop result.0 bytes.now) }
+    ensures pairs { count_by begins_pair bytes.now ≡ result.2 + count_by begins_pair (drop result.0 bytes.now) }
+{
+    let (from, left, chars, pairs) = skip_breaks_with_counts(bytes, n, breaks);
+    let to = find_break(bytes, from, left, breaks);
+    (
+        to,
+        chars + begins_between(bytes, from, to),
+        pairs + pairs_between(bytes, from, to),
+    )
 }

@@ -3,10 +3,15 @@
 //! Of `"é\r\n"`, with a set that has CR, they are 4 bytes, 3 characters, no surrogate pair and 1 line break.
 ghost use Rattle.std.specs.Prelude.{◌≡◌, ◌+◌, ◌<◌, ◌≤◌, ◌^◌, [], ◌++◌, false, length, take, drop, List, ℕ};
 ghost use Rattle.std.specs.Str.{chars, IsCharBoundary};
+ghost use Rattle.rope_text.specs.Breaks.{break_count};
+ghost use Rattle.rope_text.specs.LineParts.{first_line};
+ghost use Rattle.rope_text.specs.Lines.{line_start};
 ghost use Rattle.rope_text.specs.TextInfo.{info_of, info_sum};
 
 use crate::line_breaks::LineBreaks;
-use crate::str_utils::counts;
+use crate::scan::to_first_break;
+use crate::seek::counts_to_break;
+use crate::str_utils::{counts, width_of};
 
 /// What a text counts.
 // The bytes stand last: in a leaf they then lie beside the text, and a walk over leaves reads both at once.
@@ -48,6 +53,48 @@ impl TextInfo {
             chars,
             utf16_surrogates: pairs,
             break_count,
+        }
+    }
+
+    /// The counts of a text up to the end of its first line break of the set, or of all of it. Reads the text once, up
+    /// to there; takes no memory.
+    // Inlined, since what a call answers through memory has to be waited for.
+    #[inline(always)]
+    pub fn of_first_line(text: &str, breaks: LineBreaks) -> TextInfo
+        ensures { result ≡ info_of breaks (first_line breaks (chars text.now)) }
+    {
+        let bytes = text.as_bytes();
+        let front = to_first_break(bytes, breaks);
+        if front.bytes == bytes.len() {
+            return TextInfo {
+                bytes: front.bytes,
+                chars: front.chars,
+                utf16_surrogates: front.pairs,
+                break_count: 0,
+            };
+        }
+        TextInfo {
+            bytes: front.bytes + width_of(bytes[front.bytes]),
+            chars: front.chars + 1,
+            utf16_surrogates: front.pairs,
+            break_count: 1,
+        }
+    }
+
+    /// The counts of the text before the line `line_idx`, which is not the first, by the line breaks of the set. Reads the
+    /// text once, up to there; takes no memory.
+    pub fn before_line(text: &str, line_idx: usize, breaks: LineBreaks) -> TextInfo
+        requires later { 0 < line_idx }
+        requires within { line_idx ≤ break_count breaks (chars text.now) }
+        ensures { result ≡ info_of breaks (take (line_start breaks (chars text.now) line_idx) (chars text.now)) }
+    {
+        let bytes = text.as_bytes();
+        let (last, chars, pairs) = counts_to_break(bytes, line_idx - 1, breaks);
+        TextInfo {
+            bytes: last + width_of(bytes[last]),
+            chars: chars + 1,
+            utf16_surrogates: pairs,
+            break_count: line_idx,
         }
     }
 

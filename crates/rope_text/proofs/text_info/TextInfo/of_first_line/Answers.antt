@@ -2,8 +2,8 @@ use Rattle.std.proofs.Common.{arith, refl, ap, ◌∙◌, ◌+◌, ◌<◌, leng
 use Rattle.std.specs.Str.{chars}
 use Rattle.rope_text.specs.TextInfo.{info_of}
 use Rattle.rope_text.specs.LineParts.{first_line}
-use Rattle.rope_cursor.proofs.Scans.{scanned_line, scanned_all}
-use Rattle.rope_cursor.proofs.gap.count_line.Goals as goal
+use Rattle.rope_text.proofs.Scans.{scanned_line, scanned_all}
+use Rattle.rope_text.proofs.text_info.TextInfo.of_first_line.Goals as goal
 
 pub returns-then-front-bytes : goal.returns-then-front-bytes
 returns-then-front-bytes c =

@@ -1,6 +1,6 @@
 use Rattle.std.proofs.Common.{arith, refl, sym, ap, ◌∙◌, ◌+◌}
-use Rattle.rope_cursor.proofs.Scans.{front_step}
-use Rattle.rope_cursor.proofs.scan.go_byte_by_byte.Goals as goal
+use Rattle.rope_text.proofs.Scans.{front_step}
+use Rattle.rope_text.proofs.scan.go_byte_by_byte.Goals as goal
 
 pub loop-at-preserved : goal.loop-at-preserved
 loop-at-preserved c =

@@ -1,12 +1,9 @@
--- The first mark of a block, and the line that a scan leaves behind it.
-use Rattle.std.proofs.Common.{◌≡◌, ℕ, zero, suc, ◌+◌, ◌/◌, ◌%◌, ◌≤◌, ◌<◌, Bool, true, false, cond, List, [], take, inl, inr, length, drop, get_or, count_by, count_ones, refl, sym, ap, ◌∙◌, arith}
+-- What a scan passes over, and the line that it leaves behind it.
+use Rattle.std.proofs.Common.{◌≡◌, ℕ, suc, ◌+◌, ◌≤◌, ◌<◌, Bool, true, false, cond, List, [], take, inl, inr, length, drop, get_or, count_by, refl, sym, ap, ◌∙◌, arith}
 use Rattle.std.proofs.lemmas.Bool.Decides.{nat_tests}
-use Rattle.std.specs.Int.Count.{count_trailing_zeros, ones-ones}
-use lib.Count.{under}
 use Rattle.rope_text.specs.declared.line_breaks.LineBreaks.{LineBreaks}
 use Rattle.rope_text.specs.declared.line_breaks.LineBreaks.TheVariants.{Lf, CrLf, Unicode}
 use Rattle.rope_text.specs.declared.text_info.TextInfo.{TextInfo}
-use Rattle.rope_text.specs.Bits.{ones_below}
 use Rattle.rope_text.specs.Breaks.{break_count}
 use Rattle.rope_text.specs.ByteBreaks.{break_at, byte_break_count, char_width}
 use Rattle.rope_text.specs.LineParts.{first_line}
@@ -19,48 +16,15 @@ use Rattle.rope_text.proofs.Fronts.{break_place, break_char, no_break_line, pair
 use Rattle.rope_text.proofs.LineLaws.{line_start-le-length}
 use Rattle.rope_text.proofs.LineSeams.{break_count-front}
 use Rattle.rope_text.proofs.Walks.{byte_len-chars}
-use Rattle.rope_part.proofs.Measured.{same_info}
+use Rattle.rope_text.proofs.InfoLaws.{same_info}
 use Rattle.std.specs.Str.{chars, IsUtf8}
 use Rattle.std.proofs.Math.ListN.{drop_of_length-le}
 use Rattle.std.proofs.lemmas.Bool.{cases_lt}
 use Rattle.std.proofs.lemmas.List.{take_all, length-take-le}
 use Rattle.rope_text.specs.Bytes.{begins_char, begins_pair}
-use Rattle.rope_text.proofs.BitLaws.{ones_le, ones_more, no_marks}
 use Rattle.rope_text.proofs.Blocks.{count_by-drop, count_by-front, byte_break_count-drop, breaks_at}
-use Rattle.rope_cursor.specs.declared.scan.Front.{Front}
-use Rattle.rope_cursor.specs.Scan.{IsFront}
-
--- the lowest set digit
-pub record IsFirst (m k t : ℕ) : Type 0 where
-  pub bound : t < k
-  pub before : ones_below m t ≡ 0
-  pub after : 0 < ones_below m (t + 1)
-
-ones_zero : (m : ℕ) → ones_below m 0 ≡ 0
-ones_zero m = omega (arith, ones_le m 0)
-
-no_digit : (m : ℕ) → m % 2 ≡ 0 → ones_below m 1 ≡ 0
-no_digit m even = ap count_ones even ∙ no_marks 0
-
-a_digit : (m d : ℕ) → m % 2 ≡ suc d → ones_below m 1 ≡ 1
-a_digit m d odd = ap count_ones (let one : m % 2 ≡ 1 = omega arith in one) ∙ ones-ones 1
-
-first_step : (k w m d : ℕ) → m % 2 ≡ d → 0 < ones_below m (suc k) → (0 < ones_below (m / 2) k → IsFirst (m / 2) k (count_trailing_zeros w (m / 2))) → IsFirst m (suc k) (under d (count_trailing_zeros w (m / 2)))
-first_step k w m zero e some rest =
-    let low = no_digit m e in
-    let half = rest (omega (arith, some, low, ones_more m 1 k (suc k) (omega arith))) in
-    let t : ℕ = count_trailing_zeros w (m / 2) in record {
-      bound = omega (arith, half.bound);
-      before = omega (arith, half.before, low, ones_more m 1 t (suc t) (omega arith));
-      after = omega (arith, half.after, low, ones_more m 1 (t + 1) (suc t + 1) (omega arith));
-    }
-first_step k w m (suc d) e some rest = record { bound = omega arith; before = ones_zero m; after = omega (arith, a_digit m d e) }
-
-pub first_one : (k w m : ℕ) → k ≤ w → 0 < ones_below m k → IsFirst m k (count_trailing_zeros w m)
-unfolding count_trailing_zeros
-first_one zero w m few some = absurd (omega (arith, some, ones_zero m))
-first_one (suc k) zero m few some = absurd (omega arith)
-first_one (suc k) (suc w) m few some = first_step k w m (m % 2) refl some (λ more. first_one k w (m / 2) (omega arith) more)
+use Rattle.rope_text.specs.declared.scan.Front.{Front}
+use Rattle.rope_text.specs.Scan.{IsFront}
 
 -- one byte more in front, at which no break begins
 pub front_step : (breaks : LineBreaks) (xs : List ℕ) (f g : Front) → IsFront breaks xs f → f.bytes < length xs → breaks_at breaks xs f.bytes ≡ false → g.bytes ≡ f.bytes + 1
@@ -129,24 +93,30 @@ no_pairs xs p w wide h = elim (cases_lt 1 w) [
   ]
 ]
 
+-- the counts of a text up to the end of one of its breaks, by what is in front of that break
+pub line_front : (breaks : LineBreaks) (bs : List ℕ) (n p k q : ℕ) (info : TextInfo) → IsUtf8 bs → p < length bs → byte_break_count breaks bs ≡ n + byte_break_count breaks (drop p bs)
+    → breaks_at breaks bs p ≡ true → count_by begins_char bs ≡ k + count_by begins_char (drop p bs) → count_by begins_pair bs ≡ q + count_by begins_pair (drop p bs)
+    → info.bytes ≡ p + char_width (get_or bs p 0) → info.chars ≡ k + 1 → info.utf16_surrogates ≡ q → info.break_count ≡ suc n
+    → info ≡ info_of breaks (take (line_start breaks (chars bs) (suc n)) (chars bs))
+line_front breaks bs n p k q info u inside fore begin in_chars in_pairs bytes counted pairs count =
+    let cs : List ℕ = chars bs in
+    let l : ℕ = line_start breaks cs (suc n) in
+    let w : ℕ = char_width (get_or bs p 0) in
+    let place : p + w ≡ byte_len (take l cs) = break_place breaks bs n p u inside fore begin in
+    let start : k + 1 ≡ l = break_char breaks bs n p k u inside fore begin in_chars in
+    let within = line_start-le-length breaks cs (suc n) in
+    let same : count_by begins_pair (drop p bs) ≡ count_by begins_pair (drop (p + w) bs) = no_pairs bs p w refl (narrow breaks (get_or bs p 0) (get_or bs (p + 1) 0) (get_or bs (p + 2) 0) begin) in
+    let before : count_by begins_pair (take (p + w) bs) ≡ surrogate_count (take l cs) = ap (λ j. count_by begins_pair (take j bs)) place ∙ pairs_before bs l u in
+    let on : cond {A = ℕ} (breaks_at breaks bs p) 1 0 ≡ 1 = ap (λ (t : Bool). cond {A = ℕ} t 1 0) begin in
+    let some : suc n ≤ break_count breaks cs = omega (arith, break_count-chars breaks bs u, fore, byte_break_count-drop breaks bs p inside, on) in
+    same_info info (info_of breaks (take l cs)) (bytes ∙ place) (counted ∙ start ∙ sym (length-take-le l cs within))
+    (omega (arith, pairs, in_pairs, same, before, count_by-front begins_pair bs (p + w))) (omega (arith, count, break_count-front breaks cs (suc n) (omega (arith, some)), some))
+
 -- the counts of a text's first line, by what is in front of the break at its end
 pub scanned_line : (breaks : LineBreaks) (bs : List ℕ) (f : Front) (info : TextInfo) → IsUtf8 bs → IsFront breaks bs f → f.bytes < length bs → breaks_at breaks bs f.bytes ≡ true
     → info.bytes ≡ f.bytes + char_width (get_or bs f.bytes 0) → info.chars ≡ f.chars + 1 → info.utf16_surrogates ≡ f.pairs → info.break_count ≡ 1 → info ≡ info_of breaks (first_line breaks (chars bs))
 scanned_line breaks bs f info u front inside begin bytes counted pairs count =
-    let cs : List ℕ = chars bs in
-    let k : ℕ = line_start breaks cs 1 in
-    let p : ℕ = f.bytes in
-    let w : ℕ = char_width (get_or bs p 0) in
-    let fore : byte_break_count breaks bs ≡ 0 + byte_break_count breaks (drop p bs) = omega (arith, front.none) in
-    let place : p + w ≡ byte_len (take k cs) = break_place breaks bs 0 p u inside fore begin in
-    let start : f.chars + 1 ≡ k = break_char breaks bs 0 p f.chars u inside fore begin front.chars in
-    let within = line_start-le-length breaks cs 1 in
-    let same : count_by begins_pair (drop p bs) ≡ count_by begins_pair (drop (p + w) bs) = no_pairs bs p w refl (narrow breaks (get_or bs p 0) (get_or bs (p + 1) 0) (get_or bs (p + 2) 0) begin) in
-    let before : count_by begins_pair (take (p + w) bs) ≡ surrogate_count (take k cs) = ap (λ j. count_by begins_pair (take j bs)) place ∙ pairs_before bs k u in
-    let on : cond {A = ℕ} (breaks_at breaks bs p) 1 0 ≡ 1 = ap (λ (t : Bool). cond {A = ℕ} t 1 0) begin in
-    let some : 1 ≤ break_count breaks cs = omega (arith, break_count-chars breaks bs u, front.none, byte_break_count-drop breaks bs p inside, on) in
-    same_info info (info_of breaks (first_line breaks cs)) (bytes ∙ place) (counted ∙ start ∙ sym (length-take-le k cs within))
-    (omega (arith, pairs, front.pairs, same, before, count_by-front begins_pair bs (p + w))) (omega (arith, count, break_count-front breaks cs 1 (omega (arith, some)), some))
+    line_front breaks bs 0 f.bytes f.chars f.pairs info u inside (omega (arith, front.none)) begin front.chars front.pairs bytes counted pairs count
 
 -- the counts of a text that has no break
 pub scanned_all : (breaks : LineBreaks) (bs : List ℕ) (f : Front) (info : TextInfo) → IsUtf8 bs → IsFront breaks bs f → f.bytes ≡ length bs

@@ -3,7 +3,7 @@ use Rattle.std.specs.Prelude.{◌≡◌, ℕ, ◌+◌, ◌≤◌, List, length, 
 use Rattle.rope_text.specs.declared.line_breaks.LineBreaks.{LineBreaks}
 use Rattle.rope_text.specs.Bytes.{begins_char, begins_pair}
 use Rattle.rope_text.specs.ByteBreaks.{byte_break_count}
-use Rattle.rope_cursor.specs.declared.scan.Front.{Front}
+use Rattle.rope_text.specs.declared.scan.Front.{Front}
 
 -- no break begins before the place, and so many characters and pairs of code units do
 pub record IsFront (breaks : LineBreaks) (bytes : List ℕ) (f : Front) : Type 0 where

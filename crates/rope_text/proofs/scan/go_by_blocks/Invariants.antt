@@ -1,6 +1,6 @@
 use Rattle.std.proofs.Common.{◌-◌, length}
-use Rattle.rope_cursor.specs.Scan.{IsFront}
-use Rattle.rope_cursor.proofs.scan.go_by_blocks.Given as goal
+use Rattle.rope_text.specs.Scan.{IsFront}
+use Rattle.rope_text.proofs.scan.go_by_blocks.Given as goal
 
 abbrev pub invariant-loop-at : goal.invariant-loop-at
 invariant-loop-at l = IsFront l.breaks l.bytes (record { bytes = l.at; chars = l.chars; pairs = l.pairs })

@@ -1,6 +1,6 @@
 use Rattle.std.proofs.Common.{arith}
-use Rattle.rope_cursor.proofs.Scans.{first_one}
-use Rattle.rope_cursor.proofs.scan.first_mark.Goals as goal
+use Rattle.rope_text.proofs.BitLaws.{first_one}
+use Rattle.rope_text.proofs.bits.first_mark.Goals as goal
 
 pub returns-clause-bound : goal.returns-clause-bound
 returns-clause-bound c = (first_one 32 64 c.args.mask (omega arith) c.requires).bound
