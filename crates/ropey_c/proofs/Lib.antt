@@ -1,0 +1,4 @@
+pub mod Copying
+pub mod Filling
+pub mod Handles
+pub mod Parts

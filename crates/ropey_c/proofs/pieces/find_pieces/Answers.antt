@@ -1,0 +1,18 @@
+use Rattle.std.proofs.Common.{refl, ap, subst, arith}
+use Rattle.rope_text.specs.Lookup.{found_chunk}
+use Rattle.rope_text.specs.Sides.{ahead}
+use Rattle.ropey_c.specs.Pieces.{Fills}
+use Rattle.ropey_c.proofs.pieces.find_pieces.Goals as goal
+
+pub returns : goal.returns
+unfolding found_chunk
+returns c =
+    let found = c.chunks_at_byte-cursor in
+    let within = c.if-byte_idx-len_bytes.false in (
+      λ past. absurd (omega (arith, past, within, c.len_bytes.ensures.value)),
+      λ _. (
+        refl,
+        found.ensures.before.bytes_are,
+        subst (λ chunks. Fills chunks c.args.pieces.now c.fill.new.pieces c.fill.result) (ap ahead found.ensures.cursor_is) c.fill.ensures,
+      ),
+    )

@@ -1,0 +1,5 @@
+pub mod Handles
+pub mod Status
+pub mod Answers
+pub mod Places
+pub mod Pieces

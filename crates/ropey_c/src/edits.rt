@@ -1,0 +1,193 @@
+//! Ropes that are changed.
+ghost use Rattle.std.specs.Prelude.{◌≡◌, ◌≢◌, ◌<◌, ◌⊎◌, ◌++◌, [], ◌∷◌, length, take, drop, None, Some, IfSome, IsSomeAnd, MatchOption};
+ghost use Rattle.std.specs.Str.{chars};
+ghost use Rattle.rope_text.specs.Edit.{inserted, insert_error, removed, char_range_error, char_index_error, append_error};
+ghost use Rattle.ropey_c.specs.Handles.{text_at, breaks_at};
+ghost use Rattle.ropey_c.specs.Status.{IsStatus, IsTextStatus, IsCharStatus};
+ghost use Rattle.ropey_c.specs.Answers.{Changes};
+
+use crate::handle::Handle;
+use crate::status::{
+    CHAR_INDEX_OUT_OF_BOUNDS, INVALID_UTF8, NO_ROPE, NOT_A_CHARACTER, OK, OUT_OF_MEMORY, status,
+};
+use ropey::Rope;
+use std::alloc::Global;
+
+fn insert(rope: &mut Rope, char_idx: usize, text: &[u8]) -> u32
+    ensures status { IsTextStatus text.now (insert_error rope.old.text char_idx (chars text.now)) result }
+    ensures ok { result ≡ OK → rope.new.text ≡ inserted rope.old.text char_idx (chars text.now) }
+    ensures err { 0 < result → rope.new ≡ rope.old }
+    ensures breaks { rope.new.breaks ≡ rope.old.breaks }
+{
+    match std::str::from_utf8(text) {
+        Ok(text) => status(rope.try_insert(char_idx, text)),
+        Err(_) => INVALID_UTF8,
+    }
+}
+
+/// Inserts the text before the character `char_idx`, counted from 0; for the number of characters, at the end.
+///
+/// An empty text takes no memory. No text of the rope is walked.
+///
+/// # Errors
+///
+/// `NO_ROPE`, then `INVALID_UTF8`, then `CHAR_INDEX_OUT_OF_BOUNDS`, then `TOO_LONG`, then `OUT_OF_MEMORY`. A refused
+/// call leaves the rope as it was.
+#[unsafe(no_mangle)]
+pub extern "C" fn ropey_insert(
+    alloc: Global,
+    rope: &mut Handle,
+    char_idx: usize,
+    text: &[u8],
+) -> u32
+    ensures { Changes rope.old.rope rope.new.rope result
+        (λ old. IsTextStatus text.now (insert_error old.text char_idx (chars text.now)) result)
+        (λ old new. (new.text ≡ inserted old.text char_idx (chars text.now)) × (new.breaks ≡ old.breaks)) }
+{
+    let Some(mut held) = rope.take(alloc) else {
+        return NO_ROPE;
+    };
+    let status = insert(&mut held, char_idx, text);
+    rope.put(held);
+    status
+}
+
+fn insert_char(rope: &mut Rope, char_idx: usize, c: u32) -> u32
+    ensures status { IsCharStatus c (insert_error rope.old.text char_idx (c ∷ [])) result }
+    ensures ok { result ≡ OK → rope.new.text ≡ inserted rope.old.text char_idx (c ∷ []) }
+    ensures err { 0 < result → rope.new ≡ rope.old }
+    ensures breaks { rope.new.breaks ≡ rope.old.breaks }
+{
+    match char::from_u32(c) {
+        Some(c) => status(rope.try_insert_char(char_idx, c)),
+        None => NOT_A_CHARACTER,
+    }
+}
+
+/// Inserts the character `c`, a Unicode scalar value, before the character `char_idx`, counted from 0; for the number
+/// of characters, at the end. No text is walked.
+///
+/// # Errors
+///
+/// `NO_ROPE`, then `NOT_A_CHARACTER`, then `CHAR_INDEX_OUT_OF_BOUNDS`, then `TOO_LONG`, then `OUT_OF_MEMORY`. A refused
+/// call leaves the rope as it was.
+#[unsafe(no_mangle)]
+pub extern "C" fn ropey_insert_char(
+    alloc: Global,
+    rope: &mut Handle,
+    char_idx: usize,
+    c: u32,
+) -> u32
+    ensures { Changes rope.old.rope rope.new.rope result
+        (λ old. IsCharStatus c (insert_error old.text char_idx (c ∷ [])) result)
+        (λ old new. (new.text ≡ inserted old.text char_idx (c ∷ [])) × (new.breaks ≡ old.breaks)) }
+{
+    let Some(mut held) = rope.take(alloc) else {
+        return NO_ROPE;
+    };
+    let status = insert_char(&mut held, char_idx, c);
+    rope.put(held);
+    status
+}
+
+/// Takes the characters from `start` up to `end` out, counted from 0. An empty range takes no memory and changes
+/// nothing. No text is walked.
+///
+/// # Errors
+///
+/// `NO_ROPE`, then `CHAR_RANGE_OUT_OF_BOUNDS`, then `CHAR_RANGE_INVALID`, then `OUT_OF_MEMORY`. A refused call leaves
+/// the rope as it was.
+#[unsafe(no_mangle)]
+pub extern "C" fn ropey_remove(alloc: Global, rope: &mut Handle, start: usize, end: usize) -> u32
+    ensures { Changes rope.old.rope rope.new.rope result
+        (λ old. IsStatus (char_range_error (Some start) (Some end) (length old.text)) result)
+        (λ old new. (new.text ≡ removed old.text start end) × (new.breaks ≡ old.breaks)) }
+{
+    let Some(mut held) = rope.take(alloc) else {
+        return NO_ROPE;
+    };
+    let status = status(held.try_remove(start..end));
+    rope.put(held);
+    status
+}
+
+// Splits a clone, so that the rope stays where there is no memory for the handle of its tail.
+fn split_off(alloc: Global, rope: &mut Rope, char_idx: usize, tail: &mut Handle) -> u32
+    ensures status { IsStatus (char_index_error char_idx (length rope.old.text)) result }
+    ensures front { result ≡ OK → rope.new.text ≡ take char_idx rope.old.text }
+    ensures back { result ≡ OK → IsSomeAnd tail.new.rope
+        (λ back. (back.text ≡ drop char_idx rope.old.text) × (back.breaks ≡ rope.old.breaks)) }
+    ensures err { 0 < result → (rope.new ≡ rope.old) × (tail.new.rope ≡ tail.old.rope) }
+    ensures breaks { rope.new.breaks ≡ rope.old.breaks }
+{
+    if char_idx > rope.len_chars() {
+        return CHAR_INDEX_OUT_OF_BOUNDS;
+    }
+    let Ok(mut front) = rope.clone() else {
+        return OUT_OF_MEMORY;
+    };
+    let Ok(back) = front.split_off(char_idx) else {
+        return OUT_OF_MEMORY;
+    };
+    let Ok(back) = Box::new(alloc, back) else {
+        return OUT_OF_MEMORY;
+    };
+    tail.put(back);
+    *rope = front;
+    OK
+}
+
+/// Keeps the first `char_idx` characters, puts the others into `tail`, with the same set of line breaks, and frees the
+/// rope that `tail` held. The two share what they can. No text is walked.
+///
+/// # Errors
+///
+/// `NO_ROPE`, then `CHAR_INDEX_OUT_OF_BOUNDS`, then `OUT_OF_MEMORY`. A refused call leaves both handles as they were.
+#[unsafe(no_mangle)]
+pub extern "C" fn ropey_split_off(
+    alloc: Global,
+    rope: &mut Handle,
+    char_idx: usize,
+    tail: &mut Handle,
+) -> u32
+    ensures front { Changes rope.old.rope rope.new.rope result
+        (λ old. IsStatus (char_index_error char_idx (length old.text)) result)
+        (λ old new. (new.text ≡ take char_idx old.text) × (new.breaks ≡ old.breaks)) }
+    ensures back { result ≡ OK → IsSomeAnd tail.new.rope
+        (λ back. (back.text ≡ drop char_idx (text_at rope.old.rope)) × (back.breaks ≡ breaks_at rope.old.rope)) }
+    ensures err { 0 < result → tail.new.rope ≡ tail.old.rope }
+{
+    let Some(mut held) = rope.take(alloc) else {
+        return NO_ROPE;
+    };
+    let status = split_off(alloc, &mut held, char_idx, tail);
+    rope.put(held);
+    status
+}
+
+/// Puts the text of `other` behind the rope's. The rope shares what it can of the other's tree, and `other` holds no
+/// rope afterwards, refused or not; where one of the two handles holds none, both stay. No text is walked.
+///
+/// # Errors
+///
+/// `NO_ROPE`, then `LINE_BREAKS_DIFFER`, then `TOO_LONG`, then `OUT_OF_MEMORY`. A refused call leaves the rope as it
+/// was. A caller who needs the other rope after a refusal appends a clone of it.
+#[unsafe(no_mangle)]
+pub extern "C" fn ropey_append(alloc: Global, rope: &mut Handle, other: &mut Handle) -> u32
+    ensures none { rope.old.rope ≡ None → (result ≡ NO_ROPE) × (rope.new.rope ≡ None) × (other.new.rope ≡ other.old.rope) }
+    ensures lone { other.old.rope ≡ None → (result ≡ NO_ROPE) × (other.new.rope ≡ None) × (rope.new.rope ≡ rope.old.rope) }
+    ensures changes { IfSome other.old.rope (λ o. Changes rope.old.rope rope.new.rope result
+        (λ old. IsStatus (append_error old.breaks o.breaks old.text o.text) result)
+        (λ old new. (new.text ≡ old.text ++ o.text) × (new.breaks ≡ old.breaks))) }
+    ensures spent { rope.old.rope ≢ None → other.new.rope ≡ None }
+{
+    let Some(mut held) = rope.take(alloc) else {
+        return NO_ROPE;
+    };
+    let status = match other.take(alloc) {
+        Some(end) => status(held.append(Box::into_inner(end))),
+        None => NO_ROPE,
+    };
+    rope.put(held);
+    status
+}

@@ -1,0 +1,126 @@
+//! Ropes that are made, cloned and freed.
+ghost use Rattle.std.specs.Prelude.{◌≡◌, ◌<◌, ◌⊎◌, [], None, Some, IfSome, IsSomeAnd, MatchOption, MatchResult};
+ghost use Rattle.std.specs.Str.{chars};
+ghost use Rattle.rope_text.specs.declared.error.Error.TheVariants.{OutOfMemory};
+ghost use Rattle.ropey.specs.View.{HasFewChunks};
+ghost use Rattle.ropey_c.specs.Status.{given_breaks, IsStatus, IsTextStatus, IsMakerStatus};
+ghost use Rattle.ropey_c.specs.Answers.{Changes};
+
+use crate::handle::Handle;
+use crate::status::{
+    INVALID_UTF8, NO_ROPE, OK, OUT_OF_MEMORY, UNKNOWN_LINE_BREAKS, given_breaks, status,
+};
+use ropey::{LineBreaks, Rope};
+use std::alloc::Global;
+
+// Puts a rope that was just made into a handle.
+fn keep(alloc: Global, made: Rope, rope: &mut Handle) -> u32
+    ensures status { IsStatus None result }
+    ensures ok { result ≡ OK → rope.new.rope ≡ Some made }
+    ensures err { 0 < result → rope.new.rope ≡ rope.old.rope }
+{
+    match Box::new(alloc, made) {
+        Ok(made) => {
+            rope.put(made);
+            OK
+        }
+        Err(_) => OUT_OF_MEMORY,
+    }
+}
+
+fn make(alloc: Global, text: &[u8], breaks: LineBreaks, rope: &mut Handle) -> u32
+    ensures status { IsTextStatus text.now None result }
+    ensures ok { result ≡ OK → IsSomeAnd rope.new.rope (λ r. (r.text ≡ chars text.now) × (r.breaks ≡ breaks) × HasFewChunks r) }
+    ensures err { 0 < result → rope.new.rope ≡ rope.old.rope }
+{
+    let Ok(text) = std::str::from_utf8(text) else {
+        return INVALID_UTF8;
+    };
+    match Rope::from_str_with(alloc, text, breaks) {
+        Ok(made) => keep(alloc, made, rope),
+        Err(_) => OUT_OF_MEMORY,
+    }
+}
+
+/// Makes a rope of a copy of the text, and frees the one that the handle held.
+///
+/// Takes time and memory in proportion to the text, which is at most `isize::MAX` bytes.
+///
+/// # Errors
+///
+/// `UNKNOWN_LINE_BREAKS`, then `INVALID_UTF8`, then `OUT_OF_MEMORY`. A refused call leaves the handle as it was.
+#[unsafe(no_mangle)]
+pub extern "C" fn ropey_from_text(alloc: Global, text: &[u8], breaks: u32, rope: &mut Handle) -> u32
+    ensures status { IsMakerStatus (given_breaks breaks) text.now result }
+    ensures ok { result ≡ OK → IsSomeAnd rope.new.rope (λ r. (r.text ≡ chars text.now)
+        × (Some r.breaks ≡ given_breaks breaks) × HasFewChunks r) }
+    ensures err { 0 < result → rope.new.rope ≡ rope.old.rope }
+{
+    match given_breaks(breaks) {
+        Some(breaks) => make(alloc, text, breaks, rope),
+        None => UNKNOWN_LINE_BREAKS,
+    }
+}
+
+/// Frees the rope, if there is one. The nodes that it shares with its clones stay.
+///
+/// Afterwards the handle holds no rope. Takes time in proportion to the nodes that are freed.
+#[unsafe(no_mangle)]
+pub extern "C" fn ropey_free(alloc: Global, rope: &mut Handle)
+    ensures { rope.new.rope ≡ None }
+{
+    match rope.take(alloc) {
+        Some(rope) => drop(rope),
+        None => (),
+    }
+}
+
+fn clone_into(alloc: Global, rope: &Rope, copy: &mut Handle) -> u32
+    ensures status { IsStatus None result }
+    ensures ok { result ≡ OK → copy.new.rope ≡ Some rope.now }
+    ensures err { 0 < result → copy.new.rope ≡ copy.old.rope }
+{
+    match rope.clone() {
+        Ok(made) => keep(alloc, made, copy),
+        Err(_) => OUT_OF_MEMORY,
+    }
+}
+
+/// Makes a clone, and frees the rope that `copy` held. The clone shares every node with the rope until one of the two
+/// is edited, which leaves the other as it was. Takes constant time.
+///
+/// # Errors
+///
+/// `NO_ROPE`, then `OUT_OF_MEMORY`. A refused call leaves `copy` as it was.
+#[unsafe(no_mangle)]
+pub extern "C" fn ropey_clone(alloc: Global, rope: &mut Handle, copy: &mut Handle) -> u32
+    ensures status { MatchOption rope.old.rope (result ≡ NO_ROPE) (λ _. IsStatus None result) }
+    ensures ok { result ≡ OK → copy.new.rope ≡ rope.old.rope }
+    ensures err { 0 < result → copy.new.rope ≡ copy.old.rope }
+    ensures kept { rope.new.rope ≡ rope.old.rope }
+{
+    let Some(held) = rope.take(alloc) else {
+        return NO_ROPE;
+    };
+    let status = clone_into(alloc, &held, copy);
+    rope.put(held);
+    status
+}
+
+/// Cuts the text into as few chunks as `ropey_from_text` does. Takes time and memory in proportion to the text.
+///
+/// # Errors
+///
+/// `NO_ROPE`, then `OUT_OF_MEMORY`. A refused call leaves the rope as it was.
+#[unsafe(no_mangle)]
+pub extern "C" fn ropey_shrink_to_fit(alloc: Global, rope: &mut Handle) -> u32
+    ensures { Changes rope.old.rope rope.new.rope result (λ _. IsStatus None result)
+        (λ old new. (new.text ≡ old.text) × (new.breaks ≡ old.breaks) × HasFewChunks new) }
+{
+    let Some(mut held) = rope.take(alloc) else {
+        return NO_ROPE;
+    };
+    let status = status(held.shrink_to_fit());
+    rope.put(held);
+    status
+}

@@ -1,0 +1,116 @@
+//! What a call answers: 0, or the number that stands for the first reason for which it was refused.
+ghost use Rattle.std.specs.Prelude.{◌≡◌, MatchResult};
+ghost use Rattle.ropey_c.specs.Status.{status_of, given_breaks, number_of};
+ghost use Rattle.ropey_c.specs.Answers.{Answers};
+
+use ropey::{Error, LineBreaks, Result};
+
+/// The call did what it says.
+pub const OK: u32 = 0;
+/// Memory was refused.
+pub const OUT_OF_MEMORY: u32 = 1;
+/// A handle holds no rope.
+pub const NO_ROPE: u32 = 2;
+/// The bytes that were given aren't UTF-8.
+pub const INVALID_UTF8: u32 = 3;
+/// The number that was given is no Unicode scalar value.
+pub const NOT_A_CHARACTER: u32 = 4;
+/// The number that was given stands for no set of line breaks.
+pub const UNKNOWN_LINE_BREAKS: u32 = 5;
+/// A byte index lies past the end.
+pub const BYTE_INDEX_OUT_OF_BOUNDS: u32 = 6;
+/// A character index lies past the end.
+pub const CHAR_INDEX_OUT_OF_BOUNDS: u32 = 7;
+/// A line index lies past the last line.
+pub const LINE_INDEX_OUT_OF_BOUNDS: u32 = 8;
+/// A UTF-16 index lies past the end.
+pub const UTF16_INDEX_OUT_OF_BOUNDS: u32 = 9;
+/// A range of characters starts past its end.
+pub const CHAR_RANGE_INVALID: u32 = 10;
+/// A range of characters reaches past the end.
+pub const CHAR_RANGE_OUT_OF_BOUNDS: u32 = 11;
+/// A range of bytes starts past its end.
+pub const BYTE_RANGE_INVALID: u32 = 12;
+/// A range of bytes reaches past the end.
+pub const BYTE_RANGE_OUT_OF_BOUNDS: u32 = 13;
+/// A range of bytes starts or ends inside a character.
+pub const BYTE_RANGE_NOT_CHAR_BOUNDARY: u32 = 14;
+/// The text would have more than `isize::MAX` bytes.
+pub const TOO_LONG: u32 = 15;
+/// Two ropes that were to be joined have different sets of line breaks.
+pub const LINE_BREAKS_DIFFER: u32 = 16;
+/// The caller's buffer has no room for the text.
+pub const BUFFER_TOO_SMALL: u32 = 17;
+
+/// The set of line breaks of LF alone.
+pub const LF: u32 = 0;
+/// The set of line breaks of LF, CR, and CR LF as one break.
+pub const CRLF: u32 = 1;
+/// Unicode's set of line breaks.
+pub const UNICODE: u32 = 2;
+
+// The status of an error.
+pub(crate) fn status_of(error: Error) -> u32
+    ensures { result ≡ status_of error }
+{
+    match error {
+        Error::ByteIndexOutOfBounds(_, _) => BYTE_INDEX_OUT_OF_BOUNDS,
+        Error::CharIndexOutOfBounds(_, _) => CHAR_INDEX_OUT_OF_BOUNDS,
+        Error::LineIndexOutOfBounds(_, _) => LINE_INDEX_OUT_OF_BOUNDS,
+        Error::Utf16IndexOutOfBounds(_, _) => UTF16_INDEX_OUT_OF_BOUNDS,
+        Error::CharRangeInvalid(_, _) => CHAR_RANGE_INVALID,
+        Error::CharRangeOutOfBounds(_, _, _) => CHAR_RANGE_OUT_OF_BOUNDS,
+        Error::ByteRangeInvalid(_, _) => BYTE_RANGE_INVALID,
+        Error::ByteRangeOutOfBounds(_, _, _) => BYTE_RANGE_OUT_OF_BOUNDS,
+        Error::TooLong => TOO_LONG,
+        Error::OutOfMemory => OUT_OF_MEMORY,
+        Error::LineBreaksDiffer => LINE_BREAKS_DIFFER,
+        _ => BYTE_RANGE_NOT_CHAR_BOUNDARY,
+    }
+}
+
+// The status of what a call of the rope returned.
+pub(crate) fn status(returned: Result<()>) -> u32
+    ensures { MatchResult returned (λ _. result ≡ OK) (λ e. result ≡ status_of e) }
+{
+    match returned {
+        Ok(()) => OK,
+        Err(error) => status_of(error),
+    }
+}
+
+// Writes an answer where the caller wants it.
+pub(crate) fn answer(found: Result<usize>, out: &mut usize) -> u32
+    ensures { Answers found result out.old out.new }
+{
+    match found {
+        Ok(value) => {
+            *out = value;
+            OK
+        }
+        Err(error) => status_of(error),
+    }
+}
+
+// The set of line breaks that a number stands for.
+pub(crate) fn given_breaks(number: u32) -> Option<LineBreaks>
+    ensures { result ≡ given_breaks number }
+{
+    match number {
+        LF => Some(LineBreaks::Lf),
+        CRLF => Some(LineBreaks::CrLf),
+        UNICODE => Some(LineBreaks::Unicode),
+        _ => None,
+    }
+}
+
+// The number that stands for a set of line breaks.
+pub(crate) fn number_of(breaks: LineBreaks) -> u32
+    ensures { result ≡ number_of breaks }
+{
+    match breaks {
+        LineBreaks::Lf => LF,
+        LineBreaks::CrLf => CRLF,
+        LineBreaks::Unicode => UNICODE,
+    }
+}
