@@ -16,7 +16,7 @@
  * break of the rope's set. A text has one line more than it has line breaks, and its last line may be empty.
  *
  * Refusals. A call answers 0 (ROPEY_OK), or the first reason for which it was refused, in the order in which its comment
- * gives them. No index, text or number that is given makes a call do anything else. A refused call changes nothing and
+ * gives them. No index, text or number can make a call do anything else. A refused call changes nothing and
  * writes nothing, but where its comment says so. A call on a handle without a rope answers ROPEY_NO_ROPE_HELD.
  *
  * Memory comes from the program's malloc, realloc and free, through rattle_alloc, rattle_dealloc and rattle_realloc, which
@@ -66,8 +66,8 @@ enum {
 enum { ROPEY_LF = 0, ROPEY_CRLF = 1, ROPEY_UNICODE = 2 };
 
 /* A chunk of a rope's text, 1 to 984 bytes of UTF-8 that end at a character, and how much of the text lies before it. The
- * bytes belong to the rope. The pointer is good until the rope is changed, freed or overwritten; a clone that still holds
- * the same text keeps nothing good for this pointer. Where the rope is empty it is null, and all numbers are 0. */
+ * bytes belong to the rope. The pointer is good until the rope is changed, freed or overwritten, even where a clone still
+ * holds the same text. Where the rope is empty it is null, and all numbers are 0. */
 typedef struct {
     const uint8_t *text;
     size_t len; /* in bytes */
