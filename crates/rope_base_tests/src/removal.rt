@@ -5,12 +5,11 @@ use rope_tree::children::share;
 use rope_tree::node::Node;
 use rope_tree::removal::remove_at;
 use std::alloc::{AllocError, Global};
-use std::rc::Rc;
 
 // Removes where the characters are there.
 fn remove(
     alloc: Global,
-    root: &mut Rc<Node>,
+    root: &mut Node,
     start: usize,
     end: usize,
     made: &mut u64,

@@ -1,16 +1,13 @@
 -- Frames of a path: one more of them, and the steps to the next leaf and to the one before.
-use Rattle.std.proofs.Common.{◌≡◌, ℕ, zero, suc, ◌+◌, ◌-◌, ◌<◌, ◌≤◌, ◌^◌, false, List, [], ◌∷◌, ◌++◌, length, take, drop, get_or, set, refl, ap, sym, subst, ◌∙◌, arith, inl, inr, All, append_assoc}
-use Rattle.std.proofs.lemmas.List.{take-append-drop, drop_more, take_more_set, append-nil, length-set, length-map, get_or-set_same, get_or-set_other, take-set, take-set-le, take_more, append_cancel_right, append_cancel_left, get_or_default, drop_all}
+use Rattle.std.proofs.Common.{◌≡◌, ℕ, ◌+◌, ◌-◌, ◌<◌, ◌≤◌, ◌^◌, false, List, [], ◌∷◌, ◌++◌, length, take, drop, get_or, set, refl, ap, sym, subst, ◌∙◌, arith, inl, inr, All, append_assoc}
+use Rattle.std.proofs.lemmas.List.{take-append-drop, drop_more, take_more_set, append-nil, length-set, get_or-set_same, get_or-set_other, take-set, take-set-le, take_more, append_cancel_right, append_cancel_left, get_or_default, drop_all}
 use Rattle.std.proofs.lemmas.List.Elements.{All-get_or, All-nil, All-cons, All-head, All-tail}
 use Rattle.std.proofs.lemmas.List.Concat.{flat_map-append}
 use Rattle.std.proofs.lemmas.Bool.{cases_eq}
 use Rattle.std.specs.Borrow.{Bor}
 use Rattle.std.specs.List.{concat}
-use Rattle.std.specs.declared.rc.Rc.{Rc}
-use Rattle.std.specs.declared.alloc.Global.{Global}
 use Rattle.rope_text.specs.declared.line_breaks.LineBreaks.{LineBreaks}
 use Rattle.rope_text.specs.declared.text_info.TextInfo.{TextInfo}
-use Rattle.rope_tree.specs.declared.node.Node.{Node}
 use Rattle.rope_text.specs.Text.{byte_len}
 use Rattle.rope_text.specs.TextInfo.{info_of, info_sum}
 use Rattle.rope_text.specs.Cutting.{parts_crlf}
@@ -25,34 +22,33 @@ use Rattle.rope_tree.proofs.Descents.{Descends, count_of-nil, count_of-sum}
 use Rattle.rope_text.proofs.Measures.{IsMeasure-byte_len}
 use Rattle.rope_tree.specs.Tree.{Tree, text, joined, leaves_of, breaks_of, leaf_tree, tree_over, IsChild}
 use Rattle.rope_tree.proofs.NodeLaws.{joined_parts, leaf_text}
-use Rattle.rope_tree.specs.Listed.{trees}
 use Rattle.rope_tree.specs.View.{IsInnerOf}
 use Rattle.rope_cursor.specs.declared.path.Frame.{Frame}
 use Rattle.rope_cursor.specs.Path.{Place, IsNext, HoldsPlace, leaves_below, before_of, after_of, place_of, IsLow, IsFrame, AreFrames, AreFramesOf, around, HasNextAt, HasPrevAt}
 
 -- the leaves below nodes, by the trees that they are seen as
-pub leaves_below_is : (rcs : List (Rc Node Global)) → leaves_below rcs ≡ leaves_of (trees rcs)
+pub leaves_below_is : (rcs : List Tree) → leaves_below rcs ≡ leaves_of rcs
 leaves_below_is [] = refl
-leaves_below_is (rc ∷ rcs) = ap (λ ls. rc.value.leaves ++ ls) (leaves_below_is rcs)
+leaves_below_is (rc ∷ rcs) = ap (λ ls. rc.leaves ++ ls) (leaves_below_is rcs)
 
-pub all_low : (b : LineBreaks) (h n : ℕ) (rcs : List (Rc Node Global)) → h ≤ n → All (IsChild b h) (trees rcs) → All (λ rc. IsLow rc.value n) rcs
-all_low b h n [] l a = All-nil (λ rc. IsLow rc.value n)
+pub all_low : (b : LineBreaks) (h n : ℕ) (rcs : List Tree) → h ≤ n → All (IsChild b h) rcs → All (λ rc. IsLow rc n) rcs
+all_low b h n [] l a = All-nil (λ rc. IsLow rc n)
 all_low b h n (rc ∷ rcs) l a =
-    let own = All-head (IsChild b h) rc.value (trees rcs) a in
-    All-cons (λ r. IsLow r.value n) rc rcs (record { levels = omega (arith, own.at_height); some = omega (arith, own.some) }) (all_low b h n rcs l (All-tail (IsChild b h) rc.value (trees rcs) a))
+    let own = All-head (IsChild b h) rc rcs a in
+    All-cons (λ r. IsLow r n) rc rcs (record { levels = omega (arith, own.at_height); some = omega (arith, own.some) }) (all_low b h n rcs l (All-tail (IsChild b h) rc rcs a))
 
 -- the leaves below nodes, parted at the i-th
-pub below_at : (rcs : List (Rc Node Global)) (i : ℕ) (d : Rc Node Global) → i < length rcs
-    → leaves_below rcs ≡ leaves_below (take i rcs) ++ ((get_or rcs i d).value.leaves ++ leaves_below (drop (i + 1) rcs))
+pub below_at : (rcs : List Tree) (i : ℕ) (d : Tree) → i < length rcs
+    → leaves_below rcs ≡ leaves_below (take i rcs) ++ ((get_or rcs i d).leaves ++ leaves_below (drop (i + 1) rcs))
 below_at rcs i d l =
-    ap leaves_below (sym (take-append-drop i rcs) ∙ ap (λ r. take i rcs ++ r) (drop_more rcs i d l)) ∙ flat_map-append (λ rc. rc.value.leaves) (take i rcs) (get_or rcs i d ∷ drop (i + 1) rcs)
+    ap leaves_below (sym (take-append-drop i rcs) ∙ ap (λ r. take i rcs ++ r) (drop_more rcs i d l)) ∙ flat_map-append (λ rc. rc.leaves) (take i rcs) (get_or rcs i d ∷ drop (i + 1) rcs)
 
-pub parted_at : (rcs : List (Rc Node Global)) (i : ℕ) (rc : Rc Node Global) (rest : List (List ℕ)) → i < length rcs → rc ≡ get_or rcs i rc
-    → leaves_below (take i rcs) ++ (rc.value.leaves ++ (leaves_below (drop (i + 1) rcs) ++ rest)) ≡ leaves_below rcs ++ rest
+pub parted_at : (rcs : List Tree) (i : ℕ) (rc : Tree) (rest : List (List ℕ)) → i < length rcs → rc ≡ get_or rcs i rc
+    → leaves_below (take i rcs) ++ (rc.leaves ++ (leaves_below (drop (i + 1) rcs) ++ rest)) ≡ leaves_below rcs ++ rest
 parted_at rcs i rc rest l e =
-    let own : (get_or rcs i rc).value.leaves ≡ rc.value.leaves = ap (λ r. r.value.leaves) (sym e) in
+    let own : (get_or rcs i rc).leaves ≡ rc.leaves = ap (λ r. r.leaves) (sym e) in
     let x = leaves_below (take i rcs) in
-    let y = rc.value.leaves in
+    let y = rc.leaves in
     let z = leaves_below (drop (i + 1) rcs) in
     let whole : leaves_below rcs ≡ x ++ (y ++ z) = below_at rcs i rc l ∙ ap (λ m. x ++ (m ++ z)) own in
     sym (ap (λ m. m ++ rest) whole ∙ append_assoc x (y ++ z) rest ∙ ap (λ m. x ++ m) (append_assoc y z rest))
@@ -101,32 +97,32 @@ AreFrames_front frames level i whole h l = record {
 }
 
 -- what stands around one of a frame's children is what stands around them all
-pub around_more : (frames : List Frame) (level : ℕ) (b : Bor (List (Rc Node Global))) (i : ℕ) (rc : Rc Node Global) → level < length frames → i < length b.now → rc ≡ get_or b.now i rc
-    → around (set frames level record { children = b; at = i }) (level + 1) rc.value.leaves ≡ around frames level (leaves_below b.now)
+pub around_more : (frames : List Frame) (level : ℕ) (b : Bor (List Tree)) (i : ℕ) (rc : Tree) → level < length frames → i < length b.now → rc ≡ get_or b.now i rc
+    → around (set frames level record { children = b; at = i }) (level + 1) rc.leaves ≡ around frames level (leaves_below b.now)
 around_more frames level b i rc l w e =
     let f : Frame = record { children = b; at = i } in
     let parted = parted_at b.now i rc (after_of (take level frames)) w e in
     rw (before_of_more frames level f l, after_of_more frames level f l)
-    (append_assoc (before_of (take level frames)) (leaves_below (take i b.now)) (rc.value.leaves ++ (leaves_below (drop (i + 1) b.now) ++ after_of (take level frames)))
+    (append_assoc (before_of (take level frames)) (leaves_below (take i b.now)) (rc.leaves ++ (leaves_below (drop (i + 1) b.now) ++ after_of (take level frames)))
     ∙ ap (λ x. before_of (take level frames) ++ x) parted)
 
 -- one level down: to the child at i of those that stand at a level
-pub record GoesDown (frames : List Frame) (level : ℕ) (b : Bor (List (Rc Node Global))) (i : ℕ) (child : Tree) (whole : List (List ℕ)) : Type 0 where
+pub record GoesDown (frames : List Frame) (level : ℕ) (b : Bor (List Tree)) (i : ℕ) (child : Tree) (whole : List (List ℕ)) : Type 0 where
   pub frames_are : AreFrames (set frames level record { children = b; at = i }) (level + 1) (around (set frames level record { children = b; at = i }) (level + 1) child.leaves)
   pub whole_is : around (set frames level record { children = b; at = i }) (level + 1) child.leaves ≡ whole
   pub low : IsLow child (18 - (level + 1))
   pub before : before_of (take (level + 1) (set frames level record { children = b; at = i })) ≡ before_of (take level frames) ++ leaves_below (take i b.now)
   pub after : after_of (take (level + 1) (set frames level record { children = b; at = i })) ≡ leaves_below (drop (i + 1) b.now) ++ after_of (take level frames)
 
-pub goes_down : (frames : List Frame) (level : ℕ) (b : Bor (List (Rc Node Global))) (i : ℕ) (rc : Rc Node Global) (child : Tree) (whole : List (List ℕ))
-    → AreFrames frames level whole → level < 18 → All (λ r. IsLow r.value (17 - level)) b.now → length b.now ≤ 24 → i < length b.now → rc ≡ get_or b.now i rc → child ≡ rc.value
+pub goes_down : (frames : List Frame) (level : ℕ) (b : Bor (List Tree)) (i : ℕ) (rc : Tree) (child : Tree) (whole : List (List ℕ))
+    → AreFrames frames level whole → level < 18 → All (λ r. IsLow r (17 - level)) b.now → length b.now ≤ 24 → i < length b.now → rc ≡ get_or b.now i rc → child ≡ rc
     → around frames level (leaves_below b.now) ≡ whole → GoesDown frames level b i child whole
 goes_down frames level b i rc child whole h l all few w e c q =
     let n : level < length frames = omega (arith, h.len) in
     let f : Frame = record { children = b; at = i } in
     let same : around (set frames level f) (level + 1) child.leaves ≡ whole = ap (λ t. around (set frames level f) (level + 1) t.leaves) c ∙ around_more frames level b i rc n w e ∙ q in
     let more = AreFrames_more frames level f whole h l (record { within = w; few = few; low = all }) q in
-    let own : IsLow (get_or b.now i rc).value (17 - level) = All-get_or (λ r. IsLow r.value (17 - level)) b.now i rc w all in
+    let own : IsLow (get_or b.now i rc) (17 - level) = All-get_or (λ r. IsLow r (17 - level)) b.now i rc w all in
     let levels : 17 - level ≡ 18 - (level + 1) = omega arith in
     record {
       frames_are = rw same more;
@@ -137,21 +133,20 @@ goes_down frames level b i rc child whole h l all few w e c q =
     }
 
 -- an inner node with these children
-pub record IsOpened (frames : List Frame) (level : ℕ) (t : Tree) (b : Bor (List (Rc Node Global))) : Type 0 where
+pub record IsOpened (frames : List Frame) (level : ℕ) (t : Tree) (b : Bor (List Tree)) : Type 0 where
   pub room : level < 18
   pub some : 0 < length b.now
   pub few : length b.now ≤ 24
-  pub low : All (λ rc. IsLow rc.value (17 - level)) b.now
+  pub low : All (λ rc. IsLow rc (17 - level)) b.now
   pub parts : around frames level (leaves_below b.now) ≡ around frames level t.leaves
 
-pub opened : (frames : List Frame) (level : ℕ) (t : Tree) (b : Bor (List (Rc Node Global))) (totals : List TextInfo) → IsInnerOf t (trees b.now) totals → IsLow t (18 - level) → IsOpened frames level t b
+pub opened : (frames : List Frame) (level : ℕ) (t : Tree) (b : Bor (List Tree)) (totals : List TextInfo) → IsInnerOf t b.now totals → IsLow t (18 - level) → IsOpened frames level t b
 opened frames level t b totals i low =
     let above = ap (λ u. u.height) i.is in
-    let long = length-map b.now (λ rc. rc.value) in
     record {
       room = omega (arith, above, low.levels);
-      some = omega (arith, long, i.children.at_least_two);
-      few = omega (arith, long, i.children.at_most_24);
+      some = omega (arith, i.children.at_least_two);
+      few = omega (arith, i.children.at_most_24);
       low = all_low _ _ (17 - level) b.now (omega (arith, above, low.levels)) i.children.each;
       parts = ap (around frames level) (leaves_below_is b.now ∙ ap (λ u. u.leaves) (sym i.is));
     }
@@ -204,8 +199,8 @@ module _ (frames : List Frame) (depth level : ℕ) (f : Frame) (h : AreFramesOf 
       }
 
 -- the step to the next leaf: frame i stands at f, and rc is the child after its own
-module _ (frames : List Frame) (depth i : ℕ) (f : Frame) (rc : Rc Node Global) (child : Tree) (leaf : List ℕ) (h : AreFrames frames depth (around frames depth (leaf ∷ [])))
-    (n : HasNextAt frames depth i) (e : f ≡ get_or frames i f) (w : rc ≡ get_or f.children.now (f.at + 1) rc) (c : child ≡ rc.value) where
+module _ (frames : List Frame) (depth i : ℕ) (f : Frame) (rc : Tree) (child : Tree) (leaf : List ℕ) (h : AreFrames frames depth (around frames depth (leaf ∷ [])))
+    (n : HasNextAt frames depth i) (e : f ≡ get_or frames i f) (w : rc ≡ get_or f.children.now (f.at + 1) rc) (c : child ≡ rc) where
   fit_here : IsFrame f (17 - i)
   fit_here = rw e (h.fit i f n.below)
 
@@ -223,7 +218,7 @@ module _ (frames : List Frame) (depth i : ℕ) (f : Frame) (rc : Rc Node Global)
       let t : after_of (take (i + 1) frames) ≡ leaves_below (drop (f.at + 1) f.children.now) ++ after_of (take i frames) =
       rw (take_more frames i f (omega (arith, n.below, h.room, h.len)), ← e) (after_of-append (take i frames) (f ∷ [])) in
       let s = drop_more f.children.now (f.at + 1) rc (n.more f e) in
-      rw (n.same, t, s, ← w, c) (append_assoc rc.value.leaves (leaves_below (drop (f.at + 1 + 1) f.children.now)) (after_of (take i frames)))
+      rw (n.same, t, s, ← w, c) (append_assoc rc.leaves (leaves_below (drop (f.at + 1 + 1) f.children.now)) (after_of (take i frames)))
 
   pub next_is : (q : Place) → q.before ≡ before_of (take (i + 1) (set frames i record { children = f.children; at = f.at + 1 }))
       → q.before ++ (q.here ∷ q.after) ≡ around (set frames i record { children = f.children; at = f.at + 1 }) (i + 1) child.leaves → IsNext (place_of frames depth leaf) q
@@ -241,8 +236,8 @@ module _ (frames : List Frame) (depth i : ℕ) (f : Frame) (rc : Rc Node Global)
       }
 
 -- the step to the leaf before: frame i stands at f, and rc is the child before its own
-module _ (frames : List Frame) (depth i : ℕ) (f : Frame) (rc : Rc Node Global) (child : Tree) (leaf : List ℕ) (h : AreFrames frames depth (around frames depth (leaf ∷ [])))
-    (n : HasPrevAt frames depth i) (e : f ≡ get_or frames i f) (w : rc ≡ get_or f.children.now (f.at - 1) rc) (c : child ≡ rc.value) where
+module _ (frames : List Frame) (depth i : ℕ) (f : Frame) (rc : Tree) (child : Tree) (leaf : List ℕ) (h : AreFrames frames depth (around frames depth (leaf ∷ [])))
+    (n : HasPrevAt frames depth i) (e : f ≡ get_or frames i f) (w : rc ≡ get_or f.children.now (f.at - 1) rc) (c : child ≡ rc) where
   fit_there : IsFrame f (17 - i)
   fit_there = rw e (h.fit i f n.below)
 
@@ -268,7 +263,7 @@ module _ (frames : List Frame) (depth i : ℕ) (f : Frame) (rc : Rc Node Global)
       let u = take_more f.children.now (f.at - 1) rc prev_within in
       let s : take f.at f.children.now ≡ take (f.at - 1) f.children.now ++ rc ∷ [] = (rw on at u) ∙ ap (λ x. take (f.at - 1) f.children.now ++ x ∷ []) (sym w) in
       let one : leaves_below (take f.at f.children.now) ≡ leaves_below (take (f.at - 1) f.children.now) ++ child.leaves =
-      ap leaves_below s ∙ flat_map-append (λ r. r.value.leaves) (take (f.at - 1) f.children.now) (rc ∷ []) ∙ ap (λ x. leaves_below (take (f.at - 1) f.children.now) ++ x) (append-nil rc.value.leaves ∙ ap (λ r. r.leaves) (sym c)) in
+      ap leaves_below s ∙ flat_map-append (λ r. r.leaves) (take (f.at - 1) f.children.now) (rc ∷ []) ∙ ap (λ x. leaves_below (take (f.at - 1) f.children.now) ++ x) (append-nil rc.leaves ∙ ap (λ r. r.leaves) (sym c)) in
       n.same ∙ t ∙ ap (λ x. before_of (take i frames) ++ x) one ∙ sym (append_assoc (before_of (take i frames)) (leaves_below (take (f.at - 1) f.children.now)) child.leaves)
 
   pub prev_is : (q : Place) → q.after ≡ after_of (take (i + 1) (set frames i record { children = f.children; at = f.at - 1 }))
@@ -286,11 +281,6 @@ module _ (frames : List Frame) (depth i : ℕ) (f : Frame) (rc : Rc Node Global)
         after = append_cancel_left (before_of (take depth frames)) q.after (leaf ∷ after_of (take depth frames)) (ap (λ x. x ++ q.after) k ∙ whole);
       }
 
-trees-take : (k : ℕ) (rcs : List (Rc Node Global)) → trees (take k rcs) ≡ take k (trees rcs)
-trees-take zero rcs = refl
-trees-take (suc k) [] = refl
-trees-take (suc k) (rc ∷ rcs) = ap (λ ts. rc.value ∷ ts) (trees-take k rcs)
-
 -- leaves among others: no CR LF is parted where their text begins
 seam_at : (before own after : List (List ℕ)) (front rest : List ℕ) → AreLeaves (before ++ (own ++ after)) → concat own ≡ front ++ rest → parts_crlf (concat before) front ≡ false
 seam_at before own after front rest a e =
@@ -304,12 +294,12 @@ pub record EntersChild (unit : Unit) (info front : TextInfo) (at : ℕ) (more : 
   pub within : at - count_of unit front < count_of unit (info_of child.breaks (text child))
   pub place_is : count_of unit (info_sum info front) + (at - count_of unit front) ≡ count_of unit info + at
 
-pub enters_child : (unit : Unit) (info front : TextInfo) (at : ℕ) (before more after : List (List ℕ)) (t child : Tree) (rcs : List (Rc Node Global)) (k : ℕ) → t ≡ tree_over (trees rcs)
-    → Descends (breaks_of (trees rcs)) unit at (trees rcs) k child front → info ≡ info_of t.breaks (concat before) → more ≡ before ++ leaves_below (take k rcs)
+pub enters_child : (unit : Unit) (info front : TextInfo) (at : ℕ) (before more after : List (List ℕ)) (t child : Tree) (rcs : List Tree) (k : ℕ) → t ≡ tree_over rcs
+    → Descends (breaks_of rcs) unit at rcs k child front → info ≡ info_of t.breaks (concat before) → more ≡ before ++ leaves_below (take k rcs)
     → AreLeaves (before ++ (t.leaves ++ after)) → byte_len (concat (before ++ (t.leaves ++ after))) < 2 ^ 63 → EntersChild unit info front at more child
 enters_child unit info front at before more after t child rcs k is d info_is e leaves fits =
-    let ts = trees rcs in
-    let below : leaves_below (take k rcs) ≡ leaves_of (take k ts) = leaves_below_is (take k rcs) ∙ ap leaves_of (trees-take k rcs) in
+    let ts = rcs in
+    let below : leaves_below (take k rcs) ≡ leaves_of (take k ts) = leaves_below_is (take k rcs) in
     let cut : concat more ≡ concat before ++ joined (take k ts) = ap concat (e ∙ ap (λ ls. before ++ ls) below) ∙ concat-append before (leaves_of (take k ts)) in
     let apart = seam_at before t.leaves after (joined (take k ts)) (joined (drop k ts)) leaves (ap (λ u. concat u.leaves) is ∙ joined_parts ts k) in
     let sets : t.breaks ≡ breaks_of ts = ap (λ u. u.breaks) is in

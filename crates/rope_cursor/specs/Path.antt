@@ -1,15 +1,12 @@
 -- A way from the root of a tree to a leaf, seen as a place among the leaves.
 use Rattle.std.specs.Prelude.{◌≡◌, ℕ, ◌+◌, ◌-◌, ◌<◌, ◌≤◌, List, [], ◌∷◌, ◌++◌, length, take, drop, get_or, All}
 use Rattle.std.specs.List.{concat, flat_map}
-use Rattle.std.specs.declared.rc.Rc.{Rc}
-use Rattle.std.specs.declared.alloc.Global.{Global}
 use Rattle.rope_text.specs.declared.line_breaks.LineBreaks.{LineBreaks}
 use Rattle.rope_text.specs.declared.text_info.TextInfo.{TextInfo}
 use Rattle.rope_text.specs.TextInfo.{info_of}
 use Rattle.rope_tree.specs.declared.search.Unit.{Unit}
 use Rattle.rope_tree.specs.Search.{count_of}
 use Rattle.rope_tree.specs.Tree.{Tree}
-use Rattle.rope_tree.specs.declared.node.Node.{Node}
 use Rattle.rope_cursor.specs.declared.path.Frame.{Frame}
 
 -- the leaves before a place, the one there, and those after it
@@ -34,8 +31,8 @@ pub record HoldsPlace (unit : Unit) (breaks : LineBreaks) (at : ℕ) (before : L
   pub past : at < count_of unit (info_of breaks (concat before ++ here))
 
 -- the leaves below some nodes
-abbrev pub leaves_below : List (Rc Node Global) → List (List ℕ)
-leaves_below rcs = flat_map (λ rc. rc.value.leaves) rcs
+abbrev pub leaves_below : List Tree → List (List ℕ)
+leaves_below rcs = flat_map (λ rc. rc.leaves) rcs
 
 -- the leaves before and after a path, by its frames from the root down
 abbrev pub before_of : List Frame → List (List ℕ)
@@ -59,7 +56,7 @@ pub record IsLow (t : Tree) (n : ℕ) : Type 0 where
 pub record IsFrame (f : Frame) (n : ℕ) : Type 0 where
   pub within : f.at < length f.children.now
   pub few : length f.children.now ≤ 24
-  pub low : All (λ rc. IsLow rc.value n) f.children.now
+  pub low : All (λ rc. IsLow rc n) f.children.now
 
 -- the first `level` of 18 frames: at each of them, what stands before, the leaves below its children, and what stands after
 -- are the whole

@@ -8,21 +8,18 @@ ghost use Rattle.rope_text.specs.TextInfo.{info_of};
 ghost use Rattle.rope_tree.specs.Search.{count_of};
 ghost use Rattle.rope_tree.specs.Leaves.{AreLeaves};
 ghost use Rattle.rope_tree.specs.Tree.{text};
-ghost use Rattle.rope_tree.specs.View.{IsLeafOf};
 ghost use Rattle.rope_cursor.specs.Path.{before_of, after_of, around, place_of, AreFrames, AreFramesOf, LeadsTo, HasNextAt, HasPrevAt, IsLow, IsNext, HoldsPlace, leaves, leaves_below};
 
 use rope_text::{Steps, TextInfo};
 use rope_tree::lookup::total_before;
 use rope_tree::node::{Node, View};
-use rope_tree::node_text::NodeText;
 use rope_tree::search::{Unit, count, place_of};
 use std::marker::Model;
-use std::rc::Rc;
 
 /// The children of an inner node, and the one that the path goes to.
 #[derive(Clone, Copy)]
 struct Frame<'a> {
-    children: &'a [Rc<Node>],
+    children: &'a [Node],
     at: usize,
 }
 
@@ -49,8 +46,8 @@ impl<'a> Model for Path<'a> {
 // Whether all nodes are leaves, as far as their heads show. A walk comes to one after the other, and would wait for memory at
 // each: here what it will read of their heads is read side by side, so that their waits are one. No leaf below another node is
 // empty; its bytes are asked for so that they are read too.
-fn are_leaves(nodes: &[Rc<Node>]) -> bool
-    ensures { OnTrue result (All (λ rc. rc.value.height ≡ 0) nodes.now) }
+fn are_leaves(nodes: &[Node]) -> bool
+    ensures { OnTrue result (All (λ rc. rc.height ≡ 0) nodes.now) }
 {
     for node in nodes {
         match node.view() {
@@ -61,21 +58,13 @@ fn are_leaves(nodes: &[Rc<Node>]) -> bool
     true
 }
 
-// The text of a leaf, whose length is in the node's counts, which lie in its head.
-fn leaf_text<'a>(node: &'a Node, leaf: &'a NodeText) -> &'a str
-    requires { IsLeafOf node.now leaf.now }
-    ensures { chars result.now ≡ leaf.now }
-{
-    leaf.as_str_of_len(node.info().bytes)
-}
-
 // The text of a node, where it is a leaf.
 fn leaf_of(node: &Node) -> Option<&str>
     requires { 0 < length node.now.leaves }
     ensures { IfSome result (λ text. node.now.leaves ≡ chars text.now ∷ []) }
 {
     match node.view() {
-        View::Leaf(leaf) => Some(leaf_text(node, leaf)),
+        View::Leaf(leaf) => Some(leaf.as_str()),
         View::Inner(_, _) => None,
     }
 }
@@ -87,7 +76,7 @@ pub(crate) fn lowest_text(node: &Node) -> &str
     ensures { node.now.leaves ≡ chars result.now ∷ [] }
 {
     match node.view() {
-        View::Leaf(leaf) => leaf_text(node, leaf),
+        View::Leaf(leaf) => leaf.as_str(),
         View::Inner(_, _) => unreachable!(),
     }
 }
@@ -100,7 +89,7 @@ fn enter_first<'a>(frames: &mut [Frame<'a>; 18], level: usize, node: &'a Node) -
     ensures before { before_of (take result.0 frames.new) ≡ before_of (take level frames.old) }
 {
     match node.view() {
-        View::Leaf(leaf) => (level, leaf_text(node, leaf)),
+        View::Leaf(leaf) => (level, leaf.as_str()),
         View::Inner(children, _) => {
             frames[level] = Frame { children, at: 0 };
             let first: &Node = &children[0];
@@ -136,7 +125,7 @@ fn enter_last<'a>(frames: &mut [Frame<'a>; 18], level: usize, node: &'a Node) ->
     ensures after { after_of (take result.0 frames.new) ≡ after_of (take level frames.old) }
 {
     match node.view() {
-        View::Leaf(leaf) => (level, leaf_text(node, leaf)),
+        View::Leaf(leaf) => (level, leaf.as_str()),
         View::Inner(children, _) => {
             let at = children.len() - 1;
             frames[level] = Frame { children, at };
@@ -193,7 +182,7 @@ fn enter_at<'a>(
     match node.view() {
         View::Leaf(leaf) => Held {
             depth: level,
-            leaf: leaf_text(node, leaf),
+            leaf: leaf.as_str(),
             before,
         },
         View::Inner(children, totals) => {
@@ -299,10 +288,10 @@ fn to_last_leaf<'a>(
     frames: &mut [Frame<'a>; 18],
     depth: usize,
     leaf: &'a str,
-) -> Option<(&'a [Rc<Node>], &'a str)>
+) -> Option<(&'a [Node], &'a str)>
     requires frames { AreFrames frames.old depth (around frames.old depth (chars leaf.now ∷ [])) }
     requires some { 0 < depth }
-    ensures leaves { IfSome result (λ found. All (λ rc. IsLow rc.value 0) found.0.now) }
+    ensures leaves { IfSome result (λ found. All (λ rc. IsLow rc 0) found.0.now) }
     ensures ahead { IfSome result (λ found. after_of (take depth frames.old) ≡ leaves_below found.0.now ++ after_of (take depth frames.new)) }
     ensures leads { IfSome result (λ found. AreFrames frames.new depth (around frames.new depth (chars found.1.now ∷ []))) }
     ensures stays { IfNone result (frames.new ≡ frames.old) }
@@ -395,8 +384,8 @@ impl<'a> Path<'a> {
 
     /// Goes to the last leaf under the node right over its own, and answers the leaves that it passes and that one: so that who
     /// only goes forward takes them from there. Where some are no leaves, it answers none and stays.
-    pub(crate) fn pass_siblings(&mut self) -> &'a [Rc<Node>]
-        ensures leaves { All (λ rc. IsLow rc.value 0) result.now }
+    pub(crate) fn pass_siblings(&mut self) -> &'a [Node]
+        ensures leaves { All (λ rc. IsLow rc 0) result.now }
         ensures ahead { self.old.after ≡ leaves_below result.now ++ self.new.after }
     {
         let depth = self.depth;

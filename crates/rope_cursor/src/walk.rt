@@ -6,7 +6,6 @@ ghost use Rattle.rope_cursor.specs.Path.{leaves_below, IsLow};
 use crate::path::{Path, lowest_text};
 use rope_tree::node::Node;
 use std::marker::Model;
-use std::rc::Rc;
 
 /// The leaves after a path, forward only.
 ///
@@ -16,7 +15,7 @@ use std::rc::Rc;
 pub struct Walk<'a> {
     path: Path<'a>,
     // the leaves ahead that come before those after the path
-    siblings: &'a [Rc<Node>],
+    siblings: &'a [Node],
 }
 
 impl<'a> Model for Walk<'a> {
@@ -27,14 +26,14 @@ impl<'a> Model for Walk<'a> {
 
     ghost view = { λ a. leaves_below a.siblings.now ++ a.path.after };
 
-    ghost invariant = { λ a. All (λ rc. IsLow rc.value 0) a.siblings.now };
+    ghost invariant = { λ a. All (λ rc. IsLow rc 0) a.siblings.now };
 }
 
 // Goes on to the leaf after a path, and, on a way that goes far, past those beside it, whose heads are all read then. Answers
 // the leaf and these. Never inlined: a step mostly takes one of the siblings, and is kept short.
 #[inline(never)]
-fn leave_node<'a>(path: &mut Path<'a>, is_far: bool) -> Option<(&'a str, &'a [Rc<Node>])>
-    ensures leaves { IfSome result (λ found. All (λ rc. IsLow rc.value 0) found.1.now) }
+fn leave_node<'a>(path: &mut Path<'a>, is_far: bool) -> Option<(&'a str, &'a [Node])>
+    ensures leaves { IfSome result (λ found. All (λ rc. IsLow rc 0) found.1.now) }
     ensures some { IfSome result (λ found. path.old.after ≡ chars found.0.now ∷ (leaves_below found.1.now ++ path.new.after)) }
     ensures none { IfNone result ((path.old.after ≡ []) × (path.new ≡ path.old)) }
 {

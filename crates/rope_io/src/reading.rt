@@ -14,7 +14,6 @@ use rope_text::{Error, LineBreaks, Result};
 use rope_tree::builder::Builder;
 use rope_tree::node::Node;
 use std::alloc::Global;
-use std::rc::Rc;
 
 // How many bytes are held at once, and are refused where they begin with no character.
 const BUFFER_BYTES: usize = 1968;
@@ -122,14 +121,14 @@ pub fn read_tree<S: Source>(
     alloc: Global,
     source: &mut S,
     breaks: LineBreaks,
-) -> std::result::Result<Rc<Node>, ReadError>
-    ensures answer { Reads (λ node. text node.value) (S.remaining source.old) (S.remaining source.new)
+) -> std::result::Result<Node, ReadError>
+    ensures answer { Reads (λ node. text node) (S.remaining source.old) (S.remaining source.new)
         (S.marked source.new) result }
     ensures failure { S.failure source.new ≡ reader_failure result }
     ensures once { S.failures source.new ≡ count_failure (reader_failure result) (S.failures source.old) }
-    ensures breaks { IfOk result (λ node. node.value.breaks ≡ breaks) }
-    ensures tree { IfOk result (λ node. IsTree node.value) }
-    ensures few { IfOk result (λ node. length node.value.leaves ≤ (byte_len (text node.value) + 980) / 981) }
+    ensures breaks { IfOk result (λ node. node.breaks ≡ breaks) }
+    ensures tree { IfOk result (λ node. IsTree node) }
+    ensures few { IfOk result (λ node. length node.leaves ≤ (byte_len (text node) + 980) / 981) }
 {
     source.clear();
     let mut builder = Builder::new(alloc, breaks);

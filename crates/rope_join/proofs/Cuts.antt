@@ -1,16 +1,12 @@
 -- A node cut at one of its children.
 use Rattle.std.proofs.Common.{◌≡◌, ℕ, ◌+◌, ◌-◌, ◌^◌, ◌<◌, ◌≤◌, List, [], ◌++◌, length, take, drop, get_or, refl, sym, ap, subst, ◌∙◌, arith, inl, inr}
 use Rattle.std.specs.List.{concat, All}
-use Rattle.std.specs.declared.alloc.Global.{Global}
-use Rattle.std.specs.declared.rc.Rc.{Rc}
 use Rattle.std.proofs.lemmas.Bool.{cases_lt}
-use Rattle.std.proofs.lemmas.List.{append-nil, length-drop, length-take-le, take_all, take-append-drop, take-map, drop-map, nil_from_length}
+use Rattle.std.proofs.lemmas.List.{append-nil, length-drop, length-take-le, take_all, take-append-drop, nil_from_length}
 use Rattle.rope_text.specs.declared.line_breaks.LineBreaks.{LineBreaks}
 use Rattle.rope_text.specs.Text.{byte_len}
 use Rattle.rope_text.proofs.Measures.{IsMeasure-byte_len}
 use Rattle.rope_text.proofs.CuttingLaws.{concat-append}
-use Rattle.rope_tree.specs.declared.node.Node.{Node}
-use Rattle.rope_tree.specs.Listed.{trees}
 use Rattle.rope_tree.specs.Leaves.{AreLeaves, IsSeam}
 use Rattle.rope_tree.specs.Tree.{Tree, text, joined, leaves_of, height_of, breaks_of, tree_over, leaf_tree, IsTree, IsChild, AreChildren}
 use Rattle.rope_tree.specs.Siblings.{AreSiblings}
@@ -195,8 +191,5 @@ pub whole_back : (n r : Tree) (at : ℕ) → IsTree n → at ≡ 0 → r ≡ n �
 whole_back n r at i z e = rw (e, z) (record { text_is = refl; same_breaks = refl; leaves = i.leaves; not_higher = omega arith })
 
 -- what the slices around a child have
-pub front_trees : (rcs : List (Rc Node Global)) (k : ℕ) → trees (take k rcs) ≡ take k (trees rcs)
-front_trees rcs k = rw take-map refl
-
-pub back_trees : (rcs : List (Rc Node Global)) (k : ℕ) → trees (take (length rcs - k) (drop k rcs)) ≡ drop k (trees rcs)
-back_trees rcs k = ap trees (take_all (length rcs - k) (drop k rcs) (omega (arith, length-drop k rcs))) ∙ (rw drop-map refl)
+pub back_trees : (ts : List Tree) (k : ℕ) → take (length ts - k) (drop k ts) ≡ drop k ts
+back_trees ts k = take_all (length ts - k) (drop k ts) (omega (arith, length-drop k ts))

@@ -1,17 +1,13 @@
 -- Two trees as one tree or two of the greater height.
 use Rattle.std.proofs.Common.{◌≡◌, ℕ, ◌+◌, ◌-◌, ◌^◌, ◌<◌, ◌≤◌, min, List, [], ◌∷◌, ◌++◌, length, take, drop, get_or, refl, sym, ap, subst, ◌∙◌, arith, append_assoc, inl, inr}
 use Rattle.std.specs.List.{concat, All}
-use Rattle.std.specs.declared.alloc.Global.{Global}
-use Rattle.std.specs.declared.rc.Rc.{Rc}
-use Rattle.std.proofs.lemmas.List.{append-nil, length-append, length-drop, take_more, take_all, map-append, length-map}
+use Rattle.std.proofs.lemmas.List.{append-nil, length-append, length-drop, take_more, take_all}
 use Rattle.std.proofs.lemmas.Bool.{cases_lt}
 use Rattle.std.proofs.lemmas.List.Elements.{All-nil, All-cons, All-head, All-tail, All-append, All-weaker}
 use Rattle.rope_text.specs.declared.line_breaks.LineBreaks.{LineBreaks}
 use Rattle.rope_text.specs.Text.{byte_len}
 use Rattle.rope_text.proofs.Measures.{IsMeasure-byte_len}
 use Rattle.rope_text.proofs.CuttingLaws.{concat-append}
-use Rattle.rope_tree.specs.declared.node.Node.{Node}
-use Rattle.rope_tree.specs.Listed.{trees}
 use Rattle.rope_tree.specs.Leaves.{AreLeaves, Recuts}
 use Rattle.rope_tree.specs.Tree.{Tree, text, joined, leaves_of, height_of, breaks_of, tree_over, leaf_tree, one_leaf, IsTree, IsWide, IsChild, AreChildren}
 use Rattle.rope_tree.specs.Siblings.{AreSiblings, AreParts}
@@ -265,14 +261,14 @@ module _ (a b first : Tree) (rest : List Tree) (br : LineBreaks) (h : ℕ) (eb :
         lower_union a b us r below (weaker_parts a.breaks b.width n n (b.width + 1) b.height us (omega (arith, front_count.2)) (omega (arith, front_count.3)) (rw (eh, es) at p))
 
 -- the children of an inner node, apart from the last, with the last
-trees_last : (rcs : List (Rc Node Global)) (k : ℕ) (d : Rc Node Global) → length rcs ≡ k + 1 → trees rcs ≡ trees (take k rcs) ++ (get_or rcs k d).value ∷ []
+trees_last : (rcs : List Tree) (k : ℕ) (d : Tree) → length rcs ≡ k + 1 → rcs ≡ (take k rcs) ++ (get_or rcs k d) ∷ []
 trees_last rcs k d n =
     let e : take (k + 1) rcs ≡ rcs = take_all (k + 1) rcs (omega arith) in
     let f = take_more rcs k d (omega arith) in
-    ap trees (sym e ∙ f) ∙ map-append (λ rc. rc.value) (take k rcs) (get_or rcs k d ∷ [])
+    sym e ∙ f
 
 -- the first child and the others
-trees_first : (rcs : List (Rc Node Global)) (d : Rc Node Global) → 1 ≤ length rcs → trees rcs ≡ (get_or rcs 0 d).value ∷ trees (drop 1 rcs)
+trees_first : (rcs : List Tree) (d : Tree) → 1 ≤ length rcs → rcs ≡ (get_or rcs 0 d) ∷ (drop 1 rcs)
 trees_first [] d some = absurd (omega arith)
 trees_first (rc ∷ rcs) d some = refl
 
@@ -284,17 +280,16 @@ pub record EndsIn (a : Tree) (init : List Tree) (last : Tree) (br : LineBreaks) 
   pub height : a.height ≡ h + 1
   pub above : last.height + 1 ≡ a.height
 
-pub ends_in : (a : Tree) (rcs : List (Rc Node Global)) (d : Rc Node Global) → a ≡ tree_over (trees rcs) → AreChildren (breaks_of (trees rcs)) (height_of (trees rcs)) (trees rcs) → d ≡ get_or rcs (length rcs - 1) d → EndsIn a (trees (take (length rcs - 1) rcs)) d.value (breaks_of (trees rcs)) (height_of (trees rcs))
+pub ends_in : (a : Tree) (rcs : List Tree) (d : Tree) → a ≡ tree_over rcs → AreChildren (breaks_of rcs) (height_of rcs) rcs → d ≡ get_or rcs (length rcs - 1) d → EndsIn a ((take (length rcs - 1) rcs)) d (breaks_of rcs) (height_of rcs)
 ends_in a rcs d e c r =
     let k = length rcs - 1 in
-    let br = breaks_of (trees rcs) in
-    let h = height_of (trees rcs) in
-    let n : length (trees rcs) ≡ length rcs = length-map rcs (λ rc. rc.value) in
-    let s : trees rcs ≡ trees (take k rcs) ++ (get_or rcs k d).value ∷ [] = trees_last rcs k d (omega (arith, c.at_least_two)) in
-    let v : (get_or rcs k d).value ≡ d.value = ap (λ rc. rc.value) (sym r) in
-    let q : trees rcs ≡ trees (take k rcs) ++ d.value ∷ [] = s ∙ ap (λ x. trees (take k rcs) ++ x ∷ []) v in
-    let ch : AreChildren br h (trees (take k rcs) ++ d.value ∷ []) = subst (AreChildren br h) q c in
-    let child = All-head (IsChild br h) d.value [] (all_right (IsChild br h) (trees (take k rcs)) (d.value ∷ []) ch.each) in
+    let br = breaks_of rcs in
+    let h = height_of rcs in
+    let s : rcs ≡ (take k rcs) ++ (get_or rcs k d) ∷ [] = trees_last rcs k d (omega (arith, c.at_least_two)) in
+    let v : (get_or rcs k d) ≡ d = sym r in
+    let q : rcs ≡ (take k rcs) ++ d ∷ [] = s ∙ ap (λ x. (take k rcs) ++ x ∷ []) v in
+    let ch : AreChildren br h ((take k rcs) ++ d ∷ []) = subst (AreChildren br h) q c in
+    let child = All-head (IsChild br h) d [] (all_right (IsChild br h) ((take k rcs)) (d ∷ []) ch.each) in
     record { is = e ∙ ap tree_over q; children = ch; same_breaks = ap (λ t. t.breaks) e; height = ap (λ t. t.height) e; above = omega (arith, child.at_height, ap (λ t. t.height) e) }
 
 -- an inner node by its first child
@@ -305,20 +300,19 @@ pub record BeginsIn (b first : Tree) (rest : List Tree) (br : LineBreaks) (h : �
   pub height : b.height ≡ h + 1
   pub above : first.height + 1 ≡ b.height
 
-pub begins_in : (b : Tree) (rcs : List (Rc Node Global)) (d : Rc Node Global) → b ≡ tree_over (trees rcs) → AreChildren (breaks_of (trees rcs)) (height_of (trees rcs)) (trees rcs) → d ≡ get_or rcs 0 d → BeginsIn b d.value (trees (drop 1 rcs)) (breaks_of (trees rcs)) (height_of (trees rcs))
+pub begins_in : (b : Tree) (rcs : List Tree) (d : Tree) → b ≡ tree_over rcs → AreChildren (breaks_of rcs) (height_of rcs) rcs → d ≡ get_or rcs 0 d → BeginsIn b d ((drop 1 rcs)) (breaks_of rcs) (height_of rcs)
 begins_in b rcs d e c r =
-    let br = breaks_of (trees rcs) in
-    let h = height_of (trees rcs) in
-    let n : length (trees rcs) ≡ length rcs = length-map rcs (λ rc. rc.value) in
+    let br = breaks_of rcs in
+    let h = height_of rcs in
     let s = trees_first rcs d (omega (arith, c.at_least_two)) in
-    let v : (get_or rcs 0 d).value ≡ d.value = ap (λ rc. rc.value) (sym r) in
-    let q : trees rcs ≡ d.value ∷ trees (drop 1 rcs) = s ∙ ap (λ x. x ∷ trees (drop 1 rcs)) v in
-    let ch : AreChildren br h (d.value ∷ trees (drop 1 rcs)) = subst (AreChildren br h) q c in
-    let child = All-head (IsChild br h) d.value (trees (drop 1 rcs)) ch.each in
+    let v : (get_or rcs 0 d) ≡ d = sym r in
+    let q : rcs ≡ d ∷ (drop 1 rcs) = s ∙ ap (λ x. x ∷ (drop 1 rcs)) v in
+    let ch : AreChildren br h (d ∷ (drop 1 rcs)) = subst (AreChildren br h) q c in
+    let child = All-head (IsChild br h) d ((drop 1 rcs)) ch.each in
     record { is = e ∙ ap tree_over q; children = ch; same_breaks = ap (λ t. t.breaks) e; height = ap (λ t. t.height) e; above = omega (arith, child.at_height, ap (λ t. t.height) e) }
 
 -- what `&children[1..]` adds behind the parts
-pub slice_rest : (vs ts : List Tree) (rcs : List (Rc Node Global)) → vs ≡ ts ++ trees (take (length rcs - 1) (drop 1 rcs)) → vs ≡ ts ++ trees (drop 1 rcs)
+pub slice_rest : (vs ts : List Tree) (rcs : List Tree) → vs ≡ ts ++ (take (length rcs - 1) (drop 1 rcs)) → vs ≡ ts ++ (drop 1 rcs)
 slice_rest vs ts rcs e =
     let f : take (length rcs - 1) (drop 1 rcs) ≡ drop 1 rcs = take_all (length rcs - 1) (drop 1 rcs) (omega (arith, length-drop 1 rcs)) in
-    e ∙ ap (λ xs. ts ++ trees xs) f
+    e ∙ ap (λ xs. ts ++ xs) f

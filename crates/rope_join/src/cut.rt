@@ -13,20 +13,19 @@ use rope_tree::node::{Node, View};
 use rope_tree::node_text::NodeText;
 use rope_tree::search::{Unit, place_of};
 use std::alloc::{AllocError, Global};
-use std::rc::Rc;
 
 /// The first `at` characters, at least one.
 pub fn front(
     alloc: Global,
-    node: &Rc<Node>,
+    node: &Node,
     at: usize,
     made: &mut u64,
-) -> Result<Rc<Node>, AllocError>
+) -> Result<Node, AllocError>
     requires some { 1 ≤ at }
-    requires within { at ≤ length (text node.now.value) }
-    ensures front { IfOk result (λ part. IsFront at node.now.value part.value) }
-    ensures made_ok { IfOk result (λ part. made.new ≤ made.old + 4 * node.now.value.height + 2 * part.value.height + 1) }
-    ensures made { made.new ≤ made.old + 6 * node.now.value.height + 1 }
+    requires within { at ≤ length (text node.now) }
+    ensures front { IfOk result (λ part. IsFront at node.now part) }
+    ensures made_ok { IfOk result (λ part. made.new ≤ made.old + 4 * node.now.height + 2 * part.height + 1) }
+    ensures made { made.new ≤ made.old + 6 * node.now.height + 1 }
 {
     let _ = node.height();
     if at == node.info().chars {
@@ -54,14 +53,14 @@ pub fn front(
 /// What follows the first `at` characters, at least one.
 pub fn back(
     alloc: Global,
-    node: &Rc<Node>,
+    node: &Node,
     at: usize,
     made: &mut u64,
-) -> Result<Rc<Node>, AllocError>
-    requires { at < length (text node.now.value) }
-    ensures back { IfOk result (λ part. IsBack at node.now.value part.value) }
-    ensures made_ok { IfOk result (λ part. made.new ≤ made.old + 4 * node.now.value.height + 2 * part.value.height + 1) }
-    ensures made { made.new ≤ made.old + 6 * node.now.value.height + 1 }
+) -> Result<Node, AllocError>
+    requires { at < length (text node.now) }
+    ensures back { IfOk result (λ part. IsBack at node.now part) }
+    ensures made_ok { IfOk result (λ part. made.new ≤ made.old + 4 * node.now.height + 2 * part.height + 1) }
+    ensures made { made.new ≤ made.old + 6 * node.now.height + 1 }
 {
     let _ = node.height();
     if at == 0 {

@@ -20,7 +20,6 @@ use rope_tree::node::Node;
 use rope_tree::node_text::NodeText;
 use rope_tree::removal::remove_at;
 use std::alloc::{AllocError, Global};
-use std::rc::Rc;
 
 /// Whether CR is the last of the first `at` characters.
 fn is_cr_before(node: &Node, at: usize) -> bool
@@ -43,13 +42,13 @@ fn pair_meets(left: &Node, front: usize, right: &Node, back: usize) -> bool
 /// The first `at` characters, perhaps none.
 fn front_or_none(
     alloc: Global,
-    node: &Rc<Node>,
+    node: &Node,
     at: usize,
     made: &mut u64,
-) -> Result<Rc<Node>, AllocError>
-    requires { at ≤ length (text node.now.value) }
-    ensures front { IfOk result (λ part. IsFront at node.now.value part.value) }
-    ensures made { made.new ≤ made.old + 6 * node.now.value.height + 1 }
+) -> Result<Node, AllocError>
+    requires { at ≤ length (text node.now) }
+    ensures front { IfOk result (λ part. IsFront at node.now part) }
+    ensures made { made.new ≤ made.old + 6 * node.now.height + 1 }
 {
     if at == 0 {
         return Ok(leaf_of(alloc, node.line_breaks(), NodeText::new(), made)?);
@@ -60,13 +59,13 @@ fn front_or_none(
 /// What follows the first `at` characters, perhaps nothing.
 fn back_or_none(
     alloc: Global,
-    node: &Rc<Node>,
+    node: &Node,
     at: usize,
     made: &mut u64,
-) -> Result<Rc<Node>, AllocError>
-    requires { at ≤ length (text node.now.value) }
-    ensures back { IfOk result (λ part. IsBack at node.now.value part.value) }
-    ensures made { made.new ≤ made.old + 6 * node.now.value.height + 1 }
+) -> Result<Node, AllocError>
+    requires { at ≤ length (text node.now) }
+    ensures back { IfOk result (λ part. IsBack at node.now part) }
+    ensures made { made.new ≤ made.old + 6 * node.now.height + 1 }
 {
     if at == node.info().chars {
         return Ok(leaf_of(alloc, node.line_breaks(), NodeText::new(), made)?);
@@ -77,15 +76,15 @@ fn back_or_none(
 /// Two trees with CR LF between them.
 fn join_by_pair(
     alloc: Global,
-    left: &Rc<Node>,
-    right: &Rc<Node>,
+    left: &Node,
+    right: &Node,
     made: &mut u64,
-) -> Result<Rc<Node>, AllocError>
-    requires same_breaks { right.now.value.breaks ≡ left.now.value.breaks }
-    requires fits { byte_len (text left.now.value) + byte_len (text right.now.value) + 2 < 2 ^ 63 }
-    ensures text { IfOk result (λ node. text node.value ≡ text left.now.value ++ 13 ∷ 10 ∷ text right.now.value) }
-    ensures breaks { IfOk result (λ node. node.value.breaks ≡ left.now.value.breaks) }
-    ensures made { made.new ≤ made.old + 2 * left.now.value.height + 2 * max left.now.value.height right.now.value.height + 9 }
+) -> Result<Node, AllocError>
+    requires same_breaks { right.now.breaks ≡ left.now.breaks }
+    requires fits { byte_len (text left.now) + byte_len (text right.now) + 2 < 2 ^ 63 }
+    ensures text { IfOk result (λ node. text node ≡ text left.now ++ 13 ∷ 10 ∷ text right.now) }
+    ensures breaks { IfOk result (λ node. node.breaks ≡ left.now.breaks) }
+    ensures made { made.new ≤ made.old + 2 * left.now.height + 2 * max left.now.height right.now.height + 9 }
 {
     let _ = left.height();
     let _ = right.height();
@@ -97,15 +96,15 @@ fn join_by_pair(
 /// The text of the one tree and then that of the other.
 pub fn append(
     alloc: Global,
-    left: &Rc<Node>,
-    right: &Rc<Node>,
+    left: &Node,
+    right: &Node,
     made: &mut u64,
-) -> Result<Rc<Node>, AllocError>
-    requires same_breaks { right.now.value.breaks ≡ left.now.value.breaks }
-    requires fits { byte_len (text left.now.value) + byte_len (text right.now.value) < 2 ^ 63 }
-    ensures text { IfOk result (λ node. text node.value ≡ text left.now.value ++ text right.now.value) }
-    ensures breaks { IfOk result (λ node. node.value.breaks ≡ left.now.value.breaks) }
-    ensures made { made.new ≤ made.old + 16 * max left.now.value.height right.now.value.height + 11 }
+) -> Result<Node, AllocError>
+    requires same_breaks { right.now.breaks ≡ left.now.breaks }
+    requires fits { byte_len (text left.now) + byte_len (text right.now) < 2 ^ 63 }
+    ensures text { IfOk result (λ node. text node ≡ text left.now ++ text right.now) }
+    ensures breaks { IfOk result (λ node. node.breaks ≡ left.now.breaks) }
+    ensures made { made.new ≤ made.old + 16 * max left.now.height right.now.height + 11 }
 {
     let _ = left.height();
     let _ = right.height();
@@ -121,16 +120,16 @@ pub fn append(
 /// The tree without the characters from `start` up to `end`: its front joined to its back.
 fn without(
     alloc: Global,
-    node: &Rc<Node>,
+    node: &Node,
     start: usize,
     end: usize,
     made: &mut u64,
-) -> Result<Rc<Node>, AllocError>
+) -> Result<Node, AllocError>
     requires ordered { start ≤ end }
-    requires within { end ≤ length (text node.now.value) }
-    ensures text { IfOk result (λ new. text new.value ≡ removed (text node.now.value) start end) }
-    ensures breaks { IfOk result (λ new. new.value.breaks ≡ node.now.value.breaks) }
-    ensures made { made.new ≤ made.old + 16 * node.now.value.height + 11 }
+    requires within { end ≤ length (text node.now) }
+    ensures text { IfOk result (λ new. text new ≡ removed (text node.now) start end) }
+    ensures breaks { IfOk result (λ new. new.breaks ≡ node.now.breaks) }
+    ensures made { made.new ≤ made.old + 16 * node.now.height + 11 }
 {
     let _ = node.height();
     if pair_meets(node, start, node, end) {
@@ -147,18 +146,18 @@ fn without(
 /// that leaf alone; else by a front and a back that are joined. A new tree takes the old one's place last of all.
 pub fn remove(
     alloc: Global,
-    root: &mut Rc<Node>,
+    root: &mut Node,
     start: usize,
     end: usize,
     made: &mut u64,
 ) -> Result<(), AllocError>
     requires ordered { start < end }
-    requires within { end ≤ length (text root.old.value) }
-    ensures text { OnOk result (text root.new.value ≡ removed (text root.old.value) start end) }
-    ensures breaks { root.new.value.breaks ≡ root.old.value.breaks }
-    ensures tree { IsTree root.new.value }
+    requires within { end ≤ length (text root.old) }
+    ensures text { OnOk result (text root.new ≡ removed (text root.old) start end) }
+    ensures breaks { root.new.breaks ≡ root.old.breaks }
+    ensures tree { IsTree root.new }
     ensures err { OnErr result (root.new ≡ root.old) }
-    ensures made { made.new ≤ made.old + 17 * root.old.value.height + 12 }
+    ensures made { made.new ≤ made.old + 17 * root.old.height + 12 }
 {
     let _ = root.height();
     if remove_at(alloc, root, start, end, made)? {
@@ -173,16 +172,16 @@ pub fn remove(
 /// Two trees of one.
 #[derive(Drop)]
 pub struct Parts {
-    pub front: Rc<Node>,
-    pub back: Rc<Node>,
+    pub front: Node,
+    pub back: Node,
 }
 
 /// The first `at` characters, and what follows them.
-pub fn split(alloc: Global, node: &Rc<Node>, at: usize, made: &mut u64) -> Result<Parts, AllocError>
-    requires { at ≤ length (text node.now.value) }
-    ensures front { IfOk result (λ parts. IsFront at node.now.value parts.front.value) }
-    ensures back { IfOk result (λ parts. IsBack at node.now.value parts.back.value) }
-    ensures made { made.new ≤ made.old + 12 * node.now.value.height + 2 }
+pub fn split(alloc: Global, node: &Node, at: usize, made: &mut u64) -> Result<Parts, AllocError>
+    requires { at ≤ length (text node.now) }
+    ensures front { IfOk result (λ parts. IsFront at node.now parts.front) }
+    ensures back { IfOk result (λ parts. IsBack at node.now parts.back) }
+    ensures made { made.new ≤ made.old + 12 * node.now.height + 2 }
 {
     let front = front_or_none(alloc, node, at, made)?;
     let back = back_or_none(alloc, node, at, made)?;
@@ -193,15 +192,15 @@ pub fn split(alloc: Global, node: &Rc<Node>, at: usize, made: &mut u64) -> Resul
 /// own. What is made of the old tree are its parts, so it costs what the new text and the height do.
 pub fn insert(
     alloc: Global,
-    node: &Rc<Node>,
+    node: &Node,
     at: usize,
     added: &str,
     made: &mut u64,
-) -> Result<Rc<Node>, AllocError>
-    requires within { at ≤ length (text node.now.value) }
-    requires fits { byte_len (text node.now.value) + length added.now < 2 ^ 63 }
-    ensures text { IfOk result (λ new. text new.value ≡ inserted (text node.now.value) at (chars added.now)) }
-    ensures breaks { IfOk result (λ new. new.value.breaks ≡ node.now.value.breaks) }
+) -> Result<Node, AllocError>
+    requires within { at ≤ length (text node.now) }
+    requires fits { byte_len (text node.now) + length added.now < 2 ^ 63 }
+    ensures text { IfOk result (λ new. text new ≡ inserted (text node.now) at (chars added.now)) }
+    ensures breaks { IfOk result (λ new. new.breaks ≡ node.now.breaks) }
 {
     let Parts { front, back } = split(alloc, node, at, made)?;
     let middle = build(alloc, added, node.line_breaks(), made)?;

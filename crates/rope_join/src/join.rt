@@ -9,11 +9,11 @@ use rope_text::{MAX_BYTES, MAX_CHILDREN, MIN_BYTES, MIN_CHILDREN};
 use rope_tree::children::{pack, pair, share, splice};
 use rope_tree::node::{Node, Nodes, View, make_inner, make_leaf};
 use rope_tree::node_text::NodeText;
+use rope_tree::short_text::ShortText;
 use std::alloc::{AllocError, Global};
-use std::rc::Rc;
 
 /// One text of two that fit in one leaf.
-fn joined_text(first: &NodeText, second: &NodeText) -> NodeText
+fn joined_text(first: &ShortText<'_>, second: &ShortText<'_>) -> NodeText
     requires { byte_len first.now + byte_len second.now ≤ 984 }
     ensures value { result ≡ first.now ++ second.now }
 {
@@ -23,8 +23,8 @@ fn joined_text(first: &NodeText, second: &NodeText) -> NodeText
 }
 
 /// Both nodes as they are.
-fn keep(left: &Rc<Node>, right: &Rc<Node>) -> Result<Nodes, AllocError>
-    ensures { IfOk result (λ nodes. trees_in nodes ≡ left.now.value ∷ right.now.value ∷ []) }
+fn keep(left: &Node, right: &Node) -> Result<Nodes, AllocError>
+    ensures { IfOk result (λ nodes. trees_in nodes ≡ left.now ∷ right.now ∷ []) }
 {
     Ok(Nodes::Two(share(left)?, share(right)?))
 }
@@ -33,15 +33,15 @@ fn keep(left: &Rc<Node>, right: &Rc<Node>) -> Result<Nodes, AllocError>
 /// nodes where one can have all children, and where one of them has few they share the children evenly.
 fn merge(
     alloc: Global,
-    left: &Rc<Node>,
-    right: &Rc<Node>,
+    left: &Node,
+    right: &Node,
     made: &mut u64,
 ) -> Result<Nodes, AllocError>
-    requires left_some { 1 ≤ length left.now.value.leaves }
-    requires right_some { 1 ≤ length right.now.value.leaves }
-    requires join { CanJoin left.now.value right.now.value }
-    requires height { left.now.value.height ≡ right.now.value.height }
-    ensures union { IfOk result (λ nodes. IsUnion left.now.value right.now.value (trees_in nodes)) }
+    requires left_some { 1 ≤ length left.now.leaves }
+    requires right_some { 1 ≤ length right.now.leaves }
+    requires join { CanJoin left.now right.now }
+    requires height { left.now.height ≡ right.now.height }
+    ensures union { IfOk result (λ nodes. IsUnion left.now right.now (trees_in nodes)) }
     ensures made { made.new ≤ made.old + 2 }
 {
     let _ = left.height();
@@ -55,7 +55,7 @@ fn merge(
                 && (first.len() < MIN_BYTES || second.len() < MIN_BYTES)
             {
                 let info = left.info().plus(right.info());
-                let text = joined_text(first, second);
+                let text = joined_text(&first, &second);
                 let node = make_leaf(alloc, left.line_breaks(), text, info, made)?;
                 return Ok(Nodes::One(node));
             }
@@ -80,15 +80,15 @@ fn merge(
 /// Two trees that aren't empty as one tree or two of the greater height.
 fn unite(
     alloc: Global,
-    left: &Rc<Node>,
-    right: &Rc<Node>,
+    left: &Node,
+    right: &Node,
     made: &mut u64,
 ) -> Result<Nodes, AllocError>
-    requires left_some { 1 ≤ length left.now.value.leaves }
-    requires right_some { 1 ≤ length right.now.value.leaves }
-    requires join { CanJoin left.now.value right.now.value }
-    ensures union { IfOk result (λ nodes. IsUnion left.now.value right.now.value (trees_in nodes)) }
-    ensures made { made.new ≤ made.old + 2 * ((left.now.value.height - right.now.value.height) + (right.now.value.height - left.now.value.height)) + 2 }
+    requires left_some { 1 ≤ length left.now.leaves }
+    requires right_some { 1 ≤ length right.now.leaves }
+    requires join { CanJoin left.now right.now }
+    ensures union { IfOk result (λ nodes. IsUnion left.now right.now (trees_in nodes)) }
+    ensures made { made.new ≤ made.old + 2 * ((left.now.height - right.now.height) + (right.now.height - left.now.height)) + 2 }
 {
     let left_height = left.height();
     let right_height = right.height();
@@ -116,13 +116,13 @@ fn unite(
 /// CR at the end of the one may stand before an LF of the other.
 pub fn join(
     alloc: Global,
-    left: &Rc<Node>,
-    right: &Rc<Node>,
+    left: &Node,
+    right: &Node,
     made: &mut u64,
-) -> Result<Rc<Node>, AllocError>
-    requires { CanJoin left.now.value right.now.value }
-    ensures join { IfOk result (λ node. IsJoin left.now.value right.now.value node.value) }
-    ensures made { made.new ≤ made.old + 2 * ((left.now.value.height - right.now.value.height) + (right.now.value.height - left.now.value.height)) + 3 }
+) -> Result<Node, AllocError>
+    requires { CanJoin left.now right.now }
+    ensures join { IfOk result (λ node. IsJoin left.now right.now node) }
+    ensures made { made.new ≤ made.old + 2 * ((left.now.height - right.now.height) + (right.now.height - left.now.height)) + 3 }
 {
     let _ = left.height();
     let _ = right.height();

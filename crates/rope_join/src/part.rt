@@ -9,11 +9,10 @@ use rope_tree::insert::leaf_of;
 use rope_tree::node::{Node, View, make_inner};
 use rope_tree::node_text::NodeText;
 use std::alloc::{AllocError, Global};
-use std::rc::Rc;
 
 // The node once more, over the same children.
-fn twin(alloc: Global, node: &Node, made: &mut u64) -> Result<Rc<Node>, AllocError>
-    ensures same { IfOk result (λ twin. twin.value ≡ node.now) }
+fn twin(alloc: Global, node: &Node, made: &mut u64) -> Result<Node, AllocError>
+    ensures same { IfOk result (λ twin. twin ≡ node.now) }
     ensures made { made.new ≤ made.old + 1 }
 {
     match node.view() {
@@ -34,12 +33,12 @@ pub fn between(
     start: usize,
     end: usize,
     made: &mut u64,
-) -> Result<Rc<Node>, AllocError>
+) -> Result<Node, AllocError>
     requires ordered { start < end }
     requires within { end ≤ length (text node.now) }
-    ensures text { IfOk result (λ part. text part.value ≡ slice_range (text node.now) start end) }
-    ensures breaks { IfOk result (λ part. part.value.breaks ≡ node.now.breaks) }
-    ensures tree { IfOk result (λ part. IsTree part.value) }
+    ensures text { IfOk result (λ part. text part ≡ slice_range (text node.now) start end) }
+    ensures breaks { IfOk result (λ part. part.breaks ≡ node.now.breaks) }
+    ensures tree { IfOk result (λ part. IsTree part) }
     ensures made { made.new ≤ made.old + 12 * node.now.height + 3 }
 {
     let whole = twin(alloc, node, made)?;

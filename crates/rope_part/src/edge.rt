@@ -1,5 +1,6 @@
 //! The counts of a tree's text up to a place: one way down to the leaf that holds it.
 ghost use Rattle.std.specs.Prelude.{◌≡◌, ◌<◌, ◌≤◌, ◌+◌, length, take, IfSome};
+ghost use Rattle.rope_text.specs.Text.{surrogate_count};
 ghost use Rattle.rope_text.specs.TextInfo.{info_of};
 ghost use Rattle.rope_text.specs.Breaks.{break_count};
 ghost use Rattle.rope_text.specs.Lines.{line_start, line_count};
@@ -8,11 +9,20 @@ ghost use Rattle.std.specs.Str.{chars};
 ghost use Rattle.rope_tree.specs.Tree.{text};
 ghost use Rattle.rope_part.specs.Edge.{start_info, end_info, IsLeafFrom};
 
-use rope_text::str_utils::{char_to_byte_idx, char_to_line_with, count_surrogates};
+use rope_text::str_utils::count_surrogates;
 use rope_text::{LineBreaks, Steps, TextInfo};
 use rope_tree::lookup::leaf_at;
 use rope_tree::node::Node;
 use rope_tree::search::Unit;
+
+// How many characters of a text take two code units, where it is known how many characters it has: none where it has as many
+// bytes.
+fn pairs_in(text: &str, count: usize) -> usize
+    requires { count ≡ length (chars text.now) }
+    ensures { result ≡ surrogate_count (chars text.now) }
+{
+    if count == text.len() { 0 } else { count_surrogates(text) }
+}
 
 /// The counts of the text before a part that starts at a character.
 pub fn start_at(node: &Node, char_idx: usize) -> TextInfo
@@ -23,12 +33,13 @@ pub fn start_at(node: &Node, char_idx: usize) -> TextInfo
     let found = leaf_at(node, Unit::Char, char_idx, &mut Steps::new());
     let leaf = found.leaf.as_str();
     let chars = char_idx - found.before.chars;
-    let bytes = char_to_byte_idx(leaf, chars);
+    let bytes = found.leaf.char_to_byte_idx(chars);
+    let lines = found.leaf.char_to_line_with(chars, node.line_breaks());
     TextInfo {
         bytes: found.before.bytes + bytes,
         chars: char_idx,
-        utf16_surrogates: found.before.utf16_surrogates + count_surrogates(&leaf[..bytes]),
-        break_count: found.before.break_count + char_to_line_with(leaf, chars, node.line_breaks()),
+        utf16_surrogates: found.before.utf16_surrogates + pairs_in(&leaf[..bytes], chars),
+        break_count: found.before.break_count + lines,
     }
 }
 
@@ -44,7 +55,7 @@ pub fn end_at(node: &Node, char_idx: usize) -> TextInfo
     }
     let found = leaf_at(node, Unit::Char, char_idx, &mut Steps::new());
     let leaf = found.leaf.as_str();
-    let bytes = char_to_byte_idx(leaf, char_idx - found.before.chars);
+    let bytes = found.leaf.char_to_byte_idx(char_idx - found.before.chars);
     let front = TextInfo::from_str(&leaf[..bytes], node.line_breaks());
     found.before.plus(front)
 }

@@ -14,7 +14,7 @@ use rope_tree::search::Unit;
 impl<'a> Stretch<'a> {
     // What of a leaf lies in it, and the counts of its text before that.
     fn chunk_in(&self, found: Found<'a>) -> (&'a str, usize, usize, usize)
-        requires { MeetsLeaf self.now found.leaf.now found.before }
+        requires { MeetsLeaf self.now found.leaf found.before }
         ensures { IsFoundChunk (found_chunk (breaks_of self.now) (chunks_of self.now)
             (chunk_index_at_char (chunks_of self.now) (first_in self.now found.entry.before)))
             (chars result.0.now) result.1 result.2 result.3 }

@@ -2,12 +2,10 @@
 use Rattle.std.proofs.Common.{◌≡◌, ℕ, zero, suc, ◌+◌, ◌-◌, ◌*◌, ◌/◌, ◌%◌, ◌^◌, ◌<◌, ◌≤◌, true, List, [], ◌∷◌, ◌++◌, length, take, drop, refl, ap, ap₂, sym, subst, ◌∙◌, get_or, arith, append_assoc, take-append-drop, inl, inr}
 use Rattle.std.specs.List.{All, concat}
 use Rattle.std.specs.Str.{chars, IsUtf8}
-use Rattle.std.specs.declared.alloc.Global.{Global}
-use Rattle.std.specs.declared.rc.Rc.{Rc}
 use Rattle.std.proofs.Math.Nat.{mul-le-mul_right, mul-suc, mod-lt, div-mul-le_self, div-le_of_le-mul}
 use Rattle.std.proofs.lemmas.Nat.{le-div, div-add-mod'}
 use Rattle.std.proofs.lemmas.Bool.{cases_lt}
-use Rattle.std.proofs.lemmas.List.{append-nil, length-append, length-take-le, length-drop, length-map, take-map, drop-map, map-append, take_all}
+use Rattle.std.proofs.lemmas.List.{append-nil, length-append, length-take-le, length-drop, take_all}
 use Rattle.std.proofs.lemmas.Str.{chars-append, chars-nil, scalars-chars, length-le-encodes}
 use Rattle.std.proofs.lemmas.List.Elements.{All-nil, All-push, All-get_or, All-head, All-tail}
 use Rattle.rope_text.specs.declared.line_breaks.LineBreaks.{LineBreaks}
@@ -17,10 +15,8 @@ use Rattle.rope_text.specs.Cutting.{parts_crlf}
 use Rattle.rope_text.proofs.Apart.{apart_at_cut}
 use Rattle.rope_text.proofs.Walks.{byte_len-chars}
 use Rattle.rope_text.proofs.CuttingLaws.{concat-append}
-use Rattle.rope_tree.specs.declared.node.Node.{Node}
 use Rattle.rope_tree.specs.Leaves.{AreLeaves, IsLeafText, IsSeam}
 use Rattle.rope_tree.specs.Tree.{Tree, leaves_of, joined, height_of, breaks_of, one_leaf, leaf_tree, tree_over, IsTree, IsChild, AreChildren}
-use Rattle.rope_tree.specs.Listed.{trees}
 use Rattle.rope_tree.specs.Siblings.{AreSiblings}
 use Rattle.rope_tree.specs.Fronts.{AreFronts, AreFrontNodes}
 use Rattle.rope_tree.proofs.LeafLaws.{no_leaves, lone_leaf, leaves-append, nil-seam, seam-nil, seam_of_left, seam_left_longer}
@@ -117,9 +113,6 @@ pub leaf_few : (x : List ℕ) → length (one_leaf x) ≤ (byte_len x + 980) / 9
 leaf_few [] = omega arith
 leaf_few (c ∷ x) = omega (arith, length-le-encodes (c ∷ x))
 
-pub trees_push : (rcs : List (Rc Node Global)) (rc : Rc Node Global) → trees (rcs ++ rc ∷ []) ≡ trees rcs ++ rc.value ∷ []
-trees_push rcs rc = map-append (λ (r : Rc Node Global). r.value) rcs (rc ∷ [])
-
 -- an even share of the nodes that are left
 pub share_least : (left groups : ℕ) → 1 ≤ groups → 12 * groups ≤ left → 12 ≤ left / groups
 share_least left groups some least = le-div 12 left groups some least
@@ -186,17 +179,9 @@ over_siblings breaks h whole done rest a none all =
     let e : leaves_of done ≡ leaves_of whole = over_same breaks h whole done rest a none in
     record { each = a.each; leaves = subst AreLeaves (sym e) all.leaves; fits = omega (arith, all.fits, ap (λ ls. byte_len (concat ls)) e) }
 
--- what slices of nodes are seen as
-pub front_of : (rcs : List (Rc Node Global)) (n : ℕ) → trees (take n rcs) ≡ take n (trees rcs)
-front_of rcs n = sym (take-map (λ (r : Rc Node Global). r.value) n rcs)
-
-pub back_of : (rcs xs : List (Rc Node Global)) (n : ℕ) → xs ≡ take (length rcs - n) (drop n rcs) → trees xs ≡ drop n (trees rcs)
-back_of rcs xs n e =
-    let all : take (length rcs - n) (drop n rcs) ≡ drop n rcs = take_all (length rcs - n) (drop n rcs) (simp length-drop (omega arith)) in
-    ap trees (e ∙ all) ∙ sym (drop-map (λ (r : Rc Node Global). r.value) n rcs)
-
-pub length_of : (rcs : List (Rc Node Global)) → length (trees rcs) ≡ length rcs
-length_of rcs = length-map rcs (λ (r : Rc Node Global). r.value)
+-- the back of a list, as a slice of it
+pub back_of : (ts xs : List Tree) (n : ℕ) → xs ≡ take (length ts - n) (drop n ts) → xs ≡ drop n ts
+back_of ts xs n e = e ∙ take_all (length ts - n) (drop n ts) (simp length-drop (omega arith))
 
 -- the tree with the leaves of the only node
 pub lone_leaves : (ts : List Tree) (t : Tree) → length ts ≡ 1 → get_or ts 0 t ≡ t → leaves_of ts ≡ t.leaves

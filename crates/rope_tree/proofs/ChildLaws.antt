@@ -1,58 +1,43 @@
 -- A child that takes a text, as the code finds and leaves it among its siblings.
 use Rattle.std.proofs.Common.{◌≡◌, ℕ, ◌+◌, ◌<◌, ◌≤◌, ◌^◌, Bool, List, [], ◌∷◌, ◌++◌, length, get_or, set, take, drop, OnErr, Result, Ok, Err, refl, ap, ◌∙◌, arith}
 use Rattle.std.specs.List.{refill}
-use Rattle.std.specs.declared.alloc.Global.{Global}
-use Rattle.std.specs.declared.rc.Rc.{Rc}
-use Rattle.std.specs.Rc.{rc_with_value}
 use Rattle.rope_text.specs.declared.text_info.TextInfo.{TextInfo}
 use Rattle.rope_text.specs.Text.{byte_len}
 use Rattle.rope_text.specs.Edit.{inserted}
 use Rattle.rope_text.specs.TextInfo.{info_of, info_sum}
 use Rattle.rope_text.proofs.Measures.{IsMeasure-byte_len}
-use Rattle.rope_tree.specs.declared.node.Node.{Node}
-use Rattle.rope_tree.specs.Tree.{Tree, text, joined, height_of, breaks_of, tree_over}
-use Rattle.rope_tree.specs.Listed.{trees, HasTotals}
+use Rattle.rope_tree.specs.Tree.{Tree, text, joined, height_of, breaks_of, tree_over, AreChildren}
+use Rattle.rope_tree.specs.Totals.{HasTotals}
+use Rattle.rope_tree.specs.declared.node.Children.TheInside.{Inside}
+use Rattle.rope_tree.specs.Listed.{listed, IsListed}
+use Rattle.rope_tree.proofs.ListedLaws.{set_seen, set_listed, set_totals}
 use Rattle.rope_tree.specs.Search.{IsSmall, HasPart}
 use Rattle.rope_tree.specs.Insert.{MayInsert, IsInserted, AreGrown}
 use Rattle.rope_tree.proofs.Infos.{small_info}
-use Rattle.rope_tree.proofs.TreeLaws.{breaks_of_is}
 use Rattle.rope_tree.proofs.InsertDescents.{Takes}
 use Rattle.rope_tree.proofs.InsertTrees.{child_may, text_around}
-use Rattle.rope_tree.proofs.TotalLaws.{has_part, totals_after}
-use Rattle.rope_tree.proofs.GrownLaws.{same_set, trees_set, totals_seen, grown, children_grown, child_grown, refill_all}
+use Rattle.rope_tree.proofs.TotalLaws.{has_part}
+use Rattle.rope_tree.proofs.GrownLaws.{totals_seen, grown, children_grown, child_grown}
 
 -- what holds however it went holds where it failed
 pub on_err : {T E P : Type 0} (r : Result T E) → P → OnErr r P
 on_err (Ok x) p = tt
 on_err (Err e) p = p
 
--- the nodes that are seen as the trees, with their totals, and the one of them that takes the text
-pub record Finds (rcs : List (Rc Node Global)) (ts : List Tree) (items : List TextInfo) (k : ℕ) (item : Rc Node Global) (child : Tree) (at i : ℕ) (to_right : Bool) : Type 0 where
-  pub view : trees rcs ≡ ts
-  pub totals : HasTotals (breaks_of (trees rcs)) items (trees rcs)
+-- the fields of a list of children that is seen as the trees, and the one of them that takes the text
+pub record Finds (a : Inside) (ts : List Tree) (k : ℕ) (child : Tree) (at i : ℕ) (to_right : Bool) : Type 0 where
+  pub view : listed a ≡ ts
+  pub fields : IsListed a
   pub taken : Takes ts k child at i to_right
 
-module _ (rcs : List (Rc Node Global)) (ts : List Tree) (items : List TextInfo) (k : ℕ) (item : Rc Node Global) (child : Tree) (at i : ℕ) (to_right : Bool) (f : Finds rcs ts items k item child at i to_right) where
-  -- the nodes with another tree behind its pointer
-  abbrev pub changed : Tree → List (Rc Node Global)
-  changed u = set rcs k (rc_with_value item u)
-
-  pub as_set : (u : Tree) → trees (changed u) ≡ set ts k u
-  as_set u = trees_set rcs k (rc_with_value item u) ts f.view
-
-  pub kept : (u : Tree) → u ≡ child → trees (changed u) ≡ ts
-  kept u same = as_set u ∙ ap (λ v. set ts k v) same ∙ same_set ts k child f.taken.within f.taken.child_is
-
-  pub still : (u : Tree) → u ≡ child → HasTotals (breaks_of (trees (changed u))) items (trees (changed u))
-  still u same = rw (kept u same) (rw f.view at f.totals)
-
-  pub read : (seen : List TextInfo) → seen ≡ items → HasTotals (breaks_of ts) seen ts
-  read seen is = totals_seen rcs ts items seen f.view is f.totals
+module _ (a : Inside) (ts : List Tree) (k : ℕ) (child : Tree) (at i : ℕ) (to_right : Bool) (f : Finds a ts k child at i to_right) where
+  pub read : (seen : List TextInfo) → seen ≡ a.totals.items → HasTotals (breaks_of ts) seen ts
+  read seen is = totals_seen (listed a) ts a.totals.items seen f.view is f.fields.totals_right
 
   old_counts : (old : TextInfo) → old ≡ info_of child.breaks (text child) → old ≡ info_of (breaks_of ts) (text child)
   old_counts old is = is ∙ ap (λ b. info_of b (text child)) f.taken.own.same_breaks
 
-  pub part : (seen : List TextInfo) → seen ≡ items → (old : TextInfo) → old ≡ info_of child.breaks (text child) → (j : ℕ) (d : TextInfo) → k ≤ j → j < length seen → HasPart (get_or seen j d) old
+  pub part : (seen : List TextInfo) → seen ≡ a.totals.items → (old : TextInfo) → old ≡ info_of child.breaks (text child) → (j : ℕ) (d : TextInfo) → k ≤ j → j < length seen → HasPart (get_or seen j d) old
   part seen is old old_is j d from within =
       let totals = read seen is in
       let inside : j < length ts = omega (arith, totals.as_many) in
@@ -74,29 +59,30 @@ module _ (rcs : List (Rc Node Global)) (ts : List Tree) (items : List TextInfo) 
 
     -- and what it gives
     module _ (u : Tree) (done : IsInserted child (u ∷ []) (inserted (text child) i s)) where
-      grows : AreGrown ts (set ts k u) (inserted (joined ts) at s)
+      pub grows : AreGrown ts (set ts k u) (inserted (joined ts) at s)
       grows =
           let d = f.taken in
           grown (breaks_of ts) (height_of ts) ts k child u d.children d.within d.child_is at i s some d.place d.goes.within to_right d.goes.inside d.goes.outside side done fits refl refl
 
-      pub all_grown : AreGrown ts (trees (changed u)) (inserted (joined ts) at s)
-      all_grown = rw (as_set u) grows
+      pub all_children : AreChildren (breaks_of ts) (height_of ts) (set ts k u)
+      all_children = children_grown ts (set ts k u) _ f.taken.children grows
 
       pub small : (new : TextInfo) → new ≡ info_of u.breaks (text u) → IsSmall new
       small new is =
           let wide = child_grown (breaks_of ts) (height_of ts) child u _ f.taken.own done in
           rw is (small_info u.breaks (text u) wide.tree.fits)
 
-      pub retotaled : (seen after : List TextInfo) (old new : TextInfo) → seen ≡ items → old ≡ info_of child.breaks (text child) → new ≡ info_of u.breaks (text u) → length after ≡ length seen
-          → ((j : ℕ) (d : TextInfo) → j < k → get_or after j d ≡ get_or seen j d)
-          → ((j : ℕ) (d : TextInfo) → k ≤ j → j < length seen → info_sum (get_or after j d) old ≡ info_sum (get_or seen j d) new)
-          → HasTotals (breaks_of (trees (changed u))) (refill (length items) items after) (trees (changed u))
-      retotaled seen after old new is old_is new_is len before past =
-          let d = f.taken in
-          let us = set ts k u in
-          let b = children_grown ts us _ d.children grows in
-          let wide = child_grown (breaks_of ts) (height_of ts) child u _ d.own done in
-          let now = new_is ∙ ap (λ x. info_of x (text u)) wide.same_breaks in
-          let right = totals_after (breaks_of ts) (height_of ts) ts us k child u d.children d.within d.child_is b refl seen after (read seen is) len before (rw (old_counts old old_is, now) at past) in
-          let first : breaks_of us ≡ breaks_of ts = breaks_of_is (breaks_of ts) (height_of ts) us (omega (arith, b.at_least_two)) b.each in
-          rw (as_set u, refill_all items after (len ∙ ap length is), first) right
+      module _ (b : Inside) (height : b.height ≡ a.height) (breaks : b.breaks ≡ a.breaks) (nodes : b.nodes ≡ set a.nodes k u) (seen after : List TextInfo) (old new : TextInfo) (is : seen ≡ a.totals.items)
+          (old_is : old ≡ info_of child.breaks (text child)) (new_is : new ≡ info_of u.breaks (text u)) (len : length after ≡ length seen) (before : (j : ℕ) (d : TextInfo) → j < k → get_or after j d ≡ get_or seen j d)
+          (past : (j : ℕ) (d : TextInfo) → k ≤ j → j < length seen → info_sum (get_or after j d) old ≡ info_sum (get_or seen j d) new) (totals : b.totals.items ≡ refill (length a.totals.items) a.totals.items after) where
+        retotaled : HasTotals (breaks_of (set ts k u)) b.totals.items (set ts k u)
+        retotaled =
+            let d = f.taken in
+            let wide = child_grown (breaks_of ts) (height_of ts) child u _ d.own done in
+            rw totals (set_totals ts k child u a.totals.items seen after old new d.children d.within d.child_is d.own.same_breaks all_children wide.same_breaks (read seen is) is old_is new_is len before past)
+
+        pub fields_after : IsListed b
+        fields_after = set_listed a b ts k u f.fields f.view f.taken.within all_children height breaks nodes retotaled
+
+        pub all_grown : AreGrown ts (listed b) (inserted (joined ts) at s)
+        all_grown = rw (set_seen a b ts k u f.fields f.view f.taken.within all_children height breaks nodes retotaled) grows

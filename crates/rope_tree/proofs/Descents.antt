@@ -1,10 +1,8 @@
 -- What a step down from a node to one of its children keeps.
 use Rattle.std.proofs.Common.{◌≡◌, ℕ, zero, suc, ◌+◌, ◌-◌, ◌<◌, ◌≤◌, false, List, [], ◌∷◌, ◌++◌, length, get_or, take, drop, refl, sym, ap, subst, ◌∙◌, arith}
 use Rattle.std.specs.List.{concat}
-use Rattle.std.proofs.lemmas.List.{append-nil, append_assoc, length-append, length-map, take-append-drop, take_more, take-append-le, get_or-append-add, get_or_append_left}
+use Rattle.std.proofs.lemmas.List.{append-nil, append_assoc, length-append, take-append-drop, take_more, take-append-le, get_or-append-add, get_or_append_left}
 use Rattle.std.proofs.Math.Seq.{take-append-add}
-use Rattle.std.specs.declared.alloc.Global.{Global}
-use Rattle.std.specs.declared.rc.Rc.{Rc}
 use Rattle.rope_text.specs.declared.line_breaks.LineBreaks.{LineBreaks}
 use Rattle.rope_text.specs.declared.text_info.TextInfo.{TextInfo}
 use Rattle.rope_text.specs.Text.{byte_len}
@@ -14,16 +12,15 @@ use Rattle.rope_text.proofs.Measures.{IsMeasure-byte_len}
 use Rattle.rope_text.proofs.CuttingLaws.{concat-append}
 use Rattle.rope_text.proofs.BreakLaws.{break_ends-nil}
 use Rattle.rope_text.proofs.InfoLaws.{info_of-append_apart}
-use Rattle.rope_tree.specs.declared.node.Node.{Node}
 use Rattle.rope_tree.specs.declared.search.Unit.{Unit}
 use Rattle.rope_tree.specs.declared.search.Unit.TheVariants.{Byte, Char, CodeUnit, LineBreak}
 use Rattle.rope_tree.specs.Leaves.{AreLeaves, IsSeam}
 use Rattle.rope_tree.specs.Tree.{Tree, text, joined, leaves_of, height_of, breaks_of, tree_over, leaf_tree, IsTree, IsChild, AreChildren}
-use Rattle.rope_tree.specs.Listed.{trees, HasTotals}
+use Rattle.rope_tree.specs.Totals.{HasTotals}
 use Rattle.rope_tree.specs.Search.{count_of, IsSmall}
 use Rattle.rope_tree.specs.Found.{IsFound}
 use Rattle.rope_tree.proofs.LeafLaws.{seam_of_left, leaves_seam}
-use Rattle.rope_tree.proofs.NodeLaws.{leaves_of-append, byte_len-joined, tree_at, child_at, more_at}
+use Rattle.rope_tree.proofs.NodeLaws.{leaves_of-append, byte_len-joined, child_at, more_at}
 use Rattle.rope_tree.proofs.Infos.{small_info}
 
 -- a count of joined texts
@@ -116,15 +113,12 @@ descends_to unit at ts totals k child front a h lt here first later not_past pas
     first_front unit at zero totals front first later not_past = rw (first refl (breaks_of []), count_of-nil unit (breaks_of [])) (omega arith)
     first_front unit at (suc k) totals front first later not_past = let e = ap (count_of unit) (later front (omega arith)) in omega (arith, e, not_past front (omega arith))
 
-pub descends : (unit : Unit) (at : ℕ) (rcs : List (Rc Node Global)) (totals : List TextInfo) (k : ℕ) (item : Rc Node Global) (child : Tree) (front : TextInfo)
-    → AreChildren (breaks_of (trees rcs)) (height_of (trees rcs)) (trees rcs) → HasTotals (breaks_of (trees rcs)) totals (trees rcs)
-    → k < length totals → item ≡ get_or rcs k item → child ≡ item.value
+pub descends : (unit : Unit) (at : ℕ) (ts : List Tree) (totals : List TextInfo) (k : ℕ) (child : Tree) (front : TextInfo) → AreChildren (breaks_of ts) (height_of ts) ts
+    → HasTotals (breaks_of ts) totals ts → k < length totals → child ≡ get_or ts k child
     → (k ≡ 0 → (s : LineBreaks) → front ≡ info_of s []) → ((d : TextInfo) → 0 < k → front ≡ get_or totals (k - 1) d)
     → ((d : TextInfo) → 0 < k → count_of unit (get_or totals (k - 1) d) ≤ at) → ((d : TextInfo) → at < count_of unit (get_or totals k d))
-    → Descends (breaks_of (trees rcs)) unit at (trees rcs) k child front
-descends unit at rcs totals k item child front a h lt is value first later not_past past =
-    let l : k < length rcs = omega (arith, h.as_many, length-map rcs (λ rc. rc.value)) in
-    descends_to unit at (trees rcs) totals k child front a h lt (tree_at rcs k item child l is value) first later not_past past
+    → Descends (breaks_of ts) unit at ts k child front
+descends unit at ts totals k child front a h lt is first later not_past past = descends_to unit at ts totals k child front a h lt (sym is) first later not_past past
 
 -- what the child finds, the node finds
 pub found_inner : (breaks : LineBreaks) (unit : Unit) (at : ℕ) (t : Tree) (ts : List Tree) (k : ℕ) (child : Tree) (front before : TextInfo) (leaf : List ℕ)

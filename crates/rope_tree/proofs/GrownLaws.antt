@@ -1,28 +1,22 @@
 -- Children of which one was changed where it stands.
-use Rattle.std.proofs.Common.{◌≡◌, ℕ, zero, suc, ◌+◌, ◌-◌, ◌<◌, ◌≤◌, ◌^◌, ◌⊎◌, Bool, true, false, min, List, [], ◌∷◌, ◌++◌, length, get_or, set, take, drop, refl, sym, ap, subst, add-one, ◌∙◌, arith}
-use Rattle.std.specs.declared.alloc.Global.{Global}
-use Rattle.std.specs.declared.rc.Rc.{Rc}
-use Rattle.std.proofs.lemmas.List.{length-set, set_split, set-get_or, map-set, map-append, take-map, drop-map, append-nil, drop_all, take_all}
+use Rattle.std.proofs.Common.{◌≡◌, ℕ, zero, suc, ◌+◌, ◌<◌, ◌≤◌, ◌^◌, ◌⊎◌, Bool, true, false, min, List, [], ◌∷◌, ◌++◌, length, get_or, set, take, drop, refl, sym, ap, add-one, ◌∙◌, arith}
+use Rattle.std.proofs.lemmas.List.{length-set, set_split, set-get_or, append-nil, drop_all, take_all}
 use Rattle.std.proofs.lemmas.List.Elements.{All-head, All-weaker}
 use Rattle.rope_text.specs.declared.line_breaks.LineBreaks.{LineBreaks}
 use Rattle.rope_text.specs.Text.{byte_len}
 use Rattle.rope_text.specs.Cutting.{parts_crlf}
 use Rattle.rope_text.specs.Edit.{inserted}
-use Rattle.rope_tree.specs.declared.node.Node.{Node}
-use Rattle.rope_tree.specs.declared.node.Node.TheInside.{Inside}
-use Rattle.rope_tree.specs.declared.node.Body.TheVariants.{Leaf, Inner}
-use Rattle.rope_tree.specs.Shape.{tree_of, IsBody, IsNode}
 use Rattle.std.specs.List.{refill, insert}
 use Rattle.std.specs.Str.{all_scalars}
 use Rattle.rope_text.specs.declared.text_info.TextInfo.{TextInfo}
-use Rattle.rope_text.specs.TextInfo.{info_of}
 use Rattle.rope_tree.specs.Tree.{Tree, text, joined, leaves_of, height_of, breaks_of, tree_over, leaf_tree, IsTree, IsWide, IsChild, AreChildren}
-use Rattle.rope_tree.specs.Listed.{trees, tallest, HasTotals}
+use Rattle.rope_tree.specs.Listed.{tallest}
+use Rattle.rope_tree.specs.Totals.{HasTotals}
 use Rattle.rope_tree.specs.Siblings.{AreSiblings}
 use Rattle.rope_tree.specs.Insert.{MayInsert, IsInserted, AreGrown}
-use Rattle.rope_tree.proofs.NodeLaws.{joined_one, leaf_text, tree_of_inner, is_tree_of, children_of_first}
+use Rattle.rope_tree.proofs.NodeLaws.{joined_one, leaf_text, children_of_first}
 use Rattle.rope_tree.proofs.SiblingLaws.{children_of, one_part}
-use Rattle.rope_tree.proofs.TreeLaws.{height_of_is, breaks_of_is, wide_weaker}
+use Rattle.rope_tree.proofs.TreeLaws.{wide_weaker, is_leaf_tree}
 use Rattle.rope_tree.proofs.InsertLeaves.{one_inserted, two_inserted}
 use Rattle.rope_tree.proofs.InsertTrees.{new_text, new_siblings, new_length, length-inserted}
 
@@ -32,9 +26,6 @@ set_parts ts k u lt = set_split ts k u lt ∙ ap (λ n. take k ts ++ (u ∷ [] +
 
 pub same_set : (ts : List Tree) (k : ℕ) (c : Tree) → k < length ts → get_or ts k c ≡ c → set ts k c ≡ ts
 same_set ts k c lt here = ap (λ x. set ts k x) (sym here) ∙ set-get_or ts k c
-
-pub trees_set : (rcs : List (Rc Node Global)) (k : ℕ) (rc : Rc Node Global) (ts : List Tree) → trees rcs ≡ ts → trees (set rcs k rc) ≡ set ts k rc.value
-trees_set rcs k rc ts e = map-set (λ (r : Rc Node Global). r.value) rcs k rc ∙ ap (λ x. set x k rc.value) e
 
 -- a text that went into the child at k
 pub grown : (br : LineBreaks) (h : ℕ) (ts : List Tree) (k : ℕ) (c u : Tree) (a : AreChildren br h ts) (lt : k < length ts) (here : get_or ts k c ≡ c) (at i : ℕ) (s : List ℕ) → 1 ≤ length s
@@ -59,11 +50,6 @@ set_and_behind (t ∷ ts) (suc k) u b lt = ap (λ xs. t ∷ xs) (set_and_behind 
 
 behind_parts : (ts : List Tree) (k : ℕ) (u b : Tree) → k < length ts → insert (set ts k u) (k + 1) b ≡ take k ts ++ (u ∷ b ∷ [] ++ drop (k + 1) ts)
 behind_parts ts k u b lt = ap (λ n. insert (set ts k u) n b) (add-one k) ∙ set_and_behind ts k u b lt ∙ ap (λ n. take k ts ++ (u ∷ b ∷ [] ++ drop n ts)) (sym (add-one k))
-
-pub trees_insert : (rcs : List (Rc Node Global)) (k : ℕ) (rc : Rc Node Global) (ts : List Tree) → trees rcs ≡ ts → trees (insert rcs k rc) ≡ insert ts k rc.value
-trees_insert rcs k rc ts e =
-    let here : trees (insert rcs k rc) ≡ insert (trees rcs) k rc.value = rw (map-append, take-map, drop-map) refl in
-    here ∙ ap (λ x. insert x k rc.value) e
 
 -- a text by which the child at k became two
 pub grown_by_one : (br : LineBreaks) (h : ℕ) (ts : List Tree) (k : ℕ) (c u b : Tree) (a : AreChildren br h ts) (lt : k < length ts) (here : get_or ts k c ≡ c) (at i : ℕ) (s : List ℕ) → 1 ≤ length s
@@ -113,8 +99,8 @@ pub child_grown : (br : LineBreaks) (h : ℕ) (c u : Tree) (new : List ℕ) → 
 child_grown br h c u new own i = rw (sym own.same_breaks, sym own.at_height) (All-head (IsWide c.breaks (min 12 c.width) c.height) u [] i.parts.each)
 
 -- the totals as they are read
-pub totals_seen : (rcs : List (Rc Node Global)) (ts : List Tree) (totals seen : List TextInfo) → trees rcs ≡ ts → seen ≡ totals → HasTotals (breaks_of (trees rcs)) totals (trees rcs) → HasTotals (breaks_of ts) seen ts
-totals_seen rcs ts totals seen e f h = rw (sym e, f) h
+pub totals_seen : (us ts : List Tree) (totals seen : List TextInfo) → us ≡ ts → seen ≡ totals → HasTotals (breaks_of us) totals us → HasTotals (breaks_of ts) seen ts
+totals_seen us ts totals seen e f h = rw (sym e, f) h
 
 pub tallest_above : (ts : List Tree) (k : ℕ) (d : Tree) → k < length ts → (get_or ts k d).height + (get_or ts k d).height + 1 ≤ tallest ts
 tallest_above [] k d lt = absurd (omega arith)
@@ -125,88 +111,23 @@ tallest_above (t ∷ ts) (suc k) d lt = omega (arith, tallest_above ts k d (omeg
 pub refill_all : (xs ws : List TextInfo) → length ws ≡ length xs → refill (length xs) xs ws ≡ ws
 refill_all xs ws e = rw (drop_all (length ws) xs (omega arith), append-nil ws) (take_all (length xs) ws (omega arith))
 
--- what an inner node is
-pub record IsInner (a : Inside) (t : Tree) (ts : List Tree) : Type 0 where
-  pub is : t ≡ tree_over ts
-  pub children : AreChildren (breaks_of ts) (height_of ts) ts
-  pub same_breaks : a.breaks ≡ breaks_of ts
-  pub above : a.height ≡ height_of ts + 1
+-- a node over the changed children
+module _ (ts us : List Tree) (at : ℕ) (s : List ℕ) (a : AreChildren (breaks_of ts) (height_of ts) ts) (g : AreGrown ts us (inserted (joined ts) at s)) where
+  pub children_after : AreChildren (breaks_of us) (height_of us) us
+  children_after = children_of_first (breaks_of ts) (height_of ts) us (children_grown ts us (inserted (joined ts) at s) a g)
 
-pub inner_of : (a : Inside) (t : Tree) (ts : List Tree) → IsNode a → a.body ≡ Inner ts → tree_of a ≡ t → IsInner a t ts
-inner_of a t ts i e view =
-    let body : IsBody a.breaks a.height (Inner ts) = subst (IsBody a.breaks a.height) e i.body in
-    let some : 1 ≤ length ts = omega (arith, body.1.at_least_two) in
-    let whole : tree_of (record { height = a.height; breaks = a.breaks; body = Inner ts }) ≡ tree_over ts = tree_of_inner a.breaks a.height ts (length ts) body.0 body.1 refl in
-    let same : tree_of a ≡ tree_of (record { height = a.height; breaks = a.breaks; body = Inner ts }) = ap (λ b. tree_of (record { height = a.height; breaks = a.breaks; body = b })) e in
-    record {
-      is = sym view ∙ same ∙ whole;
-      children = children_of_first a.breaks (a.height - 1) ts body.1;
-      same_breaks = sym (breaks_of_is a.breaks (a.height - 1) ts some body.1.each);
-      above = omega (arith, height_of_is a.breaks (a.height - 1) ts some body.1.each, body.0);
-    }
-
--- a node whose children were changed
-module _ (a : Inside) (t : Tree) (ts us : List Tree) (at : ℕ) (s : List ℕ) (f : IsInner a t ts) (g : AreGrown ts us (inserted (joined ts) at s)) where
-  below : AreChildren a.breaks (a.height - 1) us
-  below =
-      let e : height_of ts ≡ a.height - 1 = omega (arith, f.above) in
-      rw (sym e, f.same_breaks) (children_grown ts us (inserted (joined ts) at s) f.children g)
-
-  pub inner_after : IsNode (record { height = a.height; breaks = a.breaks; body = Inner us })
-  inner_after = record { body = (omega (arith, f.above), below) }
-
-  pub inner_inserted : IsInserted t (tree_of (record { height = a.height; breaks = a.breaks; body = Inner us }) ∷ []) (inserted (text t) at s)
-  inner_inserted =
-      node_grown t ts us at s f.is f.children g (tree_of (record { height = a.height; breaks = a.breaks; body = Inner us }))
-      (tree_of_inner a.breaks a.height us (length us) (omega (arith, f.above)) below refl)
+  pub over_grown : IsInserted (tree_over ts) (tree_over us ∷ []) (inserted (joined ts) at s)
+  over_grown = node_grown (tree_over ts) ts us at s refl a g (tree_over us) refl
 
 -- a leaf with another text in place of its own
-module _ (a : Inside) (t : Tree) (n : TextInfo) (l new : List ℕ) (i : IsNode a) (e : a.body ≡ Leaf n l) (view : tree_of a ≡ t)
-    (fits : byte_len new ≤ 984) (scalars : all_scalars new ≡ true) (info : TextInfo) (counted : info ≡ info_of a.breaks new) where
-  old_body : IsBody a.breaks a.height (Leaf n l)
-  old_body = subst (IsBody a.breaks a.height) e i.body
+module _ (br : LineBreaks) (l new : List ℕ) (fits : byte_len new ≤ 984) (scalars : all_scalars new ≡ true) where
+  pub leaf_is_tree : IsTree (leaf_tree br new)
+  leaf_is_tree = is_leaf_tree br new fits scalars (rw leaf_text (omega (arith, fits)))
 
-  pub leaf_with : IsNode (record { height = a.height; breaks = a.breaks; body = Leaf info new })
-  leaf_with = record { body = (old_body.0, fits, scalars, counted) }
+  pub leaf_inserted : (at : ℕ) (s : List ℕ) → new ≡ inserted l at s → 1 ≤ length s → IsInserted (leaf_tree br l) (leaf_tree br new ∷ []) (inserted (text (leaf_tree br l)) at s)
+  leaf_inserted at s is some = rw leaf_text (one_inserted br l new (inserted l at s) (leaf_tree br new) refl leaf_is_tree is (omega (arith, length-inserted l at s)))
 
-  with_is : tree_of (record { height = a.height; breaks = a.breaks; body = Leaf info new }) ≡ leaf_tree a.breaks new
-  with_is = let low = old_body.0 in rw low refl
-
-  with_tree : IsTree (tree_of (record { height = a.height; breaks = a.breaks; body = Leaf info new }))
-  with_tree = is_tree_of (record { height = a.height; breaks = a.breaks; body = Leaf info new }) leaf_with
-
-  was_is : t ≡ leaf_tree a.breaks l
-  was_is =
-      let low = old_body.0 in
-      let same : tree_of a ≡ tree_of (record { height = a.height; breaks = a.breaks; body = Leaf n l }) = ap (λ b. tree_of (record { height = a.height; breaks = a.breaks; body = b })) e in
-      let old : tree_of (record { height = a.height; breaks = a.breaks; body = Leaf n l }) ≡ leaf_tree a.breaks l = rw low refl in
-      sym view ∙ same ∙ old
-
-  module _ (at : ℕ) (s : List ℕ) where
-    pub with_inserted : new ≡ inserted l at s → 1 ≤ length s → IsInserted t (tree_of (record { height = a.height; breaks = a.breaks; body = Leaf info new }) ∷ []) (inserted (text t) at s)
-    with_inserted is some =
-        let x = tree_of (record { height = a.height; breaks = a.breaks; body = Leaf info new }) in
-        let text_is : text t ≡ l = ap text was_is ∙ leaf_text l in
-        let ins : IsInserted (leaf_tree a.breaks l) (x ∷ []) (inserted l at s) = one_inserted a.breaks l new (inserted l at s) x with_is with_tree is (omega (arith, length-inserted l at s)) in
-        rw (text_is, was_is) ins
-
-    -- what does not fit in stands in another leaf behind
-    pub with_parted : (back : List ℕ) (y : Tree) → y ≡ leaf_tree a.breaks back → IsTree y → new ++ back ≡ inserted l at s → (0 < length new) × (0 < length back) × (parts_crlf new back ≡ false)
-        → IsInserted t (tree_of (record { height = a.height; breaks = a.breaks; body = Leaf info new }) ∷ y ∷ []) (inserted (text t) at s)
-    with_parted back y y_is y_tree is some =
-        let x = tree_of (record { height = a.height; breaks = a.breaks; body = Leaf info new }) in
-        let text_is : text t ≡ l = ap text was_is ∙ leaf_text l in
-        let ins : IsInserted (leaf_tree a.breaks l) (x ∷ y ∷ []) (inserted l at s) = two_inserted a.breaks l new back (inserted l at s) x y with_is y_is with_tree y_tree is some in
-        rw (text_is, was_is) ins
-
--- a leaf that took a text
-module _ (a : Inside) (t : Tree) (n : TextInfo) (l new : List ℕ) (at : ℕ) (s : List ℕ) (i : IsNode a) (e : a.body ≡ Leaf n l) (view : tree_of a ≡ t) (some : 1 ≤ length s) (is : new ≡ inserted l at s)
-    (fits : byte_len new ≤ 984) (scalars : all_scalars new ≡ true) (info : TextInfo) (counted : info ≡ info_of a.breaks (inserted l at s)) where
-  right : info ≡ info_of a.breaks new
-  right = counted ∙ ap (info_of a.breaks) (sym is)
-
-  pub leaf_after : IsNode (record { height = a.height; breaks = a.breaks; body = Leaf info new })
-  leaf_after = leaf_with a t n l new i e view fits scalars info right
-
-  pub leaf_inserted : IsInserted t (tree_of (record { height = a.height; breaks = a.breaks; body = Leaf info new }) ∷ []) (inserted (text t) at s)
-  leaf_inserted = with_inserted a t n l new i e view fits scalars info right at s is some
+  -- what does not fit in stands in another leaf behind
+  pub leaf_parted : (at : ℕ) (s back : List ℕ) (y : Tree) → y ≡ leaf_tree br back → IsTree y → new ++ back ≡ inserted l at s → (0 < length new) × (0 < length back) × (parts_crlf new back ≡ false)
+      → IsInserted (leaf_tree br l) (leaf_tree br new ∷ y ∷ []) (inserted (text (leaf_tree br l)) at s)
+  leaf_parted at s back y y_is y_tree is some = rw leaf_text (two_inserted br l new back (inserted l at s) (leaf_tree br new) y refl y_is leaf_is_tree y_tree is some)

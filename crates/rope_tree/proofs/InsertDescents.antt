@@ -1,19 +1,16 @@
 -- The child that takes a text.
-use Rattle.std.proofs.Common.{◌≡◌, ℕ, ◌+◌, ◌-◌, ◌<◌, ◌≤◌, Bool, true, false, inl, inr, List, length, get_or, take, drop, refl, subst, ap, ◌∙◌, arith}
+use Rattle.std.proofs.Common.{◌≡◌, ℕ, ◌+◌, ◌-◌, ◌<◌, ◌≤◌, Bool, true, false, inl, inr, List, length, get_or, take, drop, refl, sym, subst, ap, ◌∙◌, arith}
 use Rattle.std.proofs.lemmas.Bool.{cases_lt}
-use Rattle.std.proofs.lemmas.List.{take_all, length-drop, length-map}
-use Rattle.std.specs.declared.alloc.Global.{Global}
-use Rattle.std.specs.declared.rc.Rc.{Rc}
-use Rattle.rope_tree.specs.declared.node.Node.{Node}
+use Rattle.std.proofs.lemmas.List.{take_all, length-drop}
 use Rattle.rope_text.specs.declared.line_breaks.LineBreaks.{LineBreaks}
 use Rattle.rope_text.specs.declared.text_info.TextInfo.{TextInfo}
 use Rattle.rope_text.specs.TextInfo.{info_of}
 use Rattle.rope_tree.specs.Tree.{Tree, text, joined, leaves_of, height_of, breaks_of, IsChild, AreChildren}
-use Rattle.rope_tree.specs.Listed.{trees, HasTotals}
+use Rattle.rope_tree.specs.Totals.{HasTotals}
 use Rattle.rope_tree.specs.Insert.{MayInsert, GoesIn}
 use Rattle.rope_tree.proofs.LeafLaws.{leaves_le}
 use Rattle.rope_tree.proofs.TreeLaws.{is_wide_over}
-use Rattle.rope_tree.proofs.NodeLaws.{tree_at, child_at}
+use Rattle.rope_tree.proofs.NodeLaws.{child_at}
 use Rattle.rope_tree.proofs.InsertLaws.{begins_some}
 
 -- the last total counts the whole text
@@ -62,11 +59,10 @@ pub record Takes (ts : List Tree) (k : ℕ) (child : Tree) (at i : ℕ) (to_righ
   pub place : at ≡ length (joined (take k ts)) + i
   pub goes : GoesIn at i (length (text child)) to_right
 
-pub takes : (rcs : List (Rc Node Global)) (ts : List Tree) (k : ℕ) (item : Rc Node Global) (child : Tree) (at i : ℕ) (to_right : Bool) → trees rcs ≡ ts → AreChildren (breaks_of ts) (height_of ts) ts
-    → k < length ts → item ≡ get_or rcs k item → child ≡ item.value → at ≡ length (joined (take k ts)) + i → ((d : Tree) → GoesIn at i (length (text (get_or ts k d))) to_right) → Takes ts k child at i to_right
-takes rcs ts k item child at i to_right e a lt is value place goes =
-    let l : k < length rcs = omega (arith, length-map rcs (λ rc. rc.value), ap length e) in
-    let here : get_or ts k child ≡ child = subst (λ xs. get_or xs k child ≡ child) e (tree_at rcs k item child l is value) in
+pub takes : (ts : List Tree) (k : ℕ) (child : Tree) (at i : ℕ) (to_right : Bool) → AreChildren (breaks_of ts) (height_of ts) ts → k < length ts → child ≡ get_or ts k child
+    → at ≡ length (joined (take k ts)) + i → ((d : Tree) → GoesIn at i (length (text (get_or ts k d))) to_right) → Takes ts k child at i to_right
+takes ts k child at i to_right a lt is place goes =
+    let here : get_or ts k child ≡ child = sym is in
     record {
       children = a;
       within = lt;

@@ -1,9 +1,7 @@
 -- A child is replaced by the one or two that an insert makes of it.
 use Rattle.std.proofs.Common.{◌≡◌, ℕ, ◌+◌, ◌-◌, ◌<◌, ◌≤◌, ◌^◌, Bool, true, false, ◌⊎◌, inl, inr, min, List, [], ◌++◌, length, get_or, take, drop, refl, sym, ap, subst, ◌∙◌, arith}
 use Rattle.std.specs.List.{concat, All}
-use Rattle.std.specs.declared.alloc.Global.{Global}
-use Rattle.std.specs.declared.rc.Rc.{Rc}
-use Rattle.std.proofs.lemmas.List.{append_assoc, length-append, length-take-le, length-drop, take-append-drop, take-map, drop-map, take_all, nil_from_length}
+use Rattle.std.proofs.lemmas.List.{append_assoc, length-append, length-take-le, length-drop, take-append-drop, take_all, nil_from_length}
 use Rattle.std.proofs.lemmas.List.Elements.{All-append, All-weaker}
 use Rattle.std.proofs.lemmas.Bool.{cases_lt}
 use Rattle.rope_text.specs.declared.line_breaks.LineBreaks.{LineBreaks}
@@ -12,10 +10,8 @@ use Rattle.rope_text.specs.Breaks.{begins_with_lf}
 use Rattle.rope_text.specs.Edit.{inserted}
 use Rattle.rope_text.proofs.Measures.{IsMeasure-byte_len}
 use Rattle.rope_text.proofs.CuttingLaws.{concat-append}
-use Rattle.rope_tree.specs.declared.node.Node.{Node}
 use Rattle.rope_tree.specs.Leaves.{AreLeaves, IsSeam}
 use Rattle.rope_tree.specs.Tree.{Tree, text, joined, leaves_of, height_of, breaks_of, tree_over, IsWide, IsChild, AreChildren}
-use Rattle.rope_tree.specs.Listed.{trees}
 use Rattle.rope_tree.specs.Siblings.{AreSiblings, AreParts}
 use Rattle.rope_tree.specs.Insert.{MayInsert, IsInserted}
 use Rattle.rope_tree.proofs.LeafLaws.{all_left, all_right, leaves-append, leaves_left, leaves_right, leaves_seam, seam_of_left, nil-seam}
@@ -34,10 +30,10 @@ byte_len-inserted xs i s =
     omega (arith, ap byte_len (inserted_is xs i s), IsMeasure-byte_len.joined (take i xs) (s ++ drop i xs), IsMeasure-byte_len.joined s (drop i xs), IsMeasure-byte_len.joined (take i xs) (drop i xs), whole)
 
 -- the slices around a child, as trees
-pub around : (rcs : List (Rc Node Global)) (k : ℕ) (ms vs : List Tree) → vs ≡ trees (take k rcs) ++ (ms ++ trees (take (length rcs - (k + 1)) (drop (k + 1) rcs))) → vs ≡ take k (trees rcs) ++ (ms ++ drop (k + 1) (trees rcs))
-around rcs k ms vs e =
-    let f : take (length rcs - (k + 1)) (drop (k + 1) rcs) ≡ drop (k + 1) rcs = take_all (length rcs - (k + 1)) (drop (k + 1) rcs) (simp length-drop (omega arith)) in
-    e ∙ (rw (f, take-map, drop-map) refl)
+pub around : (ts : List Tree) (k : ℕ) (ms vs : List Tree) → vs ≡ take k ts ++ (ms ++ take (length ts - (k + 1)) (drop (k + 1) ts)) → vs ≡ take k ts ++ (ms ++ drop (k + 1) ts)
+around ts k ms vs e =
+    let f : take (length ts - (k + 1)) (drop (k + 1) ts) ≡ drop (k + 1) ts = take_all (length ts - (k + 1)) (drop (k + 1) ts) (simp length-drop (omega arith)) in
+    e ∙ (rw f refl)
 
 pub siblings_of_first : (breaks : LineBreaks) (h : ℕ) (ts : List Tree) → 1 ≤ length ts → AreSiblings breaks h ts → AreSiblings (breaks_of ts) (height_of ts) ts
 siblings_of_first breaks h ts some a = rw (height_of_is breaks h ts some a.each, breaks_of_is breaks h ts some a.each) a

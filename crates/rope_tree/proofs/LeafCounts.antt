@@ -1,27 +1,21 @@
 -- How many leaves trees have.
-use Rattle.std.proofs.Common.{◌≡◌, ℕ, ◌+◌, ◌<◌, ◌^◌, min, List, [], ◌∷◌, ◌++◌, length, get_or, take, drop, refl, ap, ◌∙◌, arith, All}
-use Rattle.std.specs.declared.alloc.Global.{Global}
-use Rattle.std.specs.declared.rc.Rc.{Rc}
+use Rattle.std.proofs.Common.{◌≡◌, ℕ, ◌+◌, ◌<◌, ◌^◌, min, List, [], ◌∷◌, ◌++◌, length, get_or, take, drop, refl, sym, ap, ◌∙◌, arith, All}
 use Rattle.std.specs.List.{concat}
-use Rattle.std.proofs.lemmas.List.{length-append, length-map, take_more, append-nil, take-append-drop}
+use Rattle.std.proofs.lemmas.List.{length-append, take_more, append-nil, take-append-drop}
 use Rattle.std.proofs.lemmas.List.Elements.{All-head, All-tail}
 use Rattle.std.proofs.lemmas.Str.{length-le-encodes}
 use Rattle.rope_text.specs.declared.line_breaks.LineBreaks.{LineBreaks}
 use Rattle.rope_text.specs.Text.{byte_len}
-use Rattle.rope_tree.specs.declared.node.Node.{Node}
 use Rattle.rope_tree.specs.Tree.{Tree, leaves_of, IsChild, AreChildren, one_leaf}
-use Rattle.rope_tree.specs.Listed.{trees}
 use Rattle.rope_tree.proofs.LeafLaws.{leaves_le}
-use Rattle.rope_tree.proofs.NodeLaws.{leaves_of-append, tree_at}
+use Rattle.rope_tree.proofs.NodeLaws.{leaves_of-append}
 
 -- the leaves of one more tree
-pub leaves_more : (rcs : List (Rc Node Global)) (i : ℕ) (item : Rc Node Global) (n : Tree) → i < length rcs → item ≡ get_or rcs i item → n ≡ item.value
-    → length (leaves_of (take (i + 1) (trees rcs))) ≡ length (leaves_of (take i (trees rcs))) + length n.leaves
-leaves_more rcs i item n lt at is =
-    let ts = trees rcs in
-    let here = tree_at rcs i item n lt at is in
+pub leaves_more : (ts : List Tree) (i : ℕ) (n : Tree) → i < length ts → n ≡ get_or ts i n → length (leaves_of (take (i + 1) ts)) ≡ length (leaves_of (take i ts)) + length n.leaves
+leaves_more ts i n lt at =
+    let here : get_or ts i n ≡ n = sym at in
     let one : leaves_of (n ∷ []) ≡ n.leaves = append-nil n.leaves in
-    let more : take (i + 1) ts ≡ take i ts ++ get_or ts i n ∷ [] = take_more ts i n (omega (arith, length-map rcs (λ rc. rc.value))) in
+    let more : take (i + 1) ts ≡ take i ts ++ get_or ts i n ∷ [] = take_more ts i n lt in
     let split : leaves_of (take (i + 1) ts) ≡ leaves_of (take i ts) ++ leaves_of (n ∷ []) = ap leaves_of more ∙ ap (λ u. leaves_of (take i ts ++ u ∷ [])) here ∙ leaves_of-append (take i ts) (n ∷ []) in
     omega (arith, ap length split, ap length one, length-append (leaves_of (take i ts)) (leaves_of (n ∷ [])))
 

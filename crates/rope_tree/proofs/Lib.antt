@@ -2,10 +2,13 @@ pub mod LeafCounts
 pub mod LeafLaws
 pub mod TreeLaws
 pub mod Halving
+pub mod ShortTexts
 pub mod Retotals
 pub mod CountLaws
 pub mod TotalLaws
 pub mod GrownLaws
+pub mod FormLaws
+pub mod ListedLaws
 pub mod ChildLaws
 pub mod RemovalEnds
 pub mod RemovalLaws

@@ -1,12 +1,10 @@
 -- What holds of nodes, and of trees side by side.
-use Rattle.std.proofs.Common.{◌≡◌, ℕ, ◌+◌, ◌-◌, ◌<◌, ◌≤◌, ◌^◌, false, List, [], ◌∷◌, ◌++◌, length, get_or, take, drop, refl, sym, ap, subst, ◌∙◌, arith, inl, inr}
+use Rattle.std.proofs.Common.{◌≡◌, ℕ, ◌+◌, ◌<◌, ◌≤◌, ◌^◌, false, List, [], ◌∷◌, ◌++◌, length, get_or, take, drop, refl, sym, ap, subst, ◌∙◌, arith, inl, inr}
 use Rattle.std.specs.List.{concat}
-use Rattle.std.proofs.lemmas.List.{append-nil, length-append, length-map, length-take-le, take_more, take_all, take-take, take-append-drop, get_or_append_left, get_or_push, get_or-map}
+use Rattle.std.proofs.lemmas.List.{append-nil, length-append, length-take-le, take_more, take_all, take-take, take-append-drop, get_or_append_left, get_or_push}
 use Rattle.std.proofs.lemmas.Bool.{cases_lt}
 use Rattle.std.proofs.lemmas.List.Elements.{All-get_or}
 use Rattle.std.proofs.lemmas.List.Concat.{flat_map-append}
-use Rattle.std.specs.declared.alloc.Global.{Global}
-use Rattle.std.specs.declared.rc.Rc.{Rc}
 use Rattle.rope_text.specs.declared.line_breaks.LineBreaks.{LineBreaks}
 use Rattle.rope_text.specs.declared.text_info.TextInfo.{TextInfo}
 use Rattle.rope_text.specs.Text.{byte_len}
@@ -15,17 +13,12 @@ use Rattle.rope_text.specs.Cutting.{parts_crlf}
 use Rattle.rope_text.proofs.Measures.{IsMeasure-byte_len}
 use Rattle.rope_text.proofs.InfoLaws.{info_of-append_apart}
 use Rattle.rope_text.proofs.CuttingLaws.{concat-append}
-use Rattle.rope_tree.specs.declared.node.Node.{Node}
-use Rattle.rope_tree.specs.declared.node.Node.TheInside.{Inside}
-use Rattle.rope_tree.specs.declared.node.Body.{Body}
-use Rattle.rope_tree.specs.declared.node.Body.TheVariants.{Leaf, Inner}
 use Rattle.rope_tree.specs.Leaves.{AreLeaves}
-use Rattle.rope_tree.specs.Tree.{Tree, text, joined, leaves_of, height_of, breaks_of, tree_over, one_leaf, IsTree, IsChild, AreChildren}
-use Rattle.rope_tree.specs.Shape.{body_leaves, body_width, tree_of, IsBody, IsNode}
-use Rattle.rope_tree.specs.Listed.{trees, HasTotals}
+use Rattle.rope_tree.specs.Tree.{Tree, text, joined, leaves_of, height_of, breaks_of, one_leaf, IsChild, AreChildren}
+use Rattle.rope_tree.specs.Totals.{HasTotals}
 use Rattle.rope_tree.specs.Search.{IsSmall}
 use Rattle.rope_tree.proofs.LeafLaws.{leaves_left, leaves_seam}
-use Rattle.rope_tree.proofs.TreeLaws.{height_of_is, breaks_of_is, is_tree_over, is_leaf_tree}
+use Rattle.rope_tree.proofs.TreeLaws.{height_of_is, breaks_of_is}
 use Rattle.rope_tree.proofs.Infos.{small_info}
 
 pub leaves_of-append : (xs ys : List Tree) → leaves_of (xs ++ ys) ≡ leaves_of xs ++ leaves_of ys
@@ -40,20 +33,6 @@ joined_one t = ap concat (append-nil t.leaves)
 pub leaf_text : (leaf : List ℕ) → concat (one_leaf leaf) ≡ leaf
 leaf_text [] = refl
 leaf_text (c ∷ cs) = append-nil (c ∷ cs)
-
-pub tree_of_inner : (breaks : LineBreaks) (h : ℕ) (ts : List Tree) (n : ℕ) → 1 ≤ h → AreChildren breaks (h - 1) ts → n ≡ length ts
-    → ◌≡◌ {A = Tree} (record { breaks = breaks; leaves = leaves_of ts; height = h; width = n }) (tree_over ts)
-tree_of_inner breaks h ts n p a e =
-    let f : h ≡ height_of ts + 1 = omega (arith, height_of_is breaks (h - 1) ts (omega (arith, a.at_least_two)) a.each) in
-    let g : breaks ≡ breaks_of ts = sym (breaks_of_is breaks (h - 1) ts (omega (arith, a.at_least_two)) a.each) in
-    cc
-
-is_tree_of_body : (breaks : LineBreaks) (h : ℕ) (b : Body) → IsBody breaks h b → IsTree (record { breaks = breaks; leaves = body_leaves b; height = h; width = body_width b })
-is_tree_of_body breaks h (Leaf n l) i = rw i.0 (is_leaf_tree breaks l i.1 i.2 (rw leaf_text (omega (arith, i.1))))
-is_tree_of_body breaks h (Inner c) i = rw (tree_of_inner breaks h c (length c) i.0 i.1 refl) (is_tree_over breaks (h - 1) c i.1)
-
-pub is_tree_of : (a : Inside) → IsNode a → IsTree (tree_of a)
-is_tree_of a i = is_tree_of_body a.breaks a.height a.body i.body
 
 -- children by the facts of the first of them
 pub children_of_first : (breaks : LineBreaks) (h : ℕ) (ts : List Tree) → AreChildren breaks h ts → AreChildren (breaks_of ts) (height_of ts) ts
@@ -111,18 +90,18 @@ pub small_totals : (breaks : LineBreaks) (totals : List TextInfo) (ts : List Tre
 small_totals breaks totals ts h fits k d l =
     rw (h.total_at k d (omega (arith, h.as_many))) (small_info breaks (joined (take (k + 1) ts)) (omega (arith, byte_len-joined ts (k + 1))))
 
--- the node at a place, as a tree
-pub tree_at : (rcs : List (Rc Node Global)) (i : ℕ) (item : Rc Node Global) (n : Tree) → i < length rcs → item ≡ get_or rcs i item → n ≡ item.value → get_or (trees rcs) i n ≡ n
-tree_at rcs i item n lt at is = get_or-map (λ rc. rc.value) rcs i item n lt ∙ ap (λ rc. rc.value) (sym at) ∙ sym is
+-- the same tree once more
+pub same_at : (ts : List Tree) (i : ℕ) (n m : Tree) → n ≡ get_or ts i n → m ≡ n → get_or ts i m ≡ m
+same_at ts i n m at is = rw is (sym at)
 
 -- the first node
-pub first_height : (rcs : List (Rc Node Global)) (d : Rc Node Global) → 1 ≤ length rcs → (get_or rcs 0 d).value.height ≡ height_of (trees rcs)
+pub first_height : (ts : List Tree) (d : Tree) → 1 ≤ length ts → (get_or ts 0 d).height ≡ height_of ts
 first_height [] d some = absurd (omega arith)
-first_height (rc ∷ rcs) d some = refl
+first_height (t ∷ ts) d some = refl
 
-pub first_breaks : (rcs : List (Rc Node Global)) (d : Rc Node Global) → 1 ≤ length rcs → (get_or rcs 0 d).value.breaks ≡ breaks_of (trees rcs)
+pub first_breaks : (ts : List Tree) (d : Tree) → 1 ≤ length ts → (get_or ts 0 d).breaks ≡ breaks_of ts
 first_breaks [] d some = absurd (omega arith)
-first_breaks (rc ∷ rcs) d some = refl
+first_breaks (t ∷ ts) d some = refl
 
 -- the tree at a place among children, and the counts up to its end
 pub child_at : (breaks : LineBreaks) (h : ℕ) (ts : List Tree) (k : ℕ) (child : Tree) → AreChildren breaks h ts → k < length ts → get_or ts k child ≡ child → IsChild breaks h child
@@ -141,13 +120,10 @@ pub record AddsNode (breaks : LineBreaks) (ts : List Tree) (i : ℕ) (total info
   pub small_info : IsSmall info
   pub more : info_of breaks (joined (take (i + 1) ts)) ≡ info_sum total info
 
-pub adds_node : (breaks : LineBreaks) (h : ℕ) (rcs : List (Rc Node Global)) (i : ℕ) (item : Rc Node Global) (n : Tree) (total info : TextInfo)
-    → AreChildren breaks h (trees rcs) → i < length rcs → item ≡ get_or rcs i item → n ≡ item.value
-    → total ≡ info_of breaks (joined (take i (trees rcs))) → info ≡ info_of n.breaks (text n) → AddsNode breaks (trees rcs) i total info
-adds_node breaks h rcs i item n total info a lt at is front own =
-    let ts = trees rcs in
-    let l : i < length ts = omega (arith, length-map rcs (λ rc. rc.value)) in
-    let here : get_or ts i n ≡ n = tree_at rcs i item n lt at is in
+pub adds_node : (breaks : LineBreaks) (h : ℕ) (ts : List Tree) (i : ℕ) (n : Tree) (total info : TextInfo) → AreChildren breaks h ts → i < length ts → n ≡ get_or ts i n
+    → total ≡ info_of breaks (joined (take i ts)) → info ≡ info_of n.breaks (text n) → AddsNode breaks ts i total info
+adds_node breaks h ts i n total info a l at front own =
+    let here : get_or ts i n ≡ n = sym at in
     let child = child_at breaks h ts i n a l here in
     let counts : info ≡ info_of breaks (text n) = own ∙ ap (λ b. info_of b (text n)) child.same_breaks in
     record {

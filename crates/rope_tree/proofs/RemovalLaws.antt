@@ -2,8 +2,6 @@
 use Rattle.std.proofs.Common.{◌≡◌, ℕ, ◌+◌, ◌-◌, ◌<◌, ◌≤◌, true, List, [], ◌∷◌, ◌++◌, length, get_or, set, take, drop, refl, sym, ap, subst, ◌∙◌, arith}
 use Rattle.std.specs.List.{concat}
 use Rattle.std.specs.Str.{all_scalars}
-use Rattle.std.specs.declared.alloc.Global.{Global}
-use Rattle.std.specs.declared.rc.Rc.{Rc}
 use Rattle.std.proofs.lemmas.List.{append_assoc, length-append, length-set, take-append-drop}
 use Rattle.std.proofs.lemmas.List.Elements.{All-set}
 use Rattle.rope_text.specs.declared.line_breaks.LineBreaks.{LineBreaks}
@@ -13,19 +11,15 @@ use Rattle.rope_text.specs.Edit.{removed}
 use Rattle.rope_text.proofs.Measures.{IsMeasure-byte_len, size_le}
 use Rattle.rope_text.proofs.CuttingLaws.{concat-append}
 use Rattle.rope_tree.specs.declared.search.Unit.TheVariants.{Char}
-use Rattle.rope_tree.specs.declared.node.Node.{Node}
-use Rattle.rope_tree.specs.declared.node.Node.TheInside.{Inside}
-use Rattle.rope_tree.specs.declared.node.Body.TheVariants.{Leaf, Inner}
-use Rattle.rope_tree.specs.Shape.{tree_of, IsBody, IsNode}
 use Rattle.rope_tree.specs.Leaves.{AreLeaves, IsSeam}
 use Rattle.rope_tree.specs.Tree.{Tree, text, joined, one_leaf, leaf_tree, leaves_of, height_of, breaks_of, tree_over, IsTree, IsChild, AreChildren}
-use Rattle.rope_tree.specs.Listed.{trees, HasTotals}
+use Rattle.rope_tree.specs.Totals.{HasTotals}
 use Rattle.rope_tree.specs.Removal.{KeepsEnds, IsRemoved, AreRemoved}
 use Rattle.rope_tree.proofs.LeafLaws.{lone_leaf, leaves-append, leaves_left, leaves_right, leaves_le}
 use Rattle.rope_tree.proofs.TreeLaws.{height_of_is, breaks_of_is}
-use Rattle.rope_tree.proofs.NodeLaws.{leaves_of-append, child_at, more_at, leaf_text, tree_of_inner}
+use Rattle.rope_tree.proofs.NodeLaws.{leaves_of-append, child_at, more_at, leaf_text}
 use Rattle.rope_tree.proofs.Descents.{Descends}
-use Rattle.rope_tree.proofs.GrownLaws.{set_parts, IsInner}
+use Rattle.rope_tree.proofs.GrownLaws.{set_parts}
 use Rattle.rope_tree.proofs.InsertLaws.{front_of, rest_of, seam_begins}
 use Rattle.rope_tree.proofs.RemovalEnds.{ends_around}
 use Rattle.rope_tree.proofs.InsertTrees.{around, around_child, text_around, seam_before, seam_after}
@@ -160,12 +154,11 @@ module _ (br : LineBreaks) (h : ℕ) (ts : List Tree) (k : ℕ) (c : Tree) (a : 
     }
 
 -- the slices around a child, with the new one between them
-pub spliced_removed : (rcs : List (Rc Node Global)) (k : ℕ) (c u : Tree) (vs : List Tree) → AreChildren (breaks_of (trees rcs)) (height_of (trees rcs)) (trees rcs) → k < length (trees rcs) → get_or (trees rcs) k c ≡ c
-    → (i j start end : ℕ) → Holds (trees rcs) k c i j start end → IsRemoved c u i j
-    → vs ≡ trees (take k rcs) ++ (u ∷ [] ++ trees (take (length rcs - (k + 1)) (drop (k + 1) rcs))) → AreRemoved (trees rcs) vs start end
-spliced_removed rcs k c u vs a lt here i j start end held r is =
-    let ts = trees rcs in
-    rw (around rcs k (u ∷ []) vs is ∙ sym (set_parts ts k u lt)) (children_removed (breaks_of ts) (height_of ts) ts k c a lt here i j start end held u r refl refl)
+pub spliced_removed : (ts : List Tree) (k : ℕ) (c u : Tree) (vs : List Tree) → AreChildren (breaks_of ts) (height_of ts) ts → k < length ts → get_or ts k c ≡ c
+    → (i j start end : ℕ) → Holds ts k c i j start end → IsRemoved c u i j
+    → vs ≡ take k ts ++ (u ∷ [] ++ take (length ts - (k + 1)) (drop (k + 1) ts)) → AreRemoved ts vs start end
+spliced_removed ts k c u vs a lt here i j start end held r is =
+    rw (around ts k (u ∷ []) vs is ∙ sym (set_parts ts k u lt)) (children_removed (breaks_of ts) (height_of ts) ts k c a lt here i j start end held u r refl refl)
 
 -- a node over the children that are left is the old one without the characters
 pub over_removed : (t x : Tree) (ts us : List Tree) (start end : ℕ) → t ≡ tree_over ts → x ≡ tree_over us → AreRemoved ts us start end → IsRemoved t x start end
@@ -182,17 +175,6 @@ over_removed t x ts us start end is x_is r =
       as_many = r.as_many_leaves;
       leaves = r.children.leaves;
     })
-
--- an inner node over them
-pub over_left : (a : Inside) (t : Tree) (ts us : List Tree) (start end : ℕ) → IsInner a t ts → AreRemoved ts us start end
-    → IsNode (record { height = a.height; breaks = a.breaks; body = Inner us }) × IsRemoved t (tree_of (record { height = a.height; breaks = a.breaks; body = Inner us })) start end
-over_left a t ts us start end f r =
-    let e : height_of ts ≡ a.height - 1 = omega (arith, f.above) in
-    let below : AreChildren a.breaks (a.height - 1) us = rw (sym e, f.same_breaks) r.children in
-    let high : 1 ≤ a.height = omega (arith, f.above) in (
-      record { body = (high, below) },
-      over_removed t (tree_of (record { height = a.height; breaks = a.breaks; body = Inner us })) ts us start end f.is (tree_of_inner a.breaks a.height us (length us) high below refl) r,
-    )
 
 one_leaf_some : (leaf : List ℕ) → 1 ≤ length leaf → one_leaf leaf ≡ leaf ∷ []
 one_leaf_some [] some = absurd (omega arith)
@@ -216,15 +198,9 @@ leaf_removed br l new t x start end t_is x_is is order within some ends leaves =
     })
 
 -- where it stands
-pub leaf_left : (a : Inside) (t : Tree) (n : TextInfo) (l new : List ℕ) (start end : ℕ) → IsNode a → a.body ≡ Leaf n l → tree_of a ≡ t → new ≡ removed l start end → start < end → end ≤ length (text t) → 1 ≤ length (removed l start end) → KeepsEnds l (removed l start end)
-    → byte_len new ≤ 984 → all_scalars new ≡ true → (info : TextInfo) → IsRemoved t (tree_of (record { height = a.height; breaks = a.breaks; body = Leaf info new })) start end
-leaf_left a t n l new start end i e view is order within some ends fits scalars info =
-    let body : IsBody a.breaks a.height (Leaf n l) = subst (IsBody a.breaks a.height) e i.body in
-    let low : a.height ≡ 0 = body.0 in
-    let same : tree_of a ≡ tree_of (record { height = a.height; breaks = a.breaks; body = Leaf n l }) = ap (λ b. tree_of (record { height = a.height; breaks = a.breaks; body = b })) e in
-    let old : tree_of (record { height = a.height; breaks = a.breaks; body = Leaf n l }) ≡ leaf_tree a.breaks l = rw low refl in
-    let t_is : t ≡ leaf_tree a.breaks l = sym view ∙ same ∙ old in
+pub leaf_left : (br : LineBreaks) (l new : List ℕ) (start end : ℕ) → new ≡ removed l start end → start < end → end ≤ length (text (leaf_tree br l)) → 1 ≤ length (removed l start end) → KeepsEnds l (removed l start end)
+    → byte_len new ≤ 984 → all_scalars new ≡ true → IsRemoved (leaf_tree br l) (leaf_tree br new) start end
+leaf_left br l new start end is order within some ends fits scalars =
     let now : one_leaf new ≡ new ∷ [] = one_leaf_some new (omega (arith, ap length is, some)) in
-    let x_is : tree_of (record { height = a.height; breaks = a.breaks; body = Leaf info new }) ≡ leaf_tree a.breaks new = rw low refl in
-    leaf_removed a.breaks l new t (tree_of (record { height = a.height; breaks = a.breaks; body = Leaf info new })) start end t_is x_is is order (omega (arith, within, ap length (ap text t_is ∙ leaf_text l))) some ends
+    leaf_removed br l new (leaf_tree br l) (leaf_tree br new) start end refl refl is order (omega (arith, within, ap length (leaf_text l))) some ends
     (rw now (lone_leaf new (record { some = omega (arith, ap length is, some); fits = fits; scalars = scalars })))

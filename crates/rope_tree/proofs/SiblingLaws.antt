@@ -1,14 +1,10 @@
 -- Lists of trees that become the children of one node or two.
 use Rattle.std.proofs.Common.{◌≡◌, ℕ, ◌+◌, ◌-◌, ◌/◌, ◌<◌, ◌≤◌, min, List, [], ◌∷◌, ◌++◌, length, take, drop, refl, ap, ◌∙◌, arith}
-use Rattle.std.specs.declared.alloc.Global.{Global}
-use Rattle.std.specs.declared.rc.Rc.{Rc}
-use Rattle.std.proofs.lemmas.List.{take-map, drop-map, take_all, length-map, append-nil, take-append-drop, length-take, length-drop}
+use Rattle.std.proofs.lemmas.List.{take_all, append-nil, take-append-drop, length-take, length-drop}
 use Rattle.std.proofs.lemmas.List.Elements.{All-nil, All-cons, All-weaker}
 use Rattle.rope_text.specs.declared.line_breaks.LineBreaks.{LineBreaks}
 use Rattle.rope_text.specs.Text.{byte_len}
 use Rattle.rope_text.proofs.Measures.{IsMeasure-byte_len}
-use Rattle.rope_tree.specs.declared.node.Node.{Node}
-use Rattle.rope_tree.specs.Listed.{trees}
 use Rattle.rope_tree.specs.Tree.{Tree, joined, leaves_of, tree_over, IsWide, IsChild, AreChildren}
 use Rattle.rope_tree.specs.Siblings.{AreSiblings, AreParts}
 use Rattle.rope_tree.proofs.LeafLaws.{leaves_left, leaves_right, all_left, all_right}
@@ -80,10 +76,10 @@ one_part breaks h ts a some few t e =
     }
 
 -- what copies of the two halves are seen as
-pub front_trees : (rcs xs : List (Rc Node Global)) (k : ℕ) (vs : List Tree) → vs ≡ trees (take k xs) → xs ≡ rcs → k ≡ length rcs / 2 → vs ≡ take (length (trees rcs) / 2) (trees rcs)
-front_trees rcs xs k vs e x n = rw (e, n, x, take-map, length-map) refl
+pub front_trees : (ts xs : List Tree) (k : ℕ) (vs : List Tree) → vs ≡ take k xs → xs ≡ ts → k ≡ length ts / 2 → vs ≡ take (length ts / 2) ts
+front_trees ts xs k vs e x n = rw (e, n, x) refl
 
-pub back_trees : (rcs xs : List (Rc Node Global)) (k : ℕ) (vs : List Tree) → vs ≡ trees (take (length xs - k) (drop k xs)) → xs ≡ rcs → k ≡ length rcs / 2 → vs ≡ drop (length (trees rcs) / 2) (trees rcs)
-back_trees rcs xs k vs e x n =
+pub back_trees : (ts xs : List Tree) (k : ℕ) (vs : List Tree) → vs ≡ take (length xs - k) (drop k xs) → xs ≡ ts → k ≡ length ts / 2 → vs ≡ drop (length ts / 2) ts
+back_trees ts xs k vs e x n =
     let f : take (length xs - k) (drop k xs) ≡ drop k xs = take_all (length xs - k) (drop k xs) (simp length-drop (omega arith)) in
-    rw (e, f, n, x, drop-map, length-map) refl
+    rw (e, f, n, x) refl

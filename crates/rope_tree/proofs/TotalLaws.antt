@@ -7,7 +7,7 @@ use Rattle.rope_text.specs.declared.text_info.TextInfo.{TextInfo}
 use Rattle.rope_text.specs.TextInfo.{info_of, info_sum}
 use Rattle.rope_tree.specs.Search.{HasPart}
 use Rattle.rope_tree.specs.Tree.{Tree, text, joined, AreChildren}
-use Rattle.rope_tree.specs.Listed.{HasTotals}
+use Rattle.rope_tree.specs.Totals.{HasTotals}
 use Rattle.rope_tree.proofs.NodeLaws.{more_at}
 
 -- four equal counts

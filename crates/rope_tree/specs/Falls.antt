@@ -1,29 +1,35 @@
 -- Each child is smaller than the list that holds it, and each list than its node.
-use Rattle.std.specs.Prelude.{ℕ, List, [], ◌∷◌, ◌≤◌, ◌+◌, ◌-◌, max}
-use Rattle.std.proofs.Common.{arith}
-use Rattle.std.specs.declared.alloc.Global.{Global}
-use Rattle.std.specs.declared.rc.Rc.{Rc}
+use Rattle.std.specs.Prelude.{ℕ, List, [], ◌∷◌, ◌≤◌, ◌+◌, max, length, take, drop}
+use Rattle.std.proofs.Common.{zero, suc, arith}
 use Rattle.std.specs.List.{All}
 use Rattle.std.proofs.lemmas.List.Elements.{All-head, All-tail}
 use denote.Param.Weighed.{most}
 use Rattle.rope_text.specs.declared.line_breaks.LineBreaks.{LineBreaks}
-use Rattle.rope_tree.specs.declared.node.Node.{Node}
-use Rattle.rope_tree.specs.declared.node.Body.{Body}
-use Rattle.rope_tree.specs.declared.node.Body.TheVariants.{Leaf, Inner}
-use Rattle.rope_tree.specs.declared.node.Children.TheDeep.{deep-Body}
-use Rattle.rope_tree.specs.Tree.{Tree, IsChild}
-use Rattle.rope_tree.specs.Listed.{trees, tallest}
-use Rattle.rope_tree.specs.Shape.{IsBody}
+use Rattle.rope_tree.specs.declared.node.Children.TheInside.{Inside}
+use Rattle.rope_tree.specs.declared.node.Form.{Form}
+use Rattle.rope_tree.specs.declared.node.Form.TheVariants.{Empty, Leaf, Inner}
+use Rattle.rope_tree.specs.declared.node.Children.TheDeep.{deep-Form}
+use Rattle.rope_tree.specs.Tree.{Tree, IsChild, height_of, breaks_of}
+use Rattle.rope_tree.specs.Flat.{IsFlat}
+use Rattle.rope_tree.specs.Listed.{tallest, listed, IsListed}
+use Rattle.rope_tree.specs.Shape.{form_tree, IsForm}
 
-pub deep_le_tallest : (rcs : List (Rc Node Global)) → max (most (λ (rc : Rc Node Global). rc.value.height + rc.value.height + 1) rcs) 0 ≤ tallest (trees rcs)
-deep_le_tallest [] = omega arith
-deep_le_tallest (rc ∷ rcs) = omega (arith, deep_le_tallest rcs)
+-- trees above others that are no higher than a leaf
+most_le_tallest : (n : ℕ) (ts : List Tree) → All IsFlat (drop n ts) → most (λ (t : Tree). t.height + t.height + 1) ts ≤ tallest (take n ts)
+most_le_tallest zero [] low = omega arith
+most_le_tallest zero (t ∷ ts) low = omega (arith, All-head IsFlat t ts low, most_le_tallest zero ts (All-tail IsFlat t ts low))
+most_le_tallest (suc n) [] low = omega arith
+most_le_tallest (suc n) (t ∷ ts) low = omega (arith, most_le_tallest n ts low)
+
+pub deep_le_tallest : (a : Inside) → IsListed a → max (most (λ (t : Tree). t.height + t.height + 1) a.nodes) 0 ≤ tallest (listed a)
+deep_le_tallest a i = omega (arith, most_le_tallest (length a.totals.items) a.nodes i.places)
 
 pub tallest_below : (breaks : LineBreaks) (h : ℕ) (ts : List Tree) → All (IsChild breaks h) ts → tallest ts ≤ h + h + 1
 tallest_below breaks h [] each = omega arith
 tallest_below breaks h (t ∷ ts) each =
     omega (arith, (All-head (IsChild breaks h) t ts each).at_height, tallest_below breaks h ts (All-tail (IsChild breaks h) t ts each))
 
-pub deep_le_height : (breaks : LineBreaks) (h : ℕ) (b : Body) → IsBody breaks h b → max (deep-Body b) 0 ≤ h + h
-deep_le_height breaks h (Leaf n l) i = omega arith
-deep_le_height breaks h (Inner c) i = omega (arith, i.0, tallest_below breaks (h - 1) c i.1.each)
+pub deep_le_height : (f : Form) → IsForm f → max (deep-Form f) 0 ≤ (form_tree f).height + (form_tree f).height
+deep_le_height (Empty b) i = omega arith
+deep_le_height (Leaf rc) i = omega arith
+deep_le_height (Inner rc) i = omega (arith, tallest_below (breaks_of rc.value) (height_of rc.value) rc.value i.each)

@@ -5,7 +5,6 @@ use Rattle.rope_text.specs.declared.line_breaks.LineBreaks.{LineBreaks}
 use Rattle.rope_text.specs.Text.{byte_len}
 use Rattle.rope_tree.specs.Leaves.{AreLeaves, IsSeam}
 use Rattle.rope_tree.specs.Tree.{Tree, joined, leaves_of, IsChild}
-use Rattle.rope_tree.specs.Listed.{trees}
 use Rattle.rope_tree.specs.declared.builder.Builder.TheInside.{Inside}
 
 -- the leaves so far, and the rest of the text
@@ -25,12 +24,12 @@ pub record Building : Type 0 where
   pub breaks : LineBreaks
 
 abbrev pub building_of : Inside → Building
-building_of a = record { text = joined (trees a.leaves.items) ++ a.rest; breaks = a.breaks }
+building_of a = record { text = joined a.leaves.items ++ a.rest; breaks = a.breaks }
 
 -- the leaves are cut off the front of the text, each of 981 bytes or more, and something follows them that is in no leaf yet
 pub record IsBuilding (a : Inside) : Type 0 where
-  pub nodes : AreFrontNodes a.breaks (joined (trees a.leaves.items) ++ a.rest) (trees a.leaves.items) a.rest
-  pub long : 981 * length (leaves_of (trees a.leaves.items)) + byte_len a.rest ≤ a.bytes
-  pub followed : 0 < length (trees a.leaves.items) → 0 < byte_len a.rest
-  pub counted : a.bytes ≡ byte_len (joined (trees a.leaves.items) ++ a.rest)
+  pub nodes : AreFrontNodes a.breaks (joined a.leaves.items ++ a.rest) a.leaves.items a.rest
+  pub long : 981 * length (leaves_of a.leaves.items) + byte_len a.rest ≤ a.bytes
+  pub followed : 0 < length a.leaves.items → 0 < byte_len a.rest
+  pub counted : a.bytes ≡ byte_len (joined a.leaves.items ++ a.rest)
   pub fits : a.bytes < 2 ^ 63

@@ -1,6 +1,11 @@
 pub mod Leaves
+pub mod Short
 pub mod Tree
 pub mod Search
+pub mod Totals
+pub mod Flat
+pub mod LeafTree
+pub mod LeafShape
 pub mod Listed
 pub mod Shape
 pub mod Falls

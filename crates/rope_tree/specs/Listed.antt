@@ -1,27 +1,24 @@
--- What a list of children is seen as.
-use Rattle.std.specs.Prelude.{◌≡◌, ℕ, ◌+◌, ◌<◌, max, List, [], ◌∷◌, map, length, take, slice_index_or}
-use Rattle.std.specs.declared.alloc.Global.{Global}
-use Rattle.std.specs.declared.rc.Rc.{Rc}
-use Rattle.rope_text.specs.declared.line_breaks.LineBreaks.{LineBreaks}
-use Rattle.rope_text.specs.declared.text_info.TextInfo.{TextInfo}
-use Rattle.rope_text.specs.TextInfo.{info_of}
-use Rattle.rope_tree.specs.declared.node.Node.{Node}
+-- What the fields of a list of children are seen as, and what holds of them.
+use Rattle.std.specs.Prelude.{◌≡◌, ℕ, ◌+◌, max, List, [], ◌∷◌, length, take, drop}
+use Rattle.std.specs.List.{All}
 use Rattle.rope_tree.specs.declared.node.Children.TheInside.{Inside}
-use Rattle.rope_tree.specs.Tree.{Tree, joined, breaks_of}
+use Rattle.rope_tree.specs.Tree.{Tree, height_of, breaks_of}
+use Rattle.rope_tree.specs.Totals.{HasTotals}
+use Rattle.rope_tree.specs.Flat.{IsFlat}
 
--- the nodes behind the pointers
-abbrev pub trees : List (Rc Node Global) → List Tree
-trees rcs = map (λ rc. rc.value) rcs
-
--- above every tree's size
+-- above every tree's size, and above that of an empty node
 abbrev pub tallest : List Tree → ℕ
-tallest [] = 0
+tallest [] = 1
 tallest (t ∷ ts) = max (t.height + t.height + 1) (tallest ts)
 
--- each total has the counts of the text up to the end of its child
-pub record HasTotals (breaks : LineBreaks) (totals : List TextInfo) (ts : List Tree) : Type 0 where
-  pub as_many : length totals ≡ length ts
-  pub total_at : (k : ℕ) (d : TextInfo) → k < length ts → slice_index_or totals k d ≡ info_of breaks (joined (take (k + 1) ts))
+-- the nodes that have totals
+abbrev pub listed : Inside → List Tree
+listed a = take (length a.totals.items) a.nodes
 
-abbrev pub IsListed : Inside → Type 0
-IsListed a = HasTotals (breaks_of (trees a.nodes.items)) a.totals.items (trees a.nodes.items)
+-- the totals, the height and the set of line breaks are those of the nodes, and behind the nodes stand empty ones
+pub record IsListed (a : Inside) : Type 0 where
+  pub room : length a.nodes ≡ 24
+  pub totals_right : HasTotals (breaks_of (listed a)) a.totals.items (listed a)
+  pub above : a.height ≡ height_of (listed a) + 1
+  pub same_breaks : a.breaks ≡ breaks_of (listed a)
+  pub places : All IsFlat (drop (length a.totals.items) a.nodes)

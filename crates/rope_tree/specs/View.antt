@@ -1,20 +1,13 @@
 -- What a node shows of itself.
-use Rattle.std.specs.Prelude.{◌≡◌, ℕ, ◌≤◌, true, List, [], ◌∷◌}
-use Rattle.std.specs.Str.{all_scalars}
+use Rattle.std.specs.Prelude.{◌≡◌, List, [], ◌∷◌}
 use Rattle.rope_text.specs.declared.text_info.TextInfo.{TextInfo}
-use Rattle.rope_text.specs.Text.{byte_len}
-use Rattle.rope_tree.specs.Tree.{Tree, AreChildren, leaf_tree, tree_over, height_of, breaks_of}
-use Rattle.rope_tree.specs.Listed.{trees, HasTotals}
+use Rattle.rope_tree.specs.Tree.{Tree, AreChildren, tree_over, height_of, breaks_of}
+use Rattle.rope_tree.specs.LeafTree.{IsLeafOf}
+use Rattle.rope_tree.specs.Totals.{HasTotals}
 use Rattle.rope_tree.specs.declared.node.View.{View}
 use Rattle.rope_tree.specs.declared.node.View.TheVariants.{Leaf, Inner}
 use Rattle.rope_tree.specs.declared.node.Nodes.{Nodes}
 use Rattle.rope_tree.specs.declared.node.Nodes.TheVariants.{One, Two}
-
--- a leaf with this text
-pub record IsLeafOf (t : Tree) (leaf : List ℕ) : Type 0 where
-  pub is : t ≡ leaf_tree t.breaks leaf
-  pub fits : byte_len leaf ≤ 984
-  pub scalars : all_scalars leaf ≡ true
 
 -- an inner node over these children, with these running totals
 pub record IsInnerOf (t : Tree) (ts : List Tree) (totals : List TextInfo) : Type 0 where
@@ -23,10 +16,10 @@ pub record IsInnerOf (t : Tree) (ts : List Tree) (totals : List TextInfo) : Type
   pub totals_right : HasTotals (breaks_of ts) totals ts
 
 abbrev pub IsViewOf : Tree → View → Type 0
-IsViewOf t (Leaf l) = IsLeafOf t l.now
-IsViewOf t (Inner v w) = IsInnerOf t (trees v.now) w.now
+IsViewOf t (Leaf l) = IsLeafOf t l
+IsViewOf t (Inner v w) = IsInnerOf t v.now w.now
 
 -- one node or two, in order
 abbrev pub trees_in : Nodes → List Tree
-trees_in (One a) = a.value ∷ []
-trees_in (Two a b) = a.value ∷ b.value ∷ []
+trees_in (One a) = a ∷ []
+trees_in (Two a b) = a ∷ b ∷ []

@@ -2,7 +2,6 @@
 ghost use Rattle.std.specs.Prelude.{◌≡◌, ◌+◌, ◌-◌, ◌*◌, ◌/◌, ◌<◌, ◌≤◌, length, IfOk};
 ghost use Rattle.std.specs.Str.{chars};
 ghost use Rattle.rope_tree.specs.Tree.{text, joined, leaves_of, height_of, breaks_of, IsTree};
-ghost use Rattle.rope_tree.specs.Listed.{trees};
 ghost use Rattle.rope_tree.specs.Siblings.{AreSiblings};
 
 use crate::children::{copied, share};
@@ -11,7 +10,6 @@ use crate::node::{Node, make_inner};
 use crate::node_text::{NodeText, first_leaf_len};
 use rope_text::{LineBreaks, MAX_BYTES, MAX_CHILDREN};
 use std::alloc::{AllocError, Global};
-use std::rc::Rc;
 
 /// The leaves of a text that is not empty, in order, each but the last of 981 bytes or more.
 fn leaf_nodes(
@@ -19,12 +17,12 @@ fn leaf_nodes(
     whole: &str,
     breaks: LineBreaks,
     made: &mut u64,
-) -> Result<Vec<Rc<Node>>, AllocError>
+) -> Result<Vec<Node>, AllocError>
     requires { 0 < length whole.now }
-    ensures siblings { IfOk result (λ nodes. AreSiblings breaks 0 (trees nodes.items)) }
-    ensures text { IfOk result (λ nodes. joined (trees nodes.items) ≡ chars whole.now) }
-    ensures some { IfOk result (λ nodes. 1 ≤ length (trees nodes.items)) }
-    ensures few { IfOk result (λ nodes. length (leaves_of (trees nodes.items)) ≤ (length whole.now + 980) / 981) }
+    ensures siblings { IfOk result (λ nodes. AreSiblings breaks 0 nodes.items) }
+    ensures text { IfOk result (λ nodes. joined nodes.items ≡ chars whole.now) }
+    ensures some { IfOk result (λ nodes. 1 ≤ length nodes.items) }
+    ensures few { IfOk result (λ nodes. length (leaves_of nodes.items) ≤ (length whole.now + 980) / 981) }
     ensures made { IfOk result (λ nodes. made.new ≤ made.old + length nodes.items) }
 {
     let mut nodes = Vec::new(alloc);
@@ -54,16 +52,12 @@ fn group_len(left: usize, groups: usize) -> usize
 }
 
 /// The nodes one level up: as few as can hold these, of 12 to 24 children each.
-fn level_over(
-    alloc: Global,
-    nodes: &[Rc<Node>],
-    made: &mut u64,
-) -> Result<Vec<Rc<Node>>, AllocError>
-    requires siblings { AreSiblings (breaks_of (trees nodes.now)) (height_of (trees nodes.now)) (trees nodes.now) }
-    requires many { 24 < length (trees nodes.now) }
-    ensures siblings { IfOk result (λ level. AreSiblings (breaks_of (trees nodes.now)) (height_of (trees nodes.now) + 1) (trees level.items)) }
-    ensures leaves { IfOk result (λ level. leaves_of (trees level.items) ≡ leaves_of (trees nodes.now)) }
-    ensures few { IfOk result (λ level. length (trees level.items) ≡ (length (trees nodes.now) + 23) / 24) }
+fn level_over(alloc: Global, nodes: &[Node], made: &mut u64) -> Result<Vec<Node>, AllocError>
+    requires siblings { AreSiblings (breaks_of nodes.now) (height_of nodes.now) nodes.now }
+    requires many { 24 < length nodes.now }
+    ensures siblings { IfOk result (λ level. AreSiblings (breaks_of nodes.now) (height_of nodes.now + 1) level.items) }
+    ensures leaves { IfOk result (λ level. leaves_of level.items ≡ leaves_of nodes.now) }
+    ensures few { IfOk result (λ level. length level.items ≡ (length nodes.now + 23) / 24) }
     ensures made { IfOk result (λ level. made.new ≤ made.old + length level.items) }
 {
     let mut groups = nodes.len().div_ceil(MAX_CHILDREN);
@@ -80,16 +74,12 @@ fn level_over(
 }
 
 /// The tree over the nodes, level by level up to one root.
-pub(crate) fn root_over(
-    alloc: Global,
-    nodes: Vec<Rc<Node>>,
-    made: &mut u64,
-) -> Result<Rc<Node>, AllocError>
-    requires siblings { AreSiblings (breaks_of (trees nodes.items)) (height_of (trees nodes.items)) (trees nodes.items) }
-    requires some { 1 ≤ length (trees nodes.items) }
-    ensures leaves { IfOk result (λ node. node.value.leaves ≡ leaves_of (trees nodes.items)) }
-    ensures breaks { IfOk result (λ node. node.value.breaks ≡ breaks_of (trees nodes.items)) }
-    ensures tree { IfOk result (λ node. IsTree node.value) }
+pub(crate) fn root_over(alloc: Global, nodes: Vec<Node>, made: &mut u64) -> Result<Node, AllocError>
+    requires siblings { AreSiblings (breaks_of nodes.items) (height_of nodes.items) nodes.items }
+    requires some { 1 ≤ length nodes.items }
+    ensures leaves { IfOk result (λ node. node.leaves ≡ leaves_of nodes.items) }
+    ensures breaks { IfOk result (λ node. node.breaks ≡ breaks_of nodes.items) }
+    ensures tree { IfOk result (λ node. IsTree node) }
     ensures made { IfOk result (λ _. made.new ≤ made.old + length nodes.items) }
 {
     let mut level = nodes;
@@ -110,12 +100,12 @@ pub fn build(
     whole: &str,
     breaks: LineBreaks,
     made: &mut u64,
-) -> Result<Rc<Node>, AllocError>
-    ensures text { IfOk result (λ node. text node.value ≡ chars whole.now) }
-    ensures breaks { IfOk result (λ node. node.value.breaks ≡ breaks) }
-    ensures tree { IfOk result (λ node. IsTree node.value) }
-    ensures few { IfOk result (λ node. length node.value.leaves ≤ (length whole.now + 980) / 981) }
-    ensures made { IfOk result (λ node. made.new ≤ made.old + 2 * length node.value.leaves + 1) }
+) -> Result<Node, AllocError>
+    ensures text { IfOk result (λ node. text node ≡ chars whole.now) }
+    ensures breaks { IfOk result (λ node. node.breaks ≡ breaks) }
+    ensures tree { IfOk result (λ node. IsTree node) }
+    ensures few { IfOk result (λ node. length node.leaves ≤ (length whole.now + 980) / 981) }
+    ensures made { IfOk result (λ node. made.new ≤ made.old + 2 * length node.leaves + 1) }
 {
     if whole.is_empty() {
         return Ok(leaf_of(alloc, breaks, NodeText::new(), made)?);

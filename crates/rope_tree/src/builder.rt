@@ -4,7 +4,6 @@ ghost use Rattle.std.specs.Str.{chars, IsCharBoundary};
 ghost use Rattle.rope_text.specs.Text.{byte_len};
 ghost use Rattle.rope_text.specs.Cutting.{parts_crlf};
 ghost use Rattle.rope_tree.specs.Tree.{text, joined, leaves_of, IsTree};
-ghost use Rattle.rope_tree.specs.Listed.{trees};
 ghost use Rattle.rope_tree.specs.Fronts.{AreFrontNodes};
 
 use crate::build::root_over;
@@ -16,7 +15,6 @@ use rope_text::{LineBreaks, MAX_BYTES};
 use std::alloc::{AllocError, Global};
 use std::marker::Model;
 use std::mem;
-use std::rc::Rc;
 
 // More bytes than a leaf can have, even where the last of them begin a character or are a CR.
 const MAX_AHEAD_BYTES: usize = MAX_BYTES + 4;
@@ -114,15 +112,15 @@ fn cut_front(rest: &mut NodeText, text: &str) -> First
 fn cut_leaves(
     alloc: Global,
     breaks: LineBreaks,
-    leaves: &mut Vec<Rc<Node>>,
+    leaves: &mut Vec<Node>,
     rest: &mut NodeText,
     text: &str,
 ) -> Result<(), AllocError>
     requires some { 0 < length text.now }
-    requires nodes { AreFrontNodes breaks (joined (trees leaves.old.items) ++ (rest.old ++ chars text.now)) (trees leaves.old.items) (rest.old ++ chars text.now) }
-    ensures nodes { IfOk result (λ _. AreFrontNodes breaks (joined (trees leaves.old.items) ++ (rest.old ++ chars text.now)) (trees leaves.new.items) rest.new) }
-    ensures long { IfOk result (λ _. 981 * length (leaves_of (trees leaves.new.items)) + byte_len rest.new
-        ≤ 981 * length (leaves_of (trees leaves.old.items)) + byte_len rest.old + length text.now) }
+    requires nodes { AreFrontNodes breaks (joined leaves.old.items ++ (rest.old ++ chars text.now)) leaves.old.items (rest.old ++ chars text.now) }
+    ensures nodes { IfOk result (λ _. AreFrontNodes breaks (joined leaves.old.items ++ (rest.old ++ chars text.now)) leaves.new.items rest.new) }
+    ensures long { IfOk result (λ _. 981 * length (leaves_of leaves.new.items) + byte_len rest.new
+        ≤ 981 * length (leaves_of leaves.old.items) + byte_len rest.old + length text.now) }
     ensures followed { IfOk result (λ _. 0 < byte_len rest.new) }
 {
     let mut left = text;
@@ -139,15 +137,15 @@ fn cut_leaves(
 fn append_to(
     alloc: Global,
     breaks: LineBreaks,
-    leaves: &mut Vec<Rc<Node>>,
+    leaves: &mut Vec<Node>,
     rest: &mut NodeText,
     text: &str,
 ) -> Result<(), AllocError>
     requires some { 0 < length text.now }
-    requires nodes { AreFrontNodes breaks (joined (trees leaves.old.items) ++ (rest.old ++ chars text.now)) (trees leaves.old.items) (rest.old ++ chars text.now) }
-    ensures nodes { IfOk result (λ _. AreFrontNodes breaks (joined (trees leaves.old.items) ++ (rest.old ++ chars text.now)) (trees leaves.new.items) rest.new) }
-    ensures long { IfOk result (λ _. 981 * length (leaves_of (trees leaves.new.items)) + byte_len rest.new
-        ≤ 981 * length (leaves_of (trees leaves.old.items)) + byte_len rest.old + length text.now) }
+    requires nodes { AreFrontNodes breaks (joined leaves.old.items ++ (rest.old ++ chars text.now)) leaves.old.items (rest.old ++ chars text.now) }
+    ensures nodes { IfOk result (λ _. AreFrontNodes breaks (joined leaves.old.items ++ (rest.old ++ chars text.now)) leaves.new.items rest.new) }
+    ensures long { IfOk result (λ _. 981 * length (leaves_of leaves.new.items) + byte_len rest.new
+        ≤ 981 * length (leaves_of leaves.old.items) + byte_len rest.old + length text.now) }
     ensures followed { IfOk result (λ _. 0 < byte_len rest.new) }
 {
     if rest.len() + text.len() > MAX_BYTES {
@@ -162,7 +160,7 @@ fn append_to(
 pub struct Builder {
     alloc: Global,
     breaks: LineBreaks,
-    leaves: Vec<Rc<Node>>,
+    leaves: Vec<Node>,
     rest: NodeText,
     bytes: usize,
 }
@@ -231,12 +229,12 @@ impl Builder {
 
     /// The tree of what was passed in, with at most one leaf for each 981 bytes and one for the rest. The nodes that it
     /// makes are counted, and those that were made before are not.
-    pub fn finish(self, made: &mut u64) -> Result<Rc<Node>, AllocError>
-        ensures text { IfOk result (λ node. text node.value ≡ self.text) }
-        ensures breaks { IfOk result (λ node. node.value.breaks ≡ self.breaks) }
-        ensures tree { IfOk result (λ node. IsTree node.value) }
-        ensures few { IfOk result (λ node. length node.value.leaves ≤ (byte_len self.text + 980) / 981) }
-        ensures made { IfOk result (λ node. made.new ≤ made.old + length node.value.leaves + 1) }
+    pub fn finish(self, made: &mut u64) -> Result<Node, AllocError>
+        ensures text { IfOk result (λ node. text node ≡ self.text) }
+        ensures breaks { IfOk result (λ node. node.breaks ≡ self.breaks) }
+        ensures tree { IfOk result (λ node. IsTree node) }
+        ensures few { IfOk result (λ node. length node.leaves ≤ (byte_len self.text + 980) / 981) }
+        ensures made { IfOk result (λ node. made.new ≤ made.old + length node.leaves + 1) }
     {
         let rest = leaf_of(self.alloc, self.breaks, self.rest, made)?;
         if self.leaves.is_empty() {

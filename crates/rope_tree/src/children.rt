@@ -1,25 +1,23 @@
 //! Lists of shared nodes.
 ghost use Rattle.std.specs.Prelude.{◌≡◌, ◌+◌, ◌≤◌, ◌++◌, [], ◌∷◌, length, IfOk};
 ghost use Rattle.rope_tree.specs.Tree.{leaves_of, height_of, breaks_of};
-ghost use Rattle.rope_tree.specs.Listed.{trees};
 ghost use Rattle.rope_tree.specs.View.{trees_in};
 ghost use Rattle.rope_tree.specs.Siblings.{AreSiblings, AreParts};
 
 use crate::node::{Node, Nodes, make_inner};
 use rope_text::MAX_CHILDREN;
 use std::alloc::{AllocError, Global};
-use std::rc::Rc;
 
 /// The same node once more.
-pub fn share(node: &Rc<Node>) -> Result<Rc<Node>, AllocError>
-    ensures { IfOk result (λ r. r.value ≡ node.now.value) }
+pub fn share(node: &Node) -> Result<Node, AllocError>
+    ensures { IfOk result (λ r. r ≡ node.now) }
 {
-    node.clone()
+    node.share()
 }
 
 /// Appends the nodes.
-pub fn push_all(list: &mut Vec<Rc<Node>>, nodes: &[Rc<Node>]) -> Result<(), AllocError>
-    ensures { IfOk result (λ _. trees list.new.items ≡ trees list.old.items ++ trees nodes.now) }
+pub fn push_all(list: &mut Vec<Node>, nodes: &[Node]) -> Result<(), AllocError>
+    ensures { IfOk result (λ _. list.new.items ≡ list.old.items ++ nodes.now) }
 {
     for node in nodes {
         list.push(share(node)?)?;
@@ -30,11 +28,11 @@ pub fn push_all(list: &mut Vec<Rc<Node>>, nodes: &[Rc<Node>]) -> Result<(), Allo
 /// The nodes before, one or two, and the nodes after.
 pub fn splice(
     alloc: Global,
-    before: &[Rc<Node>],
+    before: &[Node],
     middle: Nodes,
-    after: &[Rc<Node>],
-) -> Result<Vec<Rc<Node>>, AllocError>
-    ensures { IfOk result (λ v. trees v.items ≡ trees before.now ++ (trees_in middle ++ trees after.now)) }
+    after: &[Node],
+) -> Result<Vec<Node>, AllocError>
+    ensures { IfOk result (λ v. v.items ≡ before.now ++ (trees_in middle ++ after.now)) }
 {
     let mut list = Vec::with_capacity(alloc, MAX_CHILDREN + 1)?;
     push_all(&mut list, before)?;
@@ -50,8 +48,8 @@ pub fn splice(
 }
 
 /// The nodes once more.
-pub fn copied(alloc: Global, nodes: &[Rc<Node>]) -> Result<Vec<Rc<Node>>, AllocError>
-    ensures { IfOk result (λ v. trees v.items ≡ trees nodes.now) }
+pub fn copied(alloc: Global, nodes: &[Node]) -> Result<Vec<Node>, AllocError>
+    ensures { IfOk result (λ v. v.items ≡ nodes.now) }
 {
     let mut list = Vec::with_capacity(alloc, MAX_CHILDREN)?;
     push_all(&mut list, nodes)?;
@@ -59,8 +57,8 @@ pub fn copied(alloc: Global, nodes: &[Rc<Node>]) -> Result<Vec<Rc<Node>>, AllocE
 }
 
 /// Two nodes in a row.
-pub fn pair(alloc: Global, first: Rc<Node>, second: Rc<Node>) -> Result<Vec<Rc<Node>>, AllocError>
-    ensures { IfOk result (λ v. trees v.items ≡ first.value ∷ second.value ∷ []) }
+pub fn pair(alloc: Global, first: Node, second: Node) -> Result<Vec<Node>, AllocError>
+    ensures { IfOk result (λ v. v.items ≡ first ∷ second ∷ []) }
 {
     let mut list = Vec::with_capacity(alloc, MAX_CHILDREN)?;
     list.push(first)?;
@@ -69,12 +67,12 @@ pub fn pair(alloc: Global, first: Rc<Node>, second: Rc<Node>) -> Result<Vec<Rc<N
 }
 
 /// A node over the nodes, or two over a half of them each where one can't hold them.
-pub fn pack(alloc: Global, nodes: Vec<Rc<Node>>, made: &mut u64) -> Result<Nodes, AllocError>
-    requires siblings { AreSiblings (breaks_of (trees nodes.items)) (height_of (trees nodes.items)) (trees nodes.items) }
-    requires at_least_two { 2 ≤ length (trees nodes.items) }
-    requires at_most_48 { length (trees nodes.items) ≤ 48 }
-    ensures leaves { IfOk result (λ p. leaves_of (trees_in p) ≡ leaves_of (trees nodes.items)) }
-    ensures shape { IfOk result (λ p. AreParts (breaks_of (trees nodes.items)) (length (trees nodes.items)) (length (trees nodes.items)) (height_of (trees nodes.items) + 1) (trees_in p)) }
+pub fn pack(alloc: Global, nodes: Vec<Node>, made: &mut u64) -> Result<Nodes, AllocError>
+    requires siblings { AreSiblings (breaks_of nodes.items) (height_of nodes.items) nodes.items }
+    requires at_least_two { 2 ≤ length nodes.items }
+    requires at_most_48 { length nodes.items ≤ 48 }
+    ensures leaves { IfOk result (λ p. leaves_of (trees_in p) ≡ leaves_of nodes.items) }
+    ensures shape { IfOk result (λ p. AreParts (breaks_of nodes.items) (length nodes.items) (length nodes.items) (height_of nodes.items + 1) (trees_in p)) }
     ensures made { made.new ≤ made.old + 2 }
     ensures rises { made.old ≤ made.new }
 {

@@ -14,7 +14,7 @@ use rope_text::{Steps, TextInfo};
 /// The empty leaf of a tree with no text, which answers every look-up.
 fn no_chunk(node: &Node) -> Found<'_>
     requires { byte_len (text node.now) ≡ 0 }
-    ensures { (k : ℕ) → IsChunkAt node.now k result.leaf.now result.before }
+    ensures { (k : ℕ) → IsChunkAt node.now k result.leaf result.before }
 {
     let _ = node.height();
     match node.view() {
@@ -29,7 +29,7 @@ fn no_chunk(node: &Node) -> Found<'_>
 /// The chunk that holds a byte; at the end of the text the last chunk.
 pub fn chunk_at_byte(node: &Node, byte_idx: usize) -> Found<'_>
     requires { byte_idx ≤ byte_len (text node.now) }
-    ensures { IsChunkAt node.now (chunk_index_at_byte node.now.leaves byte_idx) result.leaf.now result.before }
+    ensures { IsChunkAt node.now (chunk_index_at_byte node.now.leaves byte_idx) result.leaf result.before }
 {
     let _ = node.height();
     let len = node.info().bytes;
@@ -42,7 +42,7 @@ pub fn chunk_at_byte(node: &Node, byte_idx: usize) -> Found<'_>
 /// The chunk that holds a character; at the end of the text the last chunk.
 pub fn chunk_at_char(node: &Node, char_idx: usize) -> Found<'_>
     requires { char_idx ≤ length (text node.now) }
-    ensures { IsChunkAt node.now (chunk_index_at_char node.now.leaves char_idx) result.leaf.now result.before }
+    ensures { IsChunkAt node.now (chunk_index_at_char node.now.leaves char_idx) result.leaf result.before }
 {
     let _ = node.height();
     let info = node.info();
@@ -60,7 +60,7 @@ pub fn chunk_at_char(node: &Node, char_idx: usize) -> Found<'_>
 /// The first chunk by whose end so many line breaks have ended; where there are fewer, the last chunk.
 pub fn chunk_at_line_break(node: &Node, line_break_idx: usize) -> Found<'_>
     requires { line_break_idx ≤ line_count node.now.breaks (text node.now) }
-    ensures { IsChunkAt node.now (chunk_index_at_line_break node.now.breaks node.now.leaves line_break_idx) result.leaf.now result.before }
+    ensures { IsChunkAt node.now (chunk_index_at_line_break node.now.breaks node.now.leaves line_break_idx) result.leaf result.before }
 {
     let _ = node.height();
     let info = node.info();

@@ -26,8 +26,7 @@ pub fn byte_to_char(node: &Node, byte_idx: usize, steps: &mut Steps) -> usize
         return info.chars;
     }
     let found = leaf_at(node, Unit::Byte, byte_idx, steps);
-    let leaf = found.leaf.as_str();
-    found.before.chars + str_utils::byte_to_char_idx(leaf, byte_idx - found.before.bytes)
+    found.before.chars + found.leaf.byte_to_char_idx(byte_idx - found.before.bytes)
 }
 
 /// The line that a byte lies on.
@@ -65,8 +64,7 @@ pub fn char_to_byte(node: &Node, char_idx: usize, steps: &mut Steps) -> usize
         return info.bytes;
     }
     let found = leaf_at(node, Unit::Char, char_idx, steps);
-    let leaf = found.leaf.as_str();
-    found.before.bytes + str_utils::char_to_byte_idx(leaf, char_idx - found.before.chars)
+    found.before.bytes + found.leaf.char_to_byte_idx(char_idx - found.before.chars)
 }
 
 /// The line that a character lies on.
@@ -84,9 +82,8 @@ pub fn char_to_line(node: &Node, char_idx: usize, steps: &mut Steps) -> usize
         return info.break_count;
     }
     let found = leaf_at(node, Unit::Char, char_idx, steps);
-    let leaf = found.leaf.as_str();
     let at = char_idx - found.before.chars;
-    found.before.break_count + str_utils::char_to_line_with(leaf, at, node.line_breaks())
+    found.before.break_count + found.leaf.char_to_line_with(at, node.line_breaks())
 }
 
 /// The code unit at which a character starts; at the end of the text its length in code units.
@@ -104,9 +101,8 @@ pub fn char_to_utf16(node: &Node, char_idx: usize, steps: &mut Steps) -> usize
         return info.chars + info.utf16_surrogates;
     }
     let found = leaf_at(node, Unit::Char, char_idx, steps);
-    let leaf = found.leaf.as_str();
     let units = found.before.chars + found.before.utf16_surrogates;
-    units + str_utils::char_to_utf16_idx(leaf, char_idx - found.before.chars)
+    units + found.leaf.char_to_utf16_idx(char_idx - found.before.chars)
 }
 
 /// The character that holds a code unit; at the end of the text the end.
@@ -124,9 +120,8 @@ pub fn utf16_to_char(node: &Node, utf16_idx: usize, steps: &mut Steps) -> usize
         return info.chars;
     }
     let found = leaf_at(node, Unit::CodeUnit, utf16_idx, steps);
-    let leaf = found.leaf.as_str();
     let units = found.before.chars + found.before.utf16_surrogates;
-    found.before.chars + str_utils::utf16_to_char_idx(leaf, utf16_idx - units)
+    found.before.chars + found.leaf.utf16_to_char_idx(utf16_idx - units)
 }
 
 /// The character at which a line starts; past the last line the end of the text.

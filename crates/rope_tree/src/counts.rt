@@ -9,7 +9,6 @@ ghost use Rattle.rope_tree.specs.Removal.{KeepsEnds};
 
 use crate::node_text::NodeText;
 use crate::short_text::ShortText;
-use rope_text::str_utils::char_to_byte_idx;
 use rope_text::{LineBreaks, TextInfo};
 
 /// Whether CR is the last character.
@@ -65,7 +64,7 @@ fn info_between(
 /// The counts of a leaf with another text before its character `at`, by the counts of the leaf.
 pub fn info_with(
     info: TextInfo,
-    leaf: &NodeText,
+    leaf: &ShortText<'_>,
     at: usize,
     added: &ShortText<'_>,
     breaks: LineBreaks,
@@ -75,7 +74,7 @@ pub fn info_with(
     ensures { result ≡ info_of breaks (inserted leaf.now at added.now) }
 {
     let text = leaf.as_str();
-    let place = char_to_byte_idx(text, at);
+    let place = leaf.char_to_byte_idx(at);
     info_between(info, &text[..place], added.as_str(), &text[place..], breaks)
 }
 
@@ -95,7 +94,7 @@ pub fn put_in(
     ensures info { result ≡ info_of breaks (inserted leaf.old at added.now) }
 {
     let text = leaf.as_str();
-    let place = char_to_byte_idx(text, at);
+    let place = ShortText::with_chars(text, info.chars).char_to_byte_idx(at);
     let added = added.as_str();
     let info = info_between(info, &text[..place], added, &text[place..], breaks);
     leaf.insert_bytes(place, added);
@@ -153,7 +152,7 @@ pub fn take_out(
     ensures ends { IfSome result (λ _. KeepsEnds leaf.old (removed leaf.old start end)) }
     ensures kept { IfNone result (leaf.new ≡ leaf.old) }
 {
-    let range = leaf.byte_range(start, end);
+    let range = leaf.byte_range(start, end, info.chars);
     let text = leaf.as_str();
     let front = &text[..range.from];
     let part = &text[range.from..range.to];

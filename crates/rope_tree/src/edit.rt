@@ -16,7 +16,6 @@ use crate::node::{Node, Nodes, make_inner};
 use crate::short_text::ShortText;
 use rope_text::Steps;
 use std::alloc::{AllocError, Global};
-use std::rc::Rc;
 
 /// Whether an LF stands at a place.
 pub fn is_lf(node: &Node, at: usize) -> bool
@@ -38,20 +37,17 @@ fn goes_right(node: &Node, at: usize, added: &ShortText<'_>) -> bool
 
 /// Puts a text of at most 981 bytes before the character `at`, where no node on the way is shared and the leaf has room;
 /// returns whether it did. It takes no memory.
-pub fn insert_in_place(root: &mut Rc<Node>, at: usize, added: &ShortText<'_>) -> bool
-    requires within { at ≤ length (text root.old.value) }
+pub fn insert_in_place(root: &mut Node, at: usize, added: &ShortText<'_>) -> bool
+    requires within { at ≤ length (text root.old) }
     requires some { 1 ≤ length added.now }
-    requires fits { byte_len (text root.old.value) + byte_len added.now < 2 ^ 63 }
-    ensures text { result ≡ true → text root.new.value ≡ inserted (text root.old.value) at added.now }
-    ensures breaks { root.new.value.breaks ≡ root.old.value.breaks }
-    ensures tree { result ≡ true → IsTree root.new.value }
+    requires fits { byte_len (text root.old) + byte_len added.now < 2 ^ 63 }
+    ensures text { result ≡ true → text root.new ≡ inserted (text root.old) at added.now }
+    ensures breaks { root.new.breaks ≡ root.old.breaks }
+    ensures tree { result ≡ true → IsTree root.new }
     ensures kept { result ≡ false → root.new ≡ root.old }
 {
     let to_right = goes_right(root, at, added);
-    match Rc::get_mut(root) {
-        Some(node) => node.insert_in_place(at, added, to_right),
-        None => false,
-    }
+    root.insert_in_place(at, added, to_right)
 }
 
 /// Puts a text of at most 981 bytes before the character `at`, where no node on the way is shared, the leaf has no room for it,
@@ -59,28 +55,25 @@ pub fn insert_in_place(root: &mut Rc<Node>, at: usize, added: &ShortText<'_>) ->
 /// part alone; where that is refused, nothing is changed.
 fn insert_by_cut(
     alloc: Global,
-    root: &mut Rc<Node>,
+    root: &mut Node,
     at: usize,
     added: &ShortText<'_>,
     made: &mut u64,
 ) -> Result<bool, AllocError>
-    requires within { at ≤ length (text root.old.value) }
+    requires within { at ≤ length (text root.old) }
     requires some { 1 ≤ length added.now }
     requires short { byte_len added.now ≤ 981 }
-    requires fits { byte_len (text root.old.value) + byte_len added.now < 2 ^ 63 }
-    ensures text { IfOk result (λ did. did ≡ true → text root.new.value ≡ inserted (text root.old.value) at added.now) }
-    ensures breaks { root.new.value.breaks ≡ root.old.value.breaks }
-    ensures tree { IfOk result (λ did. did ≡ true → IsTree root.new.value) }
+    requires fits { byte_len (text root.old) + byte_len added.now < 2 ^ 63 }
+    ensures text { IfOk result (λ did. did ≡ true → text root.new ≡ inserted (text root.old) at added.now) }
+    ensures breaks { root.new.breaks ≡ root.old.breaks }
+    ensures tree { IfOk result (λ did. did ≡ true → IsTree root.new) }
     ensures kept { IfOk result (λ did. did ≡ false → root.new ≡ root.old) }
     ensures err { OnErr result (root.new ≡ root.old) }
     ensures made { made.new ≤ made.old + 1 }
     ensures unmade { IfOk result (λ did. did ≡ false → made.new ≡ made.old) }
 {
     let to_right = goes_right(root, at, added);
-    match Rc::get_mut(root) {
-        Some(node) => node.insert_by_cut(alloc, at, added, to_right, made),
-        None => Ok(false),
-    }
+    root.insert_by_cut(alloc, at, added, to_right, made)
 }
 
 /// One tree over the nodes that an insert into `old` made.
@@ -91,11 +84,11 @@ fn root_of(
     added: &ShortText<'_>,
     at: usize,
     made: &mut u64,
-) -> Result<Rc<Node>, AllocError>
+) -> Result<Node, AllocError>
     requires inserted { IsInserted old.now (trees_in nodes) (inserted (text old.now) at added.now) }
     requires fits { byte_len (text old.now) + byte_len added.now < 2 ^ 63 }
-    ensures text { IfOk result (λ node. text node.value ≡ inserted (text old.now) at added.now) }
-    ensures breaks { IfOk result (λ node. node.value.breaks ≡ old.now.breaks) }
+    ensures text { IfOk result (λ node. text node ≡ inserted (text old.now) at added.now) }
+    ensures breaks { IfOk result (λ node. node.breaks ≡ old.now.breaks) }
     ensures made { made.new ≤ made.old + 1 }
     ensures rises { made.old ≤ made.new }
 {
@@ -116,13 +109,13 @@ pub fn insert_short(
     at: usize,
     added: &ShortText<'_>,
     made: &mut u64,
-) -> Result<Rc<Node>, AllocError>
+) -> Result<Node, AllocError>
     requires within { at ≤ length (text node.now) }
     requires some { 1 ≤ length added.now }
     requires short { byte_len added.now ≤ 981 }
     requires fits { byte_len (text node.now) + byte_len added.now < 2 ^ 63 }
-    ensures text { IfOk result (λ new. text new.value ≡ inserted (text node.now) at added.now) }
-    ensures breaks { IfOk result (λ new. new.value.breaks ≡ node.now.breaks) }
+    ensures text { IfOk result (λ new. text new ≡ inserted (text node.now) at added.now) }
+    ensures breaks { IfOk result (λ new. new.breaks ≡ node.now.breaks) }
     ensures made { made.new ≤ made.old + 2 * node.now.height + 3 }
     ensures some_made { made.old < 18446744073709551615 → made.old < made.new }
 {
@@ -139,20 +132,20 @@ pub const MAX_SHORT_BYTES: usize = 981;
 /// takes the old one's place last of all.
 pub fn insert_at(
     alloc: Global,
-    root: &mut Rc<Node>,
+    root: &mut Node,
     at: usize,
     added: &str,
     made: &mut u64,
 ) -> Result<(), AllocError>
-    requires within { at ≤ length (text root.old.value) }
+    requires within { at ≤ length (text root.old) }
     requires some { 1 ≤ length added.now }
     requires short { length added.now ≤ 981 }
-    requires fits { byte_len (text root.old.value) + length added.now < 2 ^ 63 }
-    ensures text { OnOk result (text root.new.value ≡ inserted (text root.old.value) at (chars added.now)) }
-    ensures breaks { root.new.value.breaks ≡ root.old.value.breaks }
-    ensures tree { IsTree root.new.value }
+    requires fits { byte_len (text root.old) + length added.now < 2 ^ 63 }
+    ensures text { OnOk result (text root.new ≡ inserted (text root.old) at (chars added.now)) }
+    ensures breaks { root.new.breaks ≡ root.old.breaks }
+    ensures tree { IsTree root.new }
     ensures err { OnErr result (root.new ≡ root.old) }
-    ensures made { made.new ≤ made.old + 2 * root.old.value.height + 3 }
+    ensures made { made.new ≤ made.old + 2 * root.old.height + 3 }
 {
     let _ = root.height();
     let added = ShortText::new(added);

@@ -5,7 +5,7 @@ ghost use Rattle.rope_text.specs.Edit.{inserted};
 ghost use Rattle.rope_text.specs.TextInfo.{info_of};
 ghost use Rattle.rope_tree.specs.Search.{count_of};
 ghost use Rattle.rope_tree.specs.Tree.{text, leaf_tree, IsTree};
-ghost use Rattle.rope_tree.specs.Listed.{trees, HasTotals};
+ghost use Rattle.rope_tree.specs.Totals.{HasTotals};
 ghost use Rattle.rope_tree.specs.View.{trees_in};
 ghost use Rattle.rope_tree.specs.Insert.{MayInsert, IsInserted};
 
@@ -18,7 +18,6 @@ use crate::search::{Unit, char_to_hold, place_of};
 use crate::short_text::ShortText;
 use rope_text::{LineBreaks, Steps, TextInfo};
 use std::alloc::{AllocError, Global};
-use std::rc::Rc;
 
 /// A leaf of its own with this text.
 pub fn leaf_of(
@@ -26,9 +25,9 @@ pub fn leaf_of(
     breaks: LineBreaks,
     leaf: NodeText,
     made: &mut u64,
-) -> Result<Rc<Node>, AllocError>
-    ensures ok { IfOk result (λ node. node.value ≡ leaf_tree breaks leaf) }
-    ensures tree { IfOk result (λ node. IsTree node.value) }
+) -> Result<Node, AllocError>
+    ensures ok { IfOk result (λ node. node ≡ leaf_tree breaks leaf) }
+    ensures tree { IfOk result (λ node. IsTree node) }
     ensures made { made.new ≤ made.old + 1 }
     ensures added { made.old < 18446744073709551615 → made.new ≡ made.old + 1 }
 {
@@ -41,7 +40,7 @@ pub fn leaf_of(
 fn insert_into_leaf(
     alloc: Global,
     node: &Node,
-    leaf: &NodeText,
+    leaf: &ShortText<'_>,
     at: usize,
     added: &ShortText<'_>,
     made: &mut u64,
@@ -91,7 +90,7 @@ pub fn insert(
 {
     let _ = node.height();
     match node.view() {
-        View::Leaf(leaf) => insert_into_leaf(alloc, node, leaf, at, added, made),
+        View::Leaf(leaf) => insert_into_leaf(alloc, node, &leaf, at, added, made),
         View::Inner(children, totals) => {
             let held = char_to_hold(at, to_right);
             let place = place_of(totals, Unit::Char, held, &mut Steps::new());

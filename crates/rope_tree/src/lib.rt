@@ -9,6 +9,7 @@ pub mod conversions;
 pub mod counts;
 pub mod edit;
 pub mod insert;
+mod leaf;
 mod leaf_bytes;
 mod leaf_info;
 pub mod lookup;

@@ -11,15 +11,14 @@ ghost use Rattle.rope_tree.specs.Found.{IsFound};
 ghost use Rattle.rope_tree.specs.StepBounds.{HaveRoom, LooksUp};
 
 use crate::node::{Node, View};
-use crate::node_text::NodeText;
 use crate::search::{Unit, count, place_of};
-use rope_text::str_utils::char_to_byte_idx;
+use crate::short_text::ShortText;
 use rope_text::{Steps, TextInfo};
 
 /// A leaf, and the counts of the text before it.
 #[derive(Drop)]
 pub struct Found<'a> {
-    pub leaf: &'a NodeText,
+    pub leaf: ShortText<'a>,
     pub before: TextInfo,
 }
 
@@ -44,7 +43,7 @@ pub fn leaf_at<'a>(node: &'a Node, unit: Unit, at: usize, steps: &mut Steps) -> 
     requires within { at < count_of unit (info_of node.now.breaks (text node.now)) }
     requires room { steps.old.nodes + node.now.height + 1 < 2 ^ 64 }
     requires room_to_compare { steps.old.compares + 5 * node.now.height < 2 ^ 64 }
-    ensures found { IsFound unit at node.now result.leaf.now result.before }
+    ensures found { IsFound unit at node.now result.leaf result.before }
     ensures nodes { steps.new.nodes ≡ steps.old.nodes + node.now.height + 1 }
     ensures compares { steps.new.compares ≤ steps.old.compares + 5 * node.now.height }
     ensures counted { steps.old.compares + node.now.height ≤ steps.new.compares }
@@ -124,6 +123,6 @@ pub fn char_at(node: &Node, char_idx: usize, steps: &mut Steps) -> char
 {
     let found = leaf_at(node, Unit::Char, char_idx, steps);
     let leaf = found.leaf.as_str();
-    let at = char_to_byte_idx(leaf, char_idx - found.before.chars);
+    let at = found.leaf.char_to_byte_idx(char_idx - found.before.chars);
     first_char(&leaf[at..])
 }

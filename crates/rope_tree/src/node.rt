@@ -1,15 +1,15 @@
-//! Nodes: a leaf's text, or the list of children with running totals. No other module sees their fields.
-ghost use Rattle.std.specs.Prelude.{◌≡◌, ◌+◌, ◌-◌, ◌<◌, ◌≤◌, ◌^◌, [], ◌∷◌, ◌++◌, length, true, IfOk};
+//! Nodes: an empty text, or a pointer to a leaf or to a list of children. No other module sees their fields.
+ghost use Rattle.std.specs.Prelude.{◌≡◌, ◌+◌, ◌<◌, ◌≤◌, List, length, take, drop, IfOk};
 ghost use Rattle.std.specs.List.{All};
-ghost use Rattle.rope_text.specs.Text.{byte_len};
 ghost use Rattle.rope_text.specs.TextInfo.{info_of};
-ghost use Rattle.rope_tree.specs.Leaves.{AreLeaves};
-ghost use Rattle.rope_tree.specs.Tree.{Tree, text, joined, leaves_of, height_of, breaks_of, leaf_tree, tree_over, IsTree, IsChild, AreChildren};
-ghost use Rattle.rope_tree.specs.Listed.{trees, HasTotals};
+ghost use Rattle.rope_tree.specs.Tree.{Tree, text, joined, height_of, breaks_of, leaf_tree, tree_over, IsTree, AreChildren};
+ghost use Rattle.rope_tree.specs.Totals.{HasTotals};
+ghost use Rattle.rope_tree.specs.Flat.{IsFlat};
 ghost use Rattle.rope_tree.specs.View.{IsViewOf};
 
-use crate::leaf_info::LeafInfo;
+use crate::leaf::Leaf;
 use crate::node_text::NodeText;
+use crate::short_text::ShortText;
 use arrayvec::ArrayVec;
 use rope_text::{LineBreaks, TextInfo};
 use std::alloc::{AllocError, Global};
@@ -24,24 +24,27 @@ mod in_place_removal;
 #[cycle(tree)]
 #[derive(Drop)]
 pub struct Node {
-    height: u8,
-    breaks: LineBreaks,
-    body: Body,
+    form: Form,
 }
 
+/// What a node has. Its kind is known beside the pointer, and an empty text takes no memory.
 #[cycle(tree)]
 #[derive(Drop)]
-enum Body {
-    Leaf(LeafInfo, NodeText),
-    Inner(Children),
+enum Form {
+    Empty(LineBreaks),
+    Leaf(Rc<Leaf>),
+    Inner(Rc<Children>),
 }
 
-/// The children of an inner node, and for each the counts of all children up to and with it.
+/// The children of an inner node, and for each the counts of all children up to and with it. Behind the children empty nodes
+/// keep the places of more.
 #[cycle(tree)]
 #[derive(Drop)]
 struct Children {
+    height: u8,
+    breaks: LineBreaks,
     totals: ArrayVec<TextInfo, 24>,
-    nodes: Vec<Rc<Node>>,
+    nodes: [Node; 24],
 }
 
 impl Model for Children {
@@ -50,17 +53,17 @@ impl Model for Children {
 
     ghost Value = { List Tree };
 
-    ghost use Rattle.rope_tree.specs.Listed.{trees, IsListed, tallest};
+    ghost use Rattle.rope_tree.specs.Listed.{listed, IsListed, tallest};
 
-    ghost view = { λ a. trees a.nodes.items };
+    ghost view = { listed };
 
-    ghost invariant = { λ a. IsListed a };
+    ghost invariant = { IsListed };
 
     ghost size = { tallest };
 
     ghost use Rattle.rope_tree.specs.Falls.{deep_le_tallest};
 
-    ghost size_decreases = { λ a h. deep_le_tallest a.nodes.items };
+    ghost size_decreases = { deep_le_tallest };
 }
 
 impl Model for Node {
@@ -79,25 +82,40 @@ impl Model for Node {
 
     ghost use Rattle.rope_tree.specs.Falls.{deep_le_height};
 
-    ghost size_decreases = { λ a h. deep_le_height a.breaks a.height a.body h.body };
+    ghost size_decreases = { λ a h. deep_le_height a.form h.form };
 }
 
 /// The running totals and the nodes of a list of children.
 #[derive(Drop)]
 struct ListParts<'a> {
     totals: &'a [TextInfo],
-    nodes: &'a [Rc<Node>],
+    nodes: &'a [Node],
 }
 
 impl Children {
     fn parts(&self) -> ListParts<'_>
         ensures totals { HasTotals (breaks_of self.now) result.totals.now self.now }
-        ensures nodes { trees result.nodes.now ≡ self.now }
+        ensures nodes { result.nodes.now ≡ self.now }
     {
+        let totals = self.totals.as_slice();
         ListParts {
-            totals: self.totals.as_slice(),
-            nodes: self.nodes.as_slice(),
+            totals,
+            nodes: &self.nodes[..totals.len()],
         }
+    }
+
+    /// How many levels lie below the node that has these children.
+    fn height(&self) -> usize
+        ensures { result ≡ height_of self.now + 1 }
+    {
+        usize::from(self.height)
+    }
+
+    /// Their set of line breaks.
+    fn line_breaks(&self) -> LineBreaks
+        ensures { result ≡ breaks_of self.now }
+    {
+        self.breaks
     }
 
     /// The counts of all children.
@@ -110,19 +128,26 @@ impl Children {
     }
 
     /// The list of the nodes, with their totals.
-    fn from_nodes(nodes: Vec<Rc<Node>>) -> Children
-        requires { AreChildren (breaks_of (trees nodes.items)) (height_of (trees nodes.items)) (trees nodes.items) }
-        ensures { result ≡ trees nodes.items }
+    fn from_nodes(nodes: Vec<Node>) -> Children
+        requires { AreChildren (breaks_of nodes.items) (height_of nodes.items) nodes.items }
+        ensures { result ≡ nodes.items }
     {
+        let height = (nodes[0].height() + 1) as u8;
+        let breaks = nodes[0].line_breaks();
         let totals = totals_of(nodes.as_slice());
-        Children { totals, nodes }
+        Children {
+            height,
+            breaks,
+            totals,
+            nodes: in_places(nodes),
+        }
     }
 }
 
 /// For each of the nodes the counts of all nodes up to and with it.
-fn totals_of(nodes: &[Rc<Node>]) -> ArrayVec<TextInfo, 24>
-    requires { AreChildren (breaks_of (trees nodes.now)) (height_of (trees nodes.now)) (trees nodes.now) }
-    ensures { HasTotals (breaks_of (trees nodes.now)) result.items (trees nodes.now) }
+fn totals_of(nodes: &[Node]) -> ArrayVec<TextInfo, 24>
+    requires { AreChildren (breaks_of nodes.now) (height_of nodes.now) nodes.now }
+    ensures { HasTotals (breaks_of nodes.now) result.items nodes.now }
 {
     let mut totals = ArrayVec::new();
     let mut total = TextInfo::new();
@@ -133,6 +158,28 @@ fn totals_of(nodes: &[Rc<Node>]) -> ArrayVec<TextInfo, 24>
     totals
 }
 
+/// The nodes in the first of 24 places, with empty ones in the others.
+fn in_places(mut nodes: Vec<Node>) -> [Node; 24]
+    requires { length nodes.items ≤ 24 }
+    ensures nodes { take (length nodes.items) result ≡ nodes.items }
+    ensures others { All IsFlat (drop (length nodes.items) result) }
+{
+    let mut places: [Node; 24] = Default::default();
+    places[..nodes.len()].swap_with_slice(nodes.as_mut_slice());
+    places
+}
+
+impl Default for Node {
+    ghost is_default = { IsFlat };
+
+    /// An empty node.
+    fn default() -> Self {
+        Node {
+            form: Form::Empty(LineBreaks::Unicode),
+        }
+    }
+}
+
 impl Node {
     /// How many levels lie below it: 0 for a leaf, and at most 18. A call of it also says a proof what holds of every node.
     pub fn height(&self) -> usize
@@ -140,23 +187,35 @@ impl Node {
         ensures low { self.now.height ≤ 18 }
         ensures tree { IsTree self.now }
     {
-        usize::from(self.height)
+        match &self.form {
+            Form::Empty(_) => 0,
+            Form::Leaf(leaf) => {
+                let _ = leaf.text();
+                0
+            }
+            Form::Inner(children) => children.height(),
+        }
     }
 
     /// Its set of line breaks.
     pub fn line_breaks(&self) -> LineBreaks
         ensures { result ≡ self.now.breaks }
     {
-        self.breaks
+        match &self.form {
+            Form::Empty(breaks) => *breaks,
+            Form::Leaf(leaf) => leaf.line_breaks(),
+            Form::Inner(children) => children.line_breaks(),
+        }
     }
 
     /// The counts of its text.
     pub fn info(&self) -> TextInfo
         ensures { result ≡ info_of self.now.breaks (text self.now) }
     {
-        match &self.body {
-            Body::Leaf(info, _) => info.info(),
-            Body::Inner(children) => children.total(),
+        match &self.form {
+            Form::Empty(_) => TextInfo::new(),
+            Form::Leaf(leaf) => leaf.info(),
+            Form::Inner(children) => children.total(),
         }
     }
 
@@ -164,28 +223,41 @@ impl Node {
     pub fn view(&self) -> View<'_>
         ensures { IsViewOf self.now result }
     {
-        match &self.body {
-            Body::Leaf(_, leaf) => View::Leaf(leaf),
-            Body::Inner(children) => {
+        match &self.form {
+            Form::Empty(_) => View::Leaf(ShortText::new("")),
+            Form::Leaf(leaf) => View::Leaf(leaf.text()),
+            Form::Inner(children) => {
                 let parts = children.parts();
                 View::Inner(parts.nodes, parts.totals)
             }
         }
+    }
+
+    /// The same node once more.
+    pub fn share(&self) -> Result<Node, AllocError>
+        ensures { IfOk result (λ node. node ≡ self.now) }
+    {
+        let form = match &self.form {
+            Form::Empty(breaks) => Form::Empty(*breaks),
+            Form::Leaf(leaf) => Form::Leaf(leaf.clone()?),
+            Form::Inner(children) => Form::Inner(children.clone()?),
+        };
+        Ok(Node { form })
     }
 }
 
 /// What a node has: a leaf's text, or an inner node's children with their running totals.
 #[derive(Drop)]
 pub enum View<'a> {
-    Leaf(&'a NodeText),
-    Inner(&'a [Rc<Node>], &'a [TextInfo]),
+    Leaf(ShortText<'a>),
+    Inner(&'a [Node], &'a [TextInfo]),
 }
 
 /// One node, or two in a row.
 #[derive(Drop)]
 pub enum Nodes {
-    One(Rc<Node>),
-    Two(Rc<Node>, Rc<Node>),
+    One(Node),
+    Two(Node, Node),
 }
 
 /// Counts a node that is made.
@@ -197,59 +269,42 @@ fn add_made(made: &mut u64)
     *made = made.saturating_add(1);
 }
 
-/// A leaf with this text, whose counts the caller knows.
+/// A leaf with this text, whose counts the caller knows. An empty one takes no memory.
 pub fn make_leaf(
     alloc: Global,
     breaks: LineBreaks,
     leaf: NodeText,
     info: TextInfo,
     made: &mut u64,
-) -> Result<Rc<Node>, AllocError>
+) -> Result<Node, AllocError>
     requires { info ≡ info_of breaks leaf }
-    ensures ok { IfOk result (λ node. node.value ≡ leaf_tree breaks leaf) }
-    ensures tree { IfOk result (λ node. IsTree node.value) }
+    ensures ok { IfOk result (λ node. node ≡ leaf_tree breaks leaf) }
+    ensures tree { IfOk result (λ node. IsTree node) }
     ensures made { made.new ≤ made.old + 1 }
     ensures added { made.old < 18446744073709551615 → made.new ≡ made.old + 1 }
     ensures rises { made.old ≤ made.new }
 {
     add_made(made);
-    let _ = leaf.as_str();
-    let body = Body::Leaf(LeafInfo::new(info), leaf);
-    let node = Rc::new(
-        alloc,
-        Node {
-            height: 0,
-            breaks,
-            body,
-        },
-    )?;
+    let form = if info.bytes == 0 {
+        Form::Empty(breaks)
+    } else {
+        Form::Leaf(Rc::new(alloc, Leaf::new(breaks, leaf, info))?)
+    };
+    let node = Node { form };
     let _ = node.height();
     Ok(node)
 }
 
 /// A node over the children.
-pub fn make_inner(
-    alloc: Global,
-    children: Vec<Rc<Node>>,
-    made: &mut u64,
-) -> Result<Rc<Node>, AllocError>
-    requires { AreChildren (breaks_of (trees children.items)) (height_of (trees children.items)) (trees children.items) }
-    ensures ok { IfOk result (λ node. node.value ≡ tree_over (trees children.items)) }
+pub fn make_inner(alloc: Global, children: Vec<Node>, made: &mut u64) -> Result<Node, AllocError>
+    requires { AreChildren (breaks_of children.items) (height_of children.items) children.items }
+    ensures ok { IfOk result (λ node. node ≡ tree_over children.items) }
     ensures made { made.new ≤ made.old + 1 }
     ensures added { made.old < 18446744073709551615 → made.new ≡ made.old + 1 }
     ensures rises { made.old ≤ made.new }
 {
     add_made(made);
-    let height = (children[0].height() + 1) as u8;
-    let breaks = children[0].line_breaks();
-    let body = Body::Inner(Children::from_nodes(children));
-    let node = Rc::new(
-        alloc,
-        Node {
-            height,
-            breaks,
-            body,
-        },
-    )?;
-    Ok(node)
+    let children = Children::from_nodes(children);
+    let form = Form::Inner(Rc::new(alloc, children)?);
+    Ok(Node { form })
 }

@@ -150,8 +150,29 @@ impl NodeText {
         append_bytes(&mut self.bytes, text.as_bytes());
     }
 
-    /// The bytes that the characters from `start` up to `end` take.
-    pub fn byte_range(&self, start: usize, end: usize) -> ByteRange
+    /// The bytes that the characters from `start` up to `end` take, where the text is known to have `chars` characters: where
+    /// it has as many bytes, nothing is read.
+    pub fn byte_range(&self, start: usize, end: usize, chars: usize) -> ByteRange
+        requires ordered { start ≤ end }
+        requires chars { chars ≡ length self.now }
+        ensures from { result.from ≡ byte_len (take start self.now) }
+        ensures to { result.to ≡ byte_len (take end self.now) }
+        ensures ordered { result.from ≤ result.to }
+        ensures from_boundary { IsCharBoundary (encode_utf8_all self.now) result.from }
+        ensures to_boundary { IsCharBoundary (encode_utf8_all self.now) result.to }
+    {
+        let text = self.as_str();
+        if chars < text.len() {
+            return self.range_of_bytes(start, end);
+        }
+        ByteRange {
+            from: start.min(chars),
+            to: end.min(chars),
+        }
+    }
+
+    // The same, from the text's bytes.
+    fn range_of_bytes(&self, start: usize, end: usize) -> ByteRange
         requires { start ≤ end }
         ensures from { result.from ≡ byte_len (take start self.now) }
         ensures to { result.to ≡ byte_len (take end self.now) }

@@ -11,23 +11,23 @@ use crate::lookup::total_before;
 use crate::node::{Node, Nodes, View, make_inner, make_leaf};
 use crate::node_text::NodeText;
 use crate::search::{Unit, place_of};
+use crate::short_text::ShortText;
 use rope_text::Steps;
 use std::alloc::{AllocError, Global};
-use std::rc::Rc;
 
 /// The leaf without the characters from `start` up to `end`; none where it can't do without them.
 fn leaf_without(
     alloc: Global,
     node: &Node,
-    leaf: &NodeText,
+    leaf: &ShortText<'_>,
     start: usize,
     end: usize,
     made: &mut u64,
-) -> Result<Option<Rc<Node>>, AllocError>
+) -> Result<Option<Node>, AllocError>
     requires leaf { node.now ≡ leaf_tree node.now.breaks leaf.now }
     requires ordered { start < end }
     requires within { end ≤ length leaf.now }
-    ensures ok { IfOk result (λ found. IfSome found (λ new. IsRemoved node.now new.value start end)) }
+    ensures ok { IfOk result (λ found. IfSome found (λ new. IsRemoved node.now new start end)) }
     ensures made { made.new ≤ made.old + 1 }
     ensures some_made { IfOk result (λ found. IfSome found (λ _. made.old < 18446744073709551615 → made.old < made.new)) }
     ensures rises { made.old ≤ made.new }
@@ -48,17 +48,17 @@ pub fn without(
     start: usize,
     end: usize,
     made: &mut u64,
-) -> Result<Option<Rc<Node>>, AllocError>
+) -> Result<Option<Node>, AllocError>
     requires ordered { start < end }
     requires within { end ≤ length (text node.now) }
-    ensures ok { IfOk result (λ found. IfSome found (λ new. IsRemoved node.now new.value start end)) }
+    ensures ok { IfOk result (λ found. IfSome found (λ new. IsRemoved node.now new start end)) }
     ensures made { made.new ≤ made.old + node.now.height + 1 }
     ensures some_made { IfOk result (λ found. IfSome found (λ _. made.old < 18446744073709551615 → made.old < made.new)) }
     ensures rises { made.old ≤ made.new }
 {
     let _ = node.height();
     match node.view() {
-        View::Leaf(leaf) => leaf_without(alloc, node, leaf, start, end, made),
+        View::Leaf(leaf) => leaf_without(alloc, node, &leaf, start, end, made),
         View::Inner(children, totals) => {
             let place = place_of(totals, Unit::Char, start, &mut Steps::new());
             if totals[place].chars < end {
@@ -78,16 +78,13 @@ pub fn without(
 
 /// Takes the characters from `start` up to `end` out where the nodes stand, if they lie in one leaf that may do without them
 /// and no node on the way is shared; returns whether it did. It takes no memory.
-fn remove_in_place(root: &mut Rc<Node>, start: usize, end: usize) -> bool
+fn remove_in_place(root: &mut Node, start: usize, end: usize) -> bool
     requires ordered { start < end }
-    requires within { end ≤ length (text root.old.value) }
-    ensures done { result ≡ true → IsRemoved root.old.value root.new.value start end }
+    requires within { end ≤ length (text root.old) }
+    ensures done { result ≡ true → IsRemoved root.old root.new start end }
     ensures kept { result ≡ false → root.new ≡ root.old }
 {
-    match Rc::get_mut(root) {
-        Some(node) => node.remove_in_place(start, end),
-        None => false,
-    }
+    root.remove_in_place(start, end)
 }
 
 /// Takes the characters from `start` up to `end` out where they lie in one leaf that may do without them; returns whether it did. Where
@@ -95,19 +92,19 @@ fn remove_in_place(root: &mut Rc<Node>, start: usize, end: usize) -> bool
 /// all.
 pub fn remove_at(
     alloc: Global,
-    root: &mut Rc<Node>,
+    root: &mut Node,
     start: usize,
     end: usize,
     made: &mut u64,
 ) -> Result<bool, AllocError>
     requires ordered { start < end }
-    requires within { end ≤ length (text root.old.value) }
-    ensures done { IfOk result (λ did. did ≡ true → text root.new.value ≡ removed (text root.old.value) start end) }
+    requires within { end ≤ length (text root.old) }
+    ensures done { IfOk result (λ did. did ≡ true → text root.new ≡ removed (text root.old) start end) }
     ensures not_done { IfOk result (λ did. did ≡ false → root.new ≡ root.old) }
-    ensures breaks { root.new.value.breaks ≡ root.old.value.breaks }
-    ensures tree { IsTree root.new.value }
+    ensures breaks { root.new.breaks ≡ root.old.breaks }
+    ensures tree { IsTree root.new }
     ensures err { OnErr result (root.new ≡ root.old) }
-    ensures made { made.new ≤ made.old + root.old.value.height + 1 }
+    ensures made { made.new ≤ made.old + root.old.height + 1 }
 {
     let _ = root.height();
     if remove_in_place(root, start, end) {

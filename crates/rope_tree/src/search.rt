@@ -46,17 +46,15 @@ pub fn place_of(totals: &[TextInfo], unit: Unit, at: usize, steps: &mut Steps) -
     ensures made { steps.new.made ≡ steps.old.made }
 {
     let mut base = 0;
-    let mut size = totals.len();
-    while size > 1 {
-        let half = size / 2;
-        let middle = count(totals[base + half - 1], unit);
-        steps.compares += 1;
-        if middle <= at {
-            base += half;
-            size -= half;
-        } else {
-            size = half;
+    let mut room = 32;
+    while room > 1 {
+        let half = room / 2;
+        if base + half < totals.len() {
+            steps.compares += 1;
+            let passes = count(totals[base + half - 1], unit) <= at;
+            base += half * usize::from(passes);
         }
+        room = half;
     }
     base
 }

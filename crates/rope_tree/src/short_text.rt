@@ -1,25 +1,32 @@
-//! A text that goes into a leaf.
+//! A text that goes into a leaf, or lies in one.
 ghost use Rattle.std.specs.Prelude.{◌≡◌, ◌≤◌, true, length};
-ghost use Rattle.std.specs.Str.{chars, all_scalars, encode_utf8_all};
+ghost use Rattle.std.specs.Str.{chars, all_scalars, encode_utf8_all, IsCharBoundary};
 ghost use Rattle.rope_text.specs.Text.{byte_len};
+ghost use Rattle.rope_text.specs.Conversions.{byte_to_char, char_to_byte, char_to_line, char_to_utf16, utf16_to_char};
 
+use rope_text::{LineBreaks, str_utils};
 use std::marker::Model;
 
 /// A text of at most `MAX_BYTES` bytes that lies elsewhere, seen as the list of its characters.
+///
+/// Where it is known to have as many bytes as characters, the indices of a place are the same number, and nothing is read
+/// to convert them.
 #[derive(Drop)]
 pub struct ShortText<'a> {
     text: &'a str,
+    is_narrow: bool,
 }
 
 impl<'a> Model for ShortText<'a> {
-    ghost use Rattle.std.specs.Prelude.{◌≡◌, ℕ, List, true, ◌≤◌, length};
-    ghost use Rattle.std.specs.Str.{chars, is_utf8};
+    ghost use Rattle.std.specs.Prelude.{ℕ, List};
+    ghost use Rattle.std.specs.Str.{chars};
+    ghost use Rattle.rope_tree.specs.Short.{IsShort};
 
     ghost Value = { List ℕ };
 
     ghost view = { λ s. chars s.text.now };
 
-    ghost invariant = { λ s. (is_utf8 s.text.now ≡ true) × (length s.text.now ≤ 984) };
+    ghost invariant = { IsShort };
 }
 
 impl<'a> ShortText<'a> {
@@ -29,7 +36,22 @@ impl<'a> ShortText<'a> {
         ensures value { result ≡ chars text.now }
         ensures len { byte_len result ≡ length text.now }
     {
-        ShortText { text }
+        ShortText {
+            text,
+            is_narrow: false,
+        }
+    }
+
+    /// A text of at most `MAX_BYTES` bytes that is known to have so many characters.
+    pub(crate) fn with_chars(text: &'a str, count: usize) -> ShortText<'a>
+        requires short { length text.now ≤ 984 }
+        requires count { count ≡ length (chars text.now) }
+        ensures { result ≡ chars text.now }
+    {
+        ShortText {
+            text,
+            is_narrow: count == text.len(),
+        }
     }
 
     /// The text.
@@ -48,5 +70,61 @@ impl<'a> ShortText<'a> {
         ensures fits { result ≤ 984 }
     {
         self.as_str().len()
+    }
+
+    /// The byte at which a character starts; past the end, the number of bytes.
+    pub fn char_to_byte_idx(&self, char_idx: usize) -> usize
+        ensures value { result ≡ char_to_byte self.now char_idx }
+        ensures boundary { IsCharBoundary (encode_utf8_all self.now) result }
+    {
+        if self.is_narrow {
+            char_idx.min(self.text.len())
+        } else {
+            str_utils::char_to_byte_idx(self.text, char_idx)
+        }
+    }
+
+    /// The character that holds a byte; past the end, the number of characters.
+    pub fn byte_to_char_idx(&self, byte_idx: usize) -> usize
+        ensures { result ≡ byte_to_char self.now byte_idx }
+    {
+        if self.is_narrow {
+            byte_idx.min(self.text.len())
+        } else {
+            str_utils::byte_to_char_idx(self.text, byte_idx)
+        }
+    }
+
+    /// The code unit at which a character starts; past the end, the number of code units.
+    pub fn char_to_utf16_idx(&self, char_idx: usize) -> usize
+        ensures { result ≡ char_to_utf16 self.now char_idx }
+    {
+        if self.is_narrow {
+            char_idx.min(self.text.len())
+        } else {
+            str_utils::char_to_utf16_idx(self.text, char_idx)
+        }
+    }
+
+    /// The character that holds a code unit; past the end, the number of characters.
+    pub fn utf16_to_char_idx(&self, utf16_idx: usize) -> usize
+        ensures { result ≡ utf16_to_char self.now utf16_idx }
+    {
+        if self.is_narrow {
+            utf16_idx.min(self.text.len())
+        } else {
+            str_utils::utf16_to_char_idx(self.text, utf16_idx)
+        }
+    }
+
+    /// How many line breaks end at or before a character.
+    pub fn char_to_line_with(&self, char_idx: usize, breaks: LineBreaks) -> usize
+        ensures { result ≡ char_to_line breaks self.now char_idx }
+    {
+        if self.is_narrow {
+            str_utils::byte_to_line_with(self.text, char_idx, breaks)
+        } else {
+            str_utils::char_to_line_with(self.text, char_idx, breaks)
+        }
     }
 }

@@ -20,13 +20,12 @@ use rope_tree::lookup::leaf_count;
 use rope_tree::node::Node;
 use std::alloc::{AllocError, Global};
 use std::marker::Model;
-use std::rc::Rc;
 
 /// A text of at most `isize::MAX` bytes, cut into chunks of 1 to `MAX_BYTES` bytes, which are the leaves of a
 /// balanced tree. No cut lies inside a character or between CR and LF.
 #[derive(Drop)]
 pub struct Rope {
-    pub(crate) root: Rc<Node>,
+    pub(crate) root: Node,
     pub(crate) alloc: Global,
 }
 
@@ -36,9 +35,9 @@ impl Model for Rope {
 
     ghost Value = { RopeView };
 
-    ghost view = { λ r. view_of r.root.value };
+    ghost view = { λ r. view_of r.root };
 
-    ghost invariant = { λ r. IsTree r.root.value };
+    ghost invariant = { λ r. IsTree r.root };
 }
 
 /// A clone has its original's text, chunks, set of line breaks and depth. It shares every node with it until one of
@@ -50,7 +49,7 @@ impl Clone for Rope {
 
     fn clone(&self) -> std::result::Result<Self, AllocError> {
         Ok(Rope {
-            root: self.root.clone()?,
+            root: self.root.share()?,
             alloc: self.alloc,
         })
     }

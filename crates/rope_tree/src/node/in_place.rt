@@ -5,13 +5,11 @@ ghost use Rattle.rope_text.specs.Edit.{inserted};
 ghost use Rattle.rope_tree.specs.Tree.{Tree, text, joined, breaks_of, height_of, tree_over, AreChildren};
 ghost use Rattle.rope_tree.specs.Insert.{MayInsert, GoesIn, IsInserted, AreGrown};
 
-use super::{Body, Children, Node};
-use crate::counts::put_in;
-use crate::leaf_info::LeafInfo;
+use super::{Children, Form, Node};
 use crate::lookup::total_before;
 use crate::search::{Unit, char_to_hold, place_of, retotal};
 use crate::short_text::ShortText;
-use rope_text::{MAX_BYTES, Steps};
+use rope_text::Steps;
 use std::rc::Rc;
 
 /// Where a text goes in a list of children: in which of them, and before which character of it.
@@ -53,9 +51,7 @@ impl Children {
         ensures kept { result ≡ false → self.new ≡ self.old }
     {
         let way = self.way_in(at, to_right);
-        let Some(node) = Rc::get_mut(&mut self.nodes[way.place]) else {
-            return false;
-        };
+        let node = &mut self.nodes[way.place];
         let old = node.info();
         if !node.insert_in_place(way.at, added, to_right) {
             return false;
@@ -78,22 +74,16 @@ impl Node {
         ensures done { result ≡ true → IsInserted self.old (self.new ∷ []) (inserted (text self.old) at added.now) }
         ensures kept { result ≡ false → self.new ≡ self.old }
     {
-        match &mut self.body {
-            Body::Leaf(info, leaf) => {
-                if leaf.len() + added.len() > MAX_BYTES {
-                    return false;
-                }
-                let new = put_in(leaf, at, added, info.info(), self.breaks);
-                let _ = leaf.as_str();
-                *info = LeafInfo::new(new);
-                true
-            }
-            Body::Inner(children) => {
-                if !children.insert_in_place(at, added, to_right) {
-                    return false;
-                }
-                true
-            }
+        match &mut self.form {
+            Form::Empty(_) => false,
+            Form::Leaf(leaf) => match Rc::get_mut(leaf) {
+                Some(leaf) => leaf.insert_in_place(at, added),
+                None => false,
+            },
+            Form::Inner(children) => match Rc::get_mut(children) {
+                Some(children) => children.insert_in_place(at, added, to_right),
+                None => false,
+            },
         }
     }
 }

@@ -1,18 +1,15 @@
 //! Inserts of short texts where the nodes stand, into a leaf that has no room: it is cut into two, of which the first stays.
-ghost use Rattle.std.specs.Prelude.{◌≡◌, ◌+◌, ◌<◌, ◌≤◌, ◌^◌, [], ◌∷◌, true, false, length, IfOk, OnOk, OnErr, IfSome, IfNone};
+ghost use Rattle.std.specs.Prelude.{◌≡◌, ◌+◌, ◌<◌, ◌≤◌, ◌^◌, ◌-◌, [], ◌∷◌, true, false, length, take, IfOk, OnOk, OnErr, IfSome, IfNone};
+ghost use Rattle.std.specs.List.{insert};
 ghost use Rattle.rope_text.specs.Text.{byte_len};
 ghost use Rattle.rope_text.specs.Edit.{inserted};
 ghost use Rattle.rope_tree.specs.Tree.{text, joined, breaks_of, height_of, tree_over, AreChildren};
-ghost use Rattle.rope_tree.specs.Listed.{trees, HasTotals};
 ghost use Rattle.rope_tree.specs.Insert.{MayInsert, IsInserted, AreGrown};
 
-use super::{Body, Children, Node, make_leaf, totals_of};
-use crate::counts::info_with;
-use crate::leaf_info::LeafInfo;
-use crate::node_text::NodeText;
+use super::{Children, Form, Node, totals_of};
 use crate::search::retotal;
 use crate::short_text::ShortText;
-use rope_text::{MAX_BYTES, MAX_CHILDREN, TextInfo};
+use rope_text::MAX_CHILDREN;
 use std::alloc::{AllocError, Global};
 use std::rc::Rc;
 
@@ -44,9 +41,7 @@ impl Children {
         if self.nodes[way.place].height() == 0 {
             return self.cut_leaf(alloc, at, added, to_right, made);
         }
-        let Some(node) = Rc::get_mut(&mut self.nodes[way.place]) else {
-            return Ok(false);
-        };
+        let node = &mut self.nodes[way.place];
         let old = node.info();
         if !node.insert_by_cut(alloc, way.at, added, to_right, made)? {
             return Ok(false);
@@ -81,20 +76,25 @@ impl Children {
             return Ok(false);
         }
         let way = self.way_in(at, to_right);
-        self.nodes.reserve(1)?;
-        let Some(node) = Rc::get_mut(&mut self.nodes[way.place]) else {
-            return Ok(false);
-        };
+        let node = &mut self.nodes[way.place];
         let Some(back) = node.cut(alloc, way.at, added, made)? else {
             return Ok(false);
         };
-        match self.nodes.insert(way.place + 1, back) {
-            Ok(()) => {}
-            Err(_) => unreachable!(),
-        }
-        self.totals = totals_of(self.nodes.as_slice());
+        let count = self.totals.len() + 1;
+        put_behind(&mut self.nodes[..count], way.place, back);
+        self.totals = totals_of(&self.nodes[..count]);
         Ok(true)
     }
+}
+
+/// Puts a node behind the one at a place. The last node, an empty one, goes.
+fn put_behind(nodes: &mut [Node], place: usize, node: Node)
+    requires { place + 1 < length nodes.old }
+    ensures { nodes.new ≡ insert (take (length nodes.old - 1) nodes.old) (place + 1) node }
+{
+    let last = nodes.len() - 1;
+    nodes[last] = node;
+    nodes[place + 1..].rotate_right(1);
 }
 
 impl Node {
@@ -120,49 +120,38 @@ impl Node {
         ensures unmade { IfOk result (λ did. did ≡ false → made.new ≡ made.old) }
         ensures made { made.new ≤ made.old + 1 }
     {
-        match &mut self.body {
-            Body::Leaf(..) => Ok(false),
-            Body::Inner(children) => {
-                if !children.insert_by_cut(alloc, at, added, to_right, made)? {
-                    return Ok(false);
-                }
-                Ok(true)
-            }
+        let Form::Inner(children) = &mut self.form else {
+            return Ok(false);
+        };
+        match Rc::get_mut(children) {
+            Some(children) => children.insert_by_cut(alloc, at, added, to_right, made),
+            None => Ok(false),
         }
     }
 
     /// Puts a text before the character `at` of a leaf that has no room for it: leaves the first part here, and answers a leaf
-    /// with the second. None, and nothing changed, where it has room or is no leaf.
+    /// with the second. None, and nothing changed, where it has room, is shared or is no leaf.
     fn cut(
         &mut self,
         alloc: Global,
         at: usize,
         added: &ShortText<'_>,
         made: &mut u64,
-    ) -> Result<Option<Rc<Node>>, AllocError>
+    ) -> Result<Option<Node>, AllocError>
         requires some { 1 ≤ length added.now }
         requires short { byte_len added.now ≤ 981 }
-        ensures cut { IfOk result (λ found. IfSome found (λ back. IsInserted self.old (self.new ∷ back.value ∷ []) (inserted (text self.old) at added.now))) }
+        ensures cut { IfOk result (λ found. IfSome found (λ back. IsInserted self.old (self.new ∷ back ∷ []) (inserted (text self.old) at added.now))) }
         ensures kept { IfOk result (λ found. IfNone found (self.new ≡ self.old)) }
         ensures err { OnErr result (self.new ≡ self.old) }
         ensures unmade { IfOk result (λ found. IfNone found (made.new ≡ made.old)) }
         ensures made { made.new ≤ made.old + 1 }
     {
-        let Body::Leaf(old, leaf) = &mut self.body else {
+        let Form::Leaf(leaf) = &mut self.form else {
             return Ok(None);
         };
-        if leaf.len() + added.len() <= MAX_BYTES {
-            return Ok(None);
+        match Rc::get_mut(leaf) {
+            Some(leaf) => leaf.cut(alloc, at, added, made),
+            None => Ok(None),
         }
-        let info = info_with(old.info(), leaf, at, added, self.breaks);
-        let mut front = NodeText::from_str(leaf.as_str());
-        let back = front.insert_str_split(at, added.as_str());
-        let front_info = TextInfo::from_str(front.as_str(), self.breaks);
-        let back_info = info.minus(front_info);
-        let behind = make_leaf(alloc, self.breaks, back, back_info, made)?;
-        let _ = front.as_str();
-        *leaf = front;
-        *old = LeafInfo::new(front_info);
-        Ok(Some(behind))
     }
 }

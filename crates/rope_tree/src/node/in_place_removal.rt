@@ -3,9 +3,7 @@ ghost use Rattle.std.specs.Prelude.{◌≡◌, ◌<◌, ◌≤◌, true, false, 
 ghost use Rattle.rope_tree.specs.Tree.{text, joined, breaks_of, height_of, AreChildren};
 ghost use Rattle.rope_tree.specs.Removal.{IsRemoved, AreRemoved};
 
-use super::{Body, Children, Node};
-use crate::counts::take_out;
-use crate::leaf_info::LeafInfo;
+use super::{Children, Form, Node};
 use crate::lookup::total_before;
 use crate::search::{Unit, place_of, retotal};
 use rope_text::Steps;
@@ -27,9 +25,7 @@ impl Children {
             return false;
         }
         let before = total_before(self.totals.as_slice(), place).chars;
-        let Some(node) = Rc::get_mut(&mut self.nodes[place]) else {
-            return false;
-        };
+        let node = &mut self.nodes[place];
         let old = node.info();
         if !node.remove_in_place(start - before, end - before) {
             return false;
@@ -50,21 +46,16 @@ impl Node {
         ensures done { result ≡ true → IsRemoved self.old self.new start end }
         ensures kept { result ≡ false → self.new ≡ self.old }
     {
-        match &mut self.body {
-            Body::Leaf(info, leaf) => {
-                let Some(left) = take_out(leaf, start, end, info.info(), self.breaks) else {
-                    return false;
-                };
-                let _ = leaf.as_str();
-                *info = LeafInfo::new(left);
-                true
-            }
-            Body::Inner(children) => {
-                if !children.remove_in_place(start, end) {
-                    return false;
-                }
-                true
-            }
+        match &mut self.form {
+            Form::Empty(_) => false,
+            Form::Leaf(leaf) => match Rc::get_mut(leaf) {
+                Some(leaf) => leaf.remove_in_place(start, end),
+                None => false,
+            },
+            Form::Inner(children) => match Rc::get_mut(children) {
+                Some(children) => children.remove_in_place(start, end),
+                None => false,
+            },
         }
     }
 }

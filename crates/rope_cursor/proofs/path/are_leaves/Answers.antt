@@ -1,16 +1,14 @@
-use Rattle.std.proofs.Common.{◌≡◌, sym, ap, ◌∙◌, arith}
+use Rattle.std.proofs.Common.{◌≡◌, ap, arith}
 use Rattle.std.proofs.lemmas.List.{take_all}
 use Rattle.std.proofs.lemmas.List.Elements.{All-more}
-use Rattle.std.specs.declared.rc.Rc.{Rc}
-use Rattle.std.specs.declared.alloc.Global.{Global}
-use Rattle.rope_tree.specs.declared.node.Node.{Node}
+use Rattle.rope_tree.specs.Tree.{Tree}
 use Rattle.rope_cursor.proofs.path.are_leaves.Goals as goal
 
 pub loop-node-preserved : goal.loop-node-preserved
 loop-node-preserved c =
-    let low = λ (rc : Rc Node Global). rc.value.height ≡ 0 in
+    let low = λ (rc : Tree). rc.height ≡ 0 in
     let leaf = ap (λ t. t.height) c.in-Leaf.ensures.is in
-    let own : low c.node-item.result = ap (λ n. n.height) (sym c.deref.ensures) ∙ leaf in
+    let own : low c.node-item.result = leaf in
     All-more low c.args.nodes.now c.loop-node.node-index c.node-item.result c.loop-node-test.true c.loop-node.invariant (rw c.node-item.is at own)
 
 pub returns : goal.returns

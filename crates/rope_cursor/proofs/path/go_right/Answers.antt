@@ -1,24 +1,24 @@
-use Rattle.std.proofs.Common.{◌+◌, ◌∷◌, []}
+use Rattle.std.proofs.Common.{◌+◌, ◌∷◌, [], refl}
 use Rattle.std.specs.Str.{chars}
 use Rattle.rope_cursor.specs.Path.{around, place_of}
 use Rattle.rope_cursor.proofs.Paths.{GoesDown, next_goes, next_is}
-use Rattle.rope_cursor.proofs.path.go_right.Goals.{After-deref}
+use Rattle.rope_cursor.proofs.path.go_right.Goals.{After-index-children-at}
 use Rattle.rope_cursor.proofs.path.go_right.Goals as goal
 
-down : (c : After-deref) → GoesDown c.args.frames.now c.args.level c.index-slots-level.result.children (c.index-slots-level.result.at + 1) c.deref.result.now (around c.args.frames.now c.args.depth (chars c.args.leaf.now ∷ []))
+down : (c : After-index-children-at) → GoesDown c.args.frames.now c.args.level c.index-slots-level.result.children (c.index-slots-level.result.at + 1) c.index-children-at.result (around c.args.frames.now c.args.depth (chars c.args.leaf.now ∷ []))
 down c =
-    next_goes c.args.frames.now c.args.depth c.args.level c.index-slots-level.result c.index-children-at.result c.deref.result.now (chars c.args.leaf.now) c.requires.frames c.requires.level
-    c.index-slots-level.is c.index-children-at.is c.deref.ensures
+    next_goes c.args.frames.now c.args.depth c.args.level c.index-slots-level.result c.index-children-at.result c.index-children-at.result (chars c.args.leaf.now) c.requires.frames c.requires.level
+    c.index-slots-level.is c.index-children-at.is refl
 
 pub reach_first-requires-clause-frames : goal.reach_first-requires-clause-frames
-reach_first-requires-clause-frames c = (down (goal.at.reach_first-requires-clause-frames c).After-deref).frames_are
+reach_first-requires-clause-frames c = (down (goal.at.reach_first-requires-clause-frames c).After-index-children-at).frames_are
 
 pub returns-clause-leads : goal.returns-clause-leads
 returns-clause-leads c =
-    let d = down (goal.at.returns-clause-leads c).After-deref in
+    let d = down (goal.at.returns-clause-leads c).After-index-children-at in
     rw d.whole_is at c.reach_first.ensures.leads
 
 pub returns-clause-next : goal.returns-clause-next
 returns-clause-next c =
-    next_is c.args.frames.now c.args.depth c.args.level c.index-slots-level.result c.index-children-at.result c.deref.result.now (chars c.args.leaf.now) c.requires.frames c.requires.level
-    c.index-slots-level.is c.index-children-at.is c.deref.ensures (place_of c.reach_first.new.frames c.reach_first.result.0 (chars c.reach_first.result.1.now)) c.reach_first.ensures.before c.reach_first.ensures.leads.whole_is
+    next_is c.args.frames.now c.args.depth c.args.level c.index-slots-level.result c.index-children-at.result c.index-children-at.result (chars c.args.leaf.now) c.requires.frames c.requires.level
+    c.index-slots-level.is c.index-children-at.is refl (place_of c.reach_first.new.frames c.reach_first.result.0 (chars c.reach_first.result.1.now)) c.reach_first.ensures.before c.reach_first.ensures.leads.whole_is

@@ -1,26 +1,24 @@
-use Rattle.std.proofs.Common.{◌≡◌, ◌+◌, ◌-◌, ◌<◌, ◌∷◌, [], length, take, drop, sym, ap, subst, arith, rules, tests}
+use Rattle.std.proofs.Common.{◌≡◌, ◌+◌, ◌-◌, ◌<◌, ◌∷◌, [], length, take, drop, sym, ap, subst, arith, rules, tests, refl}
 use Rattle.std.proofs.lemmas.List.{take_all, length-drop}
 use Rattle.std.specs.List.{All}
 use Rattle.std.specs.Str.{chars}
-use Rattle.std.specs.declared.rc.Rc.{Rc}
-use Rattle.std.specs.declared.alloc.Global.{Global}
-use Rattle.rope_tree.specs.declared.node.Node.{Node}
 use Rattle.rope_cursor.specs.Path.{around, IsLow}
 use Rattle.rope_cursor.proofs.Siblings.{siblings_low, last_goes, passed, last_low}
-use Rattle.rope_cursor.proofs.path.to_last_leaf.Goals.{After-deref}
+use Rattle.rope_tree.specs.Tree.{Tree}
+use Rattle.rope_cursor.proofs.path.to_last_leaf.Goals.{After-index-children-at}
 use Rattle.rope_cursor.proofs.path.to_last_leaf.Goals as goal
 
 -- the slice is all that comes after the own child
-rest : (c : After-deref) → take (length c.index-slots-level.result.children.now - (c.index-slots-level.result.at + 1)) (drop (c.index-slots-level.result.at + 1) c.index-slots-level.result.children.now)
+rest : (c : After-index-children-at) → take (length c.index-slots-level.result.children.now - (c.index-slots-level.result.at + 1)) (drop (c.index-slots-level.result.at + 1) c.index-slots-level.result.children.now)
     ≡ drop (c.index-slots-level.result.at + 1) c.index-slots-level.result.children.now
 rest c =
     let f = c.index-slots-level.result in
     take_all (length f.children.now - (f.at + 1)) (drop (f.at + 1) f.children.now) (omega (arith, length-drop (f.at + 1) f.children.now))
 
-leaves : (c : After-deref) → All (λ rc. rc.value.height ≡ 0) (drop (c.index-slots-level.result.at + 1) c.index-slots-level.result.children.now)
-leaves c = subst (λ rcs. All (λ (rc : Rc Node Global). rc.value.height ≡ 0) rcs) (rest c) c.if-not-are_leaves.ensures
+leaves : (c : After-index-children-at) → All (λ rc. rc.height ≡ 0) (drop (c.index-slots-level.result.at + 1) c.index-slots-level.result.children.now)
+leaves c = subst (λ rcs. All (λ (rc : Tree). rc.height ≡ 0) rcs) (rest c) c.if-not-are_leaves.ensures
 
-more : (c : After-deref) → c.index-slots-level.result.at + 1 < length c.index-slots-level.result.children.now
+more : (c : After-index-children-at) → c.index-slots-level.result.at + 1 < length c.index-slots-level.result.children.now
 more c =
     let f = c.index-slots-level.result in
     let rcs = drop (f.at + 1) f.children.now in
@@ -30,24 +28,24 @@ more c =
 pub lowest_text-requires : goal.lowest_text-requires
 lowest_text-requires c =
     last_low c.args.frames.now c.args.depth c.index-slots-level.result (around c.args.frames.now c.args.depth (chars c.args.leaf.now ∷ [])) c.requires.frames c.requires.some c.index-slots-level.is (leaves c)
-    c.index-children-at.result c.deref.result.now (more c) c.index-children-at.is c.deref.ensures
+    c.index-children-at.result c.index-children-at.result (more c) c.index-children-at.is refl
 
 pub returns-clause-leaves : goal.returns-clause-leaves
 returns-clause-leaves c =
-    let d = (goal.at.returns-clause-leaves c).After-deref in
-    subst (λ rcs. All (λ (rc : Rc Node Global). IsLow rc.value 0) rcs) (sym (rest d))
+    let d = (goal.at.returns-clause-leaves c).After-index-children-at in
+    subst (λ rcs. All (λ (rc : Tree). IsLow rc 0) rcs) (sym (rest d))
     (siblings_low c.args.frames.now c.args.depth c.index-slots-level.result (around c.args.frames.now c.args.depth (chars c.args.leaf.now ∷ [])) c.requires.frames c.requires.some c.index-slots-level.is (leaves d))
 
 pub returns-clause-ahead : goal.returns-clause-ahead
 returns-clause-ahead c =
-    let d = (goal.at.returns-clause-ahead c).After-deref in
+    let d = (goal.at.returns-clause-ahead c).After-index-children-at in
     rw (rest d) (passed c.args.frames.now c.args.depth c.index-slots-level.result (around c.args.frames.now c.args.depth (chars c.args.leaf.now ∷ [])) c.requires.frames c.requires.some c.index-slots-level.is (leaves d)
-    c.index-children-at.result c.deref.result.now (more d) c.index-children-at.is c.deref.ensures)
+    c.index-children-at.result c.index-children-at.result (more d) c.index-children-at.is refl)
 
 pub returns-clause-leads : goal.returns-clause-leads
 returns-clause-leads c =
-    let d = (goal.at.returns-clause-leads c).After-deref in
+    let d = (goal.at.returns-clause-leads c).After-index-children-at in
     let on : c.args.depth - 1 + 1 ≡ c.args.depth = omega (arith, c.requires.some) in
     let g = last_goes c.args.frames.now c.args.depth c.index-slots-level.result (around c.args.frames.now c.args.depth (chars c.args.leaf.now ∷ [])) c.requires.frames c.requires.some c.index-slots-level.is (leaves d)
-    c.index-children-at.result c.deref.result.now (more d) c.index-children-at.is c.deref.ensures in
+    c.index-children-at.result c.index-children-at.result (more d) c.index-children-at.is refl in
     rw (on, c.lowest_text.ensures) at g.frames_are

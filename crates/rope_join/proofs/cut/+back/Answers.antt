@@ -1,8 +1,7 @@
-use Rattle.std.proofs.Common.{◌≡◌, ℕ, ◌+◌, ◌-◌, ◌<◌, length, take, drop, sym, ap, refl, ◌∙◌, arith}
-use Rattle.std.proofs.lemmas.List.{length-drop, length-map}
+use Rattle.std.proofs.Common.{◌≡◌, ℕ, ◌+◌, ◌-◌, ◌<◌, length, take, drop, ap, arith}
+use Rattle.std.proofs.lemmas.List.{length-drop}
 use Rattle.rope_tree.specs.declared.search.Unit.TheVariants.{Char}
 use Rattle.rope_tree.specs.Tree.{text, joined, height_of, breaks_of}
-use Rattle.rope_tree.specs.Listed.{trees}
 use Rattle.rope_tree.proofs.NodeLaws.{small_totals}
 use Rattle.rope_tree.proofs.Descents.{Descends, descends}
 use Rattle.rope_join.specs.Join.{IsGathered}
@@ -10,36 +9,36 @@ use Rattle.rope_join.proofs.Cuts.{CutsAt, cuts_at, back_alone, after_siblings, b
 use Rattle.rope_join.proofs.cut.+back.Goals.{After-index-children-place}
 use Rattle.rope_join.proofs.cut.+back.Goals as goal
 
-down : (t : ℕ) (c : After-index-children-place t) → Descends (breaks_of (trees c.in-Inner.children.now)) Char c.args.at (trees c.in-Inner.children.now) c.place_of-place.result c.index-children-place.result.value c.total_before-before.result
+down : (t : ℕ) (c : After-index-children-place t) → Descends (breaks_of c.in-Inner.children.now) Char c.args.at c.in-Inner.children.now c.place_of-place.result c.index-children-place.result c.total_before-before.result
 down t c =
-    descends Char c.args.at c.in-Inner.children.now c.in-Inner.totals.now c.place_of-place.result c.index-children-place.result c.index-children-place.result.value c.total_before-before.result
-    c.in-Inner.ensures.children c.in-Inner.ensures.totals_right c.place_of-place.ensures.within c.index-children-place.is refl
+    descends Char c.args.at c.in-Inner.children.now c.in-Inner.totals.now c.place_of-place.result c.index-children-place.result c.total_before-before.result
+    c.in-Inner.ensures.children c.in-Inner.ensures.totals_right c.place_of-place.ensures.within c.index-children-place.is
     c.total_before-before.ensures.first c.total_before-before.ensures.later c.place_of-place.ensures.before c.place_of-place.ensures.past
 
-parts : (t : ℕ) (c : After-index-children-place t) → CutsAt c.args.node.now.value (take c.place_of-place.result (trees c.in-Inner.children.now)) c.index-children-place.result.value (drop (c.place_of-place.result + 1) (trees c.in-Inner.children.now))
+parts : (t : ℕ) (c : After-index-children-place t) → CutsAt c.args.node.now (take c.place_of-place.result c.in-Inner.children.now) c.index-children-place.result (drop (c.place_of-place.result + 1) c.in-Inner.children.now)
 parts t c =
     let d = down t c in
-    let ts = trees c.in-Inner.children.now in
-    cuts_at c.args.node.now.value (breaks_of ts) (height_of ts) ts c.place_of-place.result c.index-children-place.result.value (sym c.deref-2.ensures ∙ c.in-Inner.ensures.is) d.children d.within d.child_is
+    let ts = c.in-Inner.children.now in
+    cuts_at c.args.node.now (breaks_of ts) (height_of ts) ts c.place_of-place.result c.index-children-place.result (c.in-Inner.ensures.is) d.children d.within d.child_is
 
-place : (t : ℕ) (c : After-index-children-place t) → c.args.at ≡ length (joined (take c.place_of-place.result (trees c.in-Inner.children.now))) + (c.args.at - c.total_before-before.result.chars)
+place : (t : ℕ) (c : After-index-children-place t) → c.args.at ≡ length (joined (take c.place_of-place.result c.in-Inner.children.now)) + (c.args.at - c.total_before-before.result.chars)
 place t c =
     let d = down t c in
     omega (arith, d.not_past, ap (λ x. x.chars) d.front_is)
 
-inside : (t : ℕ) (c : After-index-children-place t) → c.args.at - c.total_before-before.result.chars < length (text c.index-children-place.result.value)
+inside : (t : ℕ) (c : After-index-children-place t) → c.args.at - c.total_before-before.result.chars < length (text c.index-children-place.result)
 inside t c =
     let d = down t c in
     omega (arith, d.past, d.not_past)
 
-many : (t : ℕ) (c : After-index-children-place t) → length (drop (c.place_of-place.result + 1) (trees c.in-Inner.children.now)) + (c.place_of-place.result + 1) ≡ length c.in-Inner.children.now
+many : (t : ℕ) (c : After-index-children-place t) → length (drop (c.place_of-place.result + 1) c.in-Inner.children.now) + (c.place_of-place.result + 1) ≡ length c.in-Inner.children.now
 many t c =
     let d = down t c in
-    omega (arith, length-drop (c.place_of-place.result + 1) (trees c.in-Inner.children.now), d.within, length-map c.in-Inner.children.now (λ rc. rc.value))
+    omega (arith, length-drop (c.place_of-place.result + 1) c.in-Inner.children.now, d.within)
 
 pub place_of-place-requires-clause-small : goal.place_of-place-requires-clause-small
 place_of-place-requires-clause-small t c =
-    small_totals _ c.in-Inner.totals.now (trees c.in-Inner.children.now) c.in-Inner.ensures.totals_right c.in-Inner.ensures.children.fits
+    small_totals _ c.in-Inner.totals.now c.in-Inner.children.now c.in-Inner.ensures.totals_right c.in-Inner.ensures.children.fits
 
 pub overflow_sub-at : goal.overflow_sub-at
 overflow_sub-at t c =
@@ -75,7 +74,7 @@ returns-then-place-children-clause-made t c =
 pub gather-requires-clause-siblings : goal.gather-requires-clause-siblings
 gather-requires-clause-siblings t c =
     let e = (goal.at.gather-requires-clause-siblings t c).After-index-children-place in
-    rw (back_trees c.in-Inner.children.now (c.place_of-place.result + 1)) (after_siblings _ _ _ _ (parts t e) (omega (arith, many t e, c.if-place-children.false, c.place_of-place.ensures.within, c.in-Inner.ensures.totals_right.as_many, length-map c.in-Inner.children.now (λ rc. rc.value))))
+    rw (back_trees c.in-Inner.children.now (c.place_of-place.result + 1)) (after_siblings _ _ _ _ (parts t e) (omega (arith, many t e, c.if-place-children.false, c.place_of-place.ensures.within, c.in-Inner.ensures.totals_right.as_many)))
 
 pub returns-in_err-right-in-Inner-clause-made : goal.returns-in_err-right-in-Inner-clause-made
 returns-in_err-right-in-Inner-clause-made t c =
@@ -86,16 +85,16 @@ pub join-requires : goal.join-requires
 join-requires t c =
     let e = (goal.at.join-requires t c).After-index-children-place in
     let less = inside t e in
-    let g : IsGathered (drop (c.place_of-place.result + 1) (trees c.in-Inner.children.now)) c.in_ok-right-in-Inner.right.value = rw (back_trees c.in-Inner.children.now (c.place_of-place.result + 1)) at c.in_ok-right-in-Inner.ensures.ok in
-    back_can_join _ _ _ _ (parts t e) c.args.at _ _ (place t e) (omega (arith, less)) _ (omega (arith, many t e, c.if-place-children.false, c.place_of-place.ensures.within, c.in-Inner.ensures.totals_right.as_many, length-map c.in-Inner.children.now (λ rc. rc.value))) g c.in_ok-part-in-Inner.ensures.back
+    let g : IsGathered (drop (c.place_of-place.result + 1) c.in-Inner.children.now) c.in_ok-right-in-Inner.right = rw (back_trees c.in-Inner.children.now (c.place_of-place.result + 1)) at c.in_ok-right-in-Inner.ensures.ok in
+    back_can_join _ _ _ _ (parts t e) c.args.at _ _ (place t e) (omega (arith, less)) _ (omega (arith, many t e, c.if-place-children.false, c.place_of-place.ensures.within, c.in-Inner.ensures.totals_right.as_many)) g c.in_ok-part-in-Inner.ensures.back
 
 pub returns-in_err-join-in-Inner-clause-made : goal.returns-in_err-join-in-Inner-clause-made
 returns-in_err-join-in-Inner-clause-made t c =
     let e = (goal.at.returns-in_err-join-in-Inner-clause-made t c).After-index-children-place in
-    let g : IsGathered (drop (c.place_of-place.result + 1) (trees c.in-Inner.children.now)) c.in_ok-right-in-Inner.right.value = rw (back_trees c.in-Inner.children.now (c.place_of-place.result + 1)) at c.in_ok-right-in-Inner.ensures.ok in
+    let g : IsGathered (drop (c.place_of-place.result + 1) c.in-Inner.children.now) c.in_ok-right-in-Inner.right = rw (back_trees c.in-Inner.children.now (c.place_of-place.result + 1)) at c.in_ok-right-in-Inner.ensures.ok in
     let s = parts t e in
-    let low = gathered_least _ _ _ _ s.after (omega (arith, many t e, c.if-place-children.false, c.place_of-place.ensures.within, c.in-Inner.ensures.totals_right.as_many, length-map c.in-Inner.children.now (λ rc. rc.value))) g in
-    let high = gathered_most _ _ _ _ s.after (omega (arith, many t e, c.if-place-children.false, c.place_of-place.ensures.within, c.in-Inner.ensures.totals_right.as_many, length-map c.in-Inner.children.now (λ rc. rc.value))) g in
+    let low = gathered_least _ _ _ _ s.after (omega (arith, many t e, c.if-place-children.false, c.place_of-place.ensures.within, c.in-Inner.ensures.totals_right.as_many)) g in
+    let high = gathered_most _ _ _ _ s.after (omega (arith, many t e, c.if-place-children.false, c.place_of-place.ensures.within, c.in-Inner.ensures.totals_right.as_many)) g in
     let part = c.in_ok-part-in-Inner.ensures.back.not_higher in
     omega (arith, s.above, c.in_ok-part-in-Inner.ensures.made_ok, c.in_ok-right-in-Inner.ensures.made, c.join.ensures.made)
 
@@ -103,25 +102,25 @@ pub returns-in_ok-join-in-Inner-clause-back : goal.returns-in_ok-join-in-Inner-c
 returns-in_ok-join-in-Inner-clause-back t c =
     let e = (goal.at.returns-in_ok-join-in-Inner-clause-back t c).After-index-children-place in
     let less = inside t e in
-    let g : IsGathered (drop (c.place_of-place.result + 1) (trees c.in-Inner.children.now)) c.in_ok-right-in-Inner.right.value = rw (back_trees c.in-Inner.children.now (c.place_of-place.result + 1)) at c.in_ok-right-in-Inner.ensures.ok in
-    back_joined _ _ _ _ (parts t e) c.args.at _ _ (place t e) (omega (arith, less)) _ (omega (arith, many t e, c.if-place-children.false, c.place_of-place.ensures.within, c.in-Inner.ensures.totals_right.as_many, length-map c.in-Inner.children.now (λ rc. rc.value))) g c.in_ok-part-in-Inner.ensures.back _ c.in_ok-join-in-Inner.ensures.join
+    let g : IsGathered (drop (c.place_of-place.result + 1) c.in-Inner.children.now) c.in_ok-right-in-Inner.right = rw (back_trees c.in-Inner.children.now (c.place_of-place.result + 1)) at c.in_ok-right-in-Inner.ensures.ok in
+    back_joined _ _ _ _ (parts t e) c.args.at _ _ (place t e) (omega (arith, less)) _ (omega (arith, many t e, c.if-place-children.false, c.place_of-place.ensures.within, c.in-Inner.ensures.totals_right.as_many)) g c.in_ok-part-in-Inner.ensures.back _ c.in_ok-join-in-Inner.ensures.join
 
 pub returns-in_ok-join-in-Inner-clause-made_ok : goal.returns-in_ok-join-in-Inner-clause-made_ok
 returns-in_ok-join-in-Inner-clause-made_ok t c =
     let e = (goal.at.returns-in_ok-join-in-Inner-clause-made_ok t c).After-index-children-place in
-    let g : IsGathered (drop (c.place_of-place.result + 1) (trees c.in-Inner.children.now)) c.in_ok-right-in-Inner.right.value = rw (back_trees c.in-Inner.children.now (c.place_of-place.result + 1)) at c.in_ok-right-in-Inner.ensures.ok in
+    let g : IsGathered (drop (c.place_of-place.result + 1) c.in-Inner.children.now) c.in_ok-right-in-Inner.right = rw (back_trees c.in-Inner.children.now (c.place_of-place.result + 1)) at c.in_ok-right-in-Inner.ensures.ok in
     let s = parts t e in
-    let low = gathered_least _ _ _ _ s.after (omega (arith, many t e, c.if-place-children.false, c.place_of-place.ensures.within, c.in-Inner.ensures.totals_right.as_many, length-map c.in-Inner.children.now (λ rc. rc.value))) g in
-    let high = gathered_most _ _ _ _ s.after (omega (arith, many t e, c.if-place-children.false, c.place_of-place.ensures.within, c.in-Inner.ensures.totals_right.as_many, length-map c.in-Inner.children.now (λ rc. rc.value))) g in
+    let low = gathered_least _ _ _ _ s.after (omega (arith, many t e, c.if-place-children.false, c.place_of-place.ensures.within, c.in-Inner.ensures.totals_right.as_many)) g in
+    let high = gathered_most _ _ _ _ s.after (omega (arith, many t e, c.if-place-children.false, c.place_of-place.ensures.within, c.in-Inner.ensures.totals_right.as_many)) g in
     let part = c.in_ok-part-in-Inner.ensures.back.not_higher in
     omega (arith, s.above, c.in_ok-part-in-Inner.ensures.made_ok, c.in_ok-right-in-Inner.ensures.made, c.in_ok-join-in-Inner.ensures.made, c.in_ok-join-in-Inner.ensures.join.least)
 
 pub returns-in_ok-join-in-Inner-clause-made : goal.returns-in_ok-join-in-Inner-clause-made
 returns-in_ok-join-in-Inner-clause-made t c =
     let e = (goal.at.returns-in_ok-join-in-Inner-clause-made t c).After-index-children-place in
-    let g : IsGathered (drop (c.place_of-place.result + 1) (trees c.in-Inner.children.now)) c.in_ok-right-in-Inner.right.value = rw (back_trees c.in-Inner.children.now (c.place_of-place.result + 1)) at c.in_ok-right-in-Inner.ensures.ok in
+    let g : IsGathered (drop (c.place_of-place.result + 1) c.in-Inner.children.now) c.in_ok-right-in-Inner.right = rw (back_trees c.in-Inner.children.now (c.place_of-place.result + 1)) at c.in_ok-right-in-Inner.ensures.ok in
     let s = parts t e in
-    let low = gathered_least _ _ _ _ s.after (omega (arith, many t e, c.if-place-children.false, c.place_of-place.ensures.within, c.in-Inner.ensures.totals_right.as_many, length-map c.in-Inner.children.now (λ rc. rc.value))) g in
-    let high = gathered_most _ _ _ _ s.after (omega (arith, many t e, c.if-place-children.false, c.place_of-place.ensures.within, c.in-Inner.ensures.totals_right.as_many, length-map c.in-Inner.children.now (λ rc. rc.value))) g in
+    let low = gathered_least _ _ _ _ s.after (omega (arith, many t e, c.if-place-children.false, c.place_of-place.ensures.within, c.in-Inner.ensures.totals_right.as_many)) g in
+    let high = gathered_most _ _ _ _ s.after (omega (arith, many t e, c.if-place-children.false, c.place_of-place.ensures.within, c.in-Inner.ensures.totals_right.as_many)) g in
     let part = c.in_ok-part-in-Inner.ensures.back.not_higher in
     omega (arith, s.above, c.in_ok-part-in-Inner.ensures.made_ok, c.in_ok-right-in-Inner.ensures.made, c.in_ok-join-in-Inner.ensures.made)

@@ -1,43 +1,42 @@
-use Rattle.std.proofs.Common.{◌≡◌, ℕ, ◌+◌, ◌-◌, ◌≤◌, length, take, drop, sym, ap, refl, ◌∙◌, arith}
+use Rattle.std.proofs.Common.{◌≡◌, ℕ, ◌+◌, ◌-◌, ◌≤◌, length, take, drop, ap, arith}
 use Rattle.std.proofs.lemmas.List.{length-take-le}
 use Rattle.rope_tree.specs.declared.search.Unit.TheVariants.{Char}
 use Rattle.rope_tree.specs.Tree.{text, joined, height_of, breaks_of}
-use Rattle.rope_tree.specs.Listed.{trees}
 use Rattle.rope_tree.proofs.NodeLaws.{small_totals}
 use Rattle.rope_tree.proofs.Descents.{Descends, descends}
 use Rattle.rope_join.specs.Join.{IsGathered}
-use Rattle.rope_join.proofs.Cuts.{CutsAt, cuts_at, front_alone, before_siblings, front_can_join, front_joined, gathered_least, gathered_most, front_trees}
+use Rattle.rope_join.proofs.Cuts.{CutsAt, cuts_at, front_alone, before_siblings, front_can_join, front_joined, gathered_least, gathered_most}
 use Rattle.rope_join.proofs.cut.+front.Goals.{After-index-children-place}
 use Rattle.rope_join.proofs.cut.+front.Goals as goal
 
-down : (t : ℕ) (c : After-index-children-place t) → Descends (breaks_of (trees c.in-Inner.children.now)) Char (c.args.at - 1) (trees c.in-Inner.children.now) c.place_of-place.result c.index-children-place.result.value c.total_before-before.result
+down : (t : ℕ) (c : After-index-children-place t) → Descends (breaks_of c.in-Inner.children.now) Char (c.args.at - 1) c.in-Inner.children.now c.place_of-place.result c.index-children-place.result c.total_before-before.result
 down t c =
-    descends Char (c.args.at - 1) c.in-Inner.children.now c.in-Inner.totals.now c.place_of-place.result c.index-children-place.result c.index-children-place.result.value c.total_before-before.result
-    c.in-Inner.ensures.children c.in-Inner.ensures.totals_right c.place_of-place.ensures.within c.index-children-place.is refl
+    descends Char (c.args.at - 1) c.in-Inner.children.now c.in-Inner.totals.now c.place_of-place.result c.index-children-place.result c.total_before-before.result
+    c.in-Inner.ensures.children c.in-Inner.ensures.totals_right c.place_of-place.ensures.within c.index-children-place.is
     c.total_before-before.ensures.first c.total_before-before.ensures.later c.place_of-place.ensures.before c.place_of-place.ensures.past
 
-parts : (t : ℕ) (c : After-index-children-place t) → CutsAt c.args.node.now.value (take c.place_of-place.result (trees c.in-Inner.children.now)) c.index-children-place.result.value (drop (c.place_of-place.result + 1) (trees c.in-Inner.children.now))
+parts : (t : ℕ) (c : After-index-children-place t) → CutsAt c.args.node.now (take c.place_of-place.result c.in-Inner.children.now) c.index-children-place.result (drop (c.place_of-place.result + 1) c.in-Inner.children.now)
 parts t c =
     let d = down t c in
-    let ts = trees c.in-Inner.children.now in
-    cuts_at c.args.node.now.value (breaks_of ts) (height_of ts) ts c.place_of-place.result c.index-children-place.result.value (sym c.deref-3.ensures ∙ c.in-Inner.ensures.is) d.children d.within d.child_is
+    let ts = c.in-Inner.children.now in
+    cuts_at c.args.node.now (breaks_of ts) (height_of ts) ts c.place_of-place.result c.index-children-place.result (c.in-Inner.ensures.is) d.children d.within d.child_is
 
-place : (t : ℕ) (c : After-index-children-place t) → c.args.at ≡ length (joined (take c.place_of-place.result (trees c.in-Inner.children.now))) + (c.args.at - c.total_before-before.result.chars)
+place : (t : ℕ) (c : After-index-children-place t) → c.args.at ≡ length (joined (take c.place_of-place.result c.in-Inner.children.now)) + (c.args.at - c.total_before-before.result.chars)
 place t c =
     let d = down t c in
     omega (arith, d.not_past, ap (λ x. x.chars) d.front_is)
 
-inside : (t : ℕ) (c : After-index-children-place t) → c.args.at - c.total_before-before.result.chars ≤ length (text c.index-children-place.result.value)
+inside : (t : ℕ) (c : After-index-children-place t) → c.args.at - c.total_before-before.result.chars ≤ length (text c.index-children-place.result)
 inside t c =
     let d = down t c in
     omega (arith, d.past, d.not_past, c.requires.some)
 
-many : (t : ℕ) (c : After-index-children-place t) → length (take c.place_of-place.result (trees c.in-Inner.children.now)) ≡ c.place_of-place.result
-many t c = let d = down t c in length-take-le c.place_of-place.result (trees c.in-Inner.children.now) (omega (arith, d.within))
+many : (t : ℕ) (c : After-index-children-place t) → length (take c.place_of-place.result c.in-Inner.children.now) ≡ c.place_of-place.result
+many t c = let d = down t c in length-take-le c.place_of-place.result c.in-Inner.children.now (omega (arith, d.within))
 
 pub place_of-place-requires-clause-small : goal.place_of-place-requires-clause-small
 place_of-place-requires-clause-small t c =
-    small_totals _ c.in-Inner.totals.now (trees c.in-Inner.children.now) c.in-Inner.ensures.totals_right c.in-Inner.ensures.children.fits
+    small_totals _ c.in-Inner.totals.now c.in-Inner.children.now c.in-Inner.ensures.totals_right c.in-Inner.ensures.children.fits
 
 pub overflow_sub-at-in-Inner : goal.overflow_sub-at-in-Inner
 overflow_sub-at-in-Inner t c =
@@ -63,7 +62,7 @@ returns-then-place-eq0-clause-front t c =
 pub gather-requires-clause-siblings : goal.gather-requires-clause-siblings
 gather-requires-clause-siblings t c =
     let e = (goal.at.gather-requires-clause-siblings t c).After-index-children-place in
-    rw (front_trees c.in-Inner.children.now c.place_of-place.result) (before_siblings _ _ _ _ (parts t e) (omega (arith, many t e, c.if-place-eq0.false)))
+    (before_siblings _ _ _ _ (parts t e) (omega (arith, many t e, c.if-place-eq0.false)))
 
 pub returns-in_err-left-in-Inner-clause-made : goal.returns-in_err-left-in-Inner-clause-made
 returns-in_err-left-in-Inner-clause-made t c =
@@ -73,13 +72,13 @@ returns-in_err-left-in-Inner-clause-made t c =
 pub join-requires : goal.join-requires
 join-requires t c =
     let e = (goal.at.join-requires t c).After-index-children-place in
-    let g : IsGathered (take c.place_of-place.result (trees c.in-Inner.children.now)) c.in_ok-left-in-Inner.left.value = rw (front_trees c.in-Inner.children.now c.place_of-place.result) at c.in_ok-left-in-Inner.ensures.ok in
+    let g : IsGathered (take c.place_of-place.result c.in-Inner.children.now) c.in_ok-left-in-Inner.left = c.in_ok-left-in-Inner.ensures.ok in
     front_can_join _ _ _ _ (parts t e) c.args.at _ _ (place t e) (inside t e) _ (omega (arith, many t e, c.if-place-eq0.false)) g c.in_ok-part-in-Inner.ensures.front
 
 pub returns-in_err-join-in-Inner-clause-made : goal.returns-in_err-join-in-Inner-clause-made
 returns-in_err-join-in-Inner-clause-made t c =
     let e = (goal.at.returns-in_err-join-in-Inner-clause-made t c).After-index-children-place in
-    let g : IsGathered (take c.place_of-place.result (trees c.in-Inner.children.now)) c.in_ok-left-in-Inner.left.value = rw (front_trees c.in-Inner.children.now c.place_of-place.result) at c.in_ok-left-in-Inner.ensures.ok in
+    let g : IsGathered (take c.place_of-place.result c.in-Inner.children.now) c.in_ok-left-in-Inner.left = c.in_ok-left-in-Inner.ensures.ok in
     let s = parts t e in
     let low = gathered_least _ _ _ _ s.before (omega (arith, many t e, c.if-place-eq0.false)) g in
     let high = gathered_most _ _ _ _ s.before (omega (arith, many t e, c.if-place-eq0.false)) g in
@@ -89,13 +88,13 @@ returns-in_err-join-in-Inner-clause-made t c =
 pub returns-in_ok-join-in-Inner-clause-front : goal.returns-in_ok-join-in-Inner-clause-front
 returns-in_ok-join-in-Inner-clause-front t c =
     let e = (goal.at.returns-in_ok-join-in-Inner-clause-front t c).After-index-children-place in
-    let g : IsGathered (take c.place_of-place.result (trees c.in-Inner.children.now)) c.in_ok-left-in-Inner.left.value = rw (front_trees c.in-Inner.children.now c.place_of-place.result) at c.in_ok-left-in-Inner.ensures.ok in
+    let g : IsGathered (take c.place_of-place.result c.in-Inner.children.now) c.in_ok-left-in-Inner.left = c.in_ok-left-in-Inner.ensures.ok in
     front_joined _ _ _ _ (parts t e) c.args.at _ _ (place t e) (inside t e) _ (omega (arith, many t e, c.if-place-eq0.false)) g c.in_ok-part-in-Inner.ensures.front _ c.in_ok-join-in-Inner.ensures.join
 
 pub returns-in_ok-join-in-Inner-clause-made_ok : goal.returns-in_ok-join-in-Inner-clause-made_ok
 returns-in_ok-join-in-Inner-clause-made_ok t c =
     let e = (goal.at.returns-in_ok-join-in-Inner-clause-made_ok t c).After-index-children-place in
-    let g : IsGathered (take c.place_of-place.result (trees c.in-Inner.children.now)) c.in_ok-left-in-Inner.left.value = rw (front_trees c.in-Inner.children.now c.place_of-place.result) at c.in_ok-left-in-Inner.ensures.ok in
+    let g : IsGathered (take c.place_of-place.result c.in-Inner.children.now) c.in_ok-left-in-Inner.left = c.in_ok-left-in-Inner.ensures.ok in
     let s = parts t e in
     let low = gathered_least _ _ _ _ s.before (omega (arith, many t e, c.if-place-eq0.false)) g in
     let high = gathered_most _ _ _ _ s.before (omega (arith, many t e, c.if-place-eq0.false)) g in
@@ -105,7 +104,7 @@ returns-in_ok-join-in-Inner-clause-made_ok t c =
 pub returns-in_ok-join-in-Inner-clause-made : goal.returns-in_ok-join-in-Inner-clause-made
 returns-in_ok-join-in-Inner-clause-made t c =
     let e = (goal.at.returns-in_ok-join-in-Inner-clause-made t c).After-index-children-place in
-    let g : IsGathered (take c.place_of-place.result (trees c.in-Inner.children.now)) c.in_ok-left-in-Inner.left.value = rw (front_trees c.in-Inner.children.now c.place_of-place.result) at c.in_ok-left-in-Inner.ensures.ok in
+    let g : IsGathered (take c.place_of-place.result c.in-Inner.children.now) c.in_ok-left-in-Inner.left = c.in_ok-left-in-Inner.ensures.ok in
     let s = parts t e in
     let low = gathered_least _ _ _ _ s.before (omega (arith, many t e, c.if-place-eq0.false)) g in
     let high = gathered_most _ _ _ _ s.before (omega (arith, many t e, c.if-place-eq0.false)) g in

@@ -9,18 +9,18 @@ use Rattle.rope_join.proofs.edit.insert.Goals as goal
 -- the parts and the new text together
 pub append-requires-clause-fits : goal.append-requires-clause-fits
 append-requires-clause-fits c =
-    omega (arith, c.requires.fits, byte_len-parts c.args.at (text c.args.node.now.value), ap byte_len c.in_ok-front.ensures.front.text_is, ap byte_len c.in_ok-middle.ensures.text, byte_len-chars c.args.added.now c.utf8.added)
+    omega (arith, c.requires.fits, byte_len-parts c.args.at (text c.args.node.now), ap byte_len c.in_ok-front.ensures.front.text_is, ap byte_len c.in_ok-middle.ensures.text, byte_len-chars c.args.added.now c.utf8.added)
 
 pub append-requires-2-clause-fits : goal.append-requires-2-clause-fits
 append-requires-2-clause-fits c =
     omega (
       arith,
       c.requires.fits,
-      byte_len-parts c.args.at (text c.args.node.now.value),
+      byte_len-parts c.args.at (text c.args.node.now),
       ap byte_len c.in_ok-front.ensures.front.text_is,
       ap byte_len c.in_ok-front.ensures.back.text_is,
       ap byte_len c.in_ok-middle.ensures.text,
       byte_len-chars c.args.added.now c.utf8.added,
       ap byte_len c.in_ok-first.ensures.text,
-      IsMeasure-byte_len.joined (text c.in_ok-front.field-0.front.value) (text c.in_ok-middle.middle.value),
+      IsMeasure-byte_len.joined (text c.in_ok-front.field-0.front) (text c.in_ok-middle.middle),
     )

@@ -1,28 +1,28 @@
-use Rattle.std.proofs.Common.{ap, ap₂, ◌∙◌}
+use Rattle.std.proofs.Common.{ap₂, ◌∙◌}
 use Rattle.rope_tree.specs.Tree.{leaf_tree}
 use Rattle.rope_join.proofs.Seams.{pair_first, pair_second, pair_joined, chars_crlf}
 use Rattle.rope_join.proofs.edit.join_by_pair.Goals as goal
 
 pub join-requires : goal.join-requires
 join-requires c =
-    let ia = rw c.deref.ensures at c.height.ensures.tree in
-    let ib = rw c.deref-2.ensures at c.height-2.ensures.tree in
-    let breaks = c.line_breaks.ensures ∙ ap (λ t. t.breaks) c.deref-3.ensures in
+    let ia = c.height.ensures.tree in
+    let ib = c.height-2.ensures.tree in
+    let breaks = c.line_breaks.ensures in
     let e = c.in_ok-pair.ensures.ok ∙ ap₂ leaf_tree breaks (c.from_str.ensures.value ∙ chars_crlf) in
-    pair_first c.args.left.now.value _ c.args.right.now.value ia c.in_ok-pair.ensures.tree ib c.requires.same_breaks e c.requires.fits
+    pair_first c.args.left.now _ c.args.right.now ia c.in_ok-pair.ensures.tree ib c.requires.same_breaks e c.requires.fits
 
 pub join-requires-2 : goal.join-requires-2
 join-requires-2 c =
-    let ia = rw c.deref.ensures at c.height.ensures.tree in
-    let ib = rw c.deref-2.ensures at c.height-2.ensures.tree in
-    let breaks = c.line_breaks.ensures ∙ ap (λ t. t.breaks) c.deref-3.ensures in
+    let ia = c.height.ensures.tree in
+    let ib = c.height-2.ensures.tree in
+    let breaks = c.line_breaks.ensures in
     let e = c.in_ok-pair.ensures.ok ∙ ap₂ leaf_tree breaks (c.from_str.ensures.value ∙ chars_crlf) in
-    pair_second c.args.left.now.value _ c.args.right.now.value ia c.in_ok-pair.ensures.tree ib c.requires.same_breaks e c.requires.fits _ c.in_ok-first.ensures.join
+    pair_second c.args.left.now _ c.args.right.now ia c.in_ok-pair.ensures.tree ib c.requires.same_breaks e c.requires.fits _ c.in_ok-first.ensures.join
 
 pub returns-clause-text : goal.returns-clause-text
 returns-clause-text c =
-    let ia = rw c.deref.ensures at c.height.ensures.tree in
-    let ib = rw c.deref-2.ensures at c.height-2.ensures.tree in
-    let breaks = c.line_breaks.ensures ∙ ap (λ t. t.breaks) c.deref-3.ensures in
+    let ia = c.height.ensures.tree in
+    let ib = c.height-2.ensures.tree in
+    let breaks = c.line_breaks.ensures in
     let e = c.in_ok-pair.ensures.ok ∙ ap₂ leaf_tree breaks (c.from_str.ensures.value ∙ chars_crlf) in
-    pair_joined c.args.left.now.value _ c.args.right.now.value ia c.in_ok-pair.ensures.tree ib c.requires.same_breaks e c.requires.fits _ c.in_ok-first.ensures.join _ c.in_ok-join.ensures.join
+    pair_joined c.args.left.now _ c.args.right.now ia c.in_ok-pair.ensures.tree ib c.requires.same_breaks e c.requires.fits _ c.in_ok-first.ensures.join _ c.in_ok-join.ensures.join

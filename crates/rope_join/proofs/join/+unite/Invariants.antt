@@ -2,4 +2,4 @@ use Rattle.std.proofs.Common.{◌+◌}
 use Rattle.rope_join.proofs.join.+unite.Given as goal
 
 abbrev pub decreases-unite : goal.decreases-unite
-decreases-unite l = l.left.now.value.height + l.right.now.value.height
+decreases-unite l = l.left.now.height + l.right.now.height

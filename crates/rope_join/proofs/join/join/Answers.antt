@@ -1,25 +1,22 @@
 use Rattle.std.proofs.Common.{arith, ap, ◌∙◌}
-use Rattle.rope_text.specs.Text.{byte_len}
-use Rattle.rope_tree.specs.Tree.{text, tree_over}
+use Rattle.rope_tree.specs.Tree.{tree_over}
 use Rattle.rope_join.proofs.Whole.{join_empty_right, join_empty_left, join_one, join_two, root_children}
 use Rattle.rope_join.proofs.join.join.Goals as goal
 
 pub returns-then-info-eq0-clause-join : goal.returns-then-info-eq0-clause-join
 returns-then-info-eq0-clause-join c =
-    let i = rw c.deref-2.ensures at c.height-2.ensures.tree in
-    let e = ap (λ t. byte_len (text t)) c.deref-3.ensures in
-    join_empty_right c.args.left.now.value c.args.right.now.value _ i (omega (arith, ap (λ x. x.bytes) c.info.ensures)) c.requires c.in_ok-share.ensures
+    let i = c.height-2.ensures.tree in
+    join_empty_right c.args.left.now c.args.right.now _ i (omega (arith, ap (λ x. x.bytes) c.info.ensures)) c.requires c.in_ok-share.ensures
 
 pub returns-then-info-eq0-2-clause-join : goal.returns-then-info-eq0-2-clause-join
 returns-then-info-eq0-2-clause-join c =
-    let i = rw c.deref.ensures at c.height.ensures.tree in
-    let e = ap (λ t. byte_len (text t)) c.deref-4.ensures in
-    join_empty_left c.args.left.now.value c.args.right.now.value _ i (omega (arith, ap (λ x. x.bytes) c.info-2.ensures)) c.requires c.in_ok-share-2.ensures
+    let i = c.height.ensures.tree in
+    join_empty_left c.args.left.now c.args.right.now _ i (omega (arith, ap (λ x. x.bytes) c.info-2.ensures)) c.requires c.in_ok-share-2.ensures
 
 pub make_inner-requires : goal.make_inner-requires
 make_inner-requires c =
     let u = rw c.in-Two.is at c.in_ok-node.ensures.union in
-    rw c.in_ok-nodes-in-Two.ensures (root_children c.args.left.now.value c.args.right.now.value _ _ u c.requires)
+    rw c.in_ok-nodes-in-Two.ensures (root_children c.args.left.now c.args.right.now _ _ u c.requires)
 
 pub returns-in-One-clause-join : goal.returns-in-One-clause-join
 returns-in-One-clause-join c = join_one _ _ _ (rw c.in-One.is at c.in_ok-node.ensures.union)
@@ -27,4 +24,4 @@ returns-in-One-clause-join c = join_one _ _ _ (rw c.in-One.is at c.in_ok-node.en
 pub returns-in_ok-make_inner-in-Two-clause-join : goal.returns-in_ok-make_inner-in-Two-clause-join
 returns-in_ok-make_inner-in-Two-clause-join c =
     let u = rw c.in-Two.is at c.in_ok-node.ensures.union in
-    join_two c.args.left.now.value c.args.right.now.value _ _ u c.requires _ (c.in_ok-make_inner-in-Two.ensures.ok ∙ ap tree_over c.in_ok-nodes-in-Two.ensures)
+    join_two c.args.left.now c.args.right.now _ _ u c.requires _ (c.in_ok-make_inner-in-Two.ensures.ok ∙ ap tree_over c.in_ok-nodes-in-Two.ensures)

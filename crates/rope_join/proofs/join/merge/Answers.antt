@@ -1,4 +1,4 @@
-use Rattle.std.proofs.Common.{arith, sym, ◌∙◌}
+use Rattle.std.proofs.Common.{arith}
 use Rattle.rope_tree.specs.Search.{IsSmall}
 use Rattle.rope_tree.proofs.Infos.{small_info}
 use Rattle.rope_join.proofs.Unions.{inner_siblings, inner_union}
@@ -7,8 +7,8 @@ use Rattle.rope_join.proofs.join.merge.Goals as goal
 
 both : (c : After-info-then-len-lt-MIN_BYTES-2) → IsSmall c.info.result × IsSmall c.info-then-len-lt-MIN_BYTES-2.result
 both c = (
-  rw (c.info.ensures, c.deref-then-len-lt-MIN_BYTES-2.ensures) (small_info _ _ (rw c.deref.ensures at c.height.ensures.tree).fits),
-  rw (c.info-then-len-lt-MIN_BYTES-2.ensures, c.deref-then-len-lt-MIN_BYTES-2-2.ensures) (small_info _ _ (rw c.deref-2.ensures at c.height-2.ensures.tree).fits),
+  rw c.info.ensures (small_info _ _ (c.height.ensures.tree).fits),
+  rw c.info-then-len-lt-MIN_BYTES-2.ensures (small_info _ _ (c.height-2.ensures.tree).fits),
 )
 
 pub plus-info-requires-clause-chars : goal.plus-info-requires-clause-chars
@@ -22,13 +22,13 @@ plus-info-requires-clause-break_count c = let b = both c in omega (arith, b.0.ch
 
 pub pack-requires-clause-siblings : goal.pack-requires-clause-siblings
 pack-requires-clause-siblings c =
-    let ea = sym c.deref-3.ensures ∙ c.in-Inner.ensures.is in
-    let eb = sym c.deref-in-Inner.ensures ∙ c.in-Inner-view.ensures.is in
+    let ea = c.in-Inner.ensures.is in
+    let eb = c.in-Inner-view.ensures.is in
     rw c.in_ok-nodes-in-Inner.ensures (inner_siblings _ _ _ _ ea eb c.in-Inner.ensures.children c.in-Inner-view.ensures.children c.requires.join c.requires.height)
 
 pub returns-in_ok-pack-in-Inner-clause-union : goal.returns-in_ok-pack-in-Inner-clause-union
 returns-in_ok-pack-in-Inner-clause-union c =
-    let ea = sym c.deref-3.ensures ∙ c.in-Inner.ensures.is in
-    let eb = sym c.deref-in-Inner.ensures ∙ c.in-Inner-view.ensures.is in
+    let ea = c.in-Inner.ensures.is in
+    let eb = c.in-Inner-view.ensures.is in
     let n = c.in_ok-nodes-in-Inner.ensures in
     inner_union _ _ _ _ ea eb c.in-Inner.ensures.children c.in-Inner-view.ensures.children c.requires.join c.requires.height _ (rw n at c.in_ok-pack-in-Inner.ensures.leaves) (rw n at c.in_ok-pack-in-Inner.ensures.shape)

@@ -1,5 +1,5 @@
-use Rattle.std.proofs.Common.{◌≡◌, ◌-◌, ℕ, List, take, ap, ◌∙◌, arith}
-use Rattle.std.specs.Str.{chars}
+use Rattle.std.proofs.Common.{◌≡◌, ◌-◌, ℕ, List, take, ap, sym, subst, ◌∙◌, arith}
+use Rattle.std.specs.Str.{chars, IsCharBoundary}
 use Rattle.rope_text.specs.Text.{byte_len}
 use Rattle.rope_text.specs.TextInfo.{info_of}
 use Rattle.rope_text.proofs.ChunkLaws.{before}
@@ -11,15 +11,15 @@ use Rattle.rope_part.proofs.Edges.{seam_before, end_found}
 use Rattle.rope_part.proofs.edge.end_at.Goals.{After-from_str-front}
 use Rattle.rope_part.proofs.edge.end_at.Goals as goal
 
-front_is : (c : After-from_str-front) → c.from_str-front.result ≡ info_of c.args.node.now.breaks (take (c.args.char_idx - c.leaf_at-found.result.before.chars) c.leaf_at-found.result.leaf.now)
+front_is : (c : After-from_str-front) → c.from_str-front.result ≡ info_of c.args.node.now.breaks (take (c.args.char_idx - c.leaf_at-found.result.before.chars) c.leaf_at-found.result.leaf)
 front_is c =
     c.from_str-front.ensures ∙ ap (λ b. info_of b (chars c.range.result.now)) c.line_breaks.ensures
-    ∙ ap (info_of c.args.node.now.breaks) (chars_front c.as_str-leaf.result.now c.range.result.now c.leaf_at-found.result.leaf.now (c.args.char_idx - c.leaf_at-found.result.before.chars) c.char_to_byte_idx-bytes.result c.as_str-leaf.utf8 c.as_str-leaf.ensures.chars c.char_to_byte_idx-bytes.ensures.value c.range.ensures.value)
+    ∙ ap (info_of c.args.node.now.breaks) (chars_front c.as_str-leaf.result.now c.range.result.now c.leaf_at-found.result.leaf (c.args.char_idx - c.leaf_at-found.result.before.chars) c.char_to_byte_idx-bytes.result c.as_str-leaf.utf8 c.as_str-leaf.ensures.chars (c.char_to_byte_idx-bytes.ensures.value ∙ ap (λ s. byte_len (take (c.args.char_idx - c.leaf_at-found.result.before.chars) s)) (sym c.as_str-leaf.ensures.chars)) c.range.ensures.value)
 
 pub plus-requires : goal.plus-requires
 plus-requires c =
     let small = small_found _ _ _ _ _ c.height.ensures.tree c.leaf_at-found.ensures.found in
-    let leaf : List ℕ = c.leaf_at-found.result.leaf.now in
+    let leaf : List ℕ = c.leaf_at-found.result.leaf in
     let k : ℕ = c.args.char_idx - c.leaf_at-found.result.before.chars in
     let is = front_is (goal.at.plus-requires c).After-from_str-front in
     let less = size_le_all byte_len IsMeasure-byte_len leaf k in
@@ -35,8 +35,11 @@ plus-requires c =
 pub returns : goal.returns
 returns c =
     let found = c.leaf_at-found.ensures.found in
-    let leaf : List ℕ = c.leaf_at-found.result.leaf.now in
+    let leaf : List ℕ = c.leaf_at-found.result.leaf in
     let k : ℕ = c.args.char_idx - c.leaf_at-found.result.before.chars in
     end_found c.args.char_idx c.args.node.now leaf c.leaf_at-found.result.before c.height.ensures.tree found c.plus.result
     (c.plus.ensures.joined c.args.node.now.breaks (before c.args.node.now.leaves found.index) (take k leaf) found.before_is (front_is (goal.at.returns c).After-from_str-front)
     (seam_before c.args.char_idx c.args.node.now leaf c.leaf_at-found.result.before c.height.ensures.tree found))
+
+pub range-requires-clause-end_boundary : goal.range-requires-clause-end_boundary
+range-requires-clause-end_boundary c = subst (λ bs. IsCharBoundary bs c.char_to_byte_idx-bytes.result) (sym c.as_str-leaf.ensures.bytes) c.char_to_byte_idx-bytes.ensures.boundary

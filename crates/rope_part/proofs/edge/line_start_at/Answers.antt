@@ -15,7 +15,7 @@ use Rattle.rope_part.proofs.edge.line_start_at.Goals.{After-before_line-front}
 use Rattle.rope_part.proofs.edge.line_start_at.Goals as goal
 
 front_is : (c : After-before_line-front) → c.before_line-front.result
-    ≡ info_of c.args.node.now.breaks (take (line_start c.args.node.now.breaks c.leaf_at-found.result.leaf.now (c.args.line_idx - c.leaf_at-found.result.before.break_count)) c.leaf_at-found.result.leaf.now)
+    ≡ info_of c.args.node.now.breaks (take (line_start c.args.node.now.breaks c.leaf_at-found.result.leaf (c.args.line_idx - c.leaf_at-found.result.before.break_count)) c.leaf_at-found.result.leaf)
 front_is c =
     let l : ℕ = c.args.line_idx - c.leaf_at-found.result.before.break_count in
     c.before_line-front.ensures
@@ -25,9 +25,9 @@ front_is c =
 pub before_line-front-requires-clause-within : goal.before_line-front-requires-clause-within
 before_line-front-requires-clause-within c =
     let l : ℕ = c.args.line_idx - c.leaf_at-found.result.before.break_count in
-    let same : break_count c.line_breaks.result (chars c.as_str-leaf.result.now) ≡ break_count c.args.node.now.breaks c.leaf_at-found.result.leaf.now =
+    let same : break_count c.line_breaks.result (chars c.as_str-leaf.result.now) ≡ break_count c.args.node.now.breaks c.leaf_at-found.result.leaf =
     ap (λ b. break_count b (chars c.as_str-leaf.result.now)) c.line_breaks.ensures ∙ ap (break_count c.args.node.now.breaks) c.as_str-leaf.ensures.chars in
-    omega (arith, same, line_within c.args.line_idx c.args.node.now c.leaf_at-found.result.leaf.now c.leaf_at-found.result.before c.leaf_at-found.ensures.found c.requires.later)
+    omega (arith, same, line_within c.args.line_idx c.args.node.now c.leaf_at-found.result.leaf c.leaf_at-found.result.before c.leaf_at-found.ensures.found c.requires.later)
 
 pub range_from-requires : goal.range_from-requires
 range_from-requires c = λ some.
@@ -38,21 +38,21 @@ range_from-requires c = λ some.
 pub overflow_add-before : goal.overflow_add-before
 overflow_add-before c =
     let small = small_found _ _ _ _ _ c.height.ensures.tree c.leaf_at-found.ensures.found in
-    let leaf : List ℕ = c.leaf_at-found.result.leaf.now in
+    let leaf : List ℕ = c.leaf_at-found.result.leaf in
     let k : ℕ = line_start c.args.node.now.breaks leaf (c.args.line_idx - c.leaf_at-found.result.before.break_count) in
     omega (arith, ap (λ x. x.bytes) (front_is (goal.at.overflow_add-before c).After-before_line-front), c.as_str-leaf.ensures.fits, size_le_all byte_len IsMeasure-byte_len leaf k)
 
 pub overflow_add-before-2 : goal.overflow_add-before-2
 overflow_add-before-2 c =
     let small = small_found _ _ _ _ _ c.height.ensures.tree c.leaf_at-found.ensures.found in
-    let leaf : List ℕ = c.leaf_at-found.result.leaf.now in
+    let leaf : List ℕ = c.leaf_at-found.result.leaf in
     let k : ℕ = line_start c.args.node.now.breaks leaf (c.args.line_idx - c.leaf_at-found.result.before.break_count) in
     omega (arith, ap (λ x. x.chars) (front_is (goal.at.overflow_add-before-2 c).After-before_line-front), c.as_str-leaf.ensures.fits, length-take k leaf, length-le-encodes leaf)
 
 pub overflow_add-before-3 : goal.overflow_add-before-3
 overflow_add-before-3 c =
     let small = small_found _ _ _ _ _ c.height.ensures.tree c.leaf_at-found.ensures.found in
-    let leaf : List ℕ = c.leaf_at-found.result.leaf.now in
+    let leaf : List ℕ = c.leaf_at-found.result.leaf in
     let k : ℕ = line_start c.args.node.now.breaks leaf (c.args.line_idx - c.leaf_at-found.result.before.break_count) in
     omega (arith, ap (λ x. x.utf16_surrogates) (front_is (goal.at.overflow_add-before-3 c).After-before_line-front), c.as_str-leaf.ensures.fits, count_by-le-length (λ x. nat_le 0x1_0000 x) (take k leaf), length-take k leaf, length-le-encodes leaf)
 
@@ -60,13 +60,13 @@ pub returns-clause-before : goal.returns-clause-before
 returns-clause-before c =
     let e = ap (λ x. x.break_count) c.info.ensures in
     let front = front_is (goal.at.returns-clause-before c).After-before_line-front in
-    line_found c.args.line_idx c.args.node.now c.leaf_at-found.result.leaf.now c.leaf_at-found.result.before c.height.ensures.tree c.leaf_at-found.ensures.found (omega arith) (omega arith)
+    line_found c.args.line_idx c.args.node.now c.leaf_at-found.result.leaf c.leaf_at-found.result.before c.height.ensures.tree c.leaf_at-found.ensures.found (omega arith) (omega arith)
     c.before_line-front.result.bytes c.before_line-front.result.chars c.before_line-front.result.utf16_surrogates
     (ap (λ x. x.bytes) front) (ap (λ x. x.chars) front) (ap (λ x. x.utf16_surrogates) front)
 
 pub returns-clause-rest : goal.returns-clause-rest
 returns-clause-rest c =
-    let leaf : List ℕ = c.leaf_at-found.result.leaf.now in
+    let leaf : List ℕ = c.leaf_at-found.result.leaf in
     let k : ℕ = line_start c.args.node.now.breaks leaf (c.args.line_idx - c.leaf_at-found.result.before.break_count) in
     rw (chars_back c.as_str-leaf.result.now c.range_from.result.now leaf k c.before_line-front.result.bytes c.as_str-leaf.utf8 c.as_str-leaf.ensures.chars
     (ap (λ x. x.bytes) (front_is (goal.at.returns-clause-rest c).After-before_line-front) ∙ ap (λ s. byte_len (take k s)) (sym c.as_str-leaf.ensures.chars)) c.range_from.ensures.value)

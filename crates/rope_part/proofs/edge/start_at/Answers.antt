@@ -1,5 +1,5 @@
-use Rattle.std.proofs.Common.{◌≡◌, ◌-◌, ℕ, List, take, ap, ◌∙◌, arith, nat_le}
-use Rattle.std.specs.Str.{chars}
+use Rattle.std.proofs.Common.{◌≡◌, ◌-◌, ℕ, List, take, ap, sym, subst, ◌∙◌, arith, nat_le}
+use Rattle.std.specs.Str.{chars, IsCharBoundary, IsUtf8}
 use Rattle.std.proofs.lemmas.List.{length-take}
 use Rattle.std.proofs.lemmas.List.Sums.{count_by-le-length}
 use Rattle.std.proofs.lemmas.Str.{length-le-encodes}
@@ -8,45 +8,49 @@ use Rattle.rope_text.specs.Conversions.{char_to_byte, char_to_line}
 use Rattle.rope_text.proofs.Measures.{IsMeasure-byte_len, size_le_all}
 use Rattle.rope_text.proofs.TextParts.{chars_front}
 use Rattle.rope_tree.proofs.Descents.{small_found}
-use Rattle.rope_tree.proofs.FoundLaws.{char_to_line-le}
+use Rattle.rope_tree.proofs.FoundLaws.{char_to_line-le, found_char}
 use Rattle.rope_part.proofs.Edges.{start_found}
-use Rattle.rope_part.proofs.edge.start_at.Goals.{After-char_to_byte_idx-bytes, After-count_surrogates, After-char_to_line_with}
+use Rattle.rope_part.proofs.edge.start_at.Goals.{After-char_to_line_with-lines, After-pairs_in}
 use Rattle.rope_part.proofs.edge.start_at.Goals as goal
 
-bytes_are : (c : After-char_to_byte_idx-bytes) → c.char_to_byte_idx-bytes.result ≡ char_to_byte c.leaf_at-found.result.leaf.now (c.args.char_idx - c.leaf_at-found.result.before.chars)
-bytes_are c = c.char_to_byte_idx-bytes.ensures.value ∙ ap (λ s. char_to_byte s (c.args.char_idx - c.leaf_at-found.result.before.chars)) c.as_str-leaf.ensures.chars
+front : (bs part leaf : List ℕ) (k n : ℕ) → IsUtf8 bs → chars bs ≡ leaf → n ≡ byte_len (take k leaf) → part ≡ take (n - 0) bs → chars part ≡ take k leaf
+front bs part leaf k n u same place cut = chars_front bs part leaf k n u same (place ∙ ap (λ s. byte_len (take k s)) (sym same)) cut
 
-pairs_are : (c : After-count_surrogates) → c.count_surrogates.result ≡ surrogate_count (take (c.args.char_idx - c.leaf_at-found.result.before.chars) c.leaf_at-found.result.leaf.now)
-pairs_are c =
-    c.count_surrogates.ensures
-    ∙ ap surrogate_count (chars_front c.as_str-leaf.result.now c.range.result.now c.leaf_at-found.result.leaf.now (c.args.char_idx - c.leaf_at-found.result.before.chars) c.char_to_byte_idx-bytes.result c.as_str-leaf.utf8 c.as_str-leaf.ensures.chars c.char_to_byte_idx-bytes.ensures.value c.range.ensures.value)
+pairs_are : (c : After-pairs_in) → c.pairs_in.result ≡ surrogate_count (take (c.args.char_idx - c.leaf_at-found.result.before.chars) c.leaf_at-found.result.leaf)
+pairs_are c = c.pairs_in.ensures ∙ ap surrogate_count (front _ _ _ _ _ c.as_str-leaf.utf8 c.as_str-leaf.ensures.chars c.char_to_byte_idx-bytes.ensures.value c.range.ensures.value)
 
-lines_are : (c : After-char_to_line_with) → c.char_to_line_with.result ≡ char_to_line c.args.node.now.breaks c.leaf_at-found.result.leaf.now (c.args.char_idx - c.leaf_at-found.result.before.chars)
-lines_are c =
-    c.char_to_line_with.ensures
-    ∙ ap (λ b. char_to_line b (chars c.as_str-leaf.result.now) (c.args.char_idx - c.leaf_at-found.result.before.chars)) c.line_breaks.ensures
-    ∙ ap (λ s. char_to_line c.args.node.now.breaks s (c.args.char_idx - c.leaf_at-found.result.before.chars)) c.as_str-leaf.ensures.chars
+lines_are : (c : After-char_to_line_with-lines) → c.char_to_line_with-lines.result ≡ char_to_line c.args.node.now.breaks c.leaf_at-found.result.leaf (c.args.char_idx - c.leaf_at-found.result.before.chars)
+lines_are c = c.char_to_line_with-lines.ensures ∙ ap (λ b. char_to_line b c.leaf_at-found.result.leaf (c.args.char_idx - c.leaf_at-found.result.before.chars)) c.line_breaks.ensures
+
+pub range-requires-clause-end_boundary : goal.range-requires-clause-end_boundary
+range-requires-clause-end_boundary c = subst (λ bs. IsCharBoundary bs c.char_to_byte_idx-bytes.result) (sym c.as_str-leaf.ensures.bytes) c.char_to_byte_idx-bytes.ensures.boundary
+
+pub pairs_in-requires : goal.pairs_in-requires
+pairs_in-requires c =
+    let k : ℕ = c.args.char_idx - c.leaf_at-found.result.before.chars in
+    let within = found_char c.args.char_idx c.args.node.now c.leaf_at-found.result.leaf c.leaf_at-found.result.before c.leaf_at-found.ensures.found in
+    rw (front _ _ _ _ _ c.as_str-leaf.utf8 c.as_str-leaf.ensures.chars c.char_to_byte_idx-bytes.ensures.value c.range.ensures.value) (omega (arith, length-take k c.leaf_at-found.result.leaf, within.0))
 
 pub overflow_add-result : goal.overflow_add-result
 overflow_add-result c =
     let small = small_found _ _ _ _ _ c.height.ensures.tree c.leaf_at-found.ensures.found in
-    omega (arith, bytes_are c, c.as_str-leaf.ensures.fits, size_le_all byte_len IsMeasure-byte_len c.leaf_at-found.result.leaf.now (c.args.char_idx - c.leaf_at-found.result.before.chars))
+    omega (arith, c.char_to_byte_idx-bytes.ensures.value, c.as_str-leaf.ensures.fits, size_le_all byte_len IsMeasure-byte_len c.leaf_at-found.result.leaf (c.args.char_idx - c.leaf_at-found.result.before.chars))
 
 pub overflow_add-result-2 : goal.overflow_add-result-2
 overflow_add-result-2 c =
     let small = small_found _ _ _ _ _ c.height.ensures.tree c.leaf_at-found.ensures.found in
-    let leaf : List ℕ = c.leaf_at-found.result.leaf.now in
+    let leaf : List ℕ = c.leaf_at-found.result.leaf in
     let k : ℕ = c.args.char_idx - c.leaf_at-found.result.before.chars in
-    omega (arith, pairs_are (goal.at.overflow_add-result-2 c).After-count_surrogates, c.as_str-leaf.ensures.fits, count_by-le-length (λ x. nat_le 0x1_0000 x) (take k leaf), length-take k leaf, length-le-encodes leaf)
+    omega (arith, pairs_are (goal.at.overflow_add-result-2 c).After-pairs_in, c.as_str-leaf.ensures.fits, count_by-le-length (λ x. nat_le 0x1_0000 x) (take k leaf), length-take k leaf, length-le-encodes leaf)
 
 pub overflow_add-result-3 : goal.overflow_add-result-3
 overflow_add-result-3 c =
     let small = small_found _ _ _ _ _ c.height.ensures.tree c.leaf_at-found.ensures.found in
-    let leaf : List ℕ = c.leaf_at-found.result.leaf.now in
-    omega (arith, lines_are (goal.at.overflow_add-result-3 c).After-char_to_line_with, c.as_str-leaf.ensures.fits, length-le-encodes leaf, char_to_line-le c.args.node.now.breaks leaf (c.args.char_idx - c.leaf_at-found.result.before.chars))
+    let leaf : List ℕ = c.leaf_at-found.result.leaf in
+    omega (arith, lines_are (goal.at.overflow_add-result-3 c).After-char_to_line_with-lines, c.as_str-leaf.ensures.fits, length-le-encodes leaf, char_to_line-le c.args.node.now.breaks leaf (c.args.char_idx - c.leaf_at-found.result.before.chars))
 
 pub returns : goal.returns
 returns c =
-    start_found c.args.char_idx c.args.node.now c.leaf_at-found.result.leaf.now c.leaf_at-found.result.before c.height.ensures.tree c.leaf_at-found.ensures.found
-    c.char_to_byte_idx-bytes.result c.count_surrogates.result c.char_to_line_with.result
-    (bytes_are (goal.at.returns c).After-char_to_byte_idx-bytes) (pairs_are (goal.at.returns c).After-count_surrogates) (lines_are (goal.at.returns c).After-char_to_line_with)
+    start_found c.args.char_idx c.args.node.now c.leaf_at-found.result.leaf c.leaf_at-found.result.before c.height.ensures.tree c.leaf_at-found.ensures.found
+    c.char_to_byte_idx-bytes.result c.pairs_in.result c.char_to_line_with-lines.result
+    c.char_to_byte_idx-bytes.ensures.value (pairs_are (goal.at.returns c).After-pairs_in) (lines_are (goal.at.returns c).After-char_to_line_with-lines)

@@ -1,13 +1,12 @@
 -- Each turn cuts one leaf off, and what is left at last is one more.
-use Rattle.std.proofs.Common.{◌≡◌, ◌∙◌, ◌+◌, ◌<◌, ◌^◌, [], ◌∷◌, length, ap, arith}
+use Rattle.std.proofs.Common.{◌≡◌, ◌+◌, ◌<◌, ◌^◌, [], ◌∷◌, length, ap, arith}
 use Rattle.std.proofs.lemmas.List.{length-append}
 use Rattle.std.specs.Str.{chars}
 use Rattle.rope_text.specs.Text.{byte_len}
 use Rattle.rope_text.proofs.Walks.{byte_len-chars}
 use Rattle.rope_tree.specs.Tree.{leaves_of}
-use Rattle.rope_tree.specs.Listed.{trees}
 use Rattle.rope_tree.specs.Fronts.{AreFrontNodes}
-use Rattle.rope_tree.proofs.BuildLaws.{nodes_cut, nodes_last, nodes_whole, siblings_whole, trees_push}
+use Rattle.rope_tree.proofs.BuildLaws.{nodes_cut, nodes_last, nodes_whole, siblings_whole}
 use Rattle.rope_tree.proofs.build.leaf_nodes.Goals.{In_ok-push-2}
 use Rattle.rope_tree.proofs.build.leaf_nodes.Goals as goal
 
@@ -17,8 +16,8 @@ loop-rest-preserved c =
     let len = c.first_leaf_len-len in
     let before = c.loop-rest.invariant in
     let node = c.in_ok-leaf_of.field-0 in
-    let pushed = ap trees c.in_ok-push.ensures.items ∙ trees_push c.loop-rest.nodes.items node in
-    let more = nodes_cut c.args.breaks (chars c.args.whole.now) (trees c.loop-rest.nodes.items) rest c.range.result.now c.range_from-rest.result.now c.from_str-leaf.result len.result node.value
+    let pushed = c.in_ok-push.ensures.items in
+    let more = nodes_cut c.args.breaks (chars c.args.whole.now) c.loop-rest.nodes.items rest c.range.result.now c.range_from-rest.result.now c.from_str-leaf.result len.result node
     before.nodes before.utf8 c.range.utf8 c.range_from-rest.utf8 c.range.ensures.value c.range_from-rest.ensures.value
     (omega (arith, len.ensures.long)) (omega (arith, len.ensures.short, c.loop-rest-test.true)) len.ensures.short len.ensures.cut c.from_str-leaf.ensures.value c.in_ok-leaf_of.ensures.ok c.in_ok-leaf_of.ensures.tree in
     record {
@@ -29,22 +28,22 @@ loop-rest-preserved c =
       made = omega (arith, c.in_ok-leaf_of.ensures.made, ap length c.in_ok-push.ensures.items, length-append c.loop-rest.nodes.items (node ∷ []), before.made);
     }
 
-last : (c : In_ok-push-2) → AreFrontNodes c.args.breaks (chars c.args.whole.now) (trees c.push-2.new.self.items) [] × (length (leaves_of (trees c.push-2.new.self.items)) ≡ length (leaves_of (trees c.loop-rest.nodes.items)) + 1)
+last : (c : In_ok-push-2) → AreFrontNodes c.args.breaks (chars c.args.whole.now) c.push-2.new.self.items [] × (length (leaves_of c.push-2.new.self.items) ≡ length (leaves_of c.loop-rest.nodes.items) + 1)
 last c =
     let rest = c.loop-rest.rest.now in
     let before = c.loop-rest.invariant in
     let node = c.in_ok-leaf_of-2.field-0 in
-    let pushed = ap trees c.in_ok-push-2.ensures.items ∙ trees_push c.loop-rest.nodes.items node in
-    rw pushed (nodes_last c.args.breaks (chars c.args.whole.now) (trees c.loop-rest.nodes.items) rest c.from_str.result node.value
+    let pushed = c.in_ok-push-2.ensures.items in
+    rw pushed (nodes_last c.args.breaks (chars c.args.whole.now) c.loop-rest.nodes.items rest c.from_str.result node
     before.nodes before.utf8 before.some c.loop-rest-test.false c.from_str.ensures.value c.in_ok-leaf_of-2.ensures.ok c.in_ok-leaf_of-2.ensures.tree)
 
 pub returns-clause-siblings : goal.returns-clause-siblings
 returns-clause-siblings c =
     let few : byte_len (chars c.args.whole.now) < 2 ^ 63 = omega (arith, byte_len-chars c.args.whole.now c.utf8.whole) in
-    siblings_whole c.args.breaks (chars c.args.whole.now) (trees c.push-2.new.self.items) (last c).0 few
+    siblings_whole c.args.breaks (chars c.args.whole.now) c.push-2.new.self.items (last c).0 few
 
 pub returns-clause-text : goal.returns-clause-text
-returns-clause-text c = nodes_whole c.args.breaks (chars c.args.whole.now) (trees c.push-2.new.self.items) (last c).0
+returns-clause-text c = nodes_whole c.args.breaks (chars c.args.whole.now) c.push-2.new.self.items (last c).0
 
 pub returns-clause-few : goal.returns-clause-few
 returns-clause-few c = omega (arith, (last c).1, c.loop-rest.invariant.long, c.loop-rest.invariant.some)

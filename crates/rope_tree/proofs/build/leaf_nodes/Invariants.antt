@@ -4,7 +4,6 @@ use denote.Text.{Utf8}
 use denote.Shadow.{shadow}
 use Rattle.std.specs.Str.{chars}
 use Rattle.rope_tree.specs.Tree.{leaves_of}
-use Rattle.rope_tree.specs.Listed.{trees}
 use Rattle.rope_tree.specs.Fronts.{AreFrontNodes}
 use Rattle.rope_tree.proofs.build.leaf_nodes.Given as goal
 
@@ -12,8 +11,8 @@ abbrev pub invariant-loop-rest : goal.invariant-loop-rest
 invariant-loop-rest l = record {
   utf8 : shadow (Utf8 l.rest);
   some : 0 < length l.rest;
-  nodes : AreFrontNodes l.fn.breaks (chars l.fn.whole) (trees l.nodes.items) (chars l.rest);
-  long : 981 * length (leaves_of (trees l.nodes.items)) + length l.rest ≤ length l.fn.whole;
+  nodes : AreFrontNodes l.fn.breaks (chars l.fn.whole) l.nodes.items (chars l.rest);
+  long : 981 * length (leaves_of l.nodes.items) + length l.rest ≤ length l.fn.whole;
   made : l.made ≤ l.fn.made + length l.nodes.items;
 }
 

@@ -1,11 +1,10 @@
 -- Each turn makes a node over the next group of nodes.
-use Rattle.std.proofs.Common.{◌≡◌, ℕ, List, ◌∙◌, ◌-◌, [], ◌∷◌, take, drop, length, refl, ap, sym, subst, arith}
+use Rattle.std.proofs.Common.{◌≡◌, ℕ, List, ◌∙◌, [], ◌∷◌, take, length, refl, ap, sym, subst, arith}
 use Rattle.std.proofs.lemmas.List.{length-drop, length-append}
 use Rattle.rope_text.specs.declared.line_breaks.LineBreaks.{LineBreaks}
 use Rattle.rope_tree.specs.Tree.{Tree, tree_over}
-use Rattle.rope_tree.specs.Listed.{trees}
 use Rattle.rope_tree.proofs.NodeLaws.{children_of_first}
-use Rattle.rope_tree.proofs.BuildLaws.{AreOver, group_children, over_more, front_of, back_of, length_of, trees_push}
+use Rattle.rope_tree.proofs.BuildLaws.{AreOver, group_children, over_more, back_of}
 use Rattle.rope_tree.proofs.build.level_over.Goals as goal
 
 over_at : {breaks : LineBreaks} {h : ℕ} {whole : List Tree} {done more rest left : List Tree} → more ≡ done → left ≡ rest → AreOver breaks h whole done rest → AreOver breaks h whole more left
@@ -15,25 +14,22 @@ pub make_inner-requires : goal.make_inner-requires
 make_inner-requires c =
     let rest = c.loop-groups.rest.now in
     let n = c.group_len-len.result in
-    let e : trees c.in_ok-children.children.items ≡ take n (trees rest) = c.in_ok-children.ensures ∙ front_of rest n in
-    let l = length_of rest in
-    let a = group_children _ _ (trees rest) n c.loop-groups.invariant.over.left c.group_len-len.ensures.least c.group_len-len.ensures.most (omega (arith, c.group_len-len.ensures.within)) in
-    rw e (children_of_first _ _ (take n (trees rest)) a)
+    let e : c.in_ok-children.children.items ≡ take n rest = c.in_ok-children.ensures in
+    let a = group_children _ _ rest n c.loop-groups.invariant.over.left c.group_len-len.ensures.least c.group_len-len.ensures.most (omega (arith, c.group_len-len.ensures.within)) in
+    rw e (children_of_first _ _ (take n rest) a)
 
 pub loop-groups-preserved : goal.loop-groups-preserved
 loop-groups-preserved c =
     let rest = c.loop-groups.rest.now in
     let n = c.group_len-len.result in
-    let e : trees c.in_ok-children.children.items ≡ take n (trees rest) = c.in_ok-children.ensures ∙ front_of rest n in
-    let l = length_of rest in
-    let over = over_more _ _ _ _ (trees rest) n c.in_ok-make_inner.field-0.value c.loop-groups.invariant.over c.group_len-len.ensures.least c.group_len-len.ensures.most (omega (arith, c.group_len-len.ensures.within))
+    let e : c.in_ok-children.children.items ≡ take n rest = c.in_ok-children.ensures in
+    let over = over_more _ _ _ _ rest n c.in_ok-make_inner.field-0 c.loop-groups.invariant.over c.group_len-len.ensures.least c.group_len-len.ensures.most (omega (arith, c.group_len-len.ensures.within))
     (c.in_ok-make_inner.ensures.ok ∙ ap tree_over e) in
-    let pushed = ap trees c.in_ok-push.ensures.items ∙ trees_push c.loop-groups.level.items c.in_ok-make_inner.field-0 in
+    let pushed = c.in_ok-push.ensures.items in
     let g = c.group_len-len.ensures in
     let after = back_of rest _ n refl in
-    let left = length_of (take (length rest - n) (drop n rest)) in
     let m = ap length after in
-    let k = length-drop n (trees rest) in
+    let k = length-drop n rest in
     record {
       over = over_at pushed after over;
       least = omega (arith, g.least_after);

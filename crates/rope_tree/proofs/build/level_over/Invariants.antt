@@ -1,13 +1,12 @@
 -- The nodes so far stand over the first of the nodes, and the groups to come can hold the others.
 use Rattle.std.proofs.Common.{◌≡◌, ◌+◌, ◌*◌, ◌≤◌, length}
 use Rattle.rope_tree.specs.Tree.{breaks_of, height_of}
-use Rattle.rope_tree.specs.Listed.{trees}
 use Rattle.rope_tree.proofs.BuildLaws.{AreOver}
 use Rattle.rope_tree.proofs.build.level_over.Given as goal
 
 abbrev pub invariant-loop-groups : goal.invariant-loop-groups
 invariant-loop-groups l = record {
-  over : AreOver (breaks_of (trees l.fn.nodes)) (height_of (trees l.fn.nodes)) (trees l.fn.nodes) (trees l.level.items) (trees l.rest);
+  over : AreOver (breaks_of l.fn.nodes) (height_of l.fn.nodes) l.fn.nodes l.level.items l.rest;
   least : 12 * l.groups ≤ length l.rest;
   most : length l.rest ≤ 24 * l.groups;
   counted : length l.level.items + l.groups ≡ l.initial.groups;

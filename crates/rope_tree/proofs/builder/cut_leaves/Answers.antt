@@ -3,8 +3,7 @@ use Rattle.std.proofs.Common.{◌≡◌, ◌∙◌, ◌+◌, ◌++◌, length, a
 use Rattle.std.specs.Str.{chars}
 use Rattle.rope_text.specs.Cutting.{parts_crlf}
 use Rattle.rope_tree.specs.Tree.{leaves_of}
-use Rattle.rope_tree.specs.Listed.{trees}
-use Rattle.rope_tree.proofs.BuildLaws.{nodes_front, trees_push}
+use Rattle.rope_tree.proofs.BuildLaws.{nodes_front}
 use Rattle.rope_tree.proofs.builder.cut_leaves.Goals as goal
 
 pub overflow_add-len : goal.overflow_add-len
@@ -17,9 +16,9 @@ loop-left-preserved c =
     let f = front.result in
     let node = c.in_ok-leaf_of.field-0 in
     let rest = c.range_from-left in
-    let pushed = ap trees c.in_ok-push.ensures.items ∙ trees_push c.loop-left.leaves.items node in
+    let pushed = c.in_ok-push.ensures.items in
     let same = ap (λ bs. front.new.rest ++ chars bs) rest.ensures.value in
-    let more = nodes_front c.args.breaks _ (trees c.loop-left.leaves.items) _ f.leaf (front.new.rest ++ chars rest.result.now) node.value
+    let more = nodes_front c.args.breaks _ c.loop-left.leaves.items _ f.leaf (front.new.rest ++ chars rest.result.now) node
     before.nodes (ap (λ y. f.leaf ++ y) same ∙ front.ensures.whole) (omega (arith, front.ensures.long)) record { apart = ap (λ y. parts_crlf f.leaf y) same ∙ front.ensures.apart } c.in_ok-leaf_of.ensures.ok c.in_ok-leaf_of.ensures.tree in
     let len : length rest.result.now + f.taken ≡ length c.loop-left.left.now = omega (arith, rest.ensures.len, front.ensures.boundary.0) in
     record {

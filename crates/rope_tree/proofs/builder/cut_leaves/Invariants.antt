@@ -5,7 +5,6 @@ use denote.Shadow.{shadow}
 use Rattle.std.specs.Str.{chars}
 use Rattle.rope_text.specs.Text.{byte_len}
 use Rattle.rope_tree.specs.Tree.{joined, leaves_of}
-use Rattle.rope_tree.specs.Listed.{trees}
 use Rattle.rope_tree.specs.Fronts.{AreFrontNodes}
 use Rattle.rope_tree.proofs.builder.cut_leaves.Given as goal
 
@@ -14,8 +13,8 @@ invariant-loop-left l = record {
   utf8 : shadow (Utf8 l.left);
   within : length l.left ≤ length l.fn.text;
   some : 0 < byte_len l.rest + length l.left;
-  nodes : AreFrontNodes l.fn.breaks (joined (trees l.fn.leaves.items) ++ (l.fn.rest ++ chars l.fn.text)) (trees l.leaves.items) (l.rest ++ chars l.left);
-  long : 981 * length (leaves_of (trees l.leaves.items)) + byte_len l.rest + length l.left ≤ 981 * length (leaves_of (trees l.fn.leaves.items)) + byte_len l.fn.rest + length l.fn.text;
+  nodes : AreFrontNodes l.fn.breaks (joined l.fn.leaves.items ++ (l.fn.rest ++ chars l.fn.text)) l.leaves.items (l.rest ++ chars l.left);
+  long : 981 * length (leaves_of l.leaves.items) + byte_len l.rest + length l.left ≤ 981 * length (leaves_of l.fn.leaves.items) + byte_len l.fn.rest + length l.fn.text;
 }
 
 abbrev pub decreases-loop-left : goal.decreases-loop-left

@@ -8,7 +8,7 @@ pub returns : goal.returns
 returns c =
     let e = ap (λ x. x.chars) c.info-info.ensures in
     let some = some_chars (text c.args.node.now) (omega (arith, ap (λ x. x.bytes) c.info-info.ensures)) in
-    chunk_by_char c.args.node.now c.leaf_at.result.leaf.now c.leaf_at.result.before c.height.ensures.tree c.min.result c.args.char_idx c.leaf_at.ensures.found
+    chunk_by_char c.args.node.now c.leaf_at.result.leaf c.leaf_at.result.before c.height.ensures.tree c.min.result c.args.char_idx c.leaf_at.ensures.found
     (elim (cases_lt c.args.char_idx c.info-info.result.chars) [
       | inl l ↦ inl (omega (arith, c.min.ensures))
       | inr ge ↦ inr (omega (arith, c.min.ensures, e, c.requires, some), omega (arith, e, c.requires))

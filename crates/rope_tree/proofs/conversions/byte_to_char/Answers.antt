@@ -9,8 +9,8 @@ use Rattle.rope_tree.proofs.conversions.byte_to_char.Goals as goal
 
 value : (c : After-byte_to_char_idx) → c.leaf_at-found.result.before.chars + c.byte_to_char_idx.result ≡ byte_to_char (text c.args.node.now) c.args.byte_idx
 value c =
-    ap (λ n. c.leaf_at-found.result.before.chars + n) (c.byte_to_char_idx.ensures ∙ ap (λ s. byte_to_char s (c.args.byte_idx - c.leaf_at-found.result.before.bytes)) c.as_str-leaf.ensures.chars)
-    ∙ sym (found_byte_to_char c.args.byte_idx c.args.node.now c.leaf_at-found.result.leaf.now c.leaf_at-found.result.before c.height.ensures.tree c.leaf_at-found.ensures.found)
+    ap (λ n. c.leaf_at-found.result.before.chars + n) c.byte_to_char_idx.ensures
+    ∙ sym (found_byte_to_char c.args.byte_idx c.args.node.now c.leaf_at-found.result.leaf c.leaf_at-found.result.before c.height.ensures.tree c.leaf_at-found.ensures.found)
 
 pub overflow_add-result : goal.overflow_add-result
 overflow_add-result c = omega (arith, value c, byte_to_char-le-length (text c.args.node.now) c.args.byte_idx, length-le-encodes (text c.args.node.now), c.height.ensures.tree.fits)

@@ -10,7 +10,7 @@ use Rattle.rope_tree.proofs.conversions.byte_to_line.Goals as goal
 value : (c : After-byte_to_line_with) → c.leaf_at-found.result.before.break_count + c.byte_to_line_with.result ≡ byte_to_line c.args.node.now.breaks (text c.args.node.now) c.args.byte_idx
 value c =
     ap (λ n. c.leaf_at-found.result.before.break_count + n) (c.byte_to_line_with.ensures ∙ ap (λ b. byte_to_line b (chars c.as_str-leaf.result.now) (c.args.byte_idx - c.leaf_at-found.result.before.bytes)) c.line_breaks.ensures ∙ ap (λ s. byte_to_line c.args.node.now.breaks s (c.args.byte_idx - c.leaf_at-found.result.before.bytes)) c.as_str-leaf.ensures.chars)
-    ∙ sym (found_byte_to_line c.args.byte_idx c.args.node.now c.leaf_at-found.result.leaf.now c.leaf_at-found.result.before c.height.ensures.tree c.leaf_at-found.ensures.found)
+    ∙ sym (found_byte_to_line c.args.byte_idx c.args.node.now c.leaf_at-found.result.leaf c.leaf_at-found.result.before c.height.ensures.tree c.leaf_at-found.ensures.found)
 
 pub overflow_add-result : goal.overflow_add-result
 overflow_add-result c = omega (arith, value c, byte_to_line-le c.args.node.now.breaks (text c.args.node.now) c.args.byte_idx, length-le-encodes (text c.args.node.now), c.height.ensures.tree.fits)

@@ -10,8 +10,8 @@ use Rattle.rope_tree.proofs.conversions.char_to_line.Goals as goal
 
 value : (c : After-char_to_line_with) → c.leaf_at-found.result.before.break_count + c.char_to_line_with.result ≡ char_to_line c.args.node.now.breaks (text c.args.node.now) c.args.char_idx
 value c =
-    ap (λ n. c.leaf_at-found.result.before.break_count + n) (c.char_to_line_with.ensures ∙ ap (λ b. char_to_line b (chars c.as_str-leaf.result.now) (c.args.char_idx - c.leaf_at-found.result.before.chars)) c.line_breaks.ensures ∙ ap (λ s. char_to_line c.args.node.now.breaks s (c.args.char_idx - c.leaf_at-found.result.before.chars)) c.as_str-leaf.ensures.chars)
-    ∙ sym (found_char_to_line c.args.char_idx c.args.node.now c.leaf_at-found.result.leaf.now c.leaf_at-found.result.before c.height.ensures.tree c.leaf_at-found.ensures.found)
+    ap (λ n. c.leaf_at-found.result.before.break_count + n) (c.char_to_line_with.ensures ∙ ap (λ b. char_to_line b c.leaf_at-found.result.leaf (c.args.char_idx - c.leaf_at-found.result.before.chars)) c.line_breaks.ensures)
+    ∙ sym (found_char_to_line c.args.char_idx c.args.node.now c.leaf_at-found.result.leaf c.leaf_at-found.result.before c.height.ensures.tree c.leaf_at-found.ensures.found)
 
 pub overflow_add-result : goal.overflow_add-result
 overflow_add-result c = omega (arith, value c, char_to_line-le c.args.node.now.breaks (text c.args.node.now) c.args.char_idx, length-le-encodes (text c.args.node.now), c.height.ensures.tree.fits)

@@ -13,8 +13,8 @@ use Rattle.rope_tree.proofs.conversions.char_to_utf16.Goals as goal
 
 value : (c : After-char_to_utf16_idx) → (c.leaf_at-found.result.before.chars + c.leaf_at-found.result.before.utf16_surrogates) + c.char_to_utf16_idx.result ≡ char_to_utf16 (text c.args.node.now) c.args.char_idx
 value c =
-    ap (λ n. (c.leaf_at-found.result.before.chars + c.leaf_at-found.result.before.utf16_surrogates) + n) (c.char_to_utf16_idx.ensures ∙ ap (λ s. char_to_utf16 s (c.args.char_idx - c.leaf_at-found.result.before.chars)) c.as_str-leaf.ensures.chars)
-    ∙ sym (found_char_to_utf16 c.args.char_idx c.args.node.now c.leaf_at-found.result.leaf.now c.leaf_at-found.result.before c.height.ensures.tree c.leaf_at-found.ensures.found)
+    ap (λ n. (c.leaf_at-found.result.before.chars + c.leaf_at-found.result.before.utf16_surrogates) + n) c.char_to_utf16_idx.ensures
+    ∙ sym (found_char_to_utf16 c.args.char_idx c.args.node.now c.leaf_at-found.result.leaf c.leaf_at-found.result.before c.height.ensures.tree c.leaf_at-found.ensures.found)
 
 pub overflow_add-result-2 : goal.overflow_add-result-2
 overflow_add-result-2 c = omega (arith, value c, size_le_all utf16_len IsMeasure-utf16_len (text c.args.node.now) c.args.char_idx, utf16_len-le (text c.args.node.now), length-le-encodes (text c.args.node.now), c.height.ensures.tree.fits)

@@ -13,7 +13,7 @@ use Rattle.rope_tree.proofs.conversions.line_to_byte.Goals as goal
 value : (c : After-line_to_byte_with) → c.leaf_at-found.result.before.bytes + c.line_to_byte_with.result ≡ line_to_byte c.args.node.now.breaks (text c.args.node.now) c.args.line_idx
 value c =
     ap (λ n. c.leaf_at-found.result.before.bytes + n) (c.line_to_byte_with.ensures.value ∙ ap (λ b. line_to_byte b (chars c.as_str-leaf.result.now) (c.args.line_idx - c.leaf_at-found.result.before.break_count)) c.line_breaks.ensures ∙ ap (λ s. line_to_byte c.args.node.now.breaks s (c.args.line_idx - c.leaf_at-found.result.before.break_count)) c.as_str-leaf.ensures.chars)
-    ∙ sym (found_line_to_byte (c.args.line_idx - 1) c.args.line_idx c.args.node.now c.leaf_at-found.result.leaf.now c.leaf_at-found.result.before c.height.ensures.tree c.leaf_at-found.ensures.found (omega arith))
+    ∙ sym (found_line_to_byte (c.args.line_idx - 1) c.args.line_idx c.args.node.now c.leaf_at-found.result.leaf c.leaf_at-found.result.before c.height.ensures.tree c.leaf_at-found.ensures.found (omega arith))
 
 pub overflow_add-result : goal.overflow_add-result
 overflow_add-result c = omega (arith, value c, size_le_all byte_len IsMeasure-byte_len (text c.args.node.now) (line_start c.args.node.now.breaks (text c.args.node.now) c.args.line_idx), length-le-encodes (text c.args.node.now), c.height.ensures.tree.fits)

@@ -12,7 +12,7 @@ use Rattle.rope_tree.proofs.conversions.line_to_char.Goals as goal
 value : (c : After-line_to_char_with) → c.leaf_at-found.result.before.chars + c.line_to_char_with.result ≡ line_to_char c.args.node.now.breaks (text c.args.node.now) c.args.line_idx
 value c =
     ap (λ n. c.leaf_at-found.result.before.chars + n) (c.line_to_char_with.ensures ∙ ap (λ b. line_to_char b (chars c.as_str-leaf.result.now) (c.args.line_idx - c.leaf_at-found.result.before.break_count)) c.line_breaks.ensures ∙ ap (λ s. line_to_char c.args.node.now.breaks s (c.args.line_idx - c.leaf_at-found.result.before.break_count)) c.as_str-leaf.ensures.chars)
-    ∙ sym (found_line_start (c.args.line_idx - 1) c.args.line_idx c.args.node.now c.leaf_at-found.result.leaf.now c.leaf_at-found.result.before c.height.ensures.tree c.leaf_at-found.ensures.found (omega arith))
+    ∙ sym (found_line_start (c.args.line_idx - 1) c.args.line_idx c.args.node.now c.leaf_at-found.result.leaf c.leaf_at-found.result.before c.height.ensures.tree c.leaf_at-found.ensures.found (omega arith))
 
 pub overflow_add-result : goal.overflow_add-result
 overflow_add-result c = omega (arith, value c, line_start-le-length c.args.node.now.breaks (text c.args.node.now) c.args.line_idx, length-le-encodes (text c.args.node.now), c.height.ensures.tree.fits)

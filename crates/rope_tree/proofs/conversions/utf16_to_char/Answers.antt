@@ -9,8 +9,8 @@ use Rattle.rope_tree.proofs.conversions.utf16_to_char.Goals as goal
 
 value : (c : After-utf16_to_char_idx) → c.leaf_at-found.result.before.chars + c.utf16_to_char_idx.result ≡ utf16_to_char (text c.args.node.now) c.args.utf16_idx
 value c =
-    ap (λ n. c.leaf_at-found.result.before.chars + n) (c.utf16_to_char_idx.ensures ∙ ap (λ s. utf16_to_char s (c.args.utf16_idx - (c.leaf_at-found.result.before.chars + c.leaf_at-found.result.before.utf16_surrogates))) c.as_str-leaf.ensures.chars)
-    ∙ sym (found_utf16_to_char c.args.utf16_idx c.args.node.now c.leaf_at-found.result.leaf.now c.leaf_at-found.result.before c.height.ensures.tree c.leaf_at-found.ensures.found)
+    ap (λ n. c.leaf_at-found.result.before.chars + n) c.utf16_to_char_idx.ensures
+    ∙ sym (found_utf16_to_char c.args.utf16_idx c.args.node.now c.leaf_at-found.result.leaf c.leaf_at-found.result.before c.height.ensures.tree c.leaf_at-found.ensures.found)
 
 pub overflow_add-result : goal.overflow_add-result
 overflow_add-result c = omega (arith, value c, utf16_to_char-le (text c.args.node.now) c.args.utf16_idx, length-le-encodes (text c.args.node.now), c.height.ensures.tree.fits)

@@ -1,16 +1,20 @@
 use Rattle.std.proofs.Common.{◌≡◌, ◌++◌, ap, ap₂, sym, take, drop, ◌∙◌, take-append-drop}
 use Rattle.std.specs.Str.{chars}
+use Rattle.rope_text.specs.Text.{byte_len}
 use Rattle.rope_text.specs.TextInfo.{info_of}
 use Rattle.rope_text.proofs.TextParts.{chars_front, chars_back}
 use Rattle.rope_tree.proofs.InsertTrees.{inserted_is}
 use Rattle.rope_tree.proofs.counts.info_with.Goals.{After-range_from}
 use Rattle.rope_tree.proofs.counts.info_with.Goals as goal
 
+place_is : (c : After-range_from) → c.char_to_byte_idx-place.result ≡ byte_len (take c.args.at (chars c.as_str-text.result.now))
+place_is c = c.char_to_byte_idx-place.ensures.value ∙ ap (λ s. byte_len (take c.args.at s)) (sym c.as_str-text.ensures.chars)
+
 front : (c : After-range_from) → chars c.range.result.now ≡ take c.args.at c.args.leaf.now
-front c = chars_front c.as_str-text.result.now _ _ c.args.at _ c.as_str-text.utf8 c.as_str-text.ensures.chars c.char_to_byte_idx-place.ensures.value c.range.ensures.value
+front c = chars_front c.as_str-text.result.now _ _ c.args.at _ c.as_str-text.utf8 c.as_str-text.ensures.chars (place_is c) c.range.ensures.value
 
 back : (c : After-range_from) → chars c.range_from.result.now ≡ drop c.args.at c.args.leaf.now
-back c = chars_back c.as_str-text.result.now _ _ c.args.at _ c.as_str-text.utf8 c.as_str-text.ensures.chars c.char_to_byte_idx-place.ensures.value c.range_from.ensures.value
+back c = chars_back c.as_str-text.result.now _ _ c.args.at _ c.as_str-text.utf8 c.as_str-text.ensures.chars (place_is c) c.range_from.ensures.value
 
 pub info_between-requires-clause-info : goal.info_between-requires-clause-info
 info_between-requires-clause-info c =

@@ -11,5 +11,5 @@ pub make_inner-requires : goal.make_inner-requires
 make_inner-requires c =
     let new = inserted (text c.args.old.now) c.args.at c.args.added.now in
     let i = subst (λ ns. IsInserted c.args.old.now (trees_in ns) new) c.in-Two.is c.requires.inserted in
-    rw c.in_ok-both-in-Two.ensures (children_of_two c.args.old.now c.in-Two.first.value c.in-Two.second.value new i
+    rw c.in_ok-both-in-Two.ensures (children_of_two c.args.old.now c.in-Two.first c.in-Two.second new i
     (omega (arith, byte_len-inserted (text c.args.old.now) c.args.at c.args.added.now, c.requires.fits)))

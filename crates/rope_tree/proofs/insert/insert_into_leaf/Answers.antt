@@ -31,8 +31,8 @@ pub returns-in_ok-make_leaf-in-None-clause-ok : goal.returns-in_ok-make_leaf-in-
 returns-in_ok-make_leaf-in-None-clause-ok c =
     let s = c.args.added.now in
     let new = inserted c.args.leaf.now c.args.at s in
-    subst (λ t. IsInserted t (c.in_ok-make_leaf-in-None.field-0.value ∷ []) new) (sym c.requires.leaf)
-    (one_inserted c.args.node.now.breaks c.args.leaf.now _ new c.in_ok-make_leaf-in-None.field-0.value
+    subst (λ t. IsInserted t (c.in_ok-make_leaf-in-None.field-0 ∷ []) new) (sym c.requires.leaf)
+    (one_inserted c.args.node.now.breaks c.args.leaf.now _ new c.in_ok-make_leaf-in-None.field-0
     (c.in_ok-make_leaf-in-None.ensures.ok ∙ ap (λ b. leaf_tree b c.insert_or_split.new.self) c.line_breaks-breaks.ensures) c.in_ok-make_leaf-in-None.ensures.tree
     (c.in-None.ensures.one.1 ∙ same (goal.at.returns-in_ok-make_leaf-in-None-clause-ok c).After-insert_or_split) (omega (arith, length-inserted c.args.leaf.now c.args.at s, c.requires.some)))
 
@@ -42,7 +42,7 @@ returns-in_ok-second-in-Some-clause-ok c =
     let new = inserted c.args.leaf.now c.args.at s in
     let first = c.in_ok-first-in-Some in
     let second = c.in_ok-second-in-Some in
-    subst (λ t. IsInserted t (first.first.value ∷ second.second.value ∷ []) new) (sym c.requires.leaf)
-    (two_inserted c.args.node.now.breaks c.args.leaf.now _ _ new first.first.value second.second.value
+    subst (λ t. IsInserted t (first.first ∷ second.second ∷ []) new) (sym c.requires.leaf)
+    (two_inserted c.args.node.now.breaks c.args.leaf.now _ _ new first.first second.second
     (first.ensures.ok ∙ ap (λ b. leaf_tree b c.insert_or_split.new.self) c.line_breaks-breaks.ensures) (second.ensures.ok ∙ ap (λ b. leaf_tree b c.in-Some.back) c.line_breaks-breaks.ensures)
     first.ensures.tree second.ensures.tree (c.in-Some.ensures.two.1 ∙ same (goal.at.returns-in_ok-second-in-Some-clause-ok c).After-insert_or_split) c.in-Some.ensures.parts)

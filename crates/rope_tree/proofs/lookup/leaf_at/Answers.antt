@@ -1,8 +1,7 @@
-use Rattle.std.proofs.Common.{◌≡◌, ap, refl, arith}
-use Rattle.rope_tree.specs.Tree.{Tree, breaks_of}
+use Rattle.std.proofs.Common.{ap, refl, arith}
+use Rattle.rope_tree.specs.Tree.{breaks_of}
 use Rattle.rope_tree.specs.Search.{IsSmall}
 use Rattle.rope_text.specs.TextInfo.{info_sum}
-use Rattle.rope_tree.specs.Listed.{trees}
 use Rattle.rope_tree.proofs.NodeLaws.{small_totals}
 use Rattle.rope_tree.proofs.Descents.{Descends, descends}
 use Rattle.rope_tree.proofs.OnTheWay.{at_start, at_end, further, small_more}
@@ -10,17 +9,16 @@ use Rattle.rope_tree.proofs.lookup.leaf_at.Goals.{After-total_before-front}
 use Rattle.rope_tree.proofs.lookup.leaf_at.Goals as goal
 
 -- the place is in the child that the search names
-down : (c : After-total_before-front) (child : Tree) → child ≡ c.index-children-place.result.value
-    → Descends (breaks_of (trees c.in-Inner.children.now)) c.args.unit c.down.rest (trees c.in-Inner.children.now) c.place_of-place.result child c.total_before-front.result
-down c child is =
-    descends c.args.unit c.down.rest c.in-Inner.children.now c.in-Inner.totals.now c.place_of-place.result c.index-children-place.result child c.total_before-front.result
-    c.in-Inner.ensures.children c.in-Inner.ensures.totals_right c.place_of-place.ensures.within c.index-children-place.is is
+down : (c : After-total_before-front) → Descends (breaks_of c.in-Inner.children.now) c.args.unit c.down.rest c.in-Inner.children.now c.place_of-place.result c.index-children-place.result c.total_before-front.result
+down c =
+    descends c.args.unit c.down.rest c.in-Inner.children.now c.in-Inner.totals.now c.place_of-place.result c.index-children-place.result c.total_before-front.result
+    c.in-Inner.ensures.children c.in-Inner.ensures.totals_right c.place_of-place.ensures.within c.index-children-place.is
     c.total_before-front.ensures.first c.total_before-front.ensures.later c.place_of-place.ensures.before c.place_of-place.ensures.past
 
 small : (c : After-total_before-front) → IsSmall (info_sum c.down.before c.total_before-front.result)
 small c =
-    small_more c.args.unit c.args.at c.args.node.now c.down.here.now c.down.rest c.down.before (trees c.in-Inner.children.now) c.place_of-place.result
-    c.index-children-place.result.value c.total_before-front.result c.height.ensures.tree c.down.invariant.0 c.in-Inner.ensures.is (down c c.index-children-place.result.value refl)
+    small_more c.args.unit c.args.at c.args.node.now c.down.here.now c.down.rest c.down.before c.in-Inner.children.now c.place_of-place.result
+    c.index-children-place.result c.total_before-front.result c.height.ensures.tree c.down.invariant.0 c.in-Inner.ensures.is (down c)
 
 pub down-init : goal.down-init
 down-init c = (
@@ -29,14 +27,14 @@ down-init c = (
 )
 
 pub place_of-place-requires-clause-small : goal.place_of-place-requires-clause-small
-place_of-place-requires-clause-small c = small_totals _ c.in-Inner.totals.now (trees c.in-Inner.children.now) c.in-Inner.ensures.totals_right c.in-Inner.ensures.children.fits
+place_of-place-requires-clause-small c = small_totals _ c.in-Inner.totals.now c.in-Inner.children.now c.in-Inner.ensures.totals_right c.in-Inner.ensures.children.fits
 
 pub count-rest-requires : goal.count-rest-requires
-count-rest-requires c = (down c c.index-children-place.result.value refl).small
+count-rest-requires c = (down c).small
 
 pub overflow_sub-rest : goal.overflow_sub-rest
 overflow_sub-rest c =
-    let d = down (goal.at.overflow_sub-rest c).After-total_before-front c.index-children-place.result.value refl in
+    let d = down (goal.at.overflow_sub-rest c).After-total_before-front in
     omega (arith, d.not_past, c.count-rest.ensures)
 
 pub plus-before-requires-clause-bytes : goal.plus-before-requires-clause-bytes
@@ -53,18 +51,18 @@ plus-before-requires-clause-break_count c = let s = small (goal.at.plus-before-r
 
 pub down-smaller : goal.down-smaller
 down-smaller c =
-    let d = down (goal.at.down-smaller c).After-total_before-front c.deref-here.result.now c.deref-here.ensures in
+    let d = down (goal.at.down-smaller c).After-total_before-front in
     omega (arith, ap (λ u. u.height) c.in-Inner.ensures.is, d.own.at_height)
 
 pub down-preserved : goal.down-preserved
 down-preserved c =
     let before = (goal.at.down-preserved c).After-total_before-front in
-    let child = c.deref-here.result.now in
-    let d = down before child c.deref-here.ensures in
+    let child = c.index-children-place.result in
+    let d = down before in
     let above = ap (λ u. u.height) c.in-Inner.ensures.is in
     let steps = c.down.invariant.1 in (
       rw (c.plus-before.ensures.sum, c.count-rest.ensures)
-          (further c.args.unit c.args.at c.args.node.now c.down.here.now c.down.rest c.down.before (trees c.in-Inner.children.now) c.place_of-place.result child c.total_before-front.result
+          (further c.args.unit c.args.at c.args.node.now c.down.here.now c.down.rest c.down.before c.in-Inner.children.now c.place_of-place.result child c.total_before-front.result
           c.height.ensures.tree c.down.invariant.0 c.in-Inner.ensures.is d),
       record {
         nodes = omega (arith, above, d.own.at_height, steps.nodes, c.place_of-place.ensures.nodes);
@@ -75,4 +73,4 @@ down-preserved c =
     )
 
 pub returns-in-Leaf-clause-found : goal.returns-in-Leaf-clause-found
-returns-in-Leaf-clause-found c = at_end c.args.unit c.args.at c.args.node.now c.down.here.now c.down.rest c.down.before c.in-Leaf.leaf.now c.height.ensures.tree c.down.invariant.0 c.in-Leaf.ensures.is
+returns-in-Leaf-clause-found c = at_end c.args.unit c.args.at c.args.node.now c.down.here.now c.down.rest c.down.before c.in-Leaf.leaf c.height.ensures.tree c.down.invariant.0 c.in-Leaf.ensures.is

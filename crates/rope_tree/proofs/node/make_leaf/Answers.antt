@@ -1,15 +1,14 @@
-use Rattle.rope_tree.proofs.Infos.{IsLow, low_info}
-use Rattle.rope_tree.proofs.node.make_leaf.Goals.{After-as_str}
+use Rattle.std.proofs.Common.{ap, sym, ◌∙◌}
+use Rattle.rope_tree.specs.Tree.{leaf_tree}
+use Rattle.rope_tree.specs.Shape.{form_tree}
+use Rattle.rope_tree.proofs.FormLaws.{no_text}
+use Rattle.rope_tree.proofs.node.make_leaf.Goals.{then-info-eq0, else-info-eq0+in_ok-new}
 use Rattle.rope_tree.proofs.node.make_leaf.Goals as goal
 
-low : (c : After-as_str) → IsLow c.args.info 984
-low c = rw c.requires (low_info c.args.breaks c.args.leaf 984 c.as_str.ensures.fits)
-
-pub new-requires-clause-chars : goal.new-requires-clause-chars
-new-requires-clause-chars c = (low c).chars
-
-pub new-requires-clause-surrogates : goal.new-requires-clause-surrogates
-new-requires-clause-surrogates c = (low c).surrogates
-
-pub new-requires-clause-break_count : goal.new-requires-clause-break_count
-new-requires-clause-break_count c = (low c).count
+pub returns-clause-ok : goal.returns-clause-ok
+returns-clause-ok c =
+    elim c.if-info-eq0.branch [
+      | then-info-eq0 w ↦
+          rw w.form-is (ap (leaf_tree c.args.breaks) (sym (no_text c.args.leaf (sym (ap (λ i. i.bytes) c.requires) ∙ w.if-info-eq0.true))))
+      | else-info-eq0+in_ok-new w ↦ ap form_tree w.form-is ∙ w.in_ok-new.ensures.ok ∙ w.new.ensures
+    ]

@@ -1,36 +1,35 @@
 use Rattle.std.proofs.Common.{◌≡◌, ℕ, ◌+◌, ◌-◌, ◌≤◌, length, ap, arith}
 use Rattle.rope_tree.specs.declared.search.Unit.TheVariants.{Char}
 use Rattle.rope_tree.specs.Tree.{text, height_of, breaks_of}
-use Rattle.rope_tree.specs.Listed.{trees}
 use Rattle.rope_tree.proofs.NodeLaws.{small_totals, children_of_first}
 use Rattle.rope_tree.proofs.RemovalLaws.{Holds, holds, spliced_removed, over_removed}
 use Rattle.rope_tree.proofs.Descents.{Descends, descends}
 use Rattle.rope_tree.proofs.InsertDescents.{last_total}
-use Rattle.rope_tree.proofs.removal.+without.Goals.{After-deref}
+use Rattle.rope_tree.proofs.removal.+without.Goals.{After-index-children-place}
 use Rattle.rope_tree.proofs.removal.+without.Goals as goal
 
-down : (t : ℕ) (c : After-deref t) → Descends (breaks_of (trees c.in-Inner.children.now)) Char c.args.start (trees c.in-Inner.children.now) c.place_of-place.result c.deref.result.now c.total_before-before.result
+down : (t : ℕ) (c : After-index-children-place t) → Descends (breaks_of c.in-Inner.children.now) Char c.args.start c.in-Inner.children.now c.place_of-place.result c.index-children-place.result c.total_before-before.result
 down t c =
-    descends Char c.args.start c.in-Inner.children.now c.in-Inner.totals.now c.place_of-place.result c.index-children-place.result c.deref.result.now c.total_before-before.result
-    c.in-Inner.ensures.children c.in-Inner.ensures.totals_right c.place_of-place.ensures.within c.index-children-place.is c.deref.ensures
+    descends Char c.args.start c.in-Inner.children.now c.in-Inner.totals.now c.place_of-place.result c.index-children-place.result c.total_before-before.result
+    c.in-Inner.ensures.children c.in-Inner.ensures.totals_right c.place_of-place.ensures.within c.index-children-place.is
     c.total_before-before.ensures.first c.total_before-before.ensures.later c.place_of-place.ensures.before c.place_of-place.ensures.past
 
 pub place_of-place-requires-clause-small : goal.place_of-place-requires-clause-small
-place_of-place-requires-clause-small t c = small_totals _ c.in-Inner.totals.now (trees c.in-Inner.children.now) c.in-Inner.ensures.totals_right c.in-Inner.ensures.children.fits
+place_of-place-requires-clause-small t c = small_totals _ c.in-Inner.totals.now c.in-Inner.children.now c.in-Inner.ensures.totals_right c.in-Inner.ensures.children.fits
 
 pub place_of-place-requires-clause-last : goal.place_of-place-requires-clause-last
 place_of-place-requires-clause-last t c =
-    let ts = trees c.in-Inner.children.now in
+    let ts = c.in-Inner.children.now in
     let whole = ap (λ u. length (text u)) c.in-Inner.ensures.is in
     λ d. rw (last_total (breaks_of ts) c.in-Inner.totals.now ts c.in-Inner.ensures.totals_right (omega (arith, c.in-Inner.ensures.children.at_least_two)) d) (omega (arith, whole, c.requires.ordered, c.requires.within))
 
-held : (t : ℕ) (c : After-deref t) → (c.total_before-before.result.chars ≤ c.args.start)
-    × Holds (trees c.in-Inner.children.now) c.place_of-place.result c.deref.result.now (c.args.start - c.total_before-before.result.chars) (c.args.end - c.total_before-before.result.chars) c.args.start c.args.end
+held : (t : ℕ) (c : After-index-children-place t) → (c.total_before-before.result.chars ≤ c.args.start)
+    × Holds c.in-Inner.children.now c.place_of-place.result c.index-children-place.result (c.args.start - c.total_before-before.result.chars) (c.args.end - c.total_before-before.result.chars) c.args.start c.args.end
 held t c =
-    let ts = trees c.in-Inner.children.now in
-    holds (breaks_of ts) ts c.place_of-place.result c.deref.result.now c.total_before-before.result c.args.start c.args.end c.in-Inner.totals.now _ (down t c) c.in-Inner.ensures.totals_right c.requires.ordered c.if-totals-place.false
+    let ts = c.in-Inner.children.now in
+    holds (breaks_of ts) ts c.place_of-place.result c.index-children-place.result c.total_before-before.result c.args.start c.args.end c.in-Inner.totals.now _ (down t c) c.in-Inner.ensures.totals_right c.requires.ordered c.if-totals-place.false
 
-below : (t : ℕ) (c : After-deref t) → c.deref.result.now.height + 1 ≡ c.args.node.now.height
+below : (t : ℕ) (c : After-index-children-place t) → c.index-children-place.result.height + 1 ≡ c.args.node.now.height
 below t c = omega (arith, ap (λ u. u.height) c.in-Inner.ensures.is, (down t c).own.at_height)
 
 pub overflow_sub-start : goal.overflow_sub-start
@@ -41,43 +40,43 @@ overflow_sub-end t c = omega (arith, (held t c).0, c.requires.ordered)
 
 pub without-requires : goal.without-requires
 without-requires t c =
-    let e = (goal.at.without-requires t c).After-deref in
+    let e = (goal.at.without-requires t c).After-index-children-place in
     let d = down t e in
     let g = (held t e).1 in
-    let ts = trees c.in-Inner.children.now in
+    let ts = c.in-Inner.children.now in
     (omega (arith, c.decreases, below t e), (g.order, g.within))
 
 pub returns-in_err-middle-in-Inner-clause-made : goal.returns-in_err-middle-in-Inner-clause-made
-returns-in_err-middle-in-Inner-clause-made t c = omega (arith, below t (goal.at.returns-in_err-middle-in-Inner-clause-made t c).After-deref, c.without.ensures.made)
+returns-in_err-middle-in-Inner-clause-made t c = omega (arith, below t (goal.at.returns-in_err-middle-in-Inner-clause-made t c).After-index-children-place, c.without.ensures.made)
 
 pub returns-in_default-clause-made : goal.returns-in_default-clause-made
-returns-in_default-clause-made t c = omega (arith, below t (goal.at.returns-in_default-clause-made t c).After-deref, c.without.ensures.made)
+returns-in_default-clause-made t c = omega (arith, below t (goal.at.returns-in_default-clause-made t c).After-index-children-place, c.without.ensures.made)
 
 pub returns-in_err-nodes-in-Inner-clause-made : goal.returns-in_err-nodes-in-Inner-clause-made
-returns-in_err-nodes-in-Inner-clause-made t c = omega (arith, below t (goal.at.returns-in_err-nodes-in-Inner-clause-made t c).After-deref, c.without.ensures.made)
+returns-in_err-nodes-in-Inner-clause-made t c = omega (arith, below t (goal.at.returns-in_err-nodes-in-Inner-clause-made t c).After-index-children-place, c.without.ensures.made)
 
 pub returns-in_err-make_inner-in-Inner-clause-made :
     goal.returns-in_err-make_inner-in-Inner-clause-made
 returns-in_err-make_inner-in-Inner-clause-made t c =
-    omega (arith, below t (goal.at.returns-in_err-make_inner-in-Inner-clause-made t c).After-deref, c.without.ensures.made, c.make_inner.ensures.made)
+    omega (arith, below t (goal.at.returns-in_err-make_inner-in-Inner-clause-made t c).After-index-children-place, c.without.ensures.made, c.make_inner.ensures.made)
 
 pub returns-in_ok-make_inner-in-Inner-clause-made :
     goal.returns-in_ok-make_inner-in-Inner-clause-made
 returns-in_ok-make_inner-in-Inner-clause-made t c =
-    omega (arith, below t (goal.at.returns-in_ok-make_inner-in-Inner-clause-made t c).After-deref, c.without.ensures.made, c.make_inner.ensures.made)
+    omega (arith, below t (goal.at.returns-in_ok-make_inner-in-Inner-clause-made t c).After-index-children-place, c.without.ensures.made, c.make_inner.ensures.made)
 
 pub make_inner-requires : goal.make_inner-requires
 make_inner-requires t c =
-    let e = (goal.at.make_inner-requires t c).After-deref in
-    let ts = trees c.in-Inner.children.now in
-    let left = spliced_removed c.in-Inner.children.now c.place_of-place.result c.deref.result.now c.in-Some.middle.value (trees c.in_ok-nodes-in-Inner.nodes.items) (down t e).children (down t e).within (down t e).child_is
+    let e = (goal.at.make_inner-requires t c).After-index-children-place in
+    let ts = c.in-Inner.children.now in
+    let left = spliced_removed c.in-Inner.children.now c.place_of-place.result c.index-children-place.result c.in-Some.middle c.in_ok-nodes-in-Inner.nodes.items (down t e).children (down t e).within (down t e).child_is
     _ _ c.args.start c.args.end (held t e).1 (rw c.in-Some.is at c.in_ok-middle-in-Inner.ensures.ok) c.in_ok-nodes-in-Inner.ensures in
-    children_of_first (breaks_of ts) (height_of ts) (trees c.in_ok-nodes-in-Inner.nodes.items) left.children
+    children_of_first (breaks_of ts) (height_of ts) c.in_ok-nodes-in-Inner.nodes.items left.children
 
 pub returns-in_ok-make_inner-in-Inner-clause-ok : goal.returns-in_ok-make_inner-in-Inner-clause-ok
 returns-in_ok-make_inner-in-Inner-clause-ok t c =
-    let e = (goal.at.returns-in_ok-make_inner-in-Inner-clause-ok t c).After-deref in
-    let left = spliced_removed c.in-Inner.children.now c.place_of-place.result c.deref.result.now c.in-Some.middle.value (trees c.in_ok-nodes-in-Inner.nodes.items) (down t e).children (down t e).within (down t e).child_is
+    let e = (goal.at.returns-in_ok-make_inner-in-Inner-clause-ok t c).After-index-children-place in
+    let left = spliced_removed c.in-Inner.children.now c.place_of-place.result c.index-children-place.result c.in-Some.middle c.in_ok-nodes-in-Inner.nodes.items (down t e).children (down t e).within (down t e).child_is
     _ _ c.args.start c.args.end (held t e).1 (rw c.in-Some.is at c.in_ok-middle-in-Inner.ensures.ok) c.in_ok-nodes-in-Inner.ensures in
-    over_removed c.args.node.now c.in_ok-make_inner-in-Inner.field-0.value (trees c.in-Inner.children.now) (trees c.in_ok-nodes-in-Inner.nodes.items) c.args.start c.args.end
+    over_removed c.args.node.now c.in_ok-make_inner-in-Inner.field-0 c.in-Inner.children.now c.in_ok-nodes-in-Inner.nodes.items c.args.start c.args.end
     c.in-Inner.ensures.is c.in_ok-make_inner-in-Inner.ensures.ok left

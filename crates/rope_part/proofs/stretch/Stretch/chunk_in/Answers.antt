@@ -7,12 +7,12 @@ use Rattle.rope_part.proofs.LeafParts.{LeafIn, leaf_in}
 use Rattle.rope_part.proofs.stretch.Stretch.chunk_in.Goals.{After-as_str-leaf, After-saturating_sub-from, After-min-to}
 use Rattle.rope_part.proofs.stretch.Stretch.chunk_in.Goals as goal
 
-part : (c : After-as_str-leaf) → LeafIn c.args.self.now.node.now c.args.self.now.start c.args.self.now.end c.args.found.leaf.now c.args.found.before
+part : (c : After-as_str-leaf) → LeafIn c.args.self.now.node.now c.args.self.now.start c.args.self.now.end c.args.found.leaf c.args.found.before
 part c =
-    leaf_in c.args.self.now.node.now c.args.self.now.start c.args.self.now.end c.args.found.leaf.now c.args.found.before c.height.ensures.tree c.args.self.now.is_stretch
+    leaf_in c.args.self.now.node.now c.args.self.now.start c.args.self.now.end c.args.found.leaf c.args.found.before c.height.ensures.tree c.args.self.now.is_stretch
     c.requires.index c.requires.within c.requires.leaf_is c.requires.before_is c.requires.starts c.requires.ends
 
-size : (c : After-as_str-leaf) → length c.as_str-leaf.result.now ≡ byte_len c.args.found.leaf.now
+size : (c : After-as_str-leaf) → length c.as_str-leaf.result.now ≡ byte_len c.args.found.leaf
 size c = sym (byte_len-chars c.as_str-leaf.result.now c.as_str-leaf.utf8) ∙ ap byte_len c.as_str-leaf.ensures.chars
 
 pub overflow_sub-self : goal.overflow_sub-self
@@ -29,20 +29,20 @@ range-requires-clause-start_le_end c =
       p.to_bytes,
       c.saturating_sub-from.ensures,
       c.min-to.ensures,
-      size_le byte_len IsMeasure-byte_len c.args.found.leaf.now (c.args.self.now.start.chars - c.args.found.before.chars) (c.args.self.now.end.chars - c.args.found.before.chars) (omega arith),
+      size_le byte_len IsMeasure-byte_len c.args.found.leaf (c.args.self.now.start.chars - c.args.found.before.chars) (c.args.self.now.end.chars - c.args.found.before.chars) (omega arith),
     )
 
 pub range-requires-clause-start_boundary : goal.range-requires-clause-start_boundary
 range-requires-clause-start_boundary c =
     let p = part (goal.at.range-requires-clause-start_boundary c).After-as_str-leaf in
-    λ _. boundary_of c.as_str-leaf.result.now c.args.found.leaf.now (c.args.self.now.start.chars - c.args.found.before.chars) c.saturating_sub-from.result c.as_str-leaf.utf8 c.as_str-leaf.ensures.chars
+    λ _. boundary_of c.as_str-leaf.result.now c.args.found.leaf (c.args.self.now.start.chars - c.args.found.before.chars) c.saturating_sub-from.result c.as_str-leaf.utf8 c.as_str-leaf.ensures.chars
     (c.saturating_sub-from.ensures ∙ sym p.from_bytes)
 
 pub range-requires-clause-end_boundary : goal.range-requires-clause-end_boundary
 range-requires-clause-end_boundary c =
     let p = part (goal.at.range-requires-clause-end_boundary c).After-as_str-leaf in
     let long = size (goal.at.range-requires-clause-end_boundary c).After-as_str-leaf in
-    boundary_of c.as_str-leaf.result.now c.args.found.leaf.now (c.args.self.now.end.chars - c.args.found.before.chars) c.min-to.result c.as_str-leaf.utf8 c.as_str-leaf.ensures.chars
+    boundary_of c.as_str-leaf.result.now c.args.found.leaf (c.args.self.now.end.chars - c.args.found.before.chars) c.min-to.result c.as_str-leaf.utf8 c.as_str-leaf.ensures.chars
     (omega (arith, c.min-to.ensures, p.to_bytes))
 
 pub returns : goal.returns
@@ -53,6 +53,6 @@ returns c =
     let j : ℕ = c.args.self.now.end.chars - c.args.found.before.chars in
     let some = p.some in
     p.found _ _ _ _
-    (chars_of_part c.as_str-leaf.result.now c.args.found.leaf.now c.range.result.now i j c.saturating_sub-from.result c.min-to.result c.as_str-leaf.utf8 c.as_str-leaf.ensures.chars (omega arith)
+    (chars_of_part c.as_str-leaf.result.now c.args.found.leaf c.range.result.now i j c.saturating_sub-from.result c.min-to.result c.as_str-leaf.utf8 c.as_str-leaf.ensures.chars (omega arith)
     (c.saturating_sub-from.ensures ∙ sym p.from_bytes) (omega (arith, c.min-to.ensures, p.to_bytes)) c.range.ensures.value)
     c.saturating_sub.ensures c.saturating_sub-2.ensures c.saturating_sub-3.ensures

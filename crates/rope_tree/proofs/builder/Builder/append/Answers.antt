@@ -8,7 +8,6 @@ use Rattle.rope_text.specs.Text.{byte_len}
 use Rattle.rope_text.proofs.Measures.{IsMeasure-byte_len}
 use Rattle.rope_text.proofs.Walks.{byte_len-chars}
 use Rattle.rope_tree.specs.Tree.{joined}
-use Rattle.rope_tree.specs.Listed.{trees}
 use Rattle.rope_tree.specs.Fronts.{AreFrontNodes, Building}
 use Rattle.rope_tree.proofs.BuildLaws.{no_chars}
 use Rattle.rope_tree.proofs.builder.Builder.append.Goals as goal
@@ -25,12 +24,12 @@ invariant_of-self-2 c =
     let a = c.self.inside in
     let made = c.in_default.ensures in
     let whole = made.nodes.fronts.whole in
-    let old = joined (trees a.leaves.items) ++ a.rest in
+    let old = joined a.leaves.items ++ a.rest in
     let text = chars c.args.text.now in
-    let all : byte_len (joined (trees a.leaves.items) ++ (a.rest ++ text)) ≡ byte_len old + byte_len text =
-    ap byte_len (sym (append_assoc (joined (trees a.leaves.items)) a.rest text)) ∙ IsMeasure-byte_len.joined old text in
+    let all : byte_len (joined a.leaves.items ++ (a.rest ++ text)) ≡ byte_len old + byte_len text =
+    ap byte_len (sym (append_assoc (joined a.leaves.items) a.rest text)) ∙ IsMeasure-byte_len.joined old text in
     record {
-      nodes = subst (λ w. AreFrontNodes a.breaks w (trees c.append_to-appended.new.leaves.items) c.append_to-appended.new.rest) (sym whole) made.nodes;
+      nodes = subst (λ w. AreFrontNodes a.breaks w c.append_to-appended.new.leaves.items c.append_to-appended.new.rest) (sym whole) made.nodes;
       long = omega (arith, made.long, c.self.invariant.long);
       followed = λ _. made.followed;
       counted = omega (arith, ap byte_len whole, all, c.self.invariant.counted, byte_len-chars c.args.text.now c.utf8.text);

@@ -6,13 +6,12 @@ use Rattle.std.proofs.lemmas.List.{length-append, append-nil}
 use Rattle.std.specs.List.{concat}
 use Rattle.rope_text.specs.Text.{byte_len}
 use Rattle.rope_tree.specs.Tree.{Tree, joined, leaves_of}
-use Rattle.rope_tree.specs.Listed.{trees}
 use Rattle.rope_tree.specs.Fronts.{AreFrontNodes, Building}
 use Rattle.rope_tree.specs.Siblings.{AreSiblings}
 use Rattle.rope_tree.proofs.TreeLaws.{breaks_of_is}
 use Rattle.rope_tree.proofs.InsertTrees.{siblings_of_first}
 use Rattle.rope_tree.proofs.LeafLaws.{seam-nil}
-use Rattle.rope_tree.proofs.BuildLaws.{nodes_front, nodes_whole, siblings_whole, trees_push, length_of, nodes_le, leaf_few}
+use Rattle.rope_tree.proofs.BuildLaws.{nodes_front, nodes_whole, siblings_whole, nodes_le, leaf_few}
 use Rattle.rope_tree.proofs.builder.Builder.finish.Goals.{In_ok-push}
 use Rattle.rope_tree.proofs.builder.Builder.finish.Goals as goal
 
@@ -22,27 +21,27 @@ left c =
     let a = c.self.inside in
     let full : (a.leaves.len == 0) ≡ false = sym c.is_empty.ensures ∙ c.if-is_empty.false in
     let some : 0 < length a.leaves.items = grind (arith, nat_tests, a.leaves.ok) in
-    c.self.invariant.followed (omega (arith, length_of a.leaves.items))
+    c.self.invariant.followed (omega (arith))
 
 -- all leaves
-last : (c : In_ok-push) → AreFrontNodes c.self.inside.breaks (joined (trees c.self.inside.leaves.items) ++ c.self.inside.rest) (trees c.push.new.self.items) []
-    × (length (leaves_of (trees c.push.new.self.items)) ≡ length (leaves_of (trees c.self.inside.leaves.items)) + 1)
+last : (c : In_ok-push) → AreFrontNodes c.self.inside.breaks (joined c.self.inside.leaves.items ++ c.self.inside.rest) c.push.new.self.items []
+    × (length (leaves_of c.push.new.self.items) ≡ length (leaves_of c.self.inside.leaves.items) + 1)
 last c =
     let a = c.self.inside in
     let node = c.in_ok-rest.rest in
-    let pushed = ap trees c.in_ok-push.ensures.items ∙ trees_push a.leaves.items node in
-    rw pushed (nodes_front a.breaks (joined (trees a.leaves.items) ++ a.rest) (trees a.leaves.items) a.rest a.rest [] node.value
+    let pushed = c.in_ok-push.ensures.items in
+    rw pushed (nodes_front a.breaks (joined a.leaves.items ++ a.rest) a.leaves.items a.rest a.rest [] node
     c.self.invariant.nodes (append-nil a.rest) (left c) (seam-nil a.rest) c.in_ok-rest.ensures.ok c.in_ok-rest.ensures.tree)
 
-all : (c : In_ok-push) → AreSiblings c.self.inside.breaks 0 (trees c.push.new.self.items)
+all : (c : In_ok-push) → AreSiblings c.self.inside.breaks 0 c.push.new.self.items
 all c =
     let a = c.self.inside in
-    siblings_whole a.breaks (joined (trees a.leaves.items) ++ a.rest) (trees c.push.new.self.items) (last c).0 (omega (arith, c.self.invariant.counted, c.self.invariant.fits))
+    siblings_whole a.breaks (joined a.leaves.items ++ a.rest) c.push.new.self.items (last c).0 (omega (arith, c.self.invariant.counted, c.self.invariant.fits))
 
-some : (c : In_ok-push) → 1 ≤ length (trees c.push.new.self.items)
+some : (c : In_ok-push) → 1 ≤ length c.push.new.self.items
 some c =
     let a = c.self.inside in
-    omega (arith, ap length (ap trees c.in_ok-push.ensures.items ∙ trees_push a.leaves.items c.in_ok-rest.rest), length-append (trees a.leaves.items) (c.in_ok-rest.rest.value ∷ []))
+    omega (arith, ap length c.in_ok-push.ensures.items, length-append a.leaves.items (c.in_ok-rest.rest ∷ []))
 
 pub returns-then-is_empty-clause-few : goal.returns-then-is_empty-clause-few
 returns-then-is_empty-clause-few c =
@@ -52,24 +51,24 @@ returns-then-is_empty-clause-few c =
 pub root_over-requires-clause-siblings : goal.root_over-requires-clause-siblings
 root_over-requires-clause-siblings c =
     let b = (goal.at.root_over-requires-clause-siblings c).In_ok-push in
-    siblings_of_first c.self.inside.breaks 0 (trees c.push.new.self.items) (some b) (all b)
+    siblings_of_first c.self.inside.breaks 0 c.push.new.self.items (some b) (all b)
 
 pub returns-clause-text : goal.returns-clause-text
 returns-clause-text c =
     let b = (goal.at.returns-clause-text c).In_ok-push in
     let a = c.self.inside in
-    ap concat c.in_ok-root_over.ensures.leaves ∙ nodes_whole a.breaks (joined (trees a.leaves.items) ++ a.rest) (trees c.push.new.self.items) (last b).0 ∙ ap (λ (x : Building). x.text) c.self.view_is
+    ap concat c.in_ok-root_over.ensures.leaves ∙ nodes_whole a.breaks (joined a.leaves.items ++ a.rest) c.push.new.self.items (last b).0 ∙ ap (λ (x : Building). x.text) c.self.view_is
 
 pub returns-clause-breaks : goal.returns-clause-breaks
 returns-clause-breaks c =
     let b = (goal.at.returns-clause-breaks c).In_ok-push in
-    c.in_ok-root_over.ensures.breaks ∙ breaks_of_is c.self.inside.breaks 0 (trees c.push.new.self.items) (some b) (all b).each ∙ ap (λ (x : Building). x.breaks) c.self.view_is
+    c.in_ok-root_over.ensures.breaks ∙ breaks_of_is c.self.inside.breaks 0 c.push.new.self.items (some b) (all b).each ∙ ap (λ (x : Building). x.breaks) c.self.view_is
 
 pub returns-clause-made : goal.returns-clause-made
 returns-clause-made c =
     let b = (goal.at.returns-clause-made c).In_ok-push in
-    let rcs = c.push.new.self.items in
-    omega (arith, c.in_ok-rest.ensures.made, c.in_ok-root_over.ensures.made, ap length c.in_ok-root_over.ensures.leaves, length_of rcs, nodes_le c.self.inside.breaks 0 (trees rcs) (all b).each)
+    let ts = c.push.new.self.items in
+    omega (arith, c.in_ok-rest.ensures.made, c.in_ok-root_over.ensures.made, ap length c.in_ok-root_over.ensures.leaves, nodes_le c.self.inside.breaks 0 ts (all b).each)
 
 pub returns-clause-few : goal.returns-clause-few
 returns-clause-few c =

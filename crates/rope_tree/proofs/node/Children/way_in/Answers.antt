@@ -2,7 +2,8 @@ use Rattle.std.proofs.Common.{◌-◌, ◌≤◌, [], length, get_or, ap, arith}
 use Rattle.std.proofs.lemmas.List.{get_or_default}
 use Rattle.rope_tree.specs.declared.search.Unit.TheVariants.{Char}
 use Rattle.rope_tree.specs.Tree.{Tree, text, joined, height_of, breaks_of}
-use Rattle.rope_tree.specs.Listed.{HasTotals}
+use Rattle.rope_tree.specs.Totals.{HasTotals}
+use Rattle.rope_tree.specs.Listed.{listed}
 use Rattle.rope_tree.specs.Insert.{GoesIn}
 use Rattle.rope_tree.proofs.NodeLaws.{small_totals}
 use Rattle.rope_tree.proofs.Descents.{Descends, descends_to}
@@ -12,7 +13,7 @@ use Rattle.rope_tree.proofs.node.Children.way_in.Goals.{After-total_before-befor
 use Rattle.rope_tree.proofs.node.Children.way_in.Goals as goal
 
 totals : (c : After-as_slice-totals) → HasTotals (breaks_of c.args.self.now) c.as_slice-totals.result.now c.args.self.now
-totals c = totals_seen c.self.inside.nodes.items c.args.self.now c.self.inside.totals.items c.as_slice-totals.result.now c.self.view_is c.as_slice-totals.ensures.value c.self.invariant
+totals c = totals_seen (listed c.self.inside) c.args.self.now c.self.inside.totals.items c.as_slice-totals.result.now c.self.view_is c.as_slice-totals.ensures.value c.self.invariant.totals_right
 
 -- the way down to the child
 down : (c : After-total_before-before) (d : Tree) → Descends (breaks_of c.args.self.now) Char c.char_to_hold-held.result c.args.self.now c.place_of-place.result (get_or c.args.self.now c.place_of-place.result d) c.total_before-before.result

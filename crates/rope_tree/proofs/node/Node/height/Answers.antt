@@ -1,12 +1,17 @@
-use Rattle.rope_tree.specs.Tree.{IsTree}
-use Rattle.rope_tree.proofs.TreeLaws.{low_tree}
-use Rattle.rope_tree.proofs.NodeLaws.{is_tree_of}
+use Rattle.std.proofs.Common.{subst, sym}
+use Rattle.rope_tree.specs.Tree.{IsTree, height_of, breaks_of}
+use Rattle.rope_tree.proofs.TreeLaws.{low_tree, is_tree_over}
+use Rattle.rope_tree.proofs.FormLaws.{inner_of}
 use Rattle.rope_tree.proofs.node.Node.height.Goals as goal
 
-pub returns-clause-tree : goal.returns-clause-tree
-returns-clause-tree c = rw (← c.self.view_is) (is_tree_of c.self.inside c.self.invariant)
+pub returns-in-Inner-clause-tree : goal.returns-in-Inner-clause-tree
+returns-in-Inner-clause-tree c =
+    let ts = c.in-Inner.children.value in
+    let i = inner_of c.self.inside c.args.self.now c.in-Inner.children c.self.invariant c.in-Inner.is c.self.view_is in
+    subst IsTree (sym i.is) (is_tree_over (breaks_of ts) (height_of ts) ts i.children)
 
-pub returns-clause-low : goal.returns-clause-low
-returns-clause-low c =
-    let i : IsTree c.args.self.now = rw (← c.self.view_is) (is_tree_of c.self.inside c.self.invariant) in
-    low_tree c.args.self.now i
+pub returns-in-Inner-clause-low : goal.returns-in-Inner-clause-low
+returns-in-Inner-clause-low c =
+    let ts = c.in-Inner.children.value in
+    let i = inner_of c.self.inside c.args.self.now c.in-Inner.children c.self.invariant c.in-Inner.is c.self.view_is in
+    low_tree c.args.self.now (subst IsTree (sym i.is) (is_tree_over (breaks_of ts) (height_of ts) ts i.children))

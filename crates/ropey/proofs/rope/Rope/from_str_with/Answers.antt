@@ -6,9 +6,9 @@ use Rattle.ropey.proofs.Ropes.{rope_of}
 use Rattle.ropey.proofs.rope.Rope.from_str_with.Goals as goal
 
 pub returns-clause-kept : goal.returns-clause-kept
-returns-clause-kept c = rope_of c.in_ok-root.root.value c.in_ok-root.ensures.tree
+returns-clause-kept c = rope_of c.in_ok-root.root c.in_ok-root.ensures.tree
 
 pub returns-clause-few : goal.returns-clause-few
 returns-clause-few c =
     let same = ap byte_len c.in_ok-root.ensures.text ∙ byte_len-chars c.args.text.now c.utf8.text in
-    subst (λ n. length c.in_ok-root.root.value.leaves ≤ (n + 980) / 981) (sym same) c.in_ok-root.ensures.few
+    subst (λ n. length c.in_ok-root.root.leaves ≤ (n + 980) / 981) (sym same) c.in_ok-root.ensures.few

@@ -5,4 +5,4 @@ use Rattle.ropey.proofs.Ropes.{rope_of}
 use Rattle.ropey.proofs.rope.Rope.len_bytes.Goals as goal
 
 pub returns-clause-kept : goal.returns-clause-kept
-returns-clause-kept c = subst IsRope c.self.view_is (rope_of c.self.inside.root.value c.self.invariant)
+returns-clause-kept c = subst IsRope c.self.view_is (rope_of c.self.inside.root c.self.invariant)

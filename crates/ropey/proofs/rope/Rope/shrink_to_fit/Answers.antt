@@ -5,10 +5,10 @@ use Rattle.ropey.proofs.Ropes.{rope_of}
 use Rattle.ropey.proofs.rope.Rope.shrink_to_fit.Goals as goal
 
 pub returns-in_err-builder-clause-kept : goal.returns-in_err-builder-clause-kept
-returns-in_err-builder-clause-kept c = subst IsRope c.self.view_is (rope_of c.self.inside.root.value c.self.invariant)
+returns-in_err-builder-clause-kept c = subst IsRope c.self.view_is (rope_of c.self.inside.root c.self.invariant)
 
 pub returns-in_err-root-clause-kept : goal.returns-in_err-root-clause-kept
-returns-in_err-root-clause-kept c = subst IsRope c.self.view_is (rope_of c.self.inside.root.value c.self.invariant)
+returns-in_err-root-clause-kept c = subst IsRope c.self.view_is (rope_of c.self.inside.root c.self.invariant)
 
 pub returns-clause-kept : goal.returns-clause-kept
-returns-clause-kept c = rope_of c.in_ok-root.root.value c.in_ok-root.ensures.tree
+returns-clause-kept c = rope_of c.in_ok-root.root c.in_ok-root.ensures.tree

@@ -1,0 +1,67 @@
+-- What the form of a node says of it.
+use Rattle.std.proofs.Common.{◌≡◌, ℕ, Bool, true, false, Result, Ok, Err, IfOk, OnErr, List, [], ◌∷◌, refl, sym, ap, subst, ◌∙◌, arith}
+use Rattle.std.proofs.lemmas.List.{nil_from_length}
+use Rattle.std.proofs.lemmas.Str.{length-le-encodes}
+use Rattle.std.specs.declared.alloc.Global.{Global}
+use Rattle.std.specs.declared.rc.Rc.{Rc}
+use Rattle.rope_text.specs.Text.{byte_len}
+use Rattle.rope_text.specs.Edit.{inserted}
+use Rattle.rope_tree.specs.declared.node.Node.TheInside.{Inside}
+use Rattle.rope_tree.specs.declared.node.Children.{Children}
+use Rattle.rope_tree.specs.declared.leaf.Leaf.{Leaf}
+use Rattle.rope_tree.specs.declared.node.Form.TheVariants.{Leaf as LeafForm, Inner}
+use Rattle.rope_tree.specs.Tree.{Tree, text, joined, height_of, breaks_of, tree_over, AreChildren}
+use Rattle.rope_tree.specs.Shape.{form_tree, tree_of, IsForm, IsNode}
+use Rattle.rope_tree.specs.Insert.{IsInserted, AreGrown}
+use Rattle.rope_tree.specs.Removal.{IsRemoved, AreRemoved}
+use Rattle.rope_tree.proofs.NodeLaws.{children_of_first}
+use Rattle.rope_tree.proofs.RemovalLaws.{over_removed}
+use Rattle.rope_tree.proofs.GrownLaws.{children_after, over_grown}
+
+-- the node over these children
+pub record IsInner (t : Tree) (ts : List Tree) : Type 0 where
+  pub is : t ≡ tree_over ts
+  pub children : AreChildren (breaks_of ts) (height_of ts) ts
+
+pub inner_of : (a : Inside) (t : Tree) (rc : Rc Children Global) → IsNode a → a.form ≡ Inner rc → tree_of a ≡ t → IsInner t rc.value
+inner_of a t rc i e view = record {
+  is = sym view ∙ ap form_tree e;
+  children = subst IsForm e i.form;
+}
+
+-- a text of no bytes
+pub no_text : (l : List ℕ) → byte_len l ≡ 0 → l ≡ []
+no_text l none = nil_from_length l (omega (arith, length-le-encodes l))
+
+-- a leaf, as the pointer has it
+pub leaf_seen : (a : Inside) (t : Tree) (rc : Rc Leaf Global) (x : Tree) → a.form ≡ LeafForm rc → tree_of a ≡ t → x ≡ rc.value → t ≡ x
+leaf_seen a t rc x e view is = sym view ∙ ap form_tree e ∙ sym is
+
+-- the children, as the pointer has them
+pub inner_seen : (a : Inside) (t : Tree) (rc : Rc Children Global) (ts : List Tree) → IsNode a → a.form ≡ Inner rc → tree_of a ≡ t → ts ≡ rc.value → IsInner t ts
+inner_seen a t rc ts i e view is = subst (IsInner t) (sym is) (inner_of a t rc i e view)
+
+-- a node whose children took a text, or didn't
+pub by_answer : {P : Type 0} (b : Bool) → (b ≡ true → P) → (b ≡ false → P) → P
+by_answer true f g = f refl
+by_answer false f g = g refl
+
+pub by_outcome : {E Q S P : Type 0} (r : Result Bool E) → IfOk r (λ did. did ≡ true → Q) → IfOk r (λ did. did ≡ false → S) → OnErr r S → (Q → P) → (S → P) → P
+by_outcome (Ok did) done kept err f g = by_answer did (λ y. f (done y)) (λ n. g (kept n))
+by_outcome (Err e) done kept err f g = g err
+
+pub still_children : (t : Tree) (ts us : List Tree) → IsInner t ts → us ≡ ts → AreChildren (breaks_of us) (height_of us) us
+still_children t ts us i same = rw same i.children
+
+pub grown_children : (t : Tree) (ts us : List Tree) (at : ℕ) (s : List ℕ) → IsInner t ts → AreGrown ts us (inserted (joined ts) at s) → AreChildren (breaks_of us) (height_of us) us
+grown_children t ts us at s i g = children_after ts us at s i.children g
+
+pub grown_node : (t : Tree) (ts us : List Tree) (at : ℕ) (s : List ℕ) → IsInner t ts → AreGrown ts us (inserted (joined ts) at s) → IsInserted t (tree_over us ∷ []) (inserted (text t) at s)
+grown_node t ts us at s i g = rw i.is (over_grown ts us at s i.children g)
+
+-- a node whose children lost characters
+pub removed_children : (t : Tree) (ts us : List Tree) (start end : ℕ) → IsInner t ts → AreRemoved ts us start end → AreChildren (breaks_of us) (height_of us) us
+removed_children t ts us start end i r = children_of_first (breaks_of ts) (height_of ts) us r.children
+
+pub removed_node : (t : Tree) (ts us : List Tree) (start end : ℕ) → IsInner t ts → AreRemoved ts us start end → IsRemoved t (tree_over us) start end
+removed_node t ts us start end i r = over_removed t (tree_over us) ts us start end i.is refl r

@@ -1,0 +1,20 @@
+use Rattle.std.proofs.Common.{sym, ap, subst, ◌∙◌}
+use Rattle.rope_text.specs.TextInfo.{info_of}
+use Rattle.rope_tree.proofs.Infos.{IsLow, low_info}
+use Rattle.rope_tree.proofs.leaf.Leaf.insert_in_place.Goals.{After-as_str}
+use Rattle.rope_tree.proofs.leaf.Leaf.insert_in_place.Goals as goal
+
+-- the counts of a leaf that took the text
+low : (c : After-as_str) → IsLow c.put_in-new.result 984
+low c =
+    let now = c.put_in-new.ensures.info ∙ ap (info_of c.self.inside.breaks) (sym c.put_in-new.ensures.text) in
+    subst (λ i. IsLow i 984) (sym now) (low_info c.self.inside.breaks c.put_in-new.new.leaf 984 c.as_str.ensures.fits)
+
+pub new-self-inside-requires-clause-chars : goal.new-self-inside-requires-clause-chars
+new-self-inside-requires-clause-chars c = (low c).chars
+
+pub new-self-inside-requires-clause-surrogates : goal.new-self-inside-requires-clause-surrogates
+new-self-inside-requires-clause-surrogates c = (low c).surrogates
+
+pub new-self-inside-requires-clause-break_count : goal.new-self-inside-requires-clause-break_count
+new-self-inside-requires-clause-break_count c = (low c).count

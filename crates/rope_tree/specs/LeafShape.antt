@@ -1,0 +1,16 @@
+-- What a leaf's fields are seen as, and what holds of them.
+use Rattle.std.specs.Prelude.{◌≡◌, ◌≤◌, true}
+use Rattle.std.specs.Str.{all_scalars}
+use Rattle.rope_text.specs.Text.{byte_len}
+use Rattle.rope_text.specs.TextInfo.{info_of}
+use Rattle.rope_tree.specs.Tree.{Tree, leaf_tree}
+use Rattle.rope_tree.specs.declared.leaf.Leaf.TheInside.{Inside}
+
+abbrev pub leaf_of : Inside → Tree
+leaf_of a = leaf_tree a.breaks a.text
+
+-- a text that fits, with its counts
+pub record IsLeaf (a : Inside) : Type 0 where
+  pub fits : byte_len a.text ≤ 984
+  pub scalars : all_scalars a.text ≡ true
+  pub counted : a.info ≡ info_of a.breaks a.text

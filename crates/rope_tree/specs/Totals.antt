@@ -1,0 +1,11 @@
+-- The running totals over trees side by side.
+use Rattle.std.specs.Prelude.{◌≡◌, ℕ, ◌+◌, ◌<◌, List, length, take, slice_index_or}
+use Rattle.rope_text.specs.declared.line_breaks.LineBreaks.{LineBreaks}
+use Rattle.rope_text.specs.declared.text_info.TextInfo.{TextInfo}
+use Rattle.rope_text.specs.TextInfo.{info_of}
+use Rattle.rope_tree.specs.Tree.{Tree, joined}
+
+-- each total has the counts of the text up to the end of its child
+pub record HasTotals (breaks : LineBreaks) (totals : List TextInfo) (ts : List Tree) : Type 0 where
+  pub as_many : length totals ≡ length ts
+  pub total_at : (k : ℕ) (d : TextInfo) → k < length ts → slice_index_or totals k d ≡ info_of breaks (joined (take (k + 1) ts))

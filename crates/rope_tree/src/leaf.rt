@@ -1,0 +1,138 @@
+//! Leaves: a text with its counts and its set of line breaks.
+ghost use Rattle.std.specs.Prelude.{◌≡◌, ◌+◌, ◌<◌, ◌≤◌, [], ◌∷◌, true, false, length, IfOk, OnErr, IfSome, IfNone};
+ghost use Rattle.rope_text.specs.Text.{byte_len};
+ghost use Rattle.rope_text.specs.TextInfo.{info_of};
+ghost use Rattle.rope_text.specs.Edit.{inserted};
+ghost use Rattle.rope_tree.specs.Tree.{text, leaf_tree};
+ghost use Rattle.rope_tree.specs.LeafTree.{IsLeafOf};
+ghost use Rattle.rope_tree.specs.Insert.{IsInserted};
+ghost use Rattle.rope_tree.specs.Removal.{IsRemoved};
+
+use crate::counts::{info_with, put_in, take_out};
+use crate::leaf_info::LeafInfo;
+use crate::node::{Node, make_leaf};
+use crate::node_text::NodeText;
+use crate::short_text::ShortText;
+use rope_text::{LineBreaks, MAX_BYTES, TextInfo};
+use std::alloc::{AllocError, Global};
+use std::marker::Model;
+
+/// A text of at most `MAX_BYTES` bytes, its counts and its set of line breaks. It is seen as the tree that is a leaf.
+#[derive(Drop)]
+pub(crate) struct Leaf {
+    breaks: LineBreaks,
+    info: LeafInfo,
+    text: NodeText,
+}
+
+impl Model for Leaf {
+    ghost use Rattle.rope_tree.specs.Tree.{Tree};
+
+    ghost Value = { Tree };
+
+    ghost use Rattle.rope_tree.specs.LeafShape.{leaf_of, IsLeaf};
+
+    ghost view = { leaf_of };
+
+    ghost invariant = { IsLeaf };
+}
+
+impl Leaf {
+    /// A leaf with this text, whose counts the caller knows.
+    pub(crate) fn new(breaks: LineBreaks, leaf: NodeText, info: TextInfo) -> Leaf
+        requires { info ≡ info_of breaks leaf }
+        ensures { result ≡ leaf_tree breaks leaf }
+    {
+        let _ = leaf.as_str();
+        Leaf {
+            breaks,
+            info: LeafInfo::new(info),
+            text: leaf,
+        }
+    }
+
+    /// Its set of line breaks.
+    pub(crate) fn line_breaks(&self) -> LineBreaks
+        ensures { result ≡ self.now.breaks }
+    {
+        self.breaks
+    }
+
+    /// The counts of its text.
+    pub(crate) fn info(&self) -> TextInfo
+        ensures { result ≡ info_of self.now.breaks (text self.now) }
+    {
+        self.info.info()
+    }
+
+    /// Its text. The length is read in the leaf's counts: the one that is kept with the text lies behind it, and a walk over
+    /// leaves would wait for one more place in memory at each.
+    pub(crate) fn text(&self) -> ShortText<'_>
+        ensures { IsLeafOf self.now result }
+    {
+        let info = self.info.info();
+        ShortText::with_chars(self.text.as_str_of_len(info.bytes), info.chars)
+    }
+
+    /// Puts a text before the character `at`, if there is room for it; returns whether it did. It takes no memory.
+    pub(crate) fn insert_in_place(&mut self, at: usize, added: &ShortText<'_>) -> bool
+        requires { 1 ≤ length added.now }
+        ensures done { result ≡ true → IsInserted self.old (self.new ∷ []) (inserted (text self.old) at added.now) }
+        ensures kept { result ≡ false → self.new ≡ self.old }
+    {
+        if self.text.len() + added.len() > MAX_BYTES {
+            return false;
+        }
+        let new = put_in(&mut self.text, at, added, self.info.info(), self.breaks);
+        let _ = self.text.as_str();
+        self.info = LeafInfo::new(new);
+        true
+    }
+
+    /// Puts a text before the character `at`, where there is no room for it: leaves the first part here, and answers a leaf
+    /// with the second. None, and nothing changed, where there is room. Where memory is refused, nothing is changed.
+    pub(crate) fn cut(
+        &mut self,
+        alloc: Global,
+        at: usize,
+        added: &ShortText<'_>,
+        made: &mut u64,
+    ) -> Result<Option<Node>, AllocError>
+        requires some { 1 ≤ length added.now }
+        requires short { byte_len added.now ≤ 981 }
+        ensures cut { IfOk result (λ found. IfSome found (λ back. IsInserted self.old (self.new ∷ back ∷ []) (inserted (text self.old) at added.now))) }
+        ensures kept { IfOk result (λ found. IfNone found (self.new ≡ self.old)) }
+        ensures err { OnErr result (self.new ≡ self.old) }
+        ensures unmade { IfOk result (λ found. IfNone found (made.new ≡ made.old)) }
+        ensures made { made.new ≤ made.old + 1 }
+    {
+        if self.text.len() + added.len() <= MAX_BYTES {
+            return Ok(None);
+        }
+        let old = ShortText::new(self.text.as_str());
+        let info = info_with(self.info.info(), &old, at, added, self.breaks);
+        let mut front = NodeText::from_str(old.as_str());
+        let back = front.insert_str_split(at, added.as_str());
+        let front_info = TextInfo::from_str(front.as_str(), self.breaks);
+        let back_info = info.minus(front_info);
+        let behind = make_leaf(alloc, self.breaks, back, back_info, made)?;
+        *self = Leaf::new(self.breaks, front, front_info);
+        Ok(Some(behind))
+    }
+
+    /// Takes the characters from `start` up to `end` out, if the leaf may do without them; returns whether it did. It takes no
+    /// memory.
+    pub(crate) fn remove_in_place(&mut self, start: usize, end: usize) -> bool
+        requires ordered { start < end }
+        requires within { end ≤ length (text self.old) }
+        ensures done { result ≡ true → IsRemoved self.old self.new start end }
+        ensures kept { result ≡ false → self.new ≡ self.old }
+    {
+        let Some(left) = take_out(&mut self.text, start, end, self.info.info(), self.breaks) else {
+            return false;
+        };
+        let _ = self.text.as_str();
+        self.info = LeafInfo::new(left);
+        true
+    }
+}
