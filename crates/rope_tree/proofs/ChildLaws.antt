@@ -31,13 +31,13 @@ pub record Finds (a : Inside) (ts : List Tree) (k : ℕ) (child : Tree) (at i : 
   pub taken : Takes ts k child at i to_right
 
 module _ (a : Inside) (ts : List Tree) (k : ℕ) (child : Tree) (at i : ℕ) (to_right : Bool) (f : Finds a ts k child at i to_right) where
-  pub read : (seen : List TextInfo) → seen ≡ a.totals.items → HasTotals (breaks_of ts) seen ts
-  read seen is = totals_seen (listed a) ts a.totals.items seen f.view is f.fields.totals_right
+  pub read : (seen : List TextInfo) → seen ≡ a.totals → HasTotals (breaks_of ts) seen ts
+  read seen is = totals_seen (listed a) ts a.totals seen f.view is f.fields.totals_right
 
   old_counts : (old : TextInfo) → old ≡ info_of child.breaks (text child) → old ≡ info_of (breaks_of ts) (text child)
   old_counts old is = is ∙ ap (λ b. info_of b (text child)) f.taken.own.same_breaks
 
-  pub part : (seen : List TextInfo) → seen ≡ a.totals.items → (old : TextInfo) → old ≡ info_of child.breaks (text child) → (j : ℕ) (d : TextInfo) → k ≤ j → j < length seen → HasPart (get_or seen j d) old
+  pub part : (seen : List TextInfo) → seen ≡ a.totals → (old : TextInfo) → old ≡ info_of child.breaks (text child) → (j : ℕ) (d : TextInfo) → k ≤ j → j < length seen → HasPart (get_or seen j d) old
   part seen is old old_is j d from within =
       let totals = read seen is in
       let inside : j < length ts = omega (arith, totals.as_many) in
@@ -72,14 +72,14 @@ module _ (a : Inside) (ts : List Tree) (k : ℕ) (child : Tree) (at i : ℕ) (to
           let wide = child_grown (breaks_of ts) (height_of ts) child u _ f.taken.own done in
           rw is (small_info u.breaks (text u) wide.tree.fits)
 
-      module _ (b : Inside) (height : b.height ≡ a.height) (breaks : b.breaks ≡ a.breaks) (nodes : b.nodes ≡ set a.nodes k u) (seen after : List TextInfo) (old new : TextInfo) (is : seen ≡ a.totals.items)
+      module _ (b : Inside) (height : b.height ≡ a.height) (breaks : b.breaks ≡ a.breaks) (nodes : b.nodes ≡ set a.nodes k u) (seen after : List TextInfo) (old new : TextInfo) (is : seen ≡ a.totals)
           (old_is : old ≡ info_of child.breaks (text child)) (new_is : new ≡ info_of u.breaks (text u)) (len : length after ≡ length seen) (before : (j : ℕ) (d : TextInfo) → j < k → get_or after j d ≡ get_or seen j d)
-          (past : (j : ℕ) (d : TextInfo) → k ≤ j → j < length seen → info_sum (get_or after j d) old ≡ info_sum (get_or seen j d) new) (totals : b.totals.items ≡ refill (length a.totals.items) a.totals.items after) where
-        retotaled : HasTotals (breaks_of (set ts k u)) b.totals.items (set ts k u)
+          (past : (j : ℕ) (d : TextInfo) → k ≤ j → j < length seen → info_sum (get_or after j d) old ≡ info_sum (get_or seen j d) new) (totals : b.totals ≡ after) where
+        retotaled : HasTotals (breaks_of (set ts k u)) b.totals (set ts k u)
         retotaled =
             let d = f.taken in
             let wide = child_grown (breaks_of ts) (height_of ts) child u _ d.own done in
-            rw totals (set_totals ts k child u a.totals.items seen after old new d.children d.within d.child_is d.own.same_breaks all_children wide.same_breaks (read seen is) is old_is new_is len before past)
+            rw totals (set_totals ts k child u a.totals seen after old new d.children d.within d.child_is d.own.same_breaks all_children wide.same_breaks (read seen is) is old_is new_is len before past)
 
         pub fields_after : IsListed b
         fields_after = set_listed a b ts k u f.fields f.view f.taken.within all_children height breaks nodes retotaled

@@ -3,6 +3,7 @@ pub mod LeafLaws
 pub mod TreeLaws
 pub mod Halving
 pub mod ShortTexts
+pub mod TotalsKept
 pub mod Retotals
 pub mod CountLaws
 pub mod TotalLaws

@@ -14,18 +14,18 @@ use Rattle.rope_tree.specs.Flat.{IsFlat}
 use Rattle.rope_tree.specs.Listed.{listed, IsListed}
 use Rattle.rope_tree.proofs.TreeLaws.{height_of_is, breaks_of_is}
 use Rattle.rope_tree.proofs.TotalLaws.{totals_after}
-use Rattle.rope_tree.proofs.GrownLaws.{set_parts, refill_all}
+use Rattle.rope_tree.proofs.GrownLaws.{set_parts}
 
 -- a child by its place among the nodes
 pub seen_at : (a : Inside) (ts : List Tree) (k : ℕ) (d : Tree) → listed a ≡ ts → k < length ts → get_or a.nodes k d ≡ get_or ts k (get_or a.nodes k d)
 seen_at a ts k d view lt =
-    let n = length a.totals.items in
+    let n = length a.totals in
     let few : k < n = omega (arith, ap length view, length-take n a.nodes) in
     sym (get_or-take n a.nodes k d few) ∙ ap (λ xs. get_or xs k d) view ∙ get_or_default ts k d (get_or a.nodes k d) lt
 
 -- other children, with their totals, where behind them still stand empty nodes
 pub listed_as : (a b : Inside) (ts us : List Tree) → IsListed a → listed a ≡ ts → listed b ≡ us → AreChildren (breaks_of ts) (height_of ts) us → b.height ≡ a.height → b.breaks ≡ a.breaks
-    → length b.nodes ≡ 24 → HasTotals (breaks_of us) b.totals.items us → All IsFlat (drop (length b.totals.items) b.nodes) → IsListed b
+    → length b.nodes ≡ 24 → HasTotals (breaks_of us) b.totals us → All IsFlat (drop (length b.totals) b.nodes) → IsListed b
 listed_as a b ts us i view seen g height breaks room totals places =
     let some = g.at_least_two in
     let low : height_of us ≡ height_of ts = height_of_is (breaks_of ts) (height_of ts) us (omega arith) g.each in
@@ -40,19 +40,19 @@ listed_as a b ts us i view seen g height breaks room totals places =
 
 -- one of the children changed
 module _ (a b : Inside) (ts : List Tree) (k : ℕ) (u : Tree) (i : IsListed a) (view : listed a ≡ ts) (lt : k < length ts) (g : AreChildren (breaks_of ts) (height_of ts) (set ts k u)) (height : b.height ≡ a.height) (breaks : b.breaks ≡ a.breaks)
-    (nodes : b.nodes ≡ set a.nodes k u) (totals : HasTotals (breaks_of (set ts k u)) b.totals.items (set ts k u)) where
-  few : k < length a.totals.items
+    (nodes : b.nodes ≡ set a.nodes k u) (totals : HasTotals (breaks_of (set ts k u)) b.totals (set ts k u)) where
+  few : k < length a.totals
   few = omega (arith, lt, i.totals_right.as_many, ap length view)
 
-  as_many : length b.totals.items ≡ length a.totals.items
+  as_many : length b.totals ≡ length a.totals
   as_many = omega (arith, totals.as_many, length-set ts k u, i.totals_right.as_many, ap length view)
 
   pub set_seen : listed b ≡ set ts k u
-  set_seen = (rw (as_many, nodes) refl) ∙ take-set-lt (length a.totals.items) a.nodes k u few ∙ ap (λ xs. set xs k u) view
+  set_seen = (rw (as_many, nodes) refl) ∙ take-set-lt (length a.totals) a.nodes k u few ∙ ap (λ xs. set xs k u) view
 
   pub set_listed : IsListed b
   set_listed =
-      let behind : drop (length b.totals.items) b.nodes ≡ drop (length a.totals.items) a.nodes = (rw (as_many, nodes) refl) ∙ drop-set-lt (length a.totals.items) a.nodes k u few in
+      let behind : drop (length b.totals) b.nodes ≡ drop (length a.totals) a.nodes = (rw (as_many, nodes) refl) ∙ drop-set-lt (length a.totals) a.nodes k u few in
       listed_as a b ts (set ts k u) i view set_seen g height breaks (ap length nodes ∙ length-set a.nodes k u ∙ i.room) totals (rw behind i.places)
 
 rotated : (p : List Tree) (x : Tree) (m zs : List Tree) → m ≡ p ++ x ∷ [] → zs ≡ drop (length m - 1) m ++ take (length m - 1) m → zs ≡ x ∷ p
@@ -79,7 +79,7 @@ last_set xs x some =
     set_parts xs n x (omega arith) ∙ ap (λ ys. take n xs ++ (x ∷ [] ++ ys)) (drop_all (n + 1) xs (omega arith))
 
 -- a node behind the one that was changed, in the first place that was empty
-pub put_in_place : (a : Inside) (ts : List Tree) (k : ℕ) (u x : Tree) (n : ℕ) (new : List Tree) → IsListed a → listed a ≡ ts → k < length ts → n ≡ length a.totals.items → n < 24
+pub put_in_place : (a : Inside) (ts : List Tree) (k : ℕ) (u x : Tree) (n : ℕ) (new : List Tree) → IsListed a → listed a ≡ ts → k < length ts → n ≡ length a.totals → n < 24
     → new ≡ insert (take (length (take (n + 1) (set a.nodes k u)) - 1) (take (n + 1) (set a.nodes k u))) (k + 1) x → new ≡ insert (set ts k u) (k + 1) x
 put_in_place a ts k u x n new i view lt n_is some e =
     let ws = set a.nodes k u in
@@ -90,27 +90,27 @@ put_in_place a ts k u x n new i view lt n_is some e =
 
 -- one place more is taken
 module _ (a b : Inside) (ts us : List Tree) (k : ℕ) (u : Tree) (n : ℕ) (i : IsListed a) (view : listed a ≡ ts) (lt : k < length ts) (g : AreChildren (breaks_of ts) (height_of ts) us) (height : b.height ≡ a.height)
-    (breaks : b.breaks ≡ a.breaks) (more : length us ≡ n + 1) (n_is : n ≡ length a.totals.items) (nodes : b.nodes ≡ us ++ drop (n + 1) (set a.nodes k u)) (totals : HasTotals (breaks_of us) b.totals.items us) where
+    (breaks : b.breaks ≡ a.breaks) (more : length us ≡ n + 1) (n_is : n ≡ length a.totals) (nodes : b.nodes ≡ us ++ drop (n + 1) (set a.nodes k u)) (totals : HasTotals (breaks_of us) b.totals us) where
   pub more_seen : listed b ≡ us
   more_seen = (rw (totals.as_many, nodes) refl) ∙ take-append_seam us (drop (n + 1) (set a.nodes k u))
 
   pub more_listed : IsListed b
   more_listed =
       let few : k < n + 1 = omega (arith, i.totals_right.as_many, ap length view) in
-      let behind : drop (length b.totals.items) b.nodes ≡ drop 1 (drop (length a.totals.items) a.nodes) =
-      (rw (totals.as_many, nodes) refl) ∙ drop-append_seam us (drop (n + 1) (set a.nodes k u)) ∙ drop-set-lt (n + 1) a.nodes k u few ∙ ap (λ m. drop (m + 1) a.nodes) n_is ∙ sym (drop-drop 1 (length a.totals.items) a.nodes) in
+      let behind : drop (length b.totals) b.nodes ≡ drop 1 (drop (length a.totals) a.nodes) =
+      (rw (totals.as_many, nodes) refl) ∙ drop-append_seam us (drop (n + 1) (set a.nodes k u)) ∙ drop-set-lt (n + 1) a.nodes k u few ∙ ap (λ m. drop (m + 1) a.nodes) n_is ∙ sym (drop-drop 1 (length a.totals) a.nodes) in
       let room : length b.nodes ≡ 24 = omega (arith, ap length nodes, length-append us (drop (n + 1) (set a.nodes k u)), length-drop (n + 1) (set a.nodes k u), length-set a.nodes k u, i.room, g.at_most_24) in
-      listed_as a b ts us i view more_seen g height breaks room totals (rw behind (All-drop IsFlat 1 (drop (length a.totals.items) a.nodes) i.places))
+      listed_as a b ts us i view more_seen g height breaks room totals (rw behind (All-drop IsFlat 1 (drop (length a.totals) a.nodes) i.places))
 
 -- the totals where one of the children changed
 pub set_totals : (ts : List Tree) (k : ℕ) (child u : Tree) (items seen after : List TextInfo) (old new : TextInfo) → AreChildren (breaks_of ts) (height_of ts) ts → k < length ts → get_or ts k child ≡ child
     → child.breaks ≡ breaks_of ts → AreChildren (breaks_of ts) (height_of ts) (set ts k u) → u.breaks ≡ breaks_of ts → HasTotals (breaks_of ts) seen ts → seen ≡ items → old ≡ info_of child.breaks (text child)
     → new ≡ info_of u.breaks (text u) → length after ≡ length seen → ((j : ℕ) (d : TextInfo) → j < k → get_or after j d ≡ get_or seen j d)
-    → ((j : ℕ) (d : TextInfo) → k ≤ j → j < length seen → info_sum (get_or after j d) old ≡ info_sum (get_or seen j d) new) → HasTotals (breaks_of (set ts k u)) (refill (length items) items after) (set ts k u)
+    → ((j : ℕ) (d : TextInfo) → k ≤ j → j < length seen → info_sum (get_or after j d) old ≡ info_sum (get_or seen j d) new) → HasTotals (breaks_of (set ts k u)) after (set ts k u)
 set_totals ts k child u items seen after old new a lt here sets b now_sets totals is old_is new_is len before past =
     let us = set ts k u in
     let was = old_is ∙ ap (λ x. info_of x (text child)) sets in
     let now = new_is ∙ ap (λ x. info_of x (text u)) now_sets in
     let right = totals_after (breaks_of ts) (height_of ts) ts us k child u a lt here b refl seen after totals len before (rw (was, now) at past) in
     let first : breaks_of us ≡ breaks_of ts = breaks_of_is (breaks_of ts) (height_of ts) us (omega (arith, b.at_least_two)) b.each in
-    rw (refill_all items after (len ∙ ap length is), first) right
+    rw first right

@@ -22,7 +22,7 @@ most_le_tallest (suc n) [] low = omega arith
 most_le_tallest (suc n) (t ∷ ts) low = omega (arith, most_le_tallest n ts low)
 
 pub deep_le_tallest : (a : Inside) → IsListed a → max (most (λ (t : Tree). t.height + t.height + 1) a.nodes) 0 ≤ tallest (listed a)
-deep_le_tallest a i = omega (arith, most_le_tallest (length a.totals.items) a.nodes i.places)
+deep_le_tallest a i = omega (arith, most_le_tallest (length a.totals) a.nodes i.places)
 
 pub tallest_below : (breaks : LineBreaks) (h : ℕ) (ts : List Tree) → All (IsChild breaks h) ts → tallest ts ≤ h + h + 1
 tallest_below breaks h [] each = omega arith

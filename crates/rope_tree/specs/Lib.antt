@@ -3,6 +3,7 @@ pub mod Short
 pub mod Tree
 pub mod Search
 pub mod Totals
+pub mod TotalsShape
 pub mod Flat
 pub mod LeafTree
 pub mod LeafShape

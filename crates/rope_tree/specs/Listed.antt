@@ -13,12 +13,12 @@ tallest (t ∷ ts) = max (t.height + t.height + 1) (tallest ts)
 
 -- the nodes that have totals
 abbrev pub listed : Inside → List Tree
-listed a = take (length a.totals.items) a.nodes
+listed a = take (length a.totals) a.nodes
 
 -- the totals, the height and the set of line breaks are those of the nodes, and behind the nodes stand empty ones
 pub record IsListed (a : Inside) : Type 0 where
   pub room : length a.nodes ≡ 24
-  pub totals_right : HasTotals (breaks_of (listed a)) a.totals.items (listed a)
+  pub totals_right : HasTotals (breaks_of (listed a)) a.totals (listed a)
   pub above : a.height ≡ height_of (listed a) + 1
   pub same_breaks : a.breaks ≡ breaks_of (listed a)
-  pub places : All IsFlat (drop (length a.totals.items) a.nodes)
+  pub places : All IsFlat (drop (length a.totals) a.nodes)

@@ -11,7 +11,7 @@ ghost use Rattle.rope_tree.specs.Found.{IsFound};
 ghost use Rattle.rope_tree.specs.StepBounds.{HaveRoom, LooksUp};
 
 use crate::node::{Node, View};
-use crate::search::{Unit, count, place_of};
+use crate::search::{Totals, Unit, count, place_of};
 use crate::short_text::ShortText;
 use rope_text::{Steps, TextInfo};
 
@@ -24,7 +24,7 @@ pub struct Found<'a> {
 
 /// The counts of the children before a place.
 #[inline(always)]
-pub fn total_before(totals: &[TextInfo], place: usize) -> TextInfo
+pub fn total_before(totals: &Totals, place: usize) -> TextInfo
     requires { place ≤ length totals.now }
     ensures first { place ≡ 0 → (breaks : LineBreaks) → result ≡ info_of breaks [] }
     ensures later { (d : TextInfo) → 0 < place → result ≡ slice_index_or totals.now (place - 1) d }
@@ -32,7 +32,7 @@ pub fn total_before(totals: &[TextInfo], place: usize) -> TextInfo
     if place == 0 {
         TextInfo::new()
     } else {
-        totals[place - 1]
+        totals.get(place - 1)
     }
 }
 

@@ -9,8 +9,8 @@ ghost use Rattle.rope_tree.specs.View.{IsViewOf};
 
 use crate::leaf::Leaf;
 use crate::node_text::NodeText;
+use crate::search::Totals;
 use crate::short_text::ShortText;
-use arrayvec::ArrayVec;
 use rope_text::{LineBreaks, TextInfo};
 use std::alloc::{AllocError, Global};
 use std::marker::Model;
@@ -43,7 +43,7 @@ enum Form {
 struct Children {
     height: u8,
     breaks: LineBreaks,
-    totals: ArrayVec<TextInfo, 24>,
+    totals: Totals,
     nodes: [Node; 24],
 }
 
@@ -88,7 +88,7 @@ impl Model for Node {
 /// The running totals and the nodes of a list of children.
 #[derive(Drop)]
 struct ListParts<'a> {
-    totals: &'a [TextInfo],
+    totals: &'a Totals,
     nodes: &'a [Node],
 }
 
@@ -97,10 +97,9 @@ impl Children {
         ensures totals { HasTotals (breaks_of self.now) result.totals.now self.now }
         ensures nodes { result.nodes.now ≡ self.now }
     {
-        let totals = self.totals.as_slice();
         ListParts {
-            totals,
-            nodes: &self.nodes[..totals.len()],
+            totals: &self.totals,
+            nodes: &self.nodes[..self.totals.len()],
         }
     }
 
@@ -123,8 +122,7 @@ impl Children {
         requires { 1 ≤ length self.now }
         ensures { result ≡ info_of (breaks_of self.now) (joined self.now) }
     {
-        let totals = self.totals.as_slice();
-        totals[totals.len() - 1]
+        self.totals.get(self.totals.len() - 1)
     }
 
     /// The list of the nodes, with their totals.
@@ -145,11 +143,11 @@ impl Children {
 }
 
 /// For each of the nodes the counts of all nodes up to and with it.
-fn totals_of(nodes: &[Node]) -> ArrayVec<TextInfo, 24>
+fn totals_of(nodes: &[Node]) -> Totals
     requires { AreChildren (breaks_of nodes.now) (height_of nodes.now) nodes.now }
-    ensures { HasTotals (breaks_of nodes.now) result.items nodes.now }
+    ensures { HasTotals (breaks_of nodes.now) result nodes.now }
 {
-    let mut totals = ArrayVec::new();
+    let mut totals = Totals::new();
     let mut total = TextInfo::new();
     for node in nodes {
         total = total.plus(node.info());
@@ -250,7 +248,7 @@ impl Node {
 #[derive(Drop)]
 pub enum View<'a> {
     Leaf(ShortText<'a>),
-    Inner(&'a [Node], &'a [TextInfo]),
+    Inner(&'a [Node], &'a Totals),
 }
 
 /// One node, or two in a row.

@@ -61,7 +61,7 @@ pub fn without(
         View::Leaf(leaf) => leaf_without(alloc, node, &leaf, start, end, made),
         View::Inner(children, totals) => {
             let place = place_of(totals, Unit::Char, start, &mut Steps::new());
-            if totals[place].chars < end {
+            if totals.get(place).chars < end {
                 return Ok(None);
             }
             let before = total_before(totals, place).chars;

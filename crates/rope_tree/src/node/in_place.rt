@@ -7,7 +7,7 @@ ghost use Rattle.rope_tree.specs.Insert.{MayInsert, GoesIn, IsInserted, AreGrown
 
 use super::{Children, Form, Node};
 use crate::lookup::total_before;
-use crate::search::{Unit, char_to_hold, place_of, retotal};
+use crate::search::{Unit, char_to_hold, place_of};
 use crate::short_text::ShortText;
 use rope_text::Steps;
 use std::rc::Rc;
@@ -29,10 +29,9 @@ impl Children {
         ensures place { at ≡ length (joined (take result.place self.now)) + result.at }
         ensures goes { (child : Tree) → GoesIn at result.at (length (text (slice_index_or self.now result.place child))) to_right }
     {
-        let totals = self.totals.as_slice();
         let held = char_to_hold(at, to_right);
-        let place = place_of(totals, Unit::Char, held, &mut Steps::new());
-        let before = total_before(totals, place).chars;
+        let place = place_of(&self.totals, Unit::Char, held, &mut Steps::new());
+        let before = total_before(&self.totals, place).chars;
         WayIn {
             place,
             at: at - before,
@@ -57,7 +56,7 @@ impl Children {
             return false;
         }
         let new = node.info();
-        retotal(self.totals.as_mut_slice(), way.place, old, new);
+        self.totals.retotal(way.place, old, new);
         true
     }
 }

@@ -7,7 +7,6 @@ ghost use Rattle.rope_tree.specs.Tree.{text, joined, breaks_of, height_of, tree_
 ghost use Rattle.rope_tree.specs.Insert.{MayInsert, IsInserted, AreGrown};
 
 use super::{Children, Form, Node, totals_of};
-use crate::search::retotal;
 use crate::short_text::ShortText;
 use rope_text::MAX_CHILDREN;
 use std::alloc::{AllocError, Global};
@@ -47,7 +46,7 @@ impl Children {
             return Ok(false);
         }
         let new = node.info();
-        retotal(self.totals.as_mut_slice(), way.place, old, new);
+        self.totals.retotal(way.place, old, new);
         Ok(true)
     }
 

@@ -5,7 +5,7 @@ ghost use Rattle.rope_tree.specs.Removal.{IsRemoved, AreRemoved};
 
 use super::{Children, Form, Node};
 use crate::lookup::total_before;
-use crate::search::{Unit, place_of, retotal};
+use crate::search::{Unit, place_of};
 use rope_text::Steps;
 use std::rc::Rc;
 
@@ -20,18 +20,18 @@ impl Children {
         ensures done { result ≡ true → AreRemoved self.old self.new start end }
         ensures kept { result ≡ false → self.new ≡ self.old }
     {
-        let place = place_of(self.totals.as_slice(), Unit::Char, start, &mut Steps::new());
-        if self.totals[place].chars < end {
+        let place = place_of(&self.totals, Unit::Char, start, &mut Steps::new());
+        if self.totals.get(place).chars < end {
             return false;
         }
-        let before = total_before(self.totals.as_slice(), place).chars;
+        let before = total_before(&self.totals, place).chars;
         let node = &mut self.nodes[place];
         let old = node.info();
         if !node.remove_in_place(start - before, end - before) {
             return false;
         }
         let new = node.info();
-        retotal(self.totals.as_mut_slice(), place, old, new);
+        self.totals.retotal(place, old, new);
         true
     }
 }

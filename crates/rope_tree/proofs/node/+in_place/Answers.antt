@@ -35,12 +35,12 @@ pub Children::insert_in_place-retotal-requires-clause-small :
     goal.Children::insert_in_place-retotal-requires-clause-small
 Children::insert_in_place-retotal-requires-clause-small t c =
     let f = found t (goal.at.Children::insert_in_place-retotal-requires-clause-small t c).After-index-self-way in
-    small_totals (breaks_of c.args.self.now) c.as_mut_slice.result.now c.args.self.now (read _ _ _ _ _ _ _ f c.as_mut_slice.result.now c.as_mut_slice.ensures.value) c.requires.children.fits
+    small_totals (breaks_of c.args.self.now) c.self.inside.totals c.args.self.now (read _ _ _ _ _ _ _ f c.self.inside.totals refl) c.requires.children.fits
 
 pub Children::insert_in_place-retotal-requires-clause-part :
     goal.Children::insert_in_place-retotal-requires-clause-part
 Children::insert_in_place-retotal-requires-clause-part t c =
-    part _ _ _ _ _ _ _ (found t (goal.at.Children::insert_in_place-retotal-requires-clause-part t c).After-index-self-way) c.as_mut_slice.result.now c.as_mut_slice.ensures.value c.info-old.result c.info-old.ensures
+    part _ _ _ _ _ _ _ (found t (goal.at.Children::insert_in_place-retotal-requires-clause-part t c).After-index-self-way) c.self.inside.totals refl c.info-old.result c.info-old.ensures
 
 pub Children::insert_in_place-retotal-requires-clause-new :
     goal.Children::insert_in_place-retotal-requires-clause-new
@@ -53,7 +53,7 @@ pub Children::insert_in_place-invariant_of-self-2 :
 Children::insert_in_place-invariant_of-self-2 t c =
     fields_after _ _ _ _ _ _ _ (found t (goal.at.Children::insert_in_place-invariant_of-self-2 t c).After-index-self-way) c.args.added.now c.requires.some c.requires.side c.requires.fits
     c.insert_in_place.new.self (c.insert_in_place.ensures.done c.if-not-insert_in_place.false) _ refl refl refl
-    c.as_mut_slice.result.now c.retotal.new.totals c.info-old.result c.info-new.result c.as_mut_slice.ensures.value c.info-old.ensures c.info-new.ensures
+    c.self.inside.totals c.retotal.new.self c.info-old.result c.info-new.result refl c.info-old.ensures c.info-new.ensures
     c.retotal.ensures.len c.retotal.ensures.before c.retotal.ensures.after refl
 
 pub Children::insert_in_place-returns-clause-done :
@@ -61,7 +61,7 @@ pub Children::insert_in_place-returns-clause-done :
 Children::insert_in_place-returns-clause-done t c = λ yes.
     all_grown _ _ _ _ _ _ _ (found t (goal.at.Children::insert_in_place-returns-clause-done t c).After-index-self-way) c.args.added.now c.requires.some c.requires.side c.requires.fits
     c.insert_in_place.new.self (c.insert_in_place.ensures.done c.if-not-insert_in_place.false) _ refl refl refl
-    c.as_mut_slice.result.now c.retotal.new.totals c.info-old.result c.info-new.result c.as_mut_slice.ensures.value c.info-old.ensures c.info-new.ensures
+    c.self.inside.totals c.retotal.new.self c.info-old.result c.info-new.result refl c.info-old.ensures c.info-new.ensures
     c.retotal.ensures.len c.retotal.ensures.before c.retotal.ensures.after refl
 
 pub Node::insert_in_place-invariant_of-self : goal.Node::insert_in_place-invariant_of-self

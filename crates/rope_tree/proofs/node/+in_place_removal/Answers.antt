@@ -1,4 +1,5 @@
 use Rattle.std.proofs.Common.{ℕ, ◌-◌, ◌<◌, ◌≤◌, length, get_or, set, sym, ap, subst, refl, ◌∙◌, arith}
+use Rattle.rope_text.specs.declared.text_info.TextInfo.{TextInfo}
 use Rattle.rope_text.specs.TextInfo.{info_of}
 use Rattle.rope_tree.specs.declared.search.Unit.TheVariants.{Char}
 use Rattle.rope_tree.specs.Tree.{Tree, text, height_of, breaks_of}
@@ -16,39 +17,41 @@ use Rattle.rope_tree.proofs.RemovalLaws.{Holds, holds, children_removed, child_r
 use Rattle.rope_tree.proofs.node.+in_place_removal.Goals as goal
 use Rattle.rope_tree.proofs.node.+in_place_removal.Goals.{Children::remove_in_place-After-index-self-place, Node::remove_in_place-in-Empty, Node::remove_in_place-in-Leaf+in-Some, Node::remove_in_place-in-Leaf+in-None, Node::remove_in_place-in-Inner+in-Some-get_mut, Node::remove_in_place-in-Inner+in-None-get_mut}
 
+none : TextInfo
+none = record { chars = 0; utf16_surrogates = 0; break_count = 0; bytes = 0 }
+
 -- the way down to the child that holds the characters
 down : (t : ℕ) (c : Children::remove_in_place-After-index-self-place t)
     → Descends (breaks_of c.args.self.now) Char c.args.start c.args.self.now c.place_of-place.result (get_or c.self.inside.nodes c.place_of-place.result c.index-self-place.result) c.total_before-before.result
 down t c =
     let ts = c.args.self.now in
-    let totals = totals_seen (listed c.self.inside) ts c.self.inside.totals.items c.as_slice.result.now c.self.view_is c.as_slice.ensures.value c.self.invariant.totals_right in
-    let same = c.as_slice-2.ensures.value ∙ sym c.as_slice.ensures.value in
+    let totals = totals_seen (listed c.self.inside) ts c.self.inside.totals c.self.inside.totals c.self.view_is refl c.self.invariant.totals_right in
     let within : c.place_of-place.result < length ts = omega (arith, c.place_of-place.ensures.within, totals.as_many) in
-    descends Char c.args.start ts c.as_slice.result.now c.place_of-place.result (get_or c.self.inside.nodes c.place_of-place.result c.index-self-place.result) c.total_before-before.result
+    descends Char c.args.start ts c.self.inside.totals c.place_of-place.result (get_or c.self.inside.nodes c.place_of-place.result c.index-self-place.result) c.total_before-before.result
     c.requires.children totals c.place_of-place.ensures.within (seen_at c.self.inside ts c.place_of-place.result c.index-self-place.result c.self.view_is within)
-    c.total_before-before.ensures.first (rw same at c.total_before-before.ensures.later) c.place_of-place.ensures.before c.place_of-place.ensures.past
+    c.total_before-before.ensures.first c.total_before-before.ensures.later c.place_of-place.ensures.before c.place_of-place.ensures.past
 
 held : (t : ℕ) (c : Children::remove_in_place-After-index-self-place t) → (c.total_before-before.result.chars ≤ c.args.start)
     × Holds c.args.self.now c.place_of-place.result (get_or c.self.inside.nodes c.place_of-place.result c.index-self-place.result)
     (c.args.start - c.total_before-before.result.chars) (c.args.end - c.total_before-before.result.chars) c.args.start c.args.end
 held t c =
     let ts = c.args.self.now in
-    let totals = totals_seen (listed c.self.inside) ts c.self.inside.totals.items c.deref.result.now c.self.view_is c.deref.ensures.0 c.self.invariant.totals_right in
-    holds (breaks_of ts) ts c.place_of-place.result (get_or c.self.inside.nodes c.place_of-place.result c.index-self-place.result) c.total_before-before.result c.args.start c.args.end c.deref.result.now _
-    (down t c) totals c.requires.ordered c.if-deref-place.false
+    let totals = totals_seen (listed c.self.inside) ts c.self.inside.totals c.self.inside.totals c.self.view_is refl c.self.invariant.totals_right in
+    holds (breaks_of ts) ts c.place_of-place.result (get_or c.self.inside.nodes c.place_of-place.result c.index-self-place.result) c.total_before-before.result c.args.start c.args.end c.self.inside.totals none
+    (down t c) totals c.requires.ordered (rw (c.get.ensures none) at c.if-get-end.false)
 
 pub Children::remove_in_place-place_of-place-requires-clause-small :
     goal.Children::remove_in_place-place_of-place-requires-clause-small
 Children::remove_in_place-place_of-place-requires-clause-small t c =
-    small_totals (breaks_of c.args.self.now) c.as_slice.result.now c.args.self.now
-    (totals_seen (listed c.self.inside) c.args.self.now c.self.inside.totals.items c.as_slice.result.now c.self.view_is c.as_slice.ensures.value c.self.invariant.totals_right) c.requires.children.fits
+    small_totals (breaks_of c.args.self.now) c.self.inside.totals c.args.self.now
+    (totals_seen (listed c.self.inside) c.args.self.now c.self.inside.totals c.self.inside.totals c.self.view_is refl c.self.invariant.totals_right) c.requires.children.fits
 
 pub Children::remove_in_place-place_of-place-requires-clause-last :
     goal.Children::remove_in_place-place_of-place-requires-clause-last
 Children::remove_in_place-place_of-place-requires-clause-last t c =
     let ts = c.args.self.now in
-    let totals = totals_seen (listed c.self.inside) ts c.self.inside.totals.items c.as_slice.result.now c.self.view_is c.as_slice.ensures.value c.self.invariant.totals_right in
-    λ d. rw (last_total (breaks_of ts) c.as_slice.result.now ts totals (omega (arith, c.requires.children.at_least_two)) d) (omega (arith, c.requires.ordered, c.requires.within))
+    let totals = totals_seen (listed c.self.inside) ts c.self.inside.totals c.self.inside.totals c.self.view_is refl c.self.invariant.totals_right in
+    λ d. rw (last_total (breaks_of ts) c.self.inside.totals ts totals (omega (arith, c.requires.children.at_least_two)) d) (omega (arith, c.requires.ordered, c.requires.within))
 
 pub Children::remove_in_place-overflow_sub-start : goal.Children::remove_in_place-overflow_sub-start
 Children::remove_in_place-overflow_sub-start t c = (held t (goal.at.Children::remove_in_place-overflow_sub-start t c).After-index-self-place).0
@@ -68,8 +71,8 @@ Children::remove_in_place-remove_in_place-requires t c =
 pub Children::remove_in_place-retotal-requires-clause-small :
     goal.Children::remove_in_place-retotal-requires-clause-small
 Children::remove_in_place-retotal-requires-clause-small t c =
-    small_totals (breaks_of c.args.self.now) c.as_mut_slice.result.now c.args.self.now
-    (totals_seen (listed c.self.inside) c.args.self.now c.self.inside.totals.items c.as_mut_slice.result.now c.self.view_is c.as_mut_slice.ensures.value c.self.invariant.totals_right) c.requires.children.fits
+    small_totals (breaks_of c.args.self.now) c.self.inside.totals c.args.self.now
+    (totals_seen (listed c.self.inside) c.args.self.now c.self.inside.totals c.self.inside.totals c.self.view_is refl c.self.invariant.totals_right) c.requires.children.fits
 
 pub Children::remove_in_place-retotal-requires-clause-part :
     goal.Children::remove_in_place-retotal-requires-clause-part
@@ -77,7 +80,7 @@ Children::remove_in_place-retotal-requires-clause-part t c = λ j e from within.
     let ts = c.args.self.now in
     let child = get_or c.self.inside.nodes c.place_of-place.result c.index-self-place.result in
     let d = down t (goal.at.Children::remove_in_place-retotal-requires-clause-part t c).After-index-self-place in
-    let totals = totals_seen (listed c.self.inside) ts c.self.inside.totals.items c.as_mut_slice.result.now c.self.view_is c.as_mut_slice.ensures.value c.self.invariant.totals_right in
+    let totals = totals_seen (listed c.self.inside) ts c.self.inside.totals c.self.inside.totals c.self.view_is refl c.self.invariant.totals_right in
     let inside : j < length ts = omega (arith, totals.as_many) in
     let own = c.info-old.ensures ∙ ap (λ b. info_of b (text child)) d.own.same_breaks in
     rw (totals.total_at j e inside, own) (has_part (breaks_of ts) (height_of ts) ts ts c.place_of-place.result child child d.children d.within d.child_is j from inside)
@@ -111,8 +114,8 @@ Children::remove_in_place-invariant_of-self-2 t c =
     let d = down t i in
     let done = c.remove_in_place.ensures.done c.if-not-remove_in_place.false in
     let b = (left t i c.remove_in_place.new.self done).children in
-    let seen = totals_seen (listed c.self.inside) ts c.self.inside.totals.items c.as_mut_slice.result.now c.self.view_is c.as_mut_slice.ensures.value c.self.invariant.totals_right in
-    let totals = set_totals _ _ _ _ _ _ _ _ _ d.children d.within d.child_is d.own.same_breaks b (done.same_breaks ∙ d.own.same_breaks) seen c.as_mut_slice.ensures.value c.info-old.ensures c.info-new.ensures
+    let seen = totals_seen (listed c.self.inside) ts c.self.inside.totals c.self.inside.totals c.self.view_is refl c.self.invariant.totals_right in
+    let totals = set_totals _ _ _ _ _ _ _ _ _ d.children d.within d.child_is d.own.same_breaks b (done.same_breaks ∙ d.own.same_breaks) seen refl c.info-old.ensures c.info-new.ensures
     c.retotal.ensures.len c.retotal.ensures.before c.retotal.ensures.after in
     set_listed c.self.inside _ ts c.place_of-place.result c.remove_in_place.new.self c.self.invariant c.self.view_is d.within b refl refl refl totals
 
@@ -124,8 +127,8 @@ Children::remove_in_place-returns-clause-done t c = λ yes.
     let d = down t i in
     let done = c.remove_in_place.ensures.done c.if-not-remove_in_place.false in
     let r = left t i c.remove_in_place.new.self done in
-    let seen = totals_seen (listed c.self.inside) ts c.self.inside.totals.items c.as_mut_slice.result.now c.self.view_is c.as_mut_slice.ensures.value c.self.invariant.totals_right in
-    let totals = set_totals _ _ _ _ _ _ _ _ _ d.children d.within d.child_is d.own.same_breaks r.children (done.same_breaks ∙ d.own.same_breaks) seen c.as_mut_slice.ensures.value c.info-old.ensures c.info-new.ensures
+    let seen = totals_seen (listed c.self.inside) ts c.self.inside.totals c.self.inside.totals c.self.view_is refl c.self.invariant.totals_right in
+    let totals = set_totals _ _ _ _ _ _ _ _ _ d.children d.within d.child_is d.own.same_breaks r.children (done.same_breaks ∙ d.own.same_breaks) seen refl c.info-old.ensures c.info-new.ensures
     c.retotal.ensures.len c.retotal.ensures.before c.retotal.ensures.after in
     rw (set_seen c.self.inside _ ts c.place_of-place.result c.remove_in_place.new.self c.self.invariant c.self.view_is d.within r.children refl refl refl totals) r
 

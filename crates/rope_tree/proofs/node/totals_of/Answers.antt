@@ -31,5 +31,5 @@ loop-node-preserved c =
     let total : c.plus-total.result ≡ info_of (breaks_of ts) (joined (take (i + 1) ts)) = c.plus-total.ensures.sum ∙ sym n.more in
     record {
       total_is = total;
-      right = rw c.push.ensures.items (totals_more (breaks_of ts) ts i _ _ (omega (arith, c.loop-node-test.true)) c.loop-node.invariant.right total);
+      right = rw c.push.ensures (totals_more (breaks_of ts) ts i _ _ (omega (arith, c.loop-node-test.true)) c.loop-node.invariant.right total);
     }

@@ -1,4 +1,5 @@
 use Rattle.std.proofs.Common.{◌≡◌, ℕ, ◌+◌, ◌-◌, ◌≤◌, length, ap, arith}
+use Rattle.rope_text.specs.declared.text_info.TextInfo.{TextInfo}
 use Rattle.rope_tree.specs.declared.search.Unit.TheVariants.{Char}
 use Rattle.rope_tree.specs.Tree.{text, height_of, breaks_of}
 use Rattle.rope_tree.proofs.NodeLaws.{small_totals, children_of_first}
@@ -23,11 +24,14 @@ place_of-place-requires-clause-last t c =
     let whole = ap (λ u. length (text u)) c.in-Inner.ensures.is in
     λ d. rw (last_total (breaks_of ts) c.in-Inner.totals.now ts c.in-Inner.ensures.totals_right (omega (arith, c.in-Inner.ensures.children.at_least_two)) d) (omega (arith, whole, c.requires.ordered, c.requires.within))
 
+none : TextInfo
+none = record { chars = 0; utf16_surrogates = 0; break_count = 0; bytes = 0 }
+
 held : (t : ℕ) (c : After-index-children-place t) → (c.total_before-before.result.chars ≤ c.args.start)
     × Holds c.in-Inner.children.now c.place_of-place.result c.index-children-place.result (c.args.start - c.total_before-before.result.chars) (c.args.end - c.total_before-before.result.chars) c.args.start c.args.end
 held t c =
     let ts = c.in-Inner.children.now in
-    holds (breaks_of ts) ts c.place_of-place.result c.index-children-place.result c.total_before-before.result c.args.start c.args.end c.in-Inner.totals.now _ (down t c) c.in-Inner.ensures.totals_right c.requires.ordered c.if-totals-place.false
+    holds (breaks_of ts) ts c.place_of-place.result c.index-children-place.result c.total_before-before.result c.args.start c.args.end c.in-Inner.totals.now none (down t c) c.in-Inner.ensures.totals_right c.requires.ordered (rw (c.get.ensures none) at c.if-get-end.false)
 
 below : (t : ℕ) (c : After-index-children-place t) → c.index-children-place.result.height + 1 ≡ c.args.node.now.height
 below t c = omega (arith, ap (λ u. u.height) c.in-Inner.ensures.is, (down t c).own.at_height)

@@ -29,7 +29,7 @@ found c = record {
 placed : (c : After-put_behind) → c.put_behind.new.nodes ≡ insert (set c.args.self.now c.way_in-way.result.place c.cut.new.self) (c.way_in-way.result.place + 1) c.in-Some.back
 placed c =
     put_in_place c.self.inside c.args.self.now c.way_in-way.result.place c.cut.new.self c.in-Some.back c.len-count.result c.put_behind.new.nodes c.self.invariant c.self.view_is c.way_in-way.ensures.child
-    c.len-count.ensures.value (omega (arith, c.if-len-ge-MAX_CHILDREN.false, c.len.ensures.value, c.len-count.ensures.value)) c.put_behind.ensures
+    c.len-count.ensures (omega (arith, c.if-len-ge-MAX_CHILDREN.false, c.len.ensures, c.len-count.ensures)) c.put_behind.ensures
 
 parted : (c : After-put_behind) → AreGrown c.args.self.now c.put_behind.new.nodes (inserted (joined c.args.self.now) c.args.at c.args.added.now)
 parted c =
@@ -41,7 +41,7 @@ parted c =
     let g = d.goes in
     let new = inserted (text child) c.way_in-way.result.at c.args.added.now in
     let done = subst (λ o. IfSome o (λ back. IsInserted child (u ∷ back ∷ []) new)) c.in-Some.is c.in_ok-back.ensures.cut in
-    let few : length ts < 24 = omega (arith, c.if-len-ge-MAX_CHILDREN.false, c.len.ensures.value, c.self.invariant.totals_right.as_many, ap length c.self.view_is) in
+    let few : length ts < 24 = omega (arith, c.if-len-ge-MAX_CHILDREN.false, c.len.ensures, c.self.invariant.totals_right.as_many, ap length c.self.view_is) in
     rw (placed c) (grown_by_one (breaks_of ts) (height_of ts) ts k child u c.in-Some.back d.children d.within d.child_is c.args.at c.way_in-way.result.at c.args.added.now c.requires.some
     d.place g.within c.args.to_right g.inside g.outside c.requires.side done c.requires.fits refl refl few)
 
@@ -52,7 +52,7 @@ as_many c =
     let k = c.way_in-way.result.place in
     let u = c.cut.new.self in
     let within = c.way_in-way.ensures.child in
-    omega (arith, ap length (placed c), length-insert (set ts k u) (k + 1) c.in-Some.back (omega (arith, length-set ts k u)), length-set ts k u, c.len-count.ensures.value, c.self.invariant.totals_right.as_many, ap length c.self.view_is)
+    omega (arith, ap length (placed c), length-insert (set ts k u) (k + 1) c.in-Some.back (omega (arith, length-set ts k u)), length-set ts k u, c.len-count.ensures, c.self.invariant.totals_right.as_many, ap length c.self.view_is)
 
 -- the nodes in use are those that were put in
 used : (c : After-put_behind) (others : List Tree) → take (c.len-count.result + 1) (c.put_behind.new.nodes ++ others) ≡ c.put_behind.new.nodes
@@ -71,12 +71,12 @@ invariant_of-self-2 c =
     let e = (goal.at.invariant_of-self-2 c).After-put_behind in
     let us = c.put_behind.new.nodes in
     more_listed c.self.inside _ c.args.self.now us c.way_in-way.result.place c.cut.new.self c.len-count.result c.self.invariant c.self.view_is c.way_in-way.ensures.child (children e) refl refl
-    (as_many e) c.len-count.ensures.value refl (rw (used e _) at c.totals_of-self-inside.ensures)
+    (as_many e) c.len-count.ensures refl (rw (used e _) at c.totals_of-self-inside.ensures)
 
 pub returns-clause-done : goal.returns-clause-done
 returns-clause-done c = λ yes.
     let e = (goal.at.returns-clause-done c).After-put_behind in
     let us = c.put_behind.new.nodes in
     let seen = more_seen c.self.inside _ c.args.self.now us c.way_in-way.result.place c.cut.new.self c.len-count.result c.self.invariant c.self.view_is c.way_in-way.ensures.child (children e) refl refl
-    (as_many e) c.len-count.ensures.value refl (rw (used e _) at c.totals_of-self-inside.ensures) in
+    (as_many e) c.len-count.ensures refl (rw (used e _) at c.totals_of-self-inside.ensures) in
     rw seen (parted e)

@@ -1,4 +1,4 @@
-use Rattle.std.proofs.Common.{◌-◌, ◌≤◌, [], length, get_or, ap, arith}
+use Rattle.std.proofs.Common.{◌-◌, ◌≤◌, [], length, get_or, ap, refl, arith}
 use Rattle.std.proofs.lemmas.List.{get_or_default}
 use Rattle.rope_tree.specs.declared.search.Unit.TheVariants.{Char}
 use Rattle.rope_tree.specs.Tree.{Tree, text, joined, height_of, breaks_of}
@@ -9,19 +9,19 @@ use Rattle.rope_tree.proofs.NodeLaws.{small_totals}
 use Rattle.rope_tree.proofs.Descents.{Descends, descends_to}
 use Rattle.rope_tree.proofs.InsertDescents.{last_total, inner_some, holds_within, goes_in}
 use Rattle.rope_tree.proofs.GrownLaws.{totals_seen}
-use Rattle.rope_tree.proofs.node.Children.way_in.Goals.{After-total_before-before, After-as_slice-totals}
+use Rattle.rope_tree.proofs.node.Children.way_in.Goals.{After-total_before-before, After-self}
 use Rattle.rope_tree.proofs.node.Children.way_in.Goals as goal
 
-totals : (c : After-as_slice-totals) → HasTotals (breaks_of c.args.self.now) c.as_slice-totals.result.now c.args.self.now
-totals c = totals_seen (listed c.self.inside) c.args.self.now c.self.inside.totals.items c.as_slice-totals.result.now c.self.view_is c.as_slice-totals.ensures.value c.self.invariant.totals_right
+totals : (c : After-self) → HasTotals (breaks_of c.args.self.now) c.self.inside.totals c.args.self.now
+totals c = totals_seen (listed c.self.inside) c.args.self.now c.self.inside.totals c.self.inside.totals c.self.view_is refl c.self.invariant.totals_right
 
 -- the way down to the child
 down : (c : After-total_before-before) (d : Tree) → Descends (breaks_of c.args.self.now) Char c.char_to_hold-held.result c.args.self.now c.place_of-place.result (get_or c.args.self.now c.place_of-place.result d) c.total_before-before.result
 down c d =
     let ts = c.args.self.now in
     let k = c.place_of-place.result in
-    let h = totals (goal.at.returns-clause-place c).After-as_slice-totals in
-    descends_to Char c.char_to_hold-held.result ts c.as_slice-totals.result.now k (get_or ts k d) c.total_before-before.result
+    let h = totals (goal.at.returns-clause-place c).After-self in
+    descends_to Char c.char_to_hold-held.result ts c.self.inside.totals k (get_or ts k d) c.total_before-before.result
     c.requires.children h c.place_of-place.ensures.within (get_or_default ts k (get_or ts k d) d (omega (arith, c.place_of-place.ensures.within, h.as_many)))
     c.total_before-before.ensures.first c.total_before-before.ensures.later c.place_of-place.ensures.before c.place_of-place.ensures.past
 
@@ -37,7 +37,7 @@ some_tree : Tree
 some_tree = record { breaks = breaks_of []; leaves = []; height = 0; width = 0 }
 
 pub place_of-place-requires-clause-small : goal.place_of-place-requires-clause-small
-place_of-place-requires-clause-small c = small_totals (breaks_of c.args.self.now) c.as_slice-totals.result.now c.args.self.now (totals (goal.at.place_of-place-requires-clause-small c).After-as_slice-totals) c.requires.children.fits
+place_of-place-requires-clause-small c = small_totals (breaks_of c.args.self.now) c.self.inside.totals c.args.self.now (totals (goal.at.place_of-place-requires-clause-small c).After-self) c.requires.children.fits
 
 pub place_of-place-requires-clause-last : goal.place_of-place-requires-clause-last
 place_of-place-requires-clause-last c =
@@ -45,7 +45,7 @@ place_of-place-requires-clause-last c =
     let some = inner_some (breaks_of ts) (height_of ts) ts c.requires.children in
     let held = holds_within c.args.at c.char_to_hold-held.result (length (joined ts)) c.args.to_right c.requires.within some c.requires.right
     c.char_to_hold-held.ensures.right c.char_to_hold-held.ensures.first c.char_to_hold-held.ensures.left in
-    λ d. rw (last_total (breaks_of ts) c.as_slice-totals.result.now ts (totals (goal.at.place_of-place-requires-clause-last c).After-as_slice-totals) (omega (arith, c.requires.children.at_least_two)) d) held
+    λ d. rw (last_total (breaks_of ts) c.self.inside.totals ts (totals (goal.at.place_of-place-requires-clause-last c).After-self) (omega (arith, c.requires.children.at_least_two)) d) held
 
 pub overflow_sub-result : goal.overflow_sub-result
 overflow_sub-result c = (goes c some_tree).0

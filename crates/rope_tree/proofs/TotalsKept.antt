@@ -1,0 +1,58 @@
+-- Running totals that are kept by kind of count.
+use Rattle.std.proofs.Common.{◌≡◌, ℕ, ◌+◌, ◌<◌, ◌≤◌, List, [], ◌∷◌, ◌++◌, length, get_or, set, map, refl, sym, ap, ◌∙◌, arith, get_or-set_other, get_or-set_same}
+use Rattle.std.specs.List.{range_with_len}
+use Rattle.std.proofs.lemmas.List.FromFn.{length-map-range_with_len, get_or-map-range_with_len, map-range_with_len_more, fill_by_all}
+use Rattle.rope_text.specs.declared.text_info.TextInfo.{TextInfo}
+use Rattle.rope_text.specs.TextInfo.{info_sum}
+use Rattle.rope_tree.specs.declared.search.Totals.TheInside.{Inside}
+use Rattle.rope_tree.specs.TotalsShape.{counts_at, all_totals, IsTotals}
+
+pub many : (a : Inside) (ts : List TextInfo) → all_totals a ≡ ts → a.len ≡ length ts
+many a ts view = sym (length-map-range_with_len (counts_at a) 0 a.len) ∙ ap length view
+
+-- a total by its place
+pub total_seen : (a : Inside) (ts : List TextInfo) (k : ℕ) (d : TextInfo) → all_totals a ≡ ts → k < length ts → get_or ts k d ≡ counts_at a k
+total_seen a ts k d view lt = ap (λ l. get_or l k d) (sym view) ∙ get_or-map-range_with_len (counts_at a) 0 a.len k k d (omega (arith, many a ts view)) (omega arith)
+
+-- totals that are read alike
+pub all_alike : (a b : Inside) (d : TextInfo) → ((k : ℕ) → k < a.len → counts_at a k ≡ counts_at b k) → map (counts_at a) (range_with_len 0 a.len) ≡ map (counts_at b) (range_with_len 0 a.len)
+all_alike a b d same =
+    fill_by_all (counts_at b) (all_totals a) a.len d (length-map-range_with_len (counts_at a) 0 a.len)
+    (λ k lt. get_or-map-range_with_len (counts_at a) 0 a.len k k d lt (omega arith) ∙ same k lt)
+
+-- the counts of one child more
+pub pushed : (a b : Inside) (ts : List TextInfo) (total : TextInfo) → IsTotals a → all_totals a ≡ ts → length ts < 24 → b.len ≡ a.len + 1
+    → b.bytes ≡ set a.bytes a.len total.bytes → b.chars ≡ set a.chars a.len total.chars → b.pairs ≡ set a.pairs a.len total.utf16_surrogates → b.breaks ≡ set a.breaks a.len total.break_count
+    → all_totals b ≡ ts ++ total ∷ []
+pushed a b ts total i view few len bytes chars pairs breaks =
+    let n = many a ts view in
+    let kept : (k : ℕ) → k < a.len → counts_at a k ≡ counts_at b k = λ k lt.
+        (rw (bytes, chars, pairs, breaks, get_or-set_other a.bytes a.len k total.bytes 0 (λ e. absurd (omega arith)), get_or-set_other a.chars a.len k total.chars 0 (λ e. absurd (omega arith)),
+        get_or-set_other a.pairs a.len k total.utf16_surrogates 0 (λ e. absurd (omega arith)), get_or-set_other a.breaks a.len k total.break_count 0 (λ e. absurd (omega arith))) refl) in
+    let last : counts_at b a.len ≡ total =
+        (rw (bytes, chars, pairs, breaks, get_or-set_same a.bytes a.len total.bytes 0 (omega (arith, i.bytes)), get_or-set_same a.chars a.len total.chars 0 (omega (arith, i.chars)),
+        get_or-set_same a.pairs a.len total.utf16_surrogates 0 (omega (arith, i.pairs)), get_or-set_same a.breaks a.len total.break_count 0 (omega (arith, i.breaks))) refl) in
+    ap (λ m. map (counts_at b) (range_with_len 0 m)) len ∙ map-range_with_len_more (counts_at b) 0 a.len a.len (omega arith)
+    ∙ ap (λ l. l ++ counts_at b a.len ∷ []) (sym (all_alike a b total kept) ∙ view) ∙ ap (λ x. ts ++ x ∷ []) last
+
+four_counts : (x y : TextInfo) → x.bytes ≡ y.bytes → x.chars ≡ y.chars → x.utf16_surrogates ≡ y.utf16_surrogates → x.break_count ≡ y.break_count → x ≡ y
+four_counts x y bytes chars pairs breaks =
+    let same : ◌≡◌ {A = TextInfo} (record { bytes = x.bytes; chars = x.chars; utf16_surrogates = x.utf16_surrogates; break_count = x.break_count })
+    (record { bytes = y.bytes; chars = y.chars; utf16_surrogates = y.utf16_surrogates; break_count = y.break_count }) = cc in
+    same
+
+-- other counts in as many places
+module _ (a b : Inside) (ts : List TextInfo) (view : all_totals a ≡ ts) (len : b.len ≡ a.len) (j : ℕ) (d : TextInfo) (lt : j < length ts) where
+  now_seen : get_or (all_totals b) j d ≡ counts_at b j
+  now_seen = get_or-map-range_with_len (counts_at b) 0 b.len j j d (omega (arith, many a ts view)) (omega arith)
+
+  pub same_seen : get_or b.bytes j 0 ≡ get_or a.bytes j 0 → get_or b.chars j 0 ≡ get_or a.chars j 0 → get_or b.pairs j 0 ≡ get_or a.pairs j 0 → get_or b.breaks j 0 ≡ get_or a.breaks j 0
+      → get_or (all_totals b) j d ≡ get_or ts j d
+  same_seen bytes chars pairs breaks = now_seen ∙ four_counts (counts_at b j) (counts_at a j) bytes chars pairs breaks ∙ sym (total_seen a ts j d view lt)
+
+  pub sums_seen : (old new : TextInfo) → get_or b.bytes j 0 + old.bytes ≡ get_or a.bytes j 0 + new.bytes → get_or b.chars j 0 + old.chars ≡ get_or a.chars j 0 + new.chars
+      → get_or b.pairs j 0 + old.utf16_surrogates ≡ get_or a.pairs j 0 + new.utf16_surrogates → get_or b.breaks j 0 + old.break_count ≡ get_or a.breaks j 0 + new.break_count
+      → info_sum (get_or (all_totals b) j d) old ≡ info_sum (get_or ts j d) new
+  sums_seen old new bytes chars pairs breaks =
+      ap (λ x. info_sum x old) now_seen ∙ four_counts (info_sum (counts_at b j) old) (info_sum (counts_at a j) new) bytes chars pairs breaks
+      ∙ ap (λ x. info_sum x new) (sym (total_seen a ts j d view lt))

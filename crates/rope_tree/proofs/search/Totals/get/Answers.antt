@@ -1,0 +1,33 @@
+use Rattle.std.proofs.Common.{◌≡◌, ℕ, ◌+◌, ◌<◌, ◌≤◌, get_or, ap, sym, subst, refl, ◌∙◌, arith}
+use Rattle.rope_text.specs.declared.text_info.TextInfo.{TextInfo}
+use Rattle.rope_tree.specs.TotalsShape.{counts_at}
+use Rattle.rope_tree.specs.Search.{count_of, IsSmall, HasPart}
+use Rattle.rope_tree.proofs.TotalsKept.{many, total_seen}
+use Rattle.rope_tree.proofs.search.Totals.get.Goals as goal
+
+pub offset_bounds-bytes-place : goal.offset_bounds-bytes-place
+offset_bounds-bytes-place c = omega (arith, many c.self.inside c.args.self.now c.self.view_is, c.self.invariant.few, c.requires)
+
+pub bounds-bytes-place : goal.bounds-bytes-place
+bounds-bytes-place c = omega (arith, many c.self.inside c.args.self.now c.self.view_is, c.self.invariant.few, c.requires)
+
+pub offset_bounds-chars-place : goal.offset_bounds-chars-place
+offset_bounds-chars-place c = omega (arith, many c.self.inside c.args.self.now c.self.view_is, c.self.invariant.few, c.requires)
+
+pub bounds-chars-place : goal.bounds-chars-place
+bounds-chars-place c = omega (arith, many c.self.inside c.args.self.now c.self.view_is, c.self.invariant.few, c.requires)
+
+pub offset_bounds-pairs-place : goal.offset_bounds-pairs-place
+offset_bounds-pairs-place c = omega (arith, many c.self.inside c.args.self.now c.self.view_is, c.self.invariant.few, c.requires)
+
+pub bounds-pairs-place : goal.bounds-pairs-place
+bounds-pairs-place c = omega (arith, many c.self.inside c.args.self.now c.self.view_is, c.self.invariant.few, c.requires)
+
+pub offset_bounds-breaks-place : goal.offset_bounds-breaks-place
+offset_bounds-breaks-place c = omega (arith, many c.self.inside c.args.self.now c.self.view_is, c.self.invariant.few, c.requires)
+
+pub bounds-breaks-place : goal.bounds-breaks-place
+bounds-breaks-place c = omega (arith, many c.self.inside c.args.self.now c.self.view_is, c.self.invariant.few, c.requires)
+
+pub returns : goal.returns
+returns c = λ d. sym (total_seen c.self.inside c.args.self.now c.args.place d c.self.view_is c.requires)

@@ -1,0 +1,9 @@
+use Rattle.std.proofs.Common.{◌≡◌, ℕ, ◌+◌, ◌<◌, ◌≤◌, length, get_or}
+use Rattle.rope_tree.proofs.search.shift.Given as goal
+
+abbrev pub invariant-loop-j : goal.invariant-loop-j
+invariant-loop-j l = record {
+  before : (k : ℕ) → k < l.from → get_or l.counts k 0 ≡ get_or l.initial.counts k 0;
+  done : (k : ℕ) → l.from ≤ k → k < l.j → get_or l.counts k 0 + l.old ≡ get_or l.initial.counts k 0 + l.new;
+  left : (k : ℕ) → l.j ≤ k → get_or l.counts k 0 ≡ get_or l.initial.counts k 0;
+}
