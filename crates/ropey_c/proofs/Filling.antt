@@ -1,54 +1,91 @@
 -- Pieces that are being written.
-use Rattle.std.proofs.Common.{◌≡◌, ℕ, ◌+◌, ◌<◌, ◌≤◌, List, [], ◌∷◌, ◌++◌, length, take, drop, map, slice_set, sym, ap, ◌∙◌, arith, append_assoc}
-use Rattle.std.specs.Prelude.{min}
+use Rattle.std.proofs.Common.{◌≡◌, ℕ, ◌+◌, ◌<◌, ◌≤◌, List, [], ◌∷◌, ◌++◌, length, take, drop, map, slice_set, refl, sym, ap, subst, ◌∙◌, arith, Bor, inl, inr}
+use Rattle.std.specs.Prelude.{All, Option, None, Some}
+use Rattle.std.specs.Str.{chars}
+use Rattle.std.specs.Iterator.{Yields, YieldsFirstBy}
 use Rattle.std.proofs.Math.Seq.{take-append_seam}
-use Rattle.std.proofs.Math.Nat.{min-eq_left, min-eq_right}
-use Rattle.std.proofs.lemmas.List.{length-append, length-set, append-nil, drop-set-lt, drop-drop, take_more_set, map-append}
+use Rattle.std.proofs.Math.Nat.{min-eq_left, min-eq_right, eq-or-lt_of_le}
 use Rattle.rope_text.specs.Text.{byte_len}
-use Rattle.ropey_c.specs.Pieces.{len_of, Fills}
+use Rattle.rope_text.specs.Sides.{Sides, ahead}
+use Rattle.std.proofs.lemmas.List.{length-append, length-set, drop-set-lt, drop-drop, take_more_set, map-append, length-map}
+use Rattle.std.proofs.lemmas.List.Elements.{All-nil, All-cons, All-append}
+use Rattle.ropey_c.specs.Pieces.{len_of, piece_at, IsPiece, Fills, FillsBy}
 use Rattle.ropey_c.specs.declared.pieces.Piece.{Piece}
 
--- the chunks but those ahead have been written
-pub record IsFilling (old now : List Piece) (all ahead : List (List ℕ)) (count : ℕ) : Type 0 where
-  pub given : List (List ℕ)
-  pub whole : all ≡ given ++ ahead
-  pub count_is : count ≡ length given
-  pub sizes : map len_of (take count now) ≡ map byte_len given
+-- calls of `next` and one more
+pub one_more : {S A : Type 0} (steps : S → Option A → S → Type 0) (s : S) (xs : List A) (t : S) (x : A) (u : S) → Yields steps s xs t → steps t (Some x) u → Yields steps s (xs ++ x ∷ []) u
+one_more steps s [] t x u none step = (u, subst (λ a. steps a (Some x) u) (sym none) step, refl)
+one_more steps s (y ∷ ys) t x u more step = (more.0, more.1, one_more steps more.0 ys t x u more.2 step)
+
+-- the texts that the iterator gave from s to t have been written
+pub record IsFilling {S : Type 0} (steps : S → Option (Bor (List ℕ)) → S → Type 0) (s t : S) (old now : List Piece) (count : ℕ) : Type 0 where
+  pub texts : List (Bor (List ℕ))
+  pub given : Yields steps s texts t
+  pub count_is : count ≡ length texts
+  pub written : take count now ≡ map piece_at texts
+  pub pieces : All IsPiece (take count now)
   pub kept : drop count now ≡ drop count old
   pub room : length now ≡ length old
   pub within : count ≤ length old
 
-module _ (old now : List Piece) (all rest : List (List ℕ)) (count : ℕ) (i : IsFilling old now all rest count) where
+module _ {S : Type 0} (steps : S → Option (Bor (List ℕ)) → S → Type 0) (s t : S) (old now : List Piece) (count : ℕ) (i : IsFilling steps s t old now count) where
   -- one more was written
-  pub next_filled : (chunk : List ℕ) (more : List (List ℕ)) (piece : Piece) → rest ≡ chunk ∷ more → piece.len ≡ byte_len chunk → count < length now
-      → IsFilling old (slice_set now count piece) all more (count + 1)
-  next_filled chunk more piece next len in_room = record {
-    given = i.given ++ chunk ∷ [];
-    whole = i.whole ∙ ap (λ r. i.given ++ r) next ∙ sym (append_assoc i.given (chunk ∷ []) more);
-    count_is = ap (λ n. n + 1) i.count_is ∙ sym (length-append i.given (chunk ∷ []));
-    sizes =
-        ap (map len_of) (take_more_set now count piece in_room) ∙ map-append len_of (take count now) (piece ∷ [])
-        ∙ ap (λ ls. ls ++ piece.len ∷ []) i.sizes ∙ ap (λ n. map byte_len i.given ++ n ∷ []) len ∙ sym (map-append byte_len i.given (chunk ∷ []));
-    kept =
-        drop-set-lt (count + 1) now count piece (omega arith) ∙ sym (drop-drop 1 count now) ∙ ap (drop 1) i.kept ∙ drop-drop 1 count old;
-    room = length-set now count piece ∙ i.room;
-    within = omega (arith, in_room, i.room);
+  pub next_filled : (text : Bor (List ℕ)) (u : S) (piece : Piece) → steps t (Some text) u → piece ≡ piece_at text → IsPiece piece → count < length now
+      → IsFilling steps s u old (slice_set now count piece) (count + 1)
+  next_filled text u piece step at_text is_piece in_room =
+      let more : take (count + 1) (slice_set now count piece) ≡ take count now ++ piece ∷ [] = take_more_set now count piece in_room in record {
+        texts = i.texts ++ text ∷ [];
+        given = one_more steps s i.texts t text u i.given step;
+        count_is = ap (λ n. n + 1) i.count_is ∙ sym (length-append i.texts (text ∷ []));
+        written = more ∙ ap (λ ps. ps ++ piece ∷ []) i.written ∙ ap (λ p. map piece_at i.texts ++ p ∷ []) at_text ∙ sym (map-append piece_at i.texts (text ∷ []));
+        pieces = subst (All IsPiece) (sym more) (All-append IsPiece (take count now) (piece ∷ []) i.pieces (All-cons IsPiece piece [] is_piece (All-nil IsPiece)));
+        kept = drop-set-lt (count + 1) now count piece (omega arith) ∙ sym (drop-drop 1 count now) ∙ ap (drop 1) i.kept ∙ drop-drop 1 count old;
+        room = length-set now count piece ∙ i.room;
+        within = omega (arith, in_room, i.room);
+      }
+
+  -- what was written, where there are no more or no room
+  pub filled : (count < length old → (u : S) × steps t None u) → FillsBy steps s old now count
+  filled ended = record {
+    texts = i.texts;
+    after = t;
+    given = i.given;
+    count_is = i.count_is;
+    written = i.written;
+    pieces = i.pieces;
+    kept = i.kept;
+    within = i.within;
+    ended = ended;
   }
 
-  -- what was written, where as many chunks are given as this
-  filled : count ≡ min (length old) (length all) → Fills all old now count
-  filled count_is =
-      (count_is, i.sizes ∙ ap (map byte_len) (sym (ap (λ n. take n all) i.count_is ∙ ap (take (length i.given)) i.whole ∙ take-append_seam i.given rest)), i.kept)
+  pub filled_full : length now ≤ count → FillsBy steps s old now count
+  filled_full full = filled (λ less. absurd (omega (arith, full, less, i.room)))
 
-  -- no more fit
-  pub filled_full : length now ≤ count → Fills all old now count
-  filled_full full =
-      let long : length all ≡ length i.given + length rest = ap length i.whole ∙ length-append i.given rest in
-      let all_of : count ≡ length old = omega (arith, full, i.room, i.within) in
-      filled (all_of ∙ sym (min-eq_left (omega (arith, long, i.count_is, all_of))))
+-- what a cursor over chunks gave is what was ahead of it
+given_ahead : (s : Sides (List ℕ)) (texts : List (Bor (List ℕ))) (t : Sides (List ℕ)) → Yields (YieldsFirstBy (λ x. chars x.now) ahead) s texts t
+    → ahead s ≡ map (λ x. chars x.now) texts ++ ahead t
+given_ahead s [] t none = ap ahead none
+given_ahead s (x ∷ xs) t more = more.1 ∙ ap (λ rest. chars x.now ∷ rest) (given_ahead more.0 xs t more.2)
 
-  -- there are no more
-  pub filled_all : rest ≡ [] → Fills all old now count
-  filled_all none =
-      let long : length all ≡ count = ap length (i.whole ∙ ap (λ r. i.given ++ r) none ∙ append-nil i.given) ∙ sym i.count_is in
-      filled (sym long ∙ sym (min-eq_right (omega (arith, long, i.within))))
+lens_of_pieces : (texts : List (Bor (List ℕ))) → map len_of (map piece_at texts) ≡ map byte_len (map (λ x. chars x.now) texts)
+lens_of_pieces [] = refl
+lens_of_pieces (x ∷ xs) = ap (λ rest. byte_len (chars x.now) ∷ rest) (lens_of_pieces xs)
+
+-- so the pieces are those of the chunks ahead
+pub chunks_filled : (s : Sides (List ℕ)) (old new : List Piece) (count : ℕ) → FillsBy (YieldsFirstBy (λ x. chars x.now) ahead) s old new count → Fills (ahead s) old new count
+chunks_filled s old new count f =
+    let chunks = map (λ x. chars x.now) f.texts in
+    let whole : ahead s ≡ chunks ++ ahead f.after = given_ahead s f.texts f.after f.given in
+    let long : length (ahead s) ≡ length chunks + length (ahead f.after) = ap length whole ∙ length-append chunks (ahead f.after) in
+    let count_is : count ≡ length chunks = f.count_is ∙ sym (length-map f.texts (λ x. chars x.now)) in
+    let first : take count (ahead s) ≡ chunks = ap (λ n. take n (ahead s)) count_is ∙ ap (take (length chunks)) whole ∙ take-append_seam chunks (ahead f.after) in (
+      elim (eq-or-lt_of_le f.within) [
+        | inl full ↦ full ∙ sym (min-eq_left (omega (arith, full, long, count_is)))
+        | inr less ↦
+            let none : length (ahead f.after) ≡ 0 = ap length (f.ended less).1.0 in
+            omega (arith, none, long, count_is) ∙ sym (min-eq_right (omega (arith, less, none, long, count_is)))
+      ],
+      ap (map len_of) f.written ∙ lens_of_pieces f.texts ∙ sym (ap (map byte_len) first),
+      f.kept,
+      f.pieces,
+    )

@@ -1,5 +1,5 @@
 -- What a call on a handle does. Without a rope it answers `NO_ROPE` and changes nothing.
-use Rattle.std.specs.Prelude.{◌≡◌, ◌<◌, ◌≤◌, ◌+◌, ◌↔◌, ℕ, ℤ, pos, negsuc, Bool, IsTrue, List, ◌++◌, length, drop, Option, Some, None, Result, Ok, Err, MatchOption}
+use Rattle.std.specs.Prelude.{◌≡◌, ◌<◌, ◌≤◌, ◌+◌, ◌↔◌, ℕ, ℤ, pos, negsuc, Bool, IsTrue, List, ◌++◌, length, drop, Option, Some, None, Result, Ok, Err, IfSome, MatchOption}
 use Rattle.std.specs.Str.{IsUtf8, chars}
 use Rattle.std.specs.declared.cmp.Ordering.{Ordering}
 use Rattle.std.specs.declared.cmp.Ordering.TheVariants.{Less, Equal, Greater}
@@ -38,6 +38,10 @@ Changes None None status Status After = status ≡ NO_ROPE
 Changes None (Some new) status Status After = ⊥
 Changes (Some old) None status Status After = ⊥
 Changes (Some old) (Some new) status Status After = Status old × (0 < status → new ≡ old) × (status ≡ OK → After old new)
+
+-- a call that has nothing to do: on a rope that `Empty` holds of it answers `OK` and leaves the rope as it was
+abbrev pub Keeps : Option RopeView → Option RopeView → ℕ → (RopeView → Type 0) → Type 0
+Keeps old new status Empty = IfSome old (λ rope. Empty rope → (status ≡ OK) × (new ≡ old))
 
 -- where a line lies, if there is such a line
 abbrev pub FindsLine : Option RopeView → ℕ → ℕ → Line → Line → Type 0

@@ -3,3 +3,4 @@ pub mod Status
 pub mod Answers
 pub mod Places
 pub mod Pieces
+pub mod Starts

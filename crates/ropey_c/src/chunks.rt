@@ -2,20 +2,21 @@
 //!
 //! The bytes stay where they are until the rope is edited or freed, and belong to the rope. Each call costs one look-up
 //! and takes no memory.
-ghost use Rattle.std.specs.Prelude.{◌≡◌, ◌↔◌, length, MatchOption};
-ghost use Rattle.std.specs.Ptr.{null_ptr};
+ghost use Rattle.std.specs.Prelude.{◌≡◌, ◌↔◌, length, IfSome, MatchOption};
+ghost use Rattle.std.specs.Ptr.{as_ptr, null_ptr};
 ghost use Rattle.std.specs.Str.{chars};
 ghost use Rattle.rope_text.specs.Text.{byte_len};
 ghost use Rattle.rope_text.specs.Lines.{line_count};
 ghost use Rattle.rope_text.specs.Lookup.{found_chunk, chunk_index_at_byte, chunk_index_at_char, chunk_index_at_line_break};
 ghost use Rattle.ropey_c.specs.Answers.{FindsChunk, IsChunk};
+ghost use Rattle.ropey_c.specs.Starts.{start_at};
 
 use crate::handle::Handle;
 use crate::status::{
     BYTE_INDEX_OUT_OF_BOUNDS, CHAR_INDEX_OUT_OF_BOUNDS, LINE_INDEX_OUT_OF_BOUNDS, NO_ROPE, OK,
 };
 use std::alloc::Global;
-use std::ptr::{from_ref, null};
+use std::ptr::null;
 
 /// A chunk: where its bytes lie and how many they are, and the bytes, the characters and the line breaks of the text
 /// before it. Where the rope is empty the pointer is null and all numbers are 0.
@@ -29,13 +30,22 @@ pub struct Chunk {
     pub line_breaks_before: usize,
 }
 
-// Where a text begins: null for the empty text.
-pub(crate) fn start_of(text: &[u8]) -> *const u8
-    ensures { (result ≡ null_ptr) ↔ (length text.now ≡ 0) }
+// The address of a text: where its first byte lies, if it has one.
+fn address(text: &str) -> *const u8
+    ensures { result ≡ as_ptr text.entry }
 {
-    match text.first() {
-        Some(first) => from_ref(first),
-        None => null(),
+    text.as_ptr()
+}
+
+// Where a text begins: at its address, and at null for the empty text.
+pub(crate) fn start_of(text: &str) -> *const u8
+    ensures start { result ≡ start_at text.entry }
+    ensures null { (result ≡ null_ptr) ↔ (length text.now ≡ 0) }
+{
+    if text.is_empty() {
+        null()
+    } else {
+        address(text)
     }
 }
 
@@ -46,12 +56,12 @@ fn chunk_of(
     chars_before: usize,
     line_breaks_before: usize,
 ) -> Chunk
-    ensures { IsChunk (chars text.now) bytes_before chars_before line_breaks_before result }
+    ensures chunk { IsChunk (chars text.now) bytes_before chars_before line_breaks_before result }
+    ensures start { result.text ≡ start_at text.entry }
 {
-    let bytes = text.as_bytes();
     Chunk {
-        text: start_of(bytes),
-        len: bytes.len(),
+        text: start_of(text),
+        len: text.len(),
         bytes_before,
         chars_before,
         line_breaks_before,
@@ -60,8 +70,9 @@ fn chunk_of(
 
 // Writes what was found where the caller wants it.
 fn write_chunk(found: Option<(&str, usize, usize, usize)>, missing: u32, chunk: &mut Chunk) -> u32
-    ensures { MatchOption found.entry ((result ≡ missing) × (chunk.new ≡ chunk.old))
+    ensures answer { MatchOption found.entry ((result ≡ missing) × (chunk.new ≡ chunk.old))
         (λ f. (result ≡ OK) × IsChunk (chars f.0.now) f.1 f.2 f.3 chunk.new) }
+    ensures start { IfSome found.entry (λ f. chunk.new.text ≡ start_at f.0) }
 {
     match found {
         Some((text, bytes, chars, line_breaks)) => {

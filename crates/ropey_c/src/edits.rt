@@ -4,7 +4,7 @@ ghost use Rattle.std.specs.Str.{chars};
 ghost use Rattle.rope_text.specs.Edit.{inserted, insert_error, removed, char_range_error, char_index_error, append_error};
 ghost use Rattle.ropey_c.specs.Handles.{text_at, breaks_at};
 ghost use Rattle.ropey_c.specs.Status.{IsStatus, IsTextStatus, IsCharStatus};
-ghost use Rattle.ropey_c.specs.Answers.{Changes};
+ghost use Rattle.ropey_c.specs.Answers.{Changes, Keeps};
 
 use crate::handle::Handle;
 use crate::status::{
@@ -17,6 +17,7 @@ fn insert(rope: &mut Rope, char_idx: usize, text: &[u8]) -> u32
     ensures status { IsTextStatus text.now (insert_error rope.old.text char_idx (chars text.now)) result }
     ensures ok { result ≡ OK → rope.new.text ≡ inserted rope.old.text char_idx (chars text.now) }
     ensures err { 0 < result → rope.new ≡ rope.old }
+    ensures empty { length text.now ≡ 0 → insert_error rope.old.text char_idx [] ≡ None → (result ≡ OK) × (rope.new ≡ rope.old) }
     ensures breaks { rope.new.breaks ≡ rope.old.breaks }
 {
     match std::str::from_utf8(text) {
@@ -40,9 +41,10 @@ pub extern "C" fn ropey_insert(
     char_idx: usize,
     text: &[u8],
 ) -> u32
-    ensures { Changes rope.old.rope rope.new.rope result
+    ensures changes { Changes rope.old.rope rope.new.rope result
         (λ old. IsTextStatus text.now (insert_error old.text char_idx (chars text.now)) result)
         (λ old new. (new.text ≡ inserted old.text char_idx (chars text.now)) × (new.breaks ≡ old.breaks)) }
+    ensures empty { length text.now ≡ 0 → Keeps rope.old.rope rope.new.rope result (λ old. insert_error old.text char_idx [] ≡ None) }
 {
     let Some(mut held) = rope.take(alloc) else {
         return NO_ROPE;
@@ -99,9 +101,10 @@ pub extern "C" fn ropey_insert_char(
 /// the rope as it was.
 #[unsafe(no_mangle)]
 pub extern "C" fn ropey_remove(alloc: Global, rope: &mut Handle, start: usize, end: usize) -> u32
-    ensures { Changes rope.old.rope rope.new.rope result
+    ensures changes { Changes rope.old.rope rope.new.rope result
         (λ old. IsStatus (char_range_error (Some start) (Some end) (length old.text)) result)
         (λ old new. (new.text ≡ removed old.text start end) × (new.breaks ≡ old.breaks)) }
+    ensures empty { start ≡ end → Keeps rope.old.rope rope.new.rope result (λ old. char_range_error (Some start) (Some end) (length old.text) ≡ None) }
 {
     let Some(mut held) = rope.take(alloc) else {
         return NO_ROPE;
@@ -171,7 +174,8 @@ pub extern "C" fn ropey_split_off(
 /// # Errors
 ///
 /// `NO_ROPE`, then `LINE_BREAKS_DIFFER`, then `TOO_LONG`, then `OUT_OF_MEMORY`. A refused call leaves the rope as it
-/// was. A caller who needs the other rope after a refusal appends a clone of it.
+/// was. A caller who needs the other rope after a refusal appends a clone of it. Where one of two ropes with one set of
+/// line breaks is empty, no memory is taken.
 #[unsafe(no_mangle)]
 pub extern "C" fn ropey_append(alloc: Global, rope: &mut Handle, other: &mut Handle) -> u32
     ensures none { rope.old.rope ≡ None → (result ≡ NO_ROPE) × (rope.new.rope ≡ None) × (other.new.rope ≡ other.old.rope) }
@@ -179,6 +183,10 @@ pub extern "C" fn ropey_append(alloc: Global, rope: &mut Handle, other: &mut Han
     ensures changes { IfSome other.old.rope (λ o. Changes rope.old.rope rope.new.rope result
         (λ old. IsStatus (append_error old.breaks o.breaks old.text o.text) result)
         (λ old new. (new.text ≡ old.text ++ o.text) × (new.breaks ≡ old.breaks))) }
+    ensures empty { IfSome other.old.rope (λ o. length o.text ≡ 0 → Keeps rope.old.rope rope.new.rope result
+        (λ old. append_error old.breaks o.breaks old.text o.text ≡ None)) }
+    ensures taken { IfSome other.old.rope (λ o. IfSome rope.old.rope (λ old. append_error old.breaks o.breaks old.text o.text ≡ None
+        → length old.text ≡ 0 → 0 < length o.text → (result ≡ OK) × (rope.new.rope ≡ Some o))) }
     ensures spent { rope.old.rope ≢ None → other.new.rope ≡ None }
 {
     let Some(mut held) = rope.take(alloc) else {

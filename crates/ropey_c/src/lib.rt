@@ -12,8 +12,8 @@
 //!     ropey_free(&rope);
 //!
 //! *What no contract says:* that a program keeps to the header: one thread, handles that the library made, texts and
-//! buffers that have their length, different objects in one call; and where the pointer of a chunk points, but for
-//! null.
+//! buffers that have their length, different objects in one call; and that an exported function hands a chunk's pointer
+//! on as it got it. Below them it is proved to be the address of the text that the rope gave.
 //!
 //! *Where to look.* `makers` makes, clones and frees ropes; `edits` changes them; `lengths`, `conversions`, `positions`
 //! and `lookups` answer about a place; `chunks` and `pieces` show where bytes lie; `copies` copies text out; `compare`

@@ -3,16 +3,13 @@
 //! A program reads a text with it from a place on, some chunks at a time. The bytes stay where they are until the rope
 //! is edited or freed, and belong to the rope. No call takes memory.
 ghost use Rattle.std.specs.Prelude.{◌≡◌, Some};
-ghost use Rattle.std.specs.Str.{chars};
-ghost use Rattle.rope_text.specs.Text.{byte_len};
-ghost use Rattle.rope_text.specs.Sides.{ahead};
-ghost use Rattle.ropey_c.specs.Pieces.{len_of, Fills, FillsFrom};
+ghost use Rattle.std.specs.Iterator.{IsFinite};
+ghost use Rattle.ropey_c.specs.Pieces.{FillsBy, FillsFrom, IsPiece, piece_at};
 
 use crate::chunks::start_of;
 use crate::handle::Handle;
 use crate::status::{BYTE_INDEX_OUT_OF_BOUNDS, NO_ROPE, OK};
 use ropey::Rope;
-use ropey::iter::Chunks;
 use std::alloc::Global;
 
 /// A piece of a text: where its bytes lie, and how many they are.
@@ -24,25 +21,27 @@ pub struct Piece {
 }
 
 fn piece_of(text: &str) -> Piece
-    ensures { result.len ≡ byte_len (chars text.now) }
+    ensures at { result ≡ piece_at text.entry }
+    ensures piece { IsPiece result }
 {
-    let bytes = text.as_bytes();
     Piece {
-        text: start_of(bytes),
-        len: bytes.len(),
+        text: start_of(text),
+        len: text.len(),
     }
 }
 
-// Writes the chunks that the cursor still gives, as far as there is room, and returns how many they are.
-fn fill(mut cursor: Chunks<'_>, pieces: &mut [Piece]) -> usize
-    ensures { Fills (ahead cursor.entry) pieces.old pieces.new result }
+// Asks for texts as far as there is room, writes where they lie, and returns how many they are. That it is over any
+// iterator says more than over a cursor of chunks: no text can lie where a piece points but the one that was given.
+fn fill<'a, I: Iterator<Item = &'a str>>(mut texts: I, pieces: &mut [Piece]) -> usize
+    requires { I.can_next texts × IsFinite (I.remaining texts) }
+    ensures { FillsBy I.next_gives texts pieces.old pieces.new result }
 {
     let mut count = 0;
     while count < pieces.len() {
-        let Some(chunk) = cursor.next() else {
+        let Some(text) = texts.next() else {
             return count;
         };
-        pieces[count] = piece_of(chunk);
+        pieces[count] = piece_of(text);
         count += 1;
     }
     count

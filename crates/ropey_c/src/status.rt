@@ -1,5 +1,5 @@
 //! What a call answers: 0, or the number that stands for the first reason for which it was refused.
-ghost use Rattle.std.specs.Prelude.{◌≡◌, MatchResult};
+ghost use Rattle.std.specs.Prelude.{◌≡◌, IsOk, MatchResult};
 ghost use Rattle.ropey_c.specs.Status.{status_of, given_breaks, number_of};
 ghost use Rattle.ropey_c.specs.Answers.{Answers};
 
@@ -71,7 +71,8 @@ pub(crate) fn status_of(error: Error) -> u32
 
 // The status of what a call of the rope returned.
 pub(crate) fn status(returned: Result<()>) -> u32
-    ensures { MatchResult returned (λ _. result ≡ OK) (λ e. result ≡ status_of e) }
+    ensures answer { MatchResult returned (λ _. result ≡ OK) (λ e. result ≡ status_of e) }
+    ensures ok { IsOk returned → result ≡ OK }
 {
     match returned {
         Ok(()) => OK,

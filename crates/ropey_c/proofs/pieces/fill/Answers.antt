@@ -1,18 +1,20 @@
 use Rattle.std.proofs.Common.{[], refl, arith}
-use Rattle.std.specs.Str.{chars}
-use Rattle.rope_text.specs.Sides.{ahead}
-use Rattle.ropey_c.proofs.Filling.{next_filled, filled_full, filled_all}
+use Rattle.std.proofs.lemmas.List.Elements.{All-nil}
+use Rattle.ropey_c.specs.Pieces.{IsPiece}
+use Rattle.ropey_c.proofs.Filling.{next_filled, filled, filled_full}
 use Rattle.ropey_c.proofs.pieces.fill.Goals as goal
 
 pub loop-count-init : goal.loop-count-init
-loop-count-init c = record { given = []; whole = refl; count_is = refl; sizes = refl; kept = refl; room = refl; within = omega arith }
+loop-count-init g c = (record { texts = []; given = refl; count_is = refl; written = refl; pieces = All-nil IsPiece; kept = refl; room = refl; within = omega arith }, c.requires.0)
 
 pub loop-count-preserved : goal.loop-count-preserved
-loop-count-preserved c =
-    next_filled _ _ _ _ _ c.loop-count.invariant (chars c.in-Some.chunk.now) (ahead c.next.new.self) c.piece_of.result c.in-Some.ensures.steps c.piece_of.ensures c.loop-count-test.true
+loop-count-preserved g c = (
+  next_filled _ _ _ _ _ _ c.loop-count.invariant.0 c.in-Some.text c.next.new.self c.piece_of.result c.in-Some.ensures.steps c.piece_of.ensures.at c.piece_of.ensures.piece c.loop-count-test.true,
+  c.in-Some.ensures.goes.keeps,
+)
 
 pub returns-in_default : goal.returns-in_default
-returns-in_default c = filled_all _ _ _ _ _ c.loop-count.invariant c.in_default.ensures.steps.0
+returns-in_default g c = filled _ _ _ _ _ _ c.loop-count.invariant.0 (λ _. (c.next.new.self, c.in_default.ensures.steps))
 
 pub returns : goal.returns
-returns c = filled_full _ _ _ _ _ c.loop-count.invariant c.loop-count-test.false
+returns g c = filled_full _ _ _ _ _ _ c.loop-count.invariant.0 c.loop-count-test.false

@@ -2,6 +2,7 @@ use Rattle.std.proofs.Common.{refl, ap, subst, arith}
 use Rattle.rope_text.specs.Lookup.{found_chunk}
 use Rattle.rope_text.specs.Sides.{ahead}
 use Rattle.ropey_c.specs.Pieces.{Fills}
+use Rattle.ropey_c.proofs.Filling.{chunks_filled}
 use Rattle.ropey_c.proofs.pieces.find_pieces.Goals as goal
 
 pub returns : goal.returns
@@ -13,6 +14,6 @@ returns c =
       λ _. (
         refl,
         found.ensures.before.bytes_are,
-        subst (λ chunks. Fills chunks c.args.pieces.now c.fill.new.pieces c.fill.result) (ap ahead found.ensures.cursor_is) c.fill.ensures,
+        subst (λ chunks. Fills chunks c.args.pieces.now c.fill.new.pieces c.fill.result) (ap ahead found.ensures.cursor_is) (chunks_filled _ _ _ _ c.fill.ensures),
       ),
     )
