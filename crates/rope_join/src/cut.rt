@@ -15,12 +15,7 @@ use rope_tree::search::{Unit, place_of};
 use std::alloc::{AllocError, Global};
 
 /// The first `at` characters, at least one.
-pub fn front(
-    alloc: Global,
-    node: &Node,
-    at: usize,
-    made: &mut u64,
-) -> Result<Node, AllocError>
+pub fn front(alloc: Global, node: &Node, at: usize, made: &mut u64) -> Result<Node, AllocError>
     requires some { 1 ≤ at }
     requires within { at ≤ length (text node.now) }
     ensures front { IfOk result (λ part. IsFront at node.now part) }
@@ -51,12 +46,7 @@ pub fn front(
 }
 
 /// What follows the first `at` characters, at least one.
-pub fn back(
-    alloc: Global,
-    node: &Node,
-    at: usize,
-    made: &mut u64,
-) -> Result<Node, AllocError>
+pub fn back(alloc: Global, node: &Node, at: usize, made: &mut u64) -> Result<Node, AllocError>
     requires { at < length (text node.now) }
     ensures back { IfOk result (λ part. IsBack at node.now part) }
     ensures made_ok { IfOk result (λ part. made.new ≤ made.old + 4 * node.now.height + 2 * part.height + 1) }

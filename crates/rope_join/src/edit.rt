@@ -40,12 +40,7 @@ fn pair_meets(left: &Node, front: usize, right: &Node, back: usize) -> bool
 }
 
 /// The first `at` characters, perhaps none.
-fn front_or_none(
-    alloc: Global,
-    node: &Node,
-    at: usize,
-    made: &mut u64,
-) -> Result<Node, AllocError>
+fn front_or_none(alloc: Global, node: &Node, at: usize, made: &mut u64) -> Result<Node, AllocError>
     requires { at ≤ length (text node.now) }
     ensures front { IfOk result (λ part. IsFront at node.now part) }
     ensures made { made.new ≤ made.old + 6 * node.now.height + 1 }
@@ -57,12 +52,7 @@ fn front_or_none(
 }
 
 /// What follows the first `at` characters, perhaps nothing.
-fn back_or_none(
-    alloc: Global,
-    node: &Node,
-    at: usize,
-    made: &mut u64,
-) -> Result<Node, AllocError>
+fn back_or_none(alloc: Global, node: &Node, at: usize, made: &mut u64) -> Result<Node, AllocError>
     requires { at ≤ length (text node.now) }
     ensures back { IfOk result (λ part. IsBack at node.now part) }
     ensures made { made.new ≤ made.old + 6 * node.now.height + 1 }
@@ -94,12 +84,7 @@ fn join_by_pair(
 }
 
 /// The text of the one tree and then that of the other.
-pub fn append(
-    alloc: Global,
-    left: &Node,
-    right: &Node,
-    made: &mut u64,
-) -> Result<Node, AllocError>
+pub fn append(alloc: Global, left: &Node, right: &Node, made: &mut u64) -> Result<Node, AllocError>
     requires same_breaks { right.now.breaks ≡ left.now.breaks }
     requires fits { byte_len (text left.now) + byte_len (text right.now) < 2 ^ 63 }
     ensures text { IfOk result (λ node. text node ≡ text left.now ++ text right.now) }

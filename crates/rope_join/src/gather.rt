@@ -9,11 +9,7 @@ use rope_tree::node::{Node, make_inner};
 use std::alloc::{AllocError, Global};
 
 /// The nodes of both lists.
-pub fn both(
-    alloc: Global,
-    before: &[Node],
-    after: &[Node],
-) -> Result<Vec<Node>, AllocError>
+pub fn both(alloc: Global, before: &[Node], after: &[Node]) -> Result<Vec<Node>, AllocError>
     ensures { IfOk result (λ v. v.items ≡ before.now ++ after.now) }
 {
     let mut list = copied(alloc, before)?;

@@ -31,12 +31,7 @@ fn keep(left: &Node, right: &Node) -> Result<Nodes, AllocError>
 
 /// Two trees of one height as one tree or two. Leaves become one where they fit in it and one of them is short; other
 /// nodes where one can have all children, and where one of them has few they share the children evenly.
-fn merge(
-    alloc: Global,
-    left: &Node,
-    right: &Node,
-    made: &mut u64,
-) -> Result<Nodes, AllocError>
+fn merge(alloc: Global, left: &Node, right: &Node, made: &mut u64) -> Result<Nodes, AllocError>
     requires left_some { 1 ≤ length left.now.leaves }
     requires right_some { 1 ≤ length right.now.leaves }
     requires join { CanJoin left.now right.now }
@@ -78,12 +73,7 @@ fn merge(
 }
 
 /// Two trees that aren't empty as one tree or two of the greater height.
-fn unite(
-    alloc: Global,
-    left: &Node,
-    right: &Node,
-    made: &mut u64,
-) -> Result<Nodes, AllocError>
+fn unite(alloc: Global, left: &Node, right: &Node, made: &mut u64) -> Result<Nodes, AllocError>
     requires left_some { 1 ≤ length left.now.leaves }
     requires right_some { 1 ≤ length right.now.leaves }
     requires join { CanJoin left.now right.now }
@@ -114,12 +104,7 @@ fn unite(
 
 /// The text of the one tree and then that of the other as one tree, at most one level higher than the higher of them. No
 /// CR at the end of the one may stand before an LF of the other.
-pub fn join(
-    alloc: Global,
-    left: &Node,
-    right: &Node,
-    made: &mut u64,
-) -> Result<Node, AllocError>
+pub fn join(alloc: Global, left: &Node, right: &Node, made: &mut u64) -> Result<Node, AllocError>
     requires { CanJoin left.now right.now }
     ensures join { IfOk result (λ node. IsJoin left.now right.now node) }
     ensures made { made.new ≤ made.old + 2 * ((left.now.height - right.now.height) + (right.now.height - left.now.height)) + 3 }

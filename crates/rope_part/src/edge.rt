@@ -21,7 +21,11 @@ fn pairs_in(text: &str, count: usize) -> usize
     requires { count ≡ length (chars text.now) }
     ensures { result ≡ surrogate_count (chars text.now) }
 {
-    if count == text.len() { 0 } else { count_surrogates(text) }
+    if count == text.len() {
+        0
+    } else {
+        count_surrogates(text)
+    }
 }
 
 /// The counts of the text before a part that starts at a character.

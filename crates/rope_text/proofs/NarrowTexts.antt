@@ -1,15 +1,14 @@
 -- Texts with as many bytes as characters: all indices of a place are the same number.
-use Rattle.std.proofs.Common.{◌≡◌, ℕ, suc, ◌+◌, ◌<◌, ◌≤◌, cond, min, List, [], ◌∷◌, ◌++◌, length, take, drop, nat_le, nat_lt, refl, ap, sym, ◌∙◌, arith, inl, inr}
+use Rattle.std.proofs.Common.{◌≡◌, ℕ, suc, ◌<◌, ◌≤◌, min, List, [], ◌∷◌, length, take, drop, refl, ap, sym, ◌∙◌, arith, inl, inr}
 use Rattle.std.proofs.lemmas.Bool.{le-leb, lt-leb, cases_lt}
 use Rattle.std.proofs.lemmas.Bool.Decides.{nat_tests}
 use Rattle.std.proofs.lemmas.List.{append-nil, take-append-drop, length-take, length-drop}
-use Rattle.std.proofs.lemmas.List.Sums.{count_by-le-length}
 use Rattle.std.proofs.lemmas.Str.{length-encode, length-le-encodes}
 use Rattle.std.specs.Char.{len_utf8}
 use Rattle.rope_text.specs.declared.line_breaks.LineBreaks.{LineBreaks}
 use Rattle.rope_text.specs.Text.{byte_len, utf16_len}
-use Rattle.rope_text.specs.Conversions.{byte_to_char, utf16_to_char, char_to_byte, char_to_utf16, char_to_line, byte_to_line}
-use Rattle.rope_text.proofs.Measures.{IsMeasure, IsMeasure-byte_len, IsMeasure-utf16_len}
+use Rattle.rope_text.specs.Conversions.{byte_to_char, utf16_to_char, char_to_line, byte_to_line}
+use Rattle.rope_text.proofs.Measures.{IsMeasure-byte_len, IsMeasure-utf16_len}
 use Rattle.rope_text.proofs.ConversionLaws.{byte_to_char_is, utf16_to_char_is, char_to_line_past, byte_to_line-byte_to_char}
 
 four_bytes : (c : ℕ) → 65536 ≤ c → len_utf8 c ≡ 4

@@ -1,6 +1,5 @@
 -- A child that takes a text, as the code finds and leaves it among its siblings.
 use Rattle.std.proofs.Common.{◌≡◌, ℕ, ◌+◌, ◌<◌, ◌≤◌, ◌^◌, Bool, List, [], ◌∷◌, ◌++◌, length, get_or, set, take, drop, OnErr, Result, Ok, Err, refl, ap, ◌∙◌, arith}
-use Rattle.std.specs.List.{refill}
 use Rattle.rope_text.specs.declared.text_info.TextInfo.{TextInfo}
 use Rattle.rope_text.specs.Text.{byte_len}
 use Rattle.rope_text.specs.Edit.{inserted}

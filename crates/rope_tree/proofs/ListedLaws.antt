@@ -4,7 +4,7 @@ use borrow.Rule.Slice.PartMut.{mid_of, post_of, put_mid}
 use Rattle.std.proofs.Math.Seq.{take-set-lt, drop-append_seam, take-append_seam}
 use Rattle.std.proofs.lemmas.List.Elements.{All-drop}
 use Rattle.std.proofs.lemmas.List.{append-nil, length-append, length-set, length-take, length-take-le, length-drop, take-take, drop-drop, get_or-take, get_or_default, drop-set-lt, drop-append-le, take-append-le, take_all, drop_all}
-use Rattle.std.specs.List.{All, insert, refill}
+use Rattle.std.specs.List.{All, insert}
 use Rattle.rope_text.specs.declared.text_info.TextInfo.{TextInfo}
 use Rattle.rope_text.specs.TextInfo.{info_of, info_sum}
 use Rattle.rope_tree.specs.declared.node.Children.TheInside.{Inside}

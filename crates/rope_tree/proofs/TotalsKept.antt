@@ -1,5 +1,5 @@
 -- Running totals that are kept by kind of count.
-use Rattle.std.proofs.Common.{◌≡◌, ℕ, ◌+◌, ◌<◌, ◌≤◌, List, [], ◌∷◌, ◌++◌, length, get_or, set, map, refl, sym, ap, ◌∙◌, arith, get_or-set_other, get_or-set_same}
+use Rattle.std.proofs.Common.{◌≡◌, ℕ, ◌+◌, ◌<◌, List, [], ◌∷◌, ◌++◌, length, get_or, set, map, refl, sym, ap, ◌∙◌, arith, get_or-set_other, get_or-set_same}
 use Rattle.std.specs.List.{range_with_len}
 use Rattle.std.proofs.lemmas.List.FromFn.{length-map-range_with_len, get_or-map-range_with_len, map-range_with_len_more, fill_by_all}
 use Rattle.rope_text.specs.declared.text_info.TextInfo.{TextInfo}
@@ -27,11 +27,27 @@ pub pushed : (a b : Inside) (ts : List TextInfo) (total : TextInfo) → IsTotals
 pushed a b ts total i view few len bytes chars pairs breaks =
     let n = many a ts view in
     let kept : (k : ℕ) → k < a.len → counts_at a k ≡ counts_at b k = λ k lt.
-        (rw (bytes, chars, pairs, breaks, get_or-set_other a.bytes a.len k total.bytes 0 (λ e. absurd (omega arith)), get_or-set_other a.chars a.len k total.chars 0 (λ e. absurd (omega arith)),
-        get_or-set_other a.pairs a.len k total.utf16_surrogates 0 (λ e. absurd (omega arith)), get_or-set_other a.breaks a.len k total.break_count 0 (λ e. absurd (omega arith))) refl) in
+    (rw (
+      bytes,
+      chars,
+      pairs,
+      breaks,
+      get_or-set_other a.bytes a.len k total.bytes 0 (λ e. absurd (omega arith)),
+      get_or-set_other a.chars a.len k total.chars 0 (λ e. absurd (omega arith)),
+      get_or-set_other a.pairs a.len k total.utf16_surrogates 0 (λ e. absurd (omega arith)),
+      get_or-set_other a.breaks a.len k total.break_count 0 (λ e. absurd (omega arith)),
+    ) refl) in
     let last : counts_at b a.len ≡ total =
-        (rw (bytes, chars, pairs, breaks, get_or-set_same a.bytes a.len total.bytes 0 (omega (arith, i.bytes)), get_or-set_same a.chars a.len total.chars 0 (omega (arith, i.chars)),
-        get_or-set_same a.pairs a.len total.utf16_surrogates 0 (omega (arith, i.pairs)), get_or-set_same a.breaks a.len total.break_count 0 (omega (arith, i.breaks))) refl) in
+    (rw (
+      bytes,
+      chars,
+      pairs,
+      breaks,
+      get_or-set_same a.bytes a.len total.bytes 0 (omega (arith, i.bytes)),
+      get_or-set_same a.chars a.len total.chars 0 (omega (arith, i.chars)),
+      get_or-set_same a.pairs a.len total.utf16_surrogates 0 (omega (arith, i.pairs)),
+      get_or-set_same a.breaks a.len total.break_count 0 (omega (arith, i.breaks)),
+    ) refl) in
     ap (λ m. map (counts_at b) (range_with_len 0 m)) len ∙ map-range_with_len_more (counts_at b) 0 a.len a.len (omega arith)
     ∙ ap (λ l. l ++ counts_at b a.len ∷ []) (sym (all_alike a b total kept) ∙ view) ∙ ap (λ x. ts ++ x ∷ []) last
 

@@ -154,8 +154,20 @@ impl Totals {
         let len = self.len;
         shift(&mut self.bytes, place, len, old.bytes, new.bytes);
         shift(&mut self.chars, place, len, old.chars, new.chars);
-        shift(&mut self.pairs, place, len, old.utf16_surrogates, new.utf16_surrogates);
-        shift(&mut self.breaks, place, len, old.break_count, new.break_count);
+        shift(
+            &mut self.pairs,
+            place,
+            len,
+            old.utf16_surrogates,
+            new.utf16_surrogates,
+        );
+        shift(
+            &mut self.breaks,
+            place,
+            len,
+            old.break_count,
+            new.break_count,
+        );
     }
 }
 

@@ -4,7 +4,7 @@ use Rattle.std.proofs.lemmas.List.{length-take}
 use Rattle.std.proofs.lemmas.List.Sums.{count_by-le-length}
 use Rattle.std.proofs.lemmas.Str.{length-le-encodes}
 use Rattle.rope_text.specs.Text.{byte_len, surrogate_count}
-use Rattle.rope_text.specs.Conversions.{char_to_byte, char_to_line}
+use Rattle.rope_text.specs.Conversions.{char_to_line}
 use Rattle.rope_text.proofs.Measures.{IsMeasure-byte_len, size_le_all}
 use Rattle.rope_text.proofs.TextParts.{chars_front}
 use Rattle.rope_tree.proofs.Descents.{small_found}

@@ -1,4 +1,4 @@
-use Rattle.std.proofs.Common.{◌≡◌, ◌+◌, ◌-◌, sym, ap, ◌∙◌, arith}
+use Rattle.std.proofs.Common.{◌≡◌, ◌+◌, sym, ap, ◌∙◌, arith}
 use Rattle.std.proofs.lemmas.Str.{length-le-encodes}
 use Rattle.rope_text.specs.Text.{byte_len}
 use Rattle.rope_text.specs.Conversions.{char_to_byte}

@@ -1,6 +1,5 @@
 use Rattle.std.proofs.Common.{◌≡◌, ◌+◌, ◌-◌, sym, ap, ◌∙◌, arith}
 use Rattle.std.proofs.lemmas.Str.{length-le-encodes}
-use Rattle.std.specs.Str.{chars}
 use Rattle.rope_text.specs.Conversions.{char_to_line}
 use Rattle.rope_text.proofs.ConversionLaws.{char_to_line_end}
 use Rattle.rope_tree.specs.Tree.{text}

@@ -1,4 +1,4 @@
-use Rattle.std.proofs.Common.{◌≡◌, ◌+◌, ◌/◌, inl, inr, refl, arith}
+use Rattle.std.proofs.Common.{◌≡◌, inl, inr, refl, arith}
 use Rattle.std.proofs.lemmas.Bool.Decides.{leb_tells}
 use Rattle.rope_text.specs.declared.text_info.TextInfo.{TextInfo}
 use Rattle.rope_tree.proofs.Halving.{passed, stopped}

@@ -1,4 +1,4 @@
-use Rattle.std.proofs.Common.{◌≡◌, length, ap, ◌∙◌, sym, arith}
+use Rattle.std.proofs.Common.{ap, arith}
 use Rattle.rope_text.specs.Text.{byte_len}
 use Rattle.rope_text.proofs.Walks.{byte_len-chars}
 use Rattle.rope_tree.proofs.leaf.Leaf.text.Goals as goal

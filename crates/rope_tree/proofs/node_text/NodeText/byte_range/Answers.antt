@@ -1,6 +1,6 @@
 -- Where there are as many bytes as characters, a character's number is its byte's.
 use Rattle.std.proofs.Common.{◌≡◌, ℕ, take, length, ap, sym, subst, ◌∙◌, arith}
-use Rattle.std.specs.Str.{chars, IsCharBoundary}
+use Rattle.std.specs.Str.{IsCharBoundary}
 use Rattle.std.proofs.lemmas.Str.{length-le-encodes}
 use Rattle.rope_text.specs.Text.{byte_len}
 use Rattle.rope_text.proofs.TextParts.{byte_len_boundary}

@@ -1,7 +1,4 @@
-use Rattle.std.proofs.Common.{◌≡◌, ℕ, ◌+◌, ◌<◌, ◌≤◌, get_or, ap, sym, subst, refl, ◌∙◌, arith}
-use Rattle.rope_text.specs.declared.text_info.TextInfo.{TextInfo}
-use Rattle.rope_tree.specs.TotalsShape.{counts_at}
-use Rattle.rope_tree.specs.Search.{count_of, IsSmall, HasPart}
+use Rattle.std.proofs.Common.{sym, arith}
 use Rattle.rope_tree.proofs.TotalsKept.{many, total_seen}
 use Rattle.rope_tree.proofs.search.Totals.get.Goals as goal
 

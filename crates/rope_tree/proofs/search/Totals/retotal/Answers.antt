@@ -1,7 +1,5 @@
-use Rattle.std.proofs.Common.{◌≡◌, ℕ, ◌+◌, ◌<◌, ◌≤◌, length, get_or, ap, sym, subst, refl, ◌∙◌, arith}
-use Rattle.rope_text.specs.declared.text_info.TextInfo.{TextInfo}
+use Rattle.std.proofs.Common.{◌<◌, length, refl, arith}
 use Rattle.rope_tree.specs.TotalsShape.{counts_at}
-use Rattle.rope_tree.specs.Search.{count_of, IsSmall, HasPart}
 use Rattle.rope_tree.proofs.TotalsKept.{many, total_seen, same_seen, sums_seen}
 use Rattle.rope_tree.proofs.search.Totals.retotal.Goals as goal
 
