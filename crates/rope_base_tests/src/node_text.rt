@@ -19,9 +19,13 @@ fn edits(rt: HostRuntime) {
     text.push_str("oz");
     assert_eq!(rt; text.as_str(), "Hello!oz");
     let mut text = hello();
-    let range = text.byte_range(2, 4);
+    let range = text.byte_range(2, 4, text.count_chars());
     text.remove_bytes(range);
     assert_eq!(rt; text.as_str(), "Heo!");
+    let mut text = NodeText::from_str("H\u{e9}llo!");
+    let range = text.byte_range(1, 3, text.count_chars());
+    text.remove_bytes(range);
+    assert_eq!(rt; text.as_str(), "Hlo!");
     let mut text = hello();
     text.truncate(4);
     assert_eq!(rt; text.as_str(), "Hell");
