@@ -15,7 +15,7 @@ use rope_tree::lookup::Found;
 
 // The chunk that was found, and the counts of the text before it.
 fn chunk_and_counts(found: Found<'_>) -> (&str, usize, usize, usize)
-    ensures text { chars result.0.now ≡ found.entry.leaf.now }
+    ensures text { chars result.0.now ≡ found.entry.leaf }
     ensures bytes { result.1 ≡ found.entry.before.bytes }
     ensures chars { result.2 ≡ found.entry.before.chars }
     ensures breaks { result.3 ≡ found.entry.before.break_count }

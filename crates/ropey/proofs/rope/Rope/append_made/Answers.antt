@@ -14,8 +14,8 @@ not_false false e = cc
 same : (c : Else-ne) → c.args.other.breaks ≡ c.args.self.now.breaks
 same c =
     let equal : c.line_breaks.result ≡ c.line_breaks-2.result = same_true the_type (search rules) _ _ (not_false _ c.if-ne.ensures) in
-    sym (ap (λ r. r.breaks) c.other.view_is) ∙ sym (ap (λ t. t.breaks) c.deref-2.ensures) ∙ sym c.line_breaks-2.ensures ∙ sym equal
-    ∙ c.line_breaks.ensures ∙ ap (λ t. t.breaks) c.deref.ensures ∙ ap (λ r. r.breaks) c.self.view_is
+    sym (ap (λ r. r.breaks) c.other.view_is) ∙ sym c.line_breaks-2.ensures ∙ sym equal
+    ∙ c.line_breaks.ensures ∙ ap (λ r. r.breaks) c.self.view_is
 
 pub returns-then-more-eq0-clause-ok : goal.returns-then-more-eq0-clause-ok
 returns-then-more-eq0-clause-ok c =

@@ -9,7 +9,7 @@ pub returns-in_err-front-clause-kept : goal.returns-in_err-front-clause-kept
 returns-in_err-front-clause-kept c = subst IsRope c.self.view_is (rope_of c.self.inside.root c.self.invariant)
 
 pub returns-clause-kept : goal.returns-clause-kept
-returns-clause-kept c = rope_of c.in_ok-front.field-0.front (subst IsTree c.deref-2.ensures c.height-2.ensures.tree)
+returns-clause-kept c = rope_of c.in_ok-front.field-0.front c.height-2.ensures.tree
 
 pub returns-clause-part : goal.returns-clause-part
-returns-clause-part c = rope_of c.in_ok-front.field-0.back (subst IsTree c.deref-3.ensures c.height-3.ensures.tree)
+returns-clause-part c = rope_of c.in_ok-front.field-0.back c.height-3.ensures.tree
