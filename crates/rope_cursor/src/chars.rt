@@ -58,7 +58,8 @@ impl<'a> Chars<'a> {
         }
     }
 
-    // One character to the right.
+    // One character to the right. Expanded where it is called: mostly it stays in the chunk, and a call costs as much.
+    #[inline(always)]
     fn right(&mut self) -> Option<char>
         ensures { GoesRight (λ x. x) self.old result self.new }
     {
@@ -86,6 +87,7 @@ impl<'a> Chars<'a> {
     }
 
     // One character to the left.
+    #[inline(always)]
     fn left(&mut self) -> Option<char>
         ensures { GoesLeft (λ x. x) self.old result self.new }
     {
@@ -112,6 +114,7 @@ impl<'a> Chars<'a> {
     }
 
     /// The character behind, to which it steps back; or none at that end, where it stays.
+    #[inline(always)]
     pub fn prev(&mut self) -> Option<char>
         ensures { StepsBack (λ x. x) self.old result self.new }
     {
@@ -158,6 +161,7 @@ impl<'a> Iterator for Chars<'a> {
     ghost remaining = { item_count ahead };
 
     /// The next character, or none at the end, where it stays.
+    #[inline(always)]
     fn next(&mut self) -> Option<char>
         ensures steps { YieldsFirstBy (λ x. x) ahead self.old result self.new }
         ensures goes { GoesAhead (λ x. x) self.old result self.new }
