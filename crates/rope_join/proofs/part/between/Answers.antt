@@ -5,6 +5,6 @@ use Rattle.rope_join.proofs.part.between.Goals as goal
 
 pub returns-clause-text : goal.returns-clause-text
 returns-clause-text c =
-    let whole = c.in_ok-front.ensures.front.text_is ∙ ap (λ t. take c.args.end (text t)) c.in_ok-whole.ensures.same in
+    let whole = c.in_ok-front.ensures.front.text_is in
     let more : c.args.end ≡ c.args.start + (c.args.end - c.args.start) = omega (arith, c.requires.ordered) in
     c.in_ok-part.ensures.back.text_is ∙ ap (drop c.args.start) (whole ∙ ap (λ n. take n (text c.args.node.now)) more) ∙ drop-take c.args.start (c.args.end - c.args.start) (text c.args.node.now)
