@@ -1,9 +1,8 @@
 -- What a call on a handle does. Without a rope it answers `NO_ROPE` and changes nothing.
 use Rattle.std.specs.Prelude.{◌≡◌, ◌<◌, ◌≤◌, ◌+◌, ◌↔◌, ℕ, ℤ, pos, negsuc, Bool, IsTrue, List, ◌++◌, length, drop, Option, Some, None, Result, Ok, Err, IfSome, MatchOption}
-use Rattle.std.specs.Str.{IsUtf8, chars}
+use Rattle.std.specs.Str.{IsUtf8, chars, encode_utf8_all}
 use Rattle.std.specs.declared.cmp.Ordering.{Ordering}
 use Rattle.std.specs.declared.cmp.Ordering.TheVariants.{Less, Equal, Greater}
-use denote.RawPtr.{null_ptr}
 use Rattle.rope_text.specs.declared.error.Error.{Error}
 use Rattle.rope_text.specs.Text.{byte_len}
 use Rattle.rope_text.specs.Compare.{text_cmp}
@@ -50,10 +49,10 @@ FindsLine (Some rope) i status old new =
     (line_count rope.breaks rope.text ≤ i → (status ≡ LINE_INDEX_OUT_OF_BOUNDS) × (new ≡ old))
     × (i < line_count rope.breaks rope.text → (status ≡ OK) × (new.start ≡ line_to_char rope.breaks rope.text i) × (new.end ≡ line_to_char rope.breaks rope.text (i + 1)))
 
--- a chunk as C sees it: its bytes, of which there is a first one unless it is empty, and what lies before it
+-- a chunk as C sees it: the bytes that it lends are those of its text, and what lies before it
 pub record IsChunk (text : List ℕ) (bytes chars breaks : ℕ) (chunk : Chunk) : Type 0 where
-  pub len : chunk.len ≡ byte_len text
-  pub null : chunk.text ≡ null_ptr ↔ chunk.len ≡ 0
+  pub shown : chunk.text.now ≡ encode_utf8_all text
+  pub len : length chunk.text.now ≡ byte_len text
   pub bytes_before : chunk.bytes_before ≡ bytes
   pub chars_before : chunk.chars_before ≡ chars
   pub line_breaks_before : chunk.line_breaks_before ≡ breaks

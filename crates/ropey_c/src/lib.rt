@@ -11,9 +11,12 @@
 //!     ropey_insert(&rope, 5, more, 5);                     // "hello, you world"
 //!     ropey_free(&rope);
 //!
+//! The bytes of a chunk are lent, for as long as the handle is passed to no other call: a chunk's contract gives the bytes
+//! that lie at its pointer. That a look-up leaves the rope as it was is said of the handle once that loan is over.
+//!
 //! *What no contract says:* that a program keeps to the header: one thread, handles that the library made, texts and
-//! buffers that have their length, different objects in one call; and that an exported function hands a chunk's pointer
-//! on as it got it. Below them it is proved to be the address of the text that the rope gave.
+//! buffers that have their length, different objects in one call; and that a chunk's bytes stay where they are through
+//! calls that only look.
 //!
 //! *Where to look.* `makers` makes, clones and frees ropes; `edits` changes them; `lengths`, `conversions`, `positions`
 //! and `lookups` answer about a place; `chunks` and `pieces` show where bytes lie; `copies` copies text out; `compare`

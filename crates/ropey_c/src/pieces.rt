@@ -4,35 +4,34 @@
 //! is edited or freed, and belong to the rope. No call takes memory.
 ghost use Rattle.std.specs.Prelude.{◌≡◌, Some};
 ghost use Rattle.std.specs.Iterator.{IsFinite};
-ghost use Rattle.ropey_c.specs.Pieces.{FillsBy, FillsFrom, IsPiece, piece_at};
+ghost use Rattle.std.specs.Borrow.{sem};
+ghost use Rattle.std.specs.Str.{chars, encode_utf8_all};
+ghost use Rattle.ropey_c.specs.Lending.{KeepsRope};
+ghost use Rattle.ropey_c.specs.Pieces.{FillsBy, FillsFrom};
 
-use crate::chunks::start_of;
+use crate::chunks::Looked;
 use crate::handle::Handle;
 use crate::status::{BYTE_INDEX_OUT_OF_BOUNDS, NO_ROPE, OK};
 use ropey::Rope;
 use std::alloc::Global;
 
-/// A piece of a text: where its bytes lie, and how many they are.
+/// A piece of a text: its bytes, which are lent. C sees a pointer, which is never null, and their number.
 #[repr(C)]
 #[derive(Drop)]
-pub struct Piece {
-    pub text: *const u8,
-    pub len: usize,
+pub struct Piece<'a> {
+    pub text: &'a [u8],
 }
 
-fn piece_of(text: &str) -> Piece
-    ensures at { result ≡ piece_at text.entry }
-    ensures piece { IsPiece result }
+fn piece_of(text: &str) -> Piece<'_>
+    ensures { result.text.now ≡ encode_utf8_all (chars text.now) }
 {
     Piece {
-        text: start_of(text),
-        len: text.len(),
+        text: text.as_bytes(),
     }
 }
 
-// Asks for texts as far as there is room, writes where they lie, and returns how many they are. That it is over any
-// iterator says more than over a cursor of chunks: no text can lie where a piece points but the one that was given.
-fn fill<'a, I: Iterator<Item = &'a str>>(mut texts: I, pieces: &mut [Piece]) -> usize
+// Asks for texts as far as there is room, writes them, and returns how many they are.
+fn fill<'a, I: Iterator<Item = &'a str>>(mut texts: I, pieces: &mut [Piece<'a>]) -> usize
     requires { I.can_next texts × IsFinite (I.remaining texts) }
     ensures { FillsBy I.next_gives texts pieces.old pieces.new result }
 {
@@ -47,10 +46,10 @@ fn fill<'a, I: Iterator<Item = &'a str>>(mut texts: I, pieces: &mut [Piece]) -> 
     count
 }
 
-fn find_pieces(
-    rope: &Rope,
+fn find_pieces<'a>(
+    rope: &'a Rope,
     byte_idx: usize,
-    pieces: &mut [Piece],
+    pieces: &mut [Piece<'a>],
     count: &mut usize,
     bytes_before: &mut usize,
 ) -> u32
@@ -65,6 +64,29 @@ fn find_pieces(
     OK
 }
 
+fn look_from_byte<'a>(
+    rope: &'a mut Handle,
+    alloc: Global,
+    byte_idx: usize,
+    pieces: &mut [Piece<'a>],
+    count: &mut usize,
+    bytes_before: &mut usize,
+) -> Looked<'a>
+    ensures* kept { sem 𝓛 (KeepsRope rope.entry) }
+    ensures answer { FillsFrom rope.old.rope byte_idx result.status pieces.old pieces.new count.old count.new bytes_before.old bytes_before.new }
+{
+    let Some(held) = rope.held(alloc) else {
+        return Looked {
+            status: NO_ROPE,
+            lent: b"",
+        };
+    };
+    Looked {
+        status: find_pieces(held, byte_idx, pieces, count, bytes_before),
+        lent: b"",
+    }
+}
+
 /// The chunks from the one that holds the byte `byte_idx` on, written to `pieces` as far as there is room. Their
 /// number is written to `count`, and how many bytes lie before the first of them to `bytes_before`. At the end of the
 /// text there are none. To go on, a program asks for the byte past the last piece.
@@ -73,21 +95,16 @@ fn find_pieces(
 ///
 /// `NO_ROPE`, then `BYTE_INDEX_OUT_OF_BOUNDS`. Then nothing is written.
 #[unsafe(no_mangle)]
-pub extern "C" fn ropey_chunks_from_byte(
+pub extern "C" fn ropey_chunks_from_byte<'a>(
+    rope: &'a mut Handle,
     alloc: Global,
-    rope: &mut Handle,
     byte_idx: usize,
-    pieces: &mut [Piece],
+    pieces: &mut [Piece<'a>],
     count: &mut usize,
     bytes_before: &mut usize,
 ) -> u32
+    ensures* kept { sem 𝓛 (KeepsRope rope.entry) }
     ensures answer { FillsFrom rope.old.rope byte_idx result pieces.old pieces.new count.old count.new bytes_before.old bytes_before.new }
-    ensures kept { rope.new.rope ≡ rope.old.rope }
 {
-    let Some(held) = rope.take(alloc) else {
-        return NO_ROPE;
-    };
-    let status = find_pieces(&held, byte_idx, pieces, count, bytes_before);
-    rope.put(held);
-    status
+    look_from_byte(rope, alloc, byte_idx, pieces, count, bytes_before).status
 }

@@ -1,15 +1,13 @@
 use Rattle.std.proofs.Common.{[], refl, arith}
-use Rattle.std.proofs.lemmas.List.Elements.{All-nil}
-use Rattle.ropey_c.specs.Pieces.{IsPiece}
 use Rattle.ropey_c.proofs.Filling.{next_filled, filled, filled_full}
 use Rattle.ropey_c.proofs.pieces.fill.Goals as goal
 
 pub loop-count-init : goal.loop-count-init
-loop-count-init g c = (record { texts = []; given = refl; count_is = refl; written = refl; pieces = All-nil IsPiece; kept = refl; room = refl; within = omega arith }, c.requires.0)
+loop-count-init g c = (record { texts = []; given = refl; count_is = refl; written = refl; kept = refl; room = refl; within = omega arith }, c.requires.0)
 
 pub loop-count-preserved : goal.loop-count-preserved
 loop-count-preserved g c = (
-  next_filled _ _ _ _ _ _ c.loop-count.invariant.0 c.in-Some.text c.next.new.self c.piece_of.result c.in-Some.ensures.steps c.piece_of.ensures.at c.piece_of.ensures.piece c.loop-count-test.true,
+  next_filled _ _ _ _ _ _ c.loop-count.invariant.0 c.in-Some.text c.next.new.self c.piece_of.result c.in-Some.ensures.steps c.piece_of.ensures c.loop-count-test.true,
   c.in-Some.ensures.goes.keeps,
 )
 

@@ -1,6 +1,6 @@
-use Rattle.std.proofs.Common.{sym}
-use Rattle.rope_text.proofs.Walks.{byte_len-chars}
+use Rattle.std.proofs.Common.{sym, ◌∙◌}
+use Rattle.std.proofs.lemmas.Str.{encodes-chars}
 use Rattle.ropey_c.proofs.pieces.piece_of.Goals as goal
 
-pub returns-clause-at : goal.returns-clause-at
-returns-clause-at c = λ i. record { text = c.start_of.ensures.start i; len = sym (byte_len-chars c.args.text.now c.utf8.text) i }
+pub returns : goal.returns
+returns c = c.as_bytes.ensures.value ∙ sym (encodes-chars c.args.text.now c.utf8.text)
