@@ -94,6 +94,7 @@ static uint64_t whole(ropey_rope *rope) {
     uint64_t sum = UINT64_C(0xCBF29CE484222325);
     size_t at = 0, count = 0, before = 0;
     ropey_piece pieces[PIECES];
+    for (size_t k = 0; k < PIECES; k++) pieces[k] = ROPEY_NO_PIECE;
     do {
         expect(ropey_chunks_from_byte(rope, at, pieces, PIECES, &count, &before));
         if (count > 0 && before != at) exit(1);
@@ -189,7 +190,7 @@ static void look_ups(ropey_rope *rope) {
     restart();
     for (int k = 0; k < LOOK_UPS; k++) {
         size_t place = up_to(chars);
-        ropey_chunk chunk;
+        ropey_chunk chunk = ROPEY_NO_CHUNK;
         expect(ropey_chunk_at_char(rope, place, &chunk));
         sum += chunk.chars_before <= place;
     }

@@ -43,7 +43,7 @@ int main(void) {
     expect(ropey_char_to_position(&rope, ropey_len_chars(&rope), &place), "position");
     printf("the end: line %zu, column %zu\n", place.line, place.column);
 
-    ropey_chunk chunk;
+    ropey_chunk chunk = ROPEY_NO_CHUNK;
     expect(ropey_chunk_at_char(&rope, 5, &chunk), "chunk");
     printf("chunk: %zu bytes, first %c\n", chunk.len, chunk.text[0]);
 

@@ -66,8 +66,11 @@ enum {
 enum { ROPEY_LF = 0, ROPEY_CRLF = 1, ROPEY_UNICODE = 2 };
 
 /* A chunk of a rope's text, 1 to 984 bytes of UTF-8 that end at a character, and how much of the text lies before it. The
- * bytes belong to the rope. The pointer is good until the rope is changed, freed or overwritten, even where a clone still
- * holds the same text. Where the rope is empty it is null, and all numbers are 0. */
+ * bytes belong to the rope, and are lent. What is proved is that they lie at the pointer as long as the handle is passed to
+ * no other call; calls that only look leave them where they are too, so the pointer is good until the rope is changed,
+ * freed or overwritten, even where a clone still holds the same text. Where the rope is empty all numbers are 0, and the
+ * pointer, which is never null, leads to nothing. A chunk begins as ROPEY_NO_CHUNK and is written by these calls alone, which
+ * don't read what it held. */
 typedef struct {
     const uint8_t *text;
     size_t len; /* in bytes */
@@ -76,11 +79,16 @@ typedef struct {
     size_t line_breaks_before;
 } ropey_chunk;
 
-/* A chunk among others: where its bytes lie and how many they are. The pointer is good as long as a ropey_chunk's. */
+#define ROPEY_NO_CHUNK ((ropey_chunk){(const uint8_t *)"", 0, 0, 0, 0})
+
+/* A chunk among others: where its bytes lie and how many they are. All that is said of a ropey_chunk's pointer holds here. A
+ * piece begins as ROPEY_NO_PIECE. */
 typedef struct {
     const uint8_t *text;
     size_t len;
 } ropey_piece;
+
+#define ROPEY_NO_PIECE ((ropey_piece){(const uint8_t *)"", 0})
 
 /* Where a line lies: its first character, and the one past its last, its line break among them. */
 typedef struct {
