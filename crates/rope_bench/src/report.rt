@@ -32,15 +32,24 @@ impl Task {
     }
 }
 
-/// Does the workloads that the task names.
+/// Does the workloads that the task names. The prose is let go before the mixed text is made, and made again for the small
+/// ropes: the memory of a text that is let go tells the allocator how much to keep when a rope goes, and so what a rope costs.
 pub fn run<R: CpuClock + Print>(rt: &R, alloc: Global, task: &Task) -> Result<(), Fault> {
+    run_on_text(rt, task, Sample::prose(alloc, task.size)?, "/P")?;
+    run_on_text(rt, task, Sample::mixed(alloc, task.size)?, "/M")?;
     let prose = Sample::prose(alloc, task.size)?;
-    show_text(rt, task, &prose, "/P")?;
-    run_on(rt, task, &prose, &OF_TEXTS, "/P")?;
-    let mixed = Sample::mixed(alloc, task.size)?;
-    show_text(rt, task, &mixed, "/M")?;
-    run_on(rt, task, &mixed, &OF_TEXTS, "/M")?;
     run_on(rt, task, &prose, &OF_SMALL_ROPES, "")
+}
+
+/// The workloads of texts on one sample, which is let go.
+fn run_on_text<R: CpuClock + Print>(
+    rt: &R,
+    task: &Task,
+    sample: Sample,
+    ending: &str,
+) -> Result<(), Fault> {
+    show_text(rt, task, &sample, ending)?;
+    run_on(rt, task, &sample, &OF_TEXTS, ending)
 }
 
 /// A line for the text itself, for which nothing is timed.
