@@ -12,12 +12,13 @@ ghost use Rattle.rope_part.specs.Part.{text_of};
 ghost use Rattle.rope_cursor.specs.Gap.{before_byte, after_byte, AreChunks, IsBetween, PassesLine, PassesBack};
 
 use crate::cuts::{byte_len_of, text_after, text_before};
+use crate::point::byte_of_char;
 use crate::span::Span;
 use rope_part::Part;
 use rope_text::crlf::prev_break;
 use rope_text::str_utils::{
-    byte_to_char_idx, byte_to_line_with, byte_to_surrogates, char_to_byte_idx, count_breaks,
-    count_chars, count_surrogates, line_to_byte_with,
+    byte_to_char_idx, byte_to_line_with, byte_to_surrogates, count_breaks, count_chars,
+    count_surrogates, line_to_byte_with,
 };
 use rope_text::{LineBreaks, TextInfo};
 use std::marker::Model;
@@ -201,9 +202,10 @@ impl<'a> Gap<'a> {
         ensures front { result.front ≡ take char_idx (text_of part.now) }
         ensures back { result.back ≡ drop char_idx (text_of part.now) }
     {
-        let _ = part.info();
-        let (span, at) = Span::at(part, char_idx);
-        let inside = char_to_byte_idx(span.chunk(), at);
+        let info = part.info();
+        let (span, within) = Span::at(part, char_idx);
+        let is_narrow = info.bytes == info.chars;
+        let inside = byte_of_char(span.chunk(), within, is_narrow);
         Gap { span, inside }
     }
 
