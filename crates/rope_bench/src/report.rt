@@ -80,26 +80,11 @@ fn run_on<R: CpuClock + Print>(
         let plain = workload.name();
         let name = format!(in sample.alloc; "{plain}{ending}")?;
         if task.wants(name.as_str()) {
-            let best = best_of(rt, task.runs(), sample, *workload)?;
+            let best = workload.best_of(rt, sample, task.runs())?;
             show(rt, task, name.as_str(), best)?;
         }
     }
     Ok(())
-}
-
-/// The fastest of so many runs, of one at the least.
-fn best_of<R: CpuClock>(
-    rt: &R,
-    runs: usize,
-    sample: &Sample,
-    workload: Workload,
-) -> Result<Outcome, Fault> {
-    let mut best = workload.run(rt, sample)?;
-    for _ in 1..runs {
-        let next = workload.run(rt, sample)?;
-        best.nanos = best.nanos.min(next.nanos);
-    }
-    Ok(best)
 }
 
 /// Prints name, operations, nanoseconds per operation where they are timed, and checksum.
