@@ -23,12 +23,27 @@ pub fn to_string<C: CpuClock>(clock: &C, sample: &Sample) -> Result<Outcome, Fau
     })
 }
 
-/// The rope compared with one of the same text, whose chunks end elsewhere.
-pub fn eq_other_cutting<C: CpuClock>(clock: &C, sample: &Sample) -> Result<Outcome, Fault> {
+/// The rope compared with one of the same text, whose chunks end elsewhere: the fastest of so many comparisons with that one
+/// rope, of one at the least.
+pub fn eq_other_cutting<C: CpuClock>(
+    clock: &C,
+    sample: &Sample,
+    runs: usize,
+) -> Result<Outcome, Fault> {
     let mut other = sample.fresh()?;
     cut_otherwise(&mut other, sample.operations(CUTS))?;
+    let mut best = compare(clock, sample, &other)?;
+    for _ in 1..runs {
+        let next = compare(clock, sample, &other)?;
+        best.nanos = best.nanos.min(next.nanos);
+    }
+    Ok(best)
+}
+
+/// The rope compared with another one.
+fn compare<C: CpuClock>(clock: &C, sample: &Sample, other: &Rope) -> Result<Outcome, Fault> {
     let start = now(clock)?;
-    let is_equal = sample.rope == other;
+    let is_equal = sample.rope == *other;
     let nanos = since(clock, start)?;
     Ok(Outcome {
         operations: 1,

@@ -32,15 +32,24 @@ impl Task {
     }
 }
 
-/// Does the workloads that the task names.
+/// Does the workloads that the task names. The prose is let go before the mixed text is made, and made again for the small
+/// ropes: the memory of a text that is let go tells the allocator how much to keep when a rope goes, and so what a rope costs.
 pub fn run<R: CpuClock + Print>(rt: &R, alloc: Global, task: &Task) -> Result<(), Fault> {
+    run_on_text(rt, task, Sample::prose(alloc, task.size)?, "/P")?;
+    run_on_text(rt, task, Sample::mixed(alloc, task.size)?, "/M")?;
     let prose = Sample::prose(alloc, task.size)?;
-    show_text(rt, task, &prose, "/P")?;
-    run_on(rt, task, &prose, &OF_TEXTS, "/P")?;
-    let mixed = Sample::mixed(alloc, task.size)?;
-    show_text(rt, task, &mixed, "/M")?;
-    run_on(rt, task, &mixed, &OF_TEXTS, "/M")?;
     run_on(rt, task, &prose, &OF_SMALL_ROPES, "")
+}
+
+/// The workloads of texts on one sample, which is let go.
+fn run_on_text<R: CpuClock + Print>(
+    rt: &R,
+    task: &Task,
+    sample: Sample,
+    ending: &str,
+) -> Result<(), Fault> {
+    show_text(rt, task, &sample, ending)?;
+    run_on(rt, task, &sample, &OF_TEXTS, ending)
 }
 
 /// A line for the text itself, for which nothing is timed.
@@ -71,26 +80,11 @@ fn run_on<R: CpuClock + Print>(
         let plain = workload.name();
         let name = format!(in sample.alloc; "{plain}{ending}")?;
         if task.wants(name.as_str()) {
-            let best = best_of(rt, task.runs(), sample, *workload)?;
+            let best = workload.best_of(rt, sample, task.runs())?;
             show(rt, task, name.as_str(), best)?;
         }
     }
     Ok(())
-}
-
-/// The fastest of so many runs, of one at the least.
-fn best_of<R: CpuClock>(
-    rt: &R,
-    runs: usize,
-    sample: &Sample,
-    workload: Workload,
-) -> Result<Outcome, Fault> {
-    let mut best = workload.run(rt, sample)?;
-    for _ in 1..runs {
-        let next = workload.run(rt, sample)?;
-        best.nanos = best.nanos.min(next.nanos);
-    }
-    Ok(best)
 }
 
 /// Prints name, operations, nanoseconds per operation where they are timed, and checksum.

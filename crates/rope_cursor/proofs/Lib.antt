@@ -15,3 +15,4 @@ pub mod GapSteps
 pub mod GapsBack
 pub mod LineCounts
 pub mod LineNear
+mod NarrowChunks

@@ -5,10 +5,9 @@ ghost use Rattle.std.specs.Iterator.SizeHint.{IsWithinCount};
 ghost use Rattle.rope_text.specs.Sides.{ahead, at_place, turned, GoesRight, GoesLeft, GoesAhead, StepsBack};
 ghost use Rattle.rope_part.specs.Part.{text_of};
 
-use crate::point::{char_after, char_before, next_chunk, prev_chunk};
+use crate::point::{byte_of_char, char_after, char_before, next_chunk, prev_chunk};
 use crate::span::Span;
 use rope_part::Part;
-use rope_text::str_utils::char_to_byte_idx;
 use std::alloc::AllocError;
 use std::fmt;
 use std::iter::ExactSizeIterator;
@@ -45,15 +44,16 @@ impl<'a> Chars<'a> {
         requires { char_idx ≤ length (text_of part.now) }
         ensures { result ≡ at_place (text_of part.now) char_idx }
     {
-        let total = part.info().chars;
+        let info = part.info();
         let (span, within) = Span::at(part, char_idx);
         let chunk = span.chunk();
+        let is_narrow = info.bytes == info.chars;
         Chars {
             span,
             chunk,
-            at: char_to_byte_idx(chunk, within),
+            at: byte_of_char(chunk, within, is_narrow),
             passed: char_idx,
-            total,
+            total: info.chars,
             is_backward: false,
         }
     }

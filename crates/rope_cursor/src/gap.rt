@@ -12,12 +12,13 @@ ghost use Rattle.rope_part.specs.Part.{text_of};
 ghost use Rattle.rope_cursor.specs.Gap.{before_byte, after_byte, AreChunks, IsBetween, PassesLine, PassesBack};
 
 use crate::cuts::{byte_len_of, text_after, text_before};
+use crate::point::byte_of_char;
 use crate::span::Span;
 use rope_part::Part;
 use rope_text::crlf::prev_break;
 use rope_text::str_utils::{
-    byte_to_char_idx, byte_to_line_with, byte_to_surrogates, char_to_byte_idx, count_breaks,
-    count_chars, count_surrogates, line_to_byte_with,
+    byte_to_char_idx, byte_to_line_with, byte_to_surrogates, count_breaks, count_chars,
+    count_surrogates, line_to_byte_with,
 };
 use rope_text::{LineBreaks, TextInfo};
 use std::marker::Model;
@@ -27,6 +28,8 @@ use std::marker::Model;
 pub struct Gap<'a> {
     span: Span<'a>,
     inside: usize,
+    // where a step backward looks first: so many bytes before the place, or `NEAR_BYTES`
+    near: usize,
 }
 
 impl<'a> Model for Gap<'a> {
@@ -57,8 +60,18 @@ fn pass_chunks(span: &mut Span<'_>, breaks: LineBreaks) -> (usize, TextInfo)
     (byte_len_of(span.chunk()), passed)
 }
 
-// Where the last line of a text is looked for first: so many bytes before its end.
+// Where the last line of a text is looked for first: so many bytes before its end at the least.
 const NEAR_BYTES: usize = 64;
+
+// And so many at the most, however long the line was that was found last.
+const FAR_BYTES: usize = 256;
+
+// Where the next line backward is looked for first, behind one of so many bytes: lines mostly are of much the same length, so
+// a quarter more, and a break before it.
+fn near_for(bytes: usize) -> usize {
+    let most = bytes.min(FAR_BYTES);
+    (most + most / 4 + 8).min(FAR_BYTES)
+}
 
 // A place of a text at or before a byte, so many bytes before it or more, in no CR LF.
 fn cut_before(text: &str, end: usize, near: usize) -> usize
@@ -156,15 +169,21 @@ fn find_last(
     None
 }
 
-// What `count_last` answers of a text's front. It is looked for near the front's end, and then in twice as many bytes,
-// so a line costs its own length, however long the text is before it.
-fn count_last_before(text: &str, end: usize, skip: usize, breaks: LineBreaks) -> (usize, TextInfo)
+// What `count_last` answers of a text's front. It is looked for so many bytes before the front's end, and then in twice as
+// many, so a line costs its own length, however long the text is before it.
+fn count_last_before(
+    text: &str,
+    end: usize,
+    first: usize,
+    skip: usize,
+    breaks: LineBreaks,
+) -> (usize, TextInfo)
     requires between { IsBetween (chars text.now) end }
     requires apart { parts_crlf (before_byte (chars text.now) end) (after_byte (chars text.now) end) ≡ false }
     ensures start { result.0 ≡ byte_len (take (last_start breaks (before_byte (chars text.now) end) skip) (before_byte (chars text.now) end)) }
     ensures counts { result.1 ≡ info_of breaks (drop (last_start breaks (before_byte (chars text.now) end) skip) (before_byte (chars text.now) end)) }
 {
-    let mut near = NEAR_BYTES;
+    let mut near = first.max(NEAR_BYTES);
     loop {
         if let Some(found) = find_last(text, end, near, skip, breaks) {
             return found;
@@ -201,10 +220,15 @@ impl<'a> Gap<'a> {
         ensures front { result.front ≡ take char_idx (text_of part.now) }
         ensures back { result.back ≡ drop char_idx (text_of part.now) }
     {
-        let _ = part.info();
-        let (span, at) = Span::at(part, char_idx);
-        let inside = char_to_byte_idx(span.chunk(), at);
-        Gap { span, inside }
+        let info = part.info();
+        let (span, within) = Span::at(part, char_idx);
+        let is_narrow = info.bytes == info.chars;
+        let inside = byte_of_char(span.chunk(), within, is_narrow);
+        Gap {
+            span,
+            inside,
+            near: NEAR_BYTES,
+        }
     }
 
     /// The same place.
@@ -214,6 +238,7 @@ impl<'a> Gap<'a> {
         Gap {
             span: self.span.copy(),
             inside: self.inside,
+            near: self.near,
         }
     }
 
@@ -241,9 +266,11 @@ impl<'a> Gap<'a> {
         ensures back { self.new.back ≡ drop (last_start breaks self.old.front skip) self.old.front ++ self.old.back }
         ensures counts { result ≡ info_of breaks (drop (last_start breaks self.old.front skip) self.old.front) }
     {
-        let (start, last) = count_last_before(self.span.chunk(), self.inside, skip, breaks);
+        let near = self.near;
+        let (start, last) = count_last_before(self.span.chunk(), self.inside, near, skip, breaks);
         if start > 0 {
             self.inside = start;
+            self.near = near_for(last.bytes);
             return last;
         }
         let (inside, more) = pass_chunks_back(&mut self.span, skip - last.break_count, breaks);

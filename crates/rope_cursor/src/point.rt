@@ -1,10 +1,29 @@
 //! Steps from a point of a chunk: over a character, or to the chunk beside it.
-ghost use Rattle.std.specs.Prelude.{◌≡◌, ◌<◌, [], length, IfSome, IfNone};
-ghost use Rattle.std.specs.Str.{IsCharBoundary};
+ghost use Rattle.std.specs.Prelude.{◌≡◌, ◌<◌, ◌≤◌, [], length, IfSome, IfNone};
+ghost use Rattle.std.specs.Bool.{OnTrue};
+ghost use Rattle.std.specs.Str.{chars, IsCharBoundary};
+ghost use Rattle.rope_text.specs.Text.{byte_len};
+ghost use Rattle.rope_text.specs.Conversions.{char_to_byte};
 ghost use Rattle.rope_cursor.specs.Path.{IsNext};
 ghost use Rattle.rope_cursor.specs.Point.{IsChunkAt, IsCharBetween};
 
 use crate::span::Span;
+use rope_text::str_utils::char_to_byte_idx;
+
+// The byte of a chunk at which a character of it starts, or its end. Of a narrow chunk, which has as many bytes as characters,
+// nothing is read: no byte of it has to be waited for.
+#[inline(always)]
+pub(crate) fn byte_of_char(chunk: &str, char_idx: usize, is_narrow: bool) -> usize
+    requires within { char_idx ≤ length (chars chunk.now) }
+    requires narrow { OnTrue is_narrow (byte_len (chars chunk.now) ≡ length (chars chunk.now)) }
+    ensures { result ≡ char_to_byte (chars chunk.now) char_idx }
+{
+    if is_narrow {
+        char_idx
+    } else {
+        char_to_byte_idx(chunk, char_idx)
+    }
+}
 
 // Goes to the next chunk, if there is one. It is kept out of the callers, whose steps within a chunk are to stay short.
 #[inline(never)]

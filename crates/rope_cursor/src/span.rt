@@ -154,6 +154,8 @@ impl<'a> Span<'a> {
 
     /// The chunk of a part that holds a character, and the place of that character within the chunk. At the end of the
     /// text it is the last chunk, and its end. An empty part has no chunk: then it is the empty text.
+    // Expanded where it is called: a way is half a kilobyte, and is then moved once less.
+    #[inline(always)]
     pub fn at(part: &Part<'a>, char_idx: usize) -> (Span<'a>, usize)
         requires { char_idx ≤ length (text_of part.now) }
         ensures text { concat (leaves result.0) ≡ text_of part.now }

@@ -1,5 +1,5 @@
 //! Counts over the bytes of a text, 32 bytes at once.
-ghost use Rattle.std.specs.Prelude.{◌≡◌, ◌+◌, ◌-◌, ◌<◌, ◌≤◌, length, count_by, drop, slice_index, ℕ};
+ghost use Rattle.std.specs.Prelude.{◌≡◌, ◌+◌, ◌-◌, ◌*◌, ◌%◌, ◌<◌, ◌≤◌, length, count_by, drop, slice_index, ℕ};
 ghost use Rattle.rope_text.specs.Bits.{ones_below};
 ghost use Rattle.rope_text.specs.Bytes.{begins_char, begins_pair};
 ghost use Rattle.rope_text.specs.ByteBreaks.{break_at, byte_break_count, unit_count};
@@ -275,14 +275,49 @@ pub(crate) fn pairs_between(bytes: &[u8], from: usize, to: usize) -> usize
     pairs_byte_by_byte(&bytes[from..to])
 }
 
+// A text of so many bytes or more is counted at four places side by side. It comes from far memory: so the waits for the four
+// are one, where a single pass would wait for each in turn.
+const LONG_BYTES: usize = 65_536;
+
+// The bytes of a quarter of a long text, in whole blocks; none of a shorter one.
+fn quarter_of(bytes: usize) -> usize
+    ensures fits { 4 * result ≤ bytes }
+    ensures blocks { result % 32 ≡ 0 }
+{
+    if bytes < LONG_BYTES {
+        return 0;
+    }
+    bytes / 128 * 32
+}
+
+// How many characters begin in the first four times so many bytes.
+#[tactic(auto, using(crate::proofs::Blocks::begins_le))]
+fn begins_in_quarters(bytes: &[u8], quarter: usize) -> usize
+    requires within { 4 * quarter ≤ length bytes.now }
+    requires blocks { quarter % 32 ≡ 0 }
+    ensures { count_by begins_char bytes.now ≡ result + count_by begins_char (drop (4 * quarter) bytes.now) }
+{
+    let (mut first, mut second, mut third, mut fourth) = (0, 0, 0, 0);
+    let mut i = 0;
+    while i < quarter {
+        first += chars_in(bytes, i);
+        second += chars_in(bytes, quarter + i);
+        third += chars_in(bytes, 2 * quarter + i);
+        fourth += chars_in(bytes, 3 * quarter + i);
+        i += 32;
+    }
+    first + second + third + fourth
+}
+
 /// How many characters begin before the byte `to`.
 #[tactic(auto, using(crate::proofs::Blocks::begins_le))]
 pub(crate) fn count_begins_before(bytes: &[u8], to: usize) -> usize
     requires { to ≤ length bytes.now }
     ensures { count_by begins_char bytes.now ≡ result + count_by begins_char (drop to bytes.now) }
 {
-    let mut total = 0;
-    let mut i = 0;
+    let quarter = quarter_of(to);
+    let mut total = begins_in_quarters(bytes, quarter);
+    let mut i = 4 * quarter;
     while to - i >= 32 {
         total += chars_in(bytes, i);
         i += 32;
@@ -297,14 +332,34 @@ pub(crate) fn count_begins(bytes: &[u8]) -> usize
     count_begins_before(bytes, bytes.len())
 }
 
+// How many characters of two code units begin in the first four times so many bytes.
+#[tactic(auto, using(crate::proofs::Blocks::pairs_le))]
+fn pairs_in_quarters(bytes: &[u8], quarter: usize) -> usize
+    requires within { 4 * quarter ≤ length bytes.now }
+    requires blocks { quarter % 32 ≡ 0 }
+    ensures { count_by begins_pair bytes.now ≡ result + count_by begins_pair (drop (4 * quarter) bytes.now) }
+{
+    let (mut first, mut second, mut third, mut fourth) = (0, 0, 0, 0);
+    let mut i = 0;
+    while i < quarter {
+        first += pairs_in(bytes, i);
+        second += pairs_in(bytes, quarter + i);
+        third += pairs_in(bytes, 2 * quarter + i);
+        fourth += pairs_in(bytes, 3 * quarter + i);
+        i += 32;
+    }
+    first + second + third + fourth
+}
+
 /// How many characters of two code units begin before the byte `to`.
 #[tactic(auto, using(crate::proofs::Blocks::pairs_le))]
 pub(crate) fn count_pairs_before(bytes: &[u8], to: usize) -> usize
     requires { to ≤ length bytes.now }
     ensures { count_by begins_pair bytes.now ≡ result + count_by begins_pair (drop to bytes.now) }
 {
-    let mut total = 0;
-    let mut i = 0;
+    let quarter = quarter_of(to);
+    let mut total = pairs_in_quarters(bytes, quarter);
+    let mut i = 4 * quarter;
     while to - i >= 32 {
         total += pairs_in(bytes, i);
         i += 32;
@@ -333,6 +388,40 @@ pub(crate) fn count_units(bytes: &[u8]) -> usize
     total + begins_between(bytes, i, end) + pairs_between(bytes, i, end)
 }
 
+// How many breaks begin in the first four times so many bytes, behind which two more are read. The set is known where this is
+// expanded.
+#[tactic(auto, using(crate::proofs::Blocks::byte_break_count_le))]
+#[inline(always)]
+fn known_breaks_in_quarters(bytes: &[u8], quarter: usize, breaks: LineBreaks) -> usize
+    requires within { 4 * quarter ≤ length bytes.now - 2 }
+    requires blocks { quarter % 32 ≡ 0 }
+    ensures { byte_break_count breaks bytes.now ≡ result + byte_break_count breaks (drop (4 * quarter) bytes.now) }
+{
+    let (mut first, mut second, mut third, mut fourth) = (0, 0, 0, 0);
+    let mut i = 0;
+    while i < quarter {
+        first += breaks_in(bytes, i, breaks);
+        second += breaks_in(bytes, quarter + i, breaks);
+        third += breaks_in(bytes, 2 * quarter + i, breaks);
+        fourth += breaks_in(bytes, 3 * quarter + i, breaks);
+        i += 32;
+    }
+    first + second + third + fourth
+}
+
+// The same for each set.
+fn breaks_in_quarters(bytes: &[u8], quarter: usize, breaks: LineBreaks) -> usize
+    requires within { 4 * quarter ≤ length bytes.now - 2 }
+    requires blocks { quarter % 32 ≡ 0 }
+    ensures { byte_break_count breaks bytes.now ≡ result + byte_break_count breaks (drop (4 * quarter) bytes.now) }
+{
+    match breaks {
+        LineBreaks::Lf => known_breaks_in_quarters(bytes, quarter, LineBreaks::Lf),
+        LineBreaks::CrLf => known_breaks_in_quarters(bytes, quarter, LineBreaks::CrLf),
+        LineBreaks::Unicode => known_breaks_in_quarters(bytes, quarter, LineBreaks::Unicode),
+    }
+}
+
 /// How many breaks begin before the byte `to`.
 #[tactic(auto, using(crate::proofs::Blocks::byte_break_count_le))]
 pub(crate) fn count_breaks_before(bytes: &[u8], to: usize, breaks: LineBreaks) -> usize
@@ -341,8 +430,9 @@ pub(crate) fn count_breaks_before(bytes: &[u8], to: usize, breaks: LineBreaks) -
 {
     // A block is read two bytes past its end.
     let end = to.min(bytes.len().saturating_sub(2));
-    let mut total = 0;
-    let mut i = 0;
+    let quarter = quarter_of(end);
+    let mut total = breaks_in_quarters(bytes, quarter, breaks);
+    let mut i = 4 * quarter;
     while end - i >= 32 {
         total += breaks_in(bytes, i, breaks);
         i += 32;
