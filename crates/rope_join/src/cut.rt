@@ -6,7 +6,6 @@ ghost use Rattle.rope_join.specs.Cut.{IsFront, IsBack};
 use crate::gather::gather;
 use crate::join::join;
 use rope_text::Steps;
-use rope_tree::children::share;
 use rope_tree::insert::leaf_of;
 use rope_tree::lookup::total_before;
 use rope_tree::node::{Node, View};
@@ -24,7 +23,7 @@ pub fn front(alloc: Global, node: &Node, at: usize, made: &mut u64) -> Result<No
 {
     let _ = node.height();
     if at == node.info().chars {
-        return share(node);
+        return node.share();
     }
     match node.view() {
         View::Leaf(leaf) => {
@@ -54,7 +53,7 @@ pub fn back(alloc: Global, node: &Node, at: usize, made: &mut u64) -> Result<Nod
 {
     let _ = node.height();
     if at == 0 {
-        return share(node);
+        return node.share();
     }
     match node.view() {
         View::Leaf(leaf) => {

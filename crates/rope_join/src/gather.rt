@@ -1,21 +1,12 @@
-//! Lists of shared nodes made one list, or one tree.
-ghost use Rattle.std.specs.Prelude.{◌≡◌, ◌+◌, ◌≤◌, ◌++◌, length, IfOk};
+//! Nodes side by side as one tree.
+ghost use Rattle.std.specs.Prelude.{◌+◌, ◌≤◌, length, IfOk};
 ghost use Rattle.rope_tree.specs.Tree.{height_of, breaks_of};
 ghost use Rattle.rope_tree.specs.Siblings.{AreSiblings};
 ghost use Rattle.rope_join.specs.Join.{IsGathered};
 
-use rope_tree::children::{copied, push_all, share};
-use rope_tree::node::{Node, make_inner};
+use rope_tree::node::Node;
+use rope_tree::node::row::make_over;
 use std::alloc::{AllocError, Global};
-
-/// The nodes of both lists.
-pub fn both(alloc: Global, before: &[Node], after: &[Node]) -> Result<Vec<Node>, AllocError>
-    ensures { IfOk result (λ v. v.items ≡ before.now ++ after.now) }
-{
-    let mut list = copied(alloc, before)?;
-    push_all(&mut list, after)?;
-    Ok(list)
-}
 
 /// The nodes as one tree: the only one, or a node over them.
 pub fn gather(alloc: Global, nodes: &[Node], made: &mut u64) -> Result<Node, AllocError>
@@ -26,8 +17,7 @@ pub fn gather(alloc: Global, nodes: &[Node], made: &mut u64) -> Result<Node, All
     ensures made { made.new ≤ made.old + 1 }
 {
     if nodes.len() == 1 {
-        return share(&nodes[0]);
+        return nodes[0].share();
     }
-    let list = copied(alloc, nodes)?;
-    make_inner(alloc, list, made)
+    make_over(alloc, nodes, made)
 }

@@ -4,10 +4,9 @@ ghost use Rattle.rope_text.specs.Text.{byte_len};
 ghost use Rattle.rope_tree.specs.View.{trees_in};
 ghost use Rattle.rope_join.specs.Join.{CanJoin, IsUnion, IsJoin};
 
-use crate::gather::both;
 use rope_text::{MAX_BYTES, MAX_CHILDREN, MIN_BYTES, MIN_CHILDREN};
-use rope_tree::children::{pack, pair, share, splice};
-use rope_tree::node::{Node, Nodes, View, make_inner, make_leaf};
+use rope_tree::node::row::{make_pair, pack, pack_both};
+use rope_tree::node::{Node, Nodes, View, make_leaf};
 use rope_tree::node_text::NodeText;
 use rope_tree::short_text::ShortText;
 use std::alloc::{AllocError, Global};
@@ -26,7 +25,7 @@ fn joined_text(first: &ShortText<'_>, second: &ShortText<'_>) -> NodeText
 fn keep(left: &Node, right: &Node) -> Result<Nodes, AllocError>
     ensures { IfOk result (λ nodes. trees_in nodes ≡ left.now ∷ right.now ∷ []) }
 {
-    Ok(Nodes::Two(share(left)?, share(right)?))
+    Ok(Nodes::Two(left.share()?, right.share()?))
 }
 
 /// Two trees of one height as one tree or two. Leaves become one where they fit in it and one of them is short; other
@@ -66,8 +65,7 @@ fn merge(alloc: Global, left: &Node, right: &Node, made: &mut u64) -> Result<Nod
             {
                 return Ok(keep(left, right)?);
             }
-            let nodes = both(alloc, first, second)?;
-            Ok(pack(alloc, nodes, made)?)
+            Ok(pack_both(alloc, first, second, made)?)
         }
     }
 }
@@ -88,16 +86,14 @@ fn unite(alloc: Global, left: &Node, right: &Node, made: &mut u64) -> Result<Nod
         };
         let last = children.len() - 1;
         let middle = unite(alloc, &children[last], right, made)?;
-        let nodes = splice(alloc, &children[..last], middle, &[])?;
-        return Ok(pack(alloc, nodes, made)?);
+        return Ok(pack(alloc, &children[..last], middle, &[], made)?);
     }
     if left_height < right_height {
         let View::Inner(children, _) = right.view() else {
             unreachable!()
         };
         let middle = unite(alloc, left, &children[0], made)?;
-        let nodes = splice(alloc, &[], middle, &children[1..])?;
-        return Ok(pack(alloc, nodes, made)?);
+        return Ok(pack(alloc, &[], middle, &children[1..], made)?);
     }
     Ok(merge(alloc, left, right, made)?)
 }
@@ -112,16 +108,13 @@ pub fn join(alloc: Global, left: &Node, right: &Node, made: &mut u64) -> Result<
     let _ = left.height();
     let _ = right.height();
     if right.info().bytes == 0 {
-        return Ok(share(left)?);
+        return Ok(left.share()?);
     }
     if left.info().bytes == 0 {
-        return Ok(share(right)?);
+        return Ok(right.share()?);
     }
     match unite(alloc, left, right, made)? {
         Nodes::One(node) => Ok(node),
-        Nodes::Two(first, second) => {
-            let nodes = pair(alloc, first, second)?;
-            Ok(make_inner(alloc, nodes, made)?)
-        }
+        Nodes::Two(first, second) => { Ok(make_pair(alloc, first, second, made)?) }
     }
 }
