@@ -27,7 +27,7 @@ children c =
     children_of_first _ _ ts (children_of _ _ ts c.loop-alloc.invariant.siblings (omega (arith, c.loop-alloc.invariant.some)) (omega arith))
 
 pub make_over-requires : goal.make_over-requires
-make_over-requires c = rw c.deref-2.ensures.value (children c)
+make_over-requires c = rw c.deref-2.ensures.value (children (goal.at.make_over-requires c).After-deref-2)
 
 pub returns-clause-tree : goal.returns-clause-tree
 returns-clause-tree c =
