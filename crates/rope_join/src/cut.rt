@@ -3,8 +3,7 @@ ghost use Rattle.std.specs.Prelude.{◌≡◌, ◌+◌, ◌-◌, ◌*◌, ◌<�
 ghost use Rattle.rope_tree.specs.Tree.{text};
 ghost use Rattle.rope_join.specs.Cut.{IsFront, IsBack};
 
-use crate::gather::gather;
-use crate::join::join;
+use crate::join::{join_before, join_behind};
 use rope_text::Steps;
 use rope_tree::insert::leaf_of;
 use rope_tree::lookup::total_before;
@@ -38,8 +37,7 @@ pub fn front(alloc: Global, node: &Node, at: usize, made: &mut u64) -> Result<No
             if place == 0 {
                 return Ok(part);
             }
-            let left = gather(alloc, &children[..place], made)?;
-            Ok(join(alloc, &left, &part, made)?)
+            Ok(join_behind(alloc, &children[..place], &part, made)?)
         }
     }
 }
@@ -68,8 +66,8 @@ pub fn back(alloc: Global, node: &Node, at: usize, made: &mut u64) -> Result<Nod
             if place + 1 == children.len() {
                 return Ok(part);
             }
-            let right = gather(alloc, &children[place + 1..], made)?;
-            Ok(join(alloc, &part, &right, made)?)
+            let after = &children[place + 1..];
+            Ok(join_before(alloc, &part, after, made)?)
         }
     }
 }

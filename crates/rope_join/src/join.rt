@@ -1,8 +1,10 @@
 //! Two trees as one.
 ghost use Rattle.std.specs.Prelude.{◌≡◌, ◌+◌, ◌-◌, ◌*◌, ◌<◌, ◌≤◌, [], ◌∷◌, ◌++◌, length, IfOk};
 ghost use Rattle.rope_text.specs.Text.{byte_len};
+ghost use Rattle.rope_tree.specs.Tree.{height_of, breaks_of};
 ghost use Rattle.rope_tree.specs.View.{trees_in};
-ghost use Rattle.rope_join.specs.Join.{CanJoin, IsUnion, IsJoin};
+ghost use Rattle.rope_tree.specs.Siblings.{AreSiblings};
+ghost use Rattle.rope_join.specs.Join.{CanJoin, IsUnion, IsJoin, gathered};
 
 use rope_text::{MAX_BYTES, MAX_CHILDREN, MIN_BYTES, MIN_CHILDREN};
 use rope_tree::node::row::{make_pair, pack, pack_both};
@@ -116,5 +118,61 @@ pub fn join(alloc: Global, left: &Node, right: &Node, made: &mut u64) -> Result<
     match unite(alloc, left, right, made)? {
         Nodes::One(node) => Ok(node),
         Nodes::Two(first, second) => { Ok(make_pair(alloc, first, second, made)?) }
+    }
+}
+
+/// Nodes side by side and behind them a tree that is no higher, as one tree: as `join` makes it of the only one of them, or of a
+/// node over them, which isn't made.
+pub fn join_behind(
+    alloc: Global,
+    nodes: &[Node],
+    right: &Node,
+    made: &mut u64,
+) -> Result<Node, AllocError>
+    requires siblings { AreSiblings (breaks_of nodes.now) (height_of nodes.now) nodes.now }
+    requires some { 1 ≤ length nodes.now }
+    requires at_most_24 { length nodes.now ≤ 24 }
+    requires right_some { 1 ≤ length right.now.leaves }
+    requires no_higher { right.now.height ≤ height_of nodes.now }
+    requires join { CanJoin (gathered nodes.now) right.now }
+    ensures join { IfOk result (λ node. IsJoin (gathered nodes.now) right.now node) }
+    ensures made_ok { IfOk result (λ node. made.new + 2 * right.now.height ≤ made.old + 2 * node.height + 3) }
+    ensures made { made.new ≤ made.old + 2 * (height_of nodes.now - right.now.height) + 5 }
+{
+    let last = nodes.len() - 1;
+    if last == 0 {
+        return Ok(join(alloc, &nodes[0], right, made)?);
+    }
+    let middle = unite(alloc, &nodes[last], right, made)?;
+    match pack(alloc, &nodes[..last], middle, &[], made)? {
+        Nodes::One(node) => Ok(node),
+        Nodes::Two(first, second) => Ok(make_pair(alloc, first, second, made)?),
+    }
+}
+
+/// The same with the tree before the nodes.
+pub fn join_before(
+    alloc: Global,
+    left: &Node,
+    nodes: &[Node],
+    made: &mut u64,
+) -> Result<Node, AllocError>
+    requires siblings { AreSiblings (breaks_of nodes.now) (height_of nodes.now) nodes.now }
+    requires some { 1 ≤ length nodes.now }
+    requires at_most_24 { length nodes.now ≤ 24 }
+    requires left_some { 1 ≤ length left.now.leaves }
+    requires no_higher { left.now.height ≤ height_of nodes.now }
+    requires join { CanJoin left.now (gathered nodes.now) }
+    ensures join { IfOk result (λ node. IsJoin left.now (gathered nodes.now) node) }
+    ensures made_ok { IfOk result (λ node. made.new + 2 * left.now.height ≤ made.old + 2 * node.height + 3) }
+    ensures made { made.new ≤ made.old + 2 * (height_of nodes.now - left.now.height) + 5 }
+{
+    if nodes.len() == 1 {
+        return Ok(join(alloc, left, &nodes[0], made)?);
+    }
+    let middle = unite(alloc, left, &nodes[0], made)?;
+    match pack(alloc, &[], middle, &nodes[1..], made)? {
+        Nodes::One(node) => Ok(node),
+        Nodes::Two(first, second) => Ok(make_pair(alloc, first, second, made)?),
     }
 }
