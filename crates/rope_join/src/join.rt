@@ -7,7 +7,7 @@ ghost use Rattle.rope_tree.specs.Siblings.{AreSiblings};
 ghost use Rattle.rope_join.specs.Join.{CanJoin, IsUnion, IsJoin, gathered};
 
 use rope_text::{MAX_BYTES, MAX_CHILDREN, MIN_BYTES, MIN_CHILDREN};
-use rope_tree::node::row::{make_pair, pack, pack_both};
+use rope_tree::node::row::{make_over, pack, pack_over};
 use rope_tree::node::{Node, Nodes, View, make_leaf};
 use rope_tree::node_text::NodeText;
 use rope_tree::short_text::ShortText;
@@ -67,7 +67,7 @@ fn merge(alloc: Global, left: &Node, right: &Node, made: &mut u64) -> Result<Nod
             {
                 return Ok(keep(left, right)?);
             }
-            Ok(pack_both(alloc, first, second, made)?)
+            Ok(pack_over(alloc, &[], first, second, made)?)
         }
     }
 }
@@ -117,7 +117,7 @@ pub fn join(alloc: Global, left: &Node, right: &Node, made: &mut u64) -> Result<
     }
     match unite(alloc, left, right, made)? {
         Nodes::One(node) => Ok(node),
-        Nodes::Two(first, second) => { Ok(make_pair(alloc, first, second, made)?) }
+        Nodes::Two(first, second) => { Ok(make_over(alloc, &[], &[first, second], &[], made)?) }
     }
 }
 
@@ -146,7 +146,7 @@ pub fn join_behind(
     let middle = unite(alloc, &nodes[last], right, made)?;
     match pack(alloc, &nodes[..last], middle, &[], made)? {
         Nodes::One(node) => Ok(node),
-        Nodes::Two(first, second) => Ok(make_pair(alloc, first, second, made)?),
+        Nodes::Two(first, second) => Ok(make_over(alloc, &[], &[first, second], &[], made)?),
     }
 }
 
@@ -173,6 +173,6 @@ pub fn join_before(
     let middle = unite(alloc, left, &nodes[0], made)?;
     match pack(alloc, &[], middle, &nodes[1..], made)? {
         Nodes::One(node) => Ok(node),
-        Nodes::Two(first, second) => Ok(make_pair(alloc, first, second, made)?),
+        Nodes::Two(first, second) => Ok(make_over(alloc, &[], &[first, second], &[], made)?),
     }
 }

@@ -2,17 +2,17 @@
 use Rattle.std.proofs.Common.{◌≡◌, ℕ, ◌+◌, ◌-◌, ◌/◌, ◌<◌, ◌≤◌, List, [], ◌∷◌, ◌++◌, length, get_or, set, take, drop, refl, sym, ap, subst, ◌∙◌, arith, inl, inr}
 use Rattle.std.specs.List.{All}
 use Rattle.std.proofs.lemmas.Bool.{cases_lt}
-use Rattle.std.proofs.lemmas.List.{append-nil, append_assoc, length-append, length-set, length-take-le, take_all, take_more, take-set-le, take-append-drop, get_or-set_same, drop-set-lt, drop-drop}
+use Rattle.std.proofs.lemmas.List.{append-nil, append_assoc, length-append, length-set, length-take-le, take_all, take_more, take-set-le, take-append-le, take-append-drop, get_or-set_same, drop_all, drop-append-le, drop-set-lt, drop-drop}
 use Rattle.std.proofs.lemmas.List.Elements.{All-nil, All-head, All-drop}
-use Rattle.std.proofs.Math.Seq.{take-append_seam, drop-append_seam}
+use Rattle.std.proofs.Math.Seq.{take-append_seam, take-append-add, drop-append-add}
 use Rattle.rope_text.specs.declared.line_breaks.LineBreaks.{LineBreaks}
 use Rattle.rope_text.specs.declared.text_info.TextInfo.{TextInfo}
 use Rattle.rope_text.specs.TextInfo.{info_of, info_sum}
 use Rattle.rope_text.proofs.InfoLaws.{info_of-append_apart}
 use Rattle.rope_tree.specs.declared.node.Children.TheInside.{Inside}
 use Rattle.rope_tree.specs.Leaves.{AreLeaves}
-use Rattle.rope_tree.specs.Tree.{Tree, text, joined, leaves_of, height_of, breaks_of, tree_over, IsChild, AreChildren}
-use Rattle.rope_tree.specs.Siblings.{AreSiblings, AreParts}
+use Rattle.rope_tree.specs.Tree.{Tree, text, joined, leaves_of, height_of, breaks_of, IsChild, AreChildren}
+use Rattle.rope_tree.specs.Siblings.{AreSiblings}
 use Rattle.rope_tree.specs.Totals.{HasTotals}
 use Rattle.rope_tree.specs.Search.{IsSmall}
 use Rattle.rope_tree.specs.Flat.{IsFlat}
@@ -20,8 +20,7 @@ use Rattle.rope_tree.specs.Listed.{listed, IsListed}
 use Rattle.rope_tree.proofs.LeafLaws.{leaves_seam, all_right, no_leaves}
 use Rattle.rope_tree.proofs.Infos.{small_info}
 use Rattle.rope_tree.proofs.NodeLaws.{leaves_of-append, joined-append, joined_one, totals_more, children_of_first}
-use Rattle.rope_tree.proofs.SiblingLaws.{byte_len-append, siblings_left, siblings_right, children_of, first_half, second_half, one_part, two_parts}
-use Rattle.rope_tree.proofs.InsertTrees.{siblings_of_first}
+use Rattle.rope_tree.proofs.SiblingLaws.{byte_len-append, siblings_left}
 
 -- the counts with one more tree
 pub counts_more : (b : LineBreaks) (xs : List Tree) (x : Tree) → AreLeaves (leaves_of (xs ++ x ∷ [])) → info_of b (joined (xs ++ x ∷ [])) ≡ info_sum (info_of b (joined xs)) (info_of b (text x))
@@ -105,14 +104,10 @@ module _ (xs : List Tree) (x : Tree) (s : AreSiblings (breaks_of (xs ++ x ∷ []
           places = rw behind (All-drop IsFlat 1 (drop (length a.totals) a.nodes) i.places);
         }
 
--- trees in front of others, and behind them
+-- trees in front of others
 pub front_siblings : (xs ys : List Tree) → AreSiblings (breaks_of (xs ++ ys)) (height_of (xs ++ ys)) (xs ++ ys) → AreSiblings (breaks_of xs) (height_of xs) xs
 front_siblings [] ys s = record { each = All-nil (IsChild (breaks_of []) 0); leaves = no_leaves; fits = omega arith }
 front_siblings (x ∷ xs) ys s = siblings_left _ _ (x ∷ xs) ys s
-
-pub back_siblings : (xs ys : List Tree) → AreSiblings (breaks_of (xs ++ ys)) (height_of (xs ++ ys)) (xs ++ ys) → AreSiblings (breaks_of ys) (height_of ys) ys
-back_siblings xs [] s = record { each = All-nil (IsChild (breaks_of []) 0); leaves = no_leaves; fits = omega arith }
-back_siblings xs (y ∷ ys) s = siblings_of_first _ _ (y ∷ ys) (omega arith) (siblings_right _ _ xs (y ∷ ys) s)
 
 pub siblings_of : (b : LineBreaks) (h : ℕ) (ts : List Tree) → AreChildren b h ts → AreSiblings b h ts
 siblings_of b h ts a = record { each = a.each; leaves = a.leaves; fits = a.fits }
@@ -133,63 +128,40 @@ next_siblings xs ys i x ts s lt here e =
     ap (λ l. xs ++ l) (sym (take-append-drop (i + 1) ys) ∙ ap (λ l. l ++ drop (i + 1) ys) more) ∙ sym (append_assoc xs (take i ys ++ x ∷ []) (drop (i + 1) ys)) ∙ ap (λ l. l ++ drop (i + 1) ys) (sym (append_assoc xs (take i ys) (x ∷ []))) in
     part_siblings (xs ++ ys) us (drop (i + 1) ys) (ts ++ x ∷ []) s whole (ap (λ l. l ++ x ∷ []) e)
 
-pub alone : (xs ys : List Tree) → length ys ≡ 0 → xs ++ ys ≡ xs
-alone xs [] e = append-nil xs
-alone xs (y ∷ ys) e = absurd (omega arith)
+-- the first of two lists' trees, and what follows them
+take_both : (n : ℕ) (xs ys : List Tree) → take n (xs ++ ys) ≡ take n xs ++ take (n - length xs) ys
+take_both n xs ys = elim (cases_lt n (length xs)) [
+  | inl l ↦
+      let none : n - length xs ≡ 0 = omega arith in
+      take-append-le n xs ys (omega arith) ∙ sym (ap (λ m. take n xs ++ take m ys) none ∙ append-nil (take n xs))
+  | inr ge ↦
+      let more : n ≡ length xs + (n - length xs) = omega arith in
+      ap (λ m. take m (xs ++ ys)) more ∙ take-append-add xs ys (n - length xs) ∙ ap (λ l. l ++ take (n - length xs) ys) (sym (take_all n xs (omega arith)))
+]
 
--- two lists of which the first is full
-module _ (most : ℕ) (xs ys : List Tree) (s : AreSiblings (breaks_of (xs ++ ys)) (height_of (xs ++ ys)) (xs ++ ys)) (some : 2 ≤ length (xs ++ ys)) (few : length (xs ++ ys) ≤ 48)
-    (one : length (xs ++ ys) ≤ 24 → most ≡ length (xs ++ ys)) (two : 24 < length (xs ++ ys) → most ≡ length (xs ++ ys) / 2) (room : length xs ≤ most) (in_order : length xs < most → ys ≡ []) where
-  both : length (xs ++ ys) ≡ length xs + length ys
-  both = length-append xs ys
+drop_both : (n : ℕ) (xs ys : List Tree) → drop n (xs ++ ys) ≡ drop n xs ++ drop (n - length xs) ys
+drop_both n xs ys = elim (cases_lt n (length xs)) [
+  | inl l ↦
+      let none : n - length xs ≡ 0 = omega arith in
+      drop-append-le n xs ys (omega arith) ∙ sym (ap (λ m. drop n xs ++ drop m ys) none)
+  | inr ge ↦
+      let more : n ≡ length xs + (n - length xs) = omega arith in
+      ap (λ m. drop m (xs ++ ys)) more ∙ drop-append-add xs ys (n - length xs) ∙ ap (λ l. l ++ drop (n - length xs) ys) (sym (drop_all n xs (omega arith)))
+]
 
-  full : length xs ≡ most
-  full = elim (cases_lt (length xs) most) [
-    | inl l ↦
-        let none : length ys ≡ 0 = ap length (in_order l) in
-        elim (cases_lt 24 (length (xs ++ ys))) [
-          | inl many ↦ absurd (omega (arith, none, both, two many))
-          | inr le ↦ absurd (omega (arith, none, both, one le))
-        ]
-    | inr ge ↦ omega arith
-  ]
+-- three lists cut in the middle
+module _ (xs ys zs : List Tree) (n m k : ℕ) (half : n ≡ (length xs + length ys + length zs) / 2) (past : m ≡ n - length xs) (later : k ≡ m - length ys) where
+  middle : n ≡ length (xs ++ (ys ++ zs)) / 2
+  middle = half ∙ ap (λ l. l / 2) (omega (arith, length-append xs (ys ++ zs), length-append ys zs))
 
-  front : 24 < length (xs ++ ys) → xs ≡ take (length (xs ++ ys) / 2) (xs ++ ys)
-  front many = sym (take-append_seam xs ys) ∙ ap (λ n. take n (xs ++ ys)) (full ∙ two many)
+  pub front_row : (us vs ws : List Tree) → us ≡ take n xs → vs ≡ take m ys → ws ≡ take k zs → us ++ (vs ++ ws) ≡ take (length (xs ++ (ys ++ zs)) / 2) (xs ++ (ys ++ zs))
+  front_row us vs ws a b c =
+      (rw (a, b, c, later, past) refl) ∙ ap (λ l. take n xs ++ l) (sym (take_both (n - length xs) ys zs)) ∙ sym (take_both n xs (ys ++ zs)) ∙ ap (λ l. take l (xs ++ (ys ++ zs))) middle
 
-  back : 24 < length (xs ++ ys) → ys ≡ drop (length (xs ++ ys) / 2) (xs ++ ys)
-  back many = sym (drop-append_seam xs ys) ∙ ap (λ n. drop n (xs ++ ys)) (full ∙ two many)
+  pub back_row : (us vs ws : List Tree) → us ≡ drop n xs → vs ≡ drop m ys → ws ≡ drop k zs → us ++ (vs ++ ws) ≡ drop (length (xs ++ (ys ++ zs)) / 2) (xs ++ (ys ++ zs))
+  back_row us vs ws a b c =
+      (rw (a, b, c, later, past) refl) ∙ ap (λ l. drop n xs ++ l) (sym (drop_both (n - length xs) ys zs)) ∙ sym (drop_both n xs (ys ++ zs)) ∙ ap (λ l. drop l (xs ++ (ys ++ zs))) middle
 
-  pub first_children : AreChildren (breaks_of xs) (height_of xs) xs
-  first_children =
-      let p : List Tree → Type 0 = λ l. AreChildren (breaks_of l) (height_of l) l in
-      elim (cases_lt 24 (length (xs ++ ys))) [
-        | inl many ↦ subst p (sym (front many)) (children_of_first _ _ (take (length (xs ++ ys) / 2) (xs ++ ys)) (first_half _ _ (xs ++ ys) s many few))
-        | inr le ↦ children_of _ _ xs (front_siblings xs ys s) (omega (arith, full, one le)) (omega (arith, full, one le))
-      ]
-
-  -- the second is not empty only where there are more than one node can have
-  pub many_of : 0 < length ys → 24 < length (xs ++ ys)
-  many_of p = elim (cases_lt 24 (length (xs ++ ys))) [
-    | inl many ↦ many
-    | inr le ↦ absurd (omega (arith, full, one le, both))
-  ]
-
-  pub second_children : 0 < length ys → AreChildren (breaks_of ys) (height_of ys) ys
-  second_children p =
-      let q : List Tree → Type 0 = λ l. AreChildren (breaks_of l) (height_of l) l in
-      let many = many_of p in
-      subst q (sym (back many)) (children_of_first _ _ (drop (length (xs ++ ys) / 2) (xs ++ ys)) (second_half _ _ (xs ++ ys) s many few))
-
-  pub one_shape : (t : Tree) → length ys ≡ 0 → t ≡ tree_over xs → AreParts (breaks_of (xs ++ ys)) (length (xs ++ ys)) (length (xs ++ ys)) (height_of (xs ++ ys) + 1) (t ∷ [])
-  one_shape t none is =
-      let le : length (xs ++ ys) ≤ 24 = elim (cases_lt 24 (length (xs ++ ys))) [
-        | inl many ↦ absurd (omega (arith, full, two many, both))
-        | inr le ↦ le
-      ] in
-      one_part _ _ (xs ++ ys) s some le t (is ∙ ap tree_over (sym (alone xs ys none)))
-
-  pub two_shape : (t u : Tree) → 0 < length ys → t ≡ tree_over xs → u ≡ tree_over ys → AreParts (breaks_of (xs ++ ys)) (length (xs ++ ys)) (length (xs ++ ys)) (height_of (xs ++ ys) + 1) (t ∷ u ∷ [])
-  two_shape t u p is also =
-      let many = many_of p in
-      two_parts _ _ (xs ++ ys) s many few t u (is ∙ ap tree_over (front many)) (also ∙ ap tree_over (back many))
+-- children that are seen as others
+pub children_seen : (b : LineBreaks) (h : ℕ) (ts us : List Tree) → us ≡ ts → AreChildren b h ts → AreChildren (breaks_of us) (height_of us) us
+children_seen b h ts us e a = rw e (children_of_first b h ts a)

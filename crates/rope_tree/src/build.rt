@@ -65,7 +65,7 @@ fn level_over(alloc: Global, nodes: &[Node], made: &mut u64) -> Result<Vec<Node>
     let mut rest = nodes;
     while groups > 0 {
         let len = group_len(rest.len(), groups);
-        level.push(make_over(alloc, &rest[..len], made)?)?;
+        level.push(make_over(alloc, &[], &[], &rest[..len], made)?)?;
         rest = &rest[len..];
         groups -= 1;
     }
@@ -88,7 +88,7 @@ pub(crate) fn root_over(alloc: Global, nodes: Vec<Node>, made: &mut u64) -> Resu
     if level.len() == 1 {
         return Ok(level[0].share()?);
     }
-    Ok(make_over(alloc, &level, made)?)
+    Ok(make_over(alloc, &[], &[], &level, made)?)
 }
 
 /// A tree of this text, built from the bottom: leaves cut in order, then nodes of 12 to 24 children level by level.

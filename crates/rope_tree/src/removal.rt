@@ -7,7 +7,7 @@ ghost use Rattle.rope_tree.specs.Removal.{IsRemoved};
 
 use crate::counts::take_out;
 use crate::lookup::total_before;
-use crate::node::row::make_with;
+use crate::node::row::make_over;
 use crate::node::{Node, View, make_leaf};
 use crate::node_text::NodeText;
 use crate::search::{Unit, place_of};
@@ -71,7 +71,7 @@ pub fn without(
             };
             let before = &children[..place];
             let after = &children[place + 1..];
-            Ok(Some(make_with(alloc, before, middle, after, made)?))
+            Ok(Some(make_over(alloc, before, &[middle], after, made)?))
         }
     }
 }

@@ -31,9 +31,9 @@ union c =
     before_union c.args.nodes.now c.args.left.now c.index-nodes-0-2.result c.requires.siblings m c.requires.at_most_24 c.requires.no_higher c.index-nodes-0-2.is c.requires.join
     (trees_in c.in_ok-middle.middle) c.in_ok-middle.ensures.union (trees_in c.in_ok-node.field-0) (rw e at c.in_ok-node.ensures.leaves) (rw e at c.in_ok-node.ensures.shape)
 
-pub make_pair-requires : goal.make_pair-requires
-make_pair-requires c =
-    let u = rw c.in-Two.is at (union (goal.at.make_pair-requires c).In_ok-node) in
+pub make_over-requires : goal.make_over-requires
+make_over-requires c =
+    let u = rw c.in-Two.is at (union (goal.at.make_over-requires c).In_ok-node) in
     root_children c.args.left.now (gathered c.args.nodes.now) c.in-Two.first c.in-Two.second u c.requires.join
 
 pub returns-in-One-clause-join : goal.returns-in-One-clause-join
@@ -41,10 +41,10 @@ returns-in-One-clause-join c =
     let u = rw c.in-One.is at (union (goal.at.returns-in-One-clause-join c).In_ok-node) in
     join_one c.args.left.now (gathered c.args.nodes.now) c.in-One.node u
 
-pub returns-in_ok-make_pair-in-Two-clause-join : goal.returns-in_ok-make_pair-in-Two-clause-join
-returns-in_ok-make_pair-in-Two-clause-join c =
-    let u = rw c.in-Two.is at (union (goal.at.returns-in_ok-make_pair-in-Two-clause-join c).In_ok-node) in
-    join_two c.args.left.now (gathered c.args.nodes.now) c.in-Two.first c.in-Two.second u c.requires.join _ c.in_ok-make_pair-in-Two.ensures.ok
+pub returns-in_ok-make_over-in-Two-clause-join : goal.returns-in_ok-make_over-in-Two-clause-join
+returns-in_ok-make_over-in-Two-clause-join c =
+    let u = rw c.in-Two.is at (union (goal.at.returns-in_ok-make_over-in-Two-clause-join c).In_ok-node) in
+    join_two c.args.left.now (gathered c.args.nodes.now) c.in-Two.first c.in-Two.second u c.requires.join _ c.in_ok-make_over-in-Two.ensures.ok
 
 level : (c : After-index-nodes-0-2) → c.index-nodes-0-2.result.height ≡ height_of c.args.nodes.now
 level c = before_level c.args.nodes.now c.args.left.now c.index-nodes-0-2.result c.requires.siblings (many c) c.requires.at_most_24 c.requires.no_higher c.index-nodes-0-2.is c.requires.join
@@ -56,9 +56,9 @@ returns-in-One-clause-made_ok c =
     let j = join_one c.args.left.now (gathered c.args.nodes.now) c.in-One.node u in
     omega (arith, level e, j.least, ap (λ (t : Tree). t.height) (gathered_over c.args.nodes.now (many e)), c.in_ok-middle.ensures.made, c.in_ok-node.ensures.made)
 
-pub returns-in_ok-make_pair-in-Two-clause-made_ok : goal.returns-in_ok-make_pair-in-Two-clause-made_ok
-returns-in_ok-make_pair-in-Two-clause-made_ok c =
-    let e = (goal.at.returns-in_ok-make_pair-in-Two-clause-made_ok c).After-index-nodes-0-2 in
-    let u = rw c.in-Two.is at (union (goal.at.returns-in_ok-make_pair-in-Two-clause-made_ok c).In_ok-node) in
-    let j = join_two c.args.left.now (gathered c.args.nodes.now) c.in-Two.first c.in-Two.second u c.requires.join _ c.in_ok-make_pair-in-Two.ensures.ok in
-    omega (arith, level e, j.least, ap (λ (t : Tree). t.height) (gathered_over c.args.nodes.now (many e)), c.in_ok-middle.ensures.made, c.in_ok-node.ensures.made, c.in_ok-make_pair-in-Two.ensures.made)
+pub returns-in_ok-make_over-in-Two-clause-made_ok : goal.returns-in_ok-make_over-in-Two-clause-made_ok
+returns-in_ok-make_over-in-Two-clause-made_ok c =
+    let e = (goal.at.returns-in_ok-make_over-in-Two-clause-made_ok c).After-index-nodes-0-2 in
+    let u = rw c.in-Two.is at (union (goal.at.returns-in_ok-make_over-in-Two-clause-made_ok c).In_ok-node) in
+    let j = join_two c.args.left.now (gathered c.args.nodes.now) c.in-Two.first c.in-Two.second u c.requires.join _ c.in_ok-make_over-in-Two.ensures.ok in
+    omega (arith, level e, j.least, ap (λ (t : Tree). t.height) (gathered_over c.args.nodes.now (many e)), c.in_ok-middle.ensures.made, c.in_ok-node.ensures.made, c.in_ok-make_over-in-Two.ensures.made)

@@ -56,28 +56,28 @@ returns-in_err-middle-in-Inner-clause-made t c = omega (arith, below t (goal.at.
 pub returns-in_default-clause-made : goal.returns-in_default-clause-made
 returns-in_default-clause-made t c = omega (arith, below t (goal.at.returns-in_default-clause-made t c).After-index-children-place, c.without.ensures.made)
 
-pub returns-in_err-make_with-in-Inner-clause-made :
-    goal.returns-in_err-make_with-in-Inner-clause-made
-returns-in_err-make_with-in-Inner-clause-made t c =
-    omega (arith, below t (goal.at.returns-in_err-make_with-in-Inner-clause-made t c).After-index-children-place, c.without.ensures.made, c.make_with.ensures.made)
+pub returns-in_err-make_over-in-Inner-clause-made :
+    goal.returns-in_err-make_over-in-Inner-clause-made
+returns-in_err-make_over-in-Inner-clause-made t c =
+    omega (arith, below t (goal.at.returns-in_err-make_over-in-Inner-clause-made t c).After-index-children-place, c.without.ensures.made, c.make_over.ensures.made)
 
-pub returns-in_ok-make_with-in-Inner-clause-made :
-    goal.returns-in_ok-make_with-in-Inner-clause-made
-returns-in_ok-make_with-in-Inner-clause-made t c =
-    omega (arith, below t (goal.at.returns-in_ok-make_with-in-Inner-clause-made t c).After-index-children-place, c.without.ensures.made, c.make_with.ensures.made)
+pub returns-in_ok-make_over-in-Inner-clause-made :
+    goal.returns-in_ok-make_over-in-Inner-clause-made
+returns-in_ok-make_over-in-Inner-clause-made t c =
+    omega (arith, below t (goal.at.returns-in_ok-make_over-in-Inner-clause-made t c).After-index-children-place, c.without.ensures.made, c.make_over.ensures.made)
 
-pub make_with-requires : goal.make_with-requires
-make_with-requires t c =
-    let e = (goal.at.make_with-requires t c).After-index-children-place in
+pub make_over-requires : goal.make_over-requires
+make_over-requires t c =
+    let e = (goal.at.make_over-requires t c).After-index-children-place in
     let ts = c.in-Inner.children.now in
     let left = spliced_removed c.in-Inner.children.now c.place_of-place.result c.index-children-place.result c.in-Some.middle _ (down t e).children (down t e).within (down t e).child_is
     _ _ c.args.start c.args.end (held t e).1 (rw c.in-Some.is at c.in_ok-middle-in-Inner.ensures.ok) refl in
     children_of_first (breaks_of ts) (height_of ts) _ left.children
 
-pub returns-in_ok-make_with-in-Inner-clause-ok : goal.returns-in_ok-make_with-in-Inner-clause-ok
-returns-in_ok-make_with-in-Inner-clause-ok t c =
-    let e = (goal.at.returns-in_ok-make_with-in-Inner-clause-ok t c).After-index-children-place in
+pub returns-in_ok-make_over-in-Inner-clause-ok : goal.returns-in_ok-make_over-in-Inner-clause-ok
+returns-in_ok-make_over-in-Inner-clause-ok t c =
+    let e = (goal.at.returns-in_ok-make_over-in-Inner-clause-ok t c).After-index-children-place in
     let left = spliced_removed c.in-Inner.children.now c.place_of-place.result c.index-children-place.result c.in-Some.middle _ (down t e).children (down t e).within (down t e).child_is
     _ _ c.args.start c.args.end (held t e).1 (rw c.in-Some.is at c.in_ok-middle-in-Inner.ensures.ok) refl in
-    over_removed c.args.node.now c.in_ok-make_with-in-Inner.field-0 c.in-Inner.children.now _ c.args.start c.args.end
-    c.in-Inner.ensures.is c.in_ok-make_with-in-Inner.ensures.ok left
+    over_removed c.args.node.now c.in_ok-make_over-in-Inner.field-0 c.in-Inner.children.now _ c.args.start c.args.end
+    c.in-Inner.ensures.is c.in_ok-make_over-in-Inner.ensures.ok left

@@ -1,9 +1,0 @@
-use Rattle.std.proofs.Common.{◌++◌}
-use Rattle.rope_tree.proofs.NodeLaws.{same_at}
-use Rattle.rope_tree.proofs.RowLaws.{next_siblings}
-use Rattle.rope_tree.proofs.node.row.Row.push_all.Goals as goal
-
-pub push-requires-clause-siblings : goal.push-requires-clause-siblings
-push-requires-clause-siblings c =
-    next_siblings (c.args.self.now.first ++ c.args.self.now.second) c.args.nodes.now c.loop-node.node-index c.in_ok-share.field-0 (c.loop-node.self.first ++ c.loop-node.self.second) c.requires.siblings c.loop-node-test.true
-    (same_at c.args.nodes.now c.loop-node.node-index c.node-item.result c.in_ok-share.field-0 c.node-item.is c.in_ok-share.ensures) c.loop-node.invariant.nodes
