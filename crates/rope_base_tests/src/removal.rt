@@ -1,7 +1,6 @@
 //! Characters taken out of one leaf.
 use rope_text::LineBreaks;
 use rope_tree::build::build;
-use rope_tree::children::share;
 use rope_tree::node::Node;
 use rope_tree::removal::remove_at;
 use std::alloc::{AllocError, Global};
@@ -32,7 +31,7 @@ fn removes_in_place_or_by_copies(rt: HostRuntime) {
     assert_eq!(rt; made, 0);
     assert_eq!(rt; root.info().bytes, 7992);
     assert_eq!(rt; root.info().break_count, 999);
-    let other = share(&root).expect(&rt, "memory");
+    let other = root.share().expect(&rt, "memory");
     assert!(rt; remove(rt.alloc(), &mut root, 4003, 4005, &mut made).expect(&rt, "memory"));
     assert_eq!(rt; made, 2);
     assert_eq!(rt; root.info().chars, 7990);

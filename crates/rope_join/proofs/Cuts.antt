@@ -1,5 +1,5 @@
 -- A node cut at one of its children.
-use Rattle.std.proofs.Common.{◌≡◌, ℕ, ◌+◌, ◌-◌, ◌^◌, ◌<◌, ◌≤◌, List, [], ◌++◌, length, take, drop, get_or, refl, sym, ap, subst, ◌∙◌, arith, inl, inr}
+use Rattle.std.proofs.Common.{◌≡◌, ℕ, ◌+◌, ◌-◌, ◌^◌, ◌<◌, ◌≤◌, List, [], ◌∷◌, ◌++◌, length, take, drop, get_or, refl, sym, ap, subst, ◌∙◌, arith, inl, inr}
 use Rattle.std.specs.List.{concat, All}
 use Rattle.std.proofs.lemmas.Bool.{cases_lt}
 use Rattle.std.proofs.lemmas.List.{append-nil, length-drop, length-take-le, take_all, take-append-drop, nil_from_length}
@@ -17,7 +17,8 @@ use Rattle.rope_tree.proofs.Descents.{leaves_at}
 use Rattle.rope_tree.proofs.InsertTrees.{text_around}
 use Rattle.rope_tree.proofs.InsertLaws.{front_of, rest_of}
 use Rattle.rope_tree.proofs.InsertLeaves.{text_of_leaf}
-use Rattle.rope_join.specs.Join.{CanJoin, IsJoin, IsGathered}
+use Rattle.rope_join.specs.Join.{CanJoin, IsJoin}
+use Rattle.rope_join.proofs.Gathered.{IsGathered}
 use Rattle.rope_join.specs.Cut.{IsFront, IsBack}
 
 -- the parts of an inner node around one child
@@ -88,6 +89,12 @@ module _ (n : Tree) (xs : List Tree) (t : Tree) (ys : List Tree) (s : CutsAt n x
 
   pub after_siblings : 1 ≤ length ys → AreSiblings (breaks_of ys) (height_of ys) ys
   after_siblings some = gather_siblings t.breaks t.height ys s.after some (leaves_right t.leaves (leaves_of ys) right_leaves) (omega (arith, s.fits))
+
+  pub before_height : 1 ≤ length xs → height_of xs ≡ t.height
+  before_height some = height_of_is t.breaks t.height xs some s.before
+
+  pub after_height : 1 ≤ length ys → height_of ys ≡ t.height
+  after_height some = height_of_is t.breaks t.height ys some s.after
 
   module _ (at k : ℕ) (p : Tree) (e : at ≡ length (joined xs) + k) (le : k ≤ length (text t)) where
     front_text : take at (text n) ≡ joined xs ++ take k (text t)
@@ -193,3 +200,17 @@ whole_back n r at i z e = rw (e, z) (record { text_is = refl; same_breaks = refl
 -- what the slices around a child have
 pub back_trees : (ts : List Tree) (k : ℕ) → take (length ts - k) (drop k ts) ≡ drop k ts
 back_trees ts k = take_all (length ts - k) (drop k ts) (omega (arith, length-drop k ts))
+
+some_list : (ls : List (List ℕ)) → 1 ≤ length (concat ls) → 1 ≤ length ls
+some_list [] some = absurd (omega arith)
+some_list (l ∷ ls) some = omega arith
+
+-- a part that has a character has a leaf
+some_leaf : (p : Tree) → 1 ≤ length (text p) → 1 ≤ length p.leaves
+some_leaf p some = some_list p.leaves some
+
+pub some_front : (k : ℕ) (t p : Tree) → 1 ≤ k → k ≤ length (text t) → IsFront k t p → 1 ≤ length p.leaves
+some_front k t p some le i = some_leaf p (omega (arith, ap length i.text_is, length-take-le k (text t) le))
+
+pub some_back : (k : ℕ) (t p : Tree) → k < length (text t) → IsBack k t p → 1 ≤ length p.leaves
+some_back k t p lt i = some_leaf p (omega (arith, ap length i.text_is, length-drop k (text t)))

@@ -1,4 +1,6 @@
 pub mod Unions
+pub mod Gathered
+pub mod Rows
 pub mod Whole
 pub mod Cuts
 pub mod Seams

@@ -14,7 +14,7 @@ use Rattle.rope_tree.specs.Siblings.{AreParts}
 use Rattle.rope_tree.proofs.TreeLaws.{height_of_is, breaks_of_is}
 use Rattle.rope_tree.proofs.NodeLaws.{children_of_first}
 use Rattle.rope_tree.proofs.ChunksFound.{no_leaves_of, lone_of_none}
-use Rattle.rope_join.specs.Join.{CanJoin, IsUnion, IsJoin, IsGathered}
+use Rattle.rope_join.specs.Join.{CanJoin, IsUnion, IsJoin}
 
 pub join_empty_right : (a b t : Tree) → IsTree b → byte_len (text b) ≡ 0 → CanJoin a b → t ≡ a → IsJoin a b t
 join_empty_right a b t i empty j e =
@@ -115,22 +115,3 @@ module _ (a b x y : Tree) (u : IsUnion a b (x ∷ y ∷ [])) (j : CanJoin a b) w
         below_left = λ l few. absurd (omega (arith, (u.higher l).full refl (omega arith)));
         below_right = λ l few. absurd (omega (arith, (u.lower l).full refl (omega arith)));
       }
-
--- one tree alone, or a node over all
-pub gathered_one : (ts : List Tree) (t : Tree) → length ts ≡ 1 → ts ≡ t ∷ [] → IsGathered ts t
-gathered_one ts t one e = rw e (record {
-  same_breaks = refl;
-  leaves = sym (append-nil t.leaves);
-  alone = λ _. refl;
-  more = λ l. absurd (omega arith);
-  width = λ l. absurd (omega arith);
-})
-
-pub gathered_more : (ts : List Tree) (t : Tree) → 2 ≤ length ts → t ≡ tree_over ts → IsGathered ts t
-gathered_more ts t many e = rw e (record {
-  same_breaks = refl;
-  leaves = refl;
-  alone = λ l. absurd (omega arith);
-  more = λ _. refl;
-  width = λ _. refl;
-})

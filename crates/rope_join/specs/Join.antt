@@ -1,8 +1,8 @@
 -- What trees joined and gathered are.
-use Rattle.std.specs.Prelude.{◌≡◌, ◌+◌, ◌^◌, ◌≤◌, ◌<◌, max, List, ◌++◌, length}
+use Rattle.std.specs.Prelude.{◌≡◌, ◌+◌, ◌^◌, ◌≤◌, ◌<◌, max, List, [], ◌∷◌, ◌++◌}
 use Rattle.rope_text.specs.Text.{byte_len}
 use Rattle.rope_tree.specs.Leaves.{AreLeaves, Recuts}
-use Rattle.rope_tree.specs.Tree.{Tree, text, leaves_of, height_of, breaks_of}
+use Rattle.rope_tree.specs.Tree.{Tree, text, leaves_of, breaks_of, leaf_tree, tree_over}
 use Rattle.rope_tree.specs.Siblings.{AreParts}
 
 -- two trees that may stand side by side: of one set of line breaks, no CR at the end of the one before an LF of the other
@@ -27,10 +27,8 @@ pub record IsJoin (left right t : Tree) : Type 0 where
   pub below_left : right.height < left.height → left.width < 24 → t.height ≡ left.height
   pub below_right : left.height < right.height → right.width < 24 → t.height ≡ right.height
 
--- trees side by side as one
-pub record IsGathered (ts : List Tree) (t : Tree) : Type 0 where
-  pub same_breaks : t.breaks ≡ breaks_of ts
-  pub leaves : t.leaves ≡ leaves_of ts
-  pub alone : length ts ≡ 1 → t.height ≡ height_of ts
-  pub more : 2 ≤ length ts → t.height ≡ height_of ts + 1
-  pub width : 2 ≤ length ts → t.width ≡ length ts
+-- trees side by side as one: the only one, or a node over them
+abbrev pub gathered : List Tree → Tree
+gathered [] = leaf_tree (breaks_of []) []
+gathered (t ∷ []) = t
+gathered (t ∷ u ∷ ts) = tree_over (t ∷ u ∷ ts)

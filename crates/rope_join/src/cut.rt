@@ -3,10 +3,8 @@ ghost use Rattle.std.specs.Prelude.{◌≡◌, ◌+◌, ◌-◌, ◌*◌, ◌<�
 ghost use Rattle.rope_tree.specs.Tree.{text};
 ghost use Rattle.rope_join.specs.Cut.{IsFront, IsBack};
 
-use crate::gather::gather;
-use crate::join::join;
+use crate::join::{join_before, join_behind};
 use rope_text::Steps;
-use rope_tree::children::share;
 use rope_tree::insert::leaf_of;
 use rope_tree::lookup::total_before;
 use rope_tree::node::{Node, View};
@@ -24,7 +22,7 @@ pub fn front(alloc: Global, node: &Node, at: usize, made: &mut u64) -> Result<No
 {
     let _ = node.height();
     if at == node.info().chars {
-        return share(node);
+        return node.share();
     }
     match node.view() {
         View::Leaf(leaf) => {
@@ -39,8 +37,7 @@ pub fn front(alloc: Global, node: &Node, at: usize, made: &mut u64) -> Result<No
             if place == 0 {
                 return Ok(part);
             }
-            let left = gather(alloc, &children[..place], made)?;
-            Ok(join(alloc, &left, &part, made)?)
+            Ok(join_behind(alloc, &children[..place], &part, made)?)
         }
     }
 }
@@ -54,7 +51,7 @@ pub fn back(alloc: Global, node: &Node, at: usize, made: &mut u64) -> Result<Nod
 {
     let _ = node.height();
     if at == 0 {
-        return share(node);
+        return node.share();
     }
     match node.view() {
         View::Leaf(leaf) => {
@@ -69,8 +66,8 @@ pub fn back(alloc: Global, node: &Node, at: usize, made: &mut u64) -> Result<Nod
             if place + 1 == children.len() {
                 return Ok(part);
             }
-            let right = gather(alloc, &children[place + 1..], made)?;
-            Ok(join(alloc, &part, &right, made)?)
+            let after = &children[place + 1..];
+            Ok(join_before(alloc, &part, after, made)?)
         }
     }
 }

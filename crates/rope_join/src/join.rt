@@ -1,13 +1,14 @@
 //! Two trees as one.
 ghost use Rattle.std.specs.Prelude.{◌≡◌, ◌+◌, ◌-◌, ◌*◌, ◌<◌, ◌≤◌, [], ◌∷◌, ◌++◌, length, IfOk};
 ghost use Rattle.rope_text.specs.Text.{byte_len};
+ghost use Rattle.rope_tree.specs.Tree.{height_of, breaks_of};
 ghost use Rattle.rope_tree.specs.View.{trees_in};
-ghost use Rattle.rope_join.specs.Join.{CanJoin, IsUnion, IsJoin};
+ghost use Rattle.rope_tree.specs.Siblings.{AreSiblings};
+ghost use Rattle.rope_join.specs.Join.{CanJoin, IsUnion, IsJoin, gathered};
 
-use crate::gather::both;
 use rope_text::{MAX_BYTES, MAX_CHILDREN, MIN_BYTES, MIN_CHILDREN};
-use rope_tree::children::{pack, pair, share, splice};
-use rope_tree::node::{Node, Nodes, View, make_inner, make_leaf};
+use rope_tree::node::row::{make_over, pack, pack_over};
+use rope_tree::node::{Node, Nodes, View, make_leaf};
 use rope_tree::node_text::NodeText;
 use rope_tree::short_text::ShortText;
 use std::alloc::{AllocError, Global};
@@ -26,7 +27,7 @@ fn joined_text(first: &ShortText<'_>, second: &ShortText<'_>) -> NodeText
 fn keep(left: &Node, right: &Node) -> Result<Nodes, AllocError>
     ensures { IfOk result (λ nodes. trees_in nodes ≡ left.now ∷ right.now ∷ []) }
 {
-    Ok(Nodes::Two(share(left)?, share(right)?))
+    Ok(Nodes::Two(left.share()?, right.share()?))
 }
 
 /// Two trees of one height as one tree or two. Leaves become one where they fit in it and one of them is short; other
@@ -66,8 +67,7 @@ fn merge(alloc: Global, left: &Node, right: &Node, made: &mut u64) -> Result<Nod
             {
                 return Ok(keep(left, right)?);
             }
-            let nodes = both(alloc, first, second)?;
-            Ok(pack(alloc, nodes, made)?)
+            Ok(pack_over(alloc, &[], first, second, made)?)
         }
     }
 }
@@ -88,16 +88,14 @@ fn unite(alloc: Global, left: &Node, right: &Node, made: &mut u64) -> Result<Nod
         };
         let last = children.len() - 1;
         let middle = unite(alloc, &children[last], right, made)?;
-        let nodes = splice(alloc, &children[..last], middle, &[])?;
-        return Ok(pack(alloc, nodes, made)?);
+        return Ok(pack(alloc, &children[..last], middle, &[], made)?);
     }
     if left_height < right_height {
         let View::Inner(children, _) = right.view() else {
             unreachable!()
         };
         let middle = unite(alloc, left, &children[0], made)?;
-        let nodes = splice(alloc, &[], middle, &children[1..])?;
-        return Ok(pack(alloc, nodes, made)?);
+        return Ok(pack(alloc, &[], middle, &children[1..], made)?);
     }
     Ok(merge(alloc, left, right, made)?)
 }
@@ -112,16 +110,69 @@ pub fn join(alloc: Global, left: &Node, right: &Node, made: &mut u64) -> Result<
     let _ = left.height();
     let _ = right.height();
     if right.info().bytes == 0 {
-        return Ok(share(left)?);
+        return Ok(left.share()?);
     }
     if left.info().bytes == 0 {
-        return Ok(share(right)?);
+        return Ok(right.share()?);
     }
     match unite(alloc, left, right, made)? {
         Nodes::One(node) => Ok(node),
-        Nodes::Two(first, second) => {
-            let nodes = pair(alloc, first, second)?;
-            Ok(make_inner(alloc, nodes, made)?)
-        }
+        Nodes::Two(first, second) => { Ok(make_over(alloc, &[], &[first, second], &[], made)?) }
+    }
+}
+
+/// Nodes side by side and behind them a tree that is no higher, as one tree: as `join` makes it of the only one of them, or of a
+/// node over them, which isn't made.
+pub fn join_behind(
+    alloc: Global,
+    nodes: &[Node],
+    right: &Node,
+    made: &mut u64,
+) -> Result<Node, AllocError>
+    requires siblings { AreSiblings (breaks_of nodes.now) (height_of nodes.now) nodes.now }
+    requires some { 1 ≤ length nodes.now }
+    requires at_most_24 { length nodes.now ≤ 24 }
+    requires right_some { 1 ≤ length right.now.leaves }
+    requires no_higher { right.now.height ≤ height_of nodes.now }
+    requires join { CanJoin (gathered nodes.now) right.now }
+    ensures join { IfOk result (λ node. IsJoin (gathered nodes.now) right.now node) }
+    ensures made_ok { IfOk result (λ node. made.new + 2 * right.now.height ≤ made.old + 2 * node.height + 3) }
+    ensures made { made.new ≤ made.old + 2 * (height_of nodes.now - right.now.height) + 5 }
+{
+    let last = nodes.len() - 1;
+    if last == 0 {
+        return Ok(join(alloc, &nodes[0], right, made)?);
+    }
+    let middle = unite(alloc, &nodes[last], right, made)?;
+    match pack(alloc, &nodes[..last], middle, &[], made)? {
+        Nodes::One(node) => Ok(node),
+        Nodes::Two(first, second) => Ok(make_over(alloc, &[], &[first, second], &[], made)?),
+    }
+}
+
+/// The same with the tree before the nodes.
+pub fn join_before(
+    alloc: Global,
+    left: &Node,
+    nodes: &[Node],
+    made: &mut u64,
+) -> Result<Node, AllocError>
+    requires siblings { AreSiblings (breaks_of nodes.now) (height_of nodes.now) nodes.now }
+    requires some { 1 ≤ length nodes.now }
+    requires at_most_24 { length nodes.now ≤ 24 }
+    requires left_some { 1 ≤ length left.now.leaves }
+    requires no_higher { left.now.height ≤ height_of nodes.now }
+    requires join { CanJoin left.now (gathered nodes.now) }
+    ensures join { IfOk result (λ node. IsJoin left.now (gathered nodes.now) node) }
+    ensures made_ok { IfOk result (λ node. made.new + 2 * left.now.height ≤ made.old + 2 * node.height + 3) }
+    ensures made { made.new ≤ made.old + 2 * (height_of nodes.now - left.now.height) + 5 }
+{
+    if nodes.len() == 1 {
+        return Ok(join(alloc, left, &nodes[0], made)?);
+    }
+    let middle = unite(alloc, left, &nodes[0], made)?;
+    match pack(alloc, &[], middle, &nodes[1..], made)? {
+        Nodes::One(node) => Ok(node),
+        Nodes::Two(first, second) => Ok(make_over(alloc, &[], &[first, second], &[], made)?),
     }
 }

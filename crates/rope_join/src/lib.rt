@@ -3,6 +3,5 @@
 
 pub mod cut;
 pub mod edit;
-pub mod gather;
 pub mod join;
 pub mod part;

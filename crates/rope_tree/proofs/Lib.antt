@@ -2,6 +2,7 @@ pub mod LeafCounts
 pub mod LeafLaws
 pub mod TreeLaws
 pub mod Halving
+pub mod RowLaws
 pub mod ShortTexts
 pub mod TotalsKept
 pub mod Retotals

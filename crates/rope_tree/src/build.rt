@@ -4,9 +4,9 @@ ghost use Rattle.std.specs.Str.{chars};
 ghost use Rattle.rope_tree.specs.Tree.{text, joined, leaves_of, height_of, breaks_of, IsTree};
 ghost use Rattle.rope_tree.specs.Siblings.{AreSiblings};
 
-use crate::children::{copied, share};
 use crate::insert::leaf_of;
-use crate::node::{Node, make_inner};
+use crate::node::Node;
+use crate::node::row::make_over;
 use crate::node_text::{NodeText, first_leaf_len};
 use rope_text::{LineBreaks, MAX_BYTES, MAX_CHILDREN};
 use std::alloc::{AllocError, Global};
@@ -65,8 +65,7 @@ fn level_over(alloc: Global, nodes: &[Node], made: &mut u64) -> Result<Vec<Node>
     let mut rest = nodes;
     while groups > 0 {
         let len = group_len(rest.len(), groups);
-        let children = copied(alloc, &rest[..len])?;
-        level.push(make_inner(alloc, children, made)?)?;
+        level.push(make_over(alloc, &[], &[], &rest[..len], made)?)?;
         rest = &rest[len..];
         groups -= 1;
     }
@@ -87,10 +86,9 @@ pub(crate) fn root_over(alloc: Global, nodes: Vec<Node>, made: &mut u64) -> Resu
         level = level_over(alloc, &level, made)?;
     }
     if level.len() == 1 {
-        Ok(share(&level[0])?)
-    } else {
-        Ok(make_inner(alloc, level, made)?)
+        return Ok(level[0].share()?);
     }
+    Ok(make_over(alloc, &[], &[], &level, made)?)
 }
 
 /// A tree of this text, built from the bottom: leaves cut in order, then nodes of 12 to 24 children level by level.

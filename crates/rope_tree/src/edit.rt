@@ -8,11 +8,11 @@ ghost use Rattle.rope_tree.specs.Tree.{text, IsTree};
 ghost use Rattle.rope_tree.specs.View.{trees_in};
 ghost use Rattle.rope_tree.specs.Insert.{MayInsert, IsInserted};
 
-use crate::children::pair;
 use crate::counts::ends_in_cr;
 use crate::insert::insert;
 use crate::lookup::char_at;
-use crate::node::{Node, Nodes, make_inner};
+use crate::node::row::make_over;
+use crate::node::{Node, Nodes};
 use crate::short_text::ShortText;
 use rope_text::Steps;
 use std::alloc::{AllocError, Global};
@@ -95,8 +95,7 @@ fn root_of(
     match nodes {
         Nodes::One(node) => Ok(node),
         Nodes::Two(first, second) => {
-            let both = pair(alloc, first, second)?;
-            let node = make_inner(alloc, both, made)?;
+            let node = make_over(alloc, &[], &[first, second], &[], made)?;
             Ok(node)
         }
     }

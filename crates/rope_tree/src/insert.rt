@@ -9,9 +9,9 @@ ghost use Rattle.rope_tree.specs.Totals.{HasTotals};
 ghost use Rattle.rope_tree.specs.View.{trees_in};
 ghost use Rattle.rope_tree.specs.Insert.{MayInsert, IsInserted};
 
-use crate::children::{pack, splice};
 use crate::counts::info_with;
 use crate::lookup::total_before;
+use crate::node::row::pack;
 use crate::node::{Node, Nodes, View, make_leaf};
 use crate::node_text::NodeText;
 use crate::search::{Unit, char_to_hold, place_of};
@@ -94,10 +94,10 @@ pub fn insert(
         View::Inner(children, totals) => {
             let held = char_to_hold(at, to_right);
             let place = place_of(totals, Unit::Char, held, &mut Steps::new());
-            let before = total_before(totals, place).chars;
-            let middle = insert(alloc, &children[place], at - before, added, to_right, made)?;
-            let nodes = splice(alloc, &children[..place], middle, &children[place + 1..])?;
-            Ok(pack(alloc, nodes, made)?)
+            let front = total_before(totals, place).chars;
+            let middle = insert(alloc, &children[place], at - front, added, to_right, made)?;
+            let before = &children[..place];
+            Ok(pack(alloc, before, middle, &children[place + 1..], made)?)
         }
     }
 }

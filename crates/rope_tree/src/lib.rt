@@ -3,7 +3,6 @@
 
 pub mod build;
 pub mod builder;
-pub mod children;
 pub mod chunk_lookup;
 pub mod conversions;
 pub mod counts;

@@ -19,6 +19,7 @@ use std::rc::Rc;
 mod in_place;
 mod in_place_cut;
 mod in_place_removal;
+pub mod row;
 
 /// A node of a rope's tree, with the whole tree below it.
 #[cycle(tree)]
@@ -124,22 +125,6 @@ impl Children {
     {
         self.totals.get(self.totals.len() - 1)
     }
-
-    /// The list of the nodes, with their totals.
-    fn from_nodes(nodes: Vec<Node>) -> Children
-        requires { AreChildren (breaks_of nodes.items) (height_of nodes.items) nodes.items }
-        ensures { result ≡ nodes.items }
-    {
-        let height = (nodes[0].height() + 1) as u8;
-        let breaks = nodes[0].line_breaks();
-        let totals = totals_of(nodes.as_slice());
-        Children {
-            height,
-            breaks,
-            totals,
-            nodes: in_places(nodes),
-        }
-    }
 }
 
 /// For each of the nodes the counts of all nodes up to and with it.
@@ -154,17 +139,6 @@ fn totals_of(nodes: &[Node]) -> Totals
         totals.push(total);
     }
     totals
-}
-
-/// The nodes in the first of 24 places, with empty ones in the others.
-fn in_places(mut nodes: Vec<Node>) -> [Node; 24]
-    requires { length nodes.items ≤ 24 }
-    ensures nodes { take (length nodes.items) result ≡ nodes.items }
-    ensures others { All IsFlat (drop (length nodes.items) result) }
-{
-    let mut places: [Node; 24] = Default::default();
-    places[..nodes.len()].swap_with_slice(nodes.as_mut_slice());
-    places
 }
 
 impl Default for Node {
@@ -291,18 +265,4 @@ pub fn make_leaf(
     let node = Node { form };
     let _ = node.height();
     Ok(node)
-}
-
-/// A node over the children.
-pub fn make_inner(alloc: Global, children: Vec<Node>, made: &mut u64) -> Result<Node, AllocError>
-    requires { AreChildren (breaks_of children.items) (height_of children.items) children.items }
-    ensures ok { IfOk result (λ node. node ≡ tree_over children.items) }
-    ensures made { made.new ≤ made.old + 1 }
-    ensures added { made.old < 18446744073709551615 → made.new ≡ made.old + 1 }
-    ensures rises { made.old ≤ made.new }
-{
-    add_made(made);
-    let children = Children::from_nodes(children);
-    let form = Form::Inner(Rc::new(alloc, children)?);
-    Ok(Node { form })
 }

@@ -5,10 +5,10 @@ ghost use Rattle.rope_text.specs.Edit.{removed};
 ghost use Rattle.rope_tree.specs.Tree.{text, leaf_tree, IsTree};
 ghost use Rattle.rope_tree.specs.Removal.{IsRemoved};
 
-use crate::children::splice;
 use crate::counts::take_out;
 use crate::lookup::total_before;
-use crate::node::{Node, Nodes, View, make_inner, make_leaf};
+use crate::node::row::make_over;
+use crate::node::{Node, View, make_leaf};
 use crate::node_text::NodeText;
 use crate::search::{Unit, place_of};
 use crate::short_text::ShortText;
@@ -64,14 +64,14 @@ pub fn without(
             if totals.get(place).chars < end {
                 return Ok(None);
             }
-            let before = total_before(totals, place).chars;
+            let front = total_before(totals, place).chars;
             let child = &children[place];
-            let Some(middle) = without(alloc, child, start - before, end - before, made)? else {
+            let Some(middle) = without(alloc, child, start - front, end - front, made)? else {
                 return Ok(None);
             };
-            let middle = Nodes::One(middle);
-            let nodes = splice(alloc, &children[..place], middle, &children[place + 1..])?;
-            Ok(Some(make_inner(alloc, nodes, made)?))
+            let before = &children[..place];
+            let after = &children[place + 1..];
+            Ok(Some(make_over(alloc, before, &[middle], after, made)?))
         }
     }
 }

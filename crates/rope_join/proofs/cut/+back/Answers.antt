@@ -1,11 +1,12 @@
-use Rattle.std.proofs.Common.{◌≡◌, ℕ, ◌+◌, ◌-◌, ◌<◌, length, take, drop, ap, arith}
+use Rattle.std.proofs.Common.{◌≡◌, ℕ, ◌+◌, ◌-◌, ◌<◌, ◌≤◌, length, take, drop, ap, arith}
 use Rattle.std.proofs.lemmas.List.{length-drop}
 use Rattle.rope_tree.specs.declared.search.Unit.TheVariants.{Char}
 use Rattle.rope_tree.specs.Tree.{text, joined, height_of, breaks_of}
 use Rattle.rope_tree.proofs.NodeLaws.{small_totals}
 use Rattle.rope_tree.proofs.Descents.{Descends, descends}
-use Rattle.rope_join.specs.Join.{IsGathered}
-use Rattle.rope_join.proofs.Cuts.{CutsAt, cuts_at, back_alone, after_siblings, back_can_join, back_joined, gathered_least, gathered_most, back_trees}
+use Rattle.rope_join.specs.Join.{gathered}
+use Rattle.rope_join.proofs.Cuts.{CutsAt, cuts_at, back_alone, after_siblings, some_back, back_can_join, back_joined, after_height, back_trees}
+use Rattle.rope_join.proofs.Gathered.{IsGathered, is_gathered}
 use Rattle.rope_join.proofs.cut.+back.Goals.{After-index-children-place}
 use Rattle.rope_join.proofs.cut.+back.Goals as goal
 
@@ -71,56 +72,64 @@ returns-then-place-children-clause-made t c =
     let e = (goal.at.returns-then-place-children-clause-made t c).After-index-children-place in
     omega (arith, (parts t e).above, c.in_ok-part-in-Inner.ensures.made)
 
-pub gather-requires-clause-siblings : goal.gather-requires-clause-siblings
-gather-requires-clause-siblings t c =
-    let e = (goal.at.gather-requires-clause-siblings t c).After-index-children-place in
-    rw (back_trees c.in-Inner.children.now (c.place_of-place.result + 1)) (after_siblings _ _ _ _ (parts t e) (omega (arith, many t e, c.if-place-children.false, c.place_of-place.ensures.within, c.in-Inner.ensures.totals_right.as_many)))
+some : (t : ℕ) (c : After-index-children-place t) → (c.place_of-place.result + 1 ≡ length c.in-Inner.children.now → ⊥) → 1 ≤ length (drop (c.place_of-place.result + 1) c.in-Inner.children.now)
+some t c past = let d = down t c in omega (arith, many t c, past, d.within)
 
-pub returns-in_err-right-in-Inner-clause-made : goal.returns-in_err-right-in-Inner-clause-made
-returns-in_err-right-in-Inner-clause-made t c =
-    let e = (goal.at.returns-in_err-right-in-Inner-clause-made t c).After-index-children-place in
-    omega (arith, (parts t e).above, c.in_ok-part-in-Inner.ensures.made, c.gather.ensures.made)
+after : (t : ℕ) (c : After-index-children-place t) → (c.place_of-place.result + 1 ≡ length c.in-Inner.children.now → ⊥)
+    → IsGathered (drop (c.place_of-place.result + 1) c.in-Inner.children.now) (gathered (drop (c.place_of-place.result + 1) c.in-Inner.children.now))
+after t c past = is_gathered _ (some t c past)
 
-pub join-requires : goal.join-requires
-join-requires t c =
-    let e = (goal.at.join-requires t c).After-index-children-place in
+height : (t : ℕ) (c : After-index-children-place t) → (c.place_of-place.result + 1 ≡ length c.in-Inner.children.now → ⊥)
+    → height_of (drop (c.place_of-place.result + 1) c.in-Inner.children.now) ≡ c.index-children-place.result.height
+height t c past = after_height _ _ _ _ (parts t c) (some t c past)
+
+pub join_before-requires-clause-siblings : goal.join_before-requires-clause-siblings
+join_before-requires-clause-siblings t c =
+    let e = (goal.at.join_before-requires-clause-siblings t c).After-index-children-place in
+    rw (back_trees c.in-Inner.children.now (c.place_of-place.result + 1)) (after_siblings _ _ _ _ (parts t e) (some t e c.if-place-children.false))
+
+pub join_before-requires-clause-some : goal.join_before-requires-clause-some
+join_before-requires-clause-some t c =
+    let e = (goal.at.join_before-requires-clause-some t c).After-index-children-place in
+    rw (back_trees c.in-Inner.children.now (c.place_of-place.result + 1)) (some t e c.if-place-children.false)
+
+pub join_before-requires-clause-left_some : goal.join_before-requires-clause-left_some
+join_before-requires-clause-left_some t c =
+    let e = (goal.at.join_before-requires-clause-left_some t c).After-index-children-place in
+    some_back _ c.index-children-place.result c.in_ok-part-in-Inner.part (inside t e) c.in_ok-part-in-Inner.ensures.back
+
+pub join_before-requires-clause-no_higher : goal.join_before-requires-clause-no_higher
+join_before-requires-clause-no_higher t c =
+    let e = (goal.at.join_before-requires-clause-no_higher t c).After-index-children-place in
+    rw (back_trees c.in-Inner.children.now (c.place_of-place.result + 1)) (omega (arith, height t e c.if-place-children.false, c.in_ok-part-in-Inner.ensures.back.not_higher))
+
+pub join_before-requires-clause-join : goal.join_before-requires-clause-join
+join_before-requires-clause-join t c =
+    let e = (goal.at.join_before-requires-clause-join t c).After-index-children-place in
     let less = inside t e in
-    let g : IsGathered (drop (c.place_of-place.result + 1) c.in-Inner.children.now) c.in_ok-right-in-Inner.right = rw (back_trees c.in-Inner.children.now (c.place_of-place.result + 1)) at c.in_ok-right-in-Inner.ensures.ok in
-    back_can_join _ _ _ _ (parts t e) c.args.at _ _ (place t e) (omega (arith, less)) _ (omega (arith, many t e, c.if-place-children.false, c.place_of-place.ensures.within, c.in-Inner.ensures.totals_right.as_many)) g c.in_ok-part-in-Inner.ensures.back
+    rw (back_trees c.in-Inner.children.now (c.place_of-place.result + 1))
+    (back_can_join _ _ _ _ (parts t e) c.args.at _ _ (place t e) (omega (arith, less)) _ (some t e c.if-place-children.false) (after t e c.if-place-children.false) c.in_ok-part-in-Inner.ensures.back)
 
-pub returns-in_err-join-in-Inner-clause-made : goal.returns-in_err-join-in-Inner-clause-made
-returns-in_err-join-in-Inner-clause-made t c =
-    let e = (goal.at.returns-in_err-join-in-Inner-clause-made t c).After-index-children-place in
-    let g : IsGathered (drop (c.place_of-place.result + 1) c.in-Inner.children.now) c.in_ok-right-in-Inner.right = rw (back_trees c.in-Inner.children.now (c.place_of-place.result + 1)) at c.in_ok-right-in-Inner.ensures.ok in
-    let s = parts t e in
-    let low = gathered_least _ _ _ _ s.after (omega (arith, many t e, c.if-place-children.false, c.place_of-place.ensures.within, c.in-Inner.ensures.totals_right.as_many)) g in
-    let high = gathered_most _ _ _ _ s.after (omega (arith, many t e, c.if-place-children.false, c.place_of-place.ensures.within, c.in-Inner.ensures.totals_right.as_many)) g in
+pub returns-in_err-join_before-in-Inner-clause-made : goal.returns-in_err-join_before-in-Inner-clause-made
+returns-in_err-join_before-in-Inner-clause-made t c =
+    let e = (goal.at.returns-in_err-join_before-in-Inner-clause-made t c).After-index-children-place in
     let part = c.in_ok-part-in-Inner.ensures.back.not_higher in
-    omega (arith, s.above, c.in_ok-part-in-Inner.ensures.made_ok, c.in_ok-right-in-Inner.ensures.made, c.join.ensures.made)
+    omega (arith, (parts t e).above, height t e c.if-place-children.false, c.in_ok-part-in-Inner.ensures.made_ok, rw (back_trees c.in-Inner.children.now (c.place_of-place.result + 1)) at c.join_before.ensures.made)
 
-pub returns-in_ok-join-in-Inner-clause-back : goal.returns-in_ok-join-in-Inner-clause-back
-returns-in_ok-join-in-Inner-clause-back t c =
-    let e = (goal.at.returns-in_ok-join-in-Inner-clause-back t c).After-index-children-place in
+pub returns-in_ok-join_before-in-Inner-clause-back : goal.returns-in_ok-join_before-in-Inner-clause-back
+returns-in_ok-join_before-in-Inner-clause-back t c =
+    let e = (goal.at.returns-in_ok-join_before-in-Inner-clause-back t c).After-index-children-place in
     let less = inside t e in
-    let g : IsGathered (drop (c.place_of-place.result + 1) c.in-Inner.children.now) c.in_ok-right-in-Inner.right = rw (back_trees c.in-Inner.children.now (c.place_of-place.result + 1)) at c.in_ok-right-in-Inner.ensures.ok in
-    back_joined _ _ _ _ (parts t e) c.args.at _ _ (place t e) (omega (arith, less)) _ (omega (arith, many t e, c.if-place-children.false, c.place_of-place.ensures.within, c.in-Inner.ensures.totals_right.as_many)) g c.in_ok-part-in-Inner.ensures.back _ c.in_ok-join-in-Inner.ensures.join
+    back_joined _ _ _ _ (parts t e) c.args.at _ _ (place t e) (omega (arith, less)) _ (some t e c.if-place-children.false) (after t e c.if-place-children.false) c.in_ok-part-in-Inner.ensures.back _
+    (rw (back_trees c.in-Inner.children.now (c.place_of-place.result + 1)) at c.in_ok-join_before-in-Inner.ensures.join)
 
-pub returns-in_ok-join-in-Inner-clause-made_ok : goal.returns-in_ok-join-in-Inner-clause-made_ok
-returns-in_ok-join-in-Inner-clause-made_ok t c =
-    let e = (goal.at.returns-in_ok-join-in-Inner-clause-made_ok t c).After-index-children-place in
-    let g : IsGathered (drop (c.place_of-place.result + 1) c.in-Inner.children.now) c.in_ok-right-in-Inner.right = rw (back_trees c.in-Inner.children.now (c.place_of-place.result + 1)) at c.in_ok-right-in-Inner.ensures.ok in
-    let s = parts t e in
-    let low = gathered_least _ _ _ _ s.after (omega (arith, many t e, c.if-place-children.false, c.place_of-place.ensures.within, c.in-Inner.ensures.totals_right.as_many)) g in
-    let high = gathered_most _ _ _ _ s.after (omega (arith, many t e, c.if-place-children.false, c.place_of-place.ensures.within, c.in-Inner.ensures.totals_right.as_many)) g in
-    let part = c.in_ok-part-in-Inner.ensures.back.not_higher in
-    omega (arith, s.above, c.in_ok-part-in-Inner.ensures.made_ok, c.in_ok-right-in-Inner.ensures.made, c.in_ok-join-in-Inner.ensures.made, c.in_ok-join-in-Inner.ensures.join.least)
+pub returns-in_ok-join_before-in-Inner-clause-made_ok : goal.returns-in_ok-join_before-in-Inner-clause-made_ok
+returns-in_ok-join_before-in-Inner-clause-made_ok t c =
+    let e = (goal.at.returns-in_ok-join_before-in-Inner-clause-made_ok t c).After-index-children-place in
+    omega (arith, (parts t e).above, c.in_ok-part-in-Inner.ensures.made_ok, c.in_ok-join_before-in-Inner.ensures.made_ok)
 
-pub returns-in_ok-join-in-Inner-clause-made : goal.returns-in_ok-join-in-Inner-clause-made
-returns-in_ok-join-in-Inner-clause-made t c =
-    let e = (goal.at.returns-in_ok-join-in-Inner-clause-made t c).After-index-children-place in
-    let g : IsGathered (drop (c.place_of-place.result + 1) c.in-Inner.children.now) c.in_ok-right-in-Inner.right = rw (back_trees c.in-Inner.children.now (c.place_of-place.result + 1)) at c.in_ok-right-in-Inner.ensures.ok in
-    let s = parts t e in
-    let low = gathered_least _ _ _ _ s.after (omega (arith, many t e, c.if-place-children.false, c.place_of-place.ensures.within, c.in-Inner.ensures.totals_right.as_many)) g in
-    let high = gathered_most _ _ _ _ s.after (omega (arith, many t e, c.if-place-children.false, c.place_of-place.ensures.within, c.in-Inner.ensures.totals_right.as_many)) g in
+pub returns-in_ok-join_before-in-Inner-clause-made : goal.returns-in_ok-join_before-in-Inner-clause-made
+returns-in_ok-join_before-in-Inner-clause-made t c =
+    let e = (goal.at.returns-in_ok-join_before-in-Inner-clause-made t c).After-index-children-place in
     let part = c.in_ok-part-in-Inner.ensures.back.not_higher in
-    omega (arith, s.above, c.in_ok-part-in-Inner.ensures.made_ok, c.in_ok-right-in-Inner.ensures.made, c.in_ok-join-in-Inner.ensures.made)
+    omega (arith, (parts t e).above, height t e c.if-place-children.false, c.in_ok-part-in-Inner.ensures.made_ok, rw (back_trees c.in-Inner.children.now (c.place_of-place.result + 1)) at c.in_ok-join_before-in-Inner.ensures.made)

@@ -4,8 +4,9 @@ use Rattle.rope_tree.specs.declared.search.Unit.TheVariants.{Char}
 use Rattle.rope_tree.specs.Tree.{text, joined, height_of, breaks_of}
 use Rattle.rope_tree.proofs.NodeLaws.{small_totals}
 use Rattle.rope_tree.proofs.Descents.{Descends, descends}
-use Rattle.rope_join.specs.Join.{IsGathered}
-use Rattle.rope_join.proofs.Cuts.{CutsAt, cuts_at, front_alone, before_siblings, front_can_join, front_joined, gathered_least, gathered_most}
+use Rattle.rope_join.specs.Join.{gathered}
+use Rattle.rope_join.proofs.Cuts.{CutsAt, cuts_at, front_alone, before_siblings, some_front, front_can_join, front_joined, before_height}
+use Rattle.rope_join.proofs.Gathered.{IsGathered, is_gathered}
 use Rattle.rope_join.proofs.cut.+front.Goals.{After-index-children-place}
 use Rattle.rope_join.proofs.cut.+front.Goals as goal
 
@@ -59,54 +60,57 @@ returns-then-place-eq0-clause-front t c =
     let e = (goal.at.returns-then-place-eq0-clause-front t c).After-index-children-place in
     front_alone _ _ _ _ (parts t e) c.args.at _ _ (place t e) (inside t e) (omega (arith, many t e, c.if-place-eq0.true)) c.in_ok-part-in-Inner.ensures.front
 
-pub gather-requires-clause-siblings : goal.gather-requires-clause-siblings
-gather-requires-clause-siblings t c =
-    let e = (goal.at.gather-requires-clause-siblings t c).After-index-children-place in
-    (before_siblings _ _ _ _ (parts t e) (omega (arith, many t e, c.if-place-eq0.false)))
+some : (t : ℕ) (c : After-index-children-place t) → (c.place_of-place.result ≡ 0 → ⊥) → 1 ≤ length (take c.place_of-place.result c.in-Inner.children.now)
+some t c past = omega (arith, many t c, past)
 
-pub returns-in_err-left-in-Inner-clause-made : goal.returns-in_err-left-in-Inner-clause-made
-returns-in_err-left-in-Inner-clause-made t c =
-    let e = (goal.at.returns-in_err-left-in-Inner-clause-made t c).After-index-children-place in
-    omega (arith, (parts t e).above, c.in_ok-part-in-Inner.ensures.made, c.gather.ensures.made)
+before : (t : ℕ) (c : After-index-children-place t) → (c.place_of-place.result ≡ 0 → ⊥) → IsGathered (take c.place_of-place.result c.in-Inner.children.now) (gathered (take c.place_of-place.result c.in-Inner.children.now))
+before t c past = is_gathered _ (some t c past)
 
-pub join-requires : goal.join-requires
-join-requires t c =
-    let e = (goal.at.join-requires t c).After-index-children-place in
-    let g : IsGathered (take c.place_of-place.result c.in-Inner.children.now) c.in_ok-left-in-Inner.left = c.in_ok-left-in-Inner.ensures.ok in
-    front_can_join _ _ _ _ (parts t e) c.args.at _ _ (place t e) (inside t e) _ (omega (arith, many t e, c.if-place-eq0.false)) g c.in_ok-part-in-Inner.ensures.front
+height : (t : ℕ) (c : After-index-children-place t) → (c.place_of-place.result ≡ 0 → ⊥) → height_of (take c.place_of-place.result c.in-Inner.children.now) ≡ c.index-children-place.result.height
+height t c past = before_height _ _ _ _ (parts t c) (some t c past)
 
-pub returns-in_err-join-in-Inner-clause-made : goal.returns-in_err-join-in-Inner-clause-made
-returns-in_err-join-in-Inner-clause-made t c =
-    let e = (goal.at.returns-in_err-join-in-Inner-clause-made t c).After-index-children-place in
-    let g : IsGathered (take c.place_of-place.result c.in-Inner.children.now) c.in_ok-left-in-Inner.left = c.in_ok-left-in-Inner.ensures.ok in
-    let s = parts t e in
-    let low = gathered_least _ _ _ _ s.before (omega (arith, many t e, c.if-place-eq0.false)) g in
-    let high = gathered_most _ _ _ _ s.before (omega (arith, many t e, c.if-place-eq0.false)) g in
+pub join_behind-requires-clause-siblings : goal.join_behind-requires-clause-siblings
+join_behind-requires-clause-siblings t c =
+    let e = (goal.at.join_behind-requires-clause-siblings t c).After-index-children-place in
+    before_siblings _ _ _ _ (parts t e) (some t e c.if-place-eq0.false)
+
+pub join_behind-requires-clause-some : goal.join_behind-requires-clause-some
+join_behind-requires-clause-some t c = some t (goal.at.join_behind-requires-clause-some t c).After-index-children-place c.if-place-eq0.false
+
+pub join_behind-requires-clause-right_some : goal.join_behind-requires-clause-right_some
+join_behind-requires-clause-right_some t c =
+    let e = (goal.at.join_behind-requires-clause-right_some t c).After-index-children-place in
+    let d = down t e in
+    some_front _ c.index-children-place.result c.in_ok-part-in-Inner.part (omega (arith, d.not_past, c.requires.some)) (inside t e) c.in_ok-part-in-Inner.ensures.front
+
+pub join_behind-requires-clause-no_higher : goal.join_behind-requires-clause-no_higher
+join_behind-requires-clause-no_higher t c =
+    let e = (goal.at.join_behind-requires-clause-no_higher t c).After-index-children-place in
+    omega (arith, height t e c.if-place-eq0.false, c.in_ok-part-in-Inner.ensures.front.not_higher)
+
+pub join_behind-requires-clause-join : goal.join_behind-requires-clause-join
+join_behind-requires-clause-join t c =
+    let e = (goal.at.join_behind-requires-clause-join t c).After-index-children-place in
+    front_can_join _ _ _ _ (parts t e) c.args.at _ _ (place t e) (inside t e) _ (some t e c.if-place-eq0.false) (before t e c.if-place-eq0.false) c.in_ok-part-in-Inner.ensures.front
+
+pub returns-in_err-join_behind-in-Inner-clause-made : goal.returns-in_err-join_behind-in-Inner-clause-made
+returns-in_err-join_behind-in-Inner-clause-made t c =
+    let e = (goal.at.returns-in_err-join_behind-in-Inner-clause-made t c).After-index-children-place in
     let part = c.in_ok-part-in-Inner.ensures.front.not_higher in
-    omega (arith, s.above, c.in_ok-part-in-Inner.ensures.made_ok, c.in_ok-left-in-Inner.ensures.made, c.join.ensures.made)
+    omega (arith, (parts t e).above, height t e c.if-place-eq0.false, c.in_ok-part-in-Inner.ensures.made_ok, c.join_behind.ensures.made)
 
-pub returns-in_ok-join-in-Inner-clause-front : goal.returns-in_ok-join-in-Inner-clause-front
-returns-in_ok-join-in-Inner-clause-front t c =
-    let e = (goal.at.returns-in_ok-join-in-Inner-clause-front t c).After-index-children-place in
-    let g : IsGathered (take c.place_of-place.result c.in-Inner.children.now) c.in_ok-left-in-Inner.left = c.in_ok-left-in-Inner.ensures.ok in
-    front_joined _ _ _ _ (parts t e) c.args.at _ _ (place t e) (inside t e) _ (omega (arith, many t e, c.if-place-eq0.false)) g c.in_ok-part-in-Inner.ensures.front _ c.in_ok-join-in-Inner.ensures.join
+pub returns-in_ok-join_behind-in-Inner-clause-front : goal.returns-in_ok-join_behind-in-Inner-clause-front
+returns-in_ok-join_behind-in-Inner-clause-front t c =
+    let e = (goal.at.returns-in_ok-join_behind-in-Inner-clause-front t c).After-index-children-place in
+    front_joined _ _ _ _ (parts t e) c.args.at _ _ (place t e) (inside t e) _ (some t e c.if-place-eq0.false) (before t e c.if-place-eq0.false) c.in_ok-part-in-Inner.ensures.front _ c.in_ok-join_behind-in-Inner.ensures.join
 
-pub returns-in_ok-join-in-Inner-clause-made_ok : goal.returns-in_ok-join-in-Inner-clause-made_ok
-returns-in_ok-join-in-Inner-clause-made_ok t c =
-    let e = (goal.at.returns-in_ok-join-in-Inner-clause-made_ok t c).After-index-children-place in
-    let g : IsGathered (take c.place_of-place.result c.in-Inner.children.now) c.in_ok-left-in-Inner.left = c.in_ok-left-in-Inner.ensures.ok in
-    let s = parts t e in
-    let low = gathered_least _ _ _ _ s.before (omega (arith, many t e, c.if-place-eq0.false)) g in
-    let high = gathered_most _ _ _ _ s.before (omega (arith, many t e, c.if-place-eq0.false)) g in
+pub returns-in_ok-join_behind-in-Inner-clause-made_ok : goal.returns-in_ok-join_behind-in-Inner-clause-made_ok
+returns-in_ok-join_behind-in-Inner-clause-made_ok t c =
+    let e = (goal.at.returns-in_ok-join_behind-in-Inner-clause-made_ok t c).After-index-children-place in
+    omega (arith, (parts t e).above, c.in_ok-part-in-Inner.ensures.made_ok, c.in_ok-join_behind-in-Inner.ensures.made_ok)
+
+pub returns-in_ok-join_behind-in-Inner-clause-made : goal.returns-in_ok-join_behind-in-Inner-clause-made
+returns-in_ok-join_behind-in-Inner-clause-made t c =
+    let e = (goal.at.returns-in_ok-join_behind-in-Inner-clause-made t c).After-index-children-place in
     let part = c.in_ok-part-in-Inner.ensures.front.not_higher in
-    omega (arith, s.above, c.in_ok-part-in-Inner.ensures.made_ok, c.in_ok-left-in-Inner.ensures.made, c.in_ok-join-in-Inner.ensures.made, c.in_ok-join-in-Inner.ensures.join.least)
-
-pub returns-in_ok-join-in-Inner-clause-made : goal.returns-in_ok-join-in-Inner-clause-made
-returns-in_ok-join-in-Inner-clause-made t c =
-    let e = (goal.at.returns-in_ok-join-in-Inner-clause-made t c).After-index-children-place in
-    let g : IsGathered (take c.place_of-place.result c.in-Inner.children.now) c.in_ok-left-in-Inner.left = c.in_ok-left-in-Inner.ensures.ok in
-    let s = parts t e in
-    let low = gathered_least _ _ _ _ s.before (omega (arith, many t e, c.if-place-eq0.false)) g in
-    let high = gathered_most _ _ _ _ s.before (omega (arith, many t e, c.if-place-eq0.false)) g in
-    let part = c.in_ok-part-in-Inner.ensures.front.not_higher in
-    omega (arith, s.above, c.in_ok-part-in-Inner.ensures.made_ok, c.in_ok-left-in-Inner.ensures.made, c.in_ok-join-in-Inner.ensures.made)
+    omega (arith, (parts t e).above, height t e c.if-place-eq0.false, c.in_ok-part-in-Inner.ensures.made_ok, c.in_ok-join_behind-in-Inner.ensures.made)

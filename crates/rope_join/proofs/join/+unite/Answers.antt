@@ -1,4 +1,4 @@
-use Rattle.std.proofs.Common.{◌≡◌, ◌++◌, ◌<◌, drop, arith}
+use Rattle.std.proofs.Common.{◌≡◌, ◌++◌, ◌<◌, refl, arith}
 use Rattle.std.proofs.lemmas.List.{append-nil}
 use Rattle.rope_tree.specs.View.{trees_in}
 use Rattle.rope_join.proofs.Unions.{ends_in, begins_in, slice_rest, end_child, end_can_join, end_siblings, end_union, front_child, front_can_join, front_siblings, front_union}
@@ -16,17 +16,11 @@ returns-in_err-middle-clause-made t c =
     let s = ends_in _ _ _ (c.in-Inner.ensures.is) c.in-Inner.ensures.children c.index-children-last.is in
     omega (arith, s.above, c.unite.ensures.made, c.height-left_height.ensures.value, c.height-right_height.ensures.value)
 
-pub returns-in_err-nodes-clause-made : goal.returns-in_err-nodes-clause-made
-returns-in_err-nodes-clause-made t c =
-    let s = ends_in _ _ _ (c.in-Inner.ensures.is) c.in-Inner.ensures.children c.index-children-last.is in
-    omega (arith, s.above, c.in_ok-middle.ensures.made, c.height-left_height.ensures.value, c.height-right_height.ensures.value)
-
 pub pack-requires-clause-siblings : goal.pack-requires-clause-siblings
 pack-requires-clause-siblings t c =
     let s = ends_in _ _ _ (c.in-Inner.ensures.is) c.in-Inner.ensures.children c.index-children-last.is in
     let below : c.args.right.now.height < c.args.left.now.height = omega (arith, c.height-left_height.ensures.value, c.height-right_height.ensures.value) in
-    let n = rw append-nil at c.in_ok-nodes.ensures in
-    rw n (end_siblings _ _ _ _ _ _ s.is s.children s.same_breaks s.height c.requires.join below _ c.in_ok-middle.ensures.union)
+    rw append-nil (end_siblings _ _ _ _ _ _ s.is s.children s.same_breaks s.height c.requires.join below _ c.in_ok-middle.ensures.union)
 
 pub returns-in_err-pack-clause-made : goal.returns-in_err-pack-clause-made
 returns-in_err-pack-clause-made t c =
@@ -37,8 +31,7 @@ pub returns-then-right_height-left_height-clause-union : goal.returns-then-right
 returns-then-right_height-left_height-clause-union t c =
     let s = ends_in _ _ _ (c.in-Inner.ensures.is) c.in-Inner.ensures.children c.index-children-last.is in
     let below : c.args.right.now.height < c.args.left.now.height = omega (arith, c.height-left_height.ensures.value, c.height-right_height.ensures.value) in
-    let n = rw append-nil at c.in_ok-nodes.ensures in
-    end_union _ _ _ _ _ _ s.is s.children s.same_breaks s.height c.requires.join below _ c.in_ok-middle.ensures.union _ (rw n at c.in_ok-pack.ensures.leaves) (rw n at c.in_ok-pack.ensures.shape)
+    end_union _ _ _ _ _ _ s.is s.children s.same_breaks s.height c.requires.join below _ c.in_ok-middle.ensures.union _ (rw append-nil at c.in_ok-pack.ensures.leaves) (rw append-nil at c.in_ok-pack.ensures.shape)
 
 pub returns-then-right_height-left_height-clause-made : goal.returns-then-right_height-left_height-clause-made
 returns-then-right_height-left_height-clause-made t c =
@@ -56,12 +49,12 @@ pub pack-requires-then-left_height-right_height-clause-siblings : goal.pack-requ
 pack-requires-then-left_height-right_height-clause-siblings t c =
     let s = begins_in _ _ _ (c.in-Inner-view.ensures.is) c.in-Inner-view.ensures.children c.index-children-0.is in
     let below : c.args.left.now.height < c.args.right.now.height = omega (arith, c.height-left_height.ensures.value, c.height-right_height.ensures.value) in
-    let e : c.in_ok-nodes-2.nodes.items ≡ trees_in c.in_ok-middle-2.middle ++ (drop 1 c.in-Inner-view.children.now) = slice_rest c.in_ok-nodes-2.nodes.items (trees_in c.in_ok-middle-2.middle) c.in-Inner-view.children.now c.in_ok-nodes-2.ensures in
+    let e = slice_rest _ (trees_in c.in_ok-middle-2.middle) c.in-Inner-view.children.now refl in
     rw e (front_siblings _ _ _ _ _ _ s.is s.children s.same_breaks s.height c.requires.join below _ c.in_ok-middle-2.ensures.union)
 
 pub returns-then-left_height-right_height-clause-union : goal.returns-then-left_height-right_height-clause-union
 returns-then-left_height-right_height-clause-union t c =
     let s = begins_in _ _ _ (c.in-Inner-view.ensures.is) c.in-Inner-view.ensures.children c.index-children-0.is in
     let below : c.args.left.now.height < c.args.right.now.height = omega (arith, c.height-left_height.ensures.value, c.height-right_height.ensures.value) in
-    let e : c.in_ok-nodes-2.nodes.items ≡ trees_in c.in_ok-middle-2.middle ++ (drop 1 c.in-Inner-view.children.now) = slice_rest c.in_ok-nodes-2.nodes.items (trees_in c.in_ok-middle-2.middle) c.in-Inner-view.children.now c.in_ok-nodes-2.ensures in
+    let e = slice_rest _ (trees_in c.in_ok-middle-2.middle) c.in-Inner-view.children.now refl in
     front_union _ _ _ _ _ _ s.is s.children s.same_breaks s.height c.requires.join below _ c.in_ok-middle-2.ensures.union _ (rw e at c.in_ok-pack-2.ensures.leaves) (rw e at c.in_ok-pack-2.ensures.shape)

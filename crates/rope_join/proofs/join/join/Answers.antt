@@ -13,15 +13,15 @@ returns-then-info-eq0-2-clause-join c =
     let i = c.height.ensures.tree in
     join_empty_left c.args.left.now c.args.right.now _ i (omega (arith, ap (λ x. x.bytes) c.info-2.ensures)) c.requires c.in_ok-share-2.ensures
 
-pub make_inner-requires : goal.make_inner-requires
-make_inner-requires c =
+pub make_over-requires : goal.make_over-requires
+make_over-requires c =
     let u = rw c.in-Two.is at c.in_ok-node.ensures.union in
-    rw c.in_ok-nodes-in-Two.ensures (root_children c.args.left.now c.args.right.now _ _ u c.requires)
+    root_children c.args.left.now c.args.right.now _ _ u c.requires
 
 pub returns-in-One-clause-join : goal.returns-in-One-clause-join
 returns-in-One-clause-join c = join_one _ _ _ (rw c.in-One.is at c.in_ok-node.ensures.union)
 
-pub returns-in_ok-make_inner-in-Two-clause-join : goal.returns-in_ok-make_inner-in-Two-clause-join
-returns-in_ok-make_inner-in-Two-clause-join c =
+pub returns-in_ok-make_over-in-Two-clause-join : goal.returns-in_ok-make_over-in-Two-clause-join
+returns-in_ok-make_over-in-Two-clause-join c =
     let u = rw c.in-Two.is at c.in_ok-node.ensures.union in
-    join_two c.args.left.now c.args.right.now _ _ u c.requires _ (c.in_ok-make_inner-in-Two.ensures.ok ∙ ap tree_over c.in_ok-nodes-in-Two.ensures)
+    join_two c.args.left.now c.args.right.now _ _ u c.requires _ c.in_ok-make_over-in-Two.ensures.ok

@@ -20,15 +20,14 @@ plus-info-requires-clause-utf16_surrogates c = let b = both c in omega (arith, b
 pub plus-info-requires-clause-break_count : goal.plus-info-requires-clause-break_count
 plus-info-requires-clause-break_count c = let b = both c in omega (arith, b.0.chars, b.0.bytes, b.1.chars, b.1.bytes, b.0.count, b.1.count)
 
-pub pack-requires-clause-siblings : goal.pack-requires-clause-siblings
-pack-requires-clause-siblings c =
+pub pack_over-requires-clause-siblings : goal.pack_over-requires-clause-siblings
+pack_over-requires-clause-siblings c =
     let ea = c.in-Inner.ensures.is in
     let eb = c.in-Inner-view.ensures.is in
-    rw c.in_ok-nodes-in-Inner.ensures (inner_siblings _ _ _ _ ea eb c.in-Inner.ensures.children c.in-Inner-view.ensures.children c.requires.join c.requires.height)
+    inner_siblings _ _ _ _ ea eb c.in-Inner.ensures.children c.in-Inner-view.ensures.children c.requires.join c.requires.height
 
-pub returns-in_ok-pack-in-Inner-clause-union : goal.returns-in_ok-pack-in-Inner-clause-union
-returns-in_ok-pack-in-Inner-clause-union c =
+pub returns-in_ok-pack_over-in-Inner-clause-union : goal.returns-in_ok-pack_over-in-Inner-clause-union
+returns-in_ok-pack_over-in-Inner-clause-union c =
     let ea = c.in-Inner.ensures.is in
     let eb = c.in-Inner-view.ensures.is in
-    let n = c.in_ok-nodes-in-Inner.ensures in
-    inner_union _ _ _ _ ea eb c.in-Inner.ensures.children c.in-Inner-view.ensures.children c.requires.join c.requires.height _ (rw n at c.in_ok-pack-in-Inner.ensures.leaves) (rw n at c.in_ok-pack-in-Inner.ensures.shape)
+    inner_union _ _ _ _ ea eb c.in-Inner.ensures.children c.in-Inner-view.ensures.children c.requires.join c.requires.height _ c.in_ok-pack_over-in-Inner.ensures.leaves c.in_ok-pack_over-in-Inner.ensures.shape

@@ -1,4 +1,4 @@
-use Rattle.std.proofs.Common.{◌≡◌, ℕ, ◌+◌, ◌-◌, ◌≤◌, length, ap, arith}
+use Rattle.std.proofs.Common.{◌≡◌, ℕ, ◌+◌, ◌-◌, ◌≤◌, length, refl, ap, arith}
 use Rattle.rope_text.specs.declared.text_info.TextInfo.{TextInfo}
 use Rattle.rope_tree.specs.declared.search.Unit.TheVariants.{Char}
 use Rattle.rope_tree.specs.Tree.{text, height_of, breaks_of}
@@ -9,11 +9,11 @@ use Rattle.rope_tree.proofs.InsertDescents.{last_total}
 use Rattle.rope_tree.proofs.removal.+without.Goals.{After-index-children-place}
 use Rattle.rope_tree.proofs.removal.+without.Goals as goal
 
-down : (t : ℕ) (c : After-index-children-place t) → Descends (breaks_of c.in-Inner.children.now) Char c.args.start c.in-Inner.children.now c.place_of-place.result c.index-children-place.result c.total_before-before.result
+down : (t : ℕ) (c : After-index-children-place t) → Descends (breaks_of c.in-Inner.children.now) Char c.args.start c.in-Inner.children.now c.place_of-place.result c.index-children-place.result c.total_before-front.result
 down t c =
-    descends Char c.args.start c.in-Inner.children.now c.in-Inner.totals.now c.place_of-place.result c.index-children-place.result c.total_before-before.result
+    descends Char c.args.start c.in-Inner.children.now c.in-Inner.totals.now c.place_of-place.result c.index-children-place.result c.total_before-front.result
     c.in-Inner.ensures.children c.in-Inner.ensures.totals_right c.place_of-place.ensures.within c.index-children-place.is
-    c.total_before-before.ensures.first c.total_before-before.ensures.later c.place_of-place.ensures.before c.place_of-place.ensures.past
+    c.total_before-front.ensures.first c.total_before-front.ensures.later c.place_of-place.ensures.before c.place_of-place.ensures.past
 
 pub place_of-place-requires-clause-small : goal.place_of-place-requires-clause-small
 place_of-place-requires-clause-small t c = small_totals _ c.in-Inner.totals.now c.in-Inner.children.now c.in-Inner.ensures.totals_right c.in-Inner.ensures.children.fits
@@ -27,11 +27,11 @@ place_of-place-requires-clause-last t c =
 none : TextInfo
 none = record { chars = 0; utf16_surrogates = 0; break_count = 0; bytes = 0 }
 
-held : (t : ℕ) (c : After-index-children-place t) → (c.total_before-before.result.chars ≤ c.args.start)
-    × Holds c.in-Inner.children.now c.place_of-place.result c.index-children-place.result (c.args.start - c.total_before-before.result.chars) (c.args.end - c.total_before-before.result.chars) c.args.start c.args.end
+held : (t : ℕ) (c : After-index-children-place t) → (c.total_before-front.result.chars ≤ c.args.start)
+    × Holds c.in-Inner.children.now c.place_of-place.result c.index-children-place.result (c.args.start - c.total_before-front.result.chars) (c.args.end - c.total_before-front.result.chars) c.args.start c.args.end
 held t c =
     let ts = c.in-Inner.children.now in
-    holds (breaks_of ts) ts c.place_of-place.result c.index-children-place.result c.total_before-before.result c.args.start c.args.end c.in-Inner.totals.now none (down t c) c.in-Inner.ensures.totals_right c.requires.ordered (rw (c.get.ensures none) at c.if-get-end.false)
+    holds (breaks_of ts) ts c.place_of-place.result c.index-children-place.result c.total_before-front.result c.args.start c.args.end c.in-Inner.totals.now none (down t c) c.in-Inner.ensures.totals_right c.requires.ordered (rw (c.get.ensures none) at c.if-get-end.false)
 
 below : (t : ℕ) (c : After-index-children-place t) → c.index-children-place.result.height + 1 ≡ c.args.node.now.height
 below t c = omega (arith, ap (λ u. u.height) c.in-Inner.ensures.is, (down t c).own.at_height)
@@ -56,31 +56,28 @@ returns-in_err-middle-in-Inner-clause-made t c = omega (arith, below t (goal.at.
 pub returns-in_default-clause-made : goal.returns-in_default-clause-made
 returns-in_default-clause-made t c = omega (arith, below t (goal.at.returns-in_default-clause-made t c).After-index-children-place, c.without.ensures.made)
 
-pub returns-in_err-nodes-in-Inner-clause-made : goal.returns-in_err-nodes-in-Inner-clause-made
-returns-in_err-nodes-in-Inner-clause-made t c = omega (arith, below t (goal.at.returns-in_err-nodes-in-Inner-clause-made t c).After-index-children-place, c.without.ensures.made)
+pub returns-in_err-make_over-in-Inner-clause-made :
+    goal.returns-in_err-make_over-in-Inner-clause-made
+returns-in_err-make_over-in-Inner-clause-made t c =
+    omega (arith, below t (goal.at.returns-in_err-make_over-in-Inner-clause-made t c).After-index-children-place, c.without.ensures.made, c.make_over.ensures.made)
 
-pub returns-in_err-make_inner-in-Inner-clause-made :
-    goal.returns-in_err-make_inner-in-Inner-clause-made
-returns-in_err-make_inner-in-Inner-clause-made t c =
-    omega (arith, below t (goal.at.returns-in_err-make_inner-in-Inner-clause-made t c).After-index-children-place, c.without.ensures.made, c.make_inner.ensures.made)
+pub returns-in_ok-make_over-in-Inner-clause-made :
+    goal.returns-in_ok-make_over-in-Inner-clause-made
+returns-in_ok-make_over-in-Inner-clause-made t c =
+    omega (arith, below t (goal.at.returns-in_ok-make_over-in-Inner-clause-made t c).After-index-children-place, c.without.ensures.made, c.make_over.ensures.made)
 
-pub returns-in_ok-make_inner-in-Inner-clause-made :
-    goal.returns-in_ok-make_inner-in-Inner-clause-made
-returns-in_ok-make_inner-in-Inner-clause-made t c =
-    omega (arith, below t (goal.at.returns-in_ok-make_inner-in-Inner-clause-made t c).After-index-children-place, c.without.ensures.made, c.make_inner.ensures.made)
-
-pub make_inner-requires : goal.make_inner-requires
-make_inner-requires t c =
-    let e = (goal.at.make_inner-requires t c).After-index-children-place in
+pub make_over-requires : goal.make_over-requires
+make_over-requires t c =
+    let e = (goal.at.make_over-requires t c).After-index-children-place in
     let ts = c.in-Inner.children.now in
-    let left = spliced_removed c.in-Inner.children.now c.place_of-place.result c.index-children-place.result c.in-Some.middle c.in_ok-nodes-in-Inner.nodes.items (down t e).children (down t e).within (down t e).child_is
-    _ _ c.args.start c.args.end (held t e).1 (rw c.in-Some.is at c.in_ok-middle-in-Inner.ensures.ok) c.in_ok-nodes-in-Inner.ensures in
-    children_of_first (breaks_of ts) (height_of ts) c.in_ok-nodes-in-Inner.nodes.items left.children
+    let left = spliced_removed c.in-Inner.children.now c.place_of-place.result c.index-children-place.result c.in-Some.middle _ (down t e).children (down t e).within (down t e).child_is
+    _ _ c.args.start c.args.end (held t e).1 (rw c.in-Some.is at c.in_ok-middle-in-Inner.ensures.ok) refl in
+    children_of_first (breaks_of ts) (height_of ts) _ left.children
 
-pub returns-in_ok-make_inner-in-Inner-clause-ok : goal.returns-in_ok-make_inner-in-Inner-clause-ok
-returns-in_ok-make_inner-in-Inner-clause-ok t c =
-    let e = (goal.at.returns-in_ok-make_inner-in-Inner-clause-ok t c).After-index-children-place in
-    let left = spliced_removed c.in-Inner.children.now c.place_of-place.result c.index-children-place.result c.in-Some.middle c.in_ok-nodes-in-Inner.nodes.items (down t e).children (down t e).within (down t e).child_is
-    _ _ c.args.start c.args.end (held t e).1 (rw c.in-Some.is at c.in_ok-middle-in-Inner.ensures.ok) c.in_ok-nodes-in-Inner.ensures in
-    over_removed c.args.node.now c.in_ok-make_inner-in-Inner.field-0 c.in-Inner.children.now c.in_ok-nodes-in-Inner.nodes.items c.args.start c.args.end
-    c.in-Inner.ensures.is c.in_ok-make_inner-in-Inner.ensures.ok left
+pub returns-in_ok-make_over-in-Inner-clause-ok : goal.returns-in_ok-make_over-in-Inner-clause-ok
+returns-in_ok-make_over-in-Inner-clause-ok t c =
+    let e = (goal.at.returns-in_ok-make_over-in-Inner-clause-ok t c).After-index-children-place in
+    let left = spliced_removed c.in-Inner.children.now c.place_of-place.result c.index-children-place.result c.in-Some.middle _ (down t e).children (down t e).within (down t e).child_is
+    _ _ c.args.start c.args.end (held t e).1 (rw c.in-Some.is at c.in_ok-middle-in-Inner.ensures.ok) refl in
+    over_removed c.args.node.now c.in_ok-make_over-in-Inner.field-0 c.in-Inner.children.now _ c.args.start c.args.end
+    c.in-Inner.ensures.is c.in_ok-make_over-in-Inner.ensures.ok left

@@ -1,0 +1,64 @@
+use Rattle.std.proofs.Common.{ap, ◌≡◌, ◌-◌, ◌≤◌, ◌++◌, length, take, drop, refl, arith}
+use Rattle.rope_tree.specs.Tree.{Tree, height_of}
+use Rattle.rope_tree.specs.View.{trees_in}
+use Rattle.rope_join.specs.Join.{IsUnion, gathered}
+use Rattle.rope_join.proofs.Unions.{slice_rest}
+use Rattle.rope_join.proofs.Whole.{join_one, join_two, root_children}
+use Rattle.rope_join.proofs.Gathered.{gathered_over}
+use Rattle.rope_join.proofs.Rows.{before_level, before_can_join, before_siblings, before_union}
+use Rattle.rope_join.proofs.join.join_before.Goals.{After-index-nodes-0-2, In_ok-node}
+use Rattle.rope_join.proofs.join.join_before.Goals as goal
+
+many : (c : After-index-nodes-0-2) → 2 ≤ length c.args.nodes.now
+many c = omega (arith, c.if-nodes-eq1.false, c.requires.some)
+
+pub unite-requires-clause-join : goal.unite-requires-clause-join
+unite-requires-clause-join c =
+    let m = many (goal.at.unite-requires-clause-join c).After-index-nodes-0-2 in
+    before_can_join c.args.nodes.now c.args.left.now c.index-nodes-0-2.result c.requires.siblings m c.requires.at_most_24 c.requires.no_higher c.index-nodes-0-2.is c.requires.join
+
+pub pack-requires-clause-siblings : goal.pack-requires-clause-siblings
+pack-requires-clause-siblings c =
+    let m = many (goal.at.pack-requires-clause-siblings c).After-index-nodes-0-2 in
+    let e = slice_rest _ (trees_in c.in_ok-middle.middle) c.args.nodes.now refl in
+    rw e (before_siblings c.args.nodes.now c.args.left.now c.index-nodes-0-2.result c.requires.siblings m c.requires.at_most_24 c.requires.no_higher c.index-nodes-0-2.is c.requires.join
+    (trees_in c.in_ok-middle.middle) c.in_ok-middle.ensures.union)
+
+union : (c : In_ok-node) → IsUnion c.args.left.now (gathered c.args.nodes.now) (trees_in c.in_ok-node.field-0)
+union c =
+    let m = many (goal.at.In_ok-node c).After-index-nodes-0-2 in
+    let e = slice_rest _ (trees_in c.in_ok-middle.middle) c.args.nodes.now refl in
+    before_union c.args.nodes.now c.args.left.now c.index-nodes-0-2.result c.requires.siblings m c.requires.at_most_24 c.requires.no_higher c.index-nodes-0-2.is c.requires.join
+    (trees_in c.in_ok-middle.middle) c.in_ok-middle.ensures.union (trees_in c.in_ok-node.field-0) (rw e at c.in_ok-node.ensures.leaves) (rw e at c.in_ok-node.ensures.shape)
+
+pub make_over-requires : goal.make_over-requires
+make_over-requires c =
+    let u = rw c.in-Two.is at (union (goal.at.make_over-requires c).In_ok-node) in
+    root_children c.args.left.now (gathered c.args.nodes.now) c.in-Two.first c.in-Two.second u c.requires.join
+
+pub returns-in-One-clause-join : goal.returns-in-One-clause-join
+returns-in-One-clause-join c =
+    let u = rw c.in-One.is at (union (goal.at.returns-in-One-clause-join c).In_ok-node) in
+    join_one c.args.left.now (gathered c.args.nodes.now) c.in-One.node u
+
+pub returns-in_ok-make_over-in-Two-clause-join : goal.returns-in_ok-make_over-in-Two-clause-join
+returns-in_ok-make_over-in-Two-clause-join c =
+    let u = rw c.in-Two.is at (union (goal.at.returns-in_ok-make_over-in-Two-clause-join c).In_ok-node) in
+    join_two c.args.left.now (gathered c.args.nodes.now) c.in-Two.first c.in-Two.second u c.requires.join _ c.in_ok-make_over-in-Two.ensures.ok
+
+level : (c : After-index-nodes-0-2) → c.index-nodes-0-2.result.height ≡ height_of c.args.nodes.now
+level c = before_level c.args.nodes.now c.args.left.now c.index-nodes-0-2.result c.requires.siblings (many c) c.requires.at_most_24 c.requires.no_higher c.index-nodes-0-2.is c.requires.join
+
+pub returns-in-One-clause-made_ok : goal.returns-in-One-clause-made_ok
+returns-in-One-clause-made_ok c =
+    let e = (goal.at.returns-in-One-clause-made_ok c).After-index-nodes-0-2 in
+    let u = rw c.in-One.is at (union (goal.at.returns-in-One-clause-made_ok c).In_ok-node) in
+    let j = join_one c.args.left.now (gathered c.args.nodes.now) c.in-One.node u in
+    omega (arith, level e, j.least, ap (λ (t : Tree). t.height) (gathered_over c.args.nodes.now (many e)), c.in_ok-middle.ensures.made, c.in_ok-node.ensures.made)
+
+pub returns-in_ok-make_over-in-Two-clause-made_ok : goal.returns-in_ok-make_over-in-Two-clause-made_ok
+returns-in_ok-make_over-in-Two-clause-made_ok c =
+    let e = (goal.at.returns-in_ok-make_over-in-Two-clause-made_ok c).After-index-nodes-0-2 in
+    let u = rw c.in-Two.is at (union (goal.at.returns-in_ok-make_over-in-Two-clause-made_ok c).In_ok-node) in
+    let j = join_two c.args.left.now (gathered c.args.nodes.now) c.in-Two.first c.in-Two.second u c.requires.join _ c.in_ok-make_over-in-Two.ensures.ok in
+    omega (arith, level e, j.least, ap (λ (t : Tree). t.height) (gathered_over c.args.nodes.now (many e)), c.in_ok-middle.ensures.made, c.in_ok-node.ensures.made, c.in_ok-make_over-in-Two.ensures.made)
