@@ -1,4 +1,4 @@
-use Rattle.std.proofs.Common.{◌≡◌, ◌++◌, ◌<◌, refl, arith}
+use Rattle.std.proofs.Common.{◌<◌, refl, arith}
 use Rattle.std.proofs.lemmas.List.{append-nil}
 use Rattle.rope_tree.specs.View.{trees_in}
 use Rattle.rope_join.proofs.Unions.{ends_in, begins_in, slice_rest, end_child, end_can_join, end_siblings, end_union, front_child, front_can_join, front_siblings, front_union}

@@ -1,5 +1,4 @@
-use Rattle.std.proofs.Common.{arith, ap, ◌∙◌}
-use Rattle.rope_tree.specs.Tree.{tree_over}
+use Rattle.std.proofs.Common.{arith, ap}
 use Rattle.rope_join.proofs.Whole.{join_empty_right, join_empty_left, join_one, join_two, root_children}
 use Rattle.rope_join.proofs.join.join.Goals as goal
 

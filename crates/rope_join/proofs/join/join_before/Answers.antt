@@ -1,4 +1,4 @@
-use Rattle.std.proofs.Common.{ap, ◌≡◌, ◌-◌, ◌≤◌, ◌++◌, length, take, drop, refl, arith}
+use Rattle.std.proofs.Common.{ap, ◌≡◌, ◌≤◌, length, refl, arith}
 use Rattle.rope_tree.specs.Tree.{Tree, height_of}
 use Rattle.rope_tree.specs.View.{trees_in}
 use Rattle.rope_join.specs.Join.{IsUnion, gathered}

@@ -1,8 +1,8 @@
 -- Each turn makes a node over the next group of nodes.
-use Rattle.std.proofs.Common.{◌≡◌, ℕ, List, ◌∙◌, [], ◌∷◌, take, length, refl, ap, sym, subst, arith}
+use Rattle.std.proofs.Common.{◌≡◌, ℕ, List, [], ◌∷◌, take, length, refl, ap, sym, subst, arith}
 use Rattle.std.proofs.lemmas.List.{length-drop, length-append}
 use Rattle.rope_text.specs.declared.line_breaks.LineBreaks.{LineBreaks}
-use Rattle.rope_tree.specs.Tree.{Tree, tree_over}
+use Rattle.rope_tree.specs.Tree.{Tree}
 use Rattle.rope_tree.proofs.NodeLaws.{children_of_first}
 use Rattle.rope_tree.proofs.BuildLaws.{AreOver, group_children, over_more, back_of}
 use Rattle.rope_tree.proofs.build.level_over.Goals as goal

@@ -1,5 +1,5 @@
 -- Each turn goes one level up.
-use Rattle.std.proofs.Common.{◌≡◌, ◌∙◌, ◌≤◌, length, ap, sym, subst, arith}
+use Rattle.std.proofs.Common.{◌∙◌, ◌≤◌, length, ap, sym, subst, arith}
 use Rattle.rope_tree.specs.Tree.{IsTree, AreChildren, height_of, breaks_of, tree_over}
 use Rattle.rope_tree.proofs.TreeLaws.{is_tree_over}
 use Rattle.rope_tree.proofs.NodeLaws.{children_of_first}
