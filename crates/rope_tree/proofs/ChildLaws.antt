@@ -1,5 +1,5 @@
 -- A child that takes a text, as the code finds and leaves it among its siblings.
-use Rattle.std.proofs.Common.{◌≡◌, ℕ, ◌+◌, ◌<◌, ◌≤◌, ◌^◌, Bool, List, [], ◌∷◌, ◌++◌, length, get_or, set, take, drop, OnErr, Result, Ok, Err, refl, ap, ◌∙◌, arith}
+use Rattle.std.proofs.Common.{◌≡◌, ℕ, ◌+◌, ◌-◌, ◌<◌, ◌≤◌, ◌^◌, Bool, List, [], ◌∷◌, ◌++◌, length, get_or, set, take, drop, OnErr, Result, Ok, Err, refl, ap, ◌∙◌, arith}
 use Rattle.rope_text.specs.declared.text_info.TextInfo.{TextInfo}
 use Rattle.rope_text.specs.Text.{byte_len}
 use Rattle.rope_text.specs.Edit.{inserted}
@@ -13,9 +13,10 @@ use Rattle.rope_tree.proofs.ListedLaws.{set_seen, set_listed, set_totals}
 use Rattle.rope_tree.specs.Search.{IsSmall, HasPart}
 use Rattle.rope_tree.specs.Insert.{MayInsert, IsInserted, AreGrown}
 use Rattle.rope_tree.proofs.Infos.{small_info}
-use Rattle.rope_tree.proofs.InsertDescents.{Takes}
-use Rattle.rope_tree.proofs.InsertTrees.{child_may, text_around}
-use Rattle.rope_tree.proofs.TotalLaws.{has_part}
+use Rattle.rope_tree.specs.Narrow.{AreNarrow, FitsWith}
+use Rattle.rope_tree.proofs.InsertDescents.{Takes, last_total}
+use Rattle.rope_tree.proofs.InsertTrees.{child_may, text_around, byte_len-inserted}
+use Rattle.rope_tree.proofs.TotalLaws.{has_part, fits_after}
 use Rattle.rope_tree.proofs.GrownLaws.{totals_seen, grown, children_grown, child_grown}
 
 -- what holds however it went holds where it failed
@@ -70,6 +71,20 @@ module _ (a : Inside) (ts : List Tree) (k : ℕ) (child : Tree) (at i : ℕ) (to
       small new is =
           let wide = child_grown (breaks_of ts) (height_of ts) child u _ f.taken.own done in
           rw is (small_info u.breaks (text u) wide.tree.fits)
+
+      -- the counts fit in 16 bits where all did, and the text has room
+      pub still_narrow : (seen : List TextInfo) → seen ≡ a.totals → (AreNarrow seen → (d : TextInfo) → (get_or seen (length seen - 1) d).bytes + byte_len s < 2 ^ 16) → (old new : TextInfo) → old ≡ info_of child.breaks (text child) → new ≡ info_of u.breaks (text u)
+          → AreNarrow seen → (j : ℕ) (d : TextInfo) → k ≤ j → j < length seen → FitsWith (get_or seen j d) old new
+      still_narrow seen is room old new old_is new_is narrow j d from within =
+          let t = f.taken in
+          let totals = read seen is in
+          let last = last_total (breaks_of ts) seen ts totals (omega (arith, t.children.at_least_two)) d in
+          let few : byte_len (joined (set ts k u)) < 2 ^ 16 = omega (arith, room narrow d, ap (λ x. x.bytes) last, ap byte_len grows.text_is, byte_len-inserted (joined ts) at s) in
+          let inside : j < length ts = omega (arith, totals.as_many, within) in
+          let wide = child_grown (breaks_of ts) (height_of ts) child u _ t.own done in
+          let now = new_is ∙ ap (λ b. info_of b (text u)) wide.same_breaks in
+          rw (totals.total_at j d inside, old_counts old old_is, now)
+          (fits_after (breaks_of ts) (height_of ts) ts (set ts k u) k child u t.children t.within t.child_is all_children refl few j from inside)
 
       module _ (b : Inside) (height : b.height ≡ a.height) (breaks : b.breaks ≡ a.breaks) (nodes : b.nodes ≡ set a.nodes k u) (seen after : List TextInfo) (old new : TextInfo) (is : seen ≡ a.totals)
           (old_is : old ≡ info_of child.breaks (text child)) (new_is : new ≡ info_of u.breaks (text u)) (len : length after ≡ length seen) (before : (j : ℕ) (d : TextInfo) → j < k → get_or after j d ≡ get_or seen j d)

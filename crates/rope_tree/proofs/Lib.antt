@@ -4,10 +4,12 @@ pub mod TreeLaws
 pub mod Halving
 pub mod RowLaws
 pub mod ShortTexts
-pub mod TotalsKept
+pub mod WideKept
+pub mod NarrowKept
 pub mod Retotals
 pub mod CountLaws
 pub mod TotalLaws
+pub mod CutLaws
 pub mod GrownLaws
 pub mod FormLaws
 pub mod ListedLaws

@@ -44,6 +44,7 @@ kept x (t ∷ ts) totals h = h
 pub record AddsTree (xs : List Tree) (x : Tree) (before info : TextInfo) : Type 0 where
   pub small_before : IsSmall before
   pub small_own : IsSmall info
+  pub small_sum : IsSmall (info_sum before info)
   pub sum : info_of (breaks_of (xs ++ x ∷ [])) (joined (xs ++ x ∷ [])) ≡ info_sum before info
 
 module _ (xs : List Tree) (x : Tree) (s : AreSiblings (breaks_of (xs ++ x ∷ [])) (height_of (xs ++ x ∷ [])) (xs ++ x ∷ [])) where
@@ -58,10 +59,12 @@ module _ (xs : List Tree) (x : Tree) (s : AreSiblings (breaks_of (xs ++ x ∷ []
       let b = breaks_of (xs ++ x ∷ []) in
       let front = last_counts xs x totals n before h e first later in
       let mine : info ≡ info_of b (text x) = counted ∙ ap (λ br. info_of br (text x)) own.same_breaks in
+      let whole : info_of b (joined (xs ++ x ∷ [])) ≡ info_sum before info = counts_more b xs x s.leaves ∙ (rw (front, mine) refl) in
       record {
         small_before = rw front (small_info b (joined xs) (omega (arith, byte_len-append xs (x ∷ []), s.fits)));
         small_own = rw mine (small_info b (text x) own.tree.fits);
-        sum = counts_more b xs x s.leaves ∙ (rw (front, mine) refl);
+        small_sum = subst IsSmall whole (small_info b (joined (xs ++ x ∷ [])) s.fits);
+        sum = whole;
       }
 
   -- the fields with it

@@ -1,23 +1,26 @@
 -- The totals of children of which one was changed.
-use Rattle.std.proofs.Common.{◌≡◌, ℕ, zero, suc, ◌+◌, ◌<◌, ◌≤◌, inl, inr, List, length, get_or, set, take, sym, ap, subst, add-one, ◌∙◌, arith}
+use Rattle.std.proofs.Common.{◌≡◌, ℕ, zero, suc, ◌+◌, ◌<◌, ◌≤◌, ◌^◌, inl, inr, List, length, get_or, set, take, sym, ap, subst, add-one, ◌∙◌, arith}
 use Rattle.std.proofs.lemmas.Bool.{cases_lt}
 use Rattle.std.proofs.lemmas.List.{length-set, take-set-le, get_or-set_same, get_or-set_other, get_or_default}
 use Rattle.rope_text.specs.declared.line_breaks.LineBreaks.{LineBreaks}
 use Rattle.rope_text.specs.declared.text_info.TextInfo.{TextInfo}
+use Rattle.rope_text.specs.Text.{byte_len}
 use Rattle.rope_text.specs.TextInfo.{info_of, info_sum}
 use Rattle.rope_tree.specs.Search.{HasPart}
 use Rattle.rope_tree.specs.Tree.{Tree, text, joined, AreChildren}
 use Rattle.rope_tree.specs.Totals.{HasTotals}
-use Rattle.rope_tree.proofs.NodeLaws.{more_at}
+use Rattle.rope_tree.specs.Narrow.{FitsWith}
+use Rattle.rope_tree.proofs.Infos.{low_info}
+use Rattle.rope_tree.proofs.NodeLaws.{more_at, byte_len-joined}
 
 -- four equal counts
-same_counts : (a b : TextInfo) → a.bytes ≡ b.bytes → a.chars ≡ b.chars → a.utf16_surrogates ≡ b.utf16_surrogates → a.break_count ≡ b.break_count → a ≡ b
+pub same_counts : (a b : TextInfo) → a.bytes ≡ b.bytes → a.chars ≡ b.chars → a.utf16_surrogates ≡ b.utf16_surrogates → a.break_count ≡ b.break_count → a ≡ b
 same_counts a b bytes chars pairs breaks =
     let same : ◌≡◌ {A = TextInfo} (record { bytes = a.bytes; chars = a.chars; utf16_surrogates = a.utf16_surrogates; break_count = a.break_count })
     (record { bytes = b.bytes; chars = b.chars; utf16_surrogates = b.utf16_surrogates; break_count = b.break_count }) = cc in
     same
 
-sums_more : (x y i j n : TextInfo) → info_sum x i ≡ info_sum y j → info_sum (info_sum x n) i ≡ info_sum (info_sum y n) j
+pub sums_more : (x y i j n : TextInfo) → info_sum x i ≡ info_sum y j → info_sum (info_sum x n) i ≡ info_sum (info_sum y n) j
 sums_more x y i j n e =
     same_counts (info_sum (info_sum x n) i) (info_sum (info_sum y n) j)
     (omega (arith, ap (λ t. t.bytes) e)) (omega (arith, ap (λ t. t.chars) e)) (omega (arith, ap (λ t. t.utf16_surrogates) e)) (omega (arith, ap (λ t. t.break_count) e))
@@ -26,17 +29,17 @@ sums_turned : (x i j : TextInfo) → info_sum (info_sum x j) i ≡ info_sum (inf
 sums_turned x i j =
     same_counts (info_sum (info_sum x j) i) (info_sum (info_sum x i) j) (omega arith) (omega arith) (omega arith) (omega arith)
 
-sums_cancel : (x y i : TextInfo) → info_sum x i ≡ info_sum y i → x ≡ y
+pub sums_cancel : (x y i : TextInfo) → info_sum x i ≡ info_sum y i → x ≡ y
 sums_cancel x y i e =
     same_counts x y (omega (arith, ap (λ t. t.bytes) e)) (omega (arith, ap (λ t. t.chars) e)) (omega (arith, ap (λ t. t.utf16_surrogates) e)) (omega (arith, ap (λ t. t.break_count) e))
 
-part_last : (x i : TextInfo) → HasPart (info_sum x i) i
+pub part_last : (x i : TextInfo) → HasPart (info_sum x i) i
 part_last x i = record { bytes = omega arith; chars = omega arith; surrogates = omega arith; count = omega arith }
 
-part_more : (x i n : TextInfo) → HasPart x i → HasPart (info_sum x n) i
+pub part_more : (x i n : TextInfo) → HasPart x i → HasPart (info_sum x n) i
 part_more x i n p = record { bytes = omega (arith, p.bytes); chars = omega (arith, p.chars); surrogates = omega (arith, p.surrogates); count = omega (arith, p.count) }
 
-get_or_self : (xs : List Tree) (m : ℕ) (d : Tree) → m < length xs → get_or xs m (get_or xs m d) ≡ get_or xs m d
+pub get_or_self : (xs : List Tree) (m : ℕ) (d : Tree) → m < length xs → get_or xs m (get_or xs m d) ≡ get_or xs m d
 get_or_self xs m d within = get_or_default xs m (get_or xs m d) d within
 
 module _ (br : LineBreaks) (h : ℕ) (ts us : List Tree) (k : ℕ) (c u : Tree) (a : AreChildren br h ts) (lt : k < length ts) (here : get_or ts k c ≡ c) where
@@ -87,6 +90,18 @@ module _ (br : LineBreaks) (h : ℕ) (ts us : List Tree) (k : ℕ) (c u : Tree) 
           ap (λ x. info_sum x (info_of br (text c))) now ∙ sums_more (counted us (suc m)) (counted ts (suc m)) (info_of br (text c)) (info_of br (text u)) (info_of br (text d)) before ∙ ap (λ x. info_sum x (info_of br (text u))) (sym old)
       | inr ge ↦ even_own (suc m) (omega arith)
     ]
+
+    -- and where the whole text has few bytes, so has each front
+    pub fits_after : byte_len (joined us) < 2 ^ 16 → (m : ℕ) → k ≤ m → m < length ts → FitsWith (counted ts (m + 1)) (info_of br (text c)) (info_of br (text u))
+    fits_after few m from within =
+        let low = low_info br (joined (take (m + 1) us)) 65535 (omega (arith, byte_len-joined us (m + 1), few)) in
+        let e = even m from within in
+        record {
+          bytes = omega (arith, low.bytes, ap (λ t. t.bytes) e);
+          chars = omega (arith, low.chars, ap (λ t. t.chars) e);
+          surrogates = omega (arith, low.surrogates, ap (λ t. t.utf16_surrogates) e);
+          count = omega (arith, low.count, ap (λ t. t.break_count) e);
+        }
 
     -- so the totals are right again
     pub totals_after : (totals after : List TextInfo) → HasTotals br totals ts → length after ≡ length totals

@@ -3,6 +3,9 @@ pub mod Short
 pub mod Tree
 pub mod Search
 pub mod Totals
+pub mod Narrow
+pub mod NarrowShape
+pub mod WideShape
 pub mod TotalsShape
 pub mod Flat
 pub mod LeafTree

@@ -1,20 +1,13 @@
--- What running totals that are kept by kind of count are seen as.
-use Rattle.std.specs.Prelude.{◌≡◌, ℕ, ◌≤◌, List, length, map, slice_index}
-use Rattle.std.specs.List.{range_with_len}
+-- What running totals of either width are seen as.
+use Rattle.std.specs.Prelude.{List}
 use Rattle.rope_text.specs.declared.text_info.TextInfo.{TextInfo}
 use Rattle.rope_tree.specs.declared.search.Totals.TheInside.{Inside}
+use Rattle.rope_tree.specs.declared.search.Width.{Width}
+use Rattle.rope_tree.specs.declared.search.Width.TheVariants.{Narrow, Wide}
 
--- the counts at a place
-abbrev pub counts_at : Inside → ℕ → TextInfo
-counts_at a k = record { bytes = slice_index a.bytes k; chars = slice_index a.chars k; utf16_surrogates = slice_index a.pairs k; break_count = slice_index a.breaks k }
+abbrev pub totals_in : Width → List TextInfo
+totals_in (Narrow totals) = totals
+totals_in (Wide totals) = totals.value
 
-abbrev pub all_totals : Inside → List TextInfo
-all_totals a = map (counts_at a) (range_with_len 0 a.len)
-
--- there are 24 places, of which the first are in use
-pub record IsTotals (a : Inside) : Type 0 where
-  pub few : a.len ≤ 24
-  pub bytes : length a.bytes ≡ 24
-  pub chars : length a.chars ≡ 24
-  pub pairs : length a.pairs ≡ 24
-  pub breaks : length a.breaks ≡ 24
+abbrev pub totals_of : Inside → List TextInfo
+totals_of a = totals_in a.width

@@ -119,26 +119,13 @@ impl Children {
     }
 
     /// The counts of all children.
+    #[inline(always)]
     fn total(&self) -> TextInfo
         requires { 1 ≤ length self.now }
         ensures { result ≡ info_of (breaks_of self.now) (joined self.now) }
     {
         self.totals.get(self.totals.len() - 1)
     }
-}
-
-/// For each of the nodes the counts of all nodes up to and with it.
-fn totals_of(nodes: &[Node]) -> Totals
-    requires { AreChildren (breaks_of nodes.now) (height_of nodes.now) nodes.now }
-    ensures { HasTotals (breaks_of nodes.now) result nodes.now }
-{
-    let mut totals = Totals::new();
-    let mut total = TextInfo::new();
-    for node in nodes {
-        total = total.plus(node.info());
-        totals.push(total);
-    }
-    totals
 }
 
 impl Default for Node {
@@ -181,6 +168,7 @@ impl Node {
     }
 
     /// The counts of its text.
+    #[inline(always)]
     pub fn info(&self) -> TextInfo
         ensures { result ≡ info_of self.now.breaks (text self.now) }
     {

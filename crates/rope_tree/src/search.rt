@@ -1,11 +1,19 @@
 //! Running totals over children, and the child that holds a place, found by halving over them.
-ghost use Rattle.std.specs.Prelude.{◌≡◌, ℕ, ◌+◌, ◌-◌, ◌<◌, ◌≤◌, ◌^◌, [], ◌∷◌, ◌++◌, true, false, length, slice_index, slice_index_or};
+ghost use Rattle.std.specs.Prelude.{◌≡◌, ℕ, ◌+◌, ◌-◌, ◌<◌, ◌≤◌, ◌^◌, [], ◌∷◌, ◌++◌, true, false, length, slice_index_or, OnOk, OnErr};
 ghost use Rattle.rope_text.specs.declared.text_info.TextInfo.{TextInfo};
 ghost use Rattle.rope_text.specs.TextInfo.{info_sum};
 ghost use Rattle.rope_tree.specs.Search.{count_of, IsSmall, HasPart};
+ghost use Rattle.rope_tree.specs.Narrow.{IsNarrow, AreNarrow, FitsWith};
 
 use rope_text::{Steps, TextInfo};
+use std::alloc::{AllocError, Global};
 use std::marker::Model;
+
+mod narrow;
+mod wide;
+
+use narrow::NarrowTotals;
+use wide::WideTotals;
 
 /// What a search counts in.
 #[derive(Clone, Copy)]
@@ -30,14 +38,18 @@ pub fn count(info: TextInfo, unit: Unit) -> usize
     }
 }
 
-/// For each child of a list of at most 24 the counts of all children up to and with it, seen as the list of those counts.
+/// For each child of a list of at most 24 the counts of all children up to and with it, seen as the list of those counts. Those
+/// over leaves fit in 16 bits each, and so do those over any nodes with a short text; others are kept elsewhere, in words.
 #[derive(Drop)]
 pub struct Totals {
-    len: usize,
-    bytes: [usize; 24],
-    chars: [usize; 24],
-    pairs: [usize; 24],
-    breaks: [usize; 24],
+    width: Width,
+}
+
+/// Totals in 16 bits each, or in words.
+#[derive(Drop)]
+enum Width {
+    Narrow(NarrowTotals),
+    Wide(Box<WideTotals>),
 }
 
 impl Model for Totals {
@@ -46,64 +58,45 @@ impl Model for Totals {
 
     ghost Value = { List TextInfo };
 
-    ghost use Rattle.rope_tree.specs.TotalsShape.{all_totals, IsTotals};
+    ghost use Rattle.rope_tree.specs.TotalsShape.{totals_of};
 
-    ghost view = { all_totals };
-
-    ghost invariant = { IsTotals };
+    ghost view = { totals_of };
 }
 
-/// Puts other counts for those of one part, in all from one place up to another.
-fn shift(counts: &mut [usize], from: usize, to: usize, old: usize, new: usize)
-    requires within { to ≤ length counts.old }
-    requires part { (j : ℕ) → from ≤ j → j < to → old ≤ slice_index counts.old j }
-    requires fits { (j : ℕ) → from ≤ j → j < to → slice_index counts.old j + new < 2 ^ 64 }
-    ensures before { (j : ℕ) → j < from → slice_index counts.new j ≡ slice_index counts.old j }
-    ensures after { (j : ℕ) → from ≤ j → j < to → slice_index counts.new j + old ≡ slice_index counts.old j + new }
-{
-    for j in from..to {
-        counts[j] = counts[j] - old + new;
-    }
-}
+/// The bytes of a text whose counts may not all fit in 16 bits.
+const TOO_WIDE: usize = 65536;
 
 impl Totals {
     /// Those of no child.
+    #[inline(always)]
     pub(crate) fn new() -> Totals
         ensures { result ≡ [] }
     {
         Totals {
-            len: 0,
-            bytes: [0; 24],
-            chars: [0; 24],
-            pairs: [0; 24],
-            breaks: [0; 24],
+            width: Width::Narrow(NarrowTotals::new()),
         }
     }
 
     /// How many children there are.
+    #[inline(always)]
     pub fn len(&self) -> usize
         ensures { result ≡ length self.now }
     {
-        self.len
+        match &self.width {
+            Width::Narrow(totals) => totals.len(),
+            Width::Wide(totals) => totals.len(),
+        }
     }
 
     /// The counts of all children up to the one at a place, and with it.
+    #[inline(always)]
     pub fn get(&self, place: usize) -> TextInfo
         requires { place < length self.now }
         ensures { (d : TextInfo) → result ≡ slice_index_or self.now place d }
     {
-        let Totals {
-            bytes,
-            chars,
-            pairs,
-            breaks,
-            ..
-        } = self;
-        TextInfo {
-            bytes: bytes[place],
-            chars: chars[place],
-            utf16_surrogates: pairs[place],
-            break_count: breaks[place],
+        match &self.width {
+            Width::Narrow(totals) => totals.get(place),
+            Width::Wide(totals) => totals.get(place),
         }
     }
 
@@ -114,60 +107,76 @@ impl Totals {
         requires small { (d : TextInfo) → IsSmall (slice_index_or self.now place d) }
         ensures { (d : TextInfo) → result ≡ count_of unit (slice_index_or self.now place d) }
     {
-        let Totals {
-            bytes,
-            chars,
-            pairs,
-            breaks,
-            ..
-        } = self;
-        match unit {
-            Unit::Byte => bytes[place],
-            Unit::Char => chars[place],
-            Unit::CodeUnit => chars[place] + pairs[place],
-            Unit::LineBreak => breaks[place],
+        match &self.width {
+            Width::Narrow(totals) => totals.count(place, unit),
+            Width::Wide(totals) => totals.count(place, unit),
         }
     }
 
-    /// Puts the total of one child more behind the others.
-    pub(crate) fn push(&mut self, total: TextInfo)
-        requires { length self.old < 24 }
-        ensures { self.new ≡ self.old ++ total ∷ [] }
+    /// Whether a text of so many bytes more leaves the totals in the width that they have.
+    #[inline(always)]
+    pub(crate) fn has_room_for(&self, bytes: usize) -> bool
+        requires { 1 ≤ length self.now }
+        ensures { result ≡ true → AreNarrow self.now → (d : TextInfo) → (slice_index_or self.now (length self.now - 1) d).bytes + bytes < 2 ^ 16 }
     {
-        self.bytes[self.len] = total.bytes;
-        self.chars[self.len] = total.chars;
-        self.pairs[self.len] = total.utf16_surrogates;
-        self.breaks[self.len] = total.break_count;
-        self.len += 1;
+        let all = self.get(self.len() - 1).bytes;
+        all >= TOO_WIDE || bytes < TOO_WIDE - all
+    }
+
+    /// Puts the total of one child more behind the others.
+    pub(crate) fn push(&mut self, alloc: Global, total: TextInfo) -> Result<(), AllocError>
+        requires room { length self.old < 24 }
+        requires small { IsSmall total }
+        ensures ok { OnOk result (self.new ≡ self.old ++ total ∷ []) }
+        ensures err { OnErr result (self.new ≡ self.old) }
+    {
+        match &mut self.width {
+            Width::Narrow(totals) => {
+                if total.bytes < TOO_WIDE {
+                    totals.push(total);
+                    return Ok(());
+                }
+                let mut wide = Box::new(alloc, WideTotals::of(totals))?;
+                wide.push(total);
+                self.width = Width::Wide(wide);
+            }
+            Width::Wide(totals) => totals.push(total),
+        }
+        Ok(())
+    }
+
+    /// Puts the total of one child more before the one at a place.
+    pub(crate) fn insert(&mut self, place: usize, total: TextInfo)
+        requires within { place ≤ length self.old }
+        requires room { length self.old < 24 }
+        requires narrow { AreNarrow self.old → IsNarrow total }
+        ensures len { length self.new ≡ length self.old + 1 }
+        ensures before { (j : ℕ) (d : TextInfo) → j < place → slice_index_or self.new j d ≡ slice_index_or self.old j d }
+        ensures here { (d : TextInfo) → slice_index_or self.new place d ≡ total }
+        ensures behind { (j : ℕ) (d : TextInfo) → place ≤ j → j < length self.old → slice_index_or self.new (j + 1) d ≡ slice_index_or self.old j d }
+    {
+        match &mut self.width {
+            Width::Narrow(totals) => totals.insert(place, total),
+            Width::Wide(totals) => totals.insert(place, total),
+        }
     }
 
     /// Puts other counts for those of one part of a text, in all totals from a place on.
+    #[inline(always)]
     pub(crate) fn retotal(&mut self, place: usize, old: TextInfo, new: TextInfo)
-        requires within { place ≤ length self.old }
+        requires within { place < length self.old }
         requires small { (j : ℕ) (d : TextInfo) → j < length self.old → IsSmall (slice_index_or self.old j d) }
         requires part { (j : ℕ) (d : TextInfo) → place ≤ j → j < length self.old → HasPart (slice_index_or self.old j d) old }
         requires new { IsSmall new }
+        requires fits { AreNarrow self.old → (j : ℕ) (d : TextInfo) → place ≤ j → j < length self.old → FitsWith (slice_index_or self.old j d) old new }
         ensures len { length self.new ≡ length self.old }
         ensures before { (j : ℕ) (d : TextInfo) → j < place → slice_index_or self.new j d ≡ slice_index_or self.old j d }
         ensures after { (j : ℕ) (d : TextInfo) → place ≤ j → j < length self.old → info_sum (slice_index_or self.new j d) old ≡ info_sum (slice_index_or self.old j d) new }
     {
-        let len = self.len;
-        shift(&mut self.bytes, place, len, old.bytes, new.bytes);
-        shift(&mut self.chars, place, len, old.chars, new.chars);
-        shift(
-            &mut self.pairs,
-            place,
-            len,
-            old.utf16_surrogates,
-            new.utf16_surrogates,
-        );
-        shift(
-            &mut self.breaks,
-            place,
-            len,
-            old.break_count,
-            new.break_count,
-        );
+        match &mut self.width {
+            Width::Narrow(totals) => totals.retotal(place, old, new),
+            Width::Wide(totals) => totals.retotal(place, old, new),
+        }
     }
 }
 

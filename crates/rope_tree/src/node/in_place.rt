@@ -21,6 +21,7 @@ pub(super) struct WayIn {
 
 impl Children {
     /// The child that takes a text before the character `at`.
+    #[inline(always)]
     pub(super) fn way_in(&self, at: usize, to_right: bool) -> WayIn
         requires children { AreChildren (breaks_of self.now) (height_of self.now) self.now }
         requires within { at ≤ length (joined self.now) }
@@ -49,6 +50,9 @@ impl Children {
         ensures done { result ≡ true → AreGrown self.old self.new (inserted (joined self.old) at added.now) }
         ensures kept { result ≡ false → self.new ≡ self.old }
     {
+        if !self.totals.has_room_for(added.len()) {
+            return false;
+        }
         let way = self.way_in(at, to_right);
         let node = &mut self.nodes[way.place];
         let old = node.info();

@@ -6,7 +6,8 @@ ghost use Rattle.rope_text.specs.Edit.{inserted};
 ghost use Rattle.rope_tree.specs.Tree.{text, joined, breaks_of, height_of, tree_over, AreChildren};
 ghost use Rattle.rope_tree.specs.Insert.{MayInsert, IsInserted, AreGrown};
 
-use super::{Children, Form, Node, totals_of};
+use super::{Children, Form, Node};
+use crate::lookup::total_before;
 use crate::short_text::ShortText;
 use rope_text::MAX_CHILDREN;
 use std::alloc::{AllocError, Global};
@@ -36,6 +37,9 @@ impl Children {
         ensures unmade { IfOk result (λ did. did ≡ false → made.new ≡ made.old) }
         ensures made { made.new ≤ made.old + 1 }
     {
+        if !self.totals.has_room_for(added.len()) {
+            return Ok(false);
+        }
         let way = self.way_in(at, to_right);
         if self.nodes[way.place].height() == 0 {
             return self.cut_leaf(alloc, at, added, to_right, made);
@@ -71,17 +75,21 @@ impl Children {
         ensures unmade { IfOk result (λ did. did ≡ false → made.new ≡ made.old) }
         ensures made { made.new ≤ made.old + 1 }
     {
-        if self.totals.len() >= MAX_CHILDREN {
+        let count = self.totals.len();
+        if count >= MAX_CHILDREN || !self.totals.has_room_for(added.len()) {
             return Ok(false);
         }
         let way = self.way_in(at, to_right);
         let node = &mut self.nodes[way.place];
+        let old = node.info();
         let Some(back) = node.cut(alloc, way.at, added, made)? else {
             return Ok(false);
         };
-        let count = self.totals.len() + 1;
-        put_behind(&mut self.nodes[..count], way.place, back);
-        self.totals = totals_of(&self.nodes[..count]);
+        let front = node.info();
+        let total = total_before(&self.totals, way.place).plus(front);
+        self.totals.retotal(way.place, old, front.plus(back.info()));
+        self.totals.insert(way.place, total);
+        put_behind(&mut self.nodes[..count + 1], way.place, back);
         Ok(true)
     }
 }

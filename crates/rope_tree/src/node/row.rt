@@ -27,28 +27,29 @@ impl Children {
 
     /// Puts a node behind the others.
     #[inline(always)]
-    fn push(&mut self, node: Node)
+    fn push(&mut self, alloc: Global, node: Node) -> Result<(), AllocError>
         requires room { length self.old < 24 }
         requires siblings { AreSiblings (breaks_of (self.old ++ node ∷ [])) (height_of (self.old ++ node ∷ [])) (self.old ++ node ∷ []) }
-        ensures { self.new ≡ self.old ++ node ∷ [] }
+        ensures { IfOk result (λ _. self.new ≡ self.old ++ node ∷ []) }
     {
         let count = self.totals.len();
         let before = total_before(&self.totals, count);
+        self.totals.push(alloc, before.plus(node.info()))?;
         self.height = (node.height() + 1) as u8;
         self.breaks = node.line_breaks();
-        self.totals.push(before.plus(node.info()));
         self.nodes[count] = node;
+        Ok(())
     }
 
     /// Shares the nodes, and puts them behind the others.
     #[inline(always)]
-    fn push_all(&mut self, nodes: &[Node]) -> Result<(), AllocError>
+    fn push_all(&mut self, alloc: Global, nodes: &[Node]) -> Result<(), AllocError>
         requires room { length self.old + length nodes.now ≤ 24 }
         requires siblings { AreSiblings (breaks_of (self.old ++ nodes.now)) (height_of (self.old ++ nodes.now)) (self.old ++ nodes.now) }
         ensures { IfOk result (λ _. self.new ≡ self.old ++ nodes.now) }
     {
         for node in nodes {
-            self.push(node.share()?);
+            self.push(alloc, node.share()?)?;
         }
         Ok(())
     }
@@ -81,9 +82,9 @@ pub fn make_over(
 {
     add_made(made);
     let mut list = Children::new();
-    list.push_all(before)?;
-    list.push_all(middle)?;
-    list.push_all(after)?;
+    list.push_all(alloc, before)?;
+    list.push_all(alloc, middle)?;
+    list.push_all(alloc, after)?;
     inner_over(alloc, list)
 }
 

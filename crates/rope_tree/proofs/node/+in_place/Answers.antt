@@ -7,7 +7,7 @@ use Rattle.rope_tree.proofs.InsertDescents.{takes}
 use Rattle.rope_tree.proofs.GrownLaws.{tallest_above}
 use Rattle.rope_tree.proofs.FormLaws.{inner_of, inner_seen, leaf_seen, by_answer, still_children, grown_children, grown_node}
 use Rattle.rope_tree.proofs.ListedLaws.{seen_at}
-use Rattle.rope_tree.proofs.ChildLaws.{Finds, read, part, child_fits, may, small, fields_after, all_grown}
+use Rattle.rope_tree.proofs.ChildLaws.{Finds, read, part, child_fits, may, small, still_narrow, fields_after, all_grown}
 use Rattle.rope_tree.proofs.node.+in_place.Goals.{Children::insert_in_place-After-index-self-way, Node::insert_in_place-in-Empty, Node::insert_in_place-in-Leaf+in-Some, Node::insert_in_place-in-Leaf+in-None, Node::insert_in_place-in-Inner+in-Some-get_mut, Node::insert_in_place-in-Inner+in-None-get_mut}
 use Rattle.rope_tree.proofs.node.+in_place.Goals as goal
 
@@ -47,6 +47,13 @@ pub Children::insert_in_place-retotal-requires-clause-new :
 Children::insert_in_place-retotal-requires-clause-new t c =
     small _ _ _ _ _ _ _ (found t (goal.at.Children::insert_in_place-retotal-requires-clause-new t c).After-index-self-way) c.args.added.now c.requires.some c.requires.side c.requires.fits
     c.insert_in_place.new.self (c.insert_in_place.ensures.done c.if-not-insert_in_place.false) c.info-new.result c.info-new.ensures
+
+pub Children::insert_in_place-retotal-requires-clause-fits :
+    goal.Children::insert_in_place-retotal-requires-clause-fits
+Children::insert_in_place-retotal-requires-clause-fits t c =
+    still_narrow _ _ _ _ _ _ _ (found t (goal.at.Children::insert_in_place-retotal-requires-clause-fits t c).After-index-self-way) c.args.added.now c.requires.some c.requires.side c.requires.fits
+    c.insert_in_place.new.self (c.insert_in_place.ensures.done c.if-not-insert_in_place.false) c.self.inside.totals refl
+    (rw c.len.ensures.value at c.has_room_for.ensures c.if-not-has_room_for.false) c.info-old.result c.info-new.result c.info-old.ensures c.info-new.ensures
 
 pub Children::insert_in_place-invariant_of-self-2 :
     goal.Children::insert_in_place-invariant_of-self-2

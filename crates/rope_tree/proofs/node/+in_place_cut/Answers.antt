@@ -8,7 +8,7 @@ use Rattle.rope_tree.proofs.InsertDescents.{takes}
 use Rattle.rope_tree.proofs.GrownLaws.{tallest_above}
 use Rattle.rope_tree.proofs.FormLaws.{inner_of, inner_seen, by_outcome, still_children, grown_children, grown_node}
 use Rattle.rope_tree.proofs.ListedLaws.{seen_at}
-use Rattle.rope_tree.proofs.ChildLaws.{Finds, read, part, child_fits, may, small, fields_after, all_grown}
+use Rattle.rope_tree.proofs.ChildLaws.{Finds, read, part, child_fits, may, small, still_narrow, fields_after, all_grown}
 use Rattle.rope_tree.proofs.node.+in_place_cut.Goals.{Children::insert_by_cut-After-index-self-way-2, Node::insert_by_cut-in-Some, Node::insert_by_cut-in-None}
 use Rattle.rope_tree.proofs.node.+in_place_cut.Goals as goal
 
@@ -48,6 +48,13 @@ pub Children::insert_by_cut-retotal-requires-clause-new :
 Children::insert_by_cut-retotal-requires-clause-new t c =
     small _ _ _ _ _ _ _ (found t (goal.at.Children::insert_by_cut-retotal-requires-clause-new t c).After-index-self-way-2) c.args.added.now c.requires.some c.requires.side c.requires.fits
     c.insert_by_cut.new.self (c.in_ok-insert_by_cut.ensures.done c.if-not-branch.false) c.info-new.result c.info-new.ensures
+
+pub Children::insert_by_cut-retotal-requires-clause-fits :
+    goal.Children::insert_by_cut-retotal-requires-clause-fits
+Children::insert_by_cut-retotal-requires-clause-fits t c =
+    still_narrow _ _ _ _ _ _ _ (found t (goal.at.Children::insert_by_cut-retotal-requires-clause-fits t c).After-index-self-way-2) c.args.added.now c.requires.some c.requires.side c.requires.fits
+    c.insert_by_cut.new.self (c.in_ok-insert_by_cut.ensures.done c.if-not-branch.false) c.self.inside.totals refl
+    (rw c.len.ensures.value at c.has_room_for.ensures c.if-not-has_room_for.false) c.info-old.result c.info-new.result c.info-old.ensures c.info-new.ensures
 
 pub Children::insert_by_cut-invariant_of-self-2 :
     goal.Children::insert_by_cut-invariant_of-self-2

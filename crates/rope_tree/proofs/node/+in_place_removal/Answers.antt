@@ -1,19 +1,20 @@
-use Rattle.std.proofs.Common.{ℕ, ◌-◌, ◌<◌, ◌≤◌, length, get_or, set, sym, ap, subst, refl, ◌∙◌, arith}
+use Rattle.std.proofs.Common.{ℕ, ◌-◌, ◌<◌, ◌≤◌, ◌^◌, length, get_or, set, sym, ap, subst, refl, ◌∙◌, arith}
 use Rattle.rope_text.specs.declared.text_info.TextInfo.{TextInfo}
+use Rattle.rope_text.specs.Text.{byte_len}
 use Rattle.rope_text.specs.TextInfo.{info_of}
 use Rattle.rope_tree.specs.declared.search.Unit.TheVariants.{Char}
-use Rattle.rope_tree.specs.Tree.{Tree, text, height_of, breaks_of}
+use Rattle.rope_tree.specs.Tree.{Tree, text, joined, height_of, breaks_of}
 use Rattle.rope_tree.specs.Listed.{listed}
 use Rattle.rope_tree.specs.Removal.{IsRemoved, AreRemoved}
 use Rattle.rope_tree.proofs.NodeLaws.{small_totals}
 use Rattle.rope_tree.proofs.Infos.{small_info}
 use Rattle.rope_tree.proofs.Descents.{Descends, descends}
 use Rattle.rope_tree.proofs.InsertDescents.{last_total}
-use Rattle.rope_tree.proofs.TotalLaws.{has_part}
+use Rattle.rope_tree.proofs.TotalLaws.{has_part, fits_after}
 use Rattle.rope_tree.proofs.GrownLaws.{totals_seen, tallest_above}
 use Rattle.rope_tree.proofs.ListedLaws.{seen_at, set_seen, set_listed, set_totals}
 use Rattle.rope_tree.proofs.FormLaws.{inner_of, inner_seen, leaf_seen, by_answer, still_children, removed_children, removed_node}
-use Rattle.rope_tree.proofs.RemovalLaws.{Holds, holds, children_removed, child_removed}
+use Rattle.rope_tree.proofs.RemovalLaws.{Holds, holds, byte_len-removed, children_removed, child_removed}
 use Rattle.rope_tree.proofs.node.+in_place_removal.Goals as goal
 use Rattle.rope_tree.proofs.node.+in_place_removal.Goals.{Children::remove_in_place-After-index-self-place, Node::remove_in_place-in-Empty, Node::remove_in_place-in-Leaf+in-Some, Node::remove_in_place-in-Leaf+in-None, Node::remove_in_place-in-Inner+in-Some-get_mut, Node::remove_in_place-in-Inner+in-None-get_mut}
 
@@ -105,6 +106,25 @@ left t c u done =
     let d = down t c in
     children_removed (breaks_of ts) (height_of ts) ts c.place_of-place.result (get_or c.self.inside.nodes c.place_of-place.result c.index-self-place.result)
     d.children d.within d.child_is _ _ c.args.start c.args.end (held t c).1 u done refl refl
+
+pub Children::remove_in_place-retotal-requires-clause-fits :
+    goal.Children::remove_in_place-retotal-requires-clause-fits
+Children::remove_in_place-retotal-requires-clause-fits t c = λ narrow j e from within.
+    let i = (goal.at.Children::remove_in_place-retotal-requires-clause-fits t c).After-index-self-place in
+    let ts = c.args.self.now in
+    let child = get_or c.self.inside.nodes c.place_of-place.result c.index-self-place.result in
+    let u = c.remove_in_place.new.self in
+    let d = down t i in
+    let totals = totals_seen (listed c.self.inside) ts c.self.inside.totals c.self.inside.totals c.self.view_is refl c.self.invariant.totals_right in
+    let inside : j < length ts = omega (arith, totals.as_many, within) in
+    let r = left t i u (c.remove_in_place.ensures.done c.if-not-remove_in_place.false) in
+    let last = last_total (breaks_of ts) c.self.inside.totals ts totals (omega (arith, c.requires.children.at_least_two)) e in
+    let few : byte_len (joined (set ts c.place_of-place.result u)) < 2 ^ 16 =
+    omega (arith, (narrow (length c.self.inside.totals - 1) e (omega (arith, within))).bytes, ap (λ x. x.bytes) last, ap byte_len r.text_is, byte_len-removed (joined ts) c.args.start c.args.end (omega (arith, c.requires.ordered))) in
+    let own = c.info-old.ensures ∙ ap (λ b. info_of b (text child)) d.own.same_breaks in
+    let now = c.info-new.ensures ∙ ap (λ b. info_of b (text u)) ((c.remove_in_place.ensures.done c.if-not-remove_in_place.false).same_breaks ∙ d.own.same_breaks) in
+    rw (totals.total_at j e inside, own, now)
+    (fits_after (breaks_of ts) (height_of ts) ts (set ts c.place_of-place.result u) c.place_of-place.result child u d.children d.within d.child_is r.children refl few j from inside)
 
 pub Children::remove_in_place-invariant_of-self-2 :
     goal.Children::remove_in_place-invariant_of-self-2

@@ -1,49 +1,201 @@
-use Rattle.std.proofs.Common.{◌≡◌, ◌+◌, ◌<◌, List, [], ◌∷◌, ◌++◌, length, get_or, set, take, IfSome, sym, ap, subst, refl, ◌∙◌, arith}
+use Rattle.std.proofs.Common.{◌≡◌, ℕ, ◌+◌, ◌-◌, ◌<◌, ◌≤◌, ◌^◌, List, [], ◌∷◌, ◌++◌, length, get_or, set, take, IfSome, sym, ap, subst, refl, ◌∙◌, arith}
 use Rattle.std.specs.List.{insert}
 use Rattle.std.proofs.lemmas.List.{length-set}
 use Rattle.std.proofs.lemmas.List.Edits.{length-insert}
-use Rattle.std.proofs.Math.Seq.{take-append_seam}
+use Rattle.rope_text.specs.declared.line_breaks.LineBreaks.{LineBreaks}
+use Rattle.rope_text.specs.declared.text_info.TextInfo.{TextInfo}
+use Rattle.rope_text.specs.Text.{byte_len}
+use Rattle.rope_text.specs.TextInfo.{info_of, info_sum}
 use Rattle.rope_text.specs.Edit.{inserted}
+use Rattle.rope_tree.specs.Search.{IsSmall}
 use Rattle.rope_tree.specs.Tree.{Tree, text, joined, height_of, breaks_of, AreChildren}
+use Rattle.rope_tree.specs.Totals.{HasTotals}
 use Rattle.rope_tree.specs.Insert.{IsInserted, AreGrown}
-use Rattle.rope_tree.proofs.NodeLaws.{children_of_first}
-use Rattle.rope_tree.proofs.InsertDescents.{takes}
+use Rattle.rope_tree.proofs.Infos.{small_info}
+use Rattle.rope_tree.proofs.TreeLaws.{breaks_of_is}
+use Rattle.rope_tree.proofs.NodeLaws.{byte_len-joined, small_totals}
+use Rattle.rope_tree.proofs.Descents.{front_is}
+use Rattle.rope_tree.proofs.InsertDescents.{takes, last_total}
+use Rattle.rope_tree.proofs.InsertTrees.{byte_len-inserted}
 use Rattle.rope_tree.proofs.GrownLaws.{children_grown, grown_by_one}
 use Rattle.rope_tree.proofs.ListedLaws.{seen_at, put_in_place, more_seen, more_listed}
-use Rattle.rope_tree.proofs.ChildLaws.{Finds}
-use Rattle.rope_tree.proofs.node.Children.cut_leaf.Goals.{After-put_behind}
+use Rattle.rope_tree.proofs.ChildLaws.{Finds, read, part}
+use Rattle.rope_tree.proofs.CutLaws.{Cuts, own_first, own_second, small_both, cut_fits, few_bytes, first_narrow, totals_cut}
+use Rattle.rope_tree.proofs.node.Children.cut_leaf.Goals.{After-info-front, After-put_behind}
 use Rattle.rope_tree.proofs.node.Children.cut_leaf.Goals as goal
 
 -- the child that takes the text
-found : (c : After-put_behind) → Finds c.self.inside c.args.self.now c.way_in-way.result.place (get_or c.self.inside.nodes c.way_in-way.result.place c.index-self-way.result)
-    c.args.at c.way_in-way.result.at c.args.to_right
+abbrev child : After-info-front → Tree
+child c = get_or c.self.inside.nodes c.way_in-way.result.place c.index-self-way.result
+
+found : (c : After-info-front) → Finds c.self.inside c.args.self.now c.way_in-way.result.place (child c) c.args.at c.way_in-way.result.at c.args.to_right
 found c = record {
   view = c.self.view_is;
   fields = c.self.invariant;
-  taken = takes c.args.self.now c.way_in-way.result.place (get_or c.self.inside.nodes c.way_in-way.result.place c.index-self-way.result) c.args.at c.way_in-way.result.at c.args.to_right
+  taken = takes c.args.self.now c.way_in-way.result.place (child c) c.args.at c.way_in-way.result.at c.args.to_right
       c.requires.children c.way_in-way.ensures.child (seen_at c.self.inside c.args.self.now c.way_in-way.result.place c.index-self-way.result c.self.view_is c.way_in-way.ensures.child)
       c.way_in-way.ensures.place c.way_in-way.ensures.goes;
 }
+
+-- the children with both parts of the leaf
+abbrev parts : After-info-front → List Tree
+parts c = insert (set c.args.self.now c.way_in-way.result.place c.cut.new.self) (c.way_in-way.result.place + 1) c.in-Some.back
+
+parted : (c : After-info-front) → AreGrown c.args.self.now (parts c) (inserted (joined c.args.self.now) c.args.at c.args.added.now)
+parted c =
+    let ts = c.args.self.now in
+    let k = c.way_in-way.result.place in
+    let u = c.cut.new.self in
+    let d = (found c).taken in
+    let g = d.goes in
+    let new = inserted (text (child c)) c.way_in-way.result.at c.args.added.now in
+    let done = subst (λ o. IfSome o (λ back. IsInserted (child c) (u ∷ back ∷ []) new)) c.in-Some.is c.in_ok-back.ensures.cut in
+    let few : length ts < 24 = omega (arith, c.if-count-ge-MAX_CHILDREN.false, c.len-count.ensures, c.self.invariant.totals_right.as_many, ap length c.self.view_is) in
+    grown_by_one (breaks_of ts) (height_of ts) ts k (child c) u c.in-Some.back d.children d.within d.child_is c.args.at c.way_in-way.result.at c.args.added.now c.requires.some
+    d.place g.within c.args.to_right g.inside g.outside c.requires.side done c.requires.fits refl refl few
+
+children : (c : After-info-front) → AreChildren (breaks_of c.args.self.now) (height_of c.args.self.now) (parts c)
+children c = children_grown c.args.self.now (parts c) _ c.requires.children (parted c)
+
+cut : (c : After-info-front) → Cuts c.args.self.now (parts c) c.way_in-way.result.place (child c) c.cut.new.self c.in-Some.back
+cut c = record { children = c.requires.children; within = c.way_in-way.ensures.child; child_is = (found c).taken.child_is; after = children c; is = refl }
+
+totals : (c : After-info-front) → HasTotals (breaks_of c.args.self.now) c.self.inside.totals c.args.self.now
+totals c = read _ _ _ _ _ _ _ (found c) c.self.inside.totals refl
+
+-- the counts that the code reads
+old_is : (c : After-info-front) → c.info-old.result ≡ info_of (breaks_of c.args.self.now) (text (child c))
+old_is c = c.info-old.ensures ∙ ap (λ b. info_of b (text (child c))) (found c).taken.own.same_breaks
+
+front_counts : (c : After-info-front) → c.info-front.result ≡ info_of (breaks_of c.args.self.now) (text c.cut.new.self)
+front_counts c = c.info-front.ensures ∙ ap (λ b. info_of b (text c.cut.new.self)) (own_first _ _ _ _ _ _ (cut c)).same_breaks
+
+module _ (c : After-info-front) where
+  abbrev br : LineBreaks
+  br = breaks_of c.args.self.now
+
+  abbrev u : Tree
+  u = c.cut.new.self
+
+  abbrev front : List Tree
+  front = take c.way_in-way.result.place c.args.self.now
+
+  before_is : (before : TextInfo) → (c.way_in-way.result.place ≡ 0 → (b : LineBreaks) → before ≡ info_of b []) → ((d : TextInfo) → 0 < c.way_in-way.result.place → before ≡ get_or c.self.inside.totals (c.way_in-way.result.place - 1) d)
+      → before ≡ info_of br (joined front)
+  before_is before first later =
+      let t = totals c in
+      front_is br c.self.inside.totals c.args.self.now c.way_in-way.result.place before t (omega (arith, t.as_many, c.way_in-way.ensures.child)) first later
+
+  small_before : (before : TextInfo) → before ≡ info_of br (joined front) → IsSmall before
+  small_before before is = rw is (small_info br (joined front) (omega (arith, byte_len-joined c.args.self.now c.way_in-way.result.place, c.requires.children.fits)))
+
+  small_front : IsSmall c.info-front.result
+  small_front = rw (front_counts c) (small_info br (text u) (own_first _ _ _ _ _ _ (cut c)).tree.fits)
+
+  small_back : (back : TextInfo) → back ≡ info_of c.in-Some.back.breaks (text c.in-Some.back) → IsSmall back
+  small_back back is = rw is (small_info c.in-Some.back.breaks (text c.in-Some.back) (own_second _ _ _ _ _ _ (cut c)).tree.fits)
+
+  both_are : (back both : TextInfo) → back ≡ info_of c.in-Some.back.breaks (text c.in-Some.back) → both ≡ info_sum c.info-front.result back → both ≡ info_sum (info_of br (text u)) (info_of br (text c.in-Some.back))
+  both_are back both is sum =
+      let own = is ∙ ap (λ b. info_of b (text c.in-Some.back)) (own_second _ _ _ _ _ _ (cut c)).same_breaks in
+      sum ∙ ap (λ x. info_sum x back) (front_counts c) ∙ ap (λ x. info_sum (info_of br (text u)) x) own
+
+  first_is : (before first : TextInfo) → before ≡ info_of br (joined front) → first ≡ info_sum before c.info-front.result → first ≡ info_sum (info_of br (joined front)) (info_of br (text u))
+  first_is before first is sum = sum ∙ ap (λ x. info_sum x c.info-front.result) is ∙ ap (λ x. info_sum (info_of br (joined front)) x) (front_counts c)
+
+pub plus-total-requires-clause-bytes : goal.plus-total-requires-clause-bytes
+plus-total-requires-clause-bytes c =
+    let f = (goal.at.plus-total-requires-clause-bytes c).After-info-front in
+    let b = small_before f c.total_before.result (before_is f c.total_before.result c.total_before.ensures.first c.total_before.ensures.later) in
+    let n = small_front f in
+    omega (arith, b.bytes, b.chars, b.surrogates, b.count, n.bytes, n.chars, n.surrogates, n.count)
+
+pub plus-requires-clause-bytes : goal.plus-requires-clause-bytes
+plus-requires-clause-bytes c =
+    let f = (goal.at.plus-requires-clause-bytes c).After-info-front in
+    let b = small_back f c.info.result c.info.ensures in
+    let n = small_front f in
+    omega (arith, b.bytes, b.chars, b.surrogates, b.count, n.bytes, n.chars, n.surrogates, n.count)
+
+pub plus-total-requires-clause-chars : goal.plus-total-requires-clause-chars
+plus-total-requires-clause-chars c =
+    let f = (goal.at.plus-total-requires-clause-chars c).After-info-front in
+    let b = small_before f c.total_before.result (before_is f c.total_before.result c.total_before.ensures.first c.total_before.ensures.later) in
+    let n = small_front f in
+    omega (arith, b.bytes, b.chars, b.surrogates, b.count, n.bytes, n.chars, n.surrogates, n.count)
+
+pub plus-requires-clause-chars : goal.plus-requires-clause-chars
+plus-requires-clause-chars c =
+    let f = (goal.at.plus-requires-clause-chars c).After-info-front in
+    let b = small_back f c.info.result c.info.ensures in
+    let n = small_front f in
+    omega (arith, b.bytes, b.chars, b.surrogates, b.count, n.bytes, n.chars, n.surrogates, n.count)
+
+pub plus-total-requires-clause-utf16_surrogates : goal.plus-total-requires-clause-utf16_surrogates
+plus-total-requires-clause-utf16_surrogates c =
+    let f = (goal.at.plus-total-requires-clause-utf16_surrogates c).After-info-front in
+    let b = small_before f c.total_before.result (before_is f c.total_before.result c.total_before.ensures.first c.total_before.ensures.later) in
+    let n = small_front f in
+    omega (arith, b.bytes, b.chars, b.surrogates, b.count, n.bytes, n.chars, n.surrogates, n.count)
+
+pub plus-requires-clause-utf16_surrogates : goal.plus-requires-clause-utf16_surrogates
+plus-requires-clause-utf16_surrogates c =
+    let f = (goal.at.plus-requires-clause-utf16_surrogates c).After-info-front in
+    let b = small_back f c.info.result c.info.ensures in
+    let n = small_front f in
+    omega (arith, b.bytes, b.chars, b.surrogates, b.count, n.bytes, n.chars, n.surrogates, n.count)
+
+pub plus-total-requires-clause-break_count : goal.plus-total-requires-clause-break_count
+plus-total-requires-clause-break_count c =
+    let f = (goal.at.plus-total-requires-clause-break_count c).After-info-front in
+    let b = small_before f c.total_before.result (before_is f c.total_before.result c.total_before.ensures.first c.total_before.ensures.later) in
+    let n = small_front f in
+    omega (arith, b.bytes, b.chars, b.surrogates, b.count, n.bytes, n.chars, n.surrogates, n.count)
+
+pub plus-requires-clause-break_count : goal.plus-requires-clause-break_count
+plus-requires-clause-break_count c =
+    let f = (goal.at.plus-requires-clause-break_count c).After-info-front in
+    let b = small_back f c.info.result c.info.ensures in
+    let n = small_front f in
+    omega (arith, b.bytes, b.chars, b.surrogates, b.count, n.bytes, n.chars, n.surrogates, n.count)
+
+pub retotal-requires-clause-small : goal.retotal-requires-clause-small
+retotal-requires-clause-small c =
+    small_totals (breaks_of c.args.self.now) c.self.inside.totals c.args.self.now (totals (goal.at.retotal-requires-clause-small c).After-info-front) c.requires.children.fits
+
+pub retotal-requires-clause-part : goal.retotal-requires-clause-part
+retotal-requires-clause-part c =
+    part _ _ _ _ _ _ _ (found (goal.at.retotal-requires-clause-part c).After-info-front) c.self.inside.totals refl c.info-old.result c.info-old.ensures
+
+pub retotal-requires-clause-new : goal.retotal-requires-clause-new
+retotal-requires-clause-new c =
+    let f = (goal.at.retotal-requires-clause-new c).After-info-front in
+    rw (both_are f c.info.result c.plus.result c.info.ensures c.plus.ensures.sum) (small_both _ _ _ _ _ _ (cut f))
+
+pub retotal-requires-clause-fits : goal.retotal-requires-clause-fits
+retotal-requires-clause-fits c = λ narrow j d from within.
+    let f = (goal.at.retotal-requires-clause-fits c).After-info-front in
+    let ts = c.args.self.now in
+    let t = totals f in
+    let inside : j < length ts = omega (arith, t.as_many, within) in
+    let last = last_total (breaks_of ts) c.self.inside.totals ts t (omega (arith, c.requires.children.at_least_two)) d in
+    let room = rw c.len.ensures.value at (c.has_room_for.ensures c.if-not-has_room_for.false narrow d) in
+    let few : byte_len (joined (parts f)) < 2 ^ 16 = omega (arith, room, ap (λ x. x.bytes) last, ap byte_len (parted f).text_is, byte_len-inserted (joined ts) c.args.at c.args.added.now) in
+    rw (t.total_at j d inside, old_is f, both_are f c.info.result c.plus.result c.info.ensures c.plus.ensures.sum) (cut_fits _ _ _ _ _ _ (cut f) few j from inside)
+
+pub insert-requires-clause-narrow : goal.insert-requires-clause-narrow
+insert-requires-clause-narrow c = λ narrow.
+    let f = (goal.at.insert-requires-clause-narrow c).After-info-front in
+    let both = both_are f c.info.result c.plus.result c.info.ensures c.plus.ensures.sum in
+    let few = few_bytes _ _ _ _ _ _ (cut f) c.self.inside.totals c.retotal.new.self (totals f) c.retotal.ensures.len (rw (old_is f, both) at c.retotal.ensures.after) narrow in
+    let before = before_is f c.total_before.result c.total_before.ensures.first c.total_before.ensures.later in
+    rw (first_is f c.total_before.result c.plus-total.result before c.plus-total.ensures.sum) (first_narrow _ _ _ _ _ _ (cut f) few)
 
 -- the nodes in use, with the second part of the leaf behind the first
 placed : (c : After-put_behind) → c.put_behind.new.nodes ≡ insert (set c.args.self.now c.way_in-way.result.place c.cut.new.self) (c.way_in-way.result.place + 1) c.in-Some.back
 placed c =
     put_in_place c.self.inside c.args.self.now c.way_in-way.result.place c.cut.new.self c.in-Some.back c.len-count.result c.put_behind.new.nodes c.self.invariant c.self.view_is c.way_in-way.ensures.child
-    c.len-count.ensures (omega (arith, c.if-len-ge-MAX_CHILDREN.false, c.len.ensures, c.len-count.ensures)) c.put_behind.ensures
-
-parted : (c : After-put_behind) → AreGrown c.args.self.now c.put_behind.new.nodes (inserted (joined c.args.self.now) c.args.at c.args.added.now)
-parted c =
-    let ts = c.args.self.now in
-    let k = c.way_in-way.result.place in
-    let child = get_or c.self.inside.nodes k c.index-self-way.result in
-    let u = c.cut.new.self in
-    let d = (found c).taken in
-    let g = d.goes in
-    let new = inserted (text child) c.way_in-way.result.at c.args.added.now in
-    let done = subst (λ o. IfSome o (λ back. IsInserted child (u ∷ back ∷ []) new)) c.in-Some.is c.in_ok-back.ensures.cut in
-    let few : length ts < 24 = omega (arith, c.if-len-ge-MAX_CHILDREN.false, c.len.ensures, c.self.invariant.totals_right.as_many, ap length c.self.view_is) in
-    rw (placed c) (grown_by_one (breaks_of ts) (height_of ts) ts k child u c.in-Some.back d.children d.within d.child_is c.args.at c.way_in-way.result.at c.args.added.now c.requires.some
-    d.place g.within c.args.to_right g.inside g.outside c.requires.side done c.requires.fits refl refl few)
+    c.len-count.ensures (omega (arith, c.if-count-ge-MAX_CHILDREN.false)) c.put_behind.ensures
 
 -- as many as there are places for
 as_many : (c : After-put_behind) → length c.put_behind.new.nodes ≡ c.len-count.result + 1
@@ -52,31 +204,42 @@ as_many c =
     let k = c.way_in-way.result.place in
     let u = c.cut.new.self in
     let within = c.way_in-way.ensures.child in
-    omega (arith, ap length (placed c), length-insert (set ts k u) (k + 1) c.in-Some.back (omega (arith, length-set ts k u)), length-set ts k u, c.len-count.ensures, c.self.invariant.totals_right.as_many, ap length c.self.view_is)
+    omega (arith, ap length (placed c), length-insert (set ts k u) (k + 1) c.in-Some.back (omega (arith, length-set ts k u, within)), length-set ts k u, c.len-count.ensures, c.self.invariant.totals_right.as_many, ap length c.self.view_is)
 
--- the nodes in use are those that were put in
-used : (c : After-put_behind) (others : List Tree) → take (c.len-count.result + 1) (c.put_behind.new.nodes ++ others) ≡ c.put_behind.new.nodes
-used c others = ap (λ n. take n (c.put_behind.new.nodes ++ others)) (sym (as_many c)) ∙ take-append_seam c.put_behind.new.nodes others
-
-children : (c : After-put_behind) → AreChildren (breaks_of c.args.self.now) (height_of c.args.self.now) c.put_behind.new.nodes
-children c = children_grown c.args.self.now c.put_behind.new.nodes _ c.requires.children (parted c)
-
-pub totals_of-self-inside-requires : goal.totals_of-self-inside-requires
-totals_of-self-inside-requires c =
-    let e = (goal.at.totals_of-self-inside-requires c).After-put_behind in
-    rw (used e _) (children_of_first _ _ c.put_behind.new.nodes (children e))
+module _ (c : After-info-front) (total back both : TextInfo) (mid after : List TextInfo) (first : total ≡ info_sum (info_of (breaks_of c.args.self.now) (joined (take c.way_in-way.result.place c.args.self.now))) (info_of (breaks_of c.args.self.now) (text c.cut.new.self)))
+    (parts_are : both ≡ info_sum (info_of (breaks_of c.args.self.now) (text c.cut.new.self)) (info_of (breaks_of c.args.self.now) (text c.in-Some.back)))
+    (len : length mid ≡ length c.self.inside.totals) (before : (j : ℕ) (d : TextInfo) → j < c.way_in-way.result.place → get_or mid j d ≡ get_or c.self.inside.totals j d)
+    (past : (j : ℕ) (d : TextInfo) → c.way_in-way.result.place ≤ j → j < length c.self.inside.totals → info_sum (get_or mid j d) c.info-old.result ≡ info_sum (get_or c.self.inside.totals j d) both)
+    (more : length after ≡ length mid + 1) (early : (j : ℕ) (d : TextInfo) → j < c.way_in-way.result.place → get_or after j d ≡ get_or mid j d) (own : (d : TextInfo) → get_or after c.way_in-way.result.place d ≡ total)
+    (late : (j : ℕ) (d : TextInfo) → c.way_in-way.result.place ≤ j → j < length mid → get_or after (j + 1) d ≡ get_or mid j d) where
+  retotaled : HasTotals (breaks_of (parts c)) after (parts c)
+  retotaled =
+      let us = parts c in
+      let ts = c.args.self.now in
+      let g = children c in
+      let sets : breaks_of us ≡ breaks_of ts = breaks_of_is (breaks_of ts) (height_of ts) us (omega (arith, g.at_least_two)) g.each in
+      rw sets (totals_cut _ _ _ _ _ _ (cut c) c.self.inside.totals mid after total (totals c) len before (rw (old_is c, parts_are) at past) first more early own late)
 
 pub invariant_of-self-2 : goal.invariant_of-self-2
 invariant_of-self-2 c =
     let e = (goal.at.invariant_of-self-2 c).After-put_behind in
-    let us = c.put_behind.new.nodes in
-    more_listed c.self.inside _ c.args.self.now us c.way_in-way.result.place c.cut.new.self c.len-count.result c.self.invariant c.self.view_is c.way_in-way.ensures.child (children e) refl refl
-    (as_many e) c.len-count.ensures refl (rw (used e _) at c.totals_of-self-inside.ensures)
+    let f = (goal.at.invariant_of-self-2 c).After-info-front in
+    let first = first_is f c.total_before.result c.plus-total.result (before_is f c.total_before.result c.total_before.ensures.first c.total_before.ensures.later) c.plus-total.ensures.sum in
+    let both = both_are f c.info.result c.plus.result c.info.ensures c.plus.ensures.sum in
+    let right = retotaled f c.plus-total.result c.info.result c.plus.result c.retotal.new.self c.insert.new.self first both c.retotal.ensures.len c.retotal.ensures.before c.retotal.ensures.after
+    c.insert.ensures.len c.insert.ensures.before c.insert.ensures.here c.insert.ensures.behind in
+    more_listed c.self.inside _ c.args.self.now c.put_behind.new.nodes c.way_in-way.result.place c.cut.new.self c.len-count.result c.self.invariant c.self.view_is c.way_in-way.ensures.child (rw (placed e) (children f)) refl refl
+    (as_many e) c.len-count.ensures refl (rw (placed e) right)
 
 pub returns-clause-done : goal.returns-clause-done
 returns-clause-done c = λ yes.
     let e = (goal.at.returns-clause-done c).After-put_behind in
-    let us = c.put_behind.new.nodes in
-    let seen = more_seen c.self.inside _ c.args.self.now us c.way_in-way.result.place c.cut.new.self c.len-count.result c.self.invariant c.self.view_is c.way_in-way.ensures.child (children e) refl refl
-    (as_many e) c.len-count.ensures refl (rw (used e _) at c.totals_of-self-inside.ensures) in
-    rw seen (parted e)
+    let f = (goal.at.returns-clause-done c).After-info-front in
+    let first = first_is f c.total_before.result c.plus-total.result (before_is f c.total_before.result c.total_before.ensures.first c.total_before.ensures.later) c.plus-total.ensures.sum in
+    let both = both_are f c.info.result c.plus.result c.info.ensures c.plus.ensures.sum in
+    let right = retotaled f c.plus-total.result c.info.result c.plus.result c.retotal.new.self c.insert.new.self first both c.retotal.ensures.len c.retotal.ensures.before c.retotal.ensures.after
+    c.insert.ensures.len c.insert.ensures.before c.insert.ensures.here c.insert.ensures.behind in
+    let now : HasTotals (breaks_of c.put_behind.new.nodes) c.insert.new.self c.put_behind.new.nodes = rw (placed e) right in
+    let seen = more_seen c.self.inside _ c.args.self.now c.put_behind.new.nodes c.way_in-way.result.place c.cut.new.self c.len-count.result c.self.invariant c.self.view_is c.way_in-way.ensures.child (rw (placed e) (children f)) refl refl
+    (as_many e) c.len-count.ensures refl now in
+    rw (seen, placed e) (parted f)

@@ -20,8 +20,11 @@ plus-requires-clause-utf16_surrogates c = let n = next c in omega arith
 pub plus-requires-clause-break_count : goal.plus-requires-clause-break_count
 plus-requires-clause-break_count c = let n = next c in omega arith
 
-pub invariant_of-self : goal.invariant_of-self
-invariant_of-self c =
-    let n = next (goal.at.invariant_of-self c).After-info in
+pub push-requires-clause-small : goal.push-requires-clause-small
+push-requires-clause-small c = rw c.plus.ensures.sum (next (goal.at.push-requires-clause-small c).After-info).small_sum
+
+pub invariant_of-self-2 : goal.invariant_of-self-2
+invariant_of-self-2 c =
+    let n = next (goal.at.invariant_of-self-2 c).After-info in
     is_listed_more c.args.self.now c.args.node c.requires.siblings c.self.inside _ c.len-count.result c.plus.result c.self.invariant c.self.view_is c.requires.room c.len-count.ensures
-    c.push.ensures refl (rw c.height.ensures.value refl) c.line_breaks-self-inside.ensures (c.plus.ensures.sum ∙ sym n.sum)
+    c.in_ok-push.ensures.ok refl (rw c.height.ensures.value refl) c.line_breaks-self-inside.ensures (c.plus.ensures.sum ∙ sym n.sum)

@@ -1,7 +1,7 @@
 use Rattle.std.proofs.Common.{◌<◌, length, refl, arith}
-use Rattle.rope_tree.specs.TotalsShape.{counts_at}
-use Rattle.rope_tree.proofs.TotalsKept.{many, total_seen, same_seen, sums_seen}
-use Rattle.rope_tree.proofs.search.Totals.retotal.Goals as goal
+use Rattle.rope_tree.specs.WideShape.{counts_at}
+use Rattle.rope_tree.proofs.WideKept.{many, total_seen, same_seen, sums_seen}
+use Rattle.rope_tree.proofs.search.wide.WideTotals.retotal.Goals as goal
 
 pub shift-requires-clause-part : goal.shift-requires-clause-part
 shift-requires-clause-part c = λ j from to.

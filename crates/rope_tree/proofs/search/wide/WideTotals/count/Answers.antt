@@ -1,7 +1,7 @@
 use Rattle.std.proofs.Common.{refl, arith}
-use Rattle.rope_tree.specs.TotalsShape.{counts_at}
-use Rattle.rope_tree.proofs.TotalsKept.{many, total_seen}
-use Rattle.rope_tree.proofs.search.Totals.count.Goals as goal
+use Rattle.rope_tree.specs.WideShape.{counts_at}
+use Rattle.rope_tree.proofs.WideKept.{many, total_seen}
+use Rattle.rope_tree.proofs.search.wide.WideTotals.count.Goals as goal
 
 pub offset_bounds-bytes-place : goal.offset_bounds-bytes-place
 offset_bounds-bytes-place c = omega (arith, many c.self.inside c.args.self.now c.self.view_is, c.self.invariant.few, c.requires.within)

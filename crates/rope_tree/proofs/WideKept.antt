@@ -1,11 +1,11 @@
--- Running totals that are kept by kind of count.
-use Rattle.std.proofs.Common.{◌≡◌, ℕ, ◌+◌, ◌<◌, List, [], ◌∷◌, ◌++◌, length, get_or, set, map, refl, sym, ap, ◌∙◌, arith, get_or-set_other, get_or-set_same}
+-- Running totals of any size, kept by kind of count.
+use Rattle.std.proofs.Common.{◌≡◌, ℕ, ◌+◌, ◌<◌, ◌≤◌, List, [], ◌∷◌, ◌++◌, length, get_or, set, map, refl, sym, ap, ◌∙◌, arith, get_or-set_other, get_or-set_same}
 use Rattle.std.specs.List.{range_with_len}
 use Rattle.std.proofs.lemmas.List.FromFn.{length-map-range_with_len, get_or-map-range_with_len, map-range_with_len_more, fill_by_all}
 use Rattle.rope_text.specs.declared.text_info.TextInfo.{TextInfo}
 use Rattle.rope_text.specs.TextInfo.{info_sum}
-use Rattle.rope_tree.specs.declared.search.Totals.TheInside.{Inside}
-use Rattle.rope_tree.specs.TotalsShape.{counts_at, all_totals, IsTotals}
+use Rattle.rope_tree.specs.declared.search.wide.WideTotals.TheInside.{Inside}
+use Rattle.rope_tree.specs.WideShape.{counts_at, all_totals, IsTotals}
 
 pub many : (a : Inside) (ts : List TextInfo) → all_totals a ≡ ts → a.len ≡ length ts
 many a ts view = sym (length-map-range_with_len (counts_at a) 0 a.len) ∙ ap length view
@@ -72,3 +72,21 @@ module _ (a b : Inside) (ts : List TextInfo) (view : all_totals a ≡ ts) (len :
   sums_seen old new bytes chars pairs breaks =
       ap (λ x. info_sum x old) now_seen ∙ four_counts (info_sum (counts_at b j) old) (info_sum (counts_at a j) new) bytes chars pairs breaks
       ∙ ap (λ x. info_sum x new) (sym (total_seen a ts j d view lt))
+
+-- one total more among them
+module _ (a b : Inside) (ts : List TextInfo) (view : all_totals a ≡ ts) (more : b.len ≡ a.len + 1) where
+  pub one_more : length (all_totals b) ≡ length ts + 1
+  one_more = omega (arith, length-map-range_with_len (counts_at b) 0 b.len, more, many a ts view)
+
+  within_seen : (j : ℕ) (d : TextInfo) → j < length ts + 1 → get_or (all_totals b) j d ≡ counts_at b j
+  within_seen j d lt = get_or-map-range_with_len (counts_at b) 0 b.len j j d (omega (arith, more, many a ts view)) (omega arith)
+
+  -- one that was there
+  pub moved_seen : (j i : ℕ) (d : TextInfo) → j < length ts → i < length ts + 1 → get_or b.bytes i 0 ≡ get_or a.bytes j 0 → get_or b.chars i 0 ≡ get_or a.chars j 0 → get_or b.pairs i 0 ≡ get_or a.pairs j 0
+      → get_or b.breaks i 0 ≡ get_or a.breaks j 0 → get_or (all_totals b) i d ≡ get_or ts j d
+  moved_seen j i d lt within bytes chars pairs breaks = within_seen i d within ∙ four_counts (counts_at b i) (counts_at a j) bytes chars pairs breaks ∙ sym (total_seen a ts j d view lt)
+
+  -- the one that was put in
+  pub put_seen : (k : ℕ) (total : TextInfo) (d : TextInfo) → k ≤ length ts → get_or b.bytes k 0 ≡ total.bytes → get_or b.chars k 0 ≡ total.chars → get_or b.pairs k 0 ≡ total.utf16_surrogates
+      → get_or b.breaks k 0 ≡ total.break_count → get_or (all_totals b) k d ≡ total
+  put_seen k total d le bytes chars pairs breaks = within_seen k d (omega (arith, le)) ∙ four_counts (counts_at b k) total bytes chars pairs breaks
