@@ -43,3 +43,4 @@ pub mod LinePartLaws
 pub mod LineSeams
 pub mod ByteOrder
 pub mod Scans
+pub mod LaneSums

@@ -23,3 +23,4 @@ pub mod LastBreak
 pub mod LineParts
 pub mod Answer
 pub mod Scan
+pub mod Runs

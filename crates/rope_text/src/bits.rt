@@ -1,5 +1,5 @@
 //! Masks of blocks of 32 bytes: the bit `k` is the mark of the byte `k`.
-ghost use Rattle.std.specs.Prelude.{◌≡◌, ◌+◌, ◌<◌, ◌≤◌, ◌%◌, ◌^◌};
+ghost use Rattle.std.specs.Prelude.{◌≡◌, ◌+◌, ◌<◌, ◌≤◌, ◌%◌, ◌^◌, count_ones};
 ghost use Rattle.rope_text.specs.Bits.{ones_below, marks_below};
 
 /// How many of the first `n` bytes have a mark.
@@ -26,6 +26,17 @@ pub(crate) fn ones_between(mask: u64, from: usize, to: usize) -> usize
 pub(crate) fn first_mark(mask: u64) -> usize
     requires { 0 < ones_below mask 32 }
     ensures bound { result < 32 }
+    ensures before { ones_below mask result ≡ 0 }
+    ensures after { 0 < ones_below mask (result + 1) }
+{
+    mask.trailing_zeros() as usize
+}
+
+/// The lowest place that has a mark.
+#[inline(always)]
+pub(crate) fn lowest_mark(mask: u64) -> usize
+    requires { 0 < count_ones mask }
+    ensures bound { result < 64 }
     ensures before { ones_below mask result ≡ 0 }
     ensures after { 0 < ones_below mask (result + 1) }
 {

@@ -6,6 +6,7 @@ ghost use Rattle.rope_text.specs.ByteBreaks.{break_at, byte_break_count, unit_co
 
 use crate::bits::{ones_before, ones_between};
 use crate::line_breaks::LineBreaks;
+use crate::runs::count_run;
 use std::simd::prelude::*;
 
 // The bytes, of the 32 from `at` on, that begin a character.
@@ -441,10 +442,10 @@ pub(crate) fn count_breaks_before(bytes: &[u8], to: usize, breaks: LineBreaks) -
     total + breaks_byte_by_byte(bytes, end, to, breaks)
 }
 
-// The counts of whole blocks: their end, the characters in them, those of two code units, and the breaks.
+// The counts of whole runs of blocks: their end, the characters in them, those of two code units, and the breaks.
 #[tactic(auto, using(crate::proofs::Blocks::begins_le, crate::proofs::Blocks::pairs_le, crate::proofs::Blocks::byte_break_count_le))]
 #[inline(always)]
-fn count_blocks(bytes: &[u8], breaks: LineBreaks) -> (usize, usize, usize, usize)
+fn count_runs(bytes: &[u8], breaks: LineBreaks) -> (usize, usize, usize, usize)
     ensures bound { result.0 ≤ length bytes.now }
     ensures chars { count_by begins_char bytes.now ≡ result.1 + count_by begins_char (drop result.0 bytes.now) }
     ensures pairs { count_by begins_pair bytes.now ≡ result.2 + count_by begins_pair (drop result.0 bytes.now) }
@@ -454,6 +455,30 @@ fn count_blocks(bytes: &[u8], breaks: LineBreaks) -> (usize, usize, usize, usize
     let mut pairs = 0;
     let mut break_count = 0;
     let mut i = 0;
+    while bytes.len() - i >= 66 {
+        let run = count_run(bytes, i, breaks);
+        chars += run.1;
+        pairs += run.2;
+        break_count += run.3;
+        i = run.0;
+    }
+    (i, chars, pairs, break_count)
+}
+
+// The counts of whole blocks from `from` on: their end, the characters in them, those of two code units, and the breaks.
+#[tactic(auto, using(crate::proofs::Blocks::begins_le, crate::proofs::Blocks::pairs_le, crate::proofs::Blocks::byte_break_count_le))]
+#[inline(always)]
+fn count_blocks(bytes: &[u8], from: usize, breaks: LineBreaks) -> (usize, usize, usize, usize)
+    requires { from ≤ length bytes.now }
+    ensures bound { result.0 ≤ length bytes.now }
+    ensures chars { count_by begins_char (drop from bytes.now) ≡ result.1 + count_by begins_char (drop result.0 bytes.now) }
+    ensures pairs { count_by begins_pair (drop from bytes.now) ≡ result.2 + count_by begins_pair (drop result.0 bytes.now) }
+    ensures break_count { byte_break_count breaks (drop from bytes.now) ≡ result.3 + byte_break_count breaks (drop result.0 bytes.now) }
+{
+    let mut chars = 0;
+    let mut pairs = 0;
+    let mut break_count = 0;
+    let mut i = from;
     while bytes.len() - i >= 34 {
         chars += chars_in(bytes, i);
         pairs += pairs_in(bytes, i);
@@ -463,21 +488,36 @@ fn count_blocks(bytes: &[u8], breaks: LineBreaks) -> (usize, usize, usize, usize
     (i, chars, pairs, break_count)
 }
 
-/// How many characters the bytes begin, how many of two code units, and how many breaks, by one pass.
+// The set is known where this is expanded.
 #[tactic(auto, using(crate::proofs::Blocks::begins_le, crate::proofs::Blocks::pairs_le, crate::proofs::Blocks::byte_break_count_le))]
+#[inline(always)]
+fn count_known(bytes: &[u8], breaks: LineBreaks) -> (usize, usize, usize)
+    ensures chars { result.0 ≡ count_by begins_char bytes.now }
+    ensures pairs { result.1 ≡ count_by begins_pair bytes.now }
+    ensures break_count { byte_break_count breaks bytes.now ≡ result.2 + byte_break_count breaks (drop (length bytes.now) bytes.now) }
+{
+    let (from, chars, pairs, break_count) = count_runs(bytes, breaks);
+    let (i, more_chars, more_pairs, more_breaks) = count_blocks(bytes, from, breaks);
+    let end = bytes.len();
+    let last = i.max(end.saturating_sub(2));
+    let last_breaks = breaks_between(bytes, i, last, breaks)
+        + breaks_byte_by_byte(bytes, last, end, breaks);
+    (
+        chars + more_chars + begins_between(bytes, i, end),
+        pairs + more_pairs + pairs_between(bytes, i, end),
+        break_count + more_breaks + last_breaks,
+    )
+}
+
+/// How many characters the bytes begin, how many of two code units, and how many breaks, by one pass.
 pub(crate) fn count_all(bytes: &[u8], breaks: LineBreaks) -> (usize, usize, usize)
     ensures chars { result.0 ≡ count_by begins_char bytes.now }
     ensures pairs { result.1 ≡ count_by begins_pair bytes.now }
     ensures break_count { byte_break_count breaks bytes.now ≡ result.2 + byte_break_count breaks (drop (length bytes.now) bytes.now) }
 {
-    let (i, chars, pairs, break_count) = count_blocks(bytes, breaks);
-    let end = bytes.len();
-    let last = i.max(end.saturating_sub(2));
-    let more = breaks_between(bytes, i, last, breaks)
-        + breaks_byte_by_byte(bytes, last, end, breaks);
-    (
-        chars + begins_between(bytes, i, end),
-        pairs + pairs_between(bytes, i, end),
-        break_count + more,
-    )
+    match breaks {
+        LineBreaks::Lf => count_known(bytes, LineBreaks::Lf),
+        LineBreaks::CrLf => count_known(bytes, LineBreaks::CrLf),
+        LineBreaks::Unicode => count_known(bytes, LineBreaks::Unicode),
+    }
 }

@@ -9,6 +9,7 @@ mod lanes;
 pub mod laws;
 pub mod line_breaks;
 pub mod range;
+mod runs;
 mod scan;
 mod seek;
 pub mod steps;

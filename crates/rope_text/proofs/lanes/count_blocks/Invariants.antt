@@ -5,9 +5,9 @@ use Rattle.rope_text.proofs.lanes.count_blocks.Given as goal
 
 abbrev pub invariant-loop-i : goal.invariant-loop-i
 invariant-loop-i l =
-    (l.i ≤ length l.bytes) × (count_by begins_char l.bytes ≡ l.chars + count_by begins_char (drop l.i l.bytes))
-    × (count_by begins_pair l.bytes ≡ l.pairs + count_by begins_pair (drop l.i l.bytes))
-    × (byte_break_count l.breaks l.bytes ≡ l.break_count + byte_break_count l.breaks (drop l.i l.bytes))
+    (l.i ≤ length l.bytes) × (count_by begins_char (drop l.from l.bytes) ≡ l.chars + count_by begins_char (drop l.i l.bytes))
+    × (count_by begins_pair (drop l.from l.bytes) ≡ l.pairs + count_by begins_pair (drop l.i l.bytes))
+    × (byte_break_count l.breaks (drop l.from l.bytes) ≡ l.break_count + byte_break_count l.breaks (drop l.i l.bytes))
 
 abbrev pub decreases-loop-i : goal.decreases-loop-i
 decreases-loop-i l = length l.bytes - l.i

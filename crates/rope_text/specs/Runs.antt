@@ -1,0 +1,66 @@
+-- Counts of blocks of bytes that are added up in lanes. Private working definitions: only clauses of private functions cite them.
+use Rattle.std.specs.Prelude.{◌≡◌, ℕ, ◌+◌, ◌≤◌, Bool, false, ◌&&◌, ◌||◌, ◌==◌, List, length, get_or, count_by, bit_and}
+use Rattle.std.specs.Int.{is_in_range}
+use Rattle.std.specs.List.{range_with_len}
+use lib.Lanes.{Each1, sum_l}
+use lib.Dec.{leb}
+use Rattle.rope_text.specs.declared.line_breaks.LineBreaks.{LineBreaks}
+use Rattle.rope_text.specs.declared.line_breaks.LineBreaks.TheVariants.{Lf, CrLf, Unicode}
+use Rattle.rope_text.specs.declared.runs.Sums.{Sums}
+use Rattle.rope_text.specs.Bytes.{begins_char, begins_pair}
+use Rattle.rope_text.specs.ByteBreaks.{lone_cr}
+
+-- 16 lanes, none of which is above `most`, that add up to the total
+pub record IsSum (most total : ℕ) (lanes : List ℕ) : Type 0 where
+  pub long : length lanes ≡ 16
+  pub few : Each1 (λ x. x ≤ most) lanes
+  pub sum : sum_l lanes ≡ total
+
+-- whether a break begins with the byte x, which is below 128
+abbrev pub narrow_at : LineBreaks → ℕ → ℕ → Bool
+narrow_at Lf x y = x == 10
+narrow_at CrLf x y = x == 10 || lone_cr x y
+narrow_at Unicode x y = is_in_range 10 12 x || lone_cr x y
+
+-- whether a break begins with the byte x, which is above 127
+abbrev pub wide_at : LineBreaks → ℕ → ℕ → ℕ → Bool
+wide_at Lf x y z = false
+wide_at CrLf x y z = false
+wide_at Unicode x y z = (x == 0xC2 && y == 0x85) || (x == 0xE2 && (y == 0x80 && (z == 0xA8 || z == 0xA9)))
+
+-- the tests at the byte k
+abbrev pub narrow_here : LineBreaks → List ℕ → ℕ → Bool
+narrow_here breaks xs k = narrow_at breaks (get_or xs k 0) (get_or xs (k + 1) 0)
+
+abbrev pub wide_here : LineBreaks → List ℕ → ℕ → Bool
+wide_here breaks xs k = wide_at breaks (get_or xs k 0) (get_or xs (k + 1) 0) (get_or xs (k + 2) 0)
+
+abbrev pub wide_begin : List ℕ → ℕ → Bool
+wide_begin xs k = bit_and (get_or xs k 0) 223 == 194
+
+-- the n places from i on
+unfoldable pub places : ℕ → ℕ → List ℕ
+places i n = range_with_len i n
+
+-- of the n bytes from i on: those that begin a character, a pair of code units, a break, and those above 127
+abbrev pub chars_of : List ℕ → ℕ → ℕ → ℕ
+chars_of xs i n = count_by (λ k. begins_char (get_or xs k 0)) (places i n)
+
+abbrev pub pairs_of : List ℕ → ℕ → ℕ → ℕ
+pairs_of xs i n = count_by (λ k. begins_pair (get_or xs k 0)) (places i n)
+
+abbrev pub narrow_of : LineBreaks → List ℕ → ℕ → ℕ → ℕ
+narrow_of breaks xs i n = count_by (narrow_here breaks xs) (places i n)
+
+abbrev pub wide_of : LineBreaks → List ℕ → ℕ → ℕ → ℕ
+wide_of breaks xs i n = count_by (wide_here breaks xs) (places i n)
+
+abbrev pub high_of : List ℕ → ℕ → ℕ → ℕ
+high_of xs i n = count_by (λ k. leb 128 (get_or xs k 0)) (places i n)
+
+-- the sums of the n bytes from i on
+pub record IsRun (breaks : LineBreaks) (bytes : List ℕ) (i n most : ℕ) (sums : Sums) : Type 0 where
+  pub chars : IsSum most (chars_of bytes i n) sums.chars
+  pub pairs : IsSum most (pairs_of bytes i n) sums.pairs
+  pub narrow : IsSum most (narrow_of breaks bytes i n) sums.narrow
+  pub wide : sums.wide ≡ wide_of breaks bytes i n

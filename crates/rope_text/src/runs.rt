@@ -1,0 +1,264 @@
+//! Counts over runs of blocks of 64 bytes: what each block counts is added up in 16 lanes, and the lanes are summed once a run.
+ghost use Rattle.std.specs.Prelude.{◌≡◌, ◌+◌, ◌*◌, ◌<◌, ◌≤◌, length, count_by, take, drop, IsTrue, ℕ};
+ghost use lib.Lanes.{sum_l};
+ghost use Rattle.rope_text.specs.Bits.{ones_below};
+ghost use Rattle.rope_text.specs.Bytes.{begins_char, begins_pair};
+ghost use Rattle.rope_text.specs.ByteBreaks.{byte_break_count};
+ghost use Rattle.rope_text.specs.Runs.{IsSum, IsRun, chars_of, pairs_of, narrow_of, wide_of, wide_at, high_of, wide_begin, places};
+
+use crate::bits::lowest_mark;
+use crate::line_breaks::LineBreaks;
+use std::simd::prelude::*;
+
+// The blocks of a run at the most: a lane gets four at each, and holds 255.
+const BLOCKS: usize = 63;
+
+/// What a run has counted: in lanes the characters, those of two code units, and the breaks that begin below 128; and
+/// the other breaks.
+#[derive(Clone, Copy)]
+pub(crate) struct Sums {
+    pub chars: u8x16,
+    pub pairs: u8x16,
+    pub narrow: u8x16,
+    pub wide: usize,
+}
+
+#[inline(always)]
+fn char_ones(bytes: &[u8], at: usize) -> u8x16
+    requires { at + 16 ≤ length bytes.now }
+    ensures { IsSum 1 (chars_of bytes.now at 16) result }
+{
+    let lanes = u8x16::from_slice(&bytes[at..]);
+    let begins = lanes.simd_lt(u8x16::splat(0x80)) | lanes.simd_ge(u8x16::splat(0xC0));
+    begins.select(u8x16::splat(1), u8x16::splat(0))
+}
+
+#[inline(always)]
+fn pair_ones(bytes: &[u8], at: usize) -> u8x16
+    requires { at + 16 ≤ length bytes.now }
+    ensures { IsSum 1 (pairs_of bytes.now at 16) result }
+{
+    let lanes = u8x16::from_slice(&bytes[at..]);
+    let begins = lanes.simd_ge(u8x16::splat(0xF0));
+    begins.select(u8x16::splat(1), u8x16::splat(0))
+}
+
+#[inline(always)]
+fn lf_ones(bytes: &[u8], at: usize) -> u8x16
+    requires { at + 17 ≤ length bytes.now }
+    ensures { IsSum 1 (narrow_of LineBreaks.Lf bytes.now at 16) result }
+{
+    let x = u8x16::from_slice(&bytes[at..]);
+    x.simd_eq(u8x16::splat(b'\n'))
+        .select(u8x16::splat(1), u8x16::splat(0))
+}
+
+#[inline(always)]
+fn cr_lf_ones(bytes: &[u8], at: usize) -> u8x16
+    requires { at + 17 ≤ length bytes.now }
+    ensures { IsSum 1 (narrow_of LineBreaks.CrLf bytes.now at 16) result }
+{
+    let x = u8x16::from_slice(&bytes[at..]);
+    let y = u8x16::from_slice(&bytes[at + 1..]);
+    let lone_cr = x.simd_eq(u8x16::splat(b'\r')) & y.simd_ne(u8x16::splat(b'\n'));
+    let breaks = x.simd_eq(u8x16::splat(b'\n')) | lone_cr;
+    breaks.select(u8x16::splat(1), u8x16::splat(0))
+}
+
+#[inline(always)]
+fn unicode_ones(bytes: &[u8], at: usize) -> u8x16
+    requires { at + 17 ≤ length bytes.now }
+    ensures { IsSum 1 (narrow_of LineBreaks.Unicode bytes.now at 16) result }
+{
+    let x = u8x16::from_slice(&bytes[at..]);
+    let y = u8x16::from_slice(&bytes[at + 1..]);
+    // From 10 to 13, but only to 12 before LF.
+    let most = y
+        .simd_eq(u8x16::splat(b'\n'))
+        .select(u8x16::splat(2), u8x16::splat(3));
+    let low = (x - u8x16::splat(10)).simd_le(most);
+    low.select(u8x16::splat(1), u8x16::splat(0))
+}
+
+// For each of the 16 bytes from `at` on, 1 where a break begins there and the byte is below 128, else 0.
+#[inline(always)]
+fn narrow_ones(bytes: &[u8], at: usize, breaks: LineBreaks) -> u8x16
+    requires { at + 17 ≤ length bytes.now }
+    ensures { IsSum 1 (narrow_of breaks bytes.now at 16) result }
+{
+    match breaks {
+        LineBreaks::Lf => lf_ones(bytes, at),
+        LineBreaks::CrLf => cr_lf_ones(bytes, at),
+        LineBreaks::Unicode => unicode_ones(bytes, at),
+    }
+}
+
+// Lane by lane.
+#[inline(always)]
+fn add(a: u8x16, b: u8x16) -> u8x16
+    ensures { (j k s t : ℕ) → j + k < 256 → IsSum j s a → IsSum k t b → IsSum (j + k) (s + t) result }
+{
+    a + b
+}
+
+#[inline(always)]
+fn add_chars(sums: u8x16, bytes: &[u8], at: usize) -> u8x16
+    requires { at + 64 ≤ length bytes.now }
+    ensures { (most total : ℕ) → most + 4 < 256 → IsSum most total sums → IsSum (most + 4) (total + chars_of bytes.now at 64) result }
+{
+    let first = add(sums, char_ones(bytes, at));
+    let second = add(first, char_ones(bytes, at + 16));
+    let third = add(second, char_ones(bytes, at + 32));
+    add(third, char_ones(bytes, at + 48))
+}
+
+#[inline(always)]
+fn add_pairs(sums: u8x16, bytes: &[u8], at: usize) -> u8x16
+    requires { at + 64 ≤ length bytes.now }
+    ensures { (most total : ℕ) → most + 4 < 256 → IsSum most total sums → IsSum (most + 4) (total + pairs_of bytes.now at 64) result }
+{
+    let first = add(sums, pair_ones(bytes, at));
+    let second = add(first, pair_ones(bytes, at + 16));
+    let third = add(second, pair_ones(bytes, at + 32));
+    add(third, pair_ones(bytes, at + 48))
+}
+
+#[inline(always)]
+fn add_narrow(sums: u8x16, bytes: &[u8], at: usize, breaks: LineBreaks) -> u8x16
+    requires { at + 65 ≤ length bytes.now }
+    ensures { (most total : ℕ) → most + 4 < 256 → IsSum most total sums → IsSum (most + 4) (total + narrow_of breaks bytes.now at 64) result }
+{
+    let first = add(sums, narrow_ones(bytes, at, breaks));
+    let second = add(first, narrow_ones(bytes, at + 16, breaks));
+    let third = add(second, narrow_ones(bytes, at + 32, breaks));
+    add(third, narrow_ones(bytes, at + 48, breaks))
+}
+
+// Whether each of the 64 bytes from `at` on is below 128.
+#[inline(always)]
+fn is_ascii(bytes: &[u8], at: usize) -> bool
+    requires { at + 64 ≤ length bytes.now }
+    ensures { IsTrue result → high_of bytes.now at 64 ≡ 0 }
+{
+    let lanes = u8x64::from_slice(&bytes[at..]);
+    lanes.simd_ge(u8x64::splat(0x80)).to_bitmask() == 0
+}
+
+// Which of the 64 bytes from `at` on are C2 or E2, with which NEL, LS and PS begin.
+#[inline(always)]
+fn wide_begins(bytes: &[u8], at: usize) -> u64
+    requires { at + 64 ≤ length bytes.now }
+    ensures { (n : ℕ) → ones_below result n ≡ count_by (wide_begin bytes.now) (take n (places at 64)) }
+{
+    let lanes = u8x64::from_slice(&bytes[at..]);
+    (lanes & u8x64::splat(0xDF))
+        .simd_eq(u8x64::splat(0xC2))
+        .to_bitmask()
+}
+
+#[inline(always)]
+fn is_wide_break(x: u8, y: u8, z: u8) -> bool
+    ensures { result ≡ wide_at LineBreaks.Unicode x y z }
+{
+    (x == 0xC2 && y == 0x85) || (x == 0xE2 && y == 0x80 && (z == 0xA8 || z == 0xA9))
+}
+
+// How many NEL, LS and PS begin in the 64 bytes from `at` on: their first bytes are rare, and each is looked at by itself.
+#[inline(always)]
+fn unicode_wide_in(bytes: &[u8], at: usize) -> usize
+    requires { at + 66 ≤ length bytes.now }
+    ensures { result ≡ wide_of LineBreaks.Unicode bytes.now at 64 }
+{
+    let mut begins = wide_begins(bytes, at);
+    let mut i = at;
+    let mut total = 0;
+    while begins.count_ones() > 0 {
+        let skip = lowest_mark(begins);
+        i += skip;
+        if is_wide_break(bytes[i], bytes[i + 1], bytes[i + 2]) {
+            total += 1;
+        }
+        i += 1;
+        begins = (begins >> skip) >> 1;
+    }
+    total
+}
+
+#[inline(always)]
+fn wide_in(bytes: &[u8], at: usize, breaks: LineBreaks) -> usize
+    requires { at + 66 ≤ length bytes.now }
+    ensures { result ≡ wide_of breaks bytes.now at 64 }
+{
+    match breaks {
+        LineBreaks::Lf => 0,
+        LineBreaks::CrLf => 0,
+        LineBreaks::Unicode => unicode_wide_in(bytes, at),
+    }
+}
+
+// The 64 bytes from `at` on more.
+#[inline(always)]
+fn add_block(sums: Sums, bytes: &[u8], at: usize, breaks: LineBreaks) -> Sums
+    requires room { at + 66 ≤ length bytes.now }
+    requires wide { sums.wide ≤ at }
+    ensures { (from n most : ℕ) → at ≡ from + n → most + 4 < 256 → IsRun breaks bytes.now from n most sums → IsRun breaks bytes.now from (n + 64) (most + 4) result }
+{
+    let narrow = add_narrow(sums.narrow, bytes, at, breaks);
+    // ASCII begins a character at each byte, and no pair and none of the other breaks.
+    if is_ascii(bytes, at) {
+        return Sums {
+            chars: add(sums.chars, u8x16::splat(4)),
+            pairs: sums.pairs,
+            narrow,
+            wide: sums.wide,
+        };
+    }
+    Sums {
+        chars: add_chars(sums.chars, bytes, at),
+        pairs: add_pairs(sums.pairs, bytes, at),
+        narrow,
+        wide: sums.wide + wide_in(bytes, at, breaks),
+    }
+}
+
+#[inline(always)]
+fn sum_of(lanes: u8x16) -> usize
+    ensures { result ≡ sum_l lanes }
+{
+    lanes.cast::<u16>().strict_reduce_sum() as usize
+}
+
+/// The counts of a run of whole blocks from `from` on, behind which two bytes more can be read: its end, the characters in
+/// it, those of two code units, and the breaks. It has one block at least, if one is there.
+#[inline(always)]
+pub(crate) fn count_run(
+    bytes: &[u8],
+    from: usize,
+    breaks: LineBreaks,
+) -> (usize, usize, usize, usize)
+    requires { from ≤ length bytes.now }
+    ensures bound { result.0 ≤ length bytes.now }
+    ensures further { from + 66 ≤ length bytes.now → from + 64 ≤ result.0 }
+    ensures not_before { from ≤ result.0 }
+    ensures chars { count_by begins_char (drop from bytes.now) ≡ result.1 + count_by begins_char (drop result.0 bytes.now) }
+    ensures pairs { count_by begins_pair (drop from bytes.now) ≡ result.2 + count_by begins_pair (drop result.0 bytes.now) }
+    ensures break_count { byte_break_count breaks (drop from bytes.now) ≡ result.3 + byte_break_count breaks (drop result.0 bytes.now) }
+{
+    let blocks = ((bytes.len() - from).saturating_sub(2) / 64).min(BLOCKS);
+    let none = u8x16::splat(0);
+    let mut sums = Sums {
+        chars: none,
+        pairs: none,
+        narrow: none,
+        wide: 0,
+    };
+    for block in 0..blocks {
+        sums = add_block(sums, bytes, from + 64 * block, breaks);
+    }
+    (
+        from + 64 * blocks,
+        sum_of(sums.chars),
+        sum_of(sums.pairs),
+        sum_of(sums.narrow) + sums.wide,
+    )
+}
