@@ -59,7 +59,8 @@ impl<'a> Bytes<'a> {
         }
     }
 
-    // One byte to the right.
+    // One byte to the right. Expanded where it is called: mostly it stays in the chunk, and a call costs more.
+    #[inline(always)]
     fn right(&mut self) -> Option<u8>
         ensures { GoesRight (λ x. x) self.old result self.new }
     {
@@ -85,6 +86,7 @@ impl<'a> Bytes<'a> {
     }
 
     // One byte to the left.
+    #[inline(always)]
     fn left(&mut self) -> Option<u8>
         ensures { GoesLeft (λ x. x) self.old result self.new }
     {
@@ -109,6 +111,7 @@ impl<'a> Bytes<'a> {
     }
 
     /// The byte behind, to which it steps back; or none at that end, where it stays.
+    #[inline(always)]
     pub fn prev(&mut self) -> Option<u8>
         ensures { StepsBack (λ x. x) self.old result self.new }
     {
@@ -157,6 +160,7 @@ impl<'a> Iterator for Bytes<'a> {
     ghost remaining = { item_count ahead };
 
     /// The next byte, or none at the end, where it stays.
+    #[inline(always)]
     fn next(&mut self) -> Option<u8>
         ensures steps { YieldsFirstBy (λ x. x) ahead self.old result self.new }
         ensures goes { GoesAhead (λ x. x) self.old result self.new }

@@ -348,6 +348,7 @@ impl<'a> Path<'a> {
     }
 
     /// The same way.
+    #[inline(always)]
     pub fn copy(&self) -> Path<'a>
         ensures { result ≡ self.now }
     {

@@ -25,34 +25,66 @@ pub(crate) fn byte_of_char(chunk: &str, char_idx: usize, is_narrow: bool) -> usi
     }
 }
 
-// Goes to the next chunk, if there is one. It is kept out of the callers, whose steps within a chunk are to stay short.
+// The next chunk of a span that is moved in and moved out: no call is told where the span lies.
 #[inline(never)]
+fn chunk_after<'a>(span: Span<'a>) -> (Span<'a>, Option<&'a str>)
+    ensures moved { IfSome result.1 (λ chunk. IsNext span.entry result.0) }
+    ensures chunk { IfSome result.1 (λ chunk. IsChunkAt result.0 chunk.now) }
+    ensures stays { IfNone result.1 (result.0 ≡ span.entry) }
+    ensures ended { IfNone result.1 (span.entry.after ≡ []) }
+{
+    let mut span = span;
+    if span.advance() {
+        let chunk = span.chunk();
+        (span, Some(chunk))
+    } else {
+        (span, None)
+    }
+}
+
+// The chunk before.
+#[inline(never)]
+fn chunk_before<'a>(span: Span<'a>) -> (Span<'a>, Option<&'a str>)
+    ensures moved { IfSome result.1 (λ chunk. IsNext result.0 span.entry) }
+    ensures chunk { IfSome result.1 (λ chunk. IsChunkAt result.0 chunk.now) }
+    ensures stays { IfNone result.1 (result.0 ≡ span.entry) }
+    ensures ended { IfNone result.1 (span.entry.before ≡ []) }
+{
+    let mut span = span;
+    if span.retreat() {
+        let chunk = span.chunk();
+        (span, Some(chunk))
+    } else {
+        (span, None)
+    }
+}
+
+// Goes to the next chunk, if there is one. The work is kept out of the callers, whose steps within a chunk are to stay short.
+// It is given a copy of the span: were it told where the span lies, it could reach the cursor round it too, and a loop over a
+// cursor would read and write the cursor's place in memory at each step.
+#[inline(always)]
 pub(crate) fn next_chunk<'a>(span: &mut Span<'a>) -> Option<&'a str>
     ensures moved { IfSome result (λ chunk. IsNext span.old span.new) }
     ensures chunk { IfSome result (λ chunk. IsChunkAt span.new chunk.now) }
     ensures stays { IfNone result (span.new ≡ span.old) }
     ensures ended { IfNone result (span.old.after ≡ []) }
 {
-    if span.advance() {
-        Some(span.chunk())
-    } else {
-        None
-    }
+    let (moved, chunk) = chunk_after(span.copy());
+    *span = moved;
+    chunk
 }
 
 // Goes to the chunk before, if there is one.
-#[inline(never)]
+#[inline(always)]
 pub(crate) fn prev_chunk<'a>(span: &mut Span<'a>) -> Option<&'a str>
     ensures moved { IfSome result (λ chunk. IsNext span.new span.old) }
     ensures chunk { IfSome result (λ chunk. IsChunkAt span.new chunk.now) }
     ensures stays { IfNone result (span.new ≡ span.old) }
     ensures ended { IfNone result (span.old.before ≡ []) }
 {
-    if span.retreat() {
-        Some(span.chunk())
-    } else {
-        None
-    }
+    let (moved, chunk) = chunk_before(span.copy());
+    *span = moved;
+    chunk
 }
 
 // The character at a byte, and where it ends.

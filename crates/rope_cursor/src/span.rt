@@ -190,6 +190,8 @@ impl<'a> Span<'a> {
     }
 
     /// The same way.
+    // Expanded where it is called: so what is copied stays known there to no other call.
+    #[inline(always)]
     pub fn copy(&self) -> Span<'a>
         ensures { result ≡ self.now }
     {
