@@ -1,5 +1,5 @@
 -- Lists of children that grow at their end.
-use Rattle.std.proofs.Common.{◌≡◌, ℕ, ◌+◌, ◌-◌, ◌/◌, ◌<◌, List, [], ◌∷◌, ◌++◌, length, get_or, set, take, drop, refl, sym, ap, subst, ◌∙◌, arith, inl, inr}
+use Rattle.std.proofs.Common.{◌≡◌, ℕ, ◌+◌, ◌-◌, ◌/◌, ◌<◌, ◌≤◌, List, [], ◌∷◌, ◌++◌, length, get_or, set, take, drop, refl, sym, ap, subst, ◌∙◌, arith, inl, inr}
 use Rattle.std.proofs.lemmas.Bool.{cases_lt}
 use Rattle.std.proofs.lemmas.List.{append-nil, append_assoc, length-append, length-set, take_all, take_more, take-set-le, take-append-le, take-append-drop, get_or-set_same, drop_all, drop-append-le, drop-set-lt, drop-drop}
 use Rattle.std.proofs.lemmas.List.Elements.{All-nil, All-head, All-drop}
@@ -40,6 +40,15 @@ kept : (x : Tree) (xs : List Tree) (totals : List TextInfo) → HasTotals (break
 kept x [] totals h = record { as_many = h.as_many; total_at = λ k d p. absurd (omega arith) }
 kept x (t ∷ ts) totals h = h
 
+-- the first tree stays the first
+same_height : (xs ys : List Tree) → 1 ≤ length xs → height_of xs ≡ height_of (xs ++ ys)
+same_height [] ys some = absurd (omega arith)
+same_height (t ∷ ts) ys some = refl
+
+same_set : (xs ys : List Tree) → 1 ≤ length xs → breaks_of xs ≡ breaks_of (xs ++ ys)
+same_set [] ys some = absurd (omega arith)
+same_set (t ∷ ts) ys some = refl
+
 -- one more tree is counted
 pub record AddsTree (xs : List Tree) (x : Tree) (before info : TextInfo) : Type 0 where
   pub small_before : IsSmall before
@@ -66,6 +75,13 @@ module _ (xs : List Tree) (x : Tree) (s : AreSiblings (breaks_of (xs ++ x ∷ []
         small_sum = subst IsSmall whole (small_info b (joined (xs ++ x ∷ [])) s.fits);
         sum = whole;
       }
+
+  -- what the fields say of the first tree holds of each
+  pub top_height : (a : Inside) → IsListed a → listed a ≡ xs → 1 ≤ length xs → a.height ≡ x.height + 1
+  top_height a i view some = i.above ∙ ap (λ ts. height_of ts + 1) view ∙ ap (λ n. n + 1) (same_height xs (x ∷ []) some ∙ sym own.at_height)
+
+  pub top_set : (a : Inside) → IsListed a → listed a ≡ xs → 1 ≤ length xs → a.breaks ≡ x.breaks
+  top_set a i view some = i.same_breaks ∙ ap breaks_of view ∙ same_set xs (x ∷ []) some ∙ sym own.same_breaks
 
   -- the fields with it
   module _ (a b : Inside) (n : ℕ) (total : TextInfo) (i : IsListed a) (view : listed a ≡ xs) (room : length xs < 24) (n_is : n ≡ length a.totals) (totals : b.totals ≡ a.totals ++ total ∷ [])

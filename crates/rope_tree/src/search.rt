@@ -1,5 +1,5 @@
 //! Running totals over children, and the child that holds a place, found by halving over them.
-ghost use Rattle.std.specs.Prelude.{◌≡◌, ℕ, ◌+◌, ◌-◌, ◌<◌, ◌≤◌, ◌^◌, [], ◌∷◌, ◌++◌, true, false, length, slice_index_or, OnOk, OnErr};
+ghost use Rattle.std.specs.Prelude.{◌≡◌, ℕ, ◌+◌, ◌-◌, ◌<◌, ◌≤◌, ◌^◌, [], ◌∷◌, ◌++◌, true, false, length, slice_index_or, IfOk, OnOk, OnErr};
 ghost use Rattle.rope_text.specs.declared.text_info.TextInfo.{TextInfo};
 ghost use Rattle.rope_text.specs.TextInfo.{info_sum};
 ghost use Rattle.rope_tree.specs.Search.{count_of, IsSmall, HasPart};
@@ -63,6 +63,21 @@ impl Model for Totals {
     ghost view = { totals_of };
 }
 
+/// The same totals in words, and one more behind them. It is kept out of the callers, which seldom come to it.
+#[inline(never)]
+fn widened(
+    alloc: Global,
+    totals: &NarrowTotals,
+    total: TextInfo,
+) -> Result<Box<WideTotals>, AllocError>
+    requires { length totals.now < 24 }
+    ensures { IfOk result (λ wide. wide.value ≡ totals.now ++ total ∷ []) }
+{
+    let mut wide = Box::new(alloc, WideTotals::of(totals))?;
+    wide.push(total);
+    Ok(wide)
+}
+
 /// The bytes of a text whose counts may not all fit in 16 bits.
 const TOO_WIDE: usize = 65536;
 
@@ -124,6 +139,7 @@ impl Totals {
     }
 
     /// Puts the total of one child more behind the others.
+    #[inline(always)]
     pub(crate) fn push(&mut self, alloc: Global, total: TextInfo) -> Result<(), AllocError>
         requires room { length self.old < 24 }
         requires small { IsSmall total }
@@ -136,9 +152,7 @@ impl Totals {
                     totals.push(total);
                     return Ok(());
                 }
-                let mut wide = Box::new(alloc, WideTotals::of(totals))?;
-                wide.push(total);
-                self.width = Width::Wide(wide);
+                self.width = Width::Wide(widened(alloc, totals, total)?);
             }
             Width::Wide(totals) => totals.push(total),
         }

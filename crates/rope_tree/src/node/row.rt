@@ -35,8 +35,10 @@ impl Children {
         let count = self.totals.len();
         let before = total_before(&self.totals, count);
         self.totals.push(alloc, before.plus(node.info()))?;
-        self.height = (node.height() + 1) as u8;
-        self.breaks = node.line_breaks();
+        if count == 0 {
+            self.height = (node.height() + 1) as u8;
+            self.breaks = node.line_breaks();
+        }
         self.nodes[count] = node;
         Ok(())
     }

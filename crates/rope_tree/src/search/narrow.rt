@@ -137,6 +137,7 @@ impl NarrowTotals {
     }
 
     /// Puts the total of one child more behind the others.
+    #[inline(always)]
     pub(super) fn push(&mut self, total: TextInfo)
         requires room { length self.old < 24 }
         requires narrow { IsNarrow total }

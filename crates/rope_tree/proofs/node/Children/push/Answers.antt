@@ -1,6 +1,6 @@
-use Rattle.std.proofs.Common.{◌∙◌, sym, refl, arith}
-use Rattle.rope_tree.proofs.RowLaws.{AddsTree, adds_tree, is_listed_more}
-use Rattle.rope_tree.proofs.node.Children.push.Goals.{After-info}
+use Rattle.std.proofs.Common.{◌≤◌, length, ap, ◌∙◌, sym, refl, arith}
+use Rattle.rope_tree.proofs.RowLaws.{AddsTree, adds_tree, top_height, top_set, is_listed_more}
+use Rattle.rope_tree.proofs.node.Children.push.Goals.{After-info, then-count-eq0, else-count-eq0}
 use Rattle.rope_tree.proofs.node.Children.push.Goals as goal
 
 next : (c : After-info) → AddsTree c.args.self.now c.args.node c.total_before-before.result c.info.result
@@ -25,6 +25,17 @@ push-requires-clause-small c = rw c.plus.ensures.sum (next (goal.at.push-require
 
 pub invariant_of-self-2 : goal.invariant_of-self-2
 invariant_of-self-2 c =
-    let n = next (goal.at.invariant_of-self-2 c).After-info in
-    is_listed_more c.args.self.now c.args.node c.requires.siblings c.self.inside _ c.len-count.result c.plus.result c.self.invariant c.self.view_is c.requires.room c.len-count.ensures
-    c.in_ok-push.ensures.ok refl (rw c.height.ensures.value refl) c.line_breaks-self-inside.ensures (c.plus.ensures.sum ∙ sym n.sum)
+    let e = (goal.at.invariant_of-self-2 c).After-info in
+    let n = next e in
+    let sum = c.plus.ensures.sum ∙ sym n.sum in
+    elim c.if-count-eq0.branch [
+      | then-count-eq0 w ↦
+          rw w.self-inside-is
+          (is_listed_more c.args.self.now c.args.node c.requires.siblings c.self.inside _ c.len-count.result c.plus.result c.self.invariant c.self.view_is c.requires.room c.len-count.ensures
+          c.in_ok-push.ensures.ok refl (rw w.height.ensures.value refl) w.line_breaks-self-inside.ensures sum)
+      | else-count-eq0 w ↦
+          let some : 1 ≤ length c.args.self.now = omega (arith, w.if-count-eq0.false, c.len-count.ensures, c.self.invariant.totals_right.as_many, ap length c.self.view_is) in
+          rw w.self-inside-is
+          (is_listed_more c.args.self.now c.args.node c.requires.siblings c.self.inside _ c.len-count.result c.plus.result c.self.invariant c.self.view_is c.requires.room c.len-count.ensures
+          c.in_ok-push.ensures.ok refl (top_height c.args.self.now c.args.node c.requires.siblings c.self.inside c.self.invariant c.self.view_is some) (top_set c.args.self.now c.args.node c.requires.siblings c.self.inside c.self.invariant c.self.view_is some) sum)
+    ]
