@@ -6,7 +6,7 @@ ghost use Rattle.rope_text.specs.ByteBreaks.{break_at, byte_break_count};
 ghost use Rattle.rope_text.specs.Scan.{IsFront};
 
 use crate::bits::{first_mark, ones_before};
-use crate::lanes::{char_mask, cr_lf_mask, is_break_begin, lf_mask, pair_mask, unicode_mask};
+use crate::lanes::{char_mask, cr_lf_mask, is_break_begin, lf_mask, likely_unicode_mask, pair_mask};
 use crate::line_breaks::LineBreaks;
 
 /// The bytes of a text before a place in its first line, and what they count.
@@ -26,7 +26,7 @@ fn known_break_mask(bytes: &[u8], at: usize, breaks: LineBreaks) -> u64
     match breaks {
         LineBreaks::Lf => lf_mask(bytes, at),
         LineBreaks::CrLf => cr_lf_mask(bytes, at),
-        LineBreaks::Unicode => unicode_mask(bytes, at),
+        LineBreaks::Unicode => likely_unicode_mask(bytes, at),
     }
 }
 
