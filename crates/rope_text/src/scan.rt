@@ -6,7 +6,9 @@ ghost use Rattle.rope_text.specs.ByteBreaks.{break_at, byte_break_count};
 ghost use Rattle.rope_text.specs.Scan.{IsFront};
 
 use crate::bits::{first_mark, ones_before};
-use crate::lanes::{char_mask, cr_lf_mask, is_break_begin, lf_mask, likely_unicode_mask, pair_mask};
+use crate::lanes::{
+    char_mask, cr_lf_mask, is_break_begin, lf_mask, likely_unicode_mask, pair_mask,
+};
 use crate::line_breaks::LineBreaks;
 
 /// The bytes of a text before a place in its first line, and what they count.

@@ -28,7 +28,7 @@ loop-i-preserved c =
       whole = omega arith;
       short = omega arith;
       run = same_run c.args.breaks c.args.bytes.now c.args.from (n + 64) (n / 16 + 4) _ _ _ (omega (arith, go.not_before)) (omega (arith, go.not_before))
-      (c.add_block-sums.ensures c.args.from n (n / 16) (omega (arith, go.not_before)) (omega (arith, go.whole, go.short, go.within, go.not_before)) go.run);
+          (c.add_block-sums.ensures c.args.from n (n / 16) (omega (arith, go.not_before)) (omega (arith, go.whole, go.short, go.within, go.not_before)) go.run);
     }
 
 pub overflow_add-result : goal.overflow_add-result
