@@ -1,5 +1,5 @@
 //! Counts over the bytes of a text, 32 bytes at once.
-ghost use Rattle.std.specs.Prelude.{◌≡◌, ◌+◌, ◌-◌, ◌*◌, ◌%◌, ◌<◌, ◌≤◌, length, count_by, drop, slice_index, ℕ};
+ghost use Rattle.std.specs.Prelude.{◌≡◌, ◌+◌, ◌-◌, ◌*◌, ◌%◌, ◌<◌, ◌≤◌, length, count_by, drop, slice_index, cond, ℕ};
 ghost use Rattle.rope_text.specs.Bits.{ones_below};
 ghost use Rattle.rope_text.specs.Bytes.{begins_char, begins_pair};
 ghost use Rattle.rope_text.specs.ByteBreaks.{break_at, byte_break_count, unit_count};
@@ -207,6 +207,32 @@ pub(crate) fn is_break_begin(bytes: &[u8], at: usize, breaks: LineBreaks) -> boo
     begins_break(byte, next, byte_or_zero(bytes, at + 2), breaks)
 }
 
+#[inline(always)]
+pub(crate) fn chars_begun(byte: u8) -> usize
+    ensures { result ≡ cond (begins_char byte) 1 0 }
+{
+    if byte < 0x80 || byte >= 0xC0 { 1 } else { 0 }
+}
+
+#[inline(always)]
+pub(crate) fn pairs_begun(byte: u8) -> usize
+    ensures { result ≡ cond (begins_pair byte) 1 0 }
+{
+    if byte >= 0xF0 { 1 } else { 0 }
+}
+
+#[inline(always)]
+fn breaks_begun(bytes: &[u8], at: usize, breaks: LineBreaks) -> usize
+    requires { at < length bytes.now }
+    ensures { result ≡ cond (break_at breaks (slice_index bytes.now at) (slice_index bytes.now (at + 1)) (slice_index bytes.now (at + 2))) 1 0 }
+{
+    if is_break_begin(bytes, at, breaks) {
+        1
+    } else {
+        0
+    }
+}
+
 // The breaks that begin from `from` on and before `to`, a byte at a time.
 fn breaks_byte_by_byte(bytes: &[u8], from: usize, to: usize, breaks: LineBreaks) -> usize
     requires from { from ≤ to }
@@ -276,6 +302,9 @@ pub(crate) fn pairs_between(bytes: &[u8], from: usize, to: usize) -> usize
     }
     pairs_byte_by_byte(&bytes[from..to])
 }
+
+// A text of fewer bytes is counted byte by byte.
+const FEW_BYTES: usize = 16;
 
 // A text of so many bytes or more is counted at four places side by side. It comes from far memory: so the waits for the four
 // are one, where a single pass would wait for each in turn.
@@ -546,12 +575,33 @@ fn count_known(bytes: &[u8], breaks: LineBreaks) -> (usize, usize, usize)
     )
 }
 
+// The same byte by byte, which takes less where they are few.
+fn count_few(bytes: &[u8], breaks: LineBreaks) -> (usize, usize, usize)
+    ensures chars { result.0 ≡ count_by begins_char bytes.now }
+    ensures pairs { result.1 ≡ count_by begins_pair bytes.now }
+    ensures break_count { byte_break_count breaks bytes.now ≡ result.2 + byte_break_count breaks (drop (length bytes.now) bytes.now) }
+{
+    let mut chars = 0;
+    let mut pairs = 0;
+    let mut break_count = 0;
+    for at in 0..bytes.len() {
+        let byte = bytes[at];
+        chars += chars_begun(byte);
+        pairs += pairs_begun(byte);
+        break_count += breaks_begun(bytes, at, breaks);
+    }
+    (chars, pairs, break_count)
+}
+
 /// How many characters the bytes begin, how many of two code units, and how many breaks, by one pass.
 pub(crate) fn count_all(bytes: &[u8], breaks: LineBreaks) -> (usize, usize, usize)
     ensures chars { result.0 ≡ count_by begins_char bytes.now }
     ensures pairs { result.1 ≡ count_by begins_pair bytes.now }
     ensures break_count { byte_break_count breaks bytes.now ≡ result.2 + byte_break_count breaks (drop (length bytes.now) bytes.now) }
 {
+    if bytes.len() < FEW_BYTES {
+        return count_few(bytes, breaks);
+    }
     match breaks {
         LineBreaks::Lf => count_known(bytes, LineBreaks::Lf),
         LineBreaks::CrLf => count_known(bytes, LineBreaks::CrLf),

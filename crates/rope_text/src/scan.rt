@@ -1,5 +1,5 @@
 //! The first line break of a text, and what the text before it counts, found in one pass: 32 bytes at once.
-ghost use Rattle.std.specs.Prelude.{◌≡◌, ◌+◌, ◌<◌, ◌≤◌, length, drop, slice_index, cond, IsTrue, ℕ};
+ghost use Rattle.std.specs.Prelude.{◌≡◌, ◌+◌, ◌<◌, ◌≤◌, length, drop, slice_index, IsTrue, ℕ};
 ghost use Rattle.rope_text.specs.Bits.{ones_below};
 ghost use Rattle.rope_text.specs.Bytes.{begins_char, begins_pair};
 ghost use Rattle.rope_text.specs.ByteBreaks.{break_at, byte_break_count};
@@ -7,7 +7,8 @@ ghost use Rattle.rope_text.specs.Scan.{IsFront};
 
 use crate::bits::{first_mark, first_mark_before, ones_before, ones_between};
 use crate::lanes::{
-    break_mask, char_mask, cr_lf_mask, is_break_begin, lf_mask, likely_unicode_mask, pair_mask,
+    break_mask, char_mask, chars_begun, cr_lf_mask, is_break_begin, lf_mask, likely_unicode_mask,
+    pair_mask, pairs_begun,
 };
 use crate::line_breaks::LineBreaks;
 
@@ -30,20 +31,6 @@ fn known_break_mask(bytes: &[u8], at: usize, breaks: LineBreaks) -> u64
         LineBreaks::CrLf => cr_lf_mask(bytes, at),
         LineBreaks::Unicode => likely_unicode_mask(bytes, at),
     }
-}
-
-#[inline(always)]
-fn chars_begun(byte: u8) -> usize
-    ensures { result ≡ cond (begins_char byte) 1 0 }
-{
-    if byte < 0x80 || byte >= 0xC0 { 1 } else { 0 }
-}
-
-#[inline(always)]
-fn pairs_begun(byte: u8) -> usize
-    ensures { result ≡ cond (begins_pair byte) 1 0 }
-{
-    if byte >= 0xF0 { 1 } else { 0 }
 }
 
 // From a place on a byte at a time.
