@@ -1,5 +1,5 @@
 -- Sums in lanes, and the counts of a part of the bytes by those of its parts.
-use Rattle.std.proofs.Common.{◌≡◌, ℕ, zero, suc, ◌+◌, ◌-◌, ◌*◌, ◌^◌, ◌/◌, ◌%◌, ◌<◌, ◌≤◌, Bool, true, false, cond, ◌&&◌, ◌||◌, eqb, leb, List, [], ◌∷◌, map, length, take, drop, get_or, replicate, count_by, bit_and, count_ones, refl, sym, ap, ◌∙◌, arith, inl, inr}
+use Rattle.std.proofs.Common.{◌≡◌, ℕ, zero, suc, ◌+◌, ◌-◌, ◌^◌, ◌/◌, ◌%◌, ◌<◌, ◌≤◌, Bool, true, false, cond, ◌&&◌, ◌||◌, eqb, leb, List, [], ◌∷◌, map, length, take, drop, get_or, replicate, count_by, bit_and, count_ones, refl, sym, ap, ◌∙◌, arith, inl, inr}
 use Rattle.std.specs.List.{range_with_len}
 use Rattle.std.proofs.lemmas.Bool.{both_ways, cases_lt}
 use Rattle.std.proofs.lemmas.Bool.Decides.{nat_tests}
@@ -43,6 +43,12 @@ range_split q i (suc m) n =
       range_split q (i + 1) m n,
       ap (λ j. count_by q (range_with_len j n)) (let e : (i + 1) + m ≡ i + suc m = omega arith in e),
     )
+
+-- where the test holds at none of the places, it holds at none of the first
+pub none_in_front : (q : ℕ → Bool) (i n m : ℕ) → n ≤ m → count_by q (range_with_len i m) ≡ 0 → count_by q (range_with_len i n) ≡ 0
+none_in_front q i n m within none =
+    let rest : ℕ = m - n in
+    omega (arith, ap (λ k. count_by q (range_with_len i k)) (let all : m ≡ n + rest = omega (arith, within) in all), range_split q i n rest, none)
 
 -- the places from i on as those of two parts
 pub places_split : (q : ℕ → Bool) (i m n j k : ℕ) → j ≡ i + m → k ≡ m + n → count_by q (places i k) ≡ count_by q (places i m) + count_by q (places j n)
@@ -336,11 +342,8 @@ same_wide b xs from n at t next none before = omega (arith, none, before, places
 pub wide_more : (b : LineBreaks) (xs : List ℕ) (from n at t u : ℕ) → at ≡ from + n → u ≡ wide_of b xs at 64 → t ≡ wide_of b xs from n → t + u ≡ wide_of b xs from (n + 64)
 wide_more b xs from n at t u next more before = omega (arith, more, before, places_split (wide_here b xs) from n 64 at (n + 64) next refl)
 
-pub next_run : (b : LineBreaks) (xs : List ℕ) (i block : ℕ) (sums : Sums) → IsRun b xs i (64 * block + 64) (4 * block + 4) sums → IsRun b xs i (64 * (block + 1)) (4 * (block + 1)) sums
-next_run b xs i block sums h =
-    let wider : 64 * block + 64 ≡ 64 * (block + 1) = omega arith in
-    let higher : 4 * block + 4 ≡ 4 * (block + 1) = omega arith in
-    subst (λ m. IsRun b xs i (64 * (block + 1)) m sums) higher (subst (λ n. IsRun b xs i n (4 * block + 4) sums) wider h)
+pub same_run : (b : LineBreaks) (xs : List ℕ) (i n most m more : ℕ) (sums : Sums) → n ≡ m → most ≡ more → IsRun b xs i n most sums → IsRun b xs i m more sums
+same_run b xs i n most m more sums wider higher h = subst (λ k. IsRun b xs i m k sums) higher (subst (λ k. IsRun b xs i k most sums) wider h)
 
 no_places : (q : ℕ → Bool) (i : ℕ) → 0 ≡ count_by q (places i 0)
 unfolding places

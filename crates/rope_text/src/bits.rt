@@ -32,6 +32,21 @@ pub(crate) fn first_mark(mask: u64) -> usize
     mask.trailing_zeros() as usize
 }
 
+/// The first byte that has a mark, of the bytes before `to`, or `to`.
+#[inline(always)]
+pub(crate) fn first_mark_before(mask: u64, to: usize) -> usize
+    requires { to ≤ 32 }
+    ensures bound { result ≤ to }
+    ensures before { ones_below mask result ≡ 0 }
+    ensures after { result < to → 0 < ones_below mask (result + 1) }
+{
+    if ones_before(mask, to) > 0 {
+        first_mark(mask)
+    } else {
+        to
+    }
+}
+
 /// The lowest place that has a mark.
 #[inline(always)]
 pub(crate) fn lowest_mark(mask: u64) -> usize

@@ -1,5 +1,5 @@
 //! Counts over the bytes of a text, 32 bytes at once.
-ghost use Rattle.std.specs.Prelude.{◌≡◌, ◌+◌, ◌-◌, ◌*◌, ◌%◌, ◌<◌, ◌≤◌, length, count_by, drop, slice_index, ℕ};
+ghost use Rattle.std.specs.Prelude.{◌≡◌, ◌+◌, ◌-◌, ◌*◌, ◌%◌, ◌<◌, ◌≤◌, length, count_by, drop, slice_index, cond, ℕ};
 ghost use Rattle.rope_text.specs.Bits.{ones_below};
 ghost use Rattle.rope_text.specs.Bytes.{begins_char, begins_pair};
 ghost use Rattle.rope_text.specs.ByteBreaks.{break_at, byte_break_count, unit_count};
@@ -50,7 +50,7 @@ pub(crate) fn cr_lf_mask(bytes: &[u8], at: usize) -> u64
 }
 
 #[inline(always)]
-pub(crate) fn unicode_mask(bytes: &[u8], at: usize) -> u64
+fn unicode_mask(bytes: &[u8], at: usize) -> u64
     requires { at + 34 ≤ length bytes.now }
     ensures { (n : ℕ) → n ≤ 32 → byte_break_count LineBreaks.Unicode (drop at bytes.now) ≡ ones_below result n + byte_break_count LineBreaks.Unicode (drop (at + n) bytes.now) }
 {
@@ -66,6 +66,35 @@ pub(crate) fn unicode_mask(bytes: &[u8], at: usize) -> u64
     let separator = z.simd_eq(u8x32::splat(0xA8)) | z.simd_eq(u8x32::splat(0xA9));
     let wide = x.simd_eq(u8x32::splat(0xE2)) & (y.simd_eq(u8x32::splat(0x80)) & separator);
     (low | (nel | wide)).to_bitmask()
+}
+
+// Apart, so that the loops over blocks that have none of its bytes stay short.
+#[inline(never)]
+fn unicode_mask_apart(bytes: &[u8], at: usize) -> u64
+    requires { at + 34 ≤ length bytes.now }
+    ensures { (n : ℕ) → n ≤ 32 → byte_break_count LineBreaks.Unicode (drop at bytes.now) ≡ ones_below result n + byte_break_count LineBreaks.Unicode (drop (at + n) bytes.now) }
+{
+    unicode_mask(bytes, at)
+}
+
+// The same as `unicode_mask`, at less work for most blocks.
+#[inline(always)]
+pub(crate) fn likely_unicode_mask(bytes: &[u8], at: usize) -> u64
+    requires { at + 34 ≤ length bytes.now }
+    ensures { (n : ℕ) → n ≤ 32 → byte_break_count LineBreaks.Unicode (drop at bytes.now) ≡ ones_below result n + byte_break_count LineBreaks.Unicode (drop (at + n) bytes.now) }
+{
+    let x = u8x32::from_slice(&bytes[at..]);
+    let y = u8x32::from_slice(&bytes[at + 1..]);
+    // Most blocks have none of the bytes C2 and E2, which begin NEL, LS and PS.
+    let wide_begin = (x & u8x32::splat(0xDF)).simd_eq(u8x32::splat(0xC2));
+    if wide_begin.to_bitmask() != 0 {
+        return unicode_mask_apart(bytes, at);
+    }
+    let most = y
+        .simd_eq(u8x32::splat(b'\n'))
+        .select(u8x32::splat(2), u8x32::splat(3));
+    let low = (x - u8x32::splat(10)).simd_le(most);
+    low.to_bitmask()
 }
 
 // Two of the three masks are not expanded where they are chosen: the compiler would take all three apart, bit by bit.
@@ -94,7 +123,7 @@ pub(crate) fn break_mask(bytes: &[u8], at: usize, breaks: LineBreaks) -> u64
     match breaks {
         LineBreaks::Lf => lf_mask_apart(bytes, at),
         LineBreaks::CrLf => cr_lf_mask_apart(bytes, at),
-        LineBreaks::Unicode => unicode_mask(bytes, at),
+        LineBreaks::Unicode => likely_unicode_mask(bytes, at),
     }
 }
 
@@ -126,34 +155,6 @@ pub(crate) fn pairs_in(bytes: &[u8], at: usize) -> usize
     ones_before(pair_mask(bytes, at), 32)
 }
 
-// Apart, so that the loops over blocks that have none of its bytes stay short.
-#[inline(never)]
-fn wide_breaks_in(bytes: &[u8], at: usize) -> usize
-    requires { at + 34 ≤ length bytes.now }
-    ensures { byte_break_count LineBreaks.Unicode (drop at bytes.now) ≡ result + byte_break_count LineBreaks.Unicode (drop (at + 32) bytes.now) }
-{
-    ones_before(unicode_mask(bytes, at), 32)
-}
-
-#[inline(always)]
-fn unicode_breaks_in(bytes: &[u8], at: usize) -> usize
-    requires { at + 34 ≤ length bytes.now }
-    ensures { byte_break_count LineBreaks.Unicode (drop at bytes.now) ≡ result + byte_break_count LineBreaks.Unicode (drop (at + 32) bytes.now) }
-{
-    let x = u8x32::from_slice(&bytes[at..]);
-    let y = u8x32::from_slice(&bytes[at + 1..]);
-    // Most blocks have none of the bytes C2 and E2, which begin NEL, LS and PS.
-    let wide_begin = (x & u8x32::splat(0xDF)).simd_eq(u8x32::splat(0xC2));
-    if wide_begin.to_bitmask() != 0 {
-        return wide_breaks_in(bytes, at);
-    }
-    let most = y
-        .simd_eq(u8x32::splat(b'\n'))
-        .select(u8x32::splat(2), u8x32::splat(3));
-    let low = (x - u8x32::splat(10)).simd_le(most);
-    ones_before(low.to_bitmask(), 32)
-}
-
 // How many breaks begin in the 32 bytes from `at` on.
 #[inline(always)]
 pub(crate) fn breaks_in(bytes: &[u8], at: usize, breaks: LineBreaks) -> usize
@@ -163,7 +164,7 @@ pub(crate) fn breaks_in(bytes: &[u8], at: usize, breaks: LineBreaks) -> usize
     match breaks {
         LineBreaks::Lf => ones_before(lf_mask(bytes, at), 32),
         LineBreaks::CrLf => ones_before(cr_lf_mask(bytes, at), 32),
-        LineBreaks::Unicode => unicode_breaks_in(bytes, at),
+        LineBreaks::Unicode => ones_before(likely_unicode_mask(bytes, at), 32),
     }
 }
 
@@ -204,6 +205,32 @@ pub(crate) fn is_break_begin(bytes: &[u8], at: usize, breaks: LineBreaks) -> boo
     }
     let next = byte_or_zero(bytes, at + 1);
     begins_break(byte, next, byte_or_zero(bytes, at + 2), breaks)
+}
+
+#[inline(always)]
+pub(crate) fn chars_begun(byte: u8) -> usize
+    ensures { result ≡ cond (begins_char byte) 1 0 }
+{
+    if byte < 0x80 || byte >= 0xC0 { 1 } else { 0 }
+}
+
+#[inline(always)]
+pub(crate) fn pairs_begun(byte: u8) -> usize
+    ensures { result ≡ cond (begins_pair byte) 1 0 }
+{
+    if byte >= 0xF0 { 1 } else { 0 }
+}
+
+#[inline(always)]
+fn breaks_begun(bytes: &[u8], at: usize, breaks: LineBreaks) -> usize
+    requires { at < length bytes.now }
+    ensures { result ≡ cond (break_at breaks (slice_index bytes.now at) (slice_index bytes.now (at + 1)) (slice_index bytes.now (at + 2))) 1 0 }
+{
+    if is_break_begin(bytes, at, breaks) {
+        1
+    } else {
+        0
+    }
 }
 
 // The breaks that begin from `from` on and before `to`, a byte at a time.
@@ -275,6 +302,9 @@ pub(crate) fn pairs_between(bytes: &[u8], from: usize, to: usize) -> usize
     }
     pairs_byte_by_byte(&bytes[from..to])
 }
+
+// A text of fewer bytes is counted byte by byte.
+const FEW_BYTES: usize = 16;
 
 // A text of so many bytes or more is counted at four places side by side. It comes from far memory: so the waits for the four
 // are one, where a single pass would wait for each in turn.
@@ -423,23 +453,59 @@ fn breaks_in_quarters(bytes: &[u8], quarter: usize, breaks: LineBreaks) -> usize
     }
 }
 
-/// How many breaks begin before the byte `to`.
+// The breaks of whole runs of blocks from `from` on and before `to`, behind which two more bytes are read: where the runs end,
+// and how many breaks.
 #[tactic(auto, using(crate::proofs::Blocks::byte_break_count_le))]
-pub(crate) fn count_breaks_before(bytes: &[u8], to: usize, breaks: LineBreaks) -> usize
+#[inline(always)]
+fn breaks_in_runs(bytes: &[u8], from: usize, to: usize, breaks: LineBreaks) -> (usize, usize)
+    requires from { from ≤ to }
+    requires to { to ≤ length bytes.now - 2 }
+    ensures not_before { from ≤ result.0 }
+    ensures bound { result.0 ≤ to }
+    ensures break_count { byte_break_count breaks (drop from bytes.now) ≡ result.1 + byte_break_count breaks (drop result.0 bytes.now) }
+{
+    let mut total = 0;
+    let mut i = from;
+    while to - i >= 64 {
+        let run = count_run(bytes, i, to, breaks);
+        total += run.3;
+        i = run.0;
+    }
+    (i, total)
+}
+
+// The set is known where this is expanded.
+#[tactic(auto, using(crate::proofs::Blocks::byte_break_count_le))]
+#[inline(always)]
+fn known_breaks_before(bytes: &[u8], to: usize, breaks: LineBreaks) -> usize
     requires { to ≤ length bytes.now }
     ensures { byte_break_count breaks bytes.now ≡ result + byte_break_count breaks (drop to bytes.now) }
 {
     // A block is read two bytes past its end.
     let end = to.min(bytes.len().saturating_sub(2));
     let quarter = quarter_of(end);
-    let mut total = breaks_in_quarters(bytes, quarter, breaks);
-    let mut i = 4 * quarter;
+    let before = breaks_in_quarters(bytes, quarter, breaks);
+    let (from, in_runs) = breaks_in_runs(bytes, 4 * quarter, end, breaks);
+    let mut total = before + in_runs;
+    let mut i = from;
     while end - i >= 32 {
         total += breaks_in(bytes, i, breaks);
         i += 32;
     }
     total += breaks_between(bytes, i, end, breaks);
     total + breaks_byte_by_byte(bytes, end, to, breaks)
+}
+
+/// How many breaks begin before the byte `to`.
+pub(crate) fn count_breaks_before(bytes: &[u8], to: usize, breaks: LineBreaks) -> usize
+    requires { to ≤ length bytes.now }
+    ensures { byte_break_count breaks bytes.now ≡ result + byte_break_count breaks (drop to bytes.now) }
+{
+    match breaks {
+        LineBreaks::Lf => known_breaks_before(bytes, to, LineBreaks::Lf),
+        LineBreaks::CrLf => known_breaks_before(bytes, to, LineBreaks::CrLf),
+        LineBreaks::Unicode => known_breaks_before(bytes, to, LineBreaks::Unicode),
+    }
 }
 
 // The counts of whole runs of blocks: their end, the characters in them, those of two code units, and the breaks.
@@ -456,7 +522,7 @@ fn count_runs(bytes: &[u8], breaks: LineBreaks) -> (usize, usize, usize, usize)
     let mut break_count = 0;
     let mut i = 0;
     while bytes.len() - i >= 66 {
-        let run = count_run(bytes, i, breaks);
+        let run = count_run(bytes, i, bytes.len() - 2, breaks);
         chars += run.1;
         pairs += run.2;
         break_count += run.3;
@@ -509,12 +575,33 @@ fn count_known(bytes: &[u8], breaks: LineBreaks) -> (usize, usize, usize)
     )
 }
 
+// The same byte by byte, which takes less where they are few.
+fn count_few(bytes: &[u8], breaks: LineBreaks) -> (usize, usize, usize)
+    ensures chars { result.0 ≡ count_by begins_char bytes.now }
+    ensures pairs { result.1 ≡ count_by begins_pair bytes.now }
+    ensures break_count { byte_break_count breaks bytes.now ≡ result.2 + byte_break_count breaks (drop (length bytes.now) bytes.now) }
+{
+    let mut chars = 0;
+    let mut pairs = 0;
+    let mut break_count = 0;
+    for at in 0..bytes.len() {
+        let byte = bytes[at];
+        chars += chars_begun(byte);
+        pairs += pairs_begun(byte);
+        break_count += breaks_begun(bytes, at, breaks);
+    }
+    (chars, pairs, break_count)
+}
+
 /// How many characters the bytes begin, how many of two code units, and how many breaks, by one pass.
 pub(crate) fn count_all(bytes: &[u8], breaks: LineBreaks) -> (usize, usize, usize)
     ensures chars { result.0 ≡ count_by begins_char bytes.now }
     ensures pairs { result.1 ≡ count_by begins_pair bytes.now }
     ensures break_count { byte_break_count breaks bytes.now ≡ result.2 + byte_break_count breaks (drop (length bytes.now) bytes.now) }
 {
+    if bytes.len() < FEW_BYTES {
+        return count_few(bytes, breaks);
+    }
     match breaks {
         LineBreaks::Lf => count_known(bytes, LineBreaks::Lf),
         LineBreaks::CrLf => count_known(bytes, LineBreaks::CrLf),

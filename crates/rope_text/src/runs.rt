@@ -1,5 +1,5 @@
 //! Counts over runs of blocks of 64 bytes: what each block counts is added up in 16 lanes, and the lanes are summed once a run.
-ghost use Rattle.std.specs.Prelude.{◌≡◌, ◌+◌, ◌*◌, ◌<◌, ◌≤◌, length, count_by, take, drop, IsTrue, ℕ};
+ghost use Rattle.std.specs.Prelude.{◌≡◌, ◌+◌, ◌-◌, ◌<◌, ◌≤◌, length, count_by, take, drop, IsTrue, ℕ};
 ghost use lib.Lanes.{sum_l};
 ghost use Rattle.rope_text.specs.Bits.{ones_below};
 ghost use Rattle.rope_text.specs.Bytes.{begins_char, begins_pair};
@@ -228,23 +228,26 @@ fn sum_of(lanes: u8x16) -> usize
     lanes.cast::<u16>().strict_reduce_sum() as usize
 }
 
-/// The counts of a run of whole blocks from `from` on, behind which two bytes more can be read: its end, the characters in
-/// it, those of two code units, and the breaks. It has one block at least, if one is there.
+/// The counts of a run of whole blocks from `from` on and before `to`, behind which two more bytes are read: its end, the
+/// characters in it, those of two code units, and the breaks. It has one block at least, if one is there.
 #[inline(always)]
 pub(crate) fn count_run(
     bytes: &[u8],
     from: usize,
+    to: usize,
     breaks: LineBreaks,
 ) -> (usize, usize, usize, usize)
-    requires { from ≤ length bytes.now }
-    ensures bound { result.0 ≤ length bytes.now }
-    ensures further { from + 66 ≤ length bytes.now → from + 64 ≤ result.0 }
+    requires from { from ≤ to }
+    requires to { to ≤ length bytes.now - 2 }
     ensures not_before { from ≤ result.0 }
+    ensures bound { result.0 ≤ to }
+    ensures further { from + 64 ≤ to → from + 64 ≤ result.0 }
     ensures chars { count_by begins_char (drop from bytes.now) ≡ result.1 + count_by begins_char (drop result.0 bytes.now) }
     ensures pairs { count_by begins_pair (drop from bytes.now) ≡ result.2 + count_by begins_pair (drop result.0 bytes.now) }
     ensures break_count { byte_break_count breaks (drop from bytes.now) ≡ result.3 + byte_break_count breaks (drop result.0 bytes.now) }
 {
-    let blocks = ((bytes.len() - from).saturating_sub(2) / 64).min(BLOCKS);
+    let blocks = ((to - from) / 64).min(BLOCKS);
+    let end = from + 64 * blocks;
     let none = u8x16::splat(0);
     let mut sums = Sums {
         chars: none,
@@ -252,11 +255,13 @@ pub(crate) fn count_run(
         narrow: none,
         wide: 0,
     };
-    for block in 0..blocks {
-        sums = add_block(sums, bytes, from + 64 * block, breaks);
+    let mut i = from;
+    while i < end {
+        sums = add_block(sums, bytes, i, breaks);
+        i += 64;
     }
     (
-        from + 64 * blocks,
+        end,
         sum_of(sums.chars),
         sum_of(sums.pairs),
         sum_of(sums.narrow) + sums.wide,

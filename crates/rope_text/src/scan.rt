@@ -1,12 +1,15 @@
 //! The first line break of a text, and what the text before it counts, found in one pass: 32 bytes at once.
-ghost use Rattle.std.specs.Prelude.{◌≡◌, ◌+◌, ◌<◌, ◌≤◌, length, drop, slice_index, cond, IsTrue, ℕ};
+ghost use Rattle.std.specs.Prelude.{◌≡◌, ◌+◌, ◌<◌, ◌≤◌, length, drop, slice_index, IsTrue, ℕ};
 ghost use Rattle.rope_text.specs.Bits.{ones_below};
 ghost use Rattle.rope_text.specs.Bytes.{begins_char, begins_pair};
 ghost use Rattle.rope_text.specs.ByteBreaks.{break_at, byte_break_count};
 ghost use Rattle.rope_text.specs.Scan.{IsFront};
 
-use crate::bits::{first_mark, ones_before};
-use crate::lanes::{char_mask, cr_lf_mask, is_break_begin, lf_mask, pair_mask, unicode_mask};
+use crate::bits::{first_mark, first_mark_before, ones_before, ones_between};
+use crate::lanes::{
+    break_mask, char_mask, chars_begun, cr_lf_mask, is_break_begin, lf_mask, likely_unicode_mask,
+    pair_mask, pairs_begun,
+};
 use crate::line_breaks::LineBreaks;
 
 /// The bytes of a text before a place in its first line, and what they count.
@@ -26,26 +29,12 @@ fn known_break_mask(bytes: &[u8], at: usize, breaks: LineBreaks) -> u64
     match breaks {
         LineBreaks::Lf => lf_mask(bytes, at),
         LineBreaks::CrLf => cr_lf_mask(bytes, at),
-        LineBreaks::Unicode => unicode_mask(bytes, at),
+        LineBreaks::Unicode => likely_unicode_mask(bytes, at),
     }
 }
 
+// From a place on a byte at a time.
 #[inline(always)]
-fn chars_begun(byte: u8) -> usize
-    ensures { result ≡ cond (begins_char byte) 1 0 }
-{
-    if byte < 0x80 || byte >= 0xC0 { 1 } else { 0 }
-}
-
-#[inline(always)]
-fn pairs_begun(byte: u8) -> usize
-    ensures { result ≡ cond (begins_pair byte) 1 0 }
-{
-    if byte >= 0xF0 { 1 } else { 0 }
-}
-
-// From a place on a byte at a time. Never inlined: it is done once a chunk.
-#[inline(never)]
 fn go_byte_by_byte(bytes: &[u8], from: Front, breaks: LineBreaks) -> Front
     requires { IsFront breaks bytes.now from }
     ensures front { IsFront breaks bytes.now result }
@@ -70,6 +59,43 @@ fn go_byte_by_byte(bytes: &[u8], from: Front, breaks: LineBreaks) -> Front
         chars,
         pairs,
     }
+}
+
+// From a place in the last block that can be read, up to the next break or to where that block ends.
+#[inline(always)]
+fn go_in_last_block(bytes: &[u8], from: Front, breaks: LineBreaks) -> Front
+    requires long { 34 ≤ length bytes.now }
+    requires near { length bytes.now ≤ from.bytes + 34 }
+    requires within { from.bytes + 2 ≤ length bytes.now }
+    requires front { IsFront breaks bytes.now from }
+    ensures { IsFront breaks bytes.now result }
+{
+    let at = bytes.len() - 34;
+    let skip = from.bytes - at;
+    let begins = char_mask(bytes, at);
+    let doubles = pair_mask(bytes, at);
+    let marks = break_mask(bytes, at, breaks) >> skip;
+    let more = first_mark_before(marks, 32 - skip);
+    Front {
+        bytes: from.bytes + more,
+        chars: from.chars + ones_between(begins, skip, skip + more),
+        pairs: from.pairs + ones_between(doubles, skip, skip + more),
+    }
+}
+
+// From behind the last whole block on. Never inlined: it is done once a chunk.
+#[inline(never)]
+fn go_to_end(bytes: &[u8], from: Front, breaks: LineBreaks) -> Front
+    requires near { length bytes.now ≤ from.bytes + 34 }
+    requires front { IsFront breaks bytes.now from }
+    ensures front { IsFront breaks bytes.now result }
+    ensures inside { result.bytes < length bytes.now
+        → IsTrue (break_at breaks (slice_index bytes.now result.bytes) (slice_index bytes.now (result.bytes + 1)) (slice_index bytes.now (result.bytes + 2))) }
+{
+    if bytes.len() >= 34 && from.bytes <= bytes.len() - 2 {
+        return go_byte_by_byte(bytes, go_in_last_block(bytes, from, breaks), breaks);
+    }
+    go_byte_by_byte(bytes, from, breaks)
 }
 
 // A block at a time. A set that is known where this is called leaves no test for it in the loop.
@@ -103,7 +129,7 @@ fn go_by_blocks(bytes: &[u8], breaks: LineBreaks) -> Front
         chars,
         pairs,
     };
-    go_byte_by_byte(bytes, from, breaks)
+    go_to_end(bytes, from, breaks)
 }
 
 #[inline(always)]

@@ -1,6 +1,15 @@
-use Rattle.std.proofs.Common.{◌*◌}
+use Rattle.std.proofs.Common.{◌≡◌, ◌≤◌, ◌+◌, ◌-◌, ◌/◌, ◌%◌}
 use Rattle.rope_text.specs.Runs.{IsRun}
 use Rattle.rope_text.proofs.runs.count_run.Given as goal
 
-abbrev pub invariant-loop-block : goal.invariant-loop-block
-invariant-loop-block l = IsRun l.breaks l.bytes l.from (64 * l.block) (4 * l.block) l.sums
+abbrev pub invariant-loop-i : goal.invariant-loop-i
+invariant-loop-i l = record {
+  not_before : l.from ≤ l.i;
+  within : l.i ≤ l.end;
+  whole : (l.end - l.i) % 64 ≡ 0;
+  short : l.end ≤ l.from + 4032;
+  run : IsRun l.breaks l.bytes l.from (l.i - l.from) ((l.i - l.from) / 16) l.sums;
+}
+
+abbrev pub decreases-loop-i : goal.decreases-loop-i
+decreases-loop-i l = l.end - l.i

@@ -4,12 +4,13 @@ use Rattle.std.proofs.lemmas.List.FromFn.{length-range_with_len}
 use Rattle.rope_text.specs.declared.line_breaks.LineBreaks.TheVariants.{Unicode}
 use Rattle.rope_text.specs.ByteBreaks.{byte_break_count}
 use Rattle.rope_text.proofs.Blocks.{byte_break_count-block, breaks_at, count_by-unless, wide_off}
+use Rattle.rope_text.proofs.LaneSums.{none_in_front}
 use Rattle.rope_text.proofs.Marks.{compared, compared_both, computed, chosen, retested, counted_from, none_set, loaded, loaded_from}
 use Rattle.rope_text.proofs.UnicodeLanes.{low_break, no_wide_begin}
-use Rattle.rope_text.proofs.lanes.unicode_breaks_in.Goals as goal
+use Rattle.rope_text.proofs.lanes.likely_unicode_mask.Goals as goal
 
 pub returns : goal.returns
-returns c =
+returns c = λ n few.
     let s = c.args.bytes.now in
     let i = c.args.at in
     let long = length-range_with_len i 32 in
@@ -24,9 +25,9 @@ returns c =
     let low = retested (λ k. low_break (get_or s k 0) (get_or s (k + 1) 0) (c.type_inv.bytes k).fits) up in
     let none = none_set (omega (arith, long)) (compared eqb 194 32 long (computed bit_and 223 32 long x)) c.if-wide_begin-ne0.false in
     let same =
-    count_by-unless is_wide_begin (λ k. is_low k || is_lone_cr k) (breaks_at Unicode s) (range_with_len i 32)
+    count_by-unless is_wide_begin (λ k. is_low k || is_lone_cr k) (breaks_at Unicode s) (range_with_len i n)
     (λ k off.
     wide_off (is_low k) (is_lone_cr k) (at k 194) (at k 226) (at (k + 1) 133) (at (k + 1) 128 && (at (k + 2) 168 || at (k + 2) 169))
-    (no_wide_begin (get_or s k 0) off)) none in
-    byte_break_count-block Unicode s i 32 (omega arith)
-    ∙ ap (λ n. n + byte_break_count Unicode (drop (i + 32) s)) (sym (c.ones_before.ensures ∙ counted_from {m = 32} i 32 (omega arith) (omega arith) low ∙ same))
+    (no_wide_begin (get_or s k 0) off)) (none_in_front is_wide_begin i n 32 few none) in
+    byte_break_count-block Unicode s i n (omega arith)
+    ∙ ap (λ k. k + byte_break_count Unicode (drop (i + n) s)) (sym (counted_from {m = 32} i n few (omega arith) low ∙ same))

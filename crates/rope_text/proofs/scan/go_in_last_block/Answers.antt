@@ -1,0 +1,46 @@
+use Rattle.std.proofs.Common.{◌≡◌, ℕ, ◌+◌, ◌-◌, ◌≤◌, drop, count_by, length, ap, refl, arith}
+use Rattle.rope_text.specs.Bytes.{begins_char, begins_pair}
+use Rattle.rope_text.specs.ByteBreaks.{byte_break_count}
+use Rattle.rope_text.proofs.BitLaws.{ones_more}
+use Rattle.rope_text.proofs.Scans.{front_block}
+use Rattle.rope_text.proofs.scan.go_in_last_block.Goals as goal
+
+pub returns : goal.returns
+returns c =
+    let s = c.args.bytes.now in
+    let b = c.args.breaks in
+    let f = c.args.from in
+    let at : ℕ = length s - 34 in
+    let skip : ℕ = f.bytes - at in
+    let more = c.first_mark_before-more.result in
+    let bound = c.first_mark_before-more.ensures.bound in
+    let start : at + skip ≡ f.bytes = omega (arith, c.requires.near) in
+    let end : at + (skip + more) ≡ f.bytes + more = omega (arith, start) in
+    let few : skip ≤ 32 = omega (arith, c.requires.within) in
+    let all : skip + more ≤ 32 = omega (arith, few, bound) in
+    front_block b s f _ more c.ones_between.result c.ones_between-2.result c.requires.front refl (omega (arith, c.requires.within, c.requires.long, all, end)) refl refl
+    (omega (
+      arith,
+      c.break_mask.ensures skip few,
+      c.break_mask.ensures (skip + more) all,
+      ones_more c.break_mask.result skip more (skip + more) refl,
+      c.first_mark_before-more.ensures.before,
+      ap (λ k. byte_break_count b (drop k s)) start,
+      ap (λ k. byte_break_count b (drop k s)) end,
+    ))
+    (omega (
+      arith,
+      c.char_mask-begins.ensures skip few,
+      c.char_mask-begins.ensures (skip + more) all,
+      c.ones_between.ensures,
+      ap (λ k. count_by begins_char (drop k s)) start,
+      ap (λ k. count_by begins_char (drop k s)) end,
+    ))
+    (omega (
+      arith,
+      c.pair_mask-doubles.ensures skip few,
+      c.pair_mask-doubles.ensures (skip + more) all,
+      c.ones_between-2.ensures,
+      ap (λ k. count_by begins_pair (drop k s)) start,
+      ap (λ k. count_by begins_pair (drop k s)) end,
+    ))
