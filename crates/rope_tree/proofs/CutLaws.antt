@@ -135,19 +135,19 @@ module _ (ts us : List Tree) (k : ℕ) (c u x : Tree) (cut : Cuts ts us k c u x)
     total_at = λ j d within. elim (cases_lt j k) [
       | inl l ↦ early j d l ∙ before j d l ∙ t.total_at j d (omega (arith, l, cut.within)) ∙ sym (same_front (j + 1) (omega (arith, l)))
       | inr ge ↦ elim (cases_lt k j) [
-          | inl l ↦
-              let i : ℕ = j - 1 in
-              let i_is : i + 1 ≡ j = omega (arith, l) in
-              let from : k ≤ i = omega (arith, l) in
-              let to : i < length ts = omega (arith, within, as_many, l) in
-              let many : i < length totals = omega (arith, to, t.as_many) in
-              let sum = past i d from many ∙ ap (λ y. info_sum y both) (t.total_at i d to) ∙ sym (even i from to) in
-              let moved = late i d from (omega (arith, many, len)) ∙ sums_cancel (get_or mid i d) (counted (breaks_of ts) us (i + 1 + 1)) (info_of (breaks_of ts) (text c)) sum in
-              subst (λ n. get_or after n d ≡ counted (breaks_of ts) us (n + 1)) i_is moved
-          | inr le ↦
-              let e : k ≡ j = omega (arith, ge, le) in
-              subst (λ n. get_or after n d ≡ counted (breaks_of ts) us (n + 1)) e (own d ∙ total_is ∙ sym first_more)
-        ]
+        | inl l ↦
+            let i : ℕ = j - 1 in
+            let i_is : i + 1 ≡ j = omega (arith, l) in
+            let from : k ≤ i = omega (arith, l) in
+            let to : i < length ts = omega (arith, within, as_many, l) in
+            let many : i < length totals = omega (arith, to, t.as_many) in
+            let sum = past i d from many ∙ ap (λ y. info_sum y both) (t.total_at i d to) ∙ sym (even i from to) in
+            let moved = late i d from (omega (arith, many, len)) ∙ sums_cancel (get_or mid i d) (counted (breaks_of ts) us (i + 1 + 1)) (info_of (breaks_of ts) (text c)) sum in
+            subst (λ n. get_or after n d ≡ counted (breaks_of ts) us (n + 1)) i_is moved
+        | inr le ↦
+            let e : k ≡ j = omega (arith, ge, le) in
+            subst (λ n. get_or after n d ≡ counted (breaks_of ts) us (n + 1)) e (own d ∙ total_is ∙ sym first_more)
+      ]
     ];
   }
 

@@ -57,17 +57,17 @@ invariant_of-self c =
         | inl early ↦
             same_fit c.self.inside b j j (c.self.invariant.narrow j (omega (arith, early, c.requires.within, n))) (c.put_in.ensures.before j early) (c.put_in-2.ensures.before j early) (c.put_in-3.ensures.before j early) (c.put_in-4.ensures.before j early)
         | inr late ↦ elim (cases_lt c.args.place j) [
-            | inl past ↦
-                let i : ℕ = j - 1 in
-                let to : i < c.self.inside.len = omega (arith, lt, past) in
-                let from : c.args.place ≤ i = omega (arith, past) in
-                let is : i + 1 ≡ j = omega (arith, past) in
-                subst (λ k. IsNarrow (counts_at b k)) is
-                (same_fit c.self.inside b (i + 1) i (c.self.invariant.narrow i to) (c.put_in.ensures.behind i from to) (c.put_in-2.ensures.behind i from to) (c.put_in-3.ensures.behind i from to) (c.put_in-4.ensures.behind i from to))
-            | inr here ↦
-                let is : c.args.place ≡ j = omega (arith, late, here) in
-                subst (λ k. IsNarrow (counts_at b k)) is
-                (put_fit b c.args.place c.args.total own c.put_in.ensures.here c.put_in-2.ensures.here c.put_in-3.ensures.here c.put_in-4.ensures.here)
+          | inl past ↦
+              let i : ℕ = j - 1 in
+              let to : i < c.self.inside.len = omega (arith, lt, past) in
+              let from : c.args.place ≤ i = omega (arith, past) in
+              let is : i + 1 ≡ j = omega (arith, past) in
+              subst (λ k. IsNarrow (counts_at b k)) is
+              (same_fit c.self.inside b (i + 1) i (c.self.invariant.narrow i to) (c.put_in.ensures.behind i from to) (c.put_in-2.ensures.behind i from to) (c.put_in-3.ensures.behind i from to) (c.put_in-4.ensures.behind i from to))
+          | inr here ↦
+              let is : c.args.place ≡ j = omega (arith, late, here) in
+              subst (λ k. IsNarrow (counts_at b k)) is
+              (put_fit b c.args.place c.args.total own c.put_in.ensures.here c.put_in-2.ensures.here c.put_in-3.ensures.here c.put_in-4.ensures.here)
         ]
       ];
     }

@@ -1,8 +1,6 @@
-use Rattle.std.proofs.Common.{ℕ, ◌<◌, ◌≤◌, inl, inr, length, get_or, sym, subst, refl, arith}
+use Rattle.std.proofs.Common.{ℕ, ◌<◌, ◌≤◌, inl, inr, length, get_or, refl, arith}
 use Rattle.std.proofs.lemmas.Bool.{cases_lt}
-use Rattle.rope_text.specs.declared.text_info.TextInfo.{TextInfo}
 use Rattle.rope_tree.specs.NarrowShape.{counts_at}
-use Rattle.rope_tree.specs.Narrow.{FitsWith}
 use Rattle.rope_tree.proofs.NarrowKept.{many, total_seen, same_seen, sums_seen, all_narrow, Parts, parts_fit, traded, Trades, trades_fit, same_fit}
 use Rattle.rope_tree.proofs.search.narrow.NarrowTotals.retotal.Goals.{After-self, After-shift-4}
 use Rattle.rope_tree.proofs.search.narrow.NarrowTotals.retotal.Goals as goal
