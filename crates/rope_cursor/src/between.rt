@@ -13,6 +13,7 @@ use rope_part::{Part, Plain, Stretch};
 use rope_text::TextInfo;
 
 // The characters of a stretch between two places.
+#[inline(always)]
 fn in_stretch<'a>(stretch: &Stretch<'a>, from: TextInfo, to: TextInfo) -> Stretch<'a>
     requires from_is { from ≡ info_of (of_stretch.breaks_of stretch.now) (take from.chars (of_stretch.text_of stretch.now)) }
     requires to_is { to ≡ info_of (of_stretch.breaks_of stretch.now) (take to.chars (of_stretch.text_of stretch.now)) }
@@ -51,6 +52,7 @@ fn in_text<'a>(plain: &Plain<'a>, from: TextInfo, to: TextInfo) -> Plain<'a>
 }
 
 /// The part between two places of a part, by the counts of its text up to them. The first lies in no CR LF.
+#[inline(always)]
 pub(crate) fn between<'a>(part: &Part<'a>, from: TextInfo, to: TextInfo) -> Part<'a>
     requires from_is { from ≡ info_of (breaks_of part.now) (take from.chars (text_of part.now)) }
     requires to_is { to ≡ info_of (breaks_of part.now) (take to.chars (text_of part.now)) }

@@ -243,6 +243,7 @@ impl<'a> Gap<'a> {
     }
 
     /// Goes on past the next line break, or to the end. Answers the counts of what it passed.
+    #[inline(never)]
     pub fn pass_line(&mut self, breaks: LineBreaks) -> TextInfo
         ensures front { self.new.front ≡ self.old.front ++ first_line breaks self.old.back }
         ensures back { self.old.back ≡ first_line breaks self.old.back ++ self.new.back }
@@ -260,6 +261,7 @@ impl<'a> Gap<'a> {
 
     /// Goes back past so many line breaks, and on to the end of the one before, or to the start. Answers the counts of what it
     /// passed. It is in no CR LF.
+    #[inline(never)]
     pub fn pass_line_back(&mut self, skip: usize, breaks: LineBreaks) -> TextInfo
         requires { parts_crlf self.old.front self.old.back ≡ false }
         ensures front { self.new.front ≡ take (last_start breaks self.old.front skip) self.old.front }

@@ -70,6 +70,9 @@ impl<'a> Lines<'a> {
         }
     }
 
+    // One line to the right. Expanded where it is called, so that of the part only what is asked for is worked out; the text is
+    // read in a call.
+    #[inline(always)]
     fn right(&mut self) -> Option<Part<'a>>
         ensures { GoesRight (λ x. content_of x) self.old result self.new }
     {
@@ -84,6 +87,8 @@ impl<'a> Lines<'a> {
         Some(item)
     }
 
+    // One line to the left.
+    #[inline(always)]
     fn left(&mut self) -> Option<Part<'a>>
         ensures { GoesLeft (λ x. content_of x) self.old result self.new }
     {
@@ -101,6 +106,7 @@ impl<'a> Lines<'a> {
     }
 
     /// The item behind, to which it steps back; or none at that end, where it stays.
+    #[inline(always)]
     pub fn prev(&mut self) -> Option<Part<'a>>
         ensures { StepsBack (λ x. content_of x) self.old result self.new }
     {
@@ -147,6 +153,7 @@ impl<'a> Iterator for Lines<'a> {
     ghost remaining = { item_count ahead };
 
     /// The next line, or none at the end, where it stays.
+    #[inline(always)]
     fn next(&mut self) -> Option<Part<'a>>
         ensures steps { YieldsFirstBy (λ x. content_of x) ahead self.old result self.new }
         ensures goes { GoesAhead (λ x. content_of x) self.old result self.new }

@@ -190,7 +190,7 @@ impl<'a> Span<'a> {
     }
 
     /// The same way.
-    // Expanded where it is called: so what is copied stays known there to no other call.
+    // Expanded where it is called, since a call would be told where the way lies.
     #[inline(always)]
     pub fn copy(&self) -> Span<'a>
         ensures { result ≡ self.now }

@@ -96,6 +96,7 @@ impl<'a> RopeSlice<'a> {
 
 impl<'a> Lines<'a> {
     /// The line behind the cursor, to which it steps back; or none at that end, where it stays. Takes no memory.
+    #[inline(always)]
     pub fn prev(&mut self) -> Option<RopeSlice<'a>>
         ensures { StepsBack (λ x. content_of x) self.old result self.new }
     {
@@ -130,6 +131,7 @@ impl<'a> Iterator for Lines<'a> {
     ghost remaining = { item_count ahead };
 
     /// The next line, or none at the end, where the cursor stays. Reads the line and takes no memory.
+    #[inline(always)]
     fn next(&mut self) -> Option<RopeSlice<'a>>
         ensures steps { YieldsFirstBy (λ x. content_of x) ahead self.old result self.new }
         ensures goes { GoesAhead (λ x. content_of x) self.old result self.new }
