@@ -51,16 +51,20 @@ fn group_len(left: usize, groups: usize) -> usize
     left / groups
 }
 
-/// The nodes one level up: as few as can hold these, of 12 to 24 children each.
+/// The children of a node that is made with others of its level: not as many as it can have, so that the first leaf below it that
+/// is cut in two stays under it, and no node on the way has to be made anew.
+const FRESH_CHILDREN: usize = 22;
+
+/// The nodes one level up, of 12 to 22 children each.
 fn level_over(alloc: Global, nodes: &[Node], made: &mut u64) -> Result<Vec<Node>, AllocError>
     requires siblings { AreSiblings (breaks_of nodes.now) (height_of nodes.now) nodes.now }
     requires many { 24 < length nodes.now }
     ensures siblings { IfOk result (λ level. AreSiblings (breaks_of nodes.now) (height_of nodes.now + 1) level.items) }
     ensures leaves { IfOk result (λ level. leaves_of level.items ≡ leaves_of nodes.now) }
-    ensures few { IfOk result (λ level. length level.items ≡ (length nodes.now + 23) / 24) }
+    ensures few { IfOk result (λ level. length level.items ≡ (length nodes.now + 21) / 22) }
     ensures made { IfOk result (λ level. made.new ≤ made.old + length level.items) }
 {
-    let mut groups = nodes.len().div_ceil(MAX_CHILDREN);
+    let mut groups = nodes.len().div_ceil(FRESH_CHILDREN);
     let mut level = Vec::with_capacity(alloc, groups)?;
     let mut rest = nodes;
     while groups > 0 {
@@ -91,7 +95,7 @@ pub(crate) fn root_over(alloc: Global, nodes: Vec<Node>, made: &mut u64) -> Resu
     Ok(make_over(alloc, &[], &[], &level, made)?)
 }
 
-/// A tree of this text, built from the bottom: leaves cut in order, then nodes of 12 to 24 children level by level.
+/// A tree of this text, built from the bottom: leaves cut in order, then nodes of 12 to 22 children level by level.
 /// It makes two nodes at the most for each leaf, or one for the empty text. No text is read twice for its counts.
 pub fn build(
     alloc: Global,

@@ -88,13 +88,14 @@ pub fn put_in(
     breaks: LineBreaks,
 ) -> TextInfo
     requires info { info ≡ info_of breaks leaf.old }
+    requires within { at ≤ length leaf.old }
     requires some { 1 ≤ length added.now }
     requires fits { byte_len leaf.old + byte_len added.now ≤ 984 }
     ensures text { leaf.new ≡ inserted leaf.old at added.now }
     ensures info { result ≡ info_of breaks (inserted leaf.old at added.now) }
 {
     let text = leaf.as_str();
-    let place = ShortText::with_chars(text, info.chars).char_to_byte_idx(at);
+    let place = leaf.char_start(at, info.chars, info.bytes);
     let added = added.as_str();
     let info = info_between(info, &text[..place], added, &text[place..], breaks);
     leaf.insert_bytes(place, added);

@@ -35,25 +35,8 @@ fn goes_right(node: &Node, at: usize, added: &ShortText<'_>) -> bool
     ends_in_cr(added.as_str()) && is_lf(node, at)
 }
 
-/// Puts a text of at most 981 bytes before the character `at`, where no node on the way is shared and the leaf has room;
-/// returns whether it did. It takes no memory.
-pub fn insert_in_place(root: &mut Node, at: usize, added: &ShortText<'_>) -> bool
-    requires within { at ≤ length (text root.old) }
-    requires some { 1 ≤ length added.now }
-    requires fits { byte_len (text root.old) + byte_len added.now < 2 ^ 63 }
-    ensures text { result ≡ true → text root.new ≡ inserted (text root.old) at added.now }
-    ensures breaks { root.new.breaks ≡ root.old.breaks }
-    ensures tree { result ≡ true → IsTree root.new }
-    ensures kept { result ≡ false → root.new ≡ root.old }
-{
-    let to_right = goes_right(root, at, added);
-    root.insert_in_place(at, added, to_right)
-}
-
-/// Puts a text of at most 981 bytes before the character `at`, where no node on the way is shared, the leaf has no room for it,
-/// and the node over the leaf has room for one more: the leaf is cut into two; returns whether it did. It takes memory for the second
-/// part alone; where that is refused, nothing is changed.
-fn insert_by_cut(
+/// Puts a text of at most 981 bytes before the character `at` where the nodes stand; returns whether it did.
+fn insert_in_place(
     alloc: Global,
     root: &mut Node,
     at: usize,
@@ -69,11 +52,10 @@ fn insert_by_cut(
     ensures tree { IfOk result (λ did. did ≡ true → IsTree root.new) }
     ensures kept { IfOk result (λ did. did ≡ false → root.new ≡ root.old) }
     ensures err { OnErr result (root.new ≡ root.old) }
-    ensures made { made.new ≤ made.old + 1 }
-    ensures unmade { IfOk result (λ did. did ≡ false → made.new ≡ made.old) }
+    ensures made { made.new ≤ made.old + root.old.height + 2 }
 {
     let to_right = goes_right(root, at, added);
-    root.insert_by_cut(alloc, at, added, to_right, made)
+    root.insert_in_place(alloc, at, added, to_right, made)
 }
 
 /// One tree over the nodes that an insert into `old` made.
@@ -126,9 +108,9 @@ pub fn insert_short(
 /// The bytes of the longest text that goes into a leaf: with it in, a full leaf can be cut into two wherever it goes.
 pub const MAX_SHORT_BYTES: usize = 981;
 
-/// Puts a text of 1 to 981 bytes before the character `at`: where the nodes stand, if nothing on the way is shared and the
-/// leaf has room, which takes no memory, or is cut into two below a node that has room for one more; and else in a tree that
-/// takes the old one's place last of all.
+/// Puts a text of 1 to 981 bytes before the character `at`: where the nodes stand, if the leaf has room, or is cut into two below
+/// a node that has room for one more, which takes memory for copies of shared nodes and for the second part alone; and else in a
+/// tree that takes the old one's place last of all.
 pub fn insert_at(
     alloc: Global,
     root: &mut Node,
@@ -144,14 +126,11 @@ pub fn insert_at(
     ensures breaks { root.new.breaks ≡ root.old.breaks }
     ensures tree { IsTree root.new }
     ensures err { OnErr result (root.new ≡ root.old) }
-    ensures made { made.new ≤ made.old + 2 * root.old.height + 3 }
+    ensures made { made.new ≤ made.old + 3 * root.old.height + 5 }
 {
     let _ = root.height();
     let added = ShortText::new(added);
-    if insert_in_place(root, at, &added) {
-        return Ok(());
-    }
-    if insert_by_cut(alloc, root, at, &added, made)? {
+    if insert_in_place(alloc, root, at, &added, made)? {
         return Ok(());
     }
     let new = insert_short(alloc, root, at, &added, made)?;

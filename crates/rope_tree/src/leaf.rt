@@ -51,6 +51,18 @@ impl Leaf {
         }
     }
 
+    /// The same leaf once more, with a copy of its text.
+    pub(crate) fn copied(&self) -> Leaf
+        ensures { result ≡ self.now }
+    {
+        let text = self.text.as_str_of_len(self.info.info().bytes);
+        Leaf {
+            breaks: self.breaks,
+            info: self.info,
+            text: NodeText::from_str(text),
+        }
+    }
+
     /// Its set of line breaks.
     pub(crate) fn line_breaks(&self) -> LineBreaks
         ensures { result ≡ self.now.breaks }
@@ -74,9 +86,15 @@ impl Leaf {
         ShortText::with_chars(self.text.as_str_of_len(info.bytes), info.chars)
     }
 
+    /// Whether so many bytes more have no room.
+    pub(crate) fn lacks_room_for(&self, bytes: usize) -> bool {
+        self.info.info().bytes > MAX_BYTES.saturating_sub(bytes)
+    }
+
     /// Puts a text before the character `at`, if there is room for it; returns whether it did. It takes no memory.
     pub(crate) fn insert_in_place(&mut self, at: usize, added: &ShortText<'_>) -> bool
-        requires { 1 ≤ length added.now }
+        requires within { at ≤ length (text self.old) }
+        requires some { 1 ≤ length added.now }
         ensures done { result ≡ true → IsInserted self.old (self.new ∷ []) (inserted (text self.old) at added.now) }
         ensures kept { result ≡ false → self.new ≡ self.old }
     {

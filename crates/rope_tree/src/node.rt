@@ -19,6 +19,7 @@ use std::rc::Rc;
 mod in_place;
 mod in_place_cut;
 mod in_place_removal;
+mod own;
 pub mod row;
 
 /// A node of a rope's tree, with the whole tree below it.

@@ -150,6 +150,22 @@ impl NodeText {
         append_bytes(&mut self.bytes, text.as_bytes());
     }
 
+    /// The byte at which the character `at` starts, or the end, of a text that is known to have so many characters and bytes: where
+    /// it has as many of both, nothing is read, and nothing is waited for.
+    pub fn char_start(&self, at: usize, chars: usize, bytes: usize) -> usize
+        requires within { at ≤ length self.now }
+        requires chars { chars ≡ length self.now }
+        requires bytes { bytes ≡ byte_len self.now }
+        ensures value { result ≡ byte_len (take at self.now) }
+        ensures boundary { IsCharBoundary (encode_utf8_all self.now) result }
+    {
+        let text = self.as_str();
+        if chars == bytes {
+            return at;
+        }
+        char_to_byte_idx(text, at)
+    }
+
     /// The bytes that the characters from `start` up to `end` take, where the text is known to have `chars` characters: where
     /// it has as many bytes, nothing is read.
     pub fn byte_range(&self, start: usize, end: usize, chars: usize) -> ByteRange

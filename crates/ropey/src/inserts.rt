@@ -25,7 +25,7 @@ impl Rope {
         ensures err { OnErr result (self.new ≡ self.old) }
         ensures breaks { self.new.breaks ≡ self.old.breaks }
         ensures kept { IsRope self.new }
-        ensures made { made.new ≤ made.old + 2 * self.old.depth + 3 }
+        ensures made { made.new ≤ made.old + 3 * self.old.depth + 5 }
     {
         insert_at(self.alloc, &mut self.root, char_idx, text, made)?;
         Ok(())
@@ -57,7 +57,7 @@ impl Rope {
         ensures err { OnErr result (self.new ≡ self.old) }
         ensures breaks { self.new.breaks ≡ self.old.breaks }
         ensures kept { IsRope self.new }
-        ensures made { length text.now ≤ 981 → made.new ≤ made.old + 2 * self.old.depth + 3 }
+        ensures made { length text.now ≤ 981 → made.new ≤ made.old + 3 * self.old.depth + 5 }
     {
         if text.len() > MAX_SHORT_BYTES {
             return self.insert_long(char_idx, text, made);
@@ -75,7 +75,7 @@ impl Rope {
             → IsOk result × (self.new ≡ self.old) }
         ensures breaks { self.new.breaks ≡ self.old.breaks }
         ensures kept { IsRope self.new }
-        ensures made { length text.now ≤ 981 → made.new ≤ made.old + 2 * self.old.depth + 3 }
+        ensures made { length text.now ≤ 981 → made.new ≤ made.old + 3 * self.old.depth + 5 }
     {
         let bytes = self.len_bytes();
         let len = self.len_chars();
@@ -99,7 +99,7 @@ impl Rope {
         ensures err { OnErr result (self.new ≡ self.old) }
         ensures breaks { self.new.breaks ≡ self.old.breaks }
         ensures kept { IsRope self.new }
-        ensures made { made.new ≤ made.old + 2 * self.old.depth + 3 }
+        ensures made { made.new ≤ made.old + 3 * self.old.depth + 5 }
     {
         let mut buffer = [0; 4];
         self.insert_made(char_idx, c.encode_utf8(&mut buffer), made)

@@ -1,15 +1,17 @@
-//! Inserts of short texts where the nodes stand: they take no memory.
-ghost use Rattle.std.specs.Prelude.{◌≡◌, ◌+◌, ◌<◌, ◌≤◌, ◌^◌, [], ◌∷◌, true, false, length, take, slice_index_or};
+//! Inserts of short texts where the nodes stand: one way down, on which a node that is shared is copied.
+ghost use Rattle.std.specs.Prelude.{◌≡◌, ◌+◌, ◌<◌, ◌≤◌, ◌^◌, [], ◌∷◌, true, false, length, take, slice_index_or, IfOk, OnErr};
 ghost use Rattle.rope_text.specs.Text.{byte_len};
 ghost use Rattle.rope_text.specs.Edit.{inserted};
 ghost use Rattle.rope_tree.specs.Tree.{Tree, text, joined, breaks_of, height_of, tree_over, AreChildren};
 ghost use Rattle.rope_tree.specs.Insert.{MayInsert, GoesIn, IsInserted, AreGrown};
 
+use super::own::own;
 use super::{Children, Form, Node};
 use crate::lookup::total_before;
 use crate::search::{Unit, char_to_hold, place_of};
 use crate::short_text::ShortText;
 use rope_text::Steps;
+use std::alloc::{AllocError, Global};
 use std::rc::Rc;
 
 /// Where a text goes in a list of children: in which of them, and before which character of it.
@@ -39,53 +41,88 @@ impl Children {
         }
     }
 
-    /// Puts a text before the character `at`, where no node on the way is shared and the leaf has room; returns whether it did.
+    /// Puts a text before the character `at`, where the leaf has room, or is cut into two and the node over it has room for one
+    /// more; returns whether it did. Where memory is refused, the children are as they were.
     #[cycle(in_place)]
-    fn insert_in_place(&mut self, at: usize, added: &ShortText<'_>, to_right: bool) -> bool
+    fn insert_in_place(
+        &mut self,
+        alloc: Global,
+        at: usize,
+        added: &ShortText<'_>,
+        to_right: bool,
+        made: &mut u64,
+    ) -> Result<bool, AllocError>
         requires children { AreChildren (breaks_of self.old) (height_of self.old) self.old }
         requires within { at ≤ length (joined self.old) }
         requires some { 1 ≤ length added.now }
+        requires short { byte_len added.now ≤ 981 }
         requires fits { byte_len (joined self.old) + byte_len added.now < 2 ^ 63 }
         requires side { MayInsert (tree_over self.old) at added.now to_right }
-        ensures done { result ≡ true → AreGrown self.old self.new (inserted (joined self.old) at added.now) }
-        ensures kept { result ≡ false → self.new ≡ self.old }
+        ensures done { IfOk result (λ did. did ≡ true → AreGrown self.old self.new (inserted (joined self.old) at added.now)) }
+        ensures kept { IfOk result (λ did. did ≡ false → self.new ≡ self.old) }
+        ensures err { OnErr result (self.new ≡ self.old) }
+        ensures made { made.new ≤ made.old + height_of self.old + 2 }
     {
         if !self.totals.has_room_for(added.len()) {
-            return false;
+            return Ok(false);
         }
         let way = self.way_in(at, to_right);
+        if self.nodes[way.place].lacks_room_for(added.len()) {
+            return self.cut_leaf(alloc, at, added, to_right, made);
+        }
         let node = &mut self.nodes[way.place];
         let old = node.info();
-        if !node.insert_in_place(way.at, added, to_right) {
-            return false;
+        if !node.insert_in_place(alloc, way.at, added, to_right, made)? {
+            return Ok(false);
         }
         let new = node.info();
         self.totals.retotal(way.place, old, new);
-        true
+        Ok(true)
     }
 }
 
 impl Node {
-    /// Puts a text before the character `at`, where no node on the way is shared and the leaf has room; returns whether it did. It
-    /// takes no memory.
+    /// Whether it is a leaf in which so many bytes more have no room.
+    #[inline(always)]
+    fn lacks_room_for(&self, bytes: usize) -> bool {
+        match &self.form {
+            Form::Leaf(leaf) => leaf.lacks_room_for(bytes),
+            _ => false,
+        }
+    }
+
+    /// Puts a text of at most 981 bytes before the character `at`, where the leaf has room, or is cut into two and the node over
+    /// it has room for one more; returns whether it did. A node on the way that is shared is copied; where none is, and the leaf
+    /// has room, it takes no memory. Where memory is refused, the tree is as it was.
     #[cycle(in_place)]
-    pub fn insert_in_place(&mut self, at: usize, added: &ShortText<'_>, to_right: bool) -> bool
+    pub fn insert_in_place(
+        &mut self,
+        alloc: Global,
+        at: usize,
+        added: &ShortText<'_>,
+        to_right: bool,
+        made: &mut u64,
+    ) -> Result<bool, AllocError>
         requires within { at ≤ length (text self.old) }
         requires some { 1 ≤ length added.now }
+        requires short { byte_len added.now ≤ 981 }
         requires fits { byte_len (text self.old) + byte_len added.now < 2 ^ 63 }
         requires side { MayInsert self.old at added.now to_right }
-        ensures done { result ≡ true → IsInserted self.old (self.new ∷ []) (inserted (text self.old) at added.now) }
-        ensures kept { result ≡ false → self.new ≡ self.old }
+        ensures done { IfOk result (λ did. did ≡ true → IsInserted self.old (self.new ∷ []) (inserted (text self.old) at added.now)) }
+        ensures kept { IfOk result (λ did. did ≡ false → self.new ≡ self.old) }
+        ensures err { OnErr result (self.new ≡ self.old) }
+        ensures made { made.new ≤ made.old + self.old.height + 2 }
     {
+        own(&mut self.form, alloc, made)?;
         match &mut self.form {
-            Form::Empty(_) => false,
+            Form::Empty(_) => Ok(false),
             Form::Leaf(leaf) => match Rc::get_mut(leaf) {
-                Some(leaf) => leaf.insert_in_place(at, added),
-                None => false,
+                Some(leaf) => Ok(leaf.insert_in_place(at, added)),
+                None => Ok(false),
             },
             Form::Inner(children) => match Rc::get_mut(children) {
-                Some(children) => children.insert_in_place(at, added, to_right),
-                None => false,
+                Some(children) => children.insert_in_place(alloc, at, added, to_right, made),
+                None => Ok(false),
             },
         }
     }

@@ -44,13 +44,18 @@ fn difference(old: usize, new: usize) -> u16
     (new as u16).wrapping_sub(old as u16)
 }
 
-/// Adds a number, modulo 2^16, to the counts from a place on. It goes over all places, so that it has no branch that depends on one.
+/// Adds a number, modulo 2^16, to the counts from a place on. It goes over all places, so that it has no branch that depends on one;
+/// where nothing is added, as for the pairs and breaks of most edits, the counts are left alone.
 #[inline(always)]
-fn shift(counts: &mut [u16; 24], from: u16, more: u16)
+fn shift(counts: &mut [u16], from: u16, more: u16)
+    requires { length counts.old ≡ 24 }
     ensures before { (j : ℕ) → j < from → slice_index counts.new j ≡ slice_index counts.old j }
     ensures after { (j : ℕ) → from ≤ j → j < 24 → slice_index counts.new j ≡ (slice_index counts.old j + more) % 2 ^ 16 }
     ensures len { length counts.new ≡ 24 }
 {
+    if more == 0 {
+        return;
+    }
     for j in 0..24usize {
         let added = if (j as u16) < from { 0 } else { more };
         counts[j] = counts[j].wrapping_add(added);
@@ -83,6 +88,20 @@ impl NarrowTotals {
             chars: [0; 24],
             pairs: [0; 24],
             breaks: [0; 24],
+        }
+    }
+
+    /// The same totals once more.
+    #[inline(always)]
+    pub(super) fn copied(&self) -> NarrowTotals
+        ensures { result ≡ self.now }
+    {
+        NarrowTotals {
+            len: self.len,
+            bytes: self.bytes,
+            chars: self.chars,
+            pairs: self.pairs,
+            breaks: self.breaks,
         }
     }
 

@@ -33,7 +33,7 @@ impl Model for WideTotals {
     ghost invariant = { IsTotals };
 }
 
-/// Puts other counts for those of one part, in all from one place up to another.
+/// Puts other counts for those of one part, in all from one place up to another; where both are the same, none is touched.
 fn shift(counts: &mut [usize], from: usize, to: usize, old: usize, new: usize)
     requires within { to ≤ length counts.old }
     requires part { (j : ℕ) → from ≤ j → j < to → old ≤ slice_index counts.old j }
@@ -41,6 +41,9 @@ fn shift(counts: &mut [usize], from: usize, to: usize, old: usize, new: usize)
     ensures before { (j : ℕ) → j < from → slice_index counts.new j ≡ slice_index counts.old j }
     ensures after { (j : ℕ) → from ≤ j → j < to → slice_index counts.new j + old ≡ slice_index counts.old j + new }
 {
+    if old == new {
+        return;
+    }
     for j in from..to {
         counts[j] = counts[j] - old + new;
     }
@@ -78,6 +81,20 @@ impl WideTotals {
             wide.push(totals.get(place));
         }
         wide
+    }
+
+    /// The same totals once more.
+    #[inline(always)]
+    pub(super) fn copied(&self) -> WideTotals
+        ensures { result ≡ self.now }
+    {
+        WideTotals {
+            len: self.len,
+            bytes: self.bytes,
+            chars: self.chars,
+            pairs: self.pairs,
+            breaks: self.breaks,
+        }
     }
 
     /// How many children there are.

@@ -9,8 +9,8 @@ use Rattle.rope_tree.proofs.NodeTexts.{inserted_chars}
 use Rattle.rope_tree.proofs.counts.put_in.Goals.{After-range_from}
 use Rattle.rope_tree.proofs.counts.put_in.Goals as goal
 
-place_is : (c : After-range_from) → c.char_to_byte_idx-place.result ≡ byte_len (take c.args.at (chars c.as_str-text.result.now))
-place_is c = c.char_to_byte_idx-place.ensures.value ∙ ap (λ s. byte_len (take c.args.at s)) c.with_chars.ensures
+place_is : (c : After-range_from) → c.char_start-place.result ≡ byte_len (take c.args.at (chars c.as_str-text.result.now))
+place_is c = c.char_start-place.ensures.value ∙ ap (λ s. byte_len (take c.args.at s)) (sym c.as_str-text.ensures.chars)
 
 front : (c : After-range_from) → chars c.range.result.now ≡ take c.args.at c.args.leaf.now
 front c = chars_front c.as_str-text.result.now _ _ c.args.at _ c.as_str-text.utf8 c.as_str-text.ensures.chars (place_is c) c.range.ensures.value
@@ -33,5 +33,5 @@ returns-clause-info c =
 pub returns-clause-text : goal.returns-clause-text
 returns-clause-text c =
     c.insert_bytes.ensures.value
-    ∙ inserted_chars c.as_str-text.result.now c.args.leaf.now _ c.as_str-added.result.now c.args.at c.char_to_byte_idx-place.result c.as_str-text.utf8 c.as_str-added.utf8 c.as_str-text.ensures.chars c.as_str-text.ensures.bytes (place_is (goal.at.returns-clause-text c).After-range_from)
+    ∙ inserted_chars c.as_str-text.result.now c.args.leaf.now _ c.as_str-added.result.now c.args.at c.char_start-place.result c.as_str-text.utf8 c.as_str-added.utf8 c.as_str-text.ensures.chars c.as_str-text.ensures.bytes (place_is (goal.at.returns-clause-text c).After-range_from)
     ∙ ap (inserted c.args.leaf.now c.args.at) c.as_str-added.ensures.chars

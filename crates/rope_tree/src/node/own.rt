@@ -1,0 +1,50 @@
+//! Nodes that other trees have too are copied before they are changed where they stand.
+ghost use Rattle.std.specs.Prelude.{◌≡◌, ◌+◌, ◌≤◌, IfOk};
+ghost use Rattle.rope_tree.specs.Shape.{form_tree, IsForm};
+
+use super::{Children, Form, Node, add_made};
+use std::alloc::{AllocError, Global};
+use std::rc::Rc;
+
+impl Children {
+    /// The same nodes in a list of their own. Their totals are copied, and no node is looked at.
+    fn copied(&self, alloc: Global) -> Result<Children, AllocError>
+        ensures { IfOk result (λ copy. copy ≡ self.now) }
+    {
+        let mut nodes: [Node; 24] = Default::default();
+        for place in 0..self.totals.len() {
+            nodes[place] = self.nodes[place].share()?;
+        }
+        Ok(Children {
+            height: self.height,
+            breaks: self.breaks,
+            totals: self.totals.copied(alloc)?,
+            nodes,
+        })
+    }
+}
+
+/// Makes what a node has its own: where another node has it too, a copy takes its place.
+#[inline(always)]
+pub(super) fn own(form: &mut Form, alloc: Global, made: &mut u64) -> Result<(), AllocError>
+    ensures same { form_tree form.new ≡ form_tree form.old }
+    ensures kept { IsForm form.old → IsForm form.new }
+    ensures made { made.new ≤ made.old + 1 }
+{
+    match form {
+        Form::Empty(_) => {}
+        Form::Leaf(leaf) => {
+            if Rc::strong_count(leaf) > 1 {
+                add_made(made);
+                *leaf = Rc::new(alloc, leaf.copied())?;
+            }
+        }
+        Form::Inner(children) => {
+            if Rc::strong_count(children) > 1 {
+                add_made(made);
+                *children = Rc::new(alloc, children.copied(alloc)?)?;
+            }
+        }
+    }
+    Ok(())
+}
