@@ -4,27 +4,9 @@
 //! a read or a write failed. Standard error says which.
 #![tactic(auto)]
 
-ghost use Rattle.std.specs.Prelude.{◌≡◌, ℕ};
-ghost use Rattle.rope_language.specs.declared.service.Ended.TheVariants.{Done, BadLine, OutOfMemory, Failed};
-
 use rope_language::{Ended, serve};
 use std::io;
 use std::process::ExitCode;
-
-/// The status that says how the run ended.
-fn status(ended: Ended) -> u8
-    ensures done { ended ≡ Done → result ≡ 0 }
-    ensures bad_line { (number : ℕ) → ended ≡ BadLine number → result ≡ 2 }
-    ensures out_of_memory { ended ≡ OutOfMemory → result ≡ 3 }
-    ensures failed { ended ≡ Failed → result ≡ 4 }
-{
-    match ended {
-        Ended::Done => 0,
-        Ended::BadLine(_) => 2,
-        Ended::OutOfMemory => 3,
-        Ended::Failed => 4,
-    }
-}
 
 /// Says on standard error how the run ended, where that wasn't well.
 fn tell(rt: &impl Eprint, ended: Ended) {
@@ -42,5 +24,5 @@ fn main(rt: HostRuntime) -> ExitCode {
     let mut writer = io::writer(&rt);
     let ended = serve(rt.alloc(), &mut reader, &mut writer);
     tell(&rt, ended);
-    ExitCode::from(status(ended))
+    ExitCode::from(ended.status())
 }

@@ -1,5 +1,5 @@
 //! Lines in, replies out.
-ghost use Rattle.std.specs.Prelude.{◌≡◌, ◌≢◌, ◌≤◌, List, [], false, IfOk, IfErr, OnOk};
+ghost use Rattle.std.specs.Prelude.{◌≡◌, ◌≢◌, ◌≤◌, ℕ, List, [], false, IfOk, IfErr, OnOk};
 ghost use Rattle.std.specs.Io.KnownBytes.{IsAtEnd};
 ghost use Rattle.rope_text.specs.Content.{Content};
 ghost use Rattle.rope_language.specs.Serving.{Puts, PutsRun, WritesReplies};
@@ -22,6 +22,23 @@ pub enum Ended {
     OutOfMemory,
     /// A read or a write failed.
     Failed,
+}
+
+impl Ended {
+    /// The status of a program whose run ended so.
+    pub fn status(self) -> u8
+        ensures done { self ≡ Ended.Done → result ≡ 0 }
+        ensures bad_line { (number : ℕ) → self ≡ Ended.BadLine number → result ≡ 2 }
+        ensures out_of_memory { self ≡ Ended.OutOfMemory → result ≡ 3 }
+        ensures failed { self ≡ Ended.Failed → result ≡ 4 }
+    {
+        match self {
+            Ended::Done => 0,
+            Ended::BadLine(_) => 2,
+            Ended::OutOfMemory => 3,
+            Ended::Failed => 4,
+        }
+    }
 }
 
 /// Why a line was not answered.

@@ -1,8 +1,13 @@
-//! Tests that cross crates: plain texts and the look-ups of ropes, against worked rows and plain partners.
+//! Tests that cross crates: plain texts and the look-ups of ropes, against worked rows and plain
+//! partners; and each caller of docs/CALLING.md, run on a small text.
 #![tactic(auto)]
 
 #[cfg(test)]
 mod builder;
+#[cfg(test)]
+mod caller_edits;
+#[cfg(test)]
+mod caller_questions;
 #[cfg(test)]
 mod comparisons;
 #[cfg(test)]
