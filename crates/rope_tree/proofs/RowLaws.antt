@@ -12,7 +12,7 @@ use Rattle.rope_tree.specs.declared.node.Children.TheInside.{Inside}
 use Rattle.rope_tree.specs.Leaves.{AreLeaves}
 use Rattle.rope_tree.specs.Tree.{Tree, text, joined, leaves_of, height_of, breaks_of, IsChild, AreChildren}
 use Rattle.rope_tree.specs.Siblings.{AreSiblings}
-use Rattle.rope_tree.specs.Totals.{HasTotals}
+use Rattle.rope_tree.specs.Totals.{HasTotals, IsTotalOf}
 use Rattle.rope_tree.specs.Search.{IsSmall}
 use Rattle.rope_tree.specs.Flat.{IsFlat}
 use Rattle.rope_tree.specs.Listed.{listed, IsListed}
@@ -28,12 +28,10 @@ counts_more b xs x a =
     let apart = (leaves_seam (leaves_of xs) x.leaves (subst AreLeaves e a)).apart in
     ap (info_of b) (joined-append xs (x ∷ []) ∙ ap (λ l. joined xs ++ l) (joined_one x)) ∙ info_of-append_apart b (joined xs) (text x) apart
 
--- the counts of all trees are the last total, or none
-last_counts : (xs : List Tree) (x : Tree) (totals : List TextInfo) (n : ℕ) (before : TextInfo) → HasTotals (breaks_of xs) totals xs → n ≡ length totals → (n ≡ 0 → (br : LineBreaks) → before ≡ info_of br [])
-    → ((d : TextInfo) → 0 < n → before ≡ get_or totals (n - 1) d) → before ≡ info_of (breaks_of (xs ++ x ∷ [])) (joined xs)
-last_counts [] x totals n before h e first later = first (omega (arith, h.as_many)) x.breaks
-last_counts (t ∷ ts) x totals n before h e first later =
-    later before (omega (arith, h.as_many)) ∙ h.total_at (n - 1) before (omega (arith, h.as_many)) ∙ ap (λ us. info_of t.breaks (joined us)) (take_all (n - 1 + 1) (t ∷ ts) (omega (arith, h.as_many)))
+-- the counts of all trees, by the set of line breaks of those and one more
+front_counts : (xs : List Tree) (x : Tree) (before : TextInfo) → IsTotalOf xs before → before ≡ info_of (breaks_of (xs ++ x ∷ [])) (joined xs)
+front_counts [] x before is = is.none refl x.breaks
+front_counts (t ∷ ts) x before is = is.all (omega arith)
 
 -- with one more tree behind them the totals stay right
 kept : (x : Tree) (xs : List Tree) (totals : List TextInfo) → HasTotals (breaks_of xs) totals xs → HasTotals (breaks_of (xs ++ x ∷ [])) totals xs
@@ -56,17 +54,23 @@ pub record AddsTree (xs : List Tree) (x : Tree) (before info : TextInfo) : Type 
   pub small_sum : IsSmall (info_sum before info)
   pub sum : info_of (breaks_of (xs ++ x ∷ [])) (joined (xs ++ x ∷ [])) ≡ info_sum before info
 
+-- the counts with it are those of all
+pub total_more : (xs : List Tree) (x : Tree) (ys : List Tree) (total : TextInfo) → ys ≡ xs ++ x ∷ [] → total ≡ info_of (breaks_of (xs ++ x ∷ [])) (joined (xs ++ x ∷ [])) → IsTotalOf ys total
+total_more xs x ys total is counts = record {
+  none = λ empty. absurd (omega (arith, ap length is, length-append xs (x ∷ [])));
+  all = λ some. rw is counts;
+}
+
 module _ (xs : List Tree) (x : Tree) (s : AreSiblings (breaks_of (xs ++ x ∷ [])) (height_of (xs ++ x ∷ [])) (xs ++ x ∷ [])) where
   own : IsChild (breaks_of (xs ++ x ∷ [])) (height_of (xs ++ x ∷ [])) x
   own =
       let P = IsChild (breaks_of (xs ++ x ∷ [])) (height_of (xs ++ x ∷ [])) in
       All-head P x [] (all_right P xs (x ∷ []) s.each)
 
-  pub adds_tree : (totals : List TextInfo) (n : ℕ) (before info : TextInfo) → HasTotals (breaks_of xs) totals xs → n ≡ length totals → (n ≡ 0 → (br : LineBreaks) → before ≡ info_of br [])
-      → ((d : TextInfo) → 0 < n → before ≡ get_or totals (n - 1) d) → info ≡ info_of x.breaks (text x) → AddsTree xs x before info
-  adds_tree totals n before info h e first later counted =
+  pub adds_tree : (before info : TextInfo) → IsTotalOf xs before → info ≡ info_of x.breaks (text x) → AddsTree xs x before info
+  adds_tree before info is counted =
       let b = breaks_of (xs ++ x ∷ []) in
-      let front = last_counts xs x totals n before h e first later in
+      let front = front_counts xs x before is in
       let mine : info ≡ info_of b (text x) = counted ∙ ap (λ br. info_of br (text x)) own.same_breaks in
       let whole : info_of b (joined (xs ++ x ∷ [])) ≡ info_sum before info = counts_more b xs x s.leaves ∙ (rw (front, mine) refl) in
       record {

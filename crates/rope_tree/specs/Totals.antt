@@ -1,11 +1,16 @@
 -- The running totals over trees side by side.
-use Rattle.std.specs.Prelude.{◌≡◌, ℕ, ◌+◌, ◌<◌, List, length, take, slice_index_or}
+use Rattle.std.specs.Prelude.{◌≡◌, ℕ, ◌+◌, ◌<◌, List, [], length, take, slice_index_or}
 use Rattle.rope_text.specs.declared.line_breaks.LineBreaks.{LineBreaks}
 use Rattle.rope_text.specs.declared.text_info.TextInfo.{TextInfo}
 use Rattle.rope_text.specs.TextInfo.{info_of}
-use Rattle.rope_tree.specs.Tree.{Tree, joined}
+use Rattle.rope_tree.specs.Tree.{Tree, joined, breaks_of}
 
 -- each total has the counts of the text up to the end of its child
 pub record HasTotals (breaks : LineBreaks) (totals : List TextInfo) (ts : List Tree) : Type 0 where
   pub as_many : length totals ≡ length ts
   pub total_at : (k : ℕ) (d : TextInfo) → k < length ts → slice_index_or totals k d ≡ info_of breaks (joined (take (k + 1) ts))
+
+-- the counts of all of some trees, by their set of line breaks, or by any where there are none
+pub record IsTotalOf (ts : List Tree) (total : TextInfo) : Type 0 where
+  pub none : length ts ≡ 0 → (breaks : LineBreaks) → total ≡ info_of breaks []
+  pub all : 0 < length ts → total ≡ info_of (breaks_of ts) (joined ts)

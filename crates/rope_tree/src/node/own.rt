@@ -3,6 +3,7 @@ ghost use Rattle.std.specs.Prelude.{◌≡◌, ◌+◌, ◌≤◌, IfOk};
 ghost use Rattle.rope_tree.specs.Shape.{form_tree, IsForm};
 
 use super::{Children, Form, Node, add_made};
+use crate::leaf::Leaf;
 use std::alloc::{AllocError, Global};
 use std::rc::Rc;
 
@@ -24,6 +25,32 @@ impl Children {
     }
 }
 
+/// Puts a copy of a leaf in its place. It stands by itself, since a caller would clear room for the copy at each call.
+#[inline(never)]
+fn copy_leaf(leaf: &mut Rc<Leaf>, alloc: Global, made: &mut u64) -> Result<(), AllocError>
+    ensures same { leaf.new.value ≡ leaf.old.value }
+    ensures made { made.new ≤ made.old + 1 }
+{
+    add_made(made);
+    *leaf = Rc::new(alloc, leaf.copied())?;
+    Ok(())
+}
+
+/// Puts a copy of a list of children in its place.
+#[inline(never)]
+fn copy_children(
+    children: &mut Rc<Children>,
+    alloc: Global,
+    made: &mut u64,
+) -> Result<(), AllocError>
+    ensures same { children.new.value ≡ children.old.value }
+    ensures made { made.new ≤ made.old + 1 }
+{
+    add_made(made);
+    *children = Rc::new(alloc, children.copied(alloc)?)?;
+    Ok(())
+}
+
 /// Makes what a node has its own: where another node has it too, a copy takes its place.
 #[inline(always)]
 pub(super) fn own(form: &mut Form, alloc: Global, made: &mut u64) -> Result<(), AllocError>
@@ -32,19 +59,10 @@ pub(super) fn own(form: &mut Form, alloc: Global, made: &mut u64) -> Result<(), 
     ensures made { made.new ≤ made.old + 1 }
 {
     match form {
-        Form::Empty(_) => {}
-        Form::Leaf(leaf) => {
-            if Rc::strong_count(leaf) > 1 {
-                add_made(made);
-                *leaf = Rc::new(alloc, leaf.copied())?;
-            }
+        Form::Leaf(leaf) if Rc::strong_count(leaf) > 1 => copy_leaf(leaf, alloc, made),
+        Form::Inner(children) if Rc::strong_count(children) > 1 => {
+            copy_children(children, alloc, made)
         }
-        Form::Inner(children) => {
-            if Rc::strong_count(children) > 1 {
-                add_made(made);
-                *children = Rc::new(alloc, children.copied(alloc)?)?;
-            }
-        }
+        _ => Ok(()),
     }
-    Ok(())
 }

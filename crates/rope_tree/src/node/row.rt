@@ -1,13 +1,13 @@
 //! Nodes put side by side, and the nodes over them.
 ghost use Rattle.std.specs.Prelude.{◌≡◌, ◌+◌, ◌<◌, ◌≤◌, ◌++◌, [], ◌∷◌, length, take, drop, IfOk};
 ghost use Rattle.rope_tree.specs.Tree.{height_of, breaks_of, leaves_of, tree_over, AreChildren};
+ghost use Rattle.rope_tree.specs.Totals.{IsTotalOf};
 ghost use Rattle.rope_tree.specs.View.{trees_in};
 ghost use Rattle.rope_tree.specs.Siblings.{AreSiblings, AreParts};
 
 use super::{Children, Form, Node, Nodes, add_made};
-use crate::lookup::total_before;
 use crate::search::Totals;
-use rope_text::{LineBreaks, MAX_CHILDREN};
+use rope_text::{LineBreaks, MAX_CHILDREN, TextInfo};
 use std::alloc::{AllocError, Global};
 use std::rc::Rc;
 
@@ -25,35 +25,46 @@ impl Children {
         }
     }
 
-    /// Puts a node behind the others.
+    /// Puts a node behind the others, whose counts the caller knows; returns the counts with it. So no total is read that was
+    /// written just before.
     #[inline(always)]
-    fn push(&mut self, alloc: Global, node: Node) -> Result<(), AllocError>
+    fn push(&mut self, alloc: Global, node: Node, before: TextInfo) -> Result<TextInfo, AllocError>
         requires room { length self.old < 24 }
+        requires before { IsTotalOf self.old before }
         requires siblings { AreSiblings (breaks_of (self.old ++ node ∷ [])) (height_of (self.old ++ node ∷ [])) (self.old ++ node ∷ []) }
-        ensures { IfOk result (λ _. self.new ≡ self.old ++ node ∷ []) }
+        ensures list { IfOk result (λ _. self.new ≡ self.old ++ node ∷ []) }
+        ensures total { IfOk result (IsTotalOf self.new) }
     {
         let count = self.totals.len();
-        let before = total_before(&self.totals, count);
-        self.totals.push(alloc, before.plus(node.info()))?;
+        let total = before.plus(node.info());
+        self.totals.push(alloc, total)?;
         if count == 0 {
             self.height = (node.height() + 1) as u8;
             self.breaks = node.line_breaks();
         }
         self.nodes[count] = node;
-        Ok(())
+        Ok(total)
     }
 
-    /// Shares the nodes, and puts them behind the others.
+    /// Shares the nodes, and puts them behind the others, whose counts the caller knows; returns the counts with them.
     #[inline(always)]
-    fn push_all(&mut self, alloc: Global, nodes: &[Node]) -> Result<(), AllocError>
+    fn push_all(
+        &mut self,
+        alloc: Global,
+        nodes: &[Node],
+        before: TextInfo,
+    ) -> Result<TextInfo, AllocError>
         requires room { length self.old + length nodes.now ≤ 24 }
+        requires before { IsTotalOf self.old before }
         requires siblings { AreSiblings (breaks_of (self.old ++ nodes.now)) (height_of (self.old ++ nodes.now)) (self.old ++ nodes.now) }
-        ensures { IfOk result (λ _. self.new ≡ self.old ++ nodes.now) }
+        ensures list { IfOk result (λ _. self.new ≡ self.old ++ nodes.now) }
+        ensures total { IfOk result (IsTotalOf self.new) }
     {
+        let mut total = before;
         for node in nodes {
-            self.push(alloc, node.share()?)?;
+            total = self.push(alloc, node.share()?, total)?;
         }
-        Ok(())
+        Ok(total)
     }
 }
 
@@ -84,9 +95,9 @@ pub fn make_over(
 {
     add_made(made);
     let mut list = Children::new();
-    list.push_all(alloc, before)?;
-    list.push_all(alloc, middle)?;
-    list.push_all(alloc, after)?;
+    let total = list.push_all(alloc, before, TextInfo::new())?;
+    let total = list.push_all(alloc, middle, total)?;
+    list.push_all(alloc, after, total)?;
     inner_over(alloc, list)
 }
 

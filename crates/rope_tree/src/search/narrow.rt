@@ -48,7 +48,8 @@ fn difference(old: usize, new: usize) -> u16
 /// where nothing is added, as for the pairs and breaks of most edits, the counts are left alone.
 #[inline(always)]
 fn shift(counts: &mut [u16], from: u16, more: u16)
-    requires { length counts.old ≡ 24 }
+    requires len { length counts.old ≡ 24 }
+    requires place { from ≤ 24 }
     ensures before { (j : ℕ) → j < from → slice_index counts.new j ≡ slice_index counts.old j }
     ensures after { (j : ℕ) → from ≤ j → j < 24 → slice_index counts.new j ≡ (slice_index counts.old j + more) % 2 ^ 16 }
     ensures len { length counts.new ≡ 24 }
@@ -57,7 +58,9 @@ fn shift(counts: &mut [u16], from: u16, more: u16)
         return;
     }
     for j in 0..24usize {
-        let added = if (j as u16) < from { 0 } else { more };
+        // In numbers of 16 bits, as a comparison would go by wider ones: below 0 before the place, so the upper bit is 1.
+        let before = (j as u16).wrapping_sub(from) >> 15;
+        let added = more.wrapping_mul(1 - before);
         counts[j] = counts[j].wrapping_add(added);
     }
 }

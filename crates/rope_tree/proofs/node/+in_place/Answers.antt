@@ -77,7 +77,6 @@ Children::insert_in_place-returns-clause-done t c = λ yes.
     c.self.inside.totals c.retotal.new.self c.info-old.result c.info-new.result refl c.info-old.ensures c.info-new.ensures
     c.retotal.ensures.len c.retotal.ensures.before c.retotal.ensures.after refl
 
-
 pub Children::insert_in_place-returns-clause-made :
     goal.Children::insert_in_place-returns-clause-made
 Children::insert_in_place-returns-clause-made t c =
@@ -94,11 +93,16 @@ Node::insert_in_place-insert_in_place-requires-in-Some-get_mut t c =
     let is_node : IsNode (own_form c.own.new.form) = record { form = c.in_ok-own.ensures.kept c.self.invariant.form } in
     let i = inner_seen (own_form c.own.new.form) c.args.self.now c.in-Inner.children ts is_node c.in-Inner.is (c.in_ok-own.ensures.same ∙ c.self.view_is) c.in-Some-get_mut.ensures.value in
     let low = tallest_below (breaks_of ts) (height_of ts) ts i.children.each in
-    let text_is = ap text i.is in
-    (omega (arith, c.decreases, low, ap (λ x. x.height) i.is),
-    (i.children,
-    (omega (arith, c.requires.within, ap length text_is),
-    (c.requires.some, (c.requires.short, (omega (arith, c.requires.fits, ap byte_len text_is), subst (λ x. MayInsert x c.args.at c.args.added.now c.args.to_right) i.is c.requires.side))))))
+    let text_is = ap text i.is in (
+      omega (arith, c.decreases, low, ap (λ x. x.height) i.is),
+      (
+        i.children,
+        (
+          omega (arith, c.requires.within, ap length text_is),
+          (c.requires.some, (c.requires.short, (omega (arith, c.requires.fits, ap byte_len text_is), subst (λ x. MayInsert x c.args.at c.args.added.now c.args.to_right) i.is c.requires.side))),
+        ),
+      ),
+    )
 
 pub Node::insert_in_place-invariant_of-self-2 : goal.Node::insert_in_place-invariant_of-self-2
 Node::insert_in_place-invariant_of-self-2 t c =

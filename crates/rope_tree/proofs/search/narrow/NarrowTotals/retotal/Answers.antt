@@ -40,6 +40,22 @@ difference-requires-4-clause-old c = (parts (goal.at.difference-requires-4-claus
 pub difference-requires-4-clause-new : goal.difference-requires-4-clause-new
 difference-requires-4-clause-new c = (parts (goal.at.difference-requires-4-clause-new c).After-self).is.count
 
+-- the place is one of 24
+few : (c : After-self) → c.args.place ≤ 24
+few c = omega (arith, c.requires.within, c.self.invariant.few, many c.self.inside c.args.self.now c.self.view_is)
+
+pub shift-requires-clause-place : goal.shift-requires-clause-place
+shift-requires-clause-place c = few (goal.at.shift-requires-clause-place c).After-self
+
+pub shift-requires-2-clause-place : goal.shift-requires-2-clause-place
+shift-requires-2-clause-place c = few (goal.at.shift-requires-2-clause-place c).After-self
+
+pub shift-requires-3-clause-place : goal.shift-requires-3-clause-place
+shift-requires-3-clause-place c = few (goal.at.shift-requires-3-clause-place c).After-self
+
+pub shift-requires-4-clause-place : goal.shift-requires-4-clause-place
+shift-requires-4-clause-place c = few (goal.at.shift-requires-4-clause-place c).After-self
+
 -- each total from the place on has its part put for the other
 trades : (c : After-shift-4) (j : ℕ) → c.args.place ≤ j → j < length c.args.self.now → Trades c.self.inside (record { len = c.self.inside.len; bytes = c.shift.new.counts; chars = c.shift-2.new.counts; pairs = c.shift-3.new.counts; breaks = c.shift-4.new.counts }) j c.args.old c.args.new
 trades c j late lt =
