@@ -10,20 +10,24 @@ use Rattle.rope_text.proofs.CuttingLaws.{concat-append}
 use Rattle.rope_tree.specs.Leaves.{AreLeaves, IsSeam}
 use Rattle.rope_tree.specs.Tree.{Tree, text, joined, leaves_of, height_of, breaks_of, tree_over, leaf_tree, IsTree, IsChild, AreChildren}
 use Rattle.rope_tree.specs.Siblings.{AreSiblings}
-use Rattle.rope_tree.proofs.LeafLaws.{all_left, all_right, leaves_left, leaves_right, leaves_seam, leaves-append, seam_of_left, seam-take, seam-drop}
+use Rattle.rope_text.specs.Dense.{IsDenseBehind, last_bytes}
+use Rattle.rope_text.proofs.DenseLaws.{last_bytes-append, last_bytes-some, dense_left, dense_right, dense_more}
+use Rattle.rope_tree.proofs.LeafLaws.{all_left, all_right, leaves_left, leaves_right, leaves_seam, leaves_near, seam_of_left, seam-take, seam-drop}
+use Rattle.rope_tree.proofs.BuildLaws.{nodes_le}
 use Rattle.rope_tree.proofs.TreeLaws.{height_of_is, breaks_of_is}
 use Rattle.rope_tree.proofs.NodeLaws.{child_at}
 use Rattle.rope_tree.proofs.Descents.{leaves_at}
 use Rattle.rope_tree.proofs.InsertTrees.{text_around}
 use Rattle.rope_tree.proofs.InsertLaws.{front_of, rest_of}
 use Rattle.rope_tree.proofs.InsertLeaves.{text_of_leaf}
-use Rattle.rope_join.specs.Join.{CanJoin, IsJoin}
+use Rattle.rope_join.specs.Join.{CanJoin, IsNear, IsJoin}
 use Rattle.rope_join.proofs.Gathered.{IsGathered}
 use Rattle.rope_join.specs.Cut.{IsFront, IsBack}
 
 -- the parts of an inner node around one child
 pub record CutsAt (n : Tree) (xs : List Tree) (t : Tree) (ys : List Tree) : Type 0 where
   pub text_is : text n ≡ joined xs ++ (text t ++ joined ys)
+  pub leaves_is : n.leaves ≡ leaves_of xs ++ (t.leaves ++ leaves_of ys)
   pub leaves : AreLeaves (leaves_of xs ++ (t.leaves ++ leaves_of ys))
   pub fits : byte_len (joined xs) + (byte_len (text t) + byte_len (joined ys)) < 2 ^ 63
   pub same_breaks : t.breaks ≡ n.breaks
@@ -42,6 +46,7 @@ cuts_at n br h ts k t is a lt here =
     let all' : All (IsChild br h) (take (k + 1) ts ++ drop (k + 1) ts) = rw take-append-drop a.each in
     record {
       text_is = ap text is ∙ x;
+      leaves_is = ap (λ u. u.leaves) is ∙ l;
       leaves = subst AreLeaves l a.leaves;
       fits = omega (arith, a.fits, ap byte_len x, IsMeasure-byte_len.joined (joined (take k ts)) (text t ++ joined (drop (k + 1) ts)), IsMeasure-byte_len.joined (text t) (joined (drop (k + 1) ts)));
       same_breaks = own.same_breaks ∙ sym (ap (λ u. u.breaks) is ∙ breaks_of_is br h ts (omega (arith, a.at_least_two)) a.each);
@@ -107,13 +112,28 @@ module _ (n : Tree) (xs : List Tree) (t : Tree) (ys : List Tree) (s : CutsAt n x
     front_alone z i =
         let x : xs ≡ [] = nil_from_length xs z in
         let f : take at (text n) ≡ take k (text t) = front_text ∙ ap (λ w. joined w ++ take k (text t)) x in
-        record { text_is = i.text_is ∙ sym f; same_breaks = i.same_breaks ∙ s.same_breaks; leaves = i.leaves; not_higher = omega (arith, i.not_higher, s.above) }
+        record {
+          text_is = i.text_is ∙ sym f;
+          same_breaks = i.same_breaks ∙ s.same_breaks;
+          leaves = i.leaves;
+          not_higher = omega (arith, i.not_higher, s.above);
+          near = λ high m dense.
+              let whole = subst (λ us. IsDenseBehind m (leaves_of us ++ (t.leaves ++ leaves_of ys))) x (subst (IsDenseBehind m) s.leaves_is dense) in
+              i.near high m (dense_left m t.leaves (leaves_of ys) whole);
+        }
 
     pub back_alone : length ys ≡ 0 → IsBack k t p → IsBack at n p
     back_alone z i =
         let y : ys ≡ [] = nil_from_length ys z in
         let f : drop at (text n) ≡ drop k (text t) = back_text ∙ ap (λ w. drop k (text t) ++ joined w) y ∙ append-nil (drop k (text t)) in
-        record { text_is = i.text_is ∙ sym f; same_breaks = i.same_breaks ∙ s.same_breaks; leaves = i.leaves; not_higher = omega (arith, i.not_higher, s.above) }
+        let l : n.leaves ≡ leaves_of xs ++ t.leaves = s.leaves_is ∙ ap (λ us. leaves_of xs ++ (t.leaves ++ leaves_of us)) y ∙ ap (λ us. leaves_of xs ++ us) (append-nil t.leaves) in
+        record {
+          text_is = i.text_is ∙ sym f;
+          same_breaks = i.same_breaks ∙ s.same_breaks;
+          leaves = i.leaves;
+          not_higher = omega (arith, i.not_higher, s.above);
+          near = λ high a b. rw (l, last_bytes-append a (leaves_of xs) t.leaves) (i.near high (last_bytes a (leaves_of xs)) b);
+        }
 
     module _ (g : Tree) (some : 1 ≤ length xs) (gi : IsGathered xs g) (i : IsFront k t p) where
       front_set : g.breaks ≡ t.breaks
@@ -126,9 +146,15 @@ module _ (n : Tree) (xs : List Tree) (t : Tree) (ys : List Tree) (s : CutsAt n x
           let f : IsSeam (joined xs) (text p) = rw i.text_is (seam-take k (joined xs) (text t) (seam_of_left (joined xs) (text t) (joined ys) d)) in
           record {
             same_breaks = i.same_breaks ∙ sym front_set;
-            leaves = rw gi.leaves (leaves-append (leaves_of xs) p.leaves (leaves_left (leaves_of xs) (t.leaves ++ leaves_of ys) s.leaves) i.leaves f);
+            seam = rw gi.leaves f;
             fits = omega (arith, s.fits, ap (λ ls. byte_len (concat ls)) gi.leaves, ap byte_len i.text_is, byte_len-parts k (text t));
           }
+
+      front_dense : (m : ℕ) → IsDenseBehind m (leaves_of xs ++ (t.leaves ++ leaves_of ys)) → IsDenseBehind (last_bytes m (leaves_of xs)) t.leaves
+      front_dense m dense = dense_left (last_bytes m (leaves_of xs)) t.leaves (leaves_of ys) (dense_right m (leaves_of xs) (t.leaves ++ leaves_of ys) dense)
+
+      pub front_near : IsNear g p
+      front_near = record { near = λ _ high. rw gi.leaves (i.near high (last_bytes 492 (leaves_of xs)) (front_dense 492 s.leaves.dense)) }
 
       pub front_joined : (r : Tree) → IsJoin g p r → IsFront at n r
       front_joined r j =
@@ -143,6 +169,9 @@ module _ (n : Tree) (xs : List Tree) (t : Tree) (ys : List Tree) (s : CutsAt n x
               | inl l ↦ omega (arith, j.below_left (omega (arith, i.not_higher)) (omega (arith, s.few, gathered_width t.breaks t.height xs g s.before some gi l)), s.above)
               | inr ge ↦ omega (arith, j.most, i.not_higher, s.above)
             ];
+            near = λ _ m dense.
+                let whole = subst (IsDenseBehind m) s.leaves_is dense in
+                j.recuts.behind (rw gi.leaves (omega (arith, some, nodes_le t.breaks t.height xs s.before))) m (rw gi.leaves (dense_left m (leaves_of xs) (t.leaves ++ leaves_of ys) whole));
           }
 
     module _ (g : Tree) (some : 1 ≤ length ys) (gi : IsGathered ys g) (i : IsBack k t p) where
@@ -154,9 +183,14 @@ module _ (n : Tree) (xs : List Tree) (t : Tree) (ys : List Tree) (s : CutsAt n x
           let f : IsSeam (text p) (joined ys) = rw i.text_is (seam-drop k (text t) (joined ys) (leaves_seam t.leaves (leaves_of ys) right_leaves)) in
           record {
             same_breaks = back_set ∙ sym i.same_breaks;
-            leaves = rw gi.leaves (leaves-append p.leaves (leaves_of ys) i.leaves (leaves_right t.leaves (leaves_of ys) right_leaves) f);
+            seam = rw gi.leaves f;
             fits = omega (arith, s.fits, ap (λ ls. byte_len (concat ls)) gi.leaves, ap byte_len i.text_is, byte_len-parts k (text t));
           }
+
+      pub back_near : IsNear p g
+      back_near = record {
+        near = λ high _. rw gi.leaves (dense_more (last_bytes 492 t.leaves) (last_bytes 492 p.leaves) (leaves_of ys) (i.near high 492 492) (leaves_near t.leaves (leaves_of ys) right_leaves));
+      }
 
       pub back_joined : (r : Tree) → IsJoin p g r → IsBack at n r
       back_joined r j =
@@ -171,6 +205,10 @@ module _ (n : Tree) (xs : List Tree) (t : Tree) (ys : List Tree) (s : CutsAt n x
               | inl l ↦ omega (arith, j.below_right (omega (arith, i.not_higher)) (omega (arith, s.few, gathered_width t.breaks t.height ys g s.after some gi l)), s.above)
               | inr ge ↦ omega (arith, j.most, i.not_higher, s.above)
             ];
+            near = λ _ a b.
+                let front = last_bytes a (leaves_of xs) in
+                let last = j.recuts.last (rw gi.leaves (omega (arith, some, nodes_le t.breaks t.height ys s.after))) (last_bytes front t.leaves) b in
+                rw (s.leaves_is, last_bytes-append a (leaves_of xs) (t.leaves ++ leaves_of ys), last_bytes-append front t.leaves (leaves_of ys)) (rw gi.leaves at last);
           }
 
 -- a leaf's parts
@@ -180,6 +218,7 @@ leaf_front n r l new k e is f i = record {
   same_breaks = ap (λ z. z.breaks) f;
   leaves = i.leaves;
   not_higher = omega (arith, ap (λ z. z.height) f);
+  near = λ high. absurd (omega (arith, ap (λ z. z.height) f));
 }
 
 pub leaf_back : (n r : Tree) (l new : List ℕ) (k : ℕ) → n ≡ leaf_tree n.breaks l → new ≡ drop k l → r ≡ leaf_tree n.breaks new → IsTree r → IsBack k n r
@@ -188,22 +227,23 @@ leaf_back n r l new k e is f i = record {
   same_breaks = ap (λ z. z.breaks) f;
   leaves = i.leaves;
   not_higher = omega (arith, ap (λ z. z.height) f);
+  near = λ high. absurd (omega (arith, ap (λ z. z.height) f));
 }
 
 -- all of a tree
 pub whole_front : (n r : Tree) (at : ℕ) → IsTree n → at ≡ length (text n) → r ≡ n → IsFront at n r
-whole_front n r at i z e = rw e (record { text_is = sym (take_all at (text n) (omega arith)); same_breaks = refl; leaves = i.leaves; not_higher = omega arith })
-
-pub whole_back : (n r : Tree) (at : ℕ) → IsTree n → at ≡ 0 → r ≡ n → IsBack at n r
-whole_back n r at i z e = rw (e, z) (record { text_is = refl; same_breaks = refl; leaves = i.leaves; not_higher = omega arith })
-
--- what the slices around a child have
-pub back_trees : (ts : List Tree) (k : ℕ) → take (length ts - k) (drop k ts) ≡ drop k ts
-back_trees ts k = take_all (length ts - k) (drop k ts) (omega (arith, length-drop k ts))
+whole_front n r at i z e = rw e (record { text_is = sym (take_all at (text n) (omega arith)); same_breaks = refl; leaves = i.leaves; not_higher = omega arith; near = λ _ k dense. dense })
 
 some_list : (ls : List (List ℕ)) → 1 ≤ length (concat ls) → 1 ≤ length ls
 some_list [] some = absurd (omega arith)
 some_list (l ∷ ls) some = omega arith
+
+pub whole_back : (n r : Tree) (at : ℕ) → IsTree n → at ≡ 0 → 1 ≤ length (text n) → r ≡ n → IsBack at n r
+whole_back n r at i z some e = rw (e, z) (record { text_is = refl; same_breaks = refl; leaves = i.leaves; not_higher = omega arith; near = λ _ a b. omega (arith, last_bytes-some a b n.leaves (some_list n.leaves some)) })
+
+-- what the slices around a child have
+pub back_trees : (ts : List Tree) (k : ℕ) → take (length ts - k) (drop k ts) ≡ drop k ts
+back_trees ts k = take_all (length ts - k) (drop k ts) (omega (arith, length-drop k ts))
 
 -- a part that has a character has a leaf
 some_leaf : (p : Tree) → 1 ≤ length (text p) → 1 ≤ length p.leaves

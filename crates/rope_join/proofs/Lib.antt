@@ -1,4 +1,5 @@
 pub mod Unions
+pub mod NearLaws
 pub mod Gathered
 pub mod Rows
 pub mod Whole

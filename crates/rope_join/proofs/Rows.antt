@@ -3,9 +3,9 @@ use Rattle.std.proofs.Common.{◌≡◌, ◌+◌, ◌-◌, ◌<◌, ◌≤◌, L
 use Rattle.rope_tree.specs.Tree.{Tree, leaves_of, height_of, breaks_of, tree_over, AreChildren}
 use Rattle.rope_tree.specs.Siblings.{AreSiblings, AreParts}
 use Rattle.rope_tree.proofs.SiblingLaws.{children_of}
-use Rattle.rope_join.specs.Join.{CanJoin, IsUnion, gathered}
+use Rattle.rope_join.specs.Join.{CanJoin, IsNear, IsUnion, gathered}
 use Rattle.rope_join.proofs.Gathered.{gathered_over}
-use Rattle.rope_join.proofs.Unions.{EndsIn, ends_in, BeginsIn, begins_in, end_can_join, end_siblings, end_union, front_can_join, front_siblings, front_union}
+use Rattle.rope_join.proofs.Unions.{EndsIn, ends_in, BeginsIn, begins_in, end_can_join, end_near, end_siblings, end_union, front_can_join, front_near, front_siblings, front_union}
 
 module _ (ts : List Tree) (b d : Tree) (s : AreSiblings (breaks_of ts) (height_of ts) ts) (many : 2 ≤ length ts) (few : length ts ≤ 24) (low : b.height ≤ height_of ts) where
   children : AreChildren (breaks_of ts) (height_of ts) ts
@@ -26,6 +26,11 @@ module _ (ts : List Tree) (b d : Tree) (s : AreSiblings (breaks_of ts) (height_o
 
     pub behind_can_join : CanJoin d b
     behind_can_join = end_can_join (tree_over ts) b d (take (length ts - 1) ts) (breaks_of ts) (height_of ts) ends.is ends.children ends.same_breaks ends.height over_joins below
+
+    pub behind_near : IsNear (gathered ts) b → IsNear d b
+    behind_near n =
+        let over = subst (λ t. IsNear t b) (gathered_over ts many) n in
+        end_near (tree_over ts) b d (take (length ts - 1) ts) (breaks_of ts) (height_of ts) ends.is ends.children ends.same_breaks ends.height over_joins below over
 
     module _ (us : List Tree) (u : IsUnion d b us) where
       pub behind_siblings : AreSiblings (breaks_of (take (length ts - 1) ts ++ us)) (height_of (take (length ts - 1) ts ++ us)) (take (length ts - 1) ts ++ us)
@@ -49,6 +54,11 @@ module _ (ts : List Tree) (b d : Tree) (s : AreSiblings (breaks_of ts) (height_o
 
     pub before_can_join : CanJoin b d
     before_can_join = front_can_join b (tree_over ts) d (drop 1 ts) (breaks_of ts) (height_of ts) begins.is begins.children begins.same_breaks begins.height joins_over below
+
+    pub before_near : IsNear b (gathered ts) → IsNear b d
+    before_near n =
+        let over = subst (λ t. IsNear b t) (gathered_over ts many) n in
+        front_near b (tree_over ts) d (drop 1 ts) (breaks_of ts) (height_of ts) begins.is begins.children begins.same_breaks begins.height joins_over below over
 
     module _ (us : List Tree) (u : IsUnion b d us) where
       pub before_siblings : AreSiblings (breaks_of (us ++ drop 1 ts)) (height_of (us ++ drop 1 ts)) (us ++ drop 1 ts)

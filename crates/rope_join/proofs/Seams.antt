@@ -10,9 +10,9 @@ use Rattle.rope_text.specs.Cutting.{parts_crlf}
 use Rattle.rope_text.proofs.Measures.{IsMeasure-byte_len}
 use Rattle.rope_text.proofs.CuttingLaws.{concat-append, ends_in_cr-append}
 use Rattle.rope_text.proofs.TextParts.{lf_first, cr_last, some_cr}
-use Rattle.rope_tree.specs.Leaves.{AreLeaves, IsSeam}
+use Rattle.rope_tree.specs.Leaves.{IsSeam}
 use Rattle.rope_tree.specs.Tree.{Tree, text, leaf_tree, IsTree}
-use Rattle.rope_tree.proofs.LeafLaws.{leaves-append, no_leaves}
+use Rattle.rope_tree.proofs.LeafLaws.{no_leaves}
 use Rattle.rope_tree.proofs.InsertLaws.{begins_some}
 use Rattle.rope_tree.proofs.InsertLeaves.{text_of_leaf}
 use Rattle.rope_join.proofs.Cuts.{byte_len-parts}
@@ -26,8 +26,8 @@ ends_at xs i x e =
     ap ends_in_cr (take_more xs i x in' ∙ ap (λ z. take i xs ++ z ∷ []) (get_or_from_slice_get xs i x x e)) ∙ ends_in_cr-append (take i xs) x []
 
 -- two trees with no CR LF between them
-pub can_join : (a b : Tree) → AreLeaves a.leaves → AreLeaves b.leaves → b.breaks ≡ a.breaks → IsSeam (text a) (text b) → byte_len (text a) + byte_len (text b) < 2 ^ 63 → CanJoin a b
-can_join a b i j breaks s fits = record { same_breaks = breaks; leaves = leaves-append a.leaves b.leaves i j s; fits = fits }
+pub can_join : (a b : Tree) → b.breaks ≡ a.breaks → IsSeam (text a) (text b) → byte_len (text a) + byte_len (text b) < 2 ^ 63 → CanJoin a b
+can_join a b breaks s fits = record { same_breaks = breaks; seam = s; fits = fits }
 
 pub join_text : (a b r : Tree) → IsJoin a b r → text r ≡ text a ++ text b
 join_text a b r j = j.recuts.same_text ∙ concat-append a.leaves b.leaves
@@ -43,7 +43,7 @@ module _ (a p b : Tree) (ia : IsTree a) (ip : IsTree p) (ib : IsTree b) (breaks 
   pub pair_first : CanJoin a p
   pair_first =
       let s : IsSeam (text a) (text p) = record { apart = rw pair_is (and_right (ends_in_cr (text a)) false refl) } in
-      can_join a p ia.leaves ip.leaves (ap (λ z. z.breaks) e) s (omega (arith, ap byte_len pair_is, byte_len-pair))
+      can_join a p (ap (λ z. z.breaks) e) s (omega (arith, ap byte_len pair_is, byte_len-pair))
 
   module _ (f : Tree) (j : IsJoin a p f) where
     pub front_is : text f ≡ text a ++ 13 ∷ 10 ∷ []
@@ -52,16 +52,16 @@ module _ (a p b : Tree) (ia : IsTree a) (ip : IsTree p) (ib : IsTree b) (breaks 
     pub pair_second : CanJoin f b
     pair_second =
         let s : IsSeam (text f) (text b) = record { apart = rw (front_is, ends_in_cr-append (text a) 13 (10 ∷ [])) refl } in
-        can_join f b j.recuts.leaves ib.leaves (breaks ∙ sym j.same_breaks) s (omega (arith, fits, ap byte_len front_is, IsMeasure-byte_len.joined (text a) (13 ∷ 10 ∷ []), byte_len-pair))
+        can_join f b (breaks ∙ sym j.same_breaks) s (omega (arith, fits, ap byte_len front_is, IsMeasure-byte_len.joined (text a) (13 ∷ 10 ∷ []), byte_len-pair))
 
     pub pair_joined : (r : Tree) → IsJoin f b r → text r ≡ text a ++ 13 ∷ 10 ∷ text b
     pair_joined r k = join_text f b r k ∙ ap (λ z. z ++ text b) front_is ∙ append_assoc (text a) (13 ∷ 10 ∷ []) (text b)
 
 pub empty_front : (n r : Tree) (l : List ℕ) (at : ℕ) → r ≡ leaf_tree n.breaks l → l ≡ [] → at ≡ 0 → IsFront at n r
-empty_front n r l at e f z = rw (e, f, z) (record { text_is = refl; same_breaks = refl; leaves = no_leaves; not_higher = omega arith })
+empty_front n r l at e f z = rw (e, f, z) (record { text_is = refl; same_breaks = refl; leaves = no_leaves; not_higher = omega arith; near = λ high. absurd (omega arith) })
 
 pub empty_back : (n r : Tree) (l : List ℕ) (at : ℕ) → r ≡ leaf_tree n.breaks l → l ≡ [] → at ≡ length (text n) → IsBack at n r
-empty_back n r l at e f z = rw (e, f) (record { text_is = sym (drop_all at (text n) (omega arith)); same_breaks = refl; leaves = no_leaves; not_higher = omega arith })
+empty_back n r l at e f z = rw (e, f) (record { text_is = sym (drop_all at (text n) (omega arith)); same_breaks = refl; leaves = no_leaves; not_higher = omega arith; near = λ high. absurd (omega arith) })
 
 pub chars_crlf : chars (13 ∷ 10 ∷ []) ≡ 13 ∷ 10 ∷ []
 unfolding chars
@@ -102,4 +102,4 @@ left_le t i j le =
 pub parts_can_join : (n f b : Tree) (i j : ℕ) → IsTree n → i ≤ j → IsFront i n f → IsBack j n b → parts_crlf (take i (text n)) (drop j (text n)) ≡ false → CanJoin f b
 parts_can_join n f b i j t le p q apart =
     let s : IsSeam (text f) (text b) = record { apart = rw (p.text_is, q.text_is) apart } in
-    can_join f b p.leaves q.leaves (q.same_breaks ∙ sym p.same_breaks) s (omega (arith, t.fits, left_le (text n) i j le, ap byte_len p.text_is, ap byte_len q.text_is))
+    can_join f b (q.same_breaks ∙ sym p.same_breaks) s (omega (arith, t.fits, left_le (text n) i j le, ap byte_len p.text_is, ap byte_len q.text_is))

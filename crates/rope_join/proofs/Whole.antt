@@ -1,5 +1,5 @@
 -- Two trees as one.
-use Rattle.std.proofs.Common.{◌≡◌, ℕ, ◌+◌, min, max, [], ◌∷◌, ◌++◌, refl, ap, ◌∙◌, arith, inl, inr}
+use Rattle.std.proofs.Common.{◌≡◌, ℕ, ◌+◌, min, max, [], ◌∷◌, length, refl, ap, ◌∙◌, arith, inl, inr}
 use Rattle.std.specs.List.{All}
 use Rattle.std.proofs.lemmas.Bool.{cases_lt}
 use Rattle.std.proofs.lemmas.List.{append-nil}
@@ -8,6 +8,7 @@ use Rattle.rope_text.specs.declared.line_breaks.LineBreaks.{LineBreaks}
 use Rattle.rope_text.specs.Text.{byte_len}
 use Rattle.rope_text.proofs.Measures.{IsMeasure-byte_len}
 use Rattle.rope_text.proofs.CuttingLaws.{concat-append}
+use Rattle.rope_text.proofs.DenseLaws.{last_bytes-some}
 use Rattle.rope_tree.specs.Leaves.{Recuts}
 use Rattle.rope_tree.specs.Tree.{Tree, text, joined, leaves_of, height_of, breaks_of, tree_over, IsTree, IsWide, IsChild, AreChildren}
 use Rattle.rope_tree.specs.Siblings.{AreParts}
@@ -16,13 +17,15 @@ use Rattle.rope_tree.proofs.NodeLaws.{children_of_first}
 use Rattle.rope_tree.proofs.ChunksFound.{no_leaves_of, lone_of_none}
 use Rattle.rope_join.specs.Join.{CanJoin, IsUnion, IsJoin}
 
-pub join_empty_right : (a b t : Tree) → IsTree b → byte_len (text b) ≡ 0 → CanJoin a b → t ≡ a → IsJoin a b t
-join_empty_right a b t i empty j e =
+pub join_empty_right : (a b t : Tree) → IsTree a → IsTree b → byte_len (text b) ≡ 0 → CanJoin a b → t ≡ a → IsJoin a b t
+join_empty_right a b t own i empty j e =
     let n = no_leaves_of b i empty in
     let z = lone_of_none b i empty in
-    let r : Recuts (a.leaves ++ b.leaves) a.leaves = record {
+    let r : Recuts a.leaves b.leaves a.leaves = record {
       same_text = rw (n, append-nil) refl;
-      leaves = rw (n, append-nil) at j.leaves;
+      leaves = own.leaves;
+      behind = λ _ k dense. dense;
+      last = λ some m k. absurd (omega (arith, some, ap length n));
     } in
     rw e (record {
       same_breaks = refl;
@@ -33,13 +36,15 @@ join_empty_right a b t i empty j e =
       below_right = λ l _. absurd (omega arith);
     })
 
-pub join_empty_left : (a b t : Tree) → IsTree a → byte_len (text a) ≡ 0 → CanJoin a b → t ≡ b → IsJoin a b t
-join_empty_left a b t i empty j e =
+pub join_empty_left : (a b t : Tree) → IsTree a → IsTree b → byte_len (text a) ≡ 0 → CanJoin a b → t ≡ b → IsJoin a b t
+join_empty_left a b t i own empty j e =
     let n = no_leaves_of a i empty in
     let z = lone_of_none a i empty in
-    let r : Recuts (a.leaves ++ b.leaves) b.leaves = record {
+    let r : Recuts a.leaves b.leaves b.leaves = record {
       same_text = rw n refl;
-      leaves = rw n at j.leaves;
+      leaves = own.leaves;
+      behind = λ some k dense. absurd (omega (arith, some, ap length n));
+      last = λ some m k. omega (arith, last_bytes-some m k b.leaves some);
     } in
     rw e (record {
       same_breaks = j.same_breaks;
@@ -61,7 +66,7 @@ union_height a b t u = elim (cases_lt a.height b.height) [
     | inl l ↦ let o = one_height a.breaks a.width (a.width + 1) a.height t (u.higher l) in (omega (arith, o.0), o.1)
     | inr same ↦
         let e : a.height ≡ b.height = omega arith in
-        let o = one_height a.breaks (a.width + b.width) (a.width + b.width) a.height t (u.equal e) in
+        let o = one_height a.breaks (max a.width b.width) (a.width + b.width) a.height t (u.equal e) in
         (omega (arith, o.0), o.1)
   ]
 ]

@@ -1,27 +1,32 @@
 -- What trees joined and gathered are.
-use Rattle.std.specs.Prelude.{◌≡◌, ◌+◌, ◌^◌, ◌≤◌, ◌<◌, max, List, [], ◌∷◌, ◌++◌}
+use Rattle.std.specs.Prelude.{◌≡◌, ◌+◌, ◌^◌, ◌≤◌, ◌<◌, max, List, [], ◌∷◌}
 use Rattle.rope_text.specs.Text.{byte_len}
-use Rattle.rope_tree.specs.Leaves.{AreLeaves, Recuts}
+use Rattle.rope_text.specs.Dense.{IsDenseBehind, last_bytes}
+use Rattle.rope_tree.specs.Leaves.{IsSeam, Recuts}
 use Rattle.rope_tree.specs.Tree.{Tree, text, leaves_of, breaks_of, leaf_tree, tree_over}
 use Rattle.rope_tree.specs.Siblings.{AreParts}
 
 -- two trees that may stand side by side: of one set of line breaks, no CR at the end of the one before an LF of the other
 pub record CanJoin (left right : Tree) : Type 0 where
   pub same_breaks : right.breaks ≡ left.breaks
-  pub leaves : AreLeaves (left.leaves ++ right.leaves)
+  pub seam : IsSeam (text left) (text right)
   pub fits : byte_len (text left) + byte_len (text right) < 2 ^ 63
+
+-- where the two meet, one of them is a leaf, or the last leaf of the one and the first of the other have 492 bytes or more together
+pub record IsNear (left right : Tree) : Type 0 where
+  pub near : 1 ≤ left.height → 1 ≤ right.height → IsDenseBehind (last_bytes 492 left.leaves) right.leaves
 
 -- the two trees as one tree or two of the greater height
 pub record IsUnion (left right : Tree) (ts : List Tree) : Type 0 where
-  pub recuts : Recuts (left.leaves ++ right.leaves) (leaves_of ts)
-  pub equal : left.height ≡ right.height → AreParts left.breaks (left.width + right.width) (left.width + right.width) left.height ts
+  pub recuts : Recuts left.leaves right.leaves (leaves_of ts)
+  pub equal : left.height ≡ right.height → AreParts left.breaks (max left.width right.width) (left.width + right.width) left.height ts
   pub higher : right.height < left.height → AreParts left.breaks left.width (left.width + 1) left.height ts
   pub lower : left.height < right.height → AreParts left.breaks right.width (right.width + 1) right.height ts
 
 -- the two trees as one, which keeps the height of the higher where its root has room and the other is lower
 pub record IsJoin (left right t : Tree) : Type 0 where
   pub same_breaks : t.breaks ≡ left.breaks
-  pub recuts : Recuts (left.leaves ++ right.leaves) t.leaves
+  pub recuts : Recuts left.leaves right.leaves t.leaves
   pub least : max left.height right.height ≤ t.height
   pub most : t.height ≤ max left.height right.height + 1
   pub below_left : right.height < left.height → left.width < 24 → t.height ≡ left.height

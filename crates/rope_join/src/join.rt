@@ -1,11 +1,13 @@
 //! Two trees as one.
-ghost use Rattle.std.specs.Prelude.{◌≡◌, ◌+◌, ◌-◌, ◌*◌, ◌<◌, ◌≤◌, [], ◌∷◌, ◌++◌, length, IfOk};
+ghost use Rattle.std.specs.Prelude.{◌≡◌, ◌+◌, ◌-◌, ◌*◌, ◌<◌, ◌≤◌, [], ◌∷◌, ◌++◌, true, false, length, max, IfOk};
 ghost use Rattle.rope_text.specs.Text.{byte_len};
+ghost use Rattle.rope_text.specs.Dense.{IsDenseBehind, last_bytes};
 ghost use Rattle.rope_tree.specs.Tree.{height_of, breaks_of};
 ghost use Rattle.rope_tree.specs.View.{trees_in};
 ghost use Rattle.rope_tree.specs.Siblings.{AreSiblings};
-ghost use Rattle.rope_join.specs.Join.{CanJoin, IsUnion, IsJoin, gathered};
+ghost use Rattle.rope_join.specs.Join.{CanJoin, IsNear, IsUnion, IsJoin, gathered};
 
+use crate::near::is_near;
 use rope_text::{MAX_BYTES, MAX_CHILDREN, MIN_BYTES, MIN_CHILDREN};
 use rope_tree::node::row::{make_over, pack, pack_over};
 use rope_tree::node::{Node, Nodes, View, make_leaf};
@@ -23,6 +25,16 @@ fn joined_text(first: &ShortText<'_>, second: &ShortText<'_>) -> NodeText
     text
 }
 
+/// Whether two leaves of so many bytes become one: they fit in it, and one of them is short.
+fn become_one(first: usize, second: usize) -> bool
+    requires first { first ≤ 984 }
+    requires second { second ≤ 984 }
+    ensures fit { result ≡ true → first + second ≤ 984 }
+    ensures near { result ≡ false → 492 ≤ first + second }
+{
+    first + second <= MAX_BYTES && (first < MIN_BYTES || second < MIN_BYTES)
+}
+
 /// Both nodes as they are.
 fn keep(left: &Node, right: &Node) -> Result<Nodes, AllocError>
     ensures { IfOk result (λ nodes. trees_in nodes ≡ left.now ∷ right.now ∷ []) }
@@ -31,12 +43,14 @@ fn keep(left: &Node, right: &Node) -> Result<Nodes, AllocError>
 }
 
 /// Two trees of one height as one tree or two. Leaves become one where they fit in it and one of them is short; other
-/// nodes where one can have all children, and where one of them has few they share the children evenly.
+/// nodes, whose leaves next to each other stay, where one can have all children, and where one of them has few they share the
+/// children evenly.
 fn merge(alloc: Global, left: &Node, right: &Node, made: &mut u64) -> Result<Nodes, AllocError>
     requires left_some { 1 ≤ length left.now.leaves }
     requires right_some { 1 ≤ length right.now.leaves }
     requires join { CanJoin left.now right.now }
     requires height { left.now.height ≡ right.now.height }
+    requires near { 1 ≤ left.now.height → IsDenseBehind (last_bytes 492 left.now.leaves) right.now.leaves }
     ensures union { IfOk result (λ nodes. IsUnion left.now right.now (trees_in nodes)) }
     ensures made { made.new ≤ made.old + 2 }
 {
@@ -47,9 +61,7 @@ fn merge(alloc: Global, left: &Node, right: &Node, made: &mut u64) -> Result<Nod
             let View::Leaf(second) = right.view() else {
                 unreachable!()
             };
-            if first.len() + second.len() <= MAX_BYTES
-                && (first.len() < MIN_BYTES || second.len() < MIN_BYTES)
-            {
+            if become_one(first.len(), second.len()) {
                 let info = left.info().plus(right.info());
                 let text = joined_text(&first, &second);
                 let node = make_leaf(alloc, left.line_breaks(), text, info, made)?;
@@ -72,13 +84,15 @@ fn merge(alloc: Global, left: &Node, right: &Node, made: &mut u64) -> Result<Nod
     }
 }
 
-/// Two trees that aren't empty as one tree or two of the greater height.
+/// Two trees that aren't empty as one tree or two of the greater height. It goes down the sides on which they meet to nodes of
+/// one height, and where the two leaves there have too few bytes together, down to those, which become one.
 fn unite(alloc: Global, left: &Node, right: &Node, made: &mut u64) -> Result<Nodes, AllocError>
     requires left_some { 1 ≤ length left.now.leaves }
     requires right_some { 1 ≤ length right.now.leaves }
     requires join { CanJoin left.now right.now }
     ensures union { IfOk result (λ nodes. IsUnion left.now right.now (trees_in nodes)) }
-    ensures made { made.new ≤ made.old + 2 * ((left.now.height - right.now.height) + (right.now.height - left.now.height)) + 2 }
+    ensures made { made.new ≤ made.old + 2 * max left.now.height right.now.height + 2 }
+    ensures made_near { IsNear left.now right.now → made.new ≤ made.old + 2 * ((left.now.height - right.now.height) + (right.now.height - left.now.height)) + 2 }
 {
     let left_height = left.height();
     let right_height = right.height();
@@ -97,7 +111,18 @@ fn unite(alloc: Global, left: &Node, right: &Node, made: &mut u64) -> Result<Nod
         let middle = unite(alloc, left, &children[0], made)?;
         return Ok(pack(alloc, &[], middle, &children[1..], made)?);
     }
-    Ok(merge(alloc, left, right, made)?)
+    if left_height == 0 || is_near(left, right) {
+        return Ok(merge(alloc, left, right, made)?);
+    }
+    let View::Inner(before, _) = left.view() else {
+        unreachable!()
+    };
+    let View::Inner(after, _) = right.view() else {
+        unreachable!()
+    };
+    let end = before.len() - 1;
+    let meeting = unite(alloc, &before[end], &after[0], made)?;
+    Ok(pack(alloc, &before[..end], meeting, &after[1..], made)?)
 }
 
 /// The text of the one tree and then that of the other as one tree, at most one level higher than the higher of them. No
@@ -105,7 +130,8 @@ fn unite(alloc: Global, left: &Node, right: &Node, made: &mut u64) -> Result<Nod
 pub fn join(alloc: Global, left: &Node, right: &Node, made: &mut u64) -> Result<Node, AllocError>
     requires { CanJoin left.now right.now }
     ensures join { IfOk result (λ node. IsJoin left.now right.now node) }
-    ensures made { made.new ≤ made.old + 2 * ((left.now.height - right.now.height) + (right.now.height - left.now.height)) + 3 }
+    ensures made { made.new ≤ made.old + 2 * max left.now.height right.now.height + 3 }
+    ensures made_near { IsNear left.now right.now → made.new ≤ made.old + 2 * ((left.now.height - right.now.height) + (right.now.height - left.now.height)) + 3 }
 {
     let _ = left.height();
     let _ = right.height();
@@ -135,6 +161,7 @@ pub fn join_behind(
     requires right_some { 1 ≤ length right.now.leaves }
     requires no_higher { right.now.height ≤ height_of nodes.now }
     requires join { CanJoin (gathered nodes.now) right.now }
+    requires near { IsNear (gathered nodes.now) right.now }
     ensures join { IfOk result (λ node. IsJoin (gathered nodes.now) right.now node) }
     ensures made_ok { IfOk result (λ node. made.new + 2 * right.now.height ≤ made.old + 2 * node.height + 3) }
     ensures made { made.new ≤ made.old + 2 * (height_of nodes.now - right.now.height) + 5 }
@@ -163,6 +190,7 @@ pub fn join_before(
     requires left_some { 1 ≤ length left.now.leaves }
     requires no_higher { left.now.height ≤ height_of nodes.now }
     requires join { CanJoin left.now (gathered nodes.now) }
+    requires near { IsNear left.now (gathered nodes.now) }
     ensures join { IfOk result (λ node. IsJoin left.now (gathered nodes.now) node) }
     ensures made_ok { IfOk result (λ node. made.new + 2 * left.now.height ≤ made.old + 2 * node.height + 3) }
     ensures made { made.new ≤ made.old + 2 * (height_of nodes.now - left.now.height) + 5 }

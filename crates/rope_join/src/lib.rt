@@ -4,4 +4,5 @@
 pub mod cut;
 pub mod edit;
 pub mod join;
+mod near;
 pub mod part;

@@ -16,6 +16,7 @@ pub mod PositionLaws
 pub mod LineLaws
 pub mod CuttingLaws
 pub mod ChunkLaws
+pub mod DenseLaws
 pub mod SliceLaws
 pub mod CompareLaws
 pub mod ReadLaws

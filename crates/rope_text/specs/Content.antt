@@ -11,9 +11,10 @@ pub record Content : Type 0 where
   pub chunks : List (List ℕ)
   pub breaks : LineBreaks
 
--- what every rope keeps: its chunks are a rope cutting of its text, which is one of Unicode scalar values and has at most isize::MAX bytes
+-- what every rope keeps: its chunks are a rope cutting of its text, at most one for each 246 bytes and one for the rest; the text is one of Unicode scalar values and has at most isize::MAX bytes
 pub record IsRope (c : Content) : Type 0 where
   pub cut : IsRopeCutting c.text c.chunks
+  pub few : length c.chunks ≤ (byte_len c.text + 245) / 246
   pub scalars : all_scalars c.text ≡ true
   pub fits : byte_len c.text < 2 ^ 63
 

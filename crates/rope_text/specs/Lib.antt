@@ -4,6 +4,7 @@ pub mod Breaks
 pub mod Lines
 pub mod Conversions
 pub mod Cutting
+pub mod Dense
 pub mod Lookup
 pub mod Cursor
 pub mod Edit

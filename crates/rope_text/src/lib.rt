@@ -28,6 +28,9 @@ pub const MAX_BYTES: usize = 984;
 /// The bytes below which two neighbouring leaves are merged where they fit together into one.
 pub const MIN_BYTES: usize = 462;
 
+/// The bytes that two neighbouring leaves have together at the least.
+pub const MIN_PAIR_BYTES: usize = 492;
+
 /// The children that an inner node has at the most.
 pub const MAX_CHILDREN: usize = 24;
 

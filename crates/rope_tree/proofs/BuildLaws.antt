@@ -15,6 +15,7 @@ use Rattle.rope_text.specs.Cutting.{parts_crlf}
 use Rattle.rope_text.proofs.Apart.{apart_at_cut}
 use Rattle.rope_text.proofs.Walks.{byte_len-chars}
 use Rattle.rope_text.proofs.CuttingLaws.{concat-append}
+use Rattle.rope_text.proofs.DenseLaws.{last_bytes-append, dense-append}
 use Rattle.rope_tree.specs.Leaves.{AreLeaves, IsLeafText, IsSeam}
 use Rattle.rope_tree.specs.Tree.{Tree, leaves_of, joined, height_of, breaks_of, one_leaf, leaf_tree, tree_over, IsTree, IsChild, AreChildren}
 use Rattle.rope_tree.specs.Siblings.{AreSiblings}
@@ -23,36 +24,37 @@ use Rattle.rope_tree.proofs.LeafLaws.{no_leaves, lone_leaf, leaves-append, nil-s
 use Rattle.rope_tree.proofs.TreeLaws.{is_wide_over, height_of_is, breaks_of_is}
 use Rattle.rope_tree.proofs.NodeLaws.{leaves_of-append}
 use Rattle.rope_tree.proofs.SiblingLaws.{siblings_left, siblings_right, children_of}
+use Rattle.rope_tree.proofs.StandLaws.{one_leaf_is}
 use Rattle.rope_tree.proofs.InsertLeaves.{wide_leaf}
 
 -- one leaf more, from the front of the rest
-fronts_more : (text : List ℕ) (leaves : List (List ℕ)) (rest x y : List ℕ) → AreFronts text leaves rest → x ++ y ≡ rest → IsLeafText x → IsSeam x y → AreFronts text (leaves ++ x ∷ []) y
-fronts_more text leaves rest x y fronts parts leaf seam =
+fronts_more : (text : List ℕ) (leaves : List (List ℕ)) (rest x y : List ℕ) → AreFronts text leaves rest → x ++ y ≡ rest → IsLeafText x → IsSeam x y → (1 ≤ length y → 492 ≤ byte_len x)
+    → AreFronts text (leaves ++ x ∷ []) y
+fronts_more text leaves rest x y fronts parts leaf seam long =
     let all : concat (leaves ++ x ∷ []) ≡ concat leaves ++ x = concat-append leaves (x ∷ []) ∙ ap (λ t. concat leaves ++ t) (append-nil x) in
     let before : IsSeam (concat leaves) (x ++ y) = subst (IsSeam (concat leaves)) (sym parts) fronts.apart in
+    let last = fronts.long (omega (arith, ap length parts, length-append x y, leaf.some)) in
+    let dense = dense-append 492 leaves (x ∷ []) fronts.are_leaves.dense (omega (arith, last), tt) in
     record {
       whole = ap (λ t. t ++ y) all ∙ append_assoc (concat leaves) x y ∙ ap (λ t. concat leaves ++ t) parts ∙ fronts.whole;
-      are_leaves = leaves-append leaves (x ∷ []) fronts.are_leaves (lone_leaf x leaf) (subst (IsSeam (concat leaves)) (sym (append-nil x)) (seam_of_left (concat leaves) x y before));
+      are_leaves = leaves-append leaves (x ∷ []) fronts.are_leaves (lone_leaf x leaf) (subst (IsSeam (concat leaves)) (sym (append-nil x)) (seam_of_left (concat leaves) x y before)) dense;
+      long = λ more. rw (last_bytes-append 492 leaves (x ∷ [])) (long more);
       apart = subst (λ t. IsSeam t y) (sym all) (seam_left_longer (concat leaves) x y before seam);
     }
 
 pub no_nodes : (breaks : LineBreaks) (text : List ℕ) → AreFrontNodes breaks text [] text
-no_nodes breaks text = record { each = All-nil (IsChild breaks 0); fronts = record { whole = refl; are_leaves = no_leaves; apart = nil-seam text } }
-
-one_leaf_is : (x : List ℕ) → 1 ≤ length x → one_leaf x ≡ x ∷ []
-one_leaf_is [] some = absurd (omega arith)
-one_leaf_is (c ∷ cs) some = refl
+no_nodes breaks text = record { each = All-nil (IsChild breaks 0); fronts = record { whole = refl; are_leaves = no_leaves; long = λ _. omega arith; apart = nil-seam text } }
 
 -- the leaves below one node more
 pub leaves_more : (breaks : LineBreaks) (ts : List Tree) (t : Tree) (x : List ℕ) → 1 ≤ length x → t ≡ leaf_tree breaks x → leaves_of (ts ++ t ∷ []) ≡ leaves_of ts ++ x ∷ []
 leaves_more breaks ts t x some is =
     leaves_of-append ts (t ∷ []) ∙ ap (λ ls. leaves_of ts ++ ls) (append-nil t.leaves ∙ ap (λ u. u.leaves) is ∙ one_leaf_is x some)
 
-nodes_more : (breaks : LineBreaks) (text : List ℕ) (ts : List Tree) (rest x y : List ℕ) (t : Tree) → AreFrontNodes breaks text ts rest → x ++ y ≡ rest → IsLeafText x → IsSeam x y
+nodes_more : (breaks : LineBreaks) (text : List ℕ) (ts : List Tree) (rest x y : List ℕ) (t : Tree) → AreFrontNodes breaks text ts rest → x ++ y ≡ rest → IsLeafText x → IsSeam x y → (1 ≤ length y → 492 ≤ byte_len x)
     → t ≡ leaf_tree breaks x → IsTree t → AreFrontNodes breaks text (ts ++ t ∷ []) y
-nodes_more breaks text ts rest x y t a parts leaf seam is tree = record {
+nodes_more breaks text ts rest x y t a parts leaf seam long is tree = record {
   each = All-push (IsChild breaks 0) ts t a.each (wide_leaf breaks 12 t x is tree leaf.some);
-  fronts = subst (λ ls. AreFronts text ls y) (sym (leaves_more breaks ts t x leaf.some is)) (fronts_more text (leaves_of ts) rest x y a.fronts parts leaf seam);
+  fronts = subst (λ ls. AreFronts text ls y) (sym (leaves_more breaks ts t x leaf.some is)) (fronts_more text (leaves_of ts) rest x y a.fronts parts leaf seam long);
 }
 
 pub some_chars : (x : List ℕ) → 1 ≤ byte_len x → 1 ≤ length x
@@ -60,13 +62,13 @@ some_chars [] some = absurd (omega arith)
 some_chars (c ∷ x) some = omega arith
 
 -- one node more, for the front of the rest
-pub nodes_front : (breaks : LineBreaks) (text : List ℕ) (ts : List Tree) (rest x y : List ℕ) (t : Tree) → AreFrontNodes breaks text ts rest → x ++ y ≡ rest → 1 ≤ byte_len x → IsSeam x y
+pub nodes_front : (breaks : LineBreaks) (text : List ℕ) (ts : List Tree) (rest x y : List ℕ) (t : Tree) → AreFrontNodes breaks text ts rest → x ++ y ≡ rest → 1 ≤ byte_len x → IsSeam x y → (1 ≤ length y → 492 ≤ byte_len x)
     → t ≡ leaf_tree breaks x → IsTree t → AreFrontNodes breaks text (ts ++ t ∷ []) y × (length (leaves_of (ts ++ t ∷ [])) ≡ length (leaves_of ts) + 1)
-nodes_front breaks text ts rest x y t a parts some seam is tree =
+nodes_front breaks text ts rest x y t a parts some seam long is tree =
     let inside : 1 ≤ length x = some_chars x some in
     let lone : t.leaves ≡ x ∷ [] = ap (λ u. u.leaves) is ∙ one_leaf_is x inside in
     let i : IsLeafText x = All-head IsLeafText x [] (subst (All IsLeafText) lone tree.leaves.each) in
-    (nodes_more breaks text ts rest x y t a parts i seam is tree, ap length (leaves_more breaks ts t x inside is) ∙ length-append (leaves_of ts) (x ∷ []))
+    (nodes_more breaks text ts rest x y t a parts i seam long is tree, ap length (leaves_more breaks ts t x inside is) ∙ length-append (leaves_of ts) (x ∷ []))
 
 -- bytes of a text that fit in a leaf
 leaf_of_bytes : (bs : List ℕ) → IsUtf8 bs → 0 < length bs → length bs ≤ 984 → IsLeafText (chars bs)
@@ -76,17 +78,17 @@ leaf_of_bytes bs u some short =
 
 -- one node more, for the bytes of a front that is cut off at a cut
 pub nodes_cut : (breaks : LineBreaks) (text : List ℕ) (ts : List Tree) (bs front back leaf : List ℕ) (r : ℕ) (t : Tree) → AreFrontNodes breaks text ts (chars bs)
-    → IsUtf8 bs → IsUtf8 front → IsUtf8 back → front ≡ take (r - 0) bs → back ≡ drop r bs → 0 < r → r < length bs → r ≤ 984 → is_cut bs r ≡ true
+    → IsUtf8 bs → IsUtf8 front → IsUtf8 back → front ≡ take (r - 0) bs → back ≡ drop r bs → 492 ≤ r → r < length bs → r ≤ 984 → is_cut bs r ≡ true
     → leaf ≡ chars front → t ≡ leaf_tree breaks leaf → IsTree t
     → AreFrontNodes breaks text (ts ++ t ∷ []) (chars back) × (length (leaves_of (ts ++ t ∷ [])) ≡ length (leaves_of ts) + 1)
 nodes_cut breaks text ts bs front back leaf r t a u v w is_front is_back some inside short cut of_front is tree =
     let e : front ≡ take r bs = is_front ∙ ap (λ k. take k bs) (omega arith) in
     let n : length front ≡ r = ap length e ∙ length-take-le r bs (omega arith) in
     let parts : chars front ++ chars back ≡ chars bs = sym (chars-append front back v) ∙ ap chars (ap₂ (λ a b. a ++ b) e is_back ∙ take-append-drop r bs) in
-    let seam : IsSeam (chars front) (chars back) = record { apart = ap₂ (λ a b. parts_crlf (chars a) (chars b)) e is_back ∙ apart_at_cut bs r (subst IsUtf8 e v) (subst IsUtf8 is_back w) some inside cut } in
+    let seam : IsSeam (chars front) (chars back) = record { apart = ap₂ (λ a b. parts_crlf (chars a) (chars b)) e is_back ∙ apart_at_cut bs r (subst IsUtf8 e v) (subst IsUtf8 is_back w) (omega arith) inside cut } in
     let own : t ≡ leaf_tree breaks (chars front) = is ∙ ap (leaf_tree breaks) of_front in
     let i : IsLeafText (chars front) = leaf_of_bytes front v (omega arith) (omega arith) in (
-      nodes_more breaks text ts (chars bs) (chars front) (chars back) t a parts i seam own tree,
+      nodes_more breaks text ts (chars bs) (chars front) (chars back) t a parts i seam (λ _. omega (arith, byte_len-chars front v)) own tree,
       ap length (leaves_more breaks ts t (chars front) i.some own) ∙ length-append (leaves_of ts) (chars front ∷ []),
     )
 
@@ -97,7 +99,7 @@ pub nodes_last : (breaks : LineBreaks) (text : List ℕ) (ts : List Tree) (bs le
 nodes_last breaks text ts bs leaf t a u some short of_rest is tree =
     let own : t ≡ leaf_tree breaks (chars bs) = is ∙ ap (leaf_tree breaks) of_rest in
     let i : IsLeafText (chars bs) = leaf_of_bytes bs u some short in (
-      nodes_more breaks text ts (chars bs) (chars bs) [] t a (append-nil (chars bs)) i (seam-nil (chars bs)) own tree,
+      nodes_more breaks text ts (chars bs) (chars bs) [] t a (append-nil (chars bs)) i (seam-nil (chars bs)) (λ more. absurd (omega arith)) own tree,
       ap length (leaves_more breaks ts t (chars bs) i.some own) ∙ length-append (leaves_of ts) (chars bs ∷ []),
     )
 

@@ -1,5 +1,5 @@
 -- Children of which one was changed where it stands.
-use Rattle.std.proofs.Common.{◌≡◌, ℕ, zero, suc, ◌+◌, ◌<◌, ◌≤◌, ◌^◌, ◌⊎◌, Bool, true, false, min, List, [], ◌∷◌, ◌++◌, length, get_or, set, take, drop, refl, sym, ap, add-one, ◌∙◌, arith}
+use Rattle.std.proofs.Common.{◌≡◌, ℕ, zero, suc, ◌+◌, ◌<◌, ◌≤◌, ◌^◌, ◌⊎◌, Bool, true, false, min, List, [], ◌∷◌, ◌++◌, length, get_or, set, take, drop, refl, sym, ap, subst, add-one, ◌∙◌, arith}
 use Rattle.std.proofs.lemmas.List.{length-set, set_split, set-get_or, append-nil, drop_all, take_all}
 use Rattle.std.proofs.lemmas.List.Elements.{All-head, All-weaker}
 use Rattle.rope_text.specs.declared.line_breaks.LineBreaks.{LineBreaks}
@@ -9,6 +9,7 @@ use Rattle.rope_text.specs.Edit.{inserted}
 use Rattle.std.specs.List.{refill, insert}
 use Rattle.std.specs.Str.{all_scalars}
 use Rattle.rope_text.specs.declared.text_info.TextInfo.{TextInfo}
+use Rattle.rope_tree.specs.Leaves.{StandFor}
 use Rattle.rope_tree.specs.Tree.{Tree, text, joined, leaves_of, height_of, breaks_of, tree_over, leaf_tree, IsTree, IsWide, IsChild, AreChildren}
 use Rattle.rope_tree.specs.Listed.{tallest}
 use Rattle.rope_tree.specs.Totals.{HasTotals}
@@ -18,7 +19,7 @@ use Rattle.rope_tree.proofs.NodeLaws.{joined_one, leaf_text, children_of_first}
 use Rattle.rope_tree.proofs.SiblingLaws.{children_of, one_part}
 use Rattle.rope_tree.proofs.TreeLaws.{wide_weaker, is_leaf_tree}
 use Rattle.rope_tree.proofs.InsertLeaves.{one_inserted, two_inserted}
-use Rattle.rope_tree.proofs.InsertTrees.{new_text, new_siblings, new_length, length-inserted}
+use Rattle.rope_tree.proofs.InsertTrees.{new_text, new_siblings, new_stand, new_length, length-inserted, byte_len-inserted}
 
 -- the list with the new child in the old one's place
 pub set_parts : (ts : List Tree) (k : ℕ) (u : Tree) → k < length ts → set ts k u ≡ take k ts ++ (u ∷ [] ++ drop (k + 1) ts)
@@ -40,6 +41,7 @@ grown br h ts k c u a lt here at i s some place within to_right inside outside m
       at_most_24 = omega (arith, length-set ts k u, a.at_most_24);
       text_is = ap joined is ∙ new_text br h ts k c a lt here (tree_over ts) refl at i s some place within (u ∷ []) to_right inside outside may new fits;
       siblings = rw (is, sym br_is, sym h_is) siblings;
+      stand = rw is (new_stand br h ts k c a lt here (tree_over ts) refl at i s some place within (u ∷ []) to_right inside outside may new fits);
     }
 
 -- a list with a new child in the old one's place, and another behind it
@@ -68,6 +70,7 @@ grown_by_one br h ts k c u b a lt here at i s some place within to_right inside 
       at_most_24 = omega (arith, many, more);
       text_is = ap joined is ∙ new_text br h ts k c a lt here (tree_over ts) refl at i s some place within ps to_right inside outside may new fits;
       siblings = rw (is, sym br_is, sym h_is) siblings;
+      stand = rw is (new_stand br h ts k c a lt here (tree_over ts) refl at i s some place within ps to_right inside outside may new fits);
     }
 
 -- the changed children are children of one node
@@ -84,6 +87,7 @@ node_grown t ts us at s is a g x x_is =
     rw is (record {
       text_is = joined_one x ∙ ap text x_is ∙ g.text_is;
       leaves = rw flat g.siblings.leaves;
+      stand = λ _. subst (StandFor 491 (leaves_of ts)) (sym flat) g.stand;
       parts = record {
         some = parts.some;
         at_most_two = parts.at_most_two;
@@ -125,9 +129,9 @@ module _ (br : LineBreaks) (l new : List ℕ) (fits : byte_len new ≤ 984) (sca
   leaf_is_tree = is_leaf_tree br new fits scalars (rw leaf_text (omega (arith, fits)))
 
   pub leaf_inserted : (at : ℕ) (s : List ℕ) → new ≡ inserted l at s → 1 ≤ length s → IsInserted (leaf_tree br l) (leaf_tree br new ∷ []) (inserted (text (leaf_tree br l)) at s)
-  leaf_inserted at s is some = rw leaf_text (one_inserted br l new (inserted l at s) (leaf_tree br new) refl leaf_is_tree is (omega (arith, length-inserted l at s)))
+  leaf_inserted at s is some = rw leaf_text (one_inserted br l new (inserted l at s) (leaf_tree br new) refl leaf_is_tree is (omega (arith, length-inserted l at s)) (omega (arith, byte_len-inserted l at s)))
 
   -- what does not fit in stands in another leaf behind
-  pub leaf_parted : (at : ℕ) (s back : List ℕ) (y : Tree) → y ≡ leaf_tree br back → IsTree y → new ++ back ≡ inserted l at s → (0 < length new) × (0 < length back) × (parts_crlf new back ≡ false)
+  pub leaf_parted : (at : ℕ) (s back : List ℕ) (y : Tree) → y ≡ leaf_tree br back → IsTree y → new ++ back ≡ inserted l at s → (0 < length new) × (0 < length back) × (parts_crlf new back ≡ false) → (491 ≤ byte_len new) × (491 ≤ byte_len back)
       → IsInserted (leaf_tree br l) (leaf_tree br new ∷ y ∷ []) (inserted (text (leaf_tree br l)) at s)
-  leaf_parted at s back y y_is y_tree is some = rw leaf_text (two_inserted br l new back (inserted l at s) (leaf_tree br new) y refl y_is leaf_is_tree y_tree is some)
+  leaf_parted at s back y y_is y_tree is some halves = rw leaf_text (two_inserted br l new back (inserted l at s) (leaf_tree br new) y refl y_is leaf_is_tree y_tree is some halves)

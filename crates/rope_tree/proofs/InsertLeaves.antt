@@ -1,15 +1,18 @@
 -- A leaf becomes one leaf or two.
-use Rattle.std.proofs.Common.{◌≡◌, ℕ, ◌<◌, ◌≤◌, false, min, List, [], ◌∷◌, ◌++◌, length, ap, ◌∙◌, arith}
+use Rattle.std.proofs.Common.{◌≡◌, ℕ, ◌<◌, ◌≤◌, false, min, List, [], ◌∷◌, ◌++◌, length, ap, ap₂, sym, subst, ◌∙◌, arith}
 use Rattle.std.specs.List.{concat}
 use Rattle.std.proofs.lemmas.List.{append-nil}
 use Rattle.std.proofs.lemmas.List.Elements.{All-nil, All-cons}
 use Rattle.rope_text.specs.declared.line_breaks.LineBreaks.{LineBreaks}
+use Rattle.rope_text.specs.Text.{byte_len}
 use Rattle.rope_text.specs.Cutting.{parts_crlf}
+use Rattle.rope_text.specs.Dense.{AreDense}
 use Rattle.rope_text.proofs.CuttingLaws.{concat-append}
-use Rattle.rope_tree.specs.Leaves.{AreLeaves, IsSeam}
-use Rattle.rope_tree.specs.Tree.{Tree, text, leaves_of, leaf_tree, IsTree, IsWide}
+use Rattle.rope_tree.specs.Leaves.{AreLeaves, IsSeam, StandFor}
+use Rattle.rope_tree.specs.Tree.{Tree, text, leaves_of, leaf_tree, one_leaf, IsTree, IsWide}
 use Rattle.rope_tree.specs.Insert.{IsInserted}
 use Rattle.rope_tree.proofs.LeafLaws.{leaves-append}
+use Rattle.rope_tree.proofs.StandLaws.{one_leaf_is, leaf_stands, leaves_stand}
 use Rattle.rope_tree.proofs.NodeLaws.{leaf_text, joined_one}
 
 pub wide_leaf : (breaks : LineBreaks) (w : ℕ) (x : Tree) (leaf : List ℕ) → x ≡ leaf_tree breaks leaf → IsTree x → 1 ≤ length leaf → IsWide breaks w 0 x
@@ -25,12 +28,14 @@ wide_leaf breaks w x (c ∷ cs) is tree some = record {
 pub text_of_leaf : (breaks : LineBreaks) (x : Tree) (leaf : List ℕ) → x ≡ leaf_tree breaks leaf → text x ≡ leaf
 text_of_leaf breaks x leaf is = ap text is ∙ leaf_text leaf
 
-pub one_inserted : (breaks : LineBreaks) (old leaf new : List ℕ) (x : Tree) → x ≡ leaf_tree breaks leaf → IsTree x → leaf ≡ new → 1 ≤ length new → IsInserted (leaf_tree breaks old) (x ∷ []) new
-one_inserted breaks old leaf new x is tree same some =
+pub one_inserted : (breaks : LineBreaks) (old leaf new : List ℕ) (x : Tree) → x ≡ leaf_tree breaks leaf → IsTree x → leaf ≡ new → 1 ≤ length new → byte_len old ≤ byte_len new → IsInserted (leaf_tree breaks old) (x ∷ []) new
+one_inserted breaks old leaf new x is tree same some longer =
     let w = wide_leaf breaks (min 12 0) x leaf is tree (omega (arith, ap length same)) in
+    let flat : leaves_of (x ∷ []) ≡ one_leaf new = append-nil x.leaves ∙ ap (λ u. u.leaves) is ∙ ap one_leaf same in
     record {
       text_is = joined_one x ∙ text_of_leaf breaks x leaf is ∙ same;
       leaves = rw append-nil tree.leaves;
+      stand = λ there. subst (StandFor 491 (one_leaf old)) (sym flat) (leaf_stands 491 old new some (omega (arith, longer)) there);
       parts = record {
         some = omega arith;
         at_most_two = omega arith;
@@ -41,8 +46,8 @@ one_inserted breaks old leaf new x is tree same some =
     }
 
 pub two_inserted : (breaks : LineBreaks) (old front back new : List ℕ) (x y : Tree) → x ≡ leaf_tree breaks front → y ≡ leaf_tree breaks back → IsTree x → IsTree y → front ++ back ≡ new
-    → (0 < length front) × (0 < length back) × (parts_crlf front back ≡ false) → IsInserted (leaf_tree breaks old) (x ∷ y ∷ []) new
-two_inserted breaks old front back new x y is_x is_y tree_x tree_y same some =
+    → (0 < length front) × (0 < length back) × (parts_crlf front back ≡ false) → (491 ≤ byte_len front) × (491 ≤ byte_len back) → IsInserted (leaf_tree breaks old) (x ∷ y ∷ []) new
+two_inserted breaks old front back new x y is_x is_y tree_x tree_y same some halves =
     let wx = wide_leaf breaks (min 12 0) x front is_x tree_x some.0 in
     let wy = wide_leaf breaks (min 12 0) y back is_y tree_y some.1 in
     let vx = wide_leaf breaks 12 x front is_x tree_x some.0 in
@@ -50,11 +55,16 @@ two_inserted breaks old front back new x y is_x is_y tree_x tree_y same some =
     let tx = text_of_leaf breaks x front is_x in
     let ty = text_of_leaf breaks y back is_y in
     let seam : IsSeam (text x) (text y) = record { apart = rw (tx, ty) some.2 } in
-    let both : AreLeaves (x.leaves ++ y.leaves) = leaves-append x.leaves y.leaves tree_x.leaves tree_y.leaves seam in
+    let first : x.leaves ≡ front ∷ [] = ap (λ u. u.leaves) is_x ∙ one_leaf_is front some.0 in
+    let second : y.leaves ≡ back ∷ [] = ap (λ u. u.leaves) is_y ∙ one_leaf_is back some.1 in
+    let two : x.leaves ++ y.leaves ≡ front ∷ back ∷ [] = ap₂ (λ xs ys. xs ++ ys) first second in
+    let dense : AreDense (x.leaves ++ y.leaves) = rw two (omega arith, (omega (arith, halves.0, halves.1), tt)) in
+    let both : AreLeaves (x.leaves ++ y.leaves) = leaves-append x.leaves y.leaves tree_x.leaves tree_y.leaves seam dense in
     let flat : leaves_of (x ∷ y ∷ []) ≡ x.leaves ++ y.leaves = ap (λ ls. x.leaves ++ ls) (append-nil y.leaves) in
     record {
       text_is = ap concat flat ∙ concat-append x.leaves y.leaves ∙ (rw (tx, ty) same);
       leaves = rw append-nil both;
+      stand = λ there. leaves_stand old front back (leaves_of (x ∷ y ∷ [])) (flat ∙ two) halves.0 halves.1 there;
       parts = record {
         some = omega arith;
         at_most_two = omega arith;

@@ -7,14 +7,17 @@ use Rattle.std.proofs.lemmas.Bool.{cases_lt}
 use Rattle.rope_text.specs.declared.line_breaks.LineBreaks.{LineBreaks}
 use Rattle.rope_text.specs.Text.{byte_len}
 use Rattle.rope_text.specs.Breaks.{begins_with_lf}
+use Rattle.rope_text.specs.Dense.{AreDense, last_bytes}
 use Rattle.rope_text.specs.Edit.{inserted}
 use Rattle.rope_text.proofs.Measures.{IsMeasure-byte_len}
 use Rattle.rope_text.proofs.CuttingLaws.{concat-append}
-use Rattle.rope_tree.specs.Leaves.{AreLeaves, IsSeam}
+use Rattle.rope_text.proofs.DenseLaws.{dense_alone, dense_right}
+use Rattle.rope_tree.specs.Leaves.{AreLeaves, IsSeam, StandFor}
 use Rattle.rope_tree.specs.Tree.{Tree, text, joined, leaves_of, height_of, breaks_of, tree_over, IsWide, IsChild, AreChildren}
 use Rattle.rope_tree.specs.Siblings.{AreSiblings, AreParts}
 use Rattle.rope_tree.specs.Insert.{MayInsert, IsInserted}
-use Rattle.rope_tree.proofs.LeafLaws.{all_left, all_right, leaves-append, leaves_left, leaves_right, leaves_seam, seam_of_left, nil-seam}
+use Rattle.rope_tree.proofs.LeafLaws.{all_left, all_right, leaf_sizes, leaves-append, leaves_left, leaves_right, leaves_seam, seam_of_left, nil-seam}
+use Rattle.rope_tree.proofs.StandLaws.{enough_half, stand_between}
 use Rattle.rope_tree.proofs.TreeLaws.{wide_more, wide_weaker, height_of_is, breaks_of_is}
 use Rattle.rope_tree.proofs.NodeLaws.{leaves_of-append, joined-append, child_at}
 use Rattle.rope_tree.proofs.Descents.{leaves_at}
@@ -106,17 +109,33 @@ module _ (breaks : LineBreaks) (h : ℕ) (ts : List Tree) (k : ℕ) (child : Tre
           ∙ text_of (joined (take k ts)) (text child) (joined (drop (k + 1) ts)) s i at place within
           ∙ ap (λ x. take at x ++ (s ++ drop at x)) (sym (ap text is ∙ text_around)) ∙ sym (inserted_is (text t) at s)
 
+      new_parts : leaves_of (take k ts ++ (ps ++ drop (k + 1) ts)) ≡ leaves_of (take k ts) ++ (leaves_of ps ++ leaves_of (drop (k + 1) ts))
+      new_parts = leaves_of-append (take k ts) (ps ++ drop (k + 1) ts) ∙ ap (λ xs. leaves_of (take k ts) ++ xs) (leaves_of-append ps (drop (k + 1) ts))
+
+      -- they may stand where the old ones may
+      pub new_stand : StandFor 491 (leaves_of ts) (leaves_of (take k ts ++ (ps ++ drop (k + 1) ts)))
+      new_stand =
+          let left = leaves_of (take k ts) in
+          let right = leaves_of (drop (k + 1) ts) in
+          let before = leaves_left left (child.leaves ++ right) parted in
+          let after = leaves_right child.leaves right (leaves_right left (child.leaves ++ right) parted) in
+          let enough = enough_half left right (leaf_sizes left before.each) (leaf_sizes right after.each) after.dense in
+          let between = stand_between 491 left child.leaves (leaves_of ps) right enough (new.stand own.some) in
+          subst (λ xs. StandFor 491 xs (leaves_of (take k ts ++ (ps ++ drop (k + 1) ts)))) (sym around_child)
+          (subst (StandFor 491 (left ++ (child.leaves ++ right))) (sym new_parts) between)
+
       new_leaves : AreLeaves (leaves_of (take k ts ++ (ps ++ drop (k + 1) ts)))
       new_leaves =
           let left = leaves_left (leaves_of (take k ts)) (child.leaves ++ leaves_of (drop (k + 1) ts)) parted in
           let right = leaves_right child.leaves (leaves_of (drop (k + 1) ts)) (leaves_right (leaves_of (take k ts)) (child.leaves ++ leaves_of (drop (k + 1) ts)) parted) in
           let after : IsSeam (joined ps) (joined (drop (k + 1) ts)) = rw middle_text (after_new to_right inside may) in
           let before : IsSeam (joined (take k ts)) (joined ps) = rw middle_text (before_new to_right inside outside may) in
-          let both = leaves-append (leaves_of ps) (leaves_of (drop (k + 1) ts)) new.leaves right after in
+          let dense = subst (λ xs. AreDense xs) new_parts (new_stand.behind 492 (omega arith) a.leaves.dense) in
+          let behind = dense_alone (last_bytes 492 (leaves_of (take k ts))) (leaves_of ps ++ leaves_of (drop (k + 1) ts)) (dense_right 492 (leaves_of (take k ts)) (leaves_of ps ++ leaves_of (drop (k + 1) ts)) dense) in
+          let both = leaves-append (leaves_of ps) (leaves_of (drop (k + 1) ts)) new.leaves right after behind in
           let nonempty : 1 ≤ length (joined ps) = rw middle_text (omega (arith, length-append (take i (text child)) (s ++ drop i (text child)), length-append s (drop i (text child)))) in
           let before_both : IsSeam (joined (take k ts)) (concat (leaves_of ps ++ leaves_of (drop (k + 1) ts))) = rw concat-append (seam_begins (joined (take k ts)) (joined ps) (joined (drop (k + 1) ts)) nonempty before) in
-          subst AreLeaves (sym (leaves_of-append (take k ts) (ps ++ drop (k + 1) ts) ∙ ap (λ xs. leaves_of (take k ts) ++ xs) (leaves_of-append ps (drop (k + 1) ts))))
-          (leaves-append (leaves_of (take k ts)) (leaves_of ps ++ leaves_of (drop (k + 1) ts)) left both before_both)
+          subst AreLeaves (sym new_parts) (leaves-append (leaves_of (take k ts)) (leaves_of ps ++ leaves_of (drop (k + 1) ts)) left both before_both dense)
 
       new_each : All (IsChild breaks h) (take k ts ++ (ps ++ drop (k + 1) ts))
       new_each =
@@ -151,6 +170,7 @@ module _ (breaks : LineBreaks) (h : ℕ) (ts : List Tree) (k : ℕ) (child : Tre
           record {
             text_is = ap concat leaves ∙ new_text;
             leaves = subst AreLeaves (sym leaves) new_leaves;
+            stand = λ _. subst (λ xs. StandFor 491 xs (leaves_of rs)) (sym (ap (λ u. u.leaves) is)) (subst (StandFor 491 (leaves_of ts)) (sym leaves) new_stand);
             parts = record {
               some = p.some;
               at_most_two = p.at_most_two;

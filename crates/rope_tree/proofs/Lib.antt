@@ -1,5 +1,6 @@
 pub mod LeafCounts
 pub mod LeafLaws
+pub mod StandLaws
 pub mod TreeLaws
 pub mod Halving
 pub mod RowLaws
@@ -16,6 +17,7 @@ pub mod ListedLaws
 pub mod ChildLaws
 pub mod RemovalEnds
 pub mod RemovalLaws
+pub mod BesideLaws
 pub mod Infos
 pub mod NodeLaws
 pub mod SiblingLaws

@@ -11,11 +11,14 @@ use Rattle.rope_text.specs.Edit.{removed}
 use Rattle.rope_text.proofs.Measures.{IsMeasure-byte_len, size_le}
 use Rattle.rope_text.proofs.CuttingLaws.{concat-append}
 use Rattle.rope_tree.specs.declared.search.Unit.TheVariants.{Char}
-use Rattle.rope_tree.specs.Leaves.{AreLeaves, IsSeam}
+use Rattle.rope_text.specs.Dense.{AreDense, last_bytes}
+use Rattle.rope_text.proofs.DenseLaws.{dense_alone, dense_right}
+use Rattle.rope_tree.specs.Leaves.{AreLeaves, IsSeam, StandFor, IsEnough}
 use Rattle.rope_tree.specs.Tree.{Tree, text, joined, one_leaf, leaf_tree, leaves_of, height_of, breaks_of, tree_over, IsTree, IsChild, AreChildren}
 use Rattle.rope_tree.specs.Totals.{HasTotals}
 use Rattle.rope_tree.specs.Removal.{KeepsEnds, IsRemoved, AreRemoved}
 use Rattle.rope_tree.proofs.LeafLaws.{lone_leaf, leaves-append, leaves_left, leaves_right, leaves_le}
+use Rattle.rope_tree.proofs.StandLaws.{one_leaf_is, leaf_stands, stand_fewer, stand_between}
 use Rattle.rope_tree.proofs.TreeLaws.{height_of_is, breaks_of_is}
 use Rattle.rope_tree.proofs.NodeLaws.{leaves_of-append, child_at, more_at, leaf_text}
 use Rattle.rope_tree.proofs.Descents.{Descends}
@@ -35,8 +38,8 @@ byte_len-removed xs a b order =
     )
 
 -- as many leaves under as many nodes are a tree
-pub tree_removed : (old new : Tree) (a b : ℕ) → a ≤ b → IsTree old → IsRemoved old new a b → IsTree new
-tree_removed old new a b order t r = record {
+pub tree_removed : (least : ℕ) (old new : Tree) (a b : ℕ) → a ≤ b → IsTree old → IsRemoved least old new a b → IsTree new
+tree_removed least old new a b order t r = record {
   lone = λ z. omega (arith, t.lone (omega (arith, r.same_height)), r.as_many);
   at_least_two = λ p. omega (arith, t.at_least_two (omega (arith, r.same_height)), r.same_width);
   at_most_24 = omega (arith, t.at_most_24, r.same_width);
@@ -46,13 +49,13 @@ tree_removed old new a b order t r = record {
   fits = omega (arith, ap byte_len r.text_is, byte_len-removed (text old) a b order, t.fits);
 }
 
-pub child_removed : (br : LineBreaks) (h : ℕ) (old new : Tree) (a b : ℕ) → a ≤ b → IsChild br h old → IsRemoved old new a b → IsChild br h new
-child_removed br h old new a b order c r = record {
+pub child_removed : (least : ℕ) (br : LineBreaks) (h : ℕ) (old new : Tree) (a b : ℕ) → a ≤ b → IsChild br h old → IsRemoved least old new a b → IsChild br h new
+child_removed least br h old new a b order c r = record {
   same_breaks = r.same_breaks ∙ c.same_breaks;
   at_height = r.same_height ∙ c.at_height;
   wide = λ p. omega (arith, c.wide p, r.same_width);
   some = omega (arith, c.some, r.as_many);
-  tree = tree_removed old new a b order c.tree r;
+  tree = tree_removed least old new a b order c.tree r;
 }
 
 -- characters of the middle one of three texts
@@ -97,7 +100,7 @@ module _ (br : LineBreaks) (h : ℕ) (ts : List Tree) (k : ℕ) (c : Tree) (a : 
   parted : joined ts ≡ joined (take k ts) ++ (text c ++ joined (drop (k + 1) ts))
   parted = text_around br h ts k c a lt here
 
-  module _ (u : Tree) (r : IsRemoved c u i j) where
+  module _ (least : ℕ) (u : Tree) (r : IsRemoved least c u i j) (enough : IsEnough least left right) where
     own : IsChild br h c
     own = child_at br h ts k c a lt here
 
@@ -123,15 +126,22 @@ module _ (br : LineBreaks) (h : ℕ) (ts : List Tree) (k : ℕ) (c : Tree) (a : 
         let now : joined (set ts k u) ≡ concat left ++ (text u ++ concat right) = ap concat new_leaves ∙ concat-append left (u.leaves ++ right) ∙ ap (λ x. concat left ++ x) (concat-append u.leaves right) in
         rw (parted, now) (ends_around (concat left) (text c) (text u) (concat right) some_text r.ends)
 
+    new_stand : StandFor 491 (leaves_of ts) (leaves_of (set ts k u))
+    new_stand =
+        subst (λ xs. StandFor 491 xs (leaves_of (set ts k u))) (sym old_leaves)
+        (subst (StandFor 491 (left ++ (c.leaves ++ right))) (sym new_leaves) (stand_between least left c.leaves u.leaves right enough r.stand))
+
     are_leaves : AreLeaves (leaves_of (set ts k u))
     are_leaves =
+        let dense = subst (λ xs. AreDense xs) new_leaves (new_stand.behind 492 (omega arith) a.leaves.dense) in
+        let behind = dense_alone (last_bytes 492 left) (u.leaves ++ right) (dense_right 492 left (u.leaves ++ right) dense) in
         let old : AreLeaves (left ++ (c.leaves ++ right)) = subst AreLeaves old_leaves a.leaves in
         let front : AreLeaves left = leaves_left left (c.leaves ++ right) old in
         let back : AreLeaves right = leaves_right c.leaves right (leaves_right left (c.leaves ++ right) old) in
         let seam_right : IsSeam (text u) (concat right) = r.ends.behind (concat right) (seam_after br h ts k c a lt here) in
         let seam_left : IsSeam (concat left) (concat (u.leaves ++ right)) =
         subst (IsSeam (concat left)) (sym (concat-append u.leaves right)) (seam_begins (concat left) (text u) (concat right) some_text (r.ends.before (concat left) (seam_before br h ts k c a lt here))) in
-        subst AreLeaves (sym new_leaves) (leaves-append left (u.leaves ++ right) front (leaves-append u.leaves right r.leaves back seam_right) seam_left)
+        subst AreLeaves (sym new_leaves) (leaves-append left (u.leaves ++ right) front (leaves-append u.leaves right r.leaves back seam_right behind) seam_left dense)
 
     new_children : AreChildren br h (set ts k u)
     new_children =
@@ -139,7 +149,7 @@ module _ (br : LineBreaks) (h : ℕ) (ts : List Tree) (k : ℕ) (c : Tree) (a : 
         record {
           at_least_two = omega (arith, many, a.at_least_two);
           at_most_24 = omega (arith, many, a.at_most_24);
-          each = All-set (IsChild br h) ts k u (child_removed br h c u i j before own r) a.each;
+          each = All-set (IsChild br h) ts k u (child_removed least br h c u i j before own r) a.each;
           leaves = are_leaves;
           fits = omega (arith, ap byte_len new_text, byte_len-removed (joined ts) start end (omega (arith, held.first, held.last, before)), a.fits);
         }
@@ -151,18 +161,19 @@ module _ (br : LineBreaks) (h : ℕ) (ts : List Tree) (k : ℕ) (c : Tree) (a : 
       as_many = length-set ts k u;
       as_many_leaves = omega (arith, ap length new_leaves, ap length old_leaves, length-append left (u.leaves ++ right), length-append left (c.leaves ++ right), length-append u.leaves right, length-append c.leaves right, r.as_many);
       children = rw (sym br_is, sym h_is) new_children;
+      stand = new_stand;
     }
 
 -- the slices around a child, with the new one between them
 pub spliced_removed : (ts : List Tree) (k : ℕ) (c u : Tree) (vs : List Tree) → AreChildren (breaks_of ts) (height_of ts) ts → k < length ts → get_or ts k c ≡ c
-    → (i j start end : ℕ) → Holds ts k c i j start end → IsRemoved c u i j
+    → (i j start end : ℕ) → Holds ts k c i j start end → (least : ℕ) → IsRemoved least c u i j → IsEnough least (leaves_of (take k ts)) (leaves_of (drop (k + 1) ts))
     → vs ≡ take k ts ++ (u ∷ [] ++ take (length ts - (k + 1)) (drop (k + 1) ts)) → AreRemoved ts vs start end
-spliced_removed ts k c u vs a lt here i j start end held r is =
-    rw (around ts k (u ∷ []) vs is ∙ sym (set_parts ts k u lt)) (children_removed (breaks_of ts) (height_of ts) ts k c a lt here i j start end held u r refl refl)
+spliced_removed ts k c u vs a lt here i j start end held least r enough is =
+    rw (around ts k (u ∷ []) vs is ∙ sym (set_parts ts k u lt)) (children_removed (breaks_of ts) (height_of ts) ts k c a lt here i j start end held least u r enough refl refl)
 
 -- a node over the children that are left is the old one without the characters
-pub over_removed : (t x : Tree) (ts us : List Tree) (start end : ℕ) → t ≡ tree_over ts → x ≡ tree_over us → AreRemoved ts us start end → IsRemoved t x start end
-over_removed t x ts us start end is x_is r =
+pub over_removed : (least : ℕ) (t x : Tree) (ts us : List Tree) (start end : ℕ) → least ≤ 491 → t ≡ tree_over ts → x ≡ tree_over us → AreRemoved ts us start end → IsRemoved least t x start end
+over_removed least t x ts us start end few is x_is r =
     let some : 1 ≤ length us = omega (arith, r.children.at_least_two) in
     let sets : breaks_of us ≡ breaks_of ts = breaks_of_is (breaks_of ts) (height_of ts) us some r.children.each in
     let heights : height_of us ≡ height_of ts = height_of_is (breaks_of ts) (height_of ts) us some r.children.each in
@@ -174,18 +185,15 @@ over_removed t x ts us start end is x_is r =
       same_width = r.as_many;
       as_many = r.as_many_leaves;
       leaves = r.children.leaves;
+      stand = stand_fewer least 491 (leaves_of ts) (leaves_of us) few r.stand;
     })
 
-one_leaf_some : (leaf : List ℕ) → 1 ≤ length leaf → one_leaf leaf ≡ leaf ∷ []
-one_leaf_some [] some = absurd (omega arith)
-one_leaf_some (c ∷ cs) some = refl
-
 -- a leaf that keeps some of its characters
-pub leaf_removed : (br : LineBreaks) (l new : List ℕ) (t x : Tree) (start end : ℕ) → t ≡ leaf_tree br l → x ≡ leaf_tree br new → new ≡ removed l start end → start < end → end ≤ length l → 1 ≤ length (removed l start end) → KeepsEnds l (removed l start end) → AreLeaves x.leaves
-    → IsRemoved t x start end
-leaf_removed br l new t x start end t_is x_is is order within some ends leaves =
-    let old : one_leaf l ≡ l ∷ [] = one_leaf_some l (omega arith) in
-    let now : one_leaf new ≡ new ∷ [] = one_leaf_some new (omega (arith, ap length is, some)) in
+pub leaf_removed : (least : ℕ) (br : LineBreaks) (l new : List ℕ) (t x : Tree) (start end : ℕ) → t ≡ leaf_tree br l → x ≡ leaf_tree br new → new ≡ removed l start end → start < end → end ≤ length l → 1 ≤ length (removed l start end) → KeepsEnds l (removed l start end) → least ≤ byte_len (removed l start end) → AreLeaves x.leaves
+    → IsRemoved least t x start end
+leaf_removed least br l new t x start end t_is x_is is order within some ends enough leaves =
+    let old : one_leaf l ≡ l ∷ [] = one_leaf_is l (omega arith) in
+    let now : one_leaf new ≡ new ∷ [] = one_leaf_is new (omega (arith, ap length is, some)) in
     let own : AreLeaves (one_leaf new) = subst AreLeaves (ap (λ u. u.leaves) x_is) leaves in
     rw (t_is, x_is) (record {
       text_is = leaf_text new ∙ is ∙ ap (λ y. removed y start end) (sym (leaf_text l));
@@ -195,12 +203,13 @@ leaf_removed br l new t x start end t_is x_is is order within some ends leaves =
       same_width = refl;
       as_many = rw (old, now) refl;
       leaves = own;
+      stand = leaf_stands least l new (omega (arith, ap length is, some)) (omega (arith, ap byte_len is, enough)) (omega (arith, ap length old));
     })
 
 -- where it stands
-pub leaf_left : (br : LineBreaks) (l new : List ℕ) (start end : ℕ) → new ≡ removed l start end → start < end → end ≤ length (text (leaf_tree br l)) → 1 ≤ length (removed l start end) → KeepsEnds l (removed l start end)
-    → byte_len new ≤ 984 → all_scalars new ≡ true → IsRemoved (leaf_tree br l) (leaf_tree br new) start end
-leaf_left br l new start end is order within some ends fits scalars =
-    let now : one_leaf new ≡ new ∷ [] = one_leaf_some new (omega (arith, ap length is, some)) in
-    leaf_removed br l new (leaf_tree br l) (leaf_tree br new) start end refl refl is order (omega (arith, within, ap length (leaf_text l))) some ends
+pub leaf_left : (least : ℕ) (br : LineBreaks) (l new : List ℕ) (start end : ℕ) → new ≡ removed l start end → start < end → end ≤ length (text (leaf_tree br l)) → 1 ≤ length (removed l start end) → KeepsEnds l (removed l start end)
+    → least ≤ byte_len (removed l start end) → byte_len new ≤ 984 → all_scalars new ≡ true → IsRemoved least (leaf_tree br l) (leaf_tree br new) start end
+leaf_left least br l new start end is order within some ends enough fits scalars =
+    let now : one_leaf new ≡ new ∷ [] = one_leaf_is new (omega (arith, ap length is, some)) in
+    leaf_removed least br l new (leaf_tree br l) (leaf_tree br new) start end refl refl is order (omega (arith, within, ap length (leaf_text l))) some ends enough
     (rw now (lone_leaf new (record { some = omega (arith, ap length is, some); fits = fits; scalars = scalars })))

@@ -3,14 +3,16 @@ use Rattle.std.specs.Prelude.{◌≡◌, ℕ, ◌+◌, ◌*◌, ◌<◌, ◌≤�
 use Rattle.std.specs.List.{All, concat}
 use Rattle.rope_text.specs.declared.line_breaks.LineBreaks.{LineBreaks}
 use Rattle.rope_text.specs.Text.{byte_len}
+use Rattle.rope_text.specs.Dense.{last_bytes}
 use Rattle.rope_tree.specs.Leaves.{AreLeaves, IsSeam}
 use Rattle.rope_tree.specs.Tree.{Tree, joined, leaves_of, IsChild}
 use Rattle.rope_tree.specs.declared.builder.Builder.TheInside.{Inside}
 
--- the leaves so far, and the rest of the text
+-- the leaves so far, and the rest of the text, which any leaf may begin
 pub record AreFronts (text : List ℕ) (leaves : List (List ℕ)) (rest : List ℕ) : Type 0 where
   pub whole : concat leaves ++ rest ≡ text
   pub are_leaves : AreLeaves leaves
+  pub long : 1 ≤ length rest → 492 ≤ last_bytes 492 leaves
   pub apart : IsSeam (concat leaves) rest
 
 -- leaf nodes side by side, and the rest of the text

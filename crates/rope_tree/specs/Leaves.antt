@@ -1,9 +1,10 @@
 -- The texts of leaves that stand side by side.
-use Rattle.std.specs.Prelude.{◌≡◌, ℕ, ◌≤◌, true, false, List, length}
+use Rattle.std.specs.Prelude.{◌≡◌, ℕ, ◌+◌, ◌≤◌, true, false, min, List, ◌++◌, length}
 use Rattle.std.specs.List.{All, concat}
 use Rattle.std.specs.Str.{all_scalars}
 use Rattle.rope_text.specs.Text.{byte_len}
 use Rattle.rope_text.specs.Cutting.{parts_crlf, KeepsCrlf}
+use Rattle.rope_text.specs.Dense.{IsDenseBehind, AreDense, last_bytes}
 
 -- no CR at the end of the one stands before an LF at the beginning of the other
 pub record IsSeam (before after : List ℕ) : Type 0 where
@@ -15,12 +16,26 @@ pub record IsLeafText (leaf : List ℕ) : Type 0 where
   pub fits : byte_len leaf ≤ 984
   pub scalars : all_scalars leaf ≡ true
 
--- each is the text of a leaf, and none ends in CR where what follows it begins with LF
+-- each is the text of a leaf, none ends in CR where what follows it begins with LF, and any two side by side have 492 bytes or more together
 pub record AreLeaves (leaves : List (List ℕ)) : Type 0 where
   pub each : All IsLeafText leaves
   pub whole : KeepsCrlf leaves
+  pub dense : AreDense leaves
 
--- other leaves of the same text
-pub record Recuts (old new : List (List ℕ)) : Type 0 where
-  pub same_text : concat new ≡ concat old
+-- the leaves of two lists as others of the same text, which may stand behind what the first of them may stand behind, and whose last is as long
+pub record Recuts (left right new : List (List ℕ)) : Type 0 where
+  pub same_text : concat new ≡ concat (left ++ right)
   pub leaves : AreLeaves new
+  pub behind : 1 ≤ length left → (n : ℕ) → IsDenseBehind n left → IsDenseBehind n new
+  pub last : 1 ≤ length right → (m n : ℕ) → last_bytes m right ≤ last_bytes n new
+
+-- other leaves in the place of old ones: they may stand behind so many bytes as are 492 with `least`, and the last of them is as long as the old one or as `least`
+pub record StandFor (least : ℕ) (old new : List (List ℕ)) : Type 0 where
+  pub behind : (n : ℕ) → 492 ≤ n + least → IsDenseBehind n old → IsDenseBehind n new
+  pub last : (n : ℕ) → min least (last_bytes n old) ≤ last_bytes n new
+
+-- so many bytes are enough for a leaf between these: behind them, before them, and where a side has none, beside any leaf that is not empty
+pub record IsEnough (least : ℕ) (before after : List (List ℕ)) : Type 0 where
+  pub behind : (n : ℕ) → 1 ≤ n → 492 ≤ last_bytes n before + least
+  pub ahead : IsDenseBehind least after
+  pub at_end : length after ≡ 0 → 491 ≤ least

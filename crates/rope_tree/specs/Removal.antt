@@ -1,7 +1,7 @@
 -- What a removal of characters from one leaf of a tree gives.
 use Rattle.std.specs.Prelude.{◌≡◌, ℕ, List, length}
 use Rattle.rope_text.specs.Edit.{removed}
-use Rattle.rope_tree.specs.Leaves.{AreLeaves, IsSeam}
+use Rattle.rope_tree.specs.Leaves.{AreLeaves, IsSeam, StandFor}
 use Rattle.rope_tree.specs.Tree.{Tree, text, joined, leaves_of, height_of, breaks_of, AreChildren}
 
 -- what may stand before the old text may stand before the new one, and what behind it behind it, with no CR before an LF
@@ -9,8 +9,8 @@ pub record KeepsEnds (old new : List ℕ) : Type 0 where
   pub before : (p : List ℕ) → IsSeam p old → IsSeam p new
   pub behind : (n : List ℕ) → IsSeam old n → IsSeam new n
 
--- the tree of the text without the characters from a up to b: as many leaves as before, none of them empty
-pub record IsRemoved (old new : Tree) (a b : ℕ) : Type 0 where
+-- the tree of the text without the characters from a up to b: as many leaves as before, none of them empty; a tree that is one leaf keeps at least so many bytes
+pub record IsRemoved (least : ℕ) (old new : Tree) (a b : ℕ) : Type 0 where
   pub text_is : text new ≡ removed (text old) a b
   pub ends : KeepsEnds (text old) (text new)
   pub same_breaks : new.breaks ≡ old.breaks
@@ -18,6 +18,7 @@ pub record IsRemoved (old new : Tree) (a b : ℕ) : Type 0 where
   pub same_width : new.width ≡ old.width
   pub as_many : length new.leaves ≡ length old.leaves
   pub leaves : AreLeaves new.leaves
+  pub stand : StandFor least old.leaves new.leaves
 
 -- as many children of the text without the characters from a up to b, over as many leaves as before
 pub record AreRemoved (old new : List Tree) (a b : ℕ) : Type 0 where
@@ -26,3 +27,4 @@ pub record AreRemoved (old new : List Tree) (a b : ℕ) : Type 0 where
   pub as_many : length new ≡ length old
   pub as_many_leaves : length (leaves_of new) ≡ length (leaves_of old)
   pub children : AreChildren (breaks_of old) (height_of old) new
+  pub stand : StandFor 491 (leaves_of old) (leaves_of new)

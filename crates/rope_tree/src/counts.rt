@@ -135,12 +135,13 @@ fn bares_an_end(front: &str, back: &str) -> bool
 }
 
 /// Takes the characters from `start` up to `end` out of a leaf, and gives the counts of what stays, by those of what was. None,
-/// and the leaf as it was, where nothing would stay, or where what stays could not stand between the same neighbours with no
-/// CR before an LF.
+/// and the leaf as it was, where nothing would stay, or fewer bytes than `least`, or where what stays could not stand between
+/// the same neighbours with no CR before an LF.
 pub fn take_out(
     leaf: &mut NodeText,
     start: usize,
     end: usize,
+    least: usize,
     info: TextInfo,
     breaks: LineBreaks,
 ) -> Option<TextInfo>
@@ -150,6 +151,7 @@ pub fn take_out(
     ensures text { IfSome result (λ _. leaf.new ≡ removed leaf.old start end) }
     ensures info { IfSome result (λ left. left ≡ info_of breaks (removed leaf.old start end)) }
     ensures some { IfSome result (λ _. 1 ≤ length (removed leaf.old start end)) }
+    ensures least { IfSome result (λ _. least ≤ byte_len (removed leaf.old start end)) }
     ensures ends { IfSome result (λ _. KeepsEnds leaf.old (removed leaf.old start end)) }
     ensures kept { IfNone result (leaf.new ≡ leaf.old) }
 {
@@ -158,7 +160,7 @@ pub fn take_out(
     let front = &text[..range.from];
     let part = &text[range.from..range.to];
     let back = &text[range.to..];
-    if bares_an_end(front, back) {
+    if front.len() + back.len() < least || bares_an_end(front, back) {
         return None;
     }
     let info = info_without(info, front, part, back, breaks);

@@ -138,15 +138,16 @@ impl Leaf {
         Ok(Some(behind))
     }
 
-    /// Takes the characters from `start` up to `end` out, if the leaf may do without them; returns whether it did. It takes no
-    /// memory.
-    pub(crate) fn remove_in_place(&mut self, start: usize, end: usize) -> bool
+    /// Takes the characters from `start` up to `end` out, if the leaf may do without them and keeps so many bytes; returns
+    /// whether it did. It takes no memory.
+    pub(crate) fn remove_in_place(&mut self, start: usize, end: usize, least: usize) -> bool
         requires ordered { start < end }
         requires within { end ≤ length (text self.old) }
-        ensures done { result ≡ true → IsRemoved self.old self.new start end }
+        ensures done { result ≡ true → IsRemoved least self.old self.new start end }
         ensures kept { result ≡ false → self.new ≡ self.old }
     {
-        let Some(left) = take_out(&mut self.text, start, end, self.info.info(), self.breaks) else {
+        let info = self.info.info();
+        let Some(left) = take_out(&mut self.text, start, end, least, info, self.breaks) else {
             return false;
         };
         let _ = self.text.as_str();

@@ -1,6 +1,7 @@
 //! The tree of a rope: leaf texts under nodes with running totals.
 #![tactic(auto)]
 
+mod beside;
 pub mod build;
 pub mod builder;
 pub mod chunk_lookup;

@@ -33,8 +33,8 @@ fn split_place(text: &str) -> usize
     requires short { length text.now ≤ 1965 }
     ensures boundary { IsCharBoundary text.now result }
     ensures cut { is_cut text.now result ≡ true }
-    ensures left { (0 < result) × (result ≤ 984) }
-    ensures right { (result < length text.now) × (length text.now ≤ result + 984) }
+    ensures left { (491 ≤ result) × (result ≤ 984) }
+    ensures right { (result + 491 ≤ length text.now) × (length text.now ≤ result + 984) }
 {
     next_break(text.len() / 2 - 2, text.as_bytes())
 }
@@ -233,13 +233,14 @@ impl NodeText {
     }
 
     /// Puts `text` before the character `at`, or at the end, where one leaf cannot hold both: leaves the first part, and
-    /// returns the second. No part is empty, and the cut parts no CR from an LF.
+    /// returns the second. Each part has half a leaf, but for a byte, and the cut parts no CR from an LF.
     pub fn insert_str_split(&mut self, at: usize, text: &str) -> NodeText
         requires long { 985 ≤ byte_len self.old + length text.now }
         requires short { byte_len self.old + length text.now ≤ 1965 }
         ensures joined { self.new ++ result ≡ inserted self.old at (chars text.now) }
         ensures front { 0 < length self.new }
         ensures back { 0 < length result }
+        ensures halves { (491 ≤ byte_len self.new) × (491 ≤ byte_len result) }
         ensures apart { parts_crlf self.new result ≡ false }
     {
         let old = self.as_str();
@@ -259,6 +260,7 @@ impl NodeText {
         ensures one { IfNone result ((byte_len self.old + length text.now ≤ 984) × (self.new ≡ inserted self.old at (chars text.now))) }
         ensures two { IfSome result (λ back. (985 ≤ byte_len self.old + length text.now) × (self.new ++ back ≡ inserted self.old at (chars text.now))) }
         ensures parts { IfSome result (λ back. (0 < length self.new) × (0 < length back) × (parts_crlf self.new back ≡ false)) }
+        ensures halves { IfSome result (λ back. (491 ≤ byte_len self.new) × (491 ≤ byte_len back)) }
     {
         if self.len() + text.len() <= MAX_BYTES {
             self.insert_str(at, text);

@@ -4,14 +4,15 @@ ghost use Rattle.rope_tree.specs.Tree.{text, joined, breaks_of, height_of, AreCh
 ghost use Rattle.rope_tree.specs.Removal.{IsRemoved, AreRemoved};
 
 use super::{Children, Form, Node};
+use crate::beside::least_beside;
 use crate::lookup::total_before;
 use crate::search::{Unit, place_of};
 use rope_text::Steps;
 use std::rc::Rc;
 
 impl Children {
-    /// Takes the characters from `start` up to `end` out, where they lie in one leaf that may do without them and no node on
-    /// the way is shared; returns whether it did.
+    /// Takes the characters from `start` up to `end` out, where they lie in one leaf that may do without them and keeps enough
+    /// beside its neighbours, and no node on the way is shared; returns whether it did.
     #[cycle(in_place_removal)]
     fn remove_in_place(&mut self, start: usize, end: usize) -> bool
         requires children { AreChildren (breaks_of self.old) (height_of self.old) self.old }
@@ -25,9 +26,10 @@ impl Children {
             return false;
         }
         let before = total_before(&self.totals, place).chars;
+        let least = least_beside(usize::from(self.height), &self.totals, place);
         let node = &mut self.nodes[place];
         let old = node.info();
-        if !node.remove_in_place(start - before, end - before) {
+        if !node.remove_in_place(start - before, end - before, least) {
             return false;
         }
         let new = node.info();
@@ -38,18 +40,19 @@ impl Children {
 
 impl Node {
     /// Takes the characters from `start` up to `end` out, where they lie in one leaf that may do without them and no node on
-    /// the way is shared; returns whether it did. It takes no memory.
+    /// the way is shared; returns whether it did. A node that is that leaf keeps so many bytes. It takes no memory.
     #[cycle(in_place_removal)]
-    pub fn remove_in_place(&mut self, start: usize, end: usize) -> bool
+    pub fn remove_in_place(&mut self, start: usize, end: usize, least: usize) -> bool
         requires ordered { start < end }
         requires within { end ≤ length (text self.old) }
-        ensures done { result ≡ true → IsRemoved self.old self.new start end }
+        requires least { least ≤ 491 }
+        ensures done { result ≡ true → IsRemoved least self.old self.new start end }
         ensures kept { result ≡ false → self.new ≡ self.old }
     {
         match &mut self.form {
             Form::Empty(_) => false,
             Form::Leaf(leaf) => match Rc::get_mut(leaf) {
-                Some(leaf) => leaf.remove_in_place(start, end),
+                Some(leaf) => leaf.remove_in_place(start, end, least),
                 None => false,
             },
             Form::Inner(children) => match Rc::get_mut(children) {

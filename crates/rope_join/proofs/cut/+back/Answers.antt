@@ -4,8 +4,10 @@ use Rattle.rope_tree.specs.declared.search.Unit.TheVariants.{Char}
 use Rattle.rope_tree.specs.Tree.{text, joined, height_of, breaks_of}
 use Rattle.rope_tree.proofs.NodeLaws.{small_totals}
 use Rattle.rope_tree.proofs.Descents.{Descends, descends}
+use Rattle.std.proofs.lemmas.Result.{IfOk-weaker}
+use Rattle.rope_join.specs.Cut.{IsBack}
 use Rattle.rope_join.specs.Join.{gathered}
-use Rattle.rope_join.proofs.Cuts.{CutsAt, cuts_at, back_alone, after_siblings, some_back, back_can_join, back_joined, after_height, back_trees}
+use Rattle.rope_join.proofs.Cuts.{CutsAt, cuts_at, back_alone, after_siblings, some_back, back_can_join, back_near, back_joined, whole_back, after_height, back_trees}
 use Rattle.rope_join.proofs.Gathered.{IsGathered, is_gathered}
 use Rattle.rope_join.proofs.cut.+back.Goals.{After-index-children-place}
 use Rattle.rope_join.proofs.cut.+back.Goals as goal
@@ -133,3 +135,15 @@ returns-in_ok-join_before-in-Inner-clause-made t c =
     let e = (goal.at.returns-in_ok-join_before-in-Inner-clause-made t c).After-index-children-place in
     let part = c.in_ok-part-in-Inner.ensures.back.not_higher in
     omega (arith, (parts t e).above, height t e c.if-place-children.false, c.in_ok-part-in-Inner.ensures.made_ok, rw (back_trees c.in-Inner.children.now (c.place_of-place.result + 1)) at c.in_ok-join_before-in-Inner.ensures.made)
+
+pub returns-then-at-eq0-clause-back : goal.returns-then-at-eq0-clause-back
+returns-then-at-eq0-clause-back t c =
+    let n = c.args.node.now in
+    IfOk-weaker c.share.result (λ part. part ≡ n) (IsBack c.args.at n) (λ part same. whole_back n part c.args.at c.height.ensures.tree c.if-at-eq0.true (omega (arith, c.requires)) same) c.share.ensures
+
+pub join_before-requires-clause-near : goal.join_before-requires-clause-near
+join_before-requires-clause-near t c =
+    let e = (goal.at.join_before-requires-clause-near t c).After-index-children-place in
+    let less = inside t e in
+    rw (back_trees c.in-Inner.children.now (c.place_of-place.result + 1))
+    (back_near _ _ _ _ (parts t e) c.args.at _ _ (place t e) (omega (arith, less)) _ (some t e c.if-place-children.false) (after t e c.if-place-children.false) c.in_ok-part-in-Inner.ensures.back)

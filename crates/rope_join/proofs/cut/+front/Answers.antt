@@ -5,7 +5,7 @@ use Rattle.rope_tree.specs.Tree.{text, joined, height_of, breaks_of}
 use Rattle.rope_tree.proofs.NodeLaws.{small_totals}
 use Rattle.rope_tree.proofs.Descents.{Descends, descends}
 use Rattle.rope_join.specs.Join.{gathered}
-use Rattle.rope_join.proofs.Cuts.{CutsAt, cuts_at, front_alone, before_siblings, some_front, front_can_join, front_joined, before_height}
+use Rattle.rope_join.proofs.Cuts.{CutsAt, cuts_at, front_alone, before_siblings, some_front, front_can_join, front_near, front_joined, before_height}
 use Rattle.rope_join.proofs.Gathered.{IsGathered, is_gathered}
 use Rattle.rope_join.proofs.cut.+front.Goals.{After-index-children-place}
 use Rattle.rope_join.proofs.cut.+front.Goals as goal
@@ -114,3 +114,8 @@ returns-in_ok-join_behind-in-Inner-clause-made t c =
     let e = (goal.at.returns-in_ok-join_behind-in-Inner-clause-made t c).After-index-children-place in
     let part = c.in_ok-part-in-Inner.ensures.front.not_higher in
     omega (arith, (parts t e).above, height t e c.if-place-eq0.false, c.in_ok-part-in-Inner.ensures.made_ok, c.in_ok-join_behind-in-Inner.ensures.made)
+
+pub join_behind-requires-clause-near : goal.join_behind-requires-clause-near
+join_behind-requires-clause-near t c =
+    let e = (goal.at.join_behind-requires-clause-near t c).After-index-children-place in
+    front_near _ _ _ _ (parts t e) c.args.at _ _ (place t e) (inside t e) _ (some t e c.if-place-eq0.false) (before t e c.if-place-eq0.false) c.in_ok-part-in-Inner.ensures.front

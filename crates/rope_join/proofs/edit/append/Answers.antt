@@ -30,7 +30,7 @@ join-requires c =
     let w : take c.info-end.result.chars (text c.args.left.now) ≡ text c.args.left.now = take_all _ _ (omega arith) in
     let meet = c.pair_meets.ensures in
     let no : parts_crlf (take c.info-end.result.chars (text c.args.left.now)) (text c.args.right.now) ≡ false = sym meet ∙ c.if-pair_meets.false in
-    can_join _ _ ia.leaves ib.leaves c.requires.same_breaks (record { apart = rw w at no }) c.requires.fits
+    can_join _ _ c.requires.same_breaks (record { apart = rw w at no }) c.requires.fits
 
 pub returns-clause-text : goal.returns-clause-text
 returns-clause-text c = join_text _ _ _ c.in_ok-join.ensures.join

@@ -4,13 +4,11 @@ use Rattle.rope_join.proofs.join.join.Goals as goal
 
 pub returns-then-info-eq0-clause-join : goal.returns-then-info-eq0-clause-join
 returns-then-info-eq0-clause-join c =
-    let i = c.height-2.ensures.tree in
-    join_empty_right c.args.left.now c.args.right.now _ i (omega (arith, ap (λ x. x.bytes) c.info.ensures)) c.requires c.in_ok-share.ensures
+    join_empty_right c.args.left.now c.args.right.now _ c.height.ensures.tree c.height-2.ensures.tree (omega (arith, ap (λ x. x.bytes) c.info.ensures)) c.requires c.in_ok-share.ensures
 
 pub returns-then-info-eq0-2-clause-join : goal.returns-then-info-eq0-2-clause-join
 returns-then-info-eq0-2-clause-join c =
-    let i = c.height.ensures.tree in
-    join_empty_left c.args.left.now c.args.right.now _ i (omega (arith, ap (λ x. x.bytes) c.info-2.ensures)) c.requires c.in_ok-share-2.ensures
+    join_empty_left c.args.left.now c.args.right.now _ c.height.ensures.tree c.height-2.ensures.tree (omega (arith, ap (λ x. x.bytes) c.info-2.ensures)) c.requires c.in_ok-share-2.ensures
 
 pub make_over-requires : goal.make_over-requires
 make_over-requires c =

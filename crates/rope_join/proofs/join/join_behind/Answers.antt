@@ -2,10 +2,10 @@ use Rattle.std.proofs.Common.{◌≡◌, ap, ◌≤◌, length, arith}
 use Rattle.std.proofs.lemmas.List.{append-nil}
 use Rattle.rope_tree.specs.Tree.{Tree, height_of}
 use Rattle.rope_tree.specs.View.{trees_in}
-use Rattle.rope_join.specs.Join.{IsUnion, gathered}
+use Rattle.rope_join.specs.Join.{IsNear, IsUnion, gathered}
 use Rattle.rope_join.proofs.Whole.{join_one, join_two, root_children}
 use Rattle.rope_join.proofs.Gathered.{gathered_over}
-use Rattle.rope_join.proofs.Rows.{behind_level, behind_can_join, behind_siblings, behind_union}
+use Rattle.rope_join.proofs.Rows.{behind_level, behind_near, behind_can_join, behind_siblings, behind_union}
 use Rattle.rope_join.proofs.join.join_behind.Goals.{After-index-nodes-last, In_ok-node}
 use Rattle.rope_join.proofs.join.join_behind.Goals as goal
 
@@ -47,16 +47,44 @@ returns-in_ok-make_over-in-Two-clause-join c =
 level : (c : After-index-nodes-last) → c.index-nodes-last.result.height ≡ height_of c.args.nodes.now
 level c = behind_level c.args.nodes.now c.args.right.now c.index-nodes-last.result c.requires.siblings (many c) c.requires.at_most_24 c.requires.no_higher c.index-nodes-last.is c.requires.join
 
+near : (c : After-index-nodes-last) → IsNear c.index-nodes-last.result c.args.right.now
+near c = behind_near c.args.nodes.now c.args.right.now c.index-nodes-last.result c.requires.siblings (many c) c.requires.at_most_24 c.requires.no_higher c.index-nodes-last.is c.requires.join c.requires.near
+
 pub returns-in-One-clause-made_ok : goal.returns-in-One-clause-made_ok
 returns-in-One-clause-made_ok c =
     let e = (goal.at.returns-in-One-clause-made_ok c).After-index-nodes-last in
     let u = rw c.in-One.is at (union (goal.at.returns-in-One-clause-made_ok c).In_ok-node) in
     let j = join_one (gathered c.args.nodes.now) c.args.right.now c.in-One.node u in
-    omega (arith, level e, j.least, ap (λ (t : Tree). t.height) (gathered_over c.args.nodes.now (many e)), c.in_ok-middle.ensures.made, c.in_ok-node.ensures.made)
+    omega (arith, level e, j.least, ap (λ (t : Tree). t.height) (gathered_over c.args.nodes.now (many e)), c.in_ok-middle.ensures.made_near (near e), c.in_ok-node.ensures.made)
 
 pub returns-in_ok-make_over-in-Two-clause-made_ok : goal.returns-in_ok-make_over-in-Two-clause-made_ok
 returns-in_ok-make_over-in-Two-clause-made_ok c =
     let e = (goal.at.returns-in_ok-make_over-in-Two-clause-made_ok c).After-index-nodes-last in
     let u = rw c.in-Two.is at (union (goal.at.returns-in_ok-make_over-in-Two-clause-made_ok c).In_ok-node) in
     let j = join_two (gathered c.args.nodes.now) c.args.right.now c.in-Two.first c.in-Two.second u c.requires.join _ c.in_ok-make_over-in-Two.ensures.ok in
-    omega (arith, level e, j.least, ap (λ (t : Tree). t.height) (gathered_over c.args.nodes.now (many e)), c.in_ok-middle.ensures.made, c.in_ok-node.ensures.made, c.in_ok-make_over-in-Two.ensures.made)
+    omega (arith, level e, j.least, ap (λ (t : Tree). t.height) (gathered_over c.args.nodes.now (many e)), c.in_ok-middle.ensures.made_near (near e), c.in_ok-node.ensures.made, c.in_ok-make_over-in-Two.ensures.made)
+
+pub returns-in_err-middle-clause-made : goal.returns-in_err-middle-clause-made
+returns-in_err-middle-clause-made c =
+    let e = (goal.at.returns-in_err-middle-clause-made c).After-index-nodes-last in
+    omega (arith, level e, c.unite.ensures.made_near (near e))
+
+pub returns-in_err-node-clause-made : goal.returns-in_err-node-clause-made
+returns-in_err-node-clause-made c =
+    let e = (goal.at.returns-in_err-node-clause-made c).After-index-nodes-last in
+    omega (arith, level e, c.in_ok-middle.ensures.made_near (near e), c.pack.ensures.made)
+
+pub returns-in_err-make_over-in-Two-clause-made : goal.returns-in_err-make_over-in-Two-clause-made
+returns-in_err-make_over-in-Two-clause-made c =
+    let e = (goal.at.returns-in_err-make_over-in-Two-clause-made c).After-index-nodes-last in
+    omega (arith, level e, c.in_ok-middle.ensures.made_near (near e), c.in_ok-node.ensures.made, c.make_over.ensures.made)
+
+pub returns-in-One-clause-made : goal.returns-in-One-clause-made
+returns-in-One-clause-made c =
+    let e = (goal.at.returns-in-One-clause-made c).After-index-nodes-last in
+    omega (arith, level e, c.in_ok-middle.ensures.made_near (near e), c.in_ok-node.ensures.made)
+
+pub returns-in_ok-make_over-in-Two-clause-made : goal.returns-in_ok-make_over-in-Two-clause-made
+returns-in_ok-make_over-in-Two-clause-made c =
+    let e = (goal.at.returns-in_ok-make_over-in-Two-clause-made c).After-index-nodes-last in
+    omega (arith, level e, c.in_ok-middle.ensures.made_near (near e), c.in_ok-node.ensures.made, c.in_ok-make_over-in-Two.ensures.made)

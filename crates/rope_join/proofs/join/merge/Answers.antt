@@ -1,14 +1,15 @@
-use Rattle.std.proofs.Common.{arith}
+use Rattle.std.proofs.Common.{ap, ◌∙◌, arith}
 use Rattle.rope_tree.specs.Search.{IsSmall}
 use Rattle.rope_tree.proofs.Infos.{small_info}
-use Rattle.rope_join.proofs.Unions.{inner_siblings, inner_union}
-use Rattle.rope_join.proofs.join.merge.Goals.{After-info-then-len-lt-MIN_BYTES-2}
+use Rattle.rope_tree.specs.Tree.{leaf_tree}
+use Rattle.rope_join.proofs.Unions.{merged_leaves, kept, leaves_near, inner_siblings, inner_union}
+use Rattle.rope_join.proofs.join.merge.Goals.{After-info-then-become_one}
 use Rattle.rope_join.proofs.join.merge.Goals as goal
 
-both : (c : After-info-then-len-lt-MIN_BYTES-2) → IsSmall c.info.result × IsSmall c.info-then-len-lt-MIN_BYTES-2.result
+both : (c : After-info-then-become_one) → IsSmall c.info.result × IsSmall c.info-then-become_one.result
 both c = (
   rw c.info.ensures (small_info _ _ (c.height.ensures.tree).fits),
-  rw c.info-then-len-lt-MIN_BYTES-2.ensures (small_info _ _ (c.height-2.ensures.tree).fits),
+  rw c.info-then-become_one.ensures (small_info _ _ (c.height-2.ensures.tree).fits),
 )
 
 pub plus-info-requires-clause-chars : goal.plus-info-requires-clause-chars
@@ -24,10 +25,33 @@ pub pack_over-requires-clause-siblings : goal.pack_over-requires-clause-siblings
 pack_over-requires-clause-siblings c =
     let ea = c.in-Inner.ensures.is in
     let eb = c.in-Inner-view.ensures.is in
-    inner_siblings _ _ _ _ ea eb c.in-Inner.ensures.children c.in-Inner-view.ensures.children c.requires.join c.requires.height
+    inner_siblings _ _ _ _ ea eb c.in-Inner.ensures.children c.in-Inner-view.ensures.children c.requires.join c.requires.height (c.requires.near (omega (arith, ap (λ u. u.height) ea)))
 
 pub returns-in_ok-pack_over-in-Inner-clause-union : goal.returns-in_ok-pack_over-in-Inner-clause-union
 returns-in_ok-pack_over-in-Inner-clause-union c =
     let ea = c.in-Inner.ensures.is in
     let eb = c.in-Inner-view.ensures.is in
-    inner_union _ _ _ _ ea eb c.in-Inner.ensures.children c.in-Inner-view.ensures.children c.requires.join c.requires.height _ c.in_ok-pack_over-in-Inner.ensures.leaves c.in_ok-pack_over-in-Inner.ensures.shape
+    inner_union _ _ _ _ ea eb c.in-Inner.ensures.children c.in-Inner-view.ensures.children c.requires.join c.requires.height (c.requires.near (omega (arith, ap (λ u. u.height) ea))) _ c.in_ok-pack_over-in-Inner.ensures.leaves c.in_ok-pack_over-in-Inner.ensures.shape
+
+pub returns-then-become_one-clause-union : goal.returns-then-become_one-clause-union
+returns-then-become_one-clause-union c =
+    let right = c.in-Leaf-view.ensures.is ∙ ap (λ b. leaf_tree b c.in-Leaf-view.second) c.requires.join.same_breaks in
+    let one = c.in_ok-node-in-Leaf.ensures.ok ∙ ap (λ b. leaf_tree b c.joined_text-text.result) c.line_breaks.ensures in
+    merged_leaves c.args.left.now.breaks _ _ _ _ _ _ c.in-Leaf.ensures.is right c.joined_text-text.ensures.value one c.in_ok-node-in-Leaf.ensures.tree c.requires.left_some c.requires.right_some
+
+pub returns-then-first-second-gt-MAX_CHILDREN-clause-union : goal.returns-then-first-second-gt-MAX_CHILDREN-clause-union
+returns-then-first-second-gt-MAX_CHILDREN-clause-union c =
+    let first = ap (λ u. u.width) c.in-Inner.ensures.is in
+    let second = ap (λ u. u.width) c.in-Inner-view.ensures.is in
+    let near = c.requires.near (omega (arith, ap (λ u. u.height) c.in-Inner.ensures.is)) in
+    rw c.in_ok-keep-in-Inner.ensures (kept _ _ c.height.ensures.tree c.height-2.ensures.tree c.requires.left_some c.requires.right_some c.requires.join c.requires.height
+    (λ _. omega (arith, first, c.if-first-ge-MIN_CHILDREN.true)) (λ _. omega (arith, second, c.if-second-ge-MIN_CHILDREN.true)) (λ _. omega (arith, first, second, c.if-first-second-gt-MAX_CHILDREN.true)) near)
+
+pub returns-in_ok-keep-in-Leaf-clause-union : goal.returns-in_ok-keep-in-Leaf-clause-union
+returns-in_ok-keep-in-Leaf-clause-union c =
+    let right = c.in-Leaf-view.ensures.is ∙ ap (λ b. leaf_tree b c.in-Leaf-view.second) c.requires.join.same_breaks in
+    let low = ap (λ u. u.height) c.in-Leaf.ensures.is in
+    let enough = c.become_one.ensures.near c.if-become_one.false in
+    let near = leaves_near c.args.left.now.breaks _ _ _ _ c.in-Leaf.ensures.is right c.requires.left_some c.requires.right_some (omega (arith, enough, c.len.ensures.value, c.len-in-Leaf.ensures.value)) in
+    rw c.in_ok-keep-in-Leaf.ensures (kept _ _ c.height.ensures.tree c.height-2.ensures.tree c.requires.left_some c.requires.right_some c.requires.join c.requires.height
+    (λ high. absurd (omega (arith, high, low))) (λ high. absurd (omega (arith, high, low))) (λ high. absurd (omega (arith, high, low))) near)

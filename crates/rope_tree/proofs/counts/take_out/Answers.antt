@@ -9,6 +9,7 @@ use Rattle.rope_text.specs.Edit.{removed}
 use Rattle.rope_tree.specs.Removal.{KeepsEnds}
 use Rattle.rope_text.proofs.Measures.{size_le, IsMeasure-byte_len}
 use Rattle.rope_text.proofs.TextParts.{chars_front, chars_back}
+use Rattle.rope_text.proofs.Walks.{byte_len-chars}
 use Rattle.rope_tree.proofs.counts.take_out.Goals.{After-as_str-text, After-range_from-back}
 use Rattle.rope_tree.proofs.counts.take_out.Goals as goal
 
@@ -104,3 +105,10 @@ returns-clause-ends c =
     let ends = c.bares_an_end.ensures.ends c.if-bares_an_end.false (chars c.range-part.result.now) in
     subst (λ x. KeepsEnds x (removed c.args.leaf.now c.args.start c.args.end)) p.whole
     (subst (KeepsEnds (chars c.range-front.result.now ++ (chars c.range-part.result.now ++ chars c.range_from-back.result.now))) (ap₂ (λ x y. x ++ y) p.front_is p.back_is) ends)
+
+pub returns-clause-least : goal.returns-clause-least
+returns-clause-least c =
+    let p = parts (goal.at.returns-clause-least c).After-range_from-back in
+    let front = byte_len-chars c.range-front.result.now c.range-front.utf8 in
+    let back = byte_len-chars c.range_from-back.result.now c.range_from-back.utf8 in
+    omega (arith, front, back, ap byte_len p.front_is, ap byte_len p.back_is, IsMeasure-byte_len.joined (take c.args.start c.args.leaf.now) (drop c.args.end c.args.leaf.now))

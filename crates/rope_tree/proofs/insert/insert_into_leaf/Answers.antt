@@ -5,7 +5,7 @@ use Rattle.rope_text.specs.TextInfo.{info_of, info_sum}
 use Rattle.rope_text.proofs.InfoLaws.{info_of-append_apart}
 use Rattle.rope_tree.specs.Tree.{leaf_tree}
 use Rattle.rope_tree.specs.Insert.{IsInserted}
-use Rattle.rope_tree.proofs.InsertTrees.{length-inserted}
+use Rattle.rope_tree.proofs.InsertTrees.{length-inserted, byte_len-inserted}
 use Rattle.rope_tree.proofs.InsertLeaves.{one_inserted, two_inserted}
 use Rattle.rope_tree.proofs.insert.insert_into_leaf.Goals.{After-insert_or_split, After-from_str-front_info}
 use Rattle.rope_tree.proofs.insert.insert_into_leaf.Goals as goal
@@ -34,7 +34,8 @@ returns-in_ok-make_leaf-in-None-clause-ok c =
     subst (λ t. IsInserted t (c.in_ok-make_leaf-in-None.field-0 ∷ []) new) (sym c.requires.leaf)
     (one_inserted c.args.node.now.breaks c.args.leaf.now _ new c.in_ok-make_leaf-in-None.field-0
     (c.in_ok-make_leaf-in-None.ensures.ok ∙ ap (λ b. leaf_tree b c.insert_or_split.new.self) c.line_breaks-breaks.ensures) c.in_ok-make_leaf-in-None.ensures.tree
-    (c.in-None.ensures.one.1 ∙ same (goal.at.returns-in_ok-make_leaf-in-None-clause-ok c).After-insert_or_split) (omega (arith, length-inserted c.args.leaf.now c.args.at s, c.requires.some)))
+    (c.in-None.ensures.one.1 ∙ same (goal.at.returns-in_ok-make_leaf-in-None-clause-ok c).After-insert_or_split) (omega (arith, length-inserted c.args.leaf.now c.args.at s, c.requires.some))
+    (omega (arith, byte_len-inserted c.args.leaf.now c.args.at s)))
 
 pub returns-in_ok-second-in-Some-clause-ok : goal.returns-in_ok-second-in-Some-clause-ok
 returns-in_ok-second-in-Some-clause-ok c =
@@ -45,4 +46,4 @@ returns-in_ok-second-in-Some-clause-ok c =
     subst (λ t. IsInserted t (first.first ∷ second.second ∷ []) new) (sym c.requires.leaf)
     (two_inserted c.args.node.now.breaks c.args.leaf.now _ _ new first.first second.second
     (first.ensures.ok ∙ ap (λ b. leaf_tree b c.insert_or_split.new.self) c.line_breaks-breaks.ensures) (second.ensures.ok ∙ ap (λ b. leaf_tree b c.in-Some.back) c.line_breaks-breaks.ensures)
-    first.ensures.tree second.ensures.tree (c.in-Some.ensures.two.1 ∙ same (goal.at.returns-in_ok-second-in-Some-clause-ok c).After-insert_or_split) c.in-Some.ensures.parts)
+    first.ensures.tree second.ensures.tree (c.in-Some.ensures.two.1 ∙ same (goal.at.returns-in_ok-second-in-Some-clause-ok c).After-insert_or_split) c.in-Some.ensures.parts c.in-Some.ensures.halves)

@@ -31,7 +31,7 @@ last c =
     let node = c.in_ok-rest.rest in
     let pushed = c.in_ok-push.ensures.items in
     rw pushed (nodes_front a.breaks (joined a.leaves.items ++ a.rest) a.leaves.items a.rest a.rest [] node
-    c.self.invariant.nodes (append-nil a.rest) (left c) (seam-nil a.rest) c.in_ok-rest.ensures.ok c.in_ok-rest.ensures.tree)
+    c.self.invariant.nodes (append-nil a.rest) (left c) (seam-nil a.rest) (λ more. absurd (omega arith)) c.in_ok-rest.ensures.ok c.in_ok-rest.ensures.tree)
 
 all : (c : In_ok-push) → AreSiblings c.self.inside.breaks 0 c.push.new.self.items
 all c =

@@ -36,4 +36,4 @@ pub returns-clause-cut : goal.returns-clause-cut
 returns-clause-cut c =
     let f = (goal.at.returns-clause-cut c).After-from_str-front_info in
     rw (← c.self.view_is, c.self-2.view_is ∙ c.new.ensures) (leaf_parted c.self.inside.breaks c.self.inside.text c.insert_str_split-back.new.self c.as_str-4.ensures.fits c.as_str-4.ensures.scalars c.args.at c.args.added.now c.insert_str_split-back.result c.in_ok-behind.behind
-    c.in_ok-behind.ensures.ok c.in_ok-behind.ensures.tree (whole f) (c.insert_str_split-back.ensures.front, c.insert_str_split-back.ensures.back, c.insert_str_split-back.ensures.apart))
+    c.in_ok-behind.ensures.ok c.in_ok-behind.ensures.tree (whole f) (c.insert_str_split-back.ensures.front, c.insert_str_split-back.ensures.back, c.insert_str_split-back.ensures.apart) c.insert_str_split-back.ensures.halves)

@@ -1,6 +1,7 @@
 use Rattle.std.proofs.Common.{sym, ap, subst, ◌∙◌}
 use Rattle.rope_text.specs.TextInfo.{info_of}
 use Rattle.rope_tree.proofs.Infos.{IsLow, low_info}
+use Rattle.rope_tree.proofs.GrownLaws.{leaf_inserted}
 use Rattle.rope_tree.proofs.leaf.Leaf.insert_in_place.Goals.{After-as_str}
 use Rattle.rope_tree.proofs.leaf.Leaf.insert_in_place.Goals as goal
 
@@ -18,3 +19,7 @@ new-self-inside-requires-clause-surrogates c = (low c).surrogates
 
 pub new-self-inside-requires-clause-break_count : goal.new-self-inside-requires-clause-break_count
 new-self-inside-requires-clause-break_count c = (low c).count
+
+pub returns-clause-done : goal.returns-clause-done
+returns-clause-done c = λ yes.
+    rw (← c.self.view_is) (leaf_inserted c.self.inside.breaks c.self.inside.text c.put_in-new.new.leaf c.as_str.ensures.fits c.as_str.ensures.scalars c.args.at c.args.added.now c.put_in-new.ensures.text c.requires)

@@ -27,11 +27,11 @@ returns-clause-joined c =
 
 pub returns-clause-front : goal.returns-clause-front
 returns-clause-front c =
-    omega (arith, ap length (c.from_str.ensures.value), has_chars c.range-2.result.now c.range-2.utf8 (omega (arith, c.range-2.ensures.len, c.split_place-cut.ensures.left.0)))
+    omega (arith, ap length (c.from_str.ensures.value), has_chars c.range-2.result.now c.range-2.utf8 (omega (arith, c.range-2.ensures.len, c.split_place-cut.ensures.left)))
 
 pub returns-clause-back : goal.returns-clause-back
 returns-clause-back c =
-    omega (arith, ap length (c.from_str-back.ensures.value), has_chars c.range_from-2.result.now c.range_from-2.utf8 (omega (arith, c.range_from-2.ensures.len, c.split_place-cut.ensures.right.0)))
+    omega (arith, ap length (c.from_str-back.ensures.value), has_chars c.range_from-2.result.now c.range_from-2.utf8 (omega (arith, c.range_from-2.ensures.len, c.split_place-cut.ensures.right)))
 
 pub returns-clause-apart : goal.returns-clause-apart
 returns-clause-apart c =
@@ -40,4 +40,4 @@ returns-clause-apart c =
     let front = c.range-2.ensures.value ∙ ap (λ k. take k whole) (omega arith) in
     let back = c.range_from-2.ensures.value in
     ap₂ parts_crlf (c.from_str.ensures.value ∙ ap chars front) (c.from_str-back.ensures.value ∙ ap chars back)
-    ∙ apart_at_cut whole r (subst IsUtf8 front c.range-2.utf8) (subst IsUtf8 back c.range_from-2.utf8) c.split_place-cut.ensures.left.0 c.split_place-cut.ensures.right.0 c.split_place-cut.ensures.cut
+    ∙ apart_at_cut whole r (subst IsUtf8 front c.range-2.utf8) (subst IsUtf8 back c.range_from-2.utf8) (omega (arith, c.split_place-cut.ensures.left)) (omega (arith, c.split_place-cut.ensures.right)) c.split_place-cut.ensures.cut

@@ -1,0 +1,35 @@
+-- The leaves next to where two trees meet, by those of a child.
+use Rattle.std.proofs.Common.{◌≡◌, ℕ, ◌≤◌, List, [], ◌∷◌, ◌++◌, length, sym, ap, subst, ◌∙◌}
+use Rattle.std.proofs.lemmas.List.{append-nil}
+use Rattle.std.proofs.lemmas.List.Elements.{All-head}
+use Rattle.rope_text.specs.declared.line_breaks.LineBreaks.{LineBreaks}
+use Rattle.rope_text.specs.Dense.{IsDenseBehind, last_bytes}
+use Rattle.rope_text.proofs.DenseLaws.{last_bytes-append, last_bytes-some, dense-append, dense_left, dense_right}
+use Rattle.rope_tree.specs.Tree.{Tree, leaves_of, IsChild}
+use Rattle.rope_tree.proofs.LeafLaws.{all_right}
+use Rattle.rope_tree.proofs.NodeLaws.{leaves_of-append}
+use Rattle.rope_join.proofs.Unions.{EndsIn, BeginsIn}
+
+module _ (a last : Tree) (init : List Tree) (br : LineBreaks) (h : ℕ) (e : EndsIn a init last br h) where
+  pub last_some : 1 ≤ length last.leaves
+  last_some = (All-head (IsChild br h) last [] (all_right (IsChild br h) init (last ∷ []) e.children.each)).some
+
+  pub last_of_last : (m n : ℕ) → last_bytes m last.leaves ≡ last_bytes n a.leaves
+  last_of_last m n =
+      let parts : a.leaves ≡ leaves_of init ++ last.leaves = ap (λ t. t.leaves) e.is ∙ leaves_of-append init (last ∷ []) ∙ ap (λ xs. leaves_of init ++ xs) (append-nil last.leaves) in
+      last_bytes-some m (last_bytes n (leaves_of init)) last.leaves last_some ∙ sym (last_bytes-append n (leaves_of init) last.leaves) ∙ ap (last_bytes n) (sym parts)
+
+module _ (b first : Tree) (rest : List Tree) (br : LineBreaks) (h : ℕ) (e : BeginsIn b first rest br h) where
+  pub first_some : 1 ≤ length first.leaves
+  first_some = (All-head (IsChild br h) first rest e.children.each).some
+
+  begins : b.leaves ≡ first.leaves ++ leaves_of rest
+  begins = ap (λ t. t.leaves) e.is
+
+  pub dense_of_first : (n : ℕ) → IsDenseBehind n b.leaves → IsDenseBehind n first.leaves
+  dense_of_first n dense = dense_left n first.leaves (leaves_of rest) (subst (IsDenseBehind n) begins dense)
+
+  pub dense_by_first : (n : ℕ) → IsDenseBehind n first.leaves → IsDenseBehind n b.leaves
+  dense_by_first n dense =
+      let behind = subst (λ k. IsDenseBehind k (leaves_of rest)) (last_bytes-some 492 n first.leaves first_some) (dense_right 492 first.leaves (leaves_of rest) e.children.leaves.dense) in
+      subst (IsDenseBehind n) (sym begins) (dense-append n first.leaves (leaves_of rest) dense behind)

@@ -1,0 +1,39 @@
+//! The two leaves next to where two trees meet.
+ghost use Rattle.std.specs.Prelude.{◌≡◌, ℕ, ◌+◌, ◌≤◌, ◌↔◌, length, IsTrue};
+ghost use Rattle.rope_text.specs.Dense.{IsDenseBehind, last_bytes};
+
+use rope_text::MIN_PAIR_BYTES;
+use rope_tree::node::{Node, View};
+
+/// The bytes of a tree's last leaf.
+fn last_leaf_len(node: &Node) -> usize
+    requires { 1 ≤ length node.now.leaves }
+    ensures value { (n : ℕ) → result ≡ last_bytes n node.now.leaves }
+    ensures fits { result ≤ 984 }
+{
+    match node.view() {
+        View::Leaf(leaf) => leaf.len(),
+        View::Inner(children, _) => last_leaf_len(&children[children.len() - 1]),
+    }
+}
+
+/// The bytes of a tree's first leaf: with those of what stands before it, they say whether the tree may stand there.
+fn first_leaf_len(node: &Node) -> usize
+    requires { 1 ≤ length node.now.leaves }
+    ensures value { (n : ℕ) → 492 ≤ n + result ↔ IsDenseBehind n node.now.leaves }
+    ensures fits { result ≤ 984 }
+{
+    match node.view() {
+        View::Leaf(leaf) => leaf.len(),
+        View::Inner(children, _) => first_leaf_len(&children[0]),
+    }
+}
+
+/// Whether the last leaf of the one tree and the first of the other have as many bytes together as neighbours need.
+pub(crate) fn is_near(left: &Node, right: &Node) -> bool
+    requires left_some { 1 ≤ length left.now.leaves }
+    requires right_some { 1 ≤ length right.now.leaves }
+    ensures { IsTrue result ↔ IsDenseBehind (last_bytes 492 left.now.leaves) right.now.leaves }
+{
+    last_leaf_len(left) + first_leaf_len(right) >= MIN_PAIR_BYTES
+}
