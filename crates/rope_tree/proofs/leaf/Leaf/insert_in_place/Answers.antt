@@ -22,4 +22,4 @@ new-self-inside-requires-clause-break_count c = (low c).count
 
 pub returns-clause-done : goal.returns-clause-done
 returns-clause-done c = λ yes.
-    rw (← c.self.view_is) (leaf_inserted c.self.inside.breaks c.self.inside.text c.put_in-new.new.leaf c.as_str.ensures.fits c.as_str.ensures.scalars c.args.at c.args.added.now c.put_in-new.ensures.text c.requires)
+    rw (← c.self.view_is) (leaf_inserted c.self.inside.breaks c.self.inside.text c.put_in-new.new.leaf c.as_str.ensures.fits c.as_str.ensures.scalars c.args.at c.args.added.now c.put_in-new.ensures.text c.requires.some)
