@@ -12,4 +12,6 @@ mod random_inserts;
 #[cfg(test)]
 mod removals;
 #[cfg(test)]
+mod short_chunks;
+#[cfg(test)]
 mod shrinking;
