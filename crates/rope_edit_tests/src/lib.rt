@@ -19,6 +19,8 @@ mod removals;
 #[cfg(test)]
 mod seams;
 #[cfg(test)]
+mod short_chunks;
+#[cfg(test)]
 mod shrinking;
 #[cfg(test)]
 mod words;

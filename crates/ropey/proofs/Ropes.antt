@@ -10,10 +10,11 @@ use Rattle.std.proofs.lemmas.Str.{length-le-encodes, chars-encodes}
 use Rattle.rope_text.specs.Text.{byte_len}
 use Rattle.rope_text.specs.Cutting.{IsChunkSize}
 use Rattle.rope_text.specs.Content as of_content
+use Rattle.rope_text.proofs.DenseLaws.{few_chunks}
 use Rattle.rope_text.proofs.FirstBytes.{first_scalar, rest_scalars}
 use Rattle.rope_tree.specs.Leaves.{IsLeafText}
 use Rattle.rope_tree.specs.Tree.{Tree, text, IsTree}
-use Rattle.rope_tree.proofs.LeafLaws.{leaves_le}
+use Rattle.rope_tree.proofs.LeafLaws.{leaf_sizes, leaves_le}
 use Rattle.rope_tree.proofs.TreeLaws.{low_tree}
 use Rattle.ropey.specs.View.{RopeView, IsRope, HasFewChunks, content, view_of}
 use lib.Utf8.{scalar, encode}
@@ -35,6 +36,7 @@ content_of t i = record {
     sized = All-weaker IsLeafText (λ chunk. IsChunkSize (byte_len chunk)) (λ leaf l. (omega (arith, l.some, length-le-encodes leaf), l.fits)) t.leaves i.leaves.each;
     whole = i.leaves.whole;
   };
+  few = few_chunks t.leaves (leaf_sizes t.leaves i.leaves.each) i.leaves.dense;
   scalars = scalars-concat t.leaves i.leaves.each;
   fits = i.fits;
 }
