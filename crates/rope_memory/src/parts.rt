@@ -58,7 +58,13 @@ fn split_and_join(rt: &impl Print, rope: &mut Rope) -> Option<usize> {
 }
 
 /// Edits of a rope that at last shares its nodes with another; the last puts lines in between a CR and an LF.
-fn edit(rt: &impl Print, rope: &mut Rope, double: &Rope, kept: &Rope, more: &str) -> Option<usize> {
+fn edit<'a>(
+    rt: &impl Print,
+    rope: &mut Rope,
+    double: &'a Rope,
+    kept: &'a Rope,
+    more: &'a str,
+) -> Option<usize> {
     let mut faults: usize = 0;
     for step in [
         Edit::Append(double),
