@@ -3,7 +3,7 @@
 #
 #     scripts/each_edit_alone.sh CRATE [EDIT]...
 #
-# An edit may hold several changes of one source file, and `rt ci` sees only that one of them is refused. A change is a
+# An edit may hold several changes, and `rt ci` sees only that one of them is refused. A change is a
 # line `file:` and the pairs of lines `old:` and `new:` below it. This writes each change to an edit of its own, named
 # EDIT.1, EDIT.2 and so on, in a scratch copy of the repository, and runs `rt must-fail` there. With names of edits, as
 # `columns_are_counted_or_tested_wrongly`, it tries the changes of those alone. It takes one processor, and 15 to 45

@@ -7,23 +7,23 @@ fn levels(rt: HostRuntime) {
     let text = "Hello!\r\n".repeat(rt.alloc(), 2952).expect(&rt, "memory");
     let mut made = 0;
     let node = build(rt.alloc(), text.as_str(), LineBreaks::CrLf, &mut made).expect(&rt, "memory");
-    assert_eq!(rt; made, 25);
-    assert_eq!(rt; node.height(), 1);
-    assert_eq!(rt; node.info().bytes, 23_616);
-    assert_eq!(rt; node.info().break_count, 2952);
+    assert!(rt; made == 25);
+    assert!(rt; node.height() == 1);
+    assert!(rt; node.info().bytes == 23_616);
+    assert!(rt; node.info().break_count == 2952);
     let text = "Hello!\r\n".repeat(rt.alloc(), 2953).expect(&rt, "memory");
     let mut made = 0;
     let node = build(rt.alloc(), text.as_str(), LineBreaks::CrLf, &mut made).expect(&rt, "memory");
-    assert_eq!(rt; made, 28);
-    assert_eq!(rt; node.height(), 2);
-    assert_eq!(rt; node.info().chars, 23_624);
+    assert!(rt; made == 28);
+    assert!(rt; node.height() == 2);
+    assert!(rt; node.info().chars == 23_624);
 }
 
 #[test]
 fn empty_text(rt: HostRuntime) {
     let mut made = 0;
     let node = build(rt.alloc(), "", LineBreaks::Unicode, &mut made).expect(&rt, "memory");
-    assert_eq!(rt; made, 1);
-    assert_eq!(rt; node.height(), 0);
-    assert_eq!(rt; node.info().bytes, 0);
+    assert!(rt; made == 1);
+    assert!(rt; node.height() == 0);
+    assert!(rt; node.info().bytes == 0);
 }

@@ -17,22 +17,22 @@ fn cuts(rt: HostRuntime) {
     assert!(rt; !is_break(13, text));
     assert!(rt; is_break(14, text));
     assert!(rt; is_break(19, text));
-    assert_eq!(rt; prev_break(14, text), 12);
-    assert_eq!(rt; next_break(12, text), 14);
+    assert!(rt; prev_break(14, text) == 12);
+    assert!(rt; next_break(12, text) == 14);
 }
 
 #[test]
 fn nearest_cuts(rt: HostRuntime) {
     let text = b"\r\nHello world!\r\n";
-    assert_eq!(rt; nearest_internal_break(0, text), 2);
-    assert_eq!(rt; nearest_internal_break(1, text), 2);
-    assert_eq!(rt; nearest_internal_break(2, text), 2);
-    assert_eq!(rt; nearest_internal_break(14, text), 14);
-    assert_eq!(rt; nearest_internal_break(15, text), 14);
-    assert_eq!(rt; nearest_internal_break(16, text), 14);
+    assert!(rt; nearest_internal_break(0, text) == 2);
+    assert!(rt; nearest_internal_break(1, text) == 2);
+    assert!(rt; nearest_internal_break(2, text) == 2);
+    assert!(rt; nearest_internal_break(14, text) == 14);
+    assert!(rt; nearest_internal_break(15, text) == 14);
+    assert!(rt; nearest_internal_break(16, text) == 14);
     let pair = b"\r\n";
-    assert_eq!(rt; nearest_internal_break(0, pair), 2);
-    assert_eq!(rt; nearest_internal_break(1, pair), 2);
-    assert_eq!(rt; nearest_internal_break(2, pair), 2);
-    assert_eq!(rt; find_good_split(1, "こ".as_bytes(), true), 3);
+    assert!(rt; nearest_internal_break(0, pair) == 2);
+    assert!(rt; nearest_internal_break(1, pair) == 2);
+    assert!(rt; nearest_internal_break(2, pair) == 2);
+    assert!(rt; find_good_split(1, "こ".as_bytes(), true) == 3);
 }

@@ -28,14 +28,14 @@ fn removes_in_place_or_by_copies(rt: HostRuntime) {
     );
     made = 0;
     assert!(rt; remove(rt.alloc(), &mut root, 4000, 4008, &mut made).expect(&rt, "memory"));
-    assert_eq!(rt; made, 0);
-    assert_eq!(rt; root.info().bytes, 7992);
-    assert_eq!(rt; root.info().break_count, 999);
+    assert!(rt; made == 0);
+    assert!(rt; root.info().bytes == 7992);
+    assert!(rt; root.info().break_count == 999);
     let other = root.share().expect(&rt, "memory");
     assert!(rt; remove(rt.alloc(), &mut root, 4003, 4005, &mut made).expect(&rt, "memory"));
-    assert_eq!(rt; made, 2);
-    assert_eq!(rt; root.info().chars, 7990);
-    assert_eq!(rt; other.info().chars, 7992);
+    assert!(rt; made == 2);
+    assert!(rt; root.info().chars == 7990);
+    assert!(rt; other.info().chars == 7992);
 }
 
 #[test]
@@ -46,11 +46,11 @@ fn removes_in_one_leaf_alone(rt: HostRuntime) {
         &rt, "memory",
     );
     assert!(rt; !remove(rt.alloc(), &mut root, 0, 2000, &mut made).expect(&rt, "memory"));
-    assert_eq!(rt; root.info().chars, 8000);
+    assert!(rt; root.info().chars == 8000);
     let mut leaf = build(rt.alloc(), "Hello!", LineBreaks::Lf, &mut made).expect(&rt, "memory");
     assert!(rt; !remove(rt.alloc(), &mut leaf, 0, 6, &mut made).expect(&rt, "memory"));
     assert!(rt; remove(rt.alloc(), &mut leaf, 1, 6, &mut made).expect(&rt, "memory"));
-    assert_eq!(rt; leaf.info().bytes, 1);
+    assert!(rt; leaf.info().bytes == 1);
 }
 
 // Leaves of 984 bytes: at a leaf's ends no LF may come first and no CR last; inside they may meet.
@@ -64,8 +64,8 @@ fn bares_no_end_of_a_leaf(rt: HostRuntime) {
     assert!(rt; !remove(rt.alloc(), &mut root, 983, 984, &mut made).expect(&rt, "memory"));
     assert!(rt; !remove(rt.alloc(), &mut root, 984, 991, &mut made).expect(&rt, "memory"));
     assert!(rt; remove(rt.alloc(), &mut root, 982, 984, &mut made).expect(&rt, "memory"));
-    assert_eq!(rt; root.info().break_count, 999);
+    assert!(rt; root.info().break_count == 999);
     assert!(rt; remove(rt.alloc(), &mut root, 7, 15, &mut made).expect(&rt, "memory"));
-    assert_eq!(rt; root.info().break_count, 998);
-    assert_eq!(rt; root.info().chars, 7990);
+    assert!(rt; root.info().break_count == 998);
+    assert!(rt; root.info().chars == 7990);
 }

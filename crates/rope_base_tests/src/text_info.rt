@@ -46,11 +46,11 @@ fn check_counts(rt: &impl Abort, text: &str, k: u8, more: u8, counts: Counts) {
     let chars = usize::from(k) + usize::from(more) + usize::from(counts.chars);
     let pairs = usize::from(counts.pairs);
     let info = TextInfo::from_str(text, LineBreaks::Unicode);
-    assert_eq!(rt; info.bytes, text.len());
-    assert_eq!(rt; info.chars, chars);
-    assert_eq!(rt; info.utf16_surrogates, pairs);
-    assert_eq!(rt; info.break_count, counts.break_count);
-    assert_eq!(rt; count_utf16(text), chars + pairs);
+    assert!(rt; info.bytes == text.len());
+    assert!(rt; info.chars == chars);
+    assert!(rt; info.utf16_surrogates == pairs);
+    assert!(rt; info.break_count == counts.break_count);
+    assert!(rt; count_utf16(text) == chars + pairs);
 }
 
 /// The letter after k letters and the pattern, by each of its indices.
@@ -58,14 +58,14 @@ fn check_places(rt: &impl Abort, text: &str, byte: usize, k: u8, counts: Counts)
     let idx = usize::from(k) + usize::from(counts.chars);
     let pairs = usize::from(counts.pairs);
     let unit = idx + pairs;
-    assert_eq!(rt; char_to_byte_idx(text, idx), byte);
-    assert_eq!(rt; byte_to_char_idx(text, byte), idx);
-    assert_eq!(rt; char_to_utf16_idx(text, idx), unit);
-    assert_eq!(rt; utf16_to_char_idx(text, unit), idx);
-    assert_eq!(rt; byte_to_surrogates(text, byte), pairs);
-    assert_eq!(rt; char_to_line_idx(text, idx), counts.break_count);
+    assert!(rt; char_to_byte_idx(text, idx) == byte);
+    assert!(rt; byte_to_char_idx(text, byte) == idx);
+    assert!(rt; char_to_utf16_idx(text, idx) == unit);
+    assert!(rt; utf16_to_char_idx(text, unit) == idx);
+    assert!(rt; byte_to_surrogates(text, byte) == pairs);
+    assert!(rt; char_to_line_idx(text, idx) == counts.break_count);
     if counts.break_count > 0 {
-        assert_eq!(rt; line_to_byte_idx(text, counts.break_count), byte);
+        assert!(rt; line_to_byte_idx(text, counts.break_count) == byte);
     }
 }
 
@@ -101,9 +101,9 @@ fn sums(rt: HostRuntime) {
     };
     let back = TextInfo::from_str("こ\u{10028}\n", LineBreaks::CrLf);
     let whole = TextInfo::from_str("a\r\nこ\u{10028}\n", LineBreaks::CrLf);
-    assert_eq!(rt; TextInfo::from_str("a\r\n", LineBreaks::CrLf), front);
-    assert_eq!(rt; (whole.bytes, whole.chars, whole.break_count), (11, 6, 2));
-    assert_eq!(rt; (back.bytes, back.chars, back.utf16_surrogates), (8, 3, 1));
-    assert_eq!(rt; front.plus(front).minus(front), front);
-    assert_eq!(rt; TextInfo::new(), TextInfo::from_str("", LineBreaks::Lf));
+    assert!(rt; TextInfo::from_str("a\r\n", LineBreaks::CrLf) == front);
+    assert!(rt; (whole.bytes, whole.chars, whole.break_count) == (11, 6, 2));
+    assert!(rt; (back.bytes, back.chars, back.utf16_surrogates) == (8, 3, 1));
+    assert!(rt; front.plus(front).minus(front) == front);
+    assert!(rt; TextInfo::new() == TextInfo::from_str("", LineBreaks::Lf));
 }

@@ -33,15 +33,21 @@ fn a_pair_that_is_parted(rt: HostRuntime) -> Result<(), Fail> {
     Ok(())
 }
 
+/// Inserts of a text, of none and of a character at the end.
+fn insert_at_the_end(rope: &mut Rope) -> Result<(), Fail> {
+    rope.try_insert(6, "x")?;
+    rope.try_insert(7, "")?;
+    rope.try_insert_char(7, 'y')?;
+    Ok(())
+}
+
 #[test]
 fn refusals(rt: HostRuntime) -> Result<(), Fail> {
     let mut rope = Rope::from_str(rt.alloc(), "Hello!")?;
     for text in ["x", ""] {
         assert!(rt; rope.try_insert(7, text) == Err(Error::CharIndexOutOfBounds(7, 6)));
     }
-    rope.try_insert(6, "x")?;
-    rope.try_insert(7, "")?;
-    rope.try_insert_char(7, 'y')?;
+    insert_at_the_end(&mut rope)?;
     compare_unicode(&rope, &chars_of(rt.alloc(), "Hello!xy")?)?;
     Ok(())
 }

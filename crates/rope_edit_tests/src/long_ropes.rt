@@ -38,13 +38,16 @@ fn letters_doubled(rt: HostRuntime) -> Result<(), Fail> {
     Ok(())
 }
 
-#[test]
-fn the_longest_text(rt: HostRuntime) -> Result<(), Fail> {
-    let mut rope = doubled(rt.alloc(), "a", 62)?;
+/// Cut behind its first character, and joined with as long a text, of which one character is left out.
+fn make_longest(rt: &impl Abort, rope: &mut Rope) -> Result<(), Fail> {
     let mut first = rope.clone()?;
     let rest = first.try_split_off(1)?;
-    assert_eq!(rt; [first.len_bytes(), rest.len_bytes()], [1, WHOLE - 1]);
+    assert!(rt; first.len_bytes() == 1 && rest.len_bytes() == WHOLE - 1);
     rope.append(rest)?;
+    Ok(())
+}
+
+fn refuse_more(rt: &impl Abort, rope: &mut Rope) -> Result<(), Fail> {
     assert!(rt; rope.len_bytes() == isize::MAX as usize);
     assert!(rt; rope.try_insert_char(0, 'x') == Err(Error::TooLong));
     rope.try_insert(0, "")?;
@@ -53,19 +56,32 @@ fn the_longest_text(rt: HostRuntime) -> Result<(), Fail> {
 }
 
 #[test]
+fn the_longest_text(rt: HostRuntime) -> Result<(), Fail> {
+    let mut rope = doubled(rt.alloc(), "a", 62)?;
+    make_longest(&rt, &mut rope)?;
+    refuse_more(&rt, &mut rope)
+}
+
+/// Puts a character and a text into the middle, and takes all but the ends out.
+fn edit_the_middle(rt: &impl Abort, rope: &mut Rope) -> Result<(), Fail> {
+    assert!(rt; rope.len_chars() == WHOLE);
+    rope.insert_char(HALF, 'x')?;
+    assert_char(rt, rope, HALF, 'x');
+    assert!(rt; rope.len_chars() == WHOLE + 1);
+    rope.insert(HALF, "yz")?;
+    assert_char(rt, rope, HALF, 'y');
+    assert!(rt; rope.len_chars() == WHOLE + 3);
+    rope.remove(1..WHOLE + 2)?;
+    compare_unicode(rope, &['a', 'a'])?;
+    Ok(())
+}
+
+#[test]
 fn edits_in_the_middle(rt: HostRuntime) -> Result<(), Fail> {
     let whole = doubled(rt.alloc(), "a", 62)?;
     let mut rope = whole.clone()?;
-    assert!(rt; rope.len_chars() == WHOLE);
-    rope.insert_char(HALF, 'x')?;
-    assert_char(&rt, &rope, HALF, 'x');
-    assert!(rt; rope.len_chars() == WHOLE + 1);
-    rope.insert(HALF, "yz")?;
-    assert_char(&rt, &rope, HALF, 'y');
-    assert!(rt; rope.len_chars() == WHOLE + 3);
-    rope.remove(1..WHOLE + 2)?;
-    compare_unicode(&rope, &['a', 'a'])?;
-    assert_eq!(rt; whole.len_bytes(), WHOLE);
+    edit_the_middle(&rt, &mut rope)?;
+    assert!(rt; whole.len_bytes() == WHOLE);
     Ok(())
 }
 

@@ -10,21 +10,37 @@ use std::test::Fail;
 /// How many inserts are done between two comparisons.
 const BETWEEN: usize = 100;
 
+/// The rope is the plain text, in whole and at some places.
+fn compare_both(rope: &Rope, plain: &[char], numbers: &mut Numbers) -> Result<(), Fail> {
+    compare_unicode(rope, plain)?;
+    for _ in 0..4 {
+        compare_at(rope, plain, numbers.up_to(plain.len()))?;
+    }
+    compare_at(rope, plain, plain.len())?;
+    Ok(())
+}
+
+/// A text put in at a place of both: answers the plain text then.
+fn insert_both(
+    rope: &mut Rope,
+    plain: &[char],
+    alloc: Global,
+    numbers: &mut Numbers,
+) -> Result<Vec<char>, Fail> {
+    let at = numbers.up_to(plain.len());
+    let text = random_edit_text(alloc, numbers)?;
+    rope.try_insert(at, text.as_str())?;
+    Ok(inserted(alloc, plain, at, text.as_str())?)
+}
+
 /// Many inserts into one rope, which is compared now and then at some places, and at the end in whole.
 fn insert_and_compare(alloc: Global, numbers: &mut Numbers, inserts: usize) -> Result<(), Fail> {
     let mut rope = Rope::from_str(alloc, "")?;
     let mut plain = Vec::new(alloc);
     for round in 1..=inserts {
-        let at = numbers.up_to(plain.len());
-        let text = random_edit_text(alloc, numbers)?;
-        rope.try_insert(at, text.as_str())?;
-        plain = inserted(alloc, &plain, at, text.as_str())?;
+        plain = insert_both(&mut rope, &plain, alloc, numbers)?;
         if round % BETWEEN == 0 {
-            compare_unicode(&rope, &plain)?;
-            for _ in 0..4 {
-                compare_at(&rope, &plain, numbers.up_to(plain.len()))?;
-            }
-            compare_at(&rope, &plain, plain.len())?;
+            compare_both(&rope, &plain, numbers)?;
         }
     }
     compare_unicode(&rope, &plain)?;

@@ -17,10 +17,18 @@ enum Edit<'a> {
 
 /// The list without the character `at`.
 fn without(alloc: Global, plain: &[char], at: usize) -> Result<Vec<char>, Fail> {
-    let mut rest = inserted(alloc, plain, at, "")?;
-    rest.truncate(at);
-    rest.extend_from_slice(&part_from(alloc, plain, at.saturating_add(1))?)?;
+    let mut rest = Vec::new(alloc);
+    add_without(&mut rest, plain, at)?;
     Ok(rest)
+}
+
+fn add_without(rest: &mut Vec<char>, plain: &[char], at: usize) -> Result<(), Fail> {
+    for (i, c) in plain.iter().enumerate() {
+        if i != at {
+            rest.push(*c)?;
+        }
+    }
+    Ok(())
 }
 
 /// Splits the rope, compares both parts, and joins them again.

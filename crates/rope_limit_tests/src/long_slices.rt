@@ -1,8 +1,9 @@
 //! Slices of texts of 2^62 bytes, from both ends and across the middle.
 use crate::long_cursors::char_at;
-use crate::long_texts::{Place, Unit, WHOLE, all};
+use crate::long_texts::{Long, Place, Unit, WHOLE, all};
 use rope_plain::given::given;
 use ropey::{Rope, RopeSlice};
+use std::process::Abort;
 use std::test::Fail;
 
 /// A slice's bytes, characters and code units.
@@ -28,12 +29,18 @@ fn has_parts(rope: &Rope, unit: &Unit, place: Place) -> Result<bool, Fail> {
     )
 }
 
+fn lengths_of_fronts_and_backs_of_one(rt: &impl Abort, long: &Long) -> Result<(), Fail> {
+    for place in long.unit.places() {
+        assert!(rt; has_parts(&long.rope, &long.unit, place)?);
+    }
+    Ok(())
+}
+
 #[test]
 fn lengths_of_fronts_and_backs(rt: HostRuntime) -> Result<(), Fail> {
-    for long in all(rt.alloc())? {
-        for place in long.unit.places() {
-            assert!(rt; has_parts(&long.rope, &long.unit, place)?);
-        }
+    let all = all(rt.alloc())?;
+    for long in &all {
+        lengths_of_fronts_and_backs_of_one(&rt, long)?;
     }
     Ok(())
 }
@@ -58,20 +65,26 @@ fn lines_of_cut_pairs(rt: HostRuntime) -> Result<(), Fail> {
     Ok(())
 }
 
+fn conversions_of_backs_of_one(rt: &impl Abort, long: &Long) -> Result<(), Fail> {
+    let middle = long.unit.place(long.unit.char_count() / 2);
+    let back = given(long.rope.get_slice(middle.char_idx..))?;
+    for place in [long.unit.place(0), long.unit.place(1), middle] {
+        assert_eq!(rt; back.try_char_to_byte(place.char_idx)?, place.byte_idx);
+        assert_eq!(rt; back.try_char_to_utf16_cu(place.char_idx)?, place.unit_idx);
+        assert_eq!(rt; back.try_char_to_line(place.char_idx)?, place.line_idx);
+        assert_eq!(rt; back.try_byte_to_char(place.byte_idx)?, place.char_idx);
+        assert_eq!(rt; back.try_byte_to_line(place.byte_idx)?, place.line_idx);
+        assert_eq!(rt; back.try_utf16_cu_to_char(place.unit_idx)?, place.char_idx);
+        assert_eq!(rt; back.try_line_to_char(place.line_idx)?, place.line_char);
+    }
+    Ok(())
+}
+
 #[test]
 fn conversions_of_backs(rt: HostRuntime) -> Result<(), Fail> {
-    for long in all(rt.alloc())? {
-        let middle = long.unit.place(long.unit.char_count() / 2);
-        let back = given(long.rope.get_slice(middle.char_idx..))?;
-        for place in [long.unit.place(0), long.unit.place(1), middle] {
-            assert_eq!(rt; back.try_char_to_byte(place.char_idx)?, place.byte_idx);
-            assert_eq!(rt; back.try_char_to_utf16_cu(place.char_idx)?, place.unit_idx);
-            assert_eq!(rt; back.try_char_to_line(place.char_idx)?, place.line_idx);
-            assert_eq!(rt; back.try_byte_to_char(place.byte_idx)?, place.char_idx);
-            assert_eq!(rt; back.try_byte_to_line(place.byte_idx)?, place.line_idx);
-            assert_eq!(rt; back.try_utf16_cu_to_char(place.unit_idx)?, place.char_idx);
-            assert_eq!(rt; back.try_line_to_char(place.line_idx)?, place.line_char);
-        }
+    let all = all(rt.alloc())?;
+    for long in &all {
+        conversions_of_backs_of_one(&rt, long)?;
     }
     Ok(())
 }
@@ -86,18 +99,24 @@ fn is_repeated(slice: &RopeSlice<'_>, unit: &Unit) -> bool {
     true
 }
 
+fn texts_across_the_middle_of_one(rt: &impl Abort, long: &Long) -> Result<(), Fail> {
+    let middle = long.unit.char_count() / 2;
+    let start = middle.saturating_sub(400);
+    let wide = given(long.rope.get_slice(start..))?;
+    let slice = given(wide.get_slice(..1_000))?;
+    assert_eq!(rt; slice.len_chars(), 1_000);
+    assert!(rt; is_repeated(&slice, &long.unit));
+    let bytes = 800usize.saturating_mul(long.unit.bytes_a_char);
+    let part = given(slice.get_byte_slice(..bytes))?;
+    assert_eq!(rt; part.len_chars(), 800);
+    Ok(())
+}
+
 #[test]
 fn texts_across_the_middle(rt: HostRuntime) -> Result<(), Fail> {
-    for long in all(rt.alloc())? {
-        let middle = long.unit.char_count() / 2;
-        let start = middle.saturating_sub(400);
-        let wide = given(long.rope.get_slice(start..))?;
-        let slice = given(wide.get_slice(..1_000))?;
-        assert_eq!(rt; slice.len_chars(), 1_000);
-        assert!(rt; is_repeated(&slice, &long.unit));
-        let bytes = 800usize.saturating_mul(long.unit.bytes_a_char);
-        let part = given(slice.get_byte_slice(..bytes))?;
-        assert_eq!(rt; part.len_chars(), 800);
+    let all = all(rt.alloc())?;
+    for long in &all {
+        texts_across_the_middle_of_one(&rt, long)?;
     }
     Ok(())
 }

@@ -4,6 +4,7 @@ use rope_plain::given::given;
 use rope_position::{Position, Positions};
 use ropey::{Error, Rope};
 use std::alloc::{AllocError, Global};
+use std::process::Abort;
 use std::test::Fail;
 
 /// How many bytes such a text has.
@@ -190,17 +191,14 @@ fn within(rope: &Rope, unit: &Unit, place: Place) -> Result<[(usize, usize); 4],
     ])
 }
 
-#[test]
-fn each_conversion(rt: HostRuntime) -> Result<(), Fail> {
-    for long in all(rt.alloc())? {
-        for place in long.unit.places() {
-            for (answer, expected) in conversions(&long.rope, place)? {
+fn each_conversion_of_one(rt: &impl Abort, long: &Long) -> Result<(), Fail> {
+    for place in long.unit.places() {
+        for (answer, expected) in conversions(&long.rope, place)? {
+            assert_eq!(rt; answer, expected);
+        }
+        if place.char_idx < long.unit.char_count() {
+            for (answer, expected) in within(&long.rope, &long.unit, place)? {
                 assert_eq!(rt; answer, expected);
-            }
-            if place.char_idx < long.unit.char_count() {
-                for (answer, expected) in within(&long.rope, &long.unit, place)? {
-                    assert_eq!(rt; answer, expected);
-                }
             }
         }
     }
@@ -208,16 +206,31 @@ fn each_conversion(rt: HostRuntime) -> Result<(), Fail> {
 }
 
 #[test]
+fn each_conversion(rt: HostRuntime) -> Result<(), Fail> {
+    let all = all(rt.alloc())?;
+    for long in &all {
+        each_conversion_of_one(&rt, long)?;
+    }
+    Ok(())
+}
+
+fn the_start_past_the_last_line_of_one(rt: &impl Abort, long: &Long) -> Result<(), Fail> {
+    let lines = long.unit.break_count().saturating_add(1);
+    let end = long.unit.char_count();
+    assert_eq!(rt; long.rope.try_line_to_char(lines)?, end);
+    assert_eq!(rt; long.rope.try_line_to_byte(lines)?, WHOLE);
+    let past = lines.saturating_add(1);
+    let refused = Err(Error::LineIndexOutOfBounds(past, lines));
+    assert!(rt; long.rope.try_line_to_char(past) == refused);
+    assert!(rt; long.rope.try_line_to_byte(past) == refused);
+    Ok(())
+}
+
+#[test]
 fn the_start_past_the_last_line(rt: HostRuntime) -> Result<(), Fail> {
-    for long in all(rt.alloc())? {
-        let lines = long.unit.break_count().saturating_add(1);
-        let end = long.unit.char_count();
-        assert_eq!(rt; long.rope.try_line_to_char(lines)?, end);
-        assert_eq!(rt; long.rope.try_line_to_byte(lines)?, WHOLE);
-        let past = lines.saturating_add(1);
-        let refused = Err(Error::LineIndexOutOfBounds(past, lines));
-        assert!(rt; long.rope.try_line_to_char(past) == refused);
-        assert!(rt; long.rope.try_line_to_byte(past) == refused);
+    let all = all(rt.alloc())?;
+    for long in &all {
+        the_start_past_the_last_line_of_one(&rt, long)?;
     }
     Ok(())
 }
@@ -240,14 +253,19 @@ fn refuses(rope: &Rope, past: usize, chars: usize, units: usize) -> bool {
         && rope.get_chunk_at_line_break(past).is_none()
 }
 
+fn past_the_end_of_one(rt: &impl Abort, long: &Long) {
+    let chars = long.unit.char_count();
+    let units = chars.saturating_mul(long.unit.units_a_char);
+    for past in [WHOLE.saturating_add(1), isize::MAX as usize, usize::MAX] {
+        assert!(rt; refuses(&long.rope, past, chars, units));
+    }
+}
+
 #[test]
 fn past_the_end(rt: HostRuntime) -> Result<(), Fail> {
-    for long in all(rt.alloc())? {
-        let chars = long.unit.char_count();
-        let units = chars.saturating_mul(long.unit.units_a_char);
-        for past in [WHOLE.saturating_add(1), isize::MAX as usize, usize::MAX] {
-            assert!(rt; refuses(&long.rope, past, chars, units));
-        }
+    let all = all(rt.alloc())?;
+    for long in &all {
+        past_the_end_of_one(&rt, long);
     }
     Ok(())
 }
@@ -266,16 +284,21 @@ fn has_items(rope: &Rope, unit: &Unit, place: Place) -> bool {
     rope.get_char(place.char_idx) == text && rope.get_byte(place.byte_idx) == byte
 }
 
+fn items_of_one(rt: &impl Abort, long: &Long) {
+    for place in long.unit.places() {
+        if place.char_idx < long.unit.char_count() {
+            assert!(rt; has_items(&long.rope, &long.unit, place));
+        }
+    }
+    assert!(rt; long.rope.get_char(long.unit.char_count()).is_none());
+    assert!(rt; long.rope.get_byte(WHOLE).is_none());
+}
+
 #[test]
 fn items(rt: HostRuntime) -> Result<(), Fail> {
-    for long in all(rt.alloc())? {
-        for place in long.unit.places() {
-            if place.char_idx < long.unit.char_count() {
-                assert!(rt; has_items(&long.rope, &long.unit, place));
-            }
-        }
-        assert!(rt; long.rope.get_char(long.unit.char_count()).is_none());
-        assert!(rt; long.rope.get_byte(WHOLE).is_none());
+    let all = all(rt.alloc())?;
+    for long in &all {
+        items_of_one(&rt, long);
     }
     Ok(())
 }
@@ -292,65 +315,82 @@ fn holds(found: (&str, usize, usize, usize), unit: &Unit, place: Place) -> bool 
         && is_in
 }
 
+fn chunks_of_one(rt: &impl Abort, long: &Long) -> Result<(), Fail> {
+    for place in long.unit.places() {
+        let by_byte = given(long.rope.get_chunk_at_byte(place.byte_idx))?;
+        let by_char = given(long.rope.get_chunk_at_char(place.char_idx))?;
+        assert!(rt; holds(by_byte, &long.unit, place));
+        assert!(rt; by_char == by_byte);
+    }
+    Ok(())
+}
+
 #[test]
 fn chunks(rt: HostRuntime) -> Result<(), Fail> {
-    for long in all(rt.alloc())? {
-        for place in long.unit.places() {
-            let by_byte = given(long.rope.get_chunk_at_byte(place.byte_idx))?;
-            let by_char = given(long.rope.get_chunk_at_char(place.char_idx))?;
-            assert!(rt; holds(by_byte, &long.unit, place));
-            assert!(rt; by_char == by_byte);
-        }
+    let all = all(rt.alloc())?;
+    for long in &all {
+        chunks_of_one(&rt, long)?;
+    }
+    Ok(())
+}
+
+fn chunks_at_line_breaks_of_one(rt: &impl Abort, long: &Long) -> Result<(), Fail> {
+    let break_count = long.unit.break_count();
+    for line_break in [0, 1, break_count / 2, break_count] {
+        let line_break = line_break.min(break_count);
+        let (chunk, byte_idx, char_idx, before) = given(
+            long.rope.get_chunk_at_line_break(line_break),
+        )?;
+        let end = long
+            .rope
+            .try_byte_to_line(byte_idx.saturating_add(chunk.len()))?;
+        assert_eq!(rt; long.unit.place(char_idx).byte_idx, byte_idx);
+        assert_eq!(rt; long.unit.place(char_idx).line_idx, before);
+        assert!(rt; (before < line_break || byte_idx == 0) && line_break <= end);
     }
     Ok(())
 }
 
 #[test]
 fn chunks_at_line_breaks(rt: HostRuntime) -> Result<(), Fail> {
-    for long in all(rt.alloc())? {
-        let break_count = long.unit.break_count();
-        for line_break in [0, 1, break_count / 2, break_count] {
-            let line_break = line_break.min(break_count);
-            let (chunk, byte_idx, char_idx, before) = given(
-                long.rope.get_chunk_at_line_break(line_break),
-            )?;
-            let end = long
-                .rope
-                .try_byte_to_line(byte_idx.saturating_add(chunk.len()))?;
-            assert_eq!(rt; long.unit.place(char_idx).byte_idx, byte_idx);
-            assert_eq!(rt; long.unit.place(char_idx).line_idx, before);
-            assert!(rt; (before < line_break || byte_idx == 0) && line_break <= end);
-        }
+    let all = all(rt.alloc())?;
+    for long in &all {
+        chunks_at_line_breaks_of_one(&rt, long)?;
     }
     Ok(())
 }
 
+fn positions_of_one(rt: &impl Abort, long: &Long) {
+    let unit = long.unit;
+    for place in unit.places() {
+        let start = unit.place(place.line_char);
+        let position = Position {
+            line: place.line_idx,
+            column: place.unit_idx.saturating_sub(start.unit_idx),
+        };
+        assert_eq!(rt;
+            long.rope.try_char_to_position(place.char_idx),
+            Ok(position)
+        );
+        assert_eq!(rt;
+            long.rope.try_position_to_char(position),
+            Ok(place.char_idx)
+        );
+    }
+    let past = unit.break_count().saturating_add(1);
+    for line in [past, usize::MAX] {
+        let refused = Err(Error::LineIndexOutOfBounds(line, past));
+        assert!(rt; long.rope.try_position_to_char(Position { line, column: 0 }) == refused);
+    }
+    let refused = Err(Error::CharIndexOutOfBounds(usize::MAX, unit.char_count()));
+    assert!(rt; long.rope.try_char_to_position(usize::MAX) == refused);
+}
+
 #[test]
 fn positions(rt: HostRuntime) -> Result<(), Fail> {
-    for long in all(rt.alloc())? {
-        let unit = long.unit;
-        for place in unit.places() {
-            let start = unit.place(place.line_char);
-            let position = Position {
-                line: place.line_idx,
-                column: place.unit_idx.saturating_sub(start.unit_idx),
-            };
-            assert_eq!(rt;
-                long.rope.try_char_to_position(place.char_idx),
-                Ok(position)
-            );
-            assert_eq!(rt;
-                long.rope.try_position_to_char(position),
-                Ok(place.char_idx)
-            );
-        }
-        let past = unit.break_count().saturating_add(1);
-        for line in [past, usize::MAX] {
-            let refused = Err(Error::LineIndexOutOfBounds(line, past));
-            assert!(rt; long.rope.try_position_to_char(Position { line, column: 0 }) == refused);
-        }
-        let refused = Err(Error::CharIndexOutOfBounds(usize::MAX, unit.char_count()));
-        assert!(rt; long.rope.try_char_to_position(usize::MAX) == refused);
+    let all = all(rt.alloc())?;
+    for long in &all {
+        positions_of_one(&rt, long);
     }
     Ok(())
 }

@@ -110,27 +110,39 @@ pub fn show(rt: &impl Print, rope: &Rope) -> Option<()> {
     println!(rt; "{bytes} bytes, {lines} lines").ok()
 }
 
-/// Makes ropes, inserts into them, prints what they are, and answers how many refusals changed something.
-pub fn run(rt: &impl Print, alloc: Global) -> Option<usize> {
-    let mut rope = made(alloc, "")?;
-    let long = repeated(alloc, "a", 5_000)?;
+/// Inserts into a rope, in one chunk and in several.
+fn insert_all(rope: &mut Rope, long: &str) -> Option<usize> {
     let mut faults: usize = 0;
     for step in [
         Edit::Insert(0, "one\r\ntwo\n"),
-        Edit::Insert(3, long.as_str()),
+        Edit::Insert(3, long),
         Edit::Insert(990, "\r"),
         Edit::InsertChar(991, '\n'),
         Edit::Insert(1_000, ""),
         Edit::InsertChar(991, 'x'),
         Edit::InsertChar(2_500, 'é'),
     ] {
-        faults = faults.saturating_add(apply(&mut rope, step)?);
+        faults = faults.saturating_add(apply(rope, step)?);
     }
+    Some(faults)
+}
+
+/// Inserts into an empty rope, and prints it and two others.
+fn type_and_show(rt: &impl Print, alloc: Global, rope: &Rope, long: &str) -> Option<usize> {
     let mut typed = empty(alloc)?;
-    faults = faults.saturating_add(apply(&mut typed, Edit::InsertChar(0, '🐸'))?);
-    let other = made(alloc, long.as_str())?;
-    for rope in [&rope, &typed, &other] {
+    let faults = apply(&mut typed, Edit::InsertChar(0, '🐸'))?;
+    let other = made(alloc, long)?;
+    for rope in [rope, &typed, &other] {
         show(rt, rope)?;
     }
     Some(faults)
+}
+
+/// Makes ropes, inserts into them, prints what they are, and answers how many refusals changed something.
+pub fn run(rt: &impl Print, alloc: Global) -> Option<usize> {
+    let mut rope = made(alloc, "")?;
+    let long = repeated(alloc, "a", 5_000)?;
+    let inserted = insert_all(&mut rope, long.as_str())?;
+    let typed = type_and_show(rt, alloc, &rope, long.as_str())?;
+    Some(inserted.saturating_add(typed))
 }

@@ -112,24 +112,39 @@ fn sliced(alloc: Global, rope: &Rope, start: usize, end: usize) -> Option<Rope> 
     None
 }
 
+/// Makes ropes of pieces and by each call, prints what they are, and answers how many refused builders forgot it.
+fn make_all(rt: &impl Print, alloc: Global, long: &str) -> Option<usize> {
+    let built = build(alloc, &["é", long, "\r", "\n", long, "こ\r\n"])?;
+    show(rt, &built.rope)?;
+    for maker in MAKERS {
+        show(rt, &made_by(alloc, maker, long)?)?;
+    }
+    Some(built.faults)
+}
+
+/// Inserts into a rope and re-chunks it, and answers how many refusals changed something.
+fn fill(rope: &mut Rope, long: &str) -> Option<usize> {
+    let mut faults: usize = 0;
+    for place in [0, 0, 2_500, 1_000, 7_000, 3] {
+        faults = faults.saturating_add(apply(rope, Edit::Insert(place, long))?);
+    }
+    Some(faults.saturating_add(apply(rope, Edit::ShrinkToFit)?))
+}
+
+/// Prints what a rope and a part of it are.
+fn show_with_part(rt: &impl Print, alloc: Global, rope: &Rope) -> Option<()> {
+    show(rt, rope)?;
+    let chunks = rope.chunks().count();
+    println!(rt; "in {chunks}").ok()?;
+    show(rt, &sliced(alloc, rope, 1_200, 9_000)?)
+}
+
 /// Makes ropes of pieces and re-chunks a rope, prints what they are, and answers how many refusals changed or forgot something.
 pub fn run(rt: &impl Print, alloc: Global) -> Option<usize> {
     let long = repeated(alloc, "a", 2_500)?;
-    let pieces = ["é", long.as_str(), "\r", "\n", long.as_str(), "こ\r\n"];
-    let built = build(alloc, &pieces)?;
-    show(rt, &built.rope)?;
-    let mut faults = built.faults;
-    for maker in MAKERS {
-        show(rt, &made_by(alloc, maker, long.as_str())?)?;
-    }
+    let made_faults = make_all(rt, alloc, long.as_str())?;
     let mut rope = made(alloc, "")?;
-    for place in [0, 0, 2_500, 1_000, 7_000, 3] {
-        faults = faults.saturating_add(apply(&mut rope, Edit::Insert(place, long.as_str()))?);
-    }
-    faults = faults.saturating_add(apply(&mut rope, Edit::ShrinkToFit)?);
-    show(rt, &rope)?;
-    let chunks = rope.chunks().count();
-    println!(rt; "in {chunks}").ok()?;
-    show(rt, &sliced(alloc, &rope, 1_200, 9_000)?)?;
-    Some(faults)
+    let faults = fill(&mut rope, long.as_str())?;
+    show_with_part(rt, alloc, &rope)?;
+    Some(faults.saturating_add(made_faults))
 }

@@ -46,6 +46,48 @@ fn split_off(rope: &mut Rope, char_idx: usize) -> Option<Part> {
     None
 }
 
+/// Takes the middle out, so that a CR meets an LF, splits between the two and joins the parts.
+fn split_and_join(rt: &impl Print, rope: &mut Rope) -> Option<usize> {
+    let removed = apply(rope, Edit::Remove(9, 19_999))?;
+    show(rt, rope)?;
+    let back = split_off(rope, 5_009)?;
+    show(rt, rope)?;
+    show(rt, &back.rope)?;
+    let joined = apply(rope, Edit::Append(&back.rope))?;
+    Some(removed.saturating_add(back.faults).saturating_add(joined))
+}
+
+/// Edits of a rope that at last shares its nodes with another; the last puts lines in between a CR and an LF.
+fn edit<'a>(
+    rt: &impl Print,
+    rope: &mut Rope,
+    double: &'a Rope,
+    kept: &'a Rope,
+    more: &'a str,
+) -> Option<usize> {
+    let mut faults: usize = 0;
+    for step in [
+        Edit::Append(double),
+        Edit::Remove(100, 103),
+        Edit::Remove(0, 20_017),
+        Edit::Append(kept),
+        Edit::InsertChar(15_000, 'x'),
+        Edit::Insert(9, more),
+    ] {
+        faults = faults.saturating_add(apply(rope, step)?);
+        show(rt, rope)?;
+    }
+    Some(faults)
+}
+
+/// Edits of a rope behind which a clone of it is put.
+fn double_and_edit(rt: &impl Print, alloc: Global, rope: &mut Rope, kept: &Rope) -> Option<usize> {
+    let double = clone(rope)?;
+    let more = repeated(alloc, "\n12345678\r", 300)?;
+    let faults = edit(rt, rope, &double.rope, kept, more.as_str())?;
+    Some(faults.saturating_add(double.faults))
+}
+
 /// Takes a rope apart and joins its parts, prints it after each edit, and answers how many refusals or edits
 /// changed what they had to leave.
 pub fn run(rt: &impl Print, alloc: Global) -> Option<usize> {
@@ -54,32 +96,9 @@ pub fn run(rt: &impl Print, alloc: Global) -> Option<usize> {
     show(rt, &rope)?;
     let before = fingerprint(&rope);
     let kept = clone(&rope)?;
-    let mut faults = kept.faults;
-    // A CR before an LF, which meet; then a split between the two.
-    faults = faults.saturating_add(apply(&mut rope, Edit::Remove(9, 19_999))?);
-    show(rt, &rope)?;
-    let back = split_off(&mut rope, 5_009)?;
-    faults = faults.saturating_add(back.faults);
-    show(rt, &rope)?;
-    show(rt, &back.rope)?;
-    faults = faults.saturating_add(apply(&mut rope, Edit::Append(&back.rope))?);
-    let double = clone(&rope)?;
-    faults = faults.saturating_add(double.faults);
-    // At last the rope shares its nodes with another, and lines go in between a CR and an LF.
-    let more = repeated(alloc, "\n12345678\r", 300)?;
-    for step in [
-        Edit::Append(&double.rope),
-        Edit::Remove(100, 103),
-        Edit::Remove(0, 20_017),
-        Edit::Append(&kept.rope),
-        Edit::InsertChar(15_000, 'x'),
-        Edit::Insert(9, more.as_str()),
-    ] {
-        faults = faults.saturating_add(apply(&mut rope, step)?);
-        show(rt, &rope)?;
-    }
-    if fingerprint(&kept.rope) != before {
-        faults = faults.saturating_add(1);
-    }
-    Some(faults)
+    let joined = split_and_join(rt, &mut rope)?;
+    let edited = double_and_edit(rt, alloc, &mut rope, &kept.rope)?;
+    let changed = usize::from(fingerprint(&kept.rope) != before);
+    let faults = kept.faults.saturating_add(joined);
+    Some(faults.saturating_add(edited).saturating_add(changed))
 }

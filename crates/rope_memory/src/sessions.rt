@@ -52,33 +52,26 @@ fn chunks(alloc: Global, session: &mut Session, rope: usize) -> Option<usize> {
 }
 
 /// Runs commands on three ropes, and prints what they are.
-fn run_commands(rt: &impl Print, alloc: Global) -> Option<()> {
-    let mut session = Session::new(alloc);
-    reply_to(alloc, &mut session, Command::Text(owned(alloc, "a\r\nb")?))?;
-    reply_to(
-        alloc,
-        &mut session,
-        Command::Insert(0, 3, owned(alloc, "x")?),
-    )?;
-    reply_to(alloc, &mut session, Command::Text(owned(alloc, "")?))?;
-    reply_to(
-        alloc,
-        &mut session,
-        Command::Insert(1, 0, owned(alloc, "y")?),
-    )?;
+fn run_each(rt: &impl Print, alloc: Global, session: &mut Session) -> Option<()> {
+    reply_to(alloc, session, Command::Text(owned(alloc, "a\r\nb")?))?;
+    reply_to(alloc, session, Command::Insert(0, 3, owned(alloc, "x")?))?;
+    reply_to(alloc, session, Command::Text(owned(alloc, "")?))?;
+    reply_to(alloc, session, Command::Insert(1, 0, owned(alloc, "y")?))?;
     let lines = owned(alloc, "a\rb\n")?;
-    reply_to(
-        alloc,
-        &mut session,
-        Command::TextWith(LineBreaks::Lf, lines),
-    )?;
-    reply_to(alloc, &mut session, Command::Shrink(0))?;
+    reply_to(alloc, session, Command::TextWith(LineBreaks::Lf, lines))?;
+    reply_to(alloc, session, Command::Shrink(0))?;
     for rope in 0..3 {
-        let [bytes, chars, lines, units] = lens(alloc, &mut session, rope)?;
-        let chunks = chunks(alloc, &mut session, rope)?;
+        let [bytes, chars, lines, units] = lens(alloc, session, rope)?;
+        let chunks = chunks(alloc, session, rope)?;
         println!(rt; "{bytes} {chars} {lines} {units} in {chunks}").ok()?;
     }
     Some(())
+}
+
+/// The same, on a session that begins with no rope.
+fn run_commands(rt: &impl Print, alloc: Global) -> Option<()> {
+    let mut session = Session::new(alloc);
+    run_each(rt, alloc, &mut session)
 }
 
 /// Steps of a walk, made again where memory was refused.

@@ -20,6 +20,15 @@ pub fn told(alloc: Global, input: &[u8], step: usize) -> Result<(Ended, String),
     Ok((ended, String::from_utf8(writer.kept)?))
 }
 
+/// Adds each line, its LF with it.
+fn add_lines(text: &mut String, lines: &[&str]) -> Result<(), Fail> {
+    for line in lines {
+        text.push_str(line)?;
+        text.push('\n')?;
+    }
+    Ok(())
+}
+
 /// Serves lines that are all of the language, and compares what was written.
 pub fn expect(
     rt: &impl Abort,
@@ -28,15 +37,9 @@ pub fn expect(
     replies: &[&str],
 ) -> Result<(), Fail> {
     let mut input = String::new(alloc);
-    for line in lines {
-        input.push_str(line)?;
-        input.push('\n')?;
-    }
+    add_lines(&mut input, lines)?;
     let mut output = String::new(alloc);
-    for reply in replies {
-        output.push_str(reply)?;
-        output.push('\n')?;
-    }
+    add_lines(&mut output, replies)?;
     let (ended, written) = told(alloc, input.as_bytes(), 4096)?;
     assert_eq!(rt; written.as_str(), output.as_str());
     assert_eq!(rt; ended, Ended::Done);

@@ -2,7 +2,9 @@
 use crate::devices::{Asking, Dripping, Halting, Narrow, Stumbling, Telling};
 use crate::served::told;
 use rope_language::{Ended, serve};
+use std::alloc::Global;
 use std::cell::Cell;
+use std::process::Abort;
 use std::test::Fail;
 
 #[test]
@@ -64,10 +66,10 @@ fn ends(rt: HostRuntime) -> Result<(), Fail> {
     Ok(())
 }
 
-#[test]
-fn longest_text(rt: HostRuntime) -> Result<(), Fail> {
-    let mut input = String::from_str(rt.alloc(), "text a\n")?;
-    let mut replies = String::from_str(rt.alloc(), "rope 0\n")?;
+/// A text that is joined to itself until it may not grow, and the replies.
+fn double_it(input: &mut String, replies: &mut String) -> Result<(), Fail> {
+    input.push_str("text a\n")?;
+    replies.push_str("rope 0\n")?;
     for _ in 0..62 {
         input.push_str("join 0 0\n")?;
         replies.push_str("ok\n")?;
@@ -76,10 +78,23 @@ fn longest_text(rt: HostRuntime) -> Result<(), Fail> {
     replies.push_str("4611686018427387904 4611686018427387904 1 4611686018427387904\n")?;
     replies.push_str("error: Text would be longer than isize::MAX bytes\n")?;
     replies.push_str("4611686018427387904 4611686018427387904 1 4611686018427387904\n")?;
-    let (ended, output) = told(rt.alloc(), input.as_bytes(), 4096)?;
-    assert_eq!(rt; ended, Ended::Done);
-    assert_eq!(rt; output.as_str(), replies.as_str());
     Ok(())
+}
+
+/// The run over an input ends well, with these replies.
+fn ends_with(rt: &impl Abort, alloc: Global, input: &str, replies: &str) -> Result<(), Fail> {
+    let (ended, output) = told(alloc, input.as_bytes(), 4096)?;
+    assert_eq!(rt; ended, Ended::Done);
+    assert_eq!(rt; output.as_str(), replies);
+    Ok(())
+}
+
+#[test]
+fn longest_text(rt: HostRuntime) -> Result<(), Fail> {
+    let mut input = String::new(rt.alloc());
+    let mut replies = String::new(rt.alloc());
+    double_it(&mut input, &mut replies)?;
+    ends_with(&rt, rt.alloc(), input.as_str(), replies.as_str())
 }
 
 #[test]
@@ -115,9 +130,8 @@ fn failed_writes(rt: HostRuntime) -> Result<(), Fail> {
     Ok(())
 }
 
-#[test]
-fn long_lines_and_replies(rt: HostRuntime) -> Result<(), Fail> {
-    let mut input = Vec::new(rt.alloc());
+/// Three lines of 5,000 digits and 2,000 short ones.
+fn add_long_lines(input: &mut Vec<u8>) -> Result<(), Fail> {
     for _ in 0..3 {
         input.extend_from_slice(b"len ")?;
         for _ in 0..5000 {
@@ -128,30 +142,46 @@ fn long_lines_and_replies(rt: HostRuntime) -> Result<(), Fail> {
     for _ in 0..2000 {
         input.extend_from_slice(b"len 1\n")?;
     }
-    let mut reader = input.as_slice();
-    let mut writer = Narrow::new(rt.alloc(), 20000);
-    assert_eq!(rt; serve(rt.alloc(), &mut reader, &mut writer), Ended::Done);
-    assert_eq!(rt; writer.kept.len(), 2003 * 8);
-    let mut reader = input.as_slice();
-    let mut writer = Narrow::new(rt.alloc(), 9000);
-    assert_eq!(rt; serve(rt.alloc(), &mut reader, &mut writer), Ended::Failed);
     Ok(())
 }
 
+fn serve_long_lines(rt: &impl Abort, alloc: Global, input: &[u8]) {
+    let mut reader = input;
+    let mut writer = Narrow::new(alloc, 20000);
+    assert_eq!(rt; serve(alloc, &mut reader, &mut writer), Ended::Done);
+    assert_eq!(rt; writer.kept.len(), 2003 * 8);
+    let mut reader = input;
+    let mut writer = Narrow::new(alloc, 9000);
+    assert_eq!(rt; serve(alloc, &mut reader, &mut writer), Ended::Failed);
+}
+
 #[test]
-fn reply_longer_than_what_is_gathered(rt: HostRuntime) -> Result<(), Fail> {
-    let mut input = String::from_str(rt.alloc(), "text ")?;
-    let mut output = String::from_str(rt.alloc(), "rope 0\n\"")?;
+fn long_lines_and_replies(rt: HostRuntime) -> Result<(), Fail> {
+    let mut input = Vec::new(rt.alloc());
+    add_long_lines(&mut input)?;
+    serve_long_lines(&rt, rt.alloc(), &input);
+    Ok(())
+}
+
+/// A text of 9,000 letters that is shown, and the replies.
+fn show_it(input: &mut String, output: &mut String) -> Result<(), Fail> {
+    input.push_str("text ")?;
+    output.push_str("rope 0\n\"")?;
     for _ in 0..9000 {
         input.push('a')?;
         output.push('a')?;
     }
     input.push_str("\nshow 0\nlen 0\n")?;
     output.push_str("\"\n9000 9000 1 9000\n")?;
-    let (ended, written) = told(rt.alloc(), input.as_bytes(), 4096)?;
-    assert_eq!(rt; ended, Ended::Done);
-    assert_eq!(rt; written.as_str(), output.as_str());
     Ok(())
+}
+
+#[test]
+fn reply_longer_than_what_is_gathered(rt: HostRuntime) -> Result<(), Fail> {
+    let mut input = String::new(rt.alloc());
+    let mut output = String::new(rt.alloc());
+    show_it(&mut input, &mut output)?;
+    ends_with(&rt, rt.alloc(), input.as_str(), output.as_str())
 }
 
 #[test]

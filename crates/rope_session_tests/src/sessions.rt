@@ -125,15 +125,26 @@ fn run_one(
     let Some(reply) = replies.first() else {
         return Err(Fail::from("no reply"));
     };
-    let [command] = commands;
+    let [command] = &commands;
+    check_reply(alloc, session, ropes, command, reply)
+}
+
+/// The reply to a command, and the ropes that it left.
+fn check_reply(
+    alloc: Global,
+    session: &mut Session,
+    ropes: &mut Vec<PlainRope>,
+    command: &Command,
+    reply: &Reply,
+) -> Result<(), Fail> {
     if matches!(command, Command::Ask(_, _, _)) {
-        if !check_ask(alloc, ropes, &command, reply)? {
+        if !check_ask(alloc, ropes, command, reply)? {
             return Err(Fail::from("another reply to a question"));
         }
         return Ok(());
     }
     let count = ropes.len();
-    let effect = apply(alloc, ropes, &command)?;
+    let effect = apply(alloc, ropes, command)?;
     if !is_reply(effect.outcome, count, reply) {
         return Err(Fail::from("another reply to an edit"));
     }

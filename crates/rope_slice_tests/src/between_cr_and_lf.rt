@@ -2,6 +2,8 @@
 use crate::cuts::{back, byte_back, byte_between, byte_front, front, part};
 use rope_plain::texts::repeated;
 use ropey::{LineBreaks, Rope};
+use std::alloc::Global;
+use std::process::Abort;
 use std::test::Fail;
 
 #[test]
@@ -22,17 +24,21 @@ fn one_pair(rt: HostRuntime) -> Result<(), Fail> {
     Ok(())
 }
 
+fn count_fronts(rt: &impl Abort, rope: &Rope, lf: &Rope) -> Result<(), Fail> {
+    for i in 0..=29 {
+        assert!(rt; byte_front(rope, i)?.try_byte_to_line(i)? == (i + 1) / 2);
+        assert!(rt; front(rope, i)?.len_lines() == 1 + (i + 1) / 2);
+        assert!(rt; front(lf, i)?.len_lines() == 1 + i / 2);
+    }
+    Ok(())
+}
+
 #[test]
 fn fronts_of_pairs(rt: HostRuntime) -> Result<(), Fail> {
     let text = repeated(rt.alloc(), "\r\n", 15)?;
     let rope = Rope::from_str(rt.alloc(), text.as_str())?;
     let lf = Rope::from_str_with(rt.alloc(), text.as_str(), LineBreaks::Lf)?;
-    for i in 0..=29 {
-        assert_eq!(rt; byte_front(&rope, i)?.try_byte_to_line(i)?, (i + 1) / 2);
-        assert_eq!(rt; front(&rope, i)?.len_lines(), 1 + (i + 1) / 2);
-        assert_eq!(rt; front(&lf, i)?.len_lines(), 1 + i / 2);
-    }
-    Ok(())
+    count_fronts(&rt, &rope, &lf)
 }
 
 #[test]
@@ -45,17 +51,26 @@ fn backs_of_pairs(rt: HostRuntime) -> Result<(), Fail> {
     Ok(())
 }
 
-#[test]
-fn a_pair_near_a_full_leaf(rt: HostRuntime) -> Result<(), Fail> {
-    let mut text = repeated(rt.alloc(), "a", 983)?;
+/// 983 letters, a pair, and more letters.
+fn pair_near_a_full_leaf(alloc: Global) -> Result<String, Fail> {
+    let mut text = repeated(alloc, "a", 983)?;
     text.push_str("\r\n")?;
-    text.push_str(repeated(rt.alloc(), "b", 100)?.as_str())?;
-    let rope = Rope::from_str(rt.alloc(), text.as_str())?;
-    let before = byte_front(&rope, 984)?;
-    assert_eq!(rt; [before.len_lines(), before.try_char_to_line(984)?], [2, 1]);
-    let behind = byte_back(&rope, 984)?;
-    assert_eq!(rt; [behind.len_lines(), behind.try_line_to_byte(1)?], [2, 1]);
-    assert!(rt; byte_between(&rope, 984, 985)?.as_str() == Some("\n"));
+    text.push_str(repeated(alloc, "b", 100)?.as_str())?;
+    Ok(text)
+}
+
+fn cut_the_pair(rt: &impl Abort, rope: &Rope) -> Result<(), Fail> {
+    let before = byte_front(rope, 984)?;
+    assert!(rt; before.len_lines() == 2 && before.try_char_to_line(984)? == 1);
+    let behind = byte_back(rope, 984)?;
+    assert!(rt; behind.len_lines() == 2 && behind.try_line_to_byte(1)? == 1);
+    assert!(rt; byte_between(rope, 984, 985)?.as_str() == Some("\n"));
     assert!(rt; part(&behind, 0, 1)?.as_str() == Some("\n"));
     Ok(())
+}
+
+#[test]
+fn a_pair_near_a_full_leaf(rt: HostRuntime) -> Result<(), Fail> {
+    let rope = Rope::from_str(rt.alloc(), pair_near_a_full_leaf(rt.alloc())?.as_str())?;
+    cut_the_pair(&rt, &rope)
 }

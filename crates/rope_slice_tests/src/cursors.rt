@@ -4,6 +4,8 @@ use rope_plain::given::given;
 use rope_plain::items::{bytes_of_chunks, bytes_of_lines, count_byte, count_char};
 use rope_plain::texts::repeated;
 use ropey::{Rope, RopeSlice};
+use std::alloc::Global;
+use std::process::Abort;
 use std::test::Fail;
 
 /// The text of a line that is one chunk.
@@ -65,40 +67,55 @@ fn characters_turned_round(rt: HostRuntime) -> Result<(), Fail> {
     Ok(())
 }
 
-#[test]
-fn chunks_at_the_end(rt: HostRuntime) -> Result<(), Fail> {
-    let text = repeated(rt.alloc(), "a", 20_000)?;
-    let rope = Rope::from_str(rt.alloc(), text.as_str())?;
+fn chunks_at_the_end_of_a_rope(rt: &impl Abort, rope: &Rope) -> Result<(), Fail> {
     let (mut chunks, bytes, chars, break_count) = given(rope.get_chunks_at_byte(20_000))?;
-    assert_eq!(rt; [bytes, chars, break_count], [20_000, 20_000, 0]);
+    assert!(rt; [bytes, chars, break_count] == [20_000, 20_000, 0]);
     assert!(rt; chunks.next().is_none());
     let (last, _, _, _) = given(rope.get_chunk_at_byte(20_000))?;
     assert!(rt; chunks.prev() == Some(last));
     assert!(rt; chunks.next() == Some(last) && chunks.next().is_none());
-    let (mut chunks, bytes, chars, break_count) = given(RopeSlice::from(
-        "abc",
-    ).get_chunks_at_line_break(1))?;
-    assert_eq!(rt; [bytes, chars, break_count], [3, 3, 0]);
+    Ok(())
+}
+
+fn chunks_at_the_end_of_a_text(rt: &impl Abort, slice: RopeSlice<'_>) -> Result<(), Fail> {
+    let (mut chunks, bytes, chars, break_count) = given(slice.get_chunks_at_line_break(1))?;
+    assert!(rt; [bytes, chars, break_count] == [3, 3, 0]);
     assert!(rt; chunks.next().is_none());
     assert!(rt; chunks.prev() == Some("abc") && chunks.prev().is_none());
     Ok(())
 }
 
 #[test]
-fn lines_of_several_chunks(rt: HostRuntime) -> Result<(), Fail> {
-    let mut text = repeated(rt.alloc(), "a", 3_000)?;
-    text.push('\n')?;
-    text.push_str(repeated(rt.alloc(), "b", 3_000)?.as_str())?;
+fn chunks_at_the_end(rt: HostRuntime) -> Result<(), Fail> {
+    let text = repeated(rt.alloc(), "a", 20_000)?;
     let rope = Rope::from_str(rt.alloc(), text.as_str())?;
+    chunks_at_the_end_of_a_rope(&rt, &rope)?;
+    chunks_at_the_end_of_a_text(&rt, RopeSlice::from("abc"))
+}
+
+/// Two lines of 3,000 letters.
+fn two_long_lines(alloc: Global) -> Result<String, Fail> {
+    let mut text = repeated(alloc, "a", 3_000)?;
+    text.push('\n')?;
+    text.push_str(repeated(alloc, "b", 3_000)?.as_str())?;
+    Ok(text)
+}
+
+fn step_over_long_lines(rt: &impl Abort, rope: &Rope) -> Result<(), Fail> {
     let first = given(rope.get_line(0))?;
-    assert_eq!(rt; lens(Some(first)), Some([3_001, 2]));
-    assert!(rt; first.as_str().is_none());
+    assert!(rt; lens(Some(first)) == Some([3_001, 2]) && first.as_str().is_none());
     let mut lines = given(rope.get_lines_at(2))?;
-    assert_eq!(rt; lens(lines.prev()), Some([3_000, 1]));
-    assert_eq!(rt; lens(lines.prev()), Some([3_001, 2]));
+    assert!(rt; lens(lines.prev()) == Some([3_000, 1]));
+    assert!(rt; lens(lines.prev()) == Some([3_001, 2]));
     assert!(rt; lines.prev().is_none());
     assert!(rt; lines.size_hint() == (2, Some(2)) && lines.len() == 2);
     Ok(())
+}
+
+#[test]
+fn lines_of_several_chunks(rt: HostRuntime) -> Result<(), Fail> {
+    let rope = Rope::from_str(rt.alloc(), two_long_lines(rt.alloc())?.as_str())?;
+    step_over_long_lines(&rt, &rope)
 }
 
 const FOUR_LINES: &str =

@@ -7,6 +7,7 @@ use rope_callers::positions::insert_at_position;
 use rope_callers::search::insert_before_char;
 use rope_position::Position;
 use ropey::{Error, Rope};
+use std::process::Abort;
 use std::test::Fail;
 
 #[test]
@@ -16,20 +17,29 @@ fn a_titled_text(rt: HostRuntime) -> Result<(), Fail> {
     Ok(())
 }
 
+fn edit_inside(rt: &impl Abort, rope: &mut Rope) -> Result<(), Fail> {
+    put_at_end(rope, "c\nd")?;
+    assert!(rt; rope.eq_str("ä\nb\nc\nd"));
+    assert!(rt; 1 <= rope.len_bytes());
+    insert_at_byte(rope, 1, "x")?;
+    assert!(rt; rope.eq_str("xä\nb\nc\nd"));
+    Ok(())
+}
+
+fn remove_lines(rt: &impl Abort, rope: &mut Rope) -> Result<(), Fail> {
+    assert!(rt; 6 <= rope.len_chars());
+    assert!(rt; line_start_of(rope, 6) == 5);
+    assert!(rt; remove_line(rope, 1)?);
+    assert!(rt; rope.eq_str("xä\nc\nd"));
+    assert!(rt; !remove_line(rope, 3)?);
+    Ok(())
+}
+
 #[test]
 fn places_that_are_inside(rt: HostRuntime) -> Result<(), Fail> {
     let mut rope = Rope::from_str(rt.alloc(), "ä\nb\n")?;
-    put_at_end(&mut rope, "c\nd")?;
-    assert!(rt; rope.eq_str("ä\nb\nc\nd"));
-    assert!(rt; 1 <= rope.len_bytes());
-    insert_at_byte(&mut rope, 1, "x")?;
-    assert!(rt; rope.eq_str("xä\nb\nc\nd"));
-    assert!(rt; 6 <= rope.len_chars());
-    assert_eq!(rt; line_start_of(&rope, 6), 5);
-    assert!(rt; remove_line(&mut rope, 1)?);
-    assert!(rt; rope.eq_str("xä\nc\nd"));
-    assert!(rt; !remove_line(&mut rope, 3)?);
-    Ok(())
+    edit_inside(&rt, &mut rope)?;
+    remove_lines(&rt, &mut rope)
 }
 
 #[test]
@@ -42,35 +52,53 @@ fn a_copy_without_a_part(rt: HostRuntime) -> Result<(), Fail> {
     Ok(())
 }
 
-#[test]
-fn edits_undone(rt: HostRuntime) -> Result<(), Fail> {
-    let mut history = History {
-        text: Rope::from_str(rt.alloc(), "b")?,
-        past: Vec::new(rt.alloc()),
-    };
+fn insert_two(rt: &impl Abort, history: &mut History) -> Result<(), Fail> {
     history.insert(0, "a")?;
-    assert_eq!(rt; history.text.len_chars(), 2);
+    assert!(rt; history.text.len_chars() == 2);
     history.insert(2, "c")?;
     assert!(rt; history.text.eq_str("abc"));
+    Ok(())
+}
+
+fn undo_all(rt: &impl Abort, history: &mut History) {
     for text in ["ab", "b"] {
         assert!(rt; history.undo());
         assert!(rt; history.text.eq_str(text));
     }
     assert!(rt; !history.undo());
     assert!(rt; history.text.eq_str("b"));
+}
+
+#[test]
+fn edits_undone(rt: HostRuntime) -> Result<(), Fail> {
+    let mut history = History {
+        text: Rope::from_str(rt.alloc(), "b")?,
+        past: Vec::new(rt.alloc()),
+    };
+    insert_two(&rt, &mut history)?;
+    undo_all(&rt, &mut history);
+    Ok(())
+}
+
+fn insert_before(rt: &impl Abort, rope: &mut Rope) -> Result<(), Fail> {
+    assert!(rt; insert_before_char(rope, '=', " ")? == Some(1));
+    assert!(rt; insert_before_char(rope, 'x', " ")?.is_none());
+    assert!(rt; rope.eq_str("ä =b=c"));
+    Ok(())
+}
+
+fn insert_at_positions(rt: &impl Abort, rope: &mut Rope) -> Result<(), Fail> {
+    insert_at_position(rope, Position { line: 1, column: 2 }, "x")?;
+    assert!(rt; rope.eq_str("a\n𝔸xb"));
+    let past = insert_at_position(rope, Position { line: 2, column: 0 }, "x");
+    assert!(rt; past == Err(Error::LineIndexOutOfBounds(2, 2)));
     Ok(())
 }
 
 #[test]
 fn edits_at_places_that_are_sought(rt: HostRuntime) -> Result<(), Fail> {
     let mut rope = Rope::from_str(rt.alloc(), "ä=b=c")?;
-    assert_eq!(rt; insert_before_char(&mut rope, '=', " ")?, Some(1));
-    assert_eq!(rt; insert_before_char(&mut rope, 'x', " ")?, None);
-    assert!(rt; rope.eq_str("ä =b=c"));
+    insert_before(&rt, &mut rope)?;
     let mut rope = Rope::from_str(rt.alloc(), "a\n𝔸b")?;
-    insert_at_position(&mut rope, Position { line: 1, column: 2 }, "x")?;
-    assert!(rt; rope.eq_str("a\n𝔸xb"));
-    let past = insert_at_position(&mut rope, Position { line: 2, column: 0 }, "x");
-    assert!(rt; past == Err(Error::LineIndexOutOfBounds(2, 2)));
-    Ok(())
+    insert_at_positions(&rt, &mut rope)
 }

@@ -24,11 +24,22 @@ fn of_one_text(rt: HostRuntime) -> Result<(), Fail> {
 
 #[test]
 fn of_the_texts_of_an_iterator(rt: HostRuntime) -> Result<(), Fail> {
-    let alloc = rt.alloc();
-    let rope = Rope::from_str_iter(alloc, ["a", "b"])?;
+    let rope = Rope::from_str_iter(rt.alloc(), ["a", "b"])?;
     compare_unicode(&rope, &['a', 'b'])?;
+    Ok(())
+}
+
+#[test]
+fn of_owned_texts(rt: HostRuntime) -> Result<(), Fail> {
+    let alloc = rt.alloc();
     let rope = Rope::from_string_iter(alloc, [owned(alloc, "a")?, owned(alloc, "b")?])?;
     compare_unicode(&rope, &['a', 'b'])?;
+    Ok(())
+}
+
+#[test]
+fn of_texts_lent_or_owned(rt: HostRuntime) -> Result<(), Fail> {
+    let alloc = rt.alloc();
     let cows = [CowStr::Borrowed("a"), CowStr::Owned(owned(alloc, "b")?)];
     let rope = Rope::from_cow_iter(alloc, cows)?;
     compare_unicode(&rope, &['a', 'b'])?;
