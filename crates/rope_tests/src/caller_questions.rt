@@ -7,25 +7,30 @@ use rope_callers::twins::line_length;
 use rope_position::Position;
 use ropey::io::ReadError;
 use ropey::{Error, Rope};
+use std::process::Abort;
 use std::test::Fail;
+
+fn measure_lines(rt: &impl Abort, rope: &Rope) {
+    assert!(rt; line_length(rope, 1) == Some(5) && line_length(rope, 3) == Some(0));
+    assert!(rt; line_length(rope, 4).is_none());
+    assert!(rt; all_fit(rope, 5) && !all_fit(rope, 4));
+}
+
+fn seek_long_lines(rt: &impl Abort, rope: &Rope) -> Result<(), Fail> {
+    assert!(rt; rope.len_lines() == 4);
+    let Some(line) = long_line_before(rope, 4, 3) else {
+        return Err(Fail::from("no line"));
+    };
+    assert!(rt; line.as_str() == Some("four\n"));
+    assert!(rt; long_line_before(rope, 1, 5).is_none());
+    Ok(())
+}
 
 #[test]
 fn lines_forward_and_back(rt: HostRuntime) -> Result<(), Fail> {
     let rope = Rope::from_str(rt.alloc(), "one\nfour\nä\n")?;
-    assert_eq!(rt;
-        [line_length(&rope, 1), line_length(&rope, 3)],
-        [Some(5), Some(0)]
-    );
-    assert_eq!(rt; line_length(&rope, 4), None);
-    assert!(rt; all_fit(&rope, 5));
-    assert!(rt; !all_fit(&rope, 4));
-    assert_eq!(rt; rope.len_lines(), 4);
-    let Some(line) = long_line_before(&rope, 4, 3) else {
-        return Err(Fail::from("no line"));
-    };
-    assert!(rt; line.as_str() == Some("four\n"));
-    assert!(rt; long_line_before(&rope, 1, 5).is_none());
-    Ok(())
+    measure_lines(&rt, &rope);
+    seek_long_lines(&rt, &rope)
 }
 
 #[test]
