@@ -1,5 +1,5 @@
 -- What the form of a node says of it.
-use Rattle.std.proofs.Common.{◌≡◌, ℕ, ◌≤◌, Bool, true, false, Result, Ok, Err, IfOk, OnErr, List, [], ◌∷◌, refl, sym, ap, subst, ◌∙◌, arith}
+use Rattle.std.proofs.Common.{◌≡◌, ℕ, Bool, true, false, Result, Ok, Err, IfOk, OnErr, List, [], ◌∷◌, refl, sym, ap, subst, ◌∙◌, arith}
 use Rattle.std.proofs.lemmas.List.{nil_from_length}
 use Rattle.std.proofs.lemmas.Str.{length-le-encodes}
 use Rattle.std.specs.declared.alloc.Global.{Global}
@@ -60,8 +60,8 @@ pub grown_node : (t : Tree) (ts us : List Tree) (at : ℕ) (s : List ℕ) → Is
 grown_node t ts us at s i g = rw i.is (over_grown ts us at s i.children g)
 
 -- a node whose children lost characters
-pub removed_children : (t : Tree) (ts us : List Tree) (start end : ℕ) → IsInner t ts → AreRemoved ts us start end → AreChildren (breaks_of us) (height_of us) us
-removed_children t ts us start end i r = children_of_first (breaks_of ts) (height_of ts) us r.children
+pub removed_children : (first last : ℕ) (t : Tree) (ts us : List Tree) (start end : ℕ) → IsInner t ts → AreRemoved first last ts us start end → AreChildren (breaks_of us) (height_of us) us
+removed_children first last t ts us start end i r = children_of_first (breaks_of ts) (height_of ts) us r.children
 
-pub removed_node : (least : ℕ) (t : Tree) (ts us : List Tree) (start end : ℕ) → least ≤ 491 → IsInner t ts → AreRemoved ts us start end → IsRemoved least t (tree_over us) start end
-removed_node least t ts us start end few i r = over_removed least t (tree_over us) ts us start end few i.is refl r
+pub removed_node : (first last : ℕ) (t : Tree) (ts us : List Tree) (start end : ℕ) → IsInner t ts → AreRemoved first last ts us start end → IsRemoved first last t (tree_over us) start end
+removed_node first last t ts us start end i r = over_removed first last t (tree_over us) ts us start end i.is refl r

@@ -87,7 +87,7 @@ node_grown t ts us at s is a g x x_is =
     rw is (record {
       text_is = joined_one x ∙ ap text x_is ∙ g.text_is;
       leaves = rw flat g.siblings.leaves;
-      stand = λ _. subst (StandFor 491 (leaves_of ts)) (sym flat) g.stand;
+      stand = λ _. subst (StandFor 491 491 (leaves_of ts)) (sym flat) g.stand;
       parts = record {
         some = parts.some;
         at_most_two = parts.at_most_two;

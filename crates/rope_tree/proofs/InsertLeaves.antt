@@ -35,7 +35,7 @@ one_inserted breaks old leaf new x is tree same some longer =
     record {
       text_is = joined_one x ∙ text_of_leaf breaks x leaf is ∙ same;
       leaves = rw append-nil tree.leaves;
-      stand = λ there. subst (StandFor 491 (one_leaf old)) (sym flat) (leaf_stands 491 old new some (omega (arith, longer)) there);
+      stand = λ there. subst (StandFor 491 491 (one_leaf old)) (sym flat) (leaf_stands 491 491 old new some (omega (arith, longer)) (omega (arith, longer)) there);
       parts = record {
         some = omega arith;
         at_most_two = omega arith;

@@ -17,7 +17,7 @@ use Rattle.rope_tree.specs.Tree.{Tree, text, joined, leaves_of, height_of, break
 use Rattle.rope_tree.specs.Siblings.{AreSiblings, AreParts}
 use Rattle.rope_tree.specs.Insert.{MayInsert, IsInserted}
 use Rattle.rope_tree.proofs.LeafLaws.{all_left, all_right, leaf_sizes, leaves-append, leaves_left, leaves_right, leaves_seam, seam_of_left, nil-seam}
-use Rattle.rope_tree.proofs.StandLaws.{enough_half, stand_between}
+use Rattle.rope_tree.proofs.StandLaws.{half_behind, half_ahead, stand_between}
 use Rattle.rope_tree.proofs.TreeLaws.{wide_more, wide_weaker, height_of_is, breaks_of_is}
 use Rattle.rope_tree.proofs.NodeLaws.{leaves_of-append, joined-append, child_at}
 use Rattle.rope_tree.proofs.Descents.{leaves_at}
@@ -113,16 +113,17 @@ module _ (breaks : LineBreaks) (h : ℕ) (ts : List Tree) (k : ℕ) (child : Tre
       new_parts = leaves_of-append (take k ts) (ps ++ drop (k + 1) ts) ∙ ap (λ xs. leaves_of (take k ts) ++ xs) (leaves_of-append ps (drop (k + 1) ts))
 
       -- they may stand where the old ones may
-      pub new_stand : StandFor 491 (leaves_of ts) (leaves_of (take k ts ++ (ps ++ drop (k + 1) ts)))
+      pub new_stand : StandFor 491 491 (leaves_of ts) (leaves_of (take k ts ++ (ps ++ drop (k + 1) ts)))
       new_stand =
           let left = leaves_of (take k ts) in
           let right = leaves_of (drop (k + 1) ts) in
           let before = leaves_left left (child.leaves ++ right) parted in
           let after = leaves_right child.leaves right (leaves_right left (child.leaves ++ right) parted) in
-          let enough = enough_half left right (leaf_sizes left before.each) (leaf_sizes right after.each) after.dense in
-          let between = stand_between 491 left child.leaves (leaves_of ps) right enough (new.stand own.some) in
-          subst (λ xs. StandFor 491 xs (leaves_of (take k ts ++ (ps ++ drop (k + 1) ts)))) (sym around_child)
-          (subst (StandFor 491 (left ++ (child.leaves ++ right))) (sym new_parts) between)
+          let first = half_behind left (leaf_sizes left before.each) in
+          let last = half_ahead right (leaf_sizes right after.each) after.dense in
+          let between = stand_between 491 491 491 491 left child.leaves (leaves_of ps) right first last (new.stand own.some) in
+          subst (λ xs. StandFor 491 491 xs (leaves_of (take k ts ++ (ps ++ drop (k + 1) ts)))) (sym around_child)
+          (subst (StandFor 491 491 (left ++ (child.leaves ++ right))) (sym new_parts) between)
 
       new_leaves : AreLeaves (leaves_of (take k ts ++ (ps ++ drop (k + 1) ts)))
       new_leaves =
@@ -170,7 +171,7 @@ module _ (breaks : LineBreaks) (h : ℕ) (ts : List Tree) (k : ℕ) (child : Tre
           record {
             text_is = ap concat leaves ∙ new_text;
             leaves = subst AreLeaves (sym leaves) new_leaves;
-            stand = λ _. subst (λ xs. StandFor 491 xs (leaves_of rs)) (sym (ap (λ u. u.leaves) is)) (subst (StandFor 491 (leaves_of ts)) (sym leaves) new_stand);
+            stand = λ _. subst (λ xs. StandFor 491 491 xs (leaves_of rs)) (sym (ap (λ u. u.leaves) is)) (subst (StandFor 491 491 (leaves_of ts)) (sym leaves) new_stand);
             parts = record {
               some = p.some;
               at_most_two = p.at_most_two;

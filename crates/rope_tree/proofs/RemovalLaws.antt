@@ -1,5 +1,5 @@
 -- Characters that are taken out of one leaf below a node.
-use Rattle.std.proofs.Common.{◌≡◌, ℕ, ◌+◌, ◌-◌, ◌<◌, ◌≤◌, true, List, [], ◌∷◌, ◌++◌, length, get_or, set, take, drop, refl, sym, ap, subst, ◌∙◌, arith}
+use Rattle.std.proofs.Common.{◌≡◌, ℕ, ◌+◌, ◌-◌, ◌<◌, ◌≤◌, true, max, List, [], ◌∷◌, ◌++◌, length, get_or, set, take, drop, refl, sym, ap, subst, ◌∙◌, arith}
 use Rattle.std.specs.List.{concat}
 use Rattle.std.specs.Str.{all_scalars}
 use Rattle.std.proofs.lemmas.List.{append_assoc, length-append, length-set, take-append-drop}
@@ -13,12 +13,12 @@ use Rattle.rope_text.proofs.CuttingLaws.{concat-append}
 use Rattle.rope_tree.specs.declared.search.Unit.TheVariants.{Char}
 use Rattle.rope_text.specs.Dense.{AreDense, last_bytes}
 use Rattle.rope_text.proofs.DenseLaws.{dense_alone, dense_right}
-use Rattle.rope_tree.specs.Leaves.{AreLeaves, IsSeam, StandFor, IsEnough}
+use Rattle.rope_tree.specs.Leaves.{AreLeaves, IsSeam, StandFor, IsEnoughBehind, IsEnoughAhead}
 use Rattle.rope_tree.specs.Tree.{Tree, text, joined, one_leaf, leaf_tree, leaves_of, height_of, breaks_of, tree_over, IsTree, IsChild, AreChildren}
 use Rattle.rope_tree.specs.Totals.{HasTotals}
 use Rattle.rope_tree.specs.Removal.{KeepsEnds, IsRemoved, AreRemoved}
 use Rattle.rope_tree.proofs.LeafLaws.{lone_leaf, leaves-append, leaves_left, leaves_right, leaves_le}
-use Rattle.rope_tree.proofs.StandLaws.{one_leaf_is, leaf_stands, stand_fewer, stand_between}
+use Rattle.rope_tree.proofs.StandLaws.{one_leaf_is, leaf_stands, stand_between}
 use Rattle.rope_tree.proofs.TreeLaws.{height_of_is, breaks_of_is}
 use Rattle.rope_tree.proofs.NodeLaws.{leaves_of-append, child_at, more_at, leaf_text}
 use Rattle.rope_tree.proofs.Descents.{Descends}
@@ -38,8 +38,8 @@ byte_len-removed xs a b order =
     )
 
 -- as many leaves under as many nodes are a tree
-pub tree_removed : (least : ℕ) (old new : Tree) (a b : ℕ) → a ≤ b → IsTree old → IsRemoved least old new a b → IsTree new
-tree_removed least old new a b order t r = record {
+pub tree_removed : (first last : ℕ) (old new : Tree) (a b : ℕ) → a ≤ b → IsTree old → IsRemoved first last old new a b → IsTree new
+tree_removed first last old new a b order t r = record {
   lone = λ z. omega (arith, t.lone (omega (arith, r.same_height)), r.as_many);
   at_least_two = λ p. omega (arith, t.at_least_two (omega (arith, r.same_height)), r.same_width);
   at_most_24 = omega (arith, t.at_most_24, r.same_width);
@@ -49,13 +49,13 @@ tree_removed least old new a b order t r = record {
   fits = omega (arith, ap byte_len r.text_is, byte_len-removed (text old) a b order, t.fits);
 }
 
-pub child_removed : (least : ℕ) (br : LineBreaks) (h : ℕ) (old new : Tree) (a b : ℕ) → a ≤ b → IsChild br h old → IsRemoved least old new a b → IsChild br h new
-child_removed least br h old new a b order c r = record {
+pub child_removed : (first last : ℕ) (br : LineBreaks) (h : ℕ) (old new : Tree) (a b : ℕ) → a ≤ b → IsChild br h old → IsRemoved first last old new a b → IsChild br h new
+child_removed first last br h old new a b order c r = record {
   same_breaks = r.same_breaks ∙ c.same_breaks;
   at_height = r.same_height ∙ c.at_height;
   wide = λ p. omega (arith, c.wide p, r.same_width);
   some = omega (arith, c.some, r.as_many);
-  tree = tree_removed least old new a b order c.tree r;
+  tree = tree_removed first last old new a b order c.tree r;
 }
 
 -- characters of the middle one of three texts
@@ -100,7 +100,7 @@ module _ (br : LineBreaks) (h : ℕ) (ts : List Tree) (k : ℕ) (c : Tree) (a : 
   parted : joined ts ≡ joined (take k ts) ++ (text c ++ joined (drop (k + 1) ts))
   parted = text_around br h ts k c a lt here
 
-  module _ (least : ℕ) (u : Tree) (r : IsRemoved least c u i j) (enough : IsEnough least left right) where
+  module _ (wanted ahead low high : ℕ) (u : Tree) (r : IsRemoved low high c u i j) (enough : IsEnoughBehind wanted low left) (more : IsEnoughAhead ahead high right) where
     own : IsChild br h c
     own = child_at br h ts k c a lt here
 
@@ -126,10 +126,10 @@ module _ (br : LineBreaks) (h : ℕ) (ts : List Tree) (k : ℕ) (c : Tree) (a : 
         let now : joined (set ts k u) ≡ concat left ++ (text u ++ concat right) = ap concat new_leaves ∙ concat-append left (u.leaves ++ right) ∙ ap (λ x. concat left ++ x) (concat-append u.leaves right) in
         rw (parted, now) (ends_around (concat left) (text c) (text u) (concat right) some_text r.ends)
 
-    new_stand : StandFor 491 (leaves_of ts) (leaves_of (set ts k u))
+    new_stand : StandFor wanted ahead (leaves_of ts) (leaves_of (set ts k u))
     new_stand =
-        subst (λ xs. StandFor 491 xs (leaves_of (set ts k u))) (sym old_leaves)
-        (subst (StandFor 491 (left ++ (c.leaves ++ right))) (sym new_leaves) (stand_between least left c.leaves u.leaves right enough r.stand))
+        subst (λ xs. StandFor wanted ahead xs (leaves_of (set ts k u))) (sym old_leaves)
+        (subst (StandFor wanted ahead (left ++ (c.leaves ++ right))) (sym new_leaves) (stand_between wanted ahead low high left c.leaves u.leaves right enough more r.stand))
 
     are_leaves : AreLeaves (leaves_of (set ts k u))
     are_leaves =
@@ -149,12 +149,12 @@ module _ (br : LineBreaks) (h : ℕ) (ts : List Tree) (k : ℕ) (c : Tree) (a : 
         record {
           at_least_two = omega (arith, many, a.at_least_two);
           at_most_24 = omega (arith, many, a.at_most_24);
-          each = All-set (IsChild br h) ts k u (child_removed least br h c u i j before own r) a.each;
+          each = All-set (IsChild br h) ts k u (child_removed low high br h c u i j before own r) a.each;
           leaves = are_leaves;
           fits = omega (arith, ap byte_len new_text, byte_len-removed (joined ts) start end (omega (arith, held.first, held.last, before)), a.fits);
         }
 
-    pub children_removed : br ≡ breaks_of ts → h ≡ height_of ts → AreRemoved ts (set ts k u) start end
+    pub children_removed : br ≡ breaks_of ts → h ≡ height_of ts → AreRemoved wanted ahead ts (set ts k u) start end
     children_removed br_is h_is = record {
       text_is = new_text;
       ends = new_ends;
@@ -166,14 +166,14 @@ module _ (br : LineBreaks) (h : ℕ) (ts : List Tree) (k : ℕ) (c : Tree) (a : 
 
 -- the slices around a child, with the new one between them
 pub spliced_removed : (ts : List Tree) (k : ℕ) (c u : Tree) (vs : List Tree) → AreChildren (breaks_of ts) (height_of ts) ts → k < length ts → get_or ts k c ≡ c
-    → (i j start end : ℕ) → Holds ts k c i j start end → (least : ℕ) → IsRemoved least c u i j → IsEnough least (leaves_of (take k ts)) (leaves_of (drop (k + 1) ts))
-    → vs ≡ take k ts ++ (u ∷ [] ++ take (length ts - (k + 1)) (drop (k + 1) ts)) → AreRemoved ts vs start end
-spliced_removed ts k c u vs a lt here i j start end held least r enough is =
-    rw (around ts k (u ∷ []) vs is ∙ sym (set_parts ts k u lt)) (children_removed (breaks_of ts) (height_of ts) ts k c a lt here i j start end held least u r enough refl refl)
+    → (i j start end : ℕ) → Holds ts k c i j start end → (wanted ahead low high : ℕ) → IsRemoved low high c u i j → IsEnoughBehind wanted low (leaves_of (take k ts)) → IsEnoughAhead ahead high (leaves_of (drop (k + 1) ts))
+    → vs ≡ take k ts ++ (u ∷ [] ++ take (length ts - (k + 1)) (drop (k + 1) ts)) → AreRemoved wanted ahead ts vs start end
+spliced_removed ts k c u vs a lt here i j start end held wanted ahead low high r enough more is =
+    rw (around ts k (u ∷ []) vs is ∙ sym (set_parts ts k u lt)) (children_removed (breaks_of ts) (height_of ts) ts k c a lt here i j start end held wanted ahead low high u r enough more refl refl)
 
 -- a node over the children that are left is the old one without the characters
-pub over_removed : (least : ℕ) (t x : Tree) (ts us : List Tree) (start end : ℕ) → least ≤ 491 → t ≡ tree_over ts → x ≡ tree_over us → AreRemoved ts us start end → IsRemoved least t x start end
-over_removed least t x ts us start end few is x_is r =
+pub over_removed : (first last : ℕ) (t x : Tree) (ts us : List Tree) (start end : ℕ) → t ≡ tree_over ts → x ≡ tree_over us → AreRemoved first last ts us start end → IsRemoved first last t x start end
+over_removed first last t x ts us start end is x_is r =
     let some : 1 ≤ length us = omega (arith, r.children.at_least_two) in
     let sets : breaks_of us ≡ breaks_of ts = breaks_of_is (breaks_of ts) (height_of ts) us some r.children.each in
     let heights : height_of us ≡ height_of ts = height_of_is (breaks_of ts) (height_of ts) us some r.children.each in
@@ -185,13 +185,13 @@ over_removed least t x ts us start end few is x_is r =
       same_width = r.as_many;
       as_many = r.as_many_leaves;
       leaves = r.children.leaves;
-      stand = stand_fewer least 491 (leaves_of ts) (leaves_of us) few r.stand;
+      stand = r.stand;
     })
 
 -- a leaf that keeps some of its characters
-pub leaf_removed : (least : ℕ) (br : LineBreaks) (l new : List ℕ) (t x : Tree) (start end : ℕ) → t ≡ leaf_tree br l → x ≡ leaf_tree br new → new ≡ removed l start end → start < end → end ≤ length l → 1 ≤ length (removed l start end) → KeepsEnds l (removed l start end) → least ≤ byte_len (removed l start end) → AreLeaves x.leaves
-    → IsRemoved least t x start end
-leaf_removed least br l new t x start end t_is x_is is order within some ends enough leaves =
+pub leaf_removed : (first last : ℕ) (br : LineBreaks) (l new : List ℕ) (t x : Tree) (start end : ℕ) → t ≡ leaf_tree br l → x ≡ leaf_tree br new → new ≡ removed l start end → start < end → end ≤ length l → 1 ≤ length (removed l start end) → KeepsEnds l (removed l start end) → max first last ≤ byte_len (removed l start end) → AreLeaves x.leaves
+    → IsRemoved first last t x start end
+leaf_removed first last br l new t x start end t_is x_is is order within some ends enough leaves =
     let old : one_leaf l ≡ l ∷ [] = one_leaf_is l (omega arith) in
     let now : one_leaf new ≡ new ∷ [] = one_leaf_is new (omega (arith, ap length is, some)) in
     let own : AreLeaves (one_leaf new) = subst AreLeaves (ap (λ u. u.leaves) x_is) leaves in
@@ -203,13 +203,13 @@ leaf_removed least br l new t x start end t_is x_is is order within some ends en
       same_width = refl;
       as_many = rw (old, now) refl;
       leaves = own;
-      stand = leaf_stands least l new (omega (arith, ap length is, some)) (omega (arith, ap byte_len is, enough)) (omega (arith, ap length old));
+      stand = leaf_stands first last l new (omega (arith, ap length is, some)) (omega (arith, ap byte_len is, enough)) (omega (arith, ap byte_len is, enough)) (omega (arith, ap length old));
     })
 
 -- where it stands
-pub leaf_left : (least : ℕ) (br : LineBreaks) (l new : List ℕ) (start end : ℕ) → new ≡ removed l start end → start < end → end ≤ length (text (leaf_tree br l)) → 1 ≤ length (removed l start end) → KeepsEnds l (removed l start end)
-    → least ≤ byte_len (removed l start end) → byte_len new ≤ 984 → all_scalars new ≡ true → IsRemoved least (leaf_tree br l) (leaf_tree br new) start end
-leaf_left least br l new start end is order within some ends enough fits scalars =
+pub leaf_left : (first last : ℕ) (br : LineBreaks) (l new : List ℕ) (start end : ℕ) → new ≡ removed l start end → start < end → end ≤ length (text (leaf_tree br l)) → 1 ≤ length (removed l start end) → KeepsEnds l (removed l start end)
+    → max first last ≤ byte_len (removed l start end) → byte_len new ≤ 984 → all_scalars new ≡ true → IsRemoved first last (leaf_tree br l) (leaf_tree br new) start end
+leaf_left first last br l new start end is order within some ends enough fits scalars =
     let now : one_leaf new ≡ new ∷ [] = one_leaf_is new (omega (arith, ap length is, some)) in
-    leaf_removed least br l new (leaf_tree br l) (leaf_tree br new) start end refl refl is order (omega (arith, within, ap length (leaf_text l))) some ends enough
+    leaf_removed first last br l new (leaf_tree br l) (leaf_tree br new) start end refl refl is order (omega (arith, within, ap length (leaf_text l))) some ends enough
     (rw now (lone_leaf new (record { some = omega (arith, ap length is, some); fits = fits; scalars = scalars })))

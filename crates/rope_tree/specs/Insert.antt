@@ -20,7 +20,7 @@ pub record GoesIn (at i n : ℕ) (to_right : Bool) : Type 0 where
 pub record IsInserted (old : Tree) (ts : List Tree) (new : List ℕ) : Type 0 where
   pub text_is : joined ts ≡ new
   pub leaves : AreLeaves (leaves_of ts)
-  pub stand : 1 ≤ length old.leaves → StandFor 491 old.leaves (leaves_of ts)
+  pub stand : 1 ≤ length old.leaves → StandFor 491 491 old.leaves (leaves_of ts)
   pub parts : AreParts old.breaks old.width (old.width + 1) old.height ts
 
 -- at least as many trees of the same height as before, and at most 24, of this text
@@ -29,4 +29,4 @@ pub record AreGrown (old ts : List Tree) (new : List ℕ) : Type 0 where
   pub at_most_24 : length ts ≤ 24
   pub text_is : joined ts ≡ new
   pub siblings : AreSiblings (breaks_of old) (height_of old) ts
-  pub stand : StandFor 491 (leaves_of old) (leaves_of ts)
+  pub stand : StandFor 491 491 (leaves_of old) (leaves_of ts)

@@ -29,13 +29,16 @@ pub record Recuts (left right new : List (List ℕ)) : Type 0 where
   pub behind : 1 ≤ length left → (n : ℕ) → IsDenseBehind n left → IsDenseBehind n new
   pub last : 1 ≤ length right → (m n : ℕ) → last_bytes m right ≤ last_bytes n new
 
--- other leaves in the place of old ones: they may stand behind so many bytes as are 492 with `least`, and the last of them is as long as the old one or as `least`
-pub record StandFor (least : ℕ) (old new : List (List ℕ)) : Type 0 where
-  pub behind : (n : ℕ) → 492 ≤ n + least → IsDenseBehind n old → IsDenseBehind n new
-  pub last : (n : ℕ) → min least (last_bytes n old) ≤ last_bytes n new
+-- other leaves in the place of old ones: they may stand behind so many bytes as are 492 with `first`, and the last of them is as long as the old one or as `last`
+pub record StandFor (first last : ℕ) (old new : List (List ℕ)) : Type 0 where
+  pub behind : (n : ℕ) → 492 ≤ n + first → IsDenseBehind n old → IsDenseBehind n new
+  pub ahead : (n : ℕ) → min last (last_bytes n old) ≤ last_bytes n new
 
--- so many bytes are enough for a leaf between these: behind them, before them, and where a side has none, beside any leaf that is not empty
-pub record IsEnough (least : ℕ) (before after : List (List ℕ)) : Type 0 where
-  pub behind : (n : ℕ) → 1 ≤ n → 492 ≤ last_bytes n before + least
-  pub ahead : IsDenseBehind least after
-  pub at_end : length after ≡ 0 → 491 ≤ least
+-- so many bytes are enough for a leaf behind these, and where there are none, as many as are wanted there
+abbrev pub IsEnoughBehind : ℕ → ℕ → List (List ℕ) → Type 0
+IsEnoughBehind wanted first before = (n : ℕ) → 492 ≤ n + wanted → 492 ≤ last_bytes n before + first
+
+-- so many bytes are enough for a leaf before these, and where there are none, as many as are wanted there
+pub record IsEnoughAhead (wanted last : ℕ) (after : List (List ℕ)) : Type 0 where
+  pub dense : IsDenseBehind last after
+  pub at_end : length after ≡ 0 → wanted ≤ last

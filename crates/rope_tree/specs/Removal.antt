@@ -9,8 +9,8 @@ pub record KeepsEnds (old new : List ℕ) : Type 0 where
   pub before : (p : List ℕ) → IsSeam p old → IsSeam p new
   pub behind : (n : List ℕ) → IsSeam old n → IsSeam new n
 
--- the tree of the text without the characters from a up to b: as many leaves as before, none of them empty; a tree that is one leaf keeps at least so many bytes
-pub record IsRemoved (least : ℕ) (old new : Tree) (a b : ℕ) : Type 0 where
+-- the tree of the text without the characters from a up to b: as many leaves as before, none of them empty; they stand for the old ones where so many bytes are wanted at the two ends
+pub record IsRemoved (first last : ℕ) (old new : Tree) (a b : ℕ) : Type 0 where
   pub text_is : text new ≡ removed (text old) a b
   pub ends : KeepsEnds (text old) (text new)
   pub same_breaks : new.breaks ≡ old.breaks
@@ -18,13 +18,13 @@ pub record IsRemoved (least : ℕ) (old new : Tree) (a b : ℕ) : Type 0 where
   pub same_width : new.width ≡ old.width
   pub as_many : length new.leaves ≡ length old.leaves
   pub leaves : AreLeaves new.leaves
-  pub stand : StandFor least old.leaves new.leaves
+  pub stand : StandFor first last old.leaves new.leaves
 
 -- as many children of the text without the characters from a up to b, over as many leaves as before
-pub record AreRemoved (old new : List Tree) (a b : ℕ) : Type 0 where
+pub record AreRemoved (first last : ℕ) (old new : List Tree) (a b : ℕ) : Type 0 where
   pub text_is : joined new ≡ removed (joined old) a b
   pub ends : KeepsEnds (joined old) (joined new)
   pub as_many : length new ≡ length old
   pub as_many_leaves : length (leaves_of new) ≡ length (leaves_of old)
   pub children : AreChildren (breaks_of old) (height_of old) new
-  pub stand : StandFor 491 (leaves_of old) (leaves_of new)
+  pub stand : StandFor first last (leaves_of old) (leaves_of new)

@@ -3,7 +3,7 @@ use Rattle.std.specs.Prelude.{◌≡◌, ℕ, ◌+◌, ◌<◌, List, [], length
 use Rattle.rope_text.specs.declared.line_breaks.LineBreaks.{LineBreaks}
 use Rattle.rope_text.specs.declared.text_info.TextInfo.{TextInfo}
 use Rattle.rope_text.specs.TextInfo.{info_of}
-use Rattle.rope_tree.specs.Tree.{Tree, joined, breaks_of}
+use Rattle.rope_tree.specs.Tree.{Tree, joined, height_of, breaks_of, AreChildren}
 
 -- each total has the counts of the text up to the end of its child
 pub record HasTotals (breaks : LineBreaks) (totals : List TextInfo) (ts : List Tree) : Type 0 where
@@ -14,3 +14,9 @@ pub record HasTotals (breaks : LineBreaks) (totals : List TextInfo) (ts : List T
 pub record IsTotalOf (ts : List Tree) (total : TextInfo) : Type 0 where
   pub none : length ts ≡ 0 → (breaks : LineBreaks) → total ≡ info_of breaks []
   pub all : 0 < length ts → total ≡ info_of (breaks_of ts) (joined ts)
+
+-- the children below a node of this height, with their totals
+pub record AreBelow (height : ℕ) (totals : List TextInfo) (ts : List Tree) : Type 0 where
+  pub above : height ≡ height_of ts + 1
+  pub children : AreChildren (breaks_of ts) (height_of ts) ts
+  pub totals_right : HasTotals (breaks_of ts) totals ts

@@ -1,34 +1,72 @@
 //! How few bytes a leaf may keep beside its neighbours.
-ghost use Rattle.std.specs.Prelude.{◌≡◌, ◌+◌, ◌<◌, ◌≤◌, List, length, take, drop};
-ghost use Rattle.rope_text.specs.declared.line_breaks.LineBreaks.{LineBreaks};
-ghost use Rattle.rope_tree.specs.Leaves.{IsEnough};
-ghost use Rattle.rope_tree.specs.Tree.{Tree, leaves_of, height_of, AreChildren};
-ghost use Rattle.rope_tree.specs.Totals.{HasTotals};
+ghost use Rattle.std.specs.Prelude.{◌≡◌, ℕ, ◌+◌, ◌<◌, ◌≤◌, List, length, take, drop};
+ghost use Rattle.rope_text.specs.Dense.{IsDenseBehind, last_bytes};
+ghost use Rattle.rope_tree.specs.Leaves.{IsEnoughBehind, IsEnoughAhead};
+ghost use Rattle.rope_tree.specs.Tree.{Tree, leaves_of};
+ghost use Rattle.rope_tree.specs.Totals.{AreBelow};
 
 use crate::lookup::total_before;
 use crate::search::Totals;
 use rope_text::MIN_PAIR_BYTES;
 
+/// How many bytes the leaves at the two ends of a node have to keep: the first beside what stands before the node, and the last
+/// beside what follows it. Where nothing does, none.
+#[derive(Clone, Copy)]
+pub struct Least {
+    pub first: usize,
+    pub last: usize,
+}
+
 /// The bytes of a leaf that may stand beside any other: each has one at the least.
 const ENOUGH_BYTES: usize = MIN_PAIR_BYTES - 1;
 
-/// So many bytes are enough for the leaf at a place of a list of children that is so high, between the leaves beside it. A leaf
-/// that is first or last in the list has a neighbour that isn't seen here, so it has to keep enough for any. The totals tell how
-/// long the others are, and no leaf is looked at.
-pub fn least_beside(height: usize, totals: &Totals, place: usize) -> usize
+/// So many bytes are enough for a leaf next to the child at a place: where that is a leaf, what its own bytes leave to be
+/// wanted. The totals tell how many it has, and it isn't looked at.
+fn least_next_to(height: usize, totals: &Totals, place: usize) -> usize
     requires { place < length totals.now }
-    ensures most { result ≤ 491 }
-    ensures enough { (breaks : LineBreaks) (ts : List Tree) → height ≡ height_of ts + 1 → AreChildren breaks (height_of ts) ts → HasTotals breaks totals.now ts
-        → IsEnough result (leaves_of (take place ts)) (leaves_of (drop (place + 1) ts)) }
+    ensures behind { (ts : List Tree) → AreBelow height totals.now ts → (n : ℕ) → 492 ≤ last_bytes n (leaves_of (take (place + 1) ts)) + result }
+    ensures ahead { (ts : List Tree) → AreBelow height totals.now ts → IsDenseBehind result (leaves_of (drop place ts)) }
 {
-    let last = totals.len() - 1;
-    if height > 1 || place == 0 || place == last {
+    if height > 1 {
         return ENOUGH_BYTES;
     }
-    let start = total_before(totals, place - 1).bytes;
-    let from = total_before(totals, place).bytes;
-    let to = totals.get(place).bytes;
-    let end = totals.get(place + 1).bytes;
-    let shorter = from.saturating_sub(start).min(end.saturating_sub(to));
-    MIN_PAIR_BYTES.saturating_sub(shorter).min(ENOUGH_BYTES)
+    let before = total_before(totals, place).bytes;
+    let bytes = totals.get(place).bytes.saturating_sub(before);
+    MIN_PAIR_BYTES.saturating_sub(bytes).min(ENOUGH_BYTES)
+}
+
+/// So many bytes are enough for the first leaf of the child at a place, beside what stands before it.
+fn least_behind(height: usize, totals: &Totals, place: usize, wanted: usize) -> usize
+    requires { place < length totals.now }
+    ensures { (ts : List Tree) → AreBelow height totals.now ts → IsEnoughBehind wanted result (leaves_of (take place ts)) }
+{
+    if place == 0 {
+        return wanted;
+    }
+    least_next_to(height, totals, place - 1)
+}
+
+/// So many bytes are enough for its last leaf, beside what follows it.
+fn least_ahead(height: usize, totals: &Totals, place: usize, wanted: usize) -> usize
+    requires { place < length totals.now }
+    ensures { (ts : List Tree) → AreBelow height totals.now ts → IsEnoughAhead wanted result (leaves_of (drop (place + 1) ts)) }
+{
+    let end = totals.len() - 1;
+    if place == end {
+        return wanted;
+    }
+    least_next_to(height, totals, place + 1)
+}
+
+/// What is enough at the two ends of the child at a place, of a list of children of a node of this height, by what is wanted at
+/// the ends of that node.
+pub fn least_at(height: usize, totals: &Totals, place: usize, wanted: Least) -> Least
+    requires { place < length totals.now }
+    ensures behind { (ts : List Tree) → AreBelow height totals.now ts → IsEnoughBehind wanted.first result.first (leaves_of (take place ts)) }
+    ensures ahead { (ts : List Tree) → AreBelow height totals.now ts → IsEnoughAhead wanted.last result.last (leaves_of (drop (place + 1) ts)) }
+{
+    Least {
+        first: least_behind(height, totals, place, wanted.first),
+        last: least_ahead(height, totals, place, wanted.last),
+    }
 }

@@ -8,6 +8,7 @@ ghost use Rattle.rope_tree.specs.LeafTree.{IsLeafOf};
 ghost use Rattle.rope_tree.specs.Insert.{IsInserted};
 ghost use Rattle.rope_tree.specs.Removal.{IsRemoved};
 
+use crate::beside::Least;
 use crate::counts::{info_with, put_in, take_out};
 use crate::leaf_info::LeafInfo;
 use crate::node::{Node, make_leaf};
@@ -140,13 +141,14 @@ impl Leaf {
 
     /// Takes the characters from `start` up to `end` out, if the leaf may do without them and keeps so many bytes; returns
     /// whether it did. It takes no memory.
-    pub(crate) fn remove_in_place(&mut self, start: usize, end: usize, least: usize) -> bool
+    pub(crate) fn remove_in_place(&mut self, start: usize, end: usize, least: Least) -> bool
         requires ordered { start < end }
         requires within { end ≤ length (text self.old) }
-        ensures done { result ≡ true → IsRemoved least self.old self.new start end }
+        ensures done { result ≡ true → IsRemoved least.first least.last self.old self.new start end }
         ensures kept { result ≡ false → self.new ≡ self.old }
     {
         let info = self.info.info();
+        let least = least.first.max(least.last);
         let Some(left) = take_out(&mut self.text, start, end, least, info, self.breaks) else {
             return false;
         };

@@ -4,7 +4,7 @@ ghost use Rattle.rope_tree.specs.Tree.{text, joined, breaks_of, height_of, AreCh
 ghost use Rattle.rope_tree.specs.Removal.{IsRemoved, AreRemoved};
 
 use super::{Children, Form, Node};
-use crate::beside::least_beside;
+use crate::beside::{Least, least_at};
 use crate::lookup::total_before;
 use crate::search::{Unit, place_of};
 use rope_text::Steps;
@@ -14,11 +14,11 @@ impl Children {
     /// Takes the characters from `start` up to `end` out, where they lie in one leaf that may do without them and keeps enough
     /// beside its neighbours, and no node on the way is shared; returns whether it did.
     #[cycle(in_place_removal)]
-    fn remove_in_place(&mut self, start: usize, end: usize) -> bool
+    fn remove_in_place(&mut self, start: usize, end: usize, least: Least) -> bool
         requires children { AreChildren (breaks_of self.old) (height_of self.old) self.old }
         requires ordered { start < end }
         requires within { end ≤ length (joined self.old) }
-        ensures done { result ≡ true → AreRemoved self.old self.new start end }
+        ensures done { result ≡ true → AreRemoved least.first least.last self.old self.new start end }
         ensures kept { result ≡ false → self.new ≡ self.old }
     {
         let place = place_of(&self.totals, Unit::Char, start, &mut Steps::new());
@@ -26,7 +26,7 @@ impl Children {
             return false;
         }
         let before = total_before(&self.totals, place).chars;
-        let least = least_beside(usize::from(self.height), &self.totals, place);
+        let least = least_at(usize::from(self.height), &self.totals, place, least);
         let node = &mut self.nodes[place];
         let old = node.info();
         if !node.remove_in_place(start - before, end - before, least) {
@@ -40,13 +40,12 @@ impl Children {
 
 impl Node {
     /// Takes the characters from `start` up to `end` out, where they lie in one leaf that may do without them and no node on
-    /// the way is shared; returns whether it did. A node that is that leaf keeps so many bytes. It takes no memory.
+    /// the way is shared, and keeps so many bytes where it is first or last; returns whether it did. It takes no memory.
     #[cycle(in_place_removal)]
-    pub fn remove_in_place(&mut self, start: usize, end: usize, least: usize) -> bool
+    pub fn remove_in_place(&mut self, start: usize, end: usize, least: Least) -> bool
         requires ordered { start < end }
         requires within { end ≤ length (text self.old) }
-        requires least { least ≤ 491 }
-        ensures done { result ≡ true → IsRemoved least self.old self.new start end }
+        ensures done { result ≡ true → IsRemoved least.first least.last self.old self.new start end }
         ensures kept { result ≡ false → self.new ≡ self.old }
     {
         match &mut self.form {
@@ -56,7 +55,7 @@ impl Node {
                 None => false,
             },
             Form::Inner(children) => match Rc::get_mut(children) {
-                Some(children) => children.remove_in_place(start, end),
+                Some(children) => children.remove_in_place(start, end, least),
                 None => false,
             },
         }

@@ -1,10 +1,11 @@
-use Rattle.std.proofs.Common.{◌≡◌, ℕ, ◌+◌, ◌-◌, ◌<◌, ◌≤◌, ◌^◌, length, get_or, set, sym, ap, subst, refl, ◌∙◌, arith}
+use Rattle.std.proofs.Common.{ℕ, ◌-◌, ◌<◌, ◌≤◌, ◌^◌, length, get_or, set, sym, ap, subst, refl, ◌∙◌, arith}
 use Rattle.rope_text.specs.declared.text_info.TextInfo.{TextInfo}
 use Rattle.rope_text.specs.Text.{byte_len}
 use Rattle.rope_text.specs.TextInfo.{info_of}
 use Rattle.rope_tree.specs.declared.search.Unit.TheVariants.{Char}
 use Rattle.rope_tree.specs.Tree.{Tree, text, joined, height_of, breaks_of}
 use Rattle.rope_tree.specs.Listed.{listed}
+use Rattle.rope_tree.specs.Totals.{AreBelow}
 use Rattle.rope_tree.specs.Removal.{IsRemoved, AreRemoved}
 use Rattle.rope_tree.proofs.NodeLaws.{small_totals}
 use Rattle.rope_tree.proofs.Infos.{small_info}
@@ -67,7 +68,7 @@ Children::remove_in_place-remove_in_place-requires t c =
     let d = down t e in
     let g = (held t e).1 in
     let low = rw d.child_is at (tallest_above c.args.self.now c.place_of-place.result (get_or c.self.inside.nodes c.place_of-place.result c.index-self-place.result) d.within) in
-    (omega (arith, c.decreases, low), (g.order, (g.within, c.least_beside-least.ensures.most)))
+    (omega (arith, c.decreases, low), (g.order, g.within))
 
 pub Children::remove_in_place-retotal-requires-clause-small :
     goal.Children::remove_in_place-retotal-requires-clause-small
@@ -94,21 +95,20 @@ Children::remove_in_place-retotal-requires-clause-new t c =
     let child = get_or c.self.inside.nodes c.place_of-place.result c.index-self-place.result in
     let u = c.remove_in_place.new.self in
     let order = (held t e).1.order in
-    let wide = child_removed _ (breaks_of ts) (height_of ts) child u _ _ (omega (arith, order)) (down t e).own (c.remove_in_place.ensures.done c.if-not-remove_in_place.false) in
+    let wide = child_removed _ _ (breaks_of ts) (height_of ts) child u _ _ (omega (arith, order)) (down t e).own (c.remove_in_place.ensures.done c.if-not-remove_in_place.false) in
     rw c.info-new.ensures (small_info u.breaks (text u) wide.tree.fits)
 
 -- the children where something was taken out
 left : (t : ℕ) (c : Children::remove_in_place-After-index-self-place t) (u : Tree)
-    → IsRemoved c.least_beside-least.result (get_or c.self.inside.nodes c.place_of-place.result c.index-self-place.result) u (c.args.start - c.total_before-before.result.chars) (c.args.end - c.total_before-before.result.chars)
-    → AreRemoved c.args.self.now (set c.args.self.now c.place_of-place.result u) c.args.start c.args.end
+    → IsRemoved c.least_at-least.result.first c.least_at-least.result.last (get_or c.self.inside.nodes c.place_of-place.result c.index-self-place.result) u (c.args.start - c.total_before-before.result.chars) (c.args.end - c.total_before-before.result.chars)
+    → AreRemoved c.args.least.first c.args.least.last c.args.self.now (set c.args.self.now c.place_of-place.result u) c.args.start c.args.end
 left t c u done =
     let ts = c.args.self.now in
     let d = down t c in
     let totals = totals_seen (listed c.self.inside) ts c.self.inside.totals c.self.inside.totals c.self.view_is refl c.self.invariant.totals_right in
-    let above : c.from.result ≡ height_of ts + 1 = omega (arith, c.from.ensures, c.self.invariant.above, ap height_of c.self.view_is) in
-    let enough = c.least_beside-least.ensures.enough (breaks_of ts) ts above d.children totals in
+    let below : AreBelow c.from.result c.self.inside.totals ts = record { above = omega (arith, c.from.ensures, c.self.invariant.above, ap height_of c.self.view_is); children = d.children; totals_right = totals } in
     children_removed (breaks_of ts) (height_of ts) ts c.place_of-place.result (get_or c.self.inside.nodes c.place_of-place.result c.index-self-place.result)
-    d.children d.within d.child_is _ _ c.args.start c.args.end (held t c).1 c.least_beside-least.result u done enough refl refl
+    d.children d.within d.child_is _ _ c.args.start c.args.end (held t c).1 c.args.least.first c.args.least.last c.least_at-least.result.first c.least_at-least.result.last u done (c.least_at-least.ensures.behind ts below) (c.least_at-least.ensures.ahead ts below) refl refl
 
 pub Children::remove_in_place-retotal-requires-clause-fits :
     goal.Children::remove_in_place-retotal-requires-clause-fits
@@ -166,7 +166,7 @@ Node::remove_in_place-invariant_of-self t c =
           let ts = w.in-Some-get_mut.children.now in
           let i = inner_seen c.self.inside c.args.self.now w.in-Inner.children ts c.self.invariant w.in-Inner.is c.self.view_is w.in-Some-get_mut.ensures.value in
           rw w.self-inside-is (record {
-            form = by_answer did.result (λ yes. removed_children c.args.self.now ts did.new.self c.args.start c.args.end i (did.ensures.done yes)) (λ no. still_children c.args.self.now ts did.new.self i (did.ensures.kept no));
+            form = by_answer did.result (λ yes. removed_children c.args.least.first c.args.least.last c.args.self.now ts did.new.self c.args.start c.args.end i (did.ensures.done yes)) (λ no. still_children c.args.self.now ts did.new.self i (did.ensures.kept no));
           })
       | Node::remove_in_place-in-Inner+in-None-get_mut w ↦
           rw w.self-inside-is (record { form = (inner_of c.self.inside c.args.self.now w.in-Inner.children c.self.invariant w.in-Inner.is c.self.view_is).children })
@@ -178,12 +178,12 @@ Node::remove_in_place-returns-clause-done t c =
       | Node::remove_in_place-in-Empty w ↦ rw w.result-is (λ no. cc)
       | Node::remove_in_place-in-Leaf+in-Some w ↦
           let same = leaf_seen c.self.inside c.args.self.now w.in-Leaf.leaf w.in-Some.leaf.now w.in-Leaf.is c.self.view_is w.in-Some.ensures.value in
-          rw (w.result-is, w.self-inside-is) (λ yes. subst (λ x. IsRemoved c.args.least x w.remove_in_place.new.self c.args.start c.args.end) (sym same) (w.remove_in_place.ensures.done yes))
+          rw (w.result-is, w.self-inside-is) (λ yes. subst (λ x. IsRemoved c.args.least.first c.args.least.last x w.remove_in_place.new.self c.args.start c.args.end) (sym same) (w.remove_in_place.ensures.done yes))
       | Node::remove_in_place-in-Leaf+in-None w ↦ rw w.result-is (λ no. cc)
       | Node::remove_in_place-in-Inner+in-Some-get_mut w ↦
           let did = w.remove_in_place-in-Some-get_mut in
           let ts = w.in-Some-get_mut.children.now in
           let i = inner_seen c.self.inside c.args.self.now w.in-Inner.children ts c.self.invariant w.in-Inner.is c.self.view_is w.in-Some-get_mut.ensures.value in
-          rw (w.result-is, w.self-inside-is) (λ yes. removed_node c.args.least c.args.self.now ts did.new.self c.args.start c.args.end c.requires.least i (did.ensures.done yes))
+          rw (w.result-is, w.self-inside-is) (λ yes. removed_node c.args.least.first c.args.least.last c.args.self.now ts did.new.self c.args.start c.args.end i (did.ensures.done yes))
       | Node::remove_in_place-in-Inner+in-None-get_mut w ↦ rw w.result-is (λ no. cc)
     ]

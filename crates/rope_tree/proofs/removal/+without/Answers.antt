@@ -1,8 +1,8 @@
-use Rattle.std.proofs.Common.{◌≡◌, ℕ, ◌+◌, ◌-◌, ◌≤◌, length, take, drop, refl, ap, ◌∙◌, arith}
+use Rattle.std.proofs.Common.{◌≡◌, ℕ, ◌+◌, ◌-◌, ◌≤◌, length, refl, ap, ◌∙◌, arith}
 use Rattle.rope_text.specs.declared.text_info.TextInfo.{TextInfo}
 use Rattle.rope_tree.specs.declared.search.Unit.TheVariants.{Char}
-use Rattle.rope_tree.specs.Leaves.{IsEnough}
-use Rattle.rope_tree.specs.Tree.{text, leaves_of, height_of, breaks_of}
+use Rattle.rope_tree.specs.Totals.{AreBelow}
+use Rattle.rope_tree.specs.Tree.{text, height_of, breaks_of}
 use Rattle.rope_tree.proofs.NodeLaws.{small_totals, children_of_first}
 use Rattle.rope_tree.proofs.RemovalLaws.{Holds, holds, spliced_removed, over_removed}
 use Rattle.rope_tree.proofs.Descents.{Descends, descends}
@@ -49,7 +49,7 @@ without-requires t c =
     let d = down t e in
     let g = (held t e).1 in
     let ts = c.in-Inner.children.now in
-    (omega (arith, c.decreases, below t e), (g.order, (g.within, c.least_beside-enough.ensures.most)))
+    (omega (arith, c.decreases, below t e), (g.order, g.within))
 
 pub returns-in_err-middle-in-Inner-clause-made : goal.returns-in_err-middle-in-Inner-clause-made
 returns-in_err-middle-in-Inner-clause-made t c = omega (arith, below t (goal.at.returns-in_err-middle-in-Inner-clause-made t c).After-index-children-place, c.without.ensures.made)
@@ -67,25 +67,25 @@ pub returns-in_ok-make_over-in-Inner-clause-made :
 returns-in_ok-make_over-in-Inner-clause-made t c =
     omega (arith, below t (goal.at.returns-in_ok-make_over-in-Inner-clause-made t c).After-index-children-place, c.without.ensures.made, c.make_over.ensures.made)
 
--- what the middle one keeps is enough
-enough : (t : ℕ) (c : After-index-children-place t) → IsEnough c.least_beside-enough.result (leaves_of (take c.place_of-place.result c.in-Inner.children.now)) (leaves_of (drop (c.place_of-place.result + 1) c.in-Inner.children.now))
-enough t c =
-    let ts = c.in-Inner.children.now in
-    let above : c.height-height.result ≡ height_of ts + 1 = c.height-height.ensures.value ∙ ap (λ u. u.height) c.in-Inner.ensures.is in
-    c.least_beside-enough.ensures.enough (breaks_of ts) ts above c.in-Inner.ensures.children c.in-Inner.ensures.totals_right
+below_it : (t : ℕ) (c : After-index-children-place t) → AreBelow c.height-height.result c.in-Inner.totals.now c.in-Inner.children.now
+below_it t c = record {
+  above = c.height-height.ensures.value ∙ ap (λ u. u.height) c.in-Inner.ensures.is;
+  children = c.in-Inner.ensures.children;
+  totals_right = c.in-Inner.ensures.totals_right;
+}
 
 pub make_over-requires : goal.make_over-requires
 make_over-requires t c =
     let e = (goal.at.make_over-requires t c).After-index-children-place in
     let ts = c.in-Inner.children.now in
     let left = spliced_removed c.in-Inner.children.now c.place_of-place.result c.index-children-place.result c.in-Some.middle _ (down t e).children (down t e).within (down t e).child_is
-    _ _ c.args.start c.args.end (held t e).1 c.least_beside-enough.result (rw c.in-Some.is at c.in_ok-middle-in-Inner.ensures.ok) (enough t e) refl in
+    _ _ c.args.start c.args.end (held t e).1 c.args.least.first c.args.least.last _ _ (rw c.in-Some.is at c.in_ok-middle-in-Inner.ensures.ok) (c.least_at-enough.ensures.behind _ (below_it t e)) (c.least_at-enough.ensures.ahead _ (below_it t e)) refl in
     children_of_first (breaks_of ts) (height_of ts) _ left.children
 
 pub returns-in_ok-make_over-in-Inner-clause-ok : goal.returns-in_ok-make_over-in-Inner-clause-ok
 returns-in_ok-make_over-in-Inner-clause-ok t c =
     let e = (goal.at.returns-in_ok-make_over-in-Inner-clause-ok t c).After-index-children-place in
     let left = spliced_removed c.in-Inner.children.now c.place_of-place.result c.index-children-place.result c.in-Some.middle _ (down t e).children (down t e).within (down t e).child_is
-    _ _ c.args.start c.args.end (held t e).1 c.least_beside-enough.result (rw c.in-Some.is at c.in_ok-middle-in-Inner.ensures.ok) (enough t e) refl in
-    over_removed c.args.least c.args.node.now c.in_ok-make_over-in-Inner.field-0 c.in-Inner.children.now _ c.args.start c.args.end c.requires.least
+    _ _ c.args.start c.args.end (held t e).1 c.args.least.first c.args.least.last _ _ (rw c.in-Some.is at c.in_ok-middle-in-Inner.ensures.ok) (c.least_at-enough.ensures.behind _ (below_it t e)) (c.least_at-enough.ensures.ahead _ (below_it t e)) refl in
+    over_removed c.args.least.first c.args.least.last c.args.node.now c.in_ok-make_over-in-Inner.field-0 c.in-Inner.children.now _ c.args.start c.args.end
     c.in-Inner.ensures.is c.in_ok-make_over-in-Inner.ensures.ok left

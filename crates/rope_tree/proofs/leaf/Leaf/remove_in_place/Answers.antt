@@ -22,5 +22,5 @@ new-self-inside-requires-clause-break_count c = (low c).count
 
 pub returns-clause-done : goal.returns-clause-done
 returns-clause-done c = λ yes.
-    rw (← c.self.view_is) (leaf_left c.args.least c.self.inside.breaks c.self.inside.text c.take_out.new.leaf c.args.start c.args.end c.in-Some.ensures.text c.requires.ordered (rw (← c.self.view_is) at c.requires.within)
-    c.in-Some.ensures.some c.in-Some.ensures.ends c.in-Some.ensures.least c.as_str.ensures.fits c.as_str.ensures.scalars)
+    rw (← c.self.view_is) (leaf_left c.args.least.first c.args.least.last c.self.inside.breaks c.self.inside.text c.take_out.new.leaf c.args.start c.args.end c.in-Some.ensures.text c.requires.ordered (rw (← c.self.view_is) at c.requires.within)
+    c.in-Some.ensures.some c.in-Some.ensures.ends (rw c.max-least.ensures at c.in-Some.ensures.least) c.as_str.ensures.fits c.as_str.ensures.scalars)
