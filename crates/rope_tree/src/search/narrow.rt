@@ -58,7 +58,7 @@ fn shift(counts: &mut [u16], from: u16, more: u16)
         return;
     }
     for j in 0..24usize {
-        // In numbers of 16 bits, as a comparison would go by wider ones: below 0 before the place, so the upper bit is 1.
+        // The difference is below 0 before the place, so the upper bit is 1 there.
         let before = (j as u16).wrapping_sub(from) >> 15;
         let added = more.wrapping_mul(1 - before);
         counts[j] = counts[j].wrapping_add(added);
