@@ -127,9 +127,9 @@ impl Rope {
 
     /// Inserts `text` before the character `char_idx`; for `len_chars()`, at the end.
     ///
-    /// The index is at most `len_chars()`. An empty text takes no memory. A short one is tried first without
-    /// memory, in the chunk where the place lies; else nodes on the way down are made, and a text of more than 981
-    /// bytes becomes a tree of its own first. No text of the rope is walked.
+    /// The index is at most `len_chars()`. An empty text takes no memory. A short one goes into the chunk where the
+    /// place lies, without memory where that has room and is shared with no clone; else nodes on the way down are
+    /// made. A text of more than 981 bytes becomes a tree of its own first. No text of the rope is walked.
     ///
     /// # Errors
     ///
@@ -169,8 +169,8 @@ impl Rope {
 
     /// Inserts the character `c` before the character `char_idx`; for `len_chars()`, at the end.
     ///
-    /// The index is at most `len_chars()`. It is tried first without memory, in the chunk where the place lies;
-    /// else it takes memory for at most 8 d + 16 nodes, where d is the rope's depth. No text is walked.
+    /// The index is at most `len_chars()`. It goes into the chunk where the place lies, without memory where that has
+    /// room and is shared with no clone; else nodes on the way down are made.
     ///
     /// # Errors
     ///
