@@ -1,5 +1,5 @@
 //! Removals that leave little of each chunk: what is left lies in few.
-use rope_plain::compare::compare_unicode;
+use rope_plain::compare::{compare_unicode, lies_in_few_chunks};
 use rope_plain::numbers::Numbers;
 use rope_plain::texts::{chars_of, repeated};
 use ropey::Rope;
@@ -19,26 +19,12 @@ fn full_chunks(alloc: Global) -> Result<Rope, Fail> {
     Ok(Rope::from_str(alloc, text.as_str())?)
 }
 
-/// There is at most one chunk for each 246 bytes and one for the rest, and no two side by side have fewer than 492 bytes.
-fn lies_in_few_chunks(rope: &Rope) -> Result<(), Fail> {
-    let mut before = usize::MAX;
-    for chunk in rope.chunks() {
-        if before.saturating_add(chunk.len()) < 492 {
-            return Err(Fail::from("two short chunks lie side by side"));
-        }
-        before = chunk.len();
-    }
-    if rope.chunks().count() > rope.len_bytes().div_ceil(246) {
-        return Err(Fail::from("the chunks are too many"));
-    }
-    Ok(())
-}
-
 /// Of each chunk the x and the y are left, in four chunks at the most: 800 bytes.
 fn has_only_ends(alloc: Global, rope: &Rope) -> Result<(), Fail> {
     let ends = repeated(alloc, "xy", CHUNKS)?;
     compare_unicode(rope, &chars_of(alloc, ends.as_str())?)?;
-    lies_in_few_chunks(rope)
+    lies_in_few_chunks(rope)?;
+    Ok(())
 }
 
 #[test]

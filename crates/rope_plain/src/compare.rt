@@ -123,6 +123,21 @@ pub fn has_few_chunks(rope: &Rope) -> Result<(), Difference> {
     Ok(())
 }
 
+/// A rope has at most one chunk for each 246 bytes and one more for the rest, and no two side by side have fewer than 492 bytes.
+pub fn lies_in_few_chunks(rope: &Rope) -> Result<(), Difference> {
+    let mut before: usize = 492;
+    for chunk in rope.chunks() {
+        if before.saturating_add(chunk.len()) < 492 {
+            return Err(Difference::Chunks);
+        }
+        before = chunk.len();
+    }
+    if rope.chunks().count() > rope.len_bytes().div_ceil(246) {
+        return Err(Difference::Chunks);
+    }
+    Ok(())
+}
+
 /// Whether two characters in a row lie in one chunk.
 pub fn lie_together(rope: &Rope, first: usize) -> bool {
     let (chunk, start) = chunk_of(rope, first);
