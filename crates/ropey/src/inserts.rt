@@ -170,7 +170,8 @@ impl Rope {
     /// Inserts the character `c` before the character `char_idx`; for `len_chars()`, at the end.
     ///
     /// The index is at most `len_chars()`. It goes into the chunk where the place lies, without memory where that has
-    /// room and is shared with no clone; else nodes on the way down are made.
+    /// room and is shared with no clone; else it takes memory for at most 8 d + 16 nodes, where d is the rope's
+    /// depth. No text is walked.
     ///
     /// # Errors
     ///
