@@ -1,10 +1,13 @@
 -- The counts of texts that a rope may have.
-use Rattle.std.proofs.Common.{ℕ, ◌<◌, ◌≤◌, ◌^◌, List, nat_le, arith}
-use Rattle.std.proofs.lemmas.List.Sums.{count_by-le-length}
+use Rattle.std.proofs.Common.{ℕ, ◌*◌, ◌<◌, ◌≤◌, ◌^◌, List, [], ◌∷◌, length, cond, nat_le, nat_lt, length-append, arith}
+use Rattle.std.specs.Char.{encode_utf8}
+use Rattle.std.specs.Str.{encode_utf8_all}
+use Rattle.std.proofs.lemmas.Bool.{cond_both, le-leb, lt-leb, ltb-true, ltb-false}
+use Rattle.std.proofs.lemmas.List.Sums.{count_by-le-length, sum_by-append}
 use Rattle.std.proofs.lemmas.Str.{length-le-encodes}
 use Rattle.rope_text.specs.declared.line_breaks.LineBreaks.{LineBreaks}
 use Rattle.rope_text.specs.declared.text_info.TextInfo.{TextInfo}
-use Rattle.rope_text.specs.Text.{byte_len}
+use Rattle.rope_text.specs.Text.{byte_len, surrogate_count}
 use Rattle.rope_text.specs.TextInfo.{info_of}
 use Rattle.rope_text.proofs.InfoLaws.{break_count-le-length}
 use Rattle.rope_tree.specs.Search.{IsSmall}
@@ -18,16 +21,30 @@ small_info breaks text fits = record {
   count = break_count-le-length breaks text;
 }
 
+-- a character of two code units takes four bytes
+four_bytes : (c : ℕ) → 4 * cond (nat_le 65536 c) 1 0 ≤ length (encode_utf8 c)
+unfolding encode_utf8
+four_bytes c =
+    let P : List ℕ → Type 0 = λ bs. 4 * cond (nat_le 65536 c) 1 0 ≤ length bs in
+    cond_both (nat_lt c 128) _ _ P (λ e. let h = ltb-true c 128 e in rw (lt-leb 65536 c (omega arith)) (omega arith))
+    (λ _. cond_both (nat_lt c 2048) _ _ P (λ e. let h = ltb-true c 2048 e in rw (lt-leb 65536 c (omega arith)) (omega arith))
+    (λ _. cond_both (nat_lt c 65536) _ _ P (λ e. let h = ltb-true c 65536 e in rw (lt-leb 65536 c h) (omega arith))
+    (λ e. let h = ltb-false c 65536 e in rw (le-leb 65536 c h) (omega arith))))
+
+pub pairs_in_bytes : (text : List ℕ) → 4 * surrogate_count text ≤ byte_len text
+pairs_in_bytes [] = omega arith
+pairs_in_bytes (c ∷ cs) =
+    omega (arith, length-append (encode_utf8 c) (encode_utf8_all cs), four_bytes c, pairs_in_bytes cs, sum_by-append (λ c. cond (nat_le 65536 c) 1 0) (c ∷ []) cs)
+
 -- none of a leaf's counts is above its bytes
 pub record IsLow (info : TextInfo) (most : ℕ) : Type 0 where
   pub chars : info.chars ≤ most
-  pub surrogates : info.utf16_surrogates ≤ most
+  pub surrogates : 4 * info.utf16_surrogates ≤ most
   pub count : info.break_count ≤ most
   pub bytes : info.bytes ≤ most
 
 pub low_info : (breaks : LineBreaks) (text : List ℕ) (most : ℕ) → byte_len text ≤ most → IsLow (info_of breaks text) most
 low_info breaks text most fits =
     let chars = length-le-encodes text in
-    let surrogates = count_by-le-length (λ c. nat_le 65536 c) text in
     let count = break_count-le-length breaks text in
-    record { chars = omega (arith, chars, fits); surrogates = omega (arith, chars, surrogates, fits); count = omega (arith, chars, count, fits); bytes = fits }
+    record { chars = omega (arith, chars, fits); surrogates = omega (arith, pairs_in_bytes text, fits); count = omega (arith, chars, count, fits); bytes = fits }

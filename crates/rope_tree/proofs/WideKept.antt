@@ -1,5 +1,5 @@
 -- Running totals of any size, kept by kind of count.
-use Rattle.std.proofs.Common.{◌≡◌, ℕ, ◌+◌, ◌<◌, ◌≤◌, List, [], ◌∷◌, ◌++◌, length, get_or, set, map, refl, sym, ap, ◌∙◌, arith, get_or-set_other, get_or-set_same}
+use Rattle.std.proofs.Common.{◌≡◌, ℕ, ◌+◌, ◌-◌, ◌%◌, ◌<◌, ◌≤◌, List, [], ◌∷◌, ◌++◌, length, get_or, set, map, refl, sym, ap, ◌∙◌, arith, get_or-set_other, get_or-set_same}
 use Rattle.std.specs.List.{range_with_len}
 use Rattle.std.proofs.lemmas.List.FromFn.{length-map-range_with_len, get_or-map-range_with_len, map-range_with_len_more, fill_by_all}
 use Rattle.rope_text.specs.declared.text_info.TextInfo.{TextInfo}
@@ -90,3 +90,14 @@ module _ (a b : Inside) (ts : List TextInfo) (view : all_totals a ≡ ts) (more 
   pub put_seen : (k : ℕ) (total : TextInfo) (d : TextInfo) → k ≤ length ts → get_or b.bytes k 0 ≡ total.bytes → get_or b.chars k 0 ≡ total.chars → get_or b.pairs k 0 ≡ total.utf16_surrogates
       → get_or b.breaks k 0 ≡ total.break_count → get_or (all_totals b) k d ≡ total
   put_seen k total d le bytes chars pairs breaks = within_seen k d (omega (arith, le)) ∙ four_counts (counts_at b k) total bytes chars pairs breaks
+
+-- a count in which the part was put for another, modulo 2^64
+pub traded : (t old new d x : ℕ) → old ≤ t → t + new < 18446744073709551616 → d ≡ (new + (18446744073709551616 - old)) % 18446744073709551616 → x ≡ (t + d) % 18446744073709551616 → x + old ≡ t + new
+traded t old new d x le fits d_is x_is = omega (arith, le, fits, d_is, x_is)
+
+-- what the counts are after that
+pub record Trades (a b : Inside) (j : ℕ) (old new : TextInfo) : Type 0 where
+  pub bytes : get_or b.bytes j 0 + old.bytes ≡ get_or a.bytes j 0 + new.bytes
+  pub chars : get_or b.chars j 0 + old.chars ≡ get_or a.chars j 0 + new.chars
+  pub pairs : get_or b.pairs j 0 + old.utf16_surrogates ≡ get_or a.pairs j 0 + new.utf16_surrogates
+  pub breaks : get_or b.breaks j 0 + old.break_count ≡ get_or a.breaks j 0 + new.break_count

@@ -7,10 +7,10 @@ use Rattle.rope_tree.specs.Tree.{Tree, leaf_tree}
 use Rattle.rope_tree.specs.declared.leaf.Leaf.TheInside.{Inside}
 
 abbrev pub leaf_of : Inside → Tree
-leaf_of a = leaf_tree a.breaks a.text
+leaf_of a = leaf_tree a.summary.breaks a.text
 
 -- a text that fits, with its counts
 pub record IsLeaf (a : Inside) : Type 0 where
   pub fits : byte_len a.text ≤ 984
   pub scalars : all_scalars a.text ≡ true
-  pub counted : a.info ≡ info_of a.breaks a.text
+  pub counted : a.summary.info ≡ info_of a.summary.breaks a.text

@@ -9,6 +9,7 @@ pub mod WideShape
 pub mod TotalsShape
 pub mod Flat
 pub mod LeafTree
+pub mod Counted
 pub mod LeafShape
 pub mod Listed
 pub mod Shape

@@ -10,10 +10,10 @@ ghost use Rattle.rope_tree.specs.Removal.{IsRemoved};
 
 use crate::beside::Least;
 use crate::counts::{info_with, put_in, take_out};
-use crate::leaf_info::LeafInfo;
 use crate::node::{Node, make_leaf};
 use crate::node_text::NodeText;
 use crate::short_text::ShortText;
+use crate::summary::Summary;
 use rope_text::{LineBreaks, MAX_BYTES, TextInfo};
 use std::alloc::{AllocError, Global};
 use std::marker::Model;
@@ -21,8 +21,7 @@ use std::marker::Model;
 /// A text of at most `MAX_BYTES` bytes, its counts and its set of line breaks. It is seen as the tree that is a leaf.
 #[derive(Drop)]
 pub(crate) struct Leaf {
-    breaks: LineBreaks,
-    info: LeafInfo,
+    summary: Summary,
     text: NodeText,
 }
 
@@ -46,8 +45,7 @@ impl Leaf {
     {
         let _ = leaf.as_str();
         Leaf {
-            breaks,
-            info: LeafInfo::new(info),
+            summary: Summary::new(breaks, info),
             text: leaf,
         }
     }
@@ -56,10 +54,9 @@ impl Leaf {
     pub(crate) fn copied(&self) -> Leaf
         ensures { result ≡ self.now }
     {
-        let text = self.text.as_str_of_len(self.info.info().bytes);
+        let text = self.text.as_str_of_len(self.info().bytes);
         Leaf {
-            breaks: self.breaks,
-            info: self.info,
+            summary: self.summary,
             text: NodeText::from_str(text),
         }
     }
@@ -68,14 +65,14 @@ impl Leaf {
     pub(crate) fn line_breaks(&self) -> LineBreaks
         ensures { result ≡ self.now.breaks }
     {
-        self.breaks
+        self.summary.line_breaks()
     }
 
     /// The counts of its text.
     pub(crate) fn info(&self) -> TextInfo
         ensures { result ≡ info_of self.now.breaks (text self.now) }
     {
-        self.info.info()
+        self.summary.info()
     }
 
     /// Its text. The length is read in the leaf's counts: the one that is kept with the text lies behind it, and a walk over
@@ -83,13 +80,13 @@ impl Leaf {
     pub(crate) fn text(&self) -> ShortText<'_>
         ensures { IsLeafOf self.now result }
     {
-        let info = self.info.info();
+        let info = self.info();
         ShortText::with_chars(self.text.as_str_of_len(info.bytes), info.chars)
     }
 
     /// Whether so many bytes more have no room.
     pub(crate) fn lacks_room_for(&self, bytes: usize) -> bool {
-        self.info.info().bytes > MAX_BYTES.saturating_sub(bytes)
+        self.info().bytes > MAX_BYTES.saturating_sub(bytes)
     }
 
     /// Puts a text before the character `at`, if there is room for it; returns whether it did. It takes no memory.
@@ -102,9 +99,11 @@ impl Leaf {
         if self.text.len() + added.len() > MAX_BYTES {
             return false;
         }
-        let new = put_in(&mut self.text, at, added, self.info.info(), self.breaks);
+        let old = self.summary;
+        let breaks = old.line_breaks();
+        let new = put_in(&mut self.text, at, added, old.info(), breaks);
         let _ = self.text.as_str();
-        self.info = LeafInfo::new(new);
+        self.summary = Summary::new(breaks, new);
         true
     }
 
@@ -129,13 +128,14 @@ impl Leaf {
             return Ok(None);
         }
         let old = ShortText::new(self.text.as_str());
-        let info = info_with(self.info.info(), &old, at, added, self.breaks);
+        let breaks = self.summary.line_breaks();
+        let info = info_with(self.summary.info(), &old, at, added, breaks);
         let mut front = NodeText::from_str(old.as_str());
         let back = front.insert_str_split(at, added.as_str());
-        let front_info = TextInfo::from_str(front.as_str(), self.breaks);
+        let front_info = TextInfo::from_str(front.as_str(), breaks);
         let back_info = info.minus(front_info);
-        let behind = make_leaf(alloc, self.breaks, back, back_info, made)?;
-        *self = Leaf::new(self.breaks, front, front_info);
+        let behind = make_leaf(alloc, breaks, back, back_info, made)?;
+        *self = Leaf::new(breaks, front, front_info);
         Ok(Some(behind))
     }
 
@@ -147,13 +147,14 @@ impl Leaf {
         ensures done { result ≡ true → IsRemoved least.first least.last self.old self.new start end }
         ensures kept { result ≡ false → self.new ≡ self.old }
     {
-        let info = self.info.info();
+        let old = self.summary;
+        let breaks = old.line_breaks();
         let least = least.first.max(least.last);
-        let Some(left) = take_out(&mut self.text, start, end, least, info, self.breaks) else {
+        let Some(left) = take_out(&mut self.text, start, end, least, old.info(), breaks) else {
             return false;
         };
         let _ = self.text.as_str();
-        self.info = LeafInfo::new(left);
+        self.summary = Summary::new(breaks, left);
         true
     }
 }

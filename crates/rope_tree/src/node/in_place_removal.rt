@@ -1,62 +1,84 @@
-//! Removals of characters from one leaf where the nodes stand: they take no memory.
-ghost use Rattle.std.specs.Prelude.{◌≡◌, ◌<◌, ◌≤◌, true, false, length};
+//! Removals of characters from one leaf where the nodes stand: one way down, on which a node that is shared is copied.
+ghost use Rattle.std.specs.Prelude.{◌≡◌, ◌+◌, ◌<◌, ◌≤◌, true, false, length, IfOk, OnErr};
 ghost use Rattle.rope_tree.specs.Tree.{text, joined, breaks_of, height_of, AreChildren};
 ghost use Rattle.rope_tree.specs.Removal.{IsRemoved, AreRemoved};
 
+use super::own::own;
 use super::{Children, Form, Node};
 use crate::beside::{Least, least_at};
 use crate::lookup::total_before;
 use crate::search::{Unit, place_of};
 use rope_text::Steps;
+use std::alloc::{AllocError, Global};
 use std::rc::Rc;
 
 impl Children {
     /// Takes the characters from `start` up to `end` out, where they lie in one leaf that may do without them and keeps enough
-    /// beside its neighbours, and no node on the way is shared; returns whether it did.
+    /// beside its neighbours; returns whether it did. Where memory is refused, the children are as they were.
     #[cycle(in_place_removal)]
-    fn remove_in_place(&mut self, start: usize, end: usize, least: Least) -> bool
+    fn remove_in_place(
+        &mut self,
+        alloc: Global,
+        start: usize,
+        end: usize,
+        least: Least,
+        made: &mut u64,
+    ) -> Result<bool, AllocError>
         requires children { AreChildren (breaks_of self.old) (height_of self.old) self.old }
         requires ordered { start < end }
         requires within { end ≤ length (joined self.old) }
-        ensures done { result ≡ true → AreRemoved least.first least.last self.old self.new start end }
-        ensures kept { result ≡ false → self.new ≡ self.old }
+        ensures done { IfOk result (λ did. did ≡ true → AreRemoved least.first least.last self.old self.new start end) }
+        ensures kept { IfOk result (λ did. did ≡ false → self.new ≡ self.old) }
+        ensures err { OnErr result (self.new ≡ self.old) }
+        ensures made { made.new ≤ made.old + height_of self.old + 1 }
     {
         let place = place_of(&self.totals, Unit::Char, start, &mut Steps::new());
         if self.totals.get(place).chars < end {
-            return false;
+            return Ok(false);
         }
         let before = total_before(&self.totals, place).chars;
         let least = least_at(usize::from(self.height), &self.totals, place, least);
         let node = &mut self.nodes[place];
         let old = node.info();
-        if !node.remove_in_place(start - before, end - before, least) {
-            return false;
+        if !node.remove_in_place(alloc, start - before, end - before, least, made)? {
+            return Ok(false);
         }
         let new = node.info();
         self.totals.retotal(place, old, new);
-        true
+        Ok(true)
     }
 }
 
 impl Node {
-    /// Takes the characters from `start` up to `end` out, where they lie in one leaf that may do without them and no node on
-    /// the way is shared, and keeps so many bytes where it is first or last; returns whether it did. It takes no memory.
+    /// Takes the characters from `start` up to `end` out, where they lie in one leaf that may do without them, and keeps so many
+    /// bytes where it is first or last; returns whether it did. A node on the way that is shared is copied; where none is, it takes
+    /// no memory. Where memory is refused, the tree is as it was.
     #[cycle(in_place_removal)]
-    pub fn remove_in_place(&mut self, start: usize, end: usize, least: Least) -> bool
+    pub fn remove_in_place(
+        &mut self,
+        alloc: Global,
+        start: usize,
+        end: usize,
+        least: Least,
+        made: &mut u64,
+    ) -> Result<bool, AllocError>
         requires ordered { start < end }
         requires within { end ≤ length (text self.old) }
-        ensures done { result ≡ true → IsRemoved least.first least.last self.old self.new start end }
-        ensures kept { result ≡ false → self.new ≡ self.old }
+        ensures done { IfOk result (λ did. did ≡ true → IsRemoved least.first least.last self.old self.new start end) }
+        ensures kept { IfOk result (λ did. did ≡ false → self.new ≡ self.old) }
+        ensures err { OnErr result (self.new ≡ self.old) }
+        ensures made { made.new ≤ made.old + self.old.height + 1 }
     {
+        own(&mut self.form, alloc, made)?;
         match &mut self.form {
-            Form::Empty(_) => false,
+            Form::Empty(_) => Ok(false),
             Form::Leaf(leaf) => match Rc::get_mut(leaf) {
-                Some(leaf) => leaf.remove_in_place(start, end, least),
-                None => false,
+                Some(leaf) => Ok(leaf.remove_in_place(start, end, least)),
+                None => Ok(false),
             },
             Form::Inner(children) => match Rc::get_mut(children) {
-                Some(children) => children.remove_in_place(start, end, least),
-                None => false,
+                Some(children) => children.remove_in_place(alloc, start, end, least, made),
+                None => Ok(false),
             },
         }
     }

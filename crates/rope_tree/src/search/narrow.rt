@@ -44,10 +44,28 @@ fn difference(old: usize, new: usize) -> u16
     (new as u16).wrapping_sub(old as u16)
 }
 
-/// Adds a number, modulo 2^16, to the counts from a place on. It goes over all places, so that it has no branch that depends on one;
-/// where nothing is added, as for the pairs and breaks of most edits, the counts are left alone.
+/// 24 times 0, and then 24 times 1.
+static MARKS: [u16; 48] = [
+    0, 0, 0, 0, 0, 0, 0, 0, 0, 0, 0, 0, 0, 0, 0, 0, 0, 0, 0, 0, 0, 0, 0, 0,
+    1, 1, 1, 1, 1, 1, 1, 1, 1, 1, 1, 1, 1, 1, 1, 1, 1, 1, 1, 1, 1, 1, 1, 1,
+];
+
+/// For each of 24 places 1 where it is `from` or behind it, and 0 before.
 #[inline(always)]
-fn shift(counts: &mut [u16], from: u16, more: u16)
+fn marks_from(from: usize) -> &'static [u16]
+    requires { from ≤ 24 }
+    ensures len { length result.now ≡ 24 }
+    ensures before { (j : ℕ) → j < from → slice_index result.now j ≡ 0 }
+    ensures behind { (j : ℕ) → from ≤ j → j < 24 → slice_index result.now j ≡ 1 }
+{
+    &MARKS[24 - from..48 - from]
+}
+
+/// Adds a number, modulo 2^16, to the counts from a place on. It goes over all places, eight at once, and multiplies by 0 before
+/// that place, so that it has no branch that depends on one; where nothing is added, as for the pairs and breaks of most edits,
+/// the counts are left alone.
+#[inline(always)]
+fn shift(counts: &mut [u16], from: usize, more: u16)
     requires len { length counts.old ≡ 24 }
     requires place { from ≤ 24 }
     ensures before { (j : ℕ) → j < from → slice_index counts.new j ≡ slice_index counts.old j }
@@ -57,11 +75,9 @@ fn shift(counts: &mut [u16], from: u16, more: u16)
     if more == 0 {
         return;
     }
+    let marks = marks_from(from);
     for j in 0..24usize {
-        // The difference is below 0 before the place, so the upper bit is 1 there.
-        let before = (j as u16).wrapping_sub(from) >> 15;
-        let added = more.wrapping_mul(1 - before);
-        counts[j] = counts[j].wrapping_add(added);
+        counts[j] = counts[j].wrapping_add(more.wrapping_mul(marks[j]));
     }
 }
 
@@ -207,14 +223,13 @@ impl NarrowTotals {
             breaks,
             ..
         } = self;
-        let from = place as u16;
-        shift(bytes, from, difference(old.bytes, new.bytes));
-        shift(chars, from, difference(old.chars, new.chars));
+        shift(bytes, place, difference(old.bytes, new.bytes));
+        shift(chars, place, difference(old.chars, new.chars));
         shift(
             pairs,
-            from,
+            place,
             difference(old.utf16_surrogates, new.utf16_surrogates),
         );
-        shift(breaks, from, difference(old.break_count, new.break_count));
+        shift(breaks, place, difference(old.break_count, new.break_count));
     }
 }

@@ -1,5 +1,5 @@
 //! Running totals of any size, kept by kind of count.
-ghost use Rattle.std.specs.Prelude.{◌≡◌, ℕ, ◌+◌, ◌-◌, ◌<◌, ◌≤◌, ◌^◌, [], ◌∷◌, ◌++◌, true, false, length, slice_index, slice_index_or};
+ghost use Rattle.std.specs.Prelude.{◌≡◌, ℕ, ◌+◌, ◌-◌, ◌%◌, ◌<◌, ◌≤◌, ◌^◌, [], ◌∷◌, ◌++◌, true, false, length, slice_index, slice_index_or};
 ghost use Rattle.rope_text.specs.declared.text_info.TextInfo.{TextInfo};
 ghost use Rattle.rope_text.specs.TextInfo.{info_sum};
 ghost use Rattle.rope_tree.specs.Search.{count_of, IsSmall, HasPart};
@@ -33,19 +33,48 @@ impl Model for WideTotals {
     ghost invariant = { IsTotals };
 }
 
-/// Puts other counts for those of one part, in all from one place up to another; where both are the same, none is touched.
-fn shift(counts: &mut [usize], from: usize, to: usize, old: usize, new: usize)
-    requires within { to ≤ length counts.old }
-    requires part { (j : ℕ) → from ≤ j → j < to → old ≤ slice_index counts.old j }
-    requires fits { (j : ℕ) → from ≤ j → j < to → slice_index counts.old j + new < 2 ^ 64 }
-    ensures before { (j : ℕ) → j < from → slice_index counts.new j ≡ slice_index counts.old j }
-    ensures after { (j : ℕ) → from ≤ j → j < to → slice_index counts.new j + old ≡ slice_index counts.old j + new }
+/// No bits for 24 places, and then all bits for 24.
+static MASKS: [usize; 48] = [
+    0, 0, 0, 0, 0, 0, 0, 0, 0, 0, 0, 0, 0, 0, 0, 0, 0, 0, 0, 0, 0, 0, 0, 0,
+    usize::MAX, usize::MAX, usize::MAX, usize::MAX, usize::MAX, usize::MAX, usize::MAX, usize::MAX, usize::MAX, usize::MAX, usize::MAX, usize::MAX, usize::MAX, usize::MAX, usize::MAX, usize::MAX, usize::MAX, usize::MAX, usize::MAX, usize::MAX, usize::MAX, usize::MAX, usize::MAX, usize::MAX,
+];
+
+/// For each of 24 places all bits where it is `from` or behind it, and none before.
+#[inline(always)]
+fn masks_from(from: usize) -> &'static [usize]
+    requires { from ≤ 24 }
+    ensures len { length result.now ≡ 24 }
+    ensures before { (j : ℕ) → j < from → slice_index result.now j ≡ 0 }
+    ensures behind { (j : ℕ) → from ≤ j → j < 24 → slice_index result.now j ≡ usize.MAX }
 {
-    if old == new {
+    &MASKS[24 - from..48 - from]
+}
+
+/// A number, or nothing.
+#[inline(always)]
+fn masked(number: usize, mask: usize) -> usize
+    ensures none { mask ≡ 0 → result ≡ 0 }
+    ensures all { mask ≡ usize.MAX → result ≡ number }
+{
+    number & mask
+}
+
+/// Adds a number, modulo 2^64, to the counts from a place on. It goes over all places, two at once, so that it has no branch that
+/// depends on one; where nothing is added, the counts are left alone.
+#[inline(always)]
+fn shift(counts: &mut [usize], from: usize, more: usize)
+    requires len { length counts.old ≡ 24 }
+    requires place { from ≤ 24 }
+    ensures before { (j : ℕ) → j < from → slice_index counts.new j ≡ slice_index counts.old j }
+    ensures after { (j : ℕ) → from ≤ j → j < 24 → slice_index counts.new j ≡ (slice_index counts.old j + more) % 2 ^ 64 }
+    ensures len { length counts.new ≡ 24 }
+{
+    if more == 0 {
         return;
     }
-    for j in from..to {
-        counts[j] = counts[j] - old + new;
+    let masks = masks_from(from);
+    for j in 0..24usize {
+        counts[j] = counts[j].wrapping_add(masked(more, masks[j]));
     }
 }
 
@@ -187,22 +216,11 @@ impl WideTotals {
         ensures before { (j : ℕ) (d : TextInfo) → j < place → slice_index_or self.new j d ≡ slice_index_or self.old j d }
         ensures after { (j : ℕ) (d : TextInfo) → place ≤ j → j < length self.old → info_sum (slice_index_or self.new j d) old ≡ info_sum (slice_index_or self.old j d) new }
     {
-        let len = self.len;
-        shift(&mut self.bytes, place, len, old.bytes, new.bytes);
-        shift(&mut self.chars, place, len, old.chars, new.chars);
-        shift(
-            &mut self.pairs,
-            place,
-            len,
-            old.utf16_surrogates,
-            new.utf16_surrogates,
-        );
-        shift(
-            &mut self.breaks,
-            place,
-            len,
-            old.break_count,
-            new.break_count,
-        );
+        shift(&mut self.bytes, place, new.bytes.wrapping_sub(old.bytes));
+        shift(&mut self.chars, place, new.chars.wrapping_sub(old.chars));
+        let pairs = new.utf16_surrogates.wrapping_sub(old.utf16_surrogates);
+        shift(&mut self.pairs, place, pairs);
+        let breaks = new.break_count.wrapping_sub(old.break_count);
+        shift(&mut self.breaks, place, breaks);
     }
 }

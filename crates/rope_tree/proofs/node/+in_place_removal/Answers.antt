@@ -1,9 +1,14 @@
-use Rattle.std.proofs.Common.{ℕ, ◌-◌, ◌<◌, ◌≤◌, ◌^◌, length, get_or, set, sym, ap, subst, refl, ◌∙◌, arith}
+use Rattle.std.proofs.lemmas.Result.{IfOk-weaker}
+use Rattle.rope_tree.specs.declared.node.Form.{Form}
+use Rattle.rope_tree.specs.declared.node.Node.TheInside.{Inside}
+use Rattle.rope_tree.specs.Shape.{IsNode}
+use Rattle.rope_tree.specs.Falls.{tallest_below}
+use Rattle.std.proofs.Common.{◌≡◌, true, ℕ, ◌-◌, ◌<◌, ◌≤◌, ◌^◌, length, get_or, set, sym, ap, subst, refl, ◌∙◌, arith}
 use Rattle.rope_text.specs.declared.text_info.TextInfo.{TextInfo}
 use Rattle.rope_text.specs.Text.{byte_len}
 use Rattle.rope_text.specs.TextInfo.{info_of}
 use Rattle.rope_tree.specs.declared.search.Unit.TheVariants.{Char}
-use Rattle.rope_tree.specs.Tree.{Tree, text, joined, height_of, breaks_of}
+use Rattle.rope_tree.specs.Tree.{Tree, text, joined, height_of, breaks_of, tree_over}
 use Rattle.rope_tree.specs.Listed.{listed}
 use Rattle.rope_tree.specs.Totals.{AreBelow}
 use Rattle.rope_tree.specs.Removal.{IsRemoved, AreRemoved}
@@ -14,7 +19,7 @@ use Rattle.rope_tree.proofs.InsertDescents.{last_total}
 use Rattle.rope_tree.proofs.TotalLaws.{has_part, fits_after}
 use Rattle.rope_tree.proofs.GrownLaws.{totals_seen, tallest_above}
 use Rattle.rope_tree.proofs.ListedLaws.{seen_at, set_seen, set_listed, set_totals}
-use Rattle.rope_tree.proofs.FormLaws.{inner_of, inner_seen, leaf_seen, by_answer, still_children, removed_children, removed_node}
+use Rattle.rope_tree.proofs.FormLaws.{inner_of, inner_seen, leaf_seen, by_outcome, still_children, removed_children, removed_node}
 use Rattle.rope_tree.proofs.RemovalLaws.{Holds, holds, byte_len-removed, children_removed, child_removed}
 use Rattle.rope_tree.proofs.node.+in_place_removal.Goals as goal
 use Rattle.rope_tree.proofs.node.+in_place_removal.Goals.{Children::remove_in_place-After-index-self-place, Node::remove_in_place-in-Empty, Node::remove_in_place-in-Leaf+in-Some, Node::remove_in_place-in-Leaf+in-None, Node::remove_in_place-in-Inner+in-Some-get_mut, Node::remove_in_place-in-Inner+in-None-get_mut}
@@ -95,7 +100,7 @@ Children::remove_in_place-retotal-requires-clause-new t c =
     let child = get_or c.self.inside.nodes c.place_of-place.result c.index-self-place.result in
     let u = c.remove_in_place.new.self in
     let order = (held t e).1.order in
-    let wide = child_removed _ _ (breaks_of ts) (height_of ts) child u _ _ (omega (arith, order)) (down t e).own (c.remove_in_place.ensures.done c.if-not-remove_in_place.false) in
+    let wide = child_removed _ _ (breaks_of ts) (height_of ts) child u _ _ (omega (arith, order)) (down t e).own (c.in_ok-remove_in_place.ensures.done c.if-not-branch.false) in
     rw c.info-new.ensures (small_info u.breaks (text u) wide.tree.fits)
 
 -- the children where something was taken out
@@ -120,12 +125,12 @@ Children::remove_in_place-retotal-requires-clause-fits t c = λ narrow j e from 
     let d = down t i in
     let totals = totals_seen (listed c.self.inside) ts c.self.inside.totals c.self.inside.totals c.self.view_is refl c.self.invariant.totals_right in
     let inside : j < length ts = omega (arith, totals.as_many, within) in
-    let r = left t i u (c.remove_in_place.ensures.done c.if-not-remove_in_place.false) in
+    let r = left t i u (c.in_ok-remove_in_place.ensures.done c.if-not-branch.false) in
     let last = last_total (breaks_of ts) c.self.inside.totals ts totals (omega (arith, c.requires.children.at_least_two)) e in
     let few : byte_len (joined (set ts c.place_of-place.result u)) < 2 ^ 16 =
     omega (arith, (narrow (length c.self.inside.totals - 1) e (omega (arith, within))).bytes, ap (λ x. x.bytes) last, ap byte_len r.text_is, byte_len-removed (joined ts) c.args.start c.args.end (omega (arith, c.requires.ordered))) in
     let own = c.info-old.ensures ∙ ap (λ b. info_of b (text child)) d.own.same_breaks in
-    let now = c.info-new.ensures ∙ ap (λ b. info_of b (text u)) ((c.remove_in_place.ensures.done c.if-not-remove_in_place.false).same_breaks ∙ d.own.same_breaks) in
+    let now = c.info-new.ensures ∙ ap (λ b. info_of b (text u)) ((c.in_ok-remove_in_place.ensures.done c.if-not-branch.false).same_breaks ∙ d.own.same_breaks) in
     rw (totals.total_at j e inside, own, now)
     (fits_after (breaks_of ts) (height_of ts) ts (set ts c.place_of-place.result u) c.place_of-place.result child u d.children d.within d.child_is r.children refl few j from inside)
 
@@ -135,7 +140,7 @@ Children::remove_in_place-invariant_of-self-2 t c =
     let i = (goal.at.Children::remove_in_place-invariant_of-self-2 t c).After-index-self-place in
     let ts = c.args.self.now in
     let d = down t i in
-    let done = c.remove_in_place.ensures.done c.if-not-remove_in_place.false in
+    let done = c.in_ok-remove_in_place.ensures.done c.if-not-branch.false in
     let b = (left t i c.remove_in_place.new.self done).children in
     let seen = totals_seen (listed c.self.inside) ts c.self.inside.totals c.self.inside.totals c.self.view_is refl c.self.invariant.totals_right in
     let totals = set_totals _ _ _ _ _ _ _ _ _ d.children d.within d.child_is d.own.same_breaks b (done.same_breaks ∙ d.own.same_breaks) seen refl c.info-old.ensures c.info-new.ensures
@@ -148,42 +153,78 @@ Children::remove_in_place-returns-clause-done t c = λ yes.
     let i = (goal.at.Children::remove_in_place-returns-clause-done t c).After-index-self-place in
     let ts = c.args.self.now in
     let d = down t i in
-    let done = c.remove_in_place.ensures.done c.if-not-remove_in_place.false in
+    let done = c.in_ok-remove_in_place.ensures.done c.if-not-branch.false in
     let r = left t i c.remove_in_place.new.self done in
     let seen = totals_seen (listed c.self.inside) ts c.self.inside.totals c.self.inside.totals c.self.view_is refl c.self.invariant.totals_right in
     let totals = set_totals _ _ _ _ _ _ _ _ _ d.children d.within d.child_is d.own.same_breaks r.children (done.same_breaks ∙ d.own.same_breaks) seen refl c.info-old.ensures c.info-new.ensures
     c.retotal.ensures.len c.retotal.ensures.before c.retotal.ensures.after in
     rw (set_seen c.self.inside _ ts c.place_of-place.result c.remove_in_place.new.self c.self.invariant c.self.view_is d.within r.children refl refl refl totals) r
 
-pub Node::remove_in_place-invariant_of-self : goal.Node::remove_in_place-invariant_of-self
-Node::remove_in_place-invariant_of-self t c =
+pub Children::remove_in_place-returns-in_err-remove_in_place-clause-made :
+    goal.Children::remove_in_place-returns-in_err-remove_in_place-clause-made
+Children::remove_in_place-returns-in_err-remove_in_place-clause-made t c =
+    omega (arith, c.remove_in_place.ensures.made, (down t (goal.at.Children::remove_in_place-returns-in_err-remove_in_place-clause-made t c).After-index-self-place).own.at_height)
+
+pub Children::remove_in_place-returns-then-not-branch-clause-made :
+    goal.Children::remove_in_place-returns-then-not-branch-clause-made
+Children::remove_in_place-returns-then-not-branch-clause-made t c =
+    omega (arith, c.remove_in_place.ensures.made, (down t (goal.at.Children::remove_in_place-returns-then-not-branch-clause-made t c).After-index-self-place).own.at_height)
+
+pub Children::remove_in_place-returns-clause-made :
+    goal.Children::remove_in_place-returns-clause-made
+Children::remove_in_place-returns-clause-made t c =
+    omega (arith, c.remove_in_place.ensures.made, (down t (goal.at.Children::remove_in_place-returns-clause-made t c).After-index-self-place).own.at_height)
+
+-- the node as it is once what it has is its own
+abbrev own_form : Form → Inside
+own_form f = record { form = f }
+
+pub Node::remove_in_place-remove_in_place-requires-in-Some-get_mut : goal.Node::remove_in_place-remove_in_place-requires-in-Some-get_mut
+Node::remove_in_place-remove_in_place-requires-in-Some-get_mut t c =
+    let ts = c.in-Some-get_mut.children.now in
+    let is_node : IsNode (own_form c.own.new.form) = record { form = c.in_ok-own.ensures.kept c.self.invariant.form } in
+    let i = inner_seen (own_form c.own.new.form) c.args.self.now c.in-Inner.children ts is_node c.in-Inner.is (c.in_ok-own.ensures.same ∙ c.self.view_is) c.in-Some-get_mut.ensures.value in
+    let low = tallest_below (breaks_of ts) (height_of ts) ts i.children.each in
+    (omega (arith, c.decreases, low, ap (λ x. x.height) i.is), (i.children, (c.requires.ordered, omega (arith, c.requires.within, ap (λ x. length (text x)) i.is))))
+
+pub Node::remove_in_place-invariant_of-self-2 : goal.Node::remove_in_place-invariant_of-self-2
+Node::remove_in_place-invariant_of-self-2 t c =
+    let mine = own_form c.own.new.form in
+    let is_node : IsNode mine = record { form = c.in_ok-own.ensures.kept c.self.invariant.form } in
+    let view = c.in_ok-own.ensures.same ∙ c.self.view_is in
     elim c.match-self.branch [
-      | Node::remove_in_place-in-Empty w ↦ rw w.self-inside-is c.self.invariant
+      | Node::remove_in_place-in-Empty w ↦ rw w.self-inside-is is_node
       | Node::remove_in_place-in-Leaf+in-Some w ↦ rw w.self-inside-is (record { form = tt })
       | Node::remove_in_place-in-Leaf+in-None w ↦ rw w.self-inside-is (record { form = tt })
       | Node::remove_in_place-in-Inner+in-Some-get_mut w ↦
           let did = w.remove_in_place-in-Some-get_mut in
           let ts = w.in-Some-get_mut.children.now in
-          let i = inner_seen c.self.inside c.args.self.now w.in-Inner.children ts c.self.invariant w.in-Inner.is c.self.view_is w.in-Some-get_mut.ensures.value in
+          let us = did.new.self in
+          let i = inner_seen mine c.args.self.now w.in-Inner.children ts is_node w.in-Inner.is view w.in-Some-get_mut.ensures.value in
           rw w.self-inside-is (record {
-            form = by_answer did.result (λ yes. removed_children c.args.least.first c.args.least.last c.args.self.now ts did.new.self c.args.start c.args.end i (did.ensures.done yes)) (λ no. still_children c.args.self.now ts did.new.self i (did.ensures.kept no));
+            form = by_outcome did.result did.ensures.done did.ensures.kept did.ensures.err (removed_children c.args.least.first c.args.least.last c.args.self.now ts us c.args.start c.args.end i) (still_children c.args.self.now ts us i);
           })
       | Node::remove_in_place-in-Inner+in-None-get_mut w ↦
-          rw w.self-inside-is (record { form = (inner_of c.self.inside c.args.self.now w.in-Inner.children c.self.invariant w.in-Inner.is c.self.view_is).children })
+          rw w.self-inside-is (record { form = (inner_of mine c.args.self.now w.in-Inner.children is_node w.in-Inner.is view).children })
     ]
 
 pub Node::remove_in_place-returns-clause-done : goal.Node::remove_in_place-returns-clause-done
 Node::remove_in_place-returns-clause-done t c =
+    let mine = own_form c.own.new.form in
+    let is_node : IsNode mine = record { form = c.in_ok-own.ensures.kept c.self.invariant.form } in
+    let view = c.in_ok-own.ensures.same ∙ c.self.view_is in
     elim c.match-self.branch [
       | Node::remove_in_place-in-Empty w ↦ rw w.result-is (λ no. cc)
       | Node::remove_in_place-in-Leaf+in-Some w ↦
-          let same = leaf_seen c.self.inside c.args.self.now w.in-Leaf.leaf w.in-Some.leaf.now w.in-Leaf.is c.self.view_is w.in-Some.ensures.value in
+          let same = leaf_seen mine c.args.self.now w.in-Leaf.leaf w.in-Some.leaf.now w.in-Leaf.is view w.in-Some.ensures.value in
           rw (w.result-is, w.self-inside-is) (λ yes. subst (λ x. IsRemoved c.args.least.first c.args.least.last x w.remove_in_place.new.self c.args.start c.args.end) (sym same) (w.remove_in_place.ensures.done yes))
       | Node::remove_in_place-in-Leaf+in-None w ↦ rw w.result-is (λ no. cc)
       | Node::remove_in_place-in-Inner+in-Some-get_mut w ↦
           let did = w.remove_in_place-in-Some-get_mut in
           let ts = w.in-Some-get_mut.children.now in
-          let i = inner_seen c.self.inside c.args.self.now w.in-Inner.children ts c.self.invariant w.in-Inner.is c.self.view_is w.in-Some-get_mut.ensures.value in
-          rw (w.result-is, w.self-inside-is) (λ yes. removed_node c.args.least.first c.args.least.last c.args.self.now ts did.new.self c.args.start c.args.end i (did.ensures.done yes))
+          let us = did.new.self in
+          let i = inner_seen mine c.args.self.now w.in-Inner.children ts is_node w.in-Inner.is view w.in-Some-get_mut.ensures.value in
+          rw (w.result-is, w.self-inside-is) (IfOk-weaker did.result (λ did. did ≡ true → AreRemoved c.args.least.first c.args.least.last ts us c.args.start c.args.end)
+          (λ did. did ≡ true → IsRemoved c.args.least.first c.args.least.last c.args.self.now (tree_over us) c.args.start c.args.end) (λ did g yes. removed_node c.args.least.first c.args.least.last c.args.self.now ts us c.args.start c.args.end i (g yes)) did.ensures.done)
       | Node::remove_in_place-in-Inner+in-None-get_mut w ↦ rw w.result-is (λ no. cc)
     ]

@@ -16,12 +16,12 @@ whole c =
     c.insert_str_split-back.ensures.joined ∙ ap (inserted c.from_str-front.result c.args.at) c.as_str-3.ensures.chars
     ∙ ap (λ l. inserted l c.args.at c.args.added.now) (c.from_str-front.ensures.value ∙ c.as_str-2.ensures.chars ∙ c.new-old.ensures.value ∙ c.as_str.ensures.chars)
 
-counted : (c : After-from_str-front_info) → c.from_str-front_info.result ≡ info_of c.self.inside.breaks c.insert_str_split-back.new.self
-counted c = c.from_str-front_info.ensures ∙ ap (info_of c.self.inside.breaks) c.as_str-4.ensures.chars
+counted : (c : After-from_str-front_info) → c.from_str-front_info.result ≡ info_of c.line_breaks-breaks.result c.insert_str_split-back.new.self
+counted c = c.from_str-front_info.ensures ∙ ap (info_of c.line_breaks-breaks.result) c.as_str-4.ensures.chars
 
-parted : (c : After-from_str-front_info) → c.info_with-info.result ≡ info_sum c.from_str-front_info.result (info_of c.self.inside.breaks c.insert_str_split-back.result)
+parted : (c : After-from_str-front_info) → c.info_with-info.result ≡ info_sum c.from_str-front_info.result (info_of c.line_breaks-breaks.result c.insert_str_split-back.result)
 parted c =
-    let breaks = c.self.inside.breaks in
+    let breaks = c.line_breaks-breaks.result in
     c.info_with-info.ensures ∙ ap (λ l. info_of breaks (inserted l c.args.at c.args.added.now)) (c.new-old.ensures.value ∙ c.as_str.ensures.chars) ∙ ap (info_of breaks) (sym (whole c))
     ∙ info_of-append_apart breaks c.insert_str_split-back.new.self c.insert_str_split-back.result c.insert_str_split-back.ensures.apart
     ∙ ap (λ i. info_sum i (info_of breaks c.insert_str_split-back.result)) (sym (counted c))
@@ -35,5 +35,5 @@ minus-back_info-requires-clause-break_count c = omega (arith, ap (λ i. i.break_
 pub returns-clause-cut : goal.returns-clause-cut
 returns-clause-cut c =
     let f = (goal.at.returns-clause-cut c).After-from_str-front_info in
-    rw (← c.self.view_is, c.self-2.view_is ∙ c.new.ensures) (leaf_parted c.self.inside.breaks c.self.inside.text c.insert_str_split-back.new.self c.as_str-4.ensures.fits c.as_str-4.ensures.scalars c.args.at c.args.added.now c.insert_str_split-back.result c.in_ok-behind.behind
+    rw (← c.self.view_is, c.self-2.view_is ∙ c.new.ensures, ← c.line_breaks-breaks.ensures) (leaf_parted c.line_breaks-breaks.result c.self.inside.text c.insert_str_split-back.new.self c.as_str-4.ensures.fits c.as_str-4.ensures.scalars c.args.at c.args.added.now c.insert_str_split-back.result c.in_ok-behind.behind
     c.in_ok-behind.ensures.ok c.in_ok-behind.ensures.tree (whole f) (c.insert_str_split-back.ensures.front, c.insert_str_split-back.ensures.back, c.insert_str_split-back.ensures.apart) c.insert_str_split-back.ensures.halves)

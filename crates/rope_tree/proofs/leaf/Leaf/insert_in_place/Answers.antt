@@ -1,4 +1,4 @@
-use Rattle.std.proofs.Common.{sym, ap, subst, ◌∙◌}
+use Rattle.std.proofs.Common.{sym, ap, subst, ◌∙◌, arith}
 use Rattle.rope_text.specs.TextInfo.{info_of}
 use Rattle.rope_tree.proofs.Infos.{IsLow, low_info}
 use Rattle.rope_tree.proofs.GrownLaws.{leaf_inserted}
@@ -8,18 +8,18 @@ use Rattle.rope_tree.proofs.leaf.Leaf.insert_in_place.Goals as goal
 -- the counts of a leaf that took the text
 low : (c : After-as_str) → IsLow c.put_in-new.result 984
 low c =
-    let now = c.put_in-new.ensures.info ∙ ap (info_of c.self.inside.breaks) (sym c.put_in-new.ensures.text) in
-    subst (λ i. IsLow i 984) (sym now) (low_info c.self.inside.breaks c.put_in-new.new.leaf 984 c.as_str.ensures.fits)
+    let now = c.put_in-new.ensures.info ∙ ap (info_of c.line_breaks-breaks.result) (sym c.put_in-new.ensures.text) in
+    subst (λ i. IsLow i 984) (sym now) (low_info c.line_breaks-breaks.result c.put_in-new.new.leaf 984 c.as_str.ensures.fits)
 
 pub new-self-inside-requires-clause-chars : goal.new-self-inside-requires-clause-chars
 new-self-inside-requires-clause-chars c = (low c).chars
 
 pub new-self-inside-requires-clause-surrogates : goal.new-self-inside-requires-clause-surrogates
-new-self-inside-requires-clause-surrogates c = (low c).surrogates
+new-self-inside-requires-clause-surrogates c = omega (arith, (low c).surrogates)
 
 pub new-self-inside-requires-clause-break_count : goal.new-self-inside-requires-clause-break_count
 new-self-inside-requires-clause-break_count c = (low c).count
 
 pub returns-clause-done : goal.returns-clause-done
 returns-clause-done c = λ yes.
-    rw (← c.self.view_is) (leaf_inserted c.self.inside.breaks c.self.inside.text c.put_in-new.new.leaf c.as_str.ensures.fits c.as_str.ensures.scalars c.args.at c.args.added.now c.put_in-new.ensures.text c.requires.some)
+    rw (← c.self.view_is, c.new-self-inside.ensures.breaks, ← c.line_breaks-breaks.ensures) (leaf_inserted c.line_breaks-breaks.result c.self.inside.text c.put_in-new.new.leaf c.as_str.ensures.fits c.as_str.ensures.scalars c.args.at c.args.added.now c.put_in-new.ensures.text c.requires.some)

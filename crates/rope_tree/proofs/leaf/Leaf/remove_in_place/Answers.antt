@@ -1,4 +1,4 @@
-use Rattle.std.proofs.Common.{sym, ap, subst, ◌∙◌}
+use Rattle.std.proofs.Common.{sym, ap, subst, ◌∙◌, arith}
 use Rattle.rope_text.specs.TextInfo.{info_of}
 use Rattle.rope_tree.proofs.Infos.{IsLow, low_info}
 use Rattle.rope_tree.proofs.RemovalLaws.{leaf_left}
@@ -8,19 +8,19 @@ use Rattle.rope_tree.proofs.leaf.Leaf.remove_in_place.Goals as goal
 -- the counts of a leaf that lost the characters
 low : (c : After-as_str) → IsLow c.in-Some.left 984
 low c =
-    let now = c.in-Some.ensures.info ∙ ap (info_of c.self.inside.breaks) (sym c.in-Some.ensures.text) in
-    subst (λ i. IsLow i 984) (sym now) (low_info c.self.inside.breaks c.take_out.new.leaf 984 c.as_str.ensures.fits)
+    let now = c.in-Some.ensures.info ∙ ap (info_of c.line_breaks-breaks.result) (sym c.in-Some.ensures.text) in
+    subst (λ i. IsLow i 984) (sym now) (low_info c.line_breaks-breaks.result c.take_out.new.leaf 984 c.as_str.ensures.fits)
 
 pub new-self-inside-requires-clause-chars : goal.new-self-inside-requires-clause-chars
 new-self-inside-requires-clause-chars c = (low c).chars
 
 pub new-self-inside-requires-clause-surrogates : goal.new-self-inside-requires-clause-surrogates
-new-self-inside-requires-clause-surrogates c = (low c).surrogates
+new-self-inside-requires-clause-surrogates c = omega (arith, (low c).surrogates)
 
 pub new-self-inside-requires-clause-break_count : goal.new-self-inside-requires-clause-break_count
 new-self-inside-requires-clause-break_count c = (low c).count
 
 pub returns-clause-done : goal.returns-clause-done
 returns-clause-done c = λ yes.
-    rw (← c.self.view_is) (leaf_left c.args.least.first c.args.least.last c.self.inside.breaks c.self.inside.text c.take_out.new.leaf c.args.start c.args.end c.in-Some.ensures.text c.requires.ordered (rw (← c.self.view_is) at c.requires.within)
+    rw (← c.self.view_is, c.new-self-inside.ensures.breaks, ← c.line_breaks-breaks.ensures) (leaf_left c.args.least.first c.args.least.last c.line_breaks-breaks.result c.self.inside.text c.take_out.new.leaf c.args.start c.args.end c.in-Some.ensures.text c.requires.ordered (rw (← c.self.view_is) at c.requires.within)
     c.in-Some.ensures.some c.in-Some.ensures.ends (rw c.max-least.ensures at c.in-Some.ensures.least) c.as_str.ensures.fits c.as_str.ensures.scalars)

@@ -13,9 +13,6 @@ parts c =
     let n = all_narrow c.self.inside c.args.self.now c.self.invariant c.self.view_is in
     parts_fit (get_or c.args.self.now k d) c.args.old c.args.new (n k d c.requires.within) (c.requires.part k d (omega arith) c.requires.within) (c.requires.fits n k d (omega arith) c.requires.within)
 
-pub overflow_cast-from : goal.overflow_cast-from
-overflow_cast-from c = omega (arith, c.requires.within, c.self.invariant.few, many c.self.inside c.args.self.now c.self.view_is)
-
 pub difference-requires-clause-old : goal.difference-requires-clause-old
 difference-requires-clause-old c = (parts (goal.at.difference-requires-clause-old c).After-self).was.bytes
 

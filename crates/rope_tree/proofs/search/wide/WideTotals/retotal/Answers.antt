@@ -1,67 +1,36 @@
-use Rattle.std.proofs.Common.{◌<◌, length, refl, arith}
+use Rattle.std.proofs.Common.{ℕ, ◌<◌, ◌≤◌, length, get_or, refl, arith}
 use Rattle.rope_tree.specs.WideShape.{counts_at}
-use Rattle.rope_tree.proofs.WideKept.{many, total_seen, same_seen, sums_seen}
+use Rattle.rope_tree.proofs.WideKept.{many, total_seen, same_seen, sums_seen, traded, Trades}
+use Rattle.rope_tree.proofs.search.wide.WideTotals.retotal.Goals.{After-shift-4}
 use Rattle.rope_tree.proofs.search.wide.WideTotals.retotal.Goals as goal
 
-pub shift-requires-clause-part : goal.shift-requires-clause-part
-shift-requires-clause-part c = λ j from to.
+-- each total from the place on has its part put for the other
+trades : (c : After-shift-4) (j : ℕ) → c.args.place ≤ j → j < length c.args.self.now → Trades c.self.inside (record { len = c.self.inside.len; bytes = c.shift.new.counts; chars = c.shift-2.new.counts; pairs = c.shift-3.new.counts; breaks = c.shift-4.new.counts }) j c.args.old c.args.new
+trades c j late lt =
     let d = counts_at c.self.inside 0 in
-    let lt : j < length c.args.self.now = omega (arith, many c.self.inside c.args.self.now c.self.view_is) in
-    let p = rw (total_seen c.self.inside c.args.self.now j d c.self.view_is lt) at (c.requires.part j d from lt) in
-    p.bytes
-
-pub shift-requires-clause-fits : goal.shift-requires-clause-fits
-shift-requires-clause-fits c = λ j from to.
-    let d = counts_at c.self.inside 0 in
-    let lt : j < length c.args.self.now = omega (arith, many c.self.inside c.args.self.now c.self.view_is) in
-    let s = rw (total_seen c.self.inside c.args.self.now j d c.self.view_is lt) at (c.requires.small j d lt) in
+    let seen = total_seen c.self.inside c.args.self.now j d c.self.view_is lt in
+    let p = rw seen at (c.requires.part j d late lt) in
+    let s = rw seen at (c.requires.small j d lt) in
     let n = c.requires.new in
-    omega (arith, s.bytes, s.chars, s.surrogates, s.count, n.bytes, n.chars, n.surrogates, n.count)
+    let room : j < 24 = omega (arith, lt, c.self.invariant.few, many c.self.inside c.args.self.now c.self.view_is) in
+    record {
+      bytes = traded _ c.args.old.bytes c.args.new.bytes _ _ p.bytes (omega (arith, s.bytes, n.bytes)) refl (c.shift.ensures.after j late room);
+      chars = traded _ c.args.old.chars c.args.new.chars _ _ p.chars (omega (arith, s.bytes, s.chars, n.bytes, n.chars)) refl (c.shift-2.ensures.after j late room);
+      pairs = traded _ c.args.old.utf16_surrogates c.args.new.utf16_surrogates _ _ p.surrogates (omega (arith, s.bytes, s.chars, s.surrogates, n.bytes, n.chars, n.surrogates)) refl (c.shift-3.ensures.after j late room);
+      breaks = traded _ c.args.old.break_count c.args.new.break_count _ _ p.count (omega (arith, s.bytes, s.chars, s.count, n.bytes, n.chars, n.count)) refl (c.shift-4.ensures.after j late room);
+    }
 
-pub shift-requires-2-clause-part : goal.shift-requires-2-clause-part
-shift-requires-2-clause-part c = λ j from to.
-    let d = counts_at c.self.inside 0 in
-    let lt : j < length c.args.self.now = omega (arith, many c.self.inside c.args.self.now c.self.view_is) in
-    let p = rw (total_seen c.self.inside c.args.self.now j d c.self.view_is lt) at (c.requires.part j d from lt) in
-    p.chars
+pub shift-requires-clause-place : goal.shift-requires-clause-place
+shift-requires-clause-place c = omega (arith, c.requires.within, c.self.invariant.few, many c.self.inside c.args.self.now c.self.view_is)
 
-pub shift-requires-2-clause-fits : goal.shift-requires-2-clause-fits
-shift-requires-2-clause-fits c = λ j from to.
-    let d = counts_at c.self.inside 0 in
-    let lt : j < length c.args.self.now = omega (arith, many c.self.inside c.args.self.now c.self.view_is) in
-    let s = rw (total_seen c.self.inside c.args.self.now j d c.self.view_is lt) at (c.requires.small j d lt) in
-    let n = c.requires.new in
-    omega (arith, s.bytes, s.chars, s.surrogates, s.count, n.bytes, n.chars, n.surrogates, n.count)
+pub shift-requires-2-clause-place : goal.shift-requires-2-clause-place
+shift-requires-2-clause-place c = omega (arith, c.requires.within, c.self.invariant.few, many c.self.inside c.args.self.now c.self.view_is)
 
-pub shift-requires-3-clause-part : goal.shift-requires-3-clause-part
-shift-requires-3-clause-part c = λ j from to.
-    let d = counts_at c.self.inside 0 in
-    let lt : j < length c.args.self.now = omega (arith, many c.self.inside c.args.self.now c.self.view_is) in
-    let p = rw (total_seen c.self.inside c.args.self.now j d c.self.view_is lt) at (c.requires.part j d from lt) in
-    p.surrogates
+pub shift-requires-3-clause-place : goal.shift-requires-3-clause-place
+shift-requires-3-clause-place c = omega (arith, c.requires.within, c.self.invariant.few, many c.self.inside c.args.self.now c.self.view_is)
 
-pub shift-requires-3-clause-fits : goal.shift-requires-3-clause-fits
-shift-requires-3-clause-fits c = λ j from to.
-    let d = counts_at c.self.inside 0 in
-    let lt : j < length c.args.self.now = omega (arith, many c.self.inside c.args.self.now c.self.view_is) in
-    let s = rw (total_seen c.self.inside c.args.self.now j d c.self.view_is lt) at (c.requires.small j d lt) in
-    let n = c.requires.new in
-    omega (arith, s.bytes, s.chars, s.surrogates, s.count, n.bytes, n.chars, n.surrogates, n.count)
-
-pub shift-requires-4-clause-part : goal.shift-requires-4-clause-part
-shift-requires-4-clause-part c = λ j from to.
-    let d = counts_at c.self.inside 0 in
-    let lt : j < length c.args.self.now = omega (arith, many c.self.inside c.args.self.now c.self.view_is) in
-    let p = rw (total_seen c.self.inside c.args.self.now j d c.self.view_is lt) at (c.requires.part j d from lt) in
-    p.count
-
-pub shift-requires-4-clause-fits : goal.shift-requires-4-clause-fits
-shift-requires-4-clause-fits c = λ j from to.
-    let d = counts_at c.self.inside 0 in
-    let lt : j < length c.args.self.now = omega (arith, many c.self.inside c.args.self.now c.self.view_is) in
-    let s = rw (total_seen c.self.inside c.args.self.now j d c.self.view_is lt) at (c.requires.small j d lt) in
-    let n = c.requires.new in
-    omega (arith, s.bytes, s.chars, s.surrogates, s.count, n.bytes, n.chars, n.surrogates, n.count)
+pub shift-requires-4-clause-place : goal.shift-requires-4-clause-place
+shift-requires-4-clause-place c = omega (arith, c.requires.within, c.self.invariant.few, many c.self.inside c.args.self.now c.self.view_is)
 
 pub returns-clause-before : goal.returns-clause-before
 returns-clause-before c = λ j d early.
@@ -70,6 +39,5 @@ returns-clause-before c = λ j d early.
 
 pub returns-clause-after : goal.returns-clause-after
 returns-clause-after c = λ j d late lt.
-    let to : j < c.self.inside.len = omega (arith, many c.self.inside c.args.self.now c.self.view_is) in
-    sums_seen c.self.inside _ c.args.self.now c.self.view_is refl j d lt c.args.old c.args.new
-    (c.shift.ensures.after j late to) (c.shift-2.ensures.after j late to) (c.shift-3.ensures.after j late to) (c.shift-4.ensures.after j late to)
+    let t = trades (goal.at.returns-clause-after c).After-shift-4 j late lt in
+    sums_seen c.self.inside _ c.args.self.now c.self.view_is refl j d lt c.args.old c.args.new t.bytes t.chars t.pairs t.breaks
