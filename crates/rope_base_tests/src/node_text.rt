@@ -26,13 +26,6 @@ fn edits(rt: HostRuntime) {
     let range = text.byte_range(1, 3, text.count_chars());
     text.remove_bytes(range);
     assert_eq!(rt; text.as_str(), "Hlo!");
-    let mut text = hello();
-    text.truncate(4);
-    assert_eq!(rt; text.as_str(), "Hell");
-    let mut text = hello();
-    let back = text.split_off(4);
-    assert_eq!(rt; text.as_str(), "Hell");
-    assert_eq!(rt; back.as_str(), "o!");
     assert_eq!(rt; NodeText::new().len(), 0);
 }
 

@@ -26,8 +26,8 @@ fn leaf_front(
     ensures tree { IfOk result (λ node. IsTree node) }
     ensures made { made.new ≤ made.old + 1 }
 {
-    let mut part = NodeText::from_str(leaf.as_str());
-    part.truncate(at);
+    let text = leaf.as_str();
+    let part = NodeText::from_str(&text[..leaf.char_to_byte_idx(at)]);
     leaf_of(alloc, breaks, part, made)
 }
 
@@ -44,8 +44,8 @@ fn leaf_back(
     ensures tree { IfOk result (λ node. IsTree node) }
     ensures made { made.new ≤ made.old + 1 }
 {
-    let mut front = NodeText::from_str(leaf.as_str());
-    let part = front.split_off(at);
+    let text = leaf.as_str();
+    let part = NodeText::from_str(&text[leaf.char_to_byte_idx(at)..]);
     leaf_of(alloc, breaks, part, made)
 }
 

@@ -212,26 +212,6 @@ impl NodeText {
         take_bytes(&mut self.bytes, range.from, range.to);
     }
 
-    /// Keeps the first `len` characters.
-    pub fn truncate(&mut self, len: usize)
-        ensures { self.new ≡ take len self.old }
-    {
-        let to = char_to_byte_idx(self.as_str(), len);
-        self.bytes.truncate(to);
-    }
-
-    /// Leaves the first `at` characters, and returns the others.
-    pub fn split_off(&mut self, at: usize) -> NodeText
-        ensures front { self.new ≡ take at self.old }
-        ensures back { result ≡ drop at self.old }
-    {
-        let old = self.as_str();
-        let place = char_to_byte_idx(old, at);
-        let back = NodeText::from_str(&old[place..]);
-        self.bytes.truncate(place);
-        back
-    }
-
     /// Puts `text` before the character `at`, or at the end, where one leaf cannot hold both: leaves the first part, and
     /// returns the second. Each part has half a leaf, but for a byte, and the cut parts no CR from an LF.
     pub fn insert_str_split(&mut self, at: usize, text: &str) -> NodeText
