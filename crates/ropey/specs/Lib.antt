@@ -2,3 +2,4 @@ pub mod View
 pub mod Building
 pub mod Texts
 pub mod Compared
+pub mod Counted

@@ -11,23 +11,6 @@ ghost use Rattle.rope_part.specs.Found.{IsFoundChunk};
 
 use crate::rope::Rope;
 use rope_tree::chunk_lookup;
-use rope_tree::lookup::Found;
-
-// The chunk that was found, and the counts of the text before it.
-fn chunk_and_counts(found: Found<'_>) -> (&str, usize, usize, usize)
-    ensures text { chars result.0.now ≡ found.entry.leaf }
-    ensures bytes { result.1 ≡ found.entry.before.bytes }
-    ensures chars { result.2 ≡ found.entry.before.chars }
-    ensures breaks { result.3 ≡ found.entry.before.break_count }
-{
-    let before = found.before;
-    (
-        found.leaf.as_str(),
-        before.bytes,
-        before.chars,
-        before.break_count,
-    )
-}
 
 impl Rope {
     /// The chunk that holds the byte `byte_idx`, and at the end of the text the last chunk. With it the numbers of
@@ -40,7 +23,7 @@ impl Rope {
             (chunk_index_at_byte self.now.chunks byte_idx))
             (chars result.0.now) result.1 result.2 result.3 }
     {
-        chunk_and_counts(chunk_lookup::chunk_at_byte(self.root(), byte_idx))
+        self.whole().chunk_at_byte(byte_idx)
     }
 
     /// As `chunk_at_byte`, or `None` exactly where the index is past `len_bytes()`. Costs one look-up; takes no
@@ -69,7 +52,7 @@ impl Rope {
             (chunk_index_at_char self.now.chunks char_idx))
             (chars result.0.now) result.1 result.2 result.3 }
     {
-        chunk_and_counts(chunk_lookup::chunk_at_char(self.root(), char_idx))
+        self.whole().chunk_at_char(char_idx)
     }
 
     /// As `chunk_at_char`, or `None` exactly where the index is past `len_chars()`. Costs one look-up; takes no
@@ -81,10 +64,7 @@ impl Rope {
             (chunk_index_at_char self.now.chunks char_idx))
             (chars found.0.now) found.1 found.2 found.3) }
     {
-        if char_idx > self.len_chars() {
-            return None;
-        }
-        Some(self.chunk_at_char(char_idx))
+        self.whole().get_chunk_at_char(char_idx)
     }
 
     /// The first chunk by whose end `line_break_idx` line breaks have ended, and the last chunk where there is none
@@ -98,7 +78,14 @@ impl Rope {
             (chunk_index_at_line_break self.now.breaks self.now.chunks line_break_idx))
             (chars result.0.now) result.1 result.2 result.3 }
     {
-        chunk_and_counts(chunk_lookup::chunk_at_line_break(self.root(), line_break_idx))
+        let found = chunk_lookup::chunk_at_line_break(self.root(), line_break_idx);
+        let before = found.before;
+        (
+            found.leaf.as_str(),
+            before.bytes,
+            before.chars,
+            before.break_count,
+        )
     }
 
     /// As `chunk_at_line_break`, or `None` exactly where the index is past `len_lines()`. Costs one look-up; takes

@@ -11,7 +11,7 @@ ghost use Rattle.rope_text.specs.Edit.{byte_index_error, char_index_error, line_
 ghost use Rattle.rope_text.specs.Answer.{checked};
 
 use crate::rope::Rope;
-use rope_text::{Error, Result, Steps};
+use rope_text::{Result, Steps};
 
 impl Rope {
     /// The character, counted from 0, that holds the byte `byte_idx`, also where the byte is inside the character;
@@ -36,11 +36,7 @@ impl Rope {
         ensures { result ≡ checked (byte_index_error byte_idx (byte_len self.now.text))
             (byte_to_char self.now.text byte_idx) }
     {
-        let len = self.len_bytes();
-        if byte_idx > len {
-            return Err(Error::ByteIndexOutOfBounds(byte_idx, len));
-        }
-        Ok(self.byte_to_char(byte_idx))
+        self.whole().try_byte_to_char(byte_idx)
     }
 
     /// The line, counted from 0, on which the byte `byte_idx` lies: how many line breaks end at or before it. A
@@ -64,11 +60,7 @@ impl Rope {
         ensures { result ≡ checked (byte_index_error byte_idx (byte_len self.now.text))
             (byte_to_line self.now.breaks self.now.text byte_idx) }
     {
-        let len = self.len_bytes();
-        if byte_idx > len {
-            return Err(Error::ByteIndexOutOfBounds(byte_idx, len));
-        }
-        Ok(self.byte_to_line(byte_idx))
+        self.whole().try_byte_to_line(byte_idx)
     }
 
     /// The byte, counted from 0, at which the character `char_idx` starts; at the end of the text, the number of
@@ -92,11 +84,7 @@ impl Rope {
         ensures { result ≡ checked (char_index_error char_idx (length self.now.text))
             (char_to_byte self.now.text char_idx) }
     {
-        let len = self.len_chars();
-        if char_idx > len {
-            return Err(Error::CharIndexOutOfBounds(char_idx, len));
-        }
-        Ok(self.char_to_byte(char_idx))
+        self.whole().try_char_to_byte(char_idx)
     }
 
     /// The line, counted from 0, on which the character `char_idx` lies: how many line breaks end at or before it.
@@ -121,11 +109,7 @@ impl Rope {
         ensures { result ≡ checked (char_index_error char_idx (length self.now.text))
             (char_to_line self.now.breaks self.now.text char_idx) }
     {
-        let len = self.len_chars();
-        if char_idx > len {
-            return Err(Error::CharIndexOutOfBounds(char_idx, len));
-        }
-        Ok(self.char_to_line(char_idx))
+        self.whole().try_char_to_line(char_idx)
     }
 
     /// The UTF-16 code unit, counted from 0, at which the character `char_idx` starts; at the end of the text, the
@@ -149,11 +133,7 @@ impl Rope {
         ensures { result ≡ checked (char_index_error char_idx (length self.now.text))
             (char_to_utf16 self.now.text char_idx) }
     {
-        let len = self.len_chars();
-        if char_idx > len {
-            return Err(Error::CharIndexOutOfBounds(char_idx, len));
-        }
-        Ok(self.char_to_utf16_cu(char_idx))
+        self.whole().try_char_to_utf16_cu(char_idx)
     }
 
     /// The character, counted from 0, that holds the UTF-16 code unit `utf16_cu_idx`, also where that is the second
@@ -177,11 +157,7 @@ impl Rope {
         ensures { result ≡ checked (utf16_index_error utf16_cu_idx (utf16_len self.now.text))
             (utf16_to_char self.now.text utf16_cu_idx) }
     {
-        let len = self.len_utf16_cu();
-        if utf16_cu_idx > len {
-            return Err(Error::Utf16IndexOutOfBounds(utf16_cu_idx, len));
-        }
-        Ok(self.utf16_cu_to_char(utf16_cu_idx))
+        self.whole().try_utf16_cu_to_char(utf16_cu_idx)
     }
 
     /// The byte, counted from 0, at which the line `line_idx` starts; for `len_lines()`, the end of the text.
@@ -204,11 +180,7 @@ impl Rope {
         ensures { result ≡ checked (line_index_error line_idx (line_count self.now.breaks self.now.text))
             (line_to_byte self.now.breaks self.now.text line_idx) }
     {
-        let len = self.len_lines();
-        if line_idx > len {
-            return Err(Error::LineIndexOutOfBounds(line_idx, len));
-        }
-        Ok(self.line_to_byte(line_idx))
+        self.whole().try_line_to_byte(line_idx)
     }
 
     /// The character, counted from 0, at which the line `line_idx` starts; for `len_lines()`, the end of the text.
@@ -233,10 +205,6 @@ impl Rope {
         ensures { result ≡ checked (line_index_error line_idx (line_count self.now.breaks self.now.text))
             (line_to_char self.now.breaks self.now.text line_idx) }
     {
-        let len = self.len_lines();
-        if line_idx > len {
-            return Err(Error::LineIndexOutOfBounds(line_idx, len));
-        }
-        Ok(self.line_to_char(line_idx))
+        self.whole().try_line_to_char(line_idx)
     }
 }

@@ -2,12 +2,13 @@
 //! with. Each sets the counts to 0 first.
 //!
 //! In a rope of one chunk, `byte_counted(0, &mut steps)` leaves `steps.nodes` at 1 and `steps.compares` at 0.
-ghost use Rattle.std.specs.Prelude.{◌≡◌, ◌+◌, ◌*◌, ◌<◌, ◌≤◌, length, slice_get, Some};
+ghost use Rattle.std.specs.Prelude.{◌≡◌, ◌<◌, ◌≤◌, length, slice_get, Some};
 ghost use Rattle.std.specs.Str.{encode_utf8_all};
 ghost use Rattle.rope_text.specs.Text.{byte_len, utf16_len};
 ghost use Rattle.rope_text.specs.Lines.{line_count};
 ghost use Rattle.rope_text.specs.Conversions.{byte_to_char, byte_to_line, char_to_byte, char_to_line, char_to_utf16, line_to_byte, line_to_char, utf16_to_char};
 ghost use Rattle.rope_tree.specs.Tree.{text};
+ghost use Rattle.ropey.specs.Counted.{IsLookUp, WentDown, StayedOut};
 
 use crate::rope::Rope;
 use rope_text::Steps;
@@ -33,11 +34,9 @@ impl Rope {
     pub fn byte_to_char_counted(&self, byte_idx: usize, steps: &mut Steps) -> usize
         requires { byte_idx ≤ byte_len self.now.text }
         ensures value { result ≡ byte_to_char self.now.text byte_idx }
-        ensures nodes { steps.new.nodes ≤ self.now.depth + 1 }
-        ensures compares { steps.new.compares ≤ 5 * self.now.depth }
-        ensures inside { byte_idx < byte_len self.now.text → (steps.new.nodes ≡ self.now.depth + 1) × (self.now.depth ≤ steps.new.compares) }
-        ensures at_end { byte_idx ≡ byte_len self.now.text → (steps.new.nodes ≡ 0) × (steps.new.compares ≡ 0) }
-        ensures made { steps.new.made ≡ 0 }
+        ensures steps { IsLookUp self.now.depth steps.new }
+        ensures inside { byte_idx < byte_len self.now.text → WentDown self.now.depth steps.new }
+        ensures at_end { byte_idx ≡ byte_len self.now.text → StayedOut steps.new }
     {
         tree::byte_to_char(self.begin(steps), byte_idx, steps)
     }
@@ -47,11 +46,9 @@ impl Rope {
     pub fn byte_to_line_counted(&self, byte_idx: usize, steps: &mut Steps) -> usize
         requires { byte_idx ≤ byte_len self.now.text }
         ensures value { result ≡ byte_to_line self.now.breaks self.now.text byte_idx }
-        ensures nodes { steps.new.nodes ≤ self.now.depth + 1 }
-        ensures compares { steps.new.compares ≤ 5 * self.now.depth }
-        ensures inside { byte_idx < byte_len self.now.text → (steps.new.nodes ≡ self.now.depth + 1) × (self.now.depth ≤ steps.new.compares) }
-        ensures at_end { byte_idx ≡ byte_len self.now.text → (steps.new.nodes ≡ 0) × (steps.new.compares ≡ 0) }
-        ensures made { steps.new.made ≡ 0 }
+        ensures steps { IsLookUp self.now.depth steps.new }
+        ensures inside { byte_idx < byte_len self.now.text → WentDown self.now.depth steps.new }
+        ensures at_end { byte_idx ≡ byte_len self.now.text → StayedOut steps.new }
     {
         tree::byte_to_line(self.begin(steps), byte_idx, steps)
     }
@@ -61,11 +58,9 @@ impl Rope {
     pub fn char_to_byte_counted(&self, char_idx: usize, steps: &mut Steps) -> usize
         requires { char_idx ≤ length self.now.text }
         ensures value { result ≡ char_to_byte self.now.text char_idx }
-        ensures nodes { steps.new.nodes ≤ self.now.depth + 1 }
-        ensures compares { steps.new.compares ≤ 5 * self.now.depth }
-        ensures inside { char_idx < length self.now.text → (steps.new.nodes ≡ self.now.depth + 1) × (self.now.depth ≤ steps.new.compares) }
-        ensures at_end { char_idx ≡ length self.now.text → (steps.new.nodes ≡ 0) × (steps.new.compares ≡ 0) }
-        ensures made { steps.new.made ≡ 0 }
+        ensures steps { IsLookUp self.now.depth steps.new }
+        ensures inside { char_idx < length self.now.text → WentDown self.now.depth steps.new }
+        ensures at_end { char_idx ≡ length self.now.text → StayedOut steps.new }
     {
         tree::char_to_byte(self.begin(steps), char_idx, steps)
     }
@@ -75,11 +70,9 @@ impl Rope {
     pub fn char_to_line_counted(&self, char_idx: usize, steps: &mut Steps) -> usize
         requires { char_idx ≤ length self.now.text }
         ensures value { result ≡ char_to_line self.now.breaks self.now.text char_idx }
-        ensures nodes { steps.new.nodes ≤ self.now.depth + 1 }
-        ensures compares { steps.new.compares ≤ 5 * self.now.depth }
-        ensures inside { char_idx < length self.now.text → (steps.new.nodes ≡ self.now.depth + 1) × (self.now.depth ≤ steps.new.compares) }
-        ensures at_end { char_idx ≡ length self.now.text → (steps.new.nodes ≡ 0) × (steps.new.compares ≡ 0) }
-        ensures made { steps.new.made ≡ 0 }
+        ensures steps { IsLookUp self.now.depth steps.new }
+        ensures inside { char_idx < length self.now.text → WentDown self.now.depth steps.new }
+        ensures at_end { char_idx ≡ length self.now.text → StayedOut steps.new }
     {
         tree::char_to_line(self.begin(steps), char_idx, steps)
     }
@@ -89,11 +82,9 @@ impl Rope {
     pub fn char_to_utf16_cu_counted(&self, char_idx: usize, steps: &mut Steps) -> usize
         requires { char_idx ≤ length self.now.text }
         ensures value { result ≡ char_to_utf16 self.now.text char_idx }
-        ensures nodes { steps.new.nodes ≤ self.now.depth + 1 }
-        ensures compares { steps.new.compares ≤ 5 * self.now.depth }
-        ensures inside { char_idx < length self.now.text → (steps.new.nodes ≡ self.now.depth + 1) × (self.now.depth ≤ steps.new.compares) }
-        ensures at_end { char_idx ≡ length self.now.text → (steps.new.nodes ≡ 0) × (steps.new.compares ≡ 0) }
-        ensures made { steps.new.made ≡ 0 }
+        ensures steps { IsLookUp self.now.depth steps.new }
+        ensures inside { char_idx < length self.now.text → WentDown self.now.depth steps.new }
+        ensures at_end { char_idx ≡ length self.now.text → StayedOut steps.new }
     {
         tree::char_to_utf16(self.begin(steps), char_idx, steps)
     }
@@ -103,11 +94,9 @@ impl Rope {
     pub fn utf16_cu_to_char_counted(&self, utf16_cu_idx: usize, steps: &mut Steps) -> usize
         requires { utf16_cu_idx ≤ utf16_len self.now.text }
         ensures value { result ≡ utf16_to_char self.now.text utf16_cu_idx }
-        ensures nodes { steps.new.nodes ≤ self.now.depth + 1 }
-        ensures compares { steps.new.compares ≤ 5 * self.now.depth }
-        ensures inside { utf16_cu_idx < utf16_len self.now.text → (steps.new.nodes ≡ self.now.depth + 1) × (self.now.depth ≤ steps.new.compares) }
-        ensures at_end { utf16_cu_idx ≡ utf16_len self.now.text → (steps.new.nodes ≡ 0) × (steps.new.compares ≡ 0) }
-        ensures made { steps.new.made ≡ 0 }
+        ensures steps { IsLookUp self.now.depth steps.new }
+        ensures inside { utf16_cu_idx < utf16_len self.now.text → WentDown self.now.depth steps.new }
+        ensures at_end { utf16_cu_idx ≡ utf16_len self.now.text → StayedOut steps.new }
     {
         tree::utf16_to_char(self.begin(steps), utf16_cu_idx, steps)
     }
@@ -117,13 +106,10 @@ impl Rope {
     pub fn line_to_byte_counted(&self, line_idx: usize, steps: &mut Steps) -> usize
         requires { line_idx ≤ line_count self.now.breaks self.now.text }
         ensures value { result ≡ line_to_byte self.now.breaks self.now.text line_idx }
-        ensures nodes { steps.new.nodes ≤ self.now.depth + 1 }
-        ensures compares { steps.new.compares ≤ 5 * self.now.depth }
-        ensures inside { 0 < line_idx → line_idx < line_count self.now.breaks self.now.text
-            → (steps.new.nodes ≡ self.now.depth + 1) × (self.now.depth ≤ steps.new.compares) }
-        ensures at_start { line_idx ≡ 0 → (steps.new.nodes ≡ 0) × (steps.new.compares ≡ 0) }
-        ensures at_end { line_idx ≡ line_count self.now.breaks self.now.text → (steps.new.nodes ≡ 0) × (steps.new.compares ≡ 0) }
-        ensures made { steps.new.made ≡ 0 }
+        ensures steps { IsLookUp self.now.depth steps.new }
+        ensures inside { 0 < line_idx → line_idx < line_count self.now.breaks self.now.text → WentDown self.now.depth steps.new }
+        ensures at_start { line_idx ≡ 0 → StayedOut steps.new }
+        ensures at_end { line_idx ≡ line_count self.now.breaks self.now.text → StayedOut steps.new }
     {
         tree::line_to_byte(self.begin(steps), line_idx, steps)
     }
@@ -133,13 +119,10 @@ impl Rope {
     pub fn line_to_char_counted(&self, line_idx: usize, steps: &mut Steps) -> usize
         requires { line_idx ≤ line_count self.now.breaks self.now.text }
         ensures value { result ≡ line_to_char self.now.breaks self.now.text line_idx }
-        ensures nodes { steps.new.nodes ≤ self.now.depth + 1 }
-        ensures compares { steps.new.compares ≤ 5 * self.now.depth }
-        ensures inside { 0 < line_idx → line_idx < line_count self.now.breaks self.now.text
-            → (steps.new.nodes ≡ self.now.depth + 1) × (self.now.depth ≤ steps.new.compares) }
-        ensures at_start { line_idx ≡ 0 → (steps.new.nodes ≡ 0) × (steps.new.compares ≡ 0) }
-        ensures at_end { line_idx ≡ line_count self.now.breaks self.now.text → (steps.new.nodes ≡ 0) × (steps.new.compares ≡ 0) }
-        ensures made { steps.new.made ≡ 0 }
+        ensures steps { IsLookUp self.now.depth steps.new }
+        ensures inside { 0 < line_idx → line_idx < line_count self.now.breaks self.now.text → WentDown self.now.depth steps.new }
+        ensures at_start { line_idx ≡ 0 → StayedOut steps.new }
+        ensures at_end { line_idx ≡ line_count self.now.breaks self.now.text → StayedOut steps.new }
     {
         tree::line_to_char(self.begin(steps), line_idx, steps)
     }
@@ -149,10 +132,8 @@ impl Rope {
     pub fn byte_counted(&self, byte_idx: usize, steps: &mut Steps) -> u8
         requires { byte_idx < byte_len self.now.text }
         ensures value { slice_get (encode_utf8_all self.now.text) byte_idx ≡ Some result }
-        ensures nodes { steps.new.nodes ≡ self.now.depth + 1 }
-        ensures counted { self.now.depth ≤ steps.new.compares }
-        ensures compares { steps.new.compares ≤ 5 * self.now.depth }
-        ensures made { steps.new.made ≡ 0 }
+        ensures steps { IsLookUp self.now.depth steps.new }
+        ensures down { WentDown self.now.depth steps.new }
     {
         byte_at(self.begin(steps), byte_idx, steps)
     }
@@ -162,10 +143,8 @@ impl Rope {
     pub fn char_counted(&self, char_idx: usize, steps: &mut Steps) -> char
         requires { char_idx < length self.now.text }
         ensures value { slice_get self.now.text char_idx ≡ Some result }
-        ensures nodes { steps.new.nodes ≡ self.now.depth + 1 }
-        ensures counted { self.now.depth ≤ steps.new.compares }
-        ensures compares { steps.new.compares ≤ 5 * self.now.depth }
-        ensures made { steps.new.made ≡ 0 }
+        ensures steps { IsLookUp self.now.depth steps.new }
+        ensures down { WentDown self.now.depth steps.new }
     {
         char_at(self.begin(steps), char_idx, steps)
     }

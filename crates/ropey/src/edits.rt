@@ -14,30 +14,6 @@ use rope_text::range::{IndexRange, char_bounds};
 use rope_text::{Error, Result, Steps};
 
 impl Rope {
-    // Splits where only running out of memory refuses it, and counts the nodes that are made.
-    fn split_at(&mut self, char_idx: usize, made: &mut u64) -> Result<Rope>
-        requires { char_idx ≤ length self.old.text }
-        ensures front { OnOk result (self.new.text ≡ take char_idx self.old.text) }
-        ensures back { IfOk result (λ rope. rope.text ≡ drop char_idx self.old.text) }
-        ensures same { IfOk result (λ rope. rope.breaks ≡ self.old.breaks) }
-        ensures part { IfOk result IsRope }
-        ensures refused { IfErr result (λ e. e ≡ OutOfMemory) }
-        ensures err { OnErr result (self.new ≡ self.old) }
-        ensures breaks { self.new.breaks ≡ self.old.breaks }
-        ensures kept { IsRope self.new }
-        ensures made { made.new ≤ made.old + 12 * self.old.depth + 2 }
-    {
-        let _ = self.root.height();
-        let Parts { front, back } = split(self.alloc, &self.root, char_idx, made)?;
-        let _ = front.height();
-        let _ = back.height();
-        self.root = front;
-        Ok(Rope {
-            root: back,
-            alloc: self.alloc,
-        })
-    }
-
     /// As `split_off`, for any index.
     ///
     /// # Errors
@@ -59,7 +35,7 @@ impl Rope {
         if char_idx > len {
             return Err(Error::CharIndexOutOfBounds(char_idx, len));
         }
-        self.split_at(char_idx, &mut 0)
+        self.split_off(char_idx)
     }
 
     /// Keeps the first `char_idx` characters, and returns the others as a rope with the same set of line breaks.
@@ -82,7 +58,7 @@ impl Rope {
         ensures breaks { self.new.breaks ≡ self.old.breaks }
         ensures kept { IsRope self.new }
     {
-        self.split_at(char_idx, &mut 0)
+        self.split_off_counted(char_idx, &mut Steps::new())
     }
 
     /// As `split_off`, and sets `steps` to what it did: `made` counts the nodes that were made, at most 16 d + 32
@@ -107,22 +83,14 @@ impl Rope {
         ensures made { steps.new.made ≤ 16 * self.old.depth + 32 }
     {
         *steps = Steps::new();
-        self.split_at(char_idx, &mut steps.made)
-    }
-
-    // Takes characters out where only running out of memory refuses it, and counts the nodes that are made.
-    fn remove_chars(&mut self, start: usize, end: usize, made: &mut u64) -> Result<()>
-        requires ordered { start < end }
-        requires within { end ≤ length self.old.text }
-        ensures ok { OnOk result (self.new.text ≡ removed self.old.text start end) }
-        ensures refused { IfErr result (λ e. e ≡ OutOfMemory) }
-        ensures err { OnErr result (self.new ≡ self.old) }
-        ensures breaks { self.new.breaks ≡ self.old.breaks }
-        ensures kept { IsRope self.new }
-        ensures made { made.new ≤ made.old + 17 * self.old.depth + 12 }
-    {
-        remove(self.alloc, &mut self.root, start, end, made)?;
-        Ok(())
+        let Parts { front, back } = split(self.alloc, &self.root, char_idx, &mut steps.made)?;
+        let _ = front.height();
+        let _ = back.height();
+        self.root = front;
+        Ok(Rope {
+            root: back,
+            alloc: self.alloc,
+        })
     }
 
     // Takes the characters of a range out, and counts the nodes that are made.
@@ -142,7 +110,7 @@ impl Rope {
         if start == end {
             return Ok(());
         }
-        self.remove_chars(start, end, made)
+        Ok(remove(self.alloc, &mut self.root, start, end, made)?)
     }
 
     /// As `remove`, for any range.
@@ -224,40 +192,10 @@ impl Rope {
         ensures kept { IsRope self.new }
         ensures made { made.new ≤ made.old + 16 * max self.old.depth other.now.depth + 11 }
     {
-        let _ = self.root.height();
         let root = append(self.alloc, &self.root, &other.root, made)?;
         let _ = root.height();
         self.root = root;
         Ok(())
-    }
-
-    // Puts the text of another rope behind this one's, and counts the nodes that are made.
-    fn append_made(&mut self, other: Rope, made: &mut u64) -> Result<()>
-        ensures ok { OnOk result ((append_error self.old.breaks other.breaks self.old.text other.text ≡ None) × (self.new.text ≡ self.old.text ++ other.text)) }
-        ensures refused { IfErr result (IsRefusal (append_error self.old.breaks other.breaks self.old.text other.text)) }
-        ensures err { OnErr result (self.new ≡ self.old) }
-        ensures empty_other { append_error self.old.breaks other.breaks self.old.text other.text ≡ None → length other.text ≡ 0 → IsOk result × (self.new ≡ self.old) }
-        ensures empty_self { append_error self.old.breaks other.breaks self.old.text other.text ≡ None → length self.old.text ≡ 0 → 0 < length other.text → IsOk result × (self.new ≡ other) }
-        ensures breaks { self.new.breaks ≡ self.old.breaks }
-        ensures kept { IsRope self.new }
-        ensures made { made.new ≤ made.old + 16 * max self.old.depth other.depth + 11 }
-    {
-        let bytes = self.len_bytes();
-        let more = other.len_bytes();
-        if self.root.line_breaks() != other.root.line_breaks() {
-            return Err(Error::LineBreaksDiffer);
-        }
-        if more > MAX_TEXT_BYTES - bytes {
-            return Err(Error::TooLong);
-        }
-        if more == 0 {
-            return Ok(());
-        }
-        if bytes == 0 {
-            self.root = other.root;
-            return Ok(());
-        }
-        self.append_rope(&other, made)
     }
 
     /// Puts the text of another rope behind this one's. The rope shares what it can of the other's tree.
@@ -279,7 +217,7 @@ impl Rope {
         ensures breaks { self.new.breaks ≡ self.old.breaks }
         ensures kept { IsRope self.new }
     {
-        self.append_made(other, &mut 0)
+        self.append_counted(other, &mut Steps::new())
     }
 
     /// As `append`, and sets `steps` to what it did: `made` counts the nodes that were made, at most 16 d + 32
@@ -301,6 +239,21 @@ impl Rope {
         ensures made { steps.new.made ≤ 16 * max self.old.depth other.depth + 32 }
     {
         *steps = Steps::new();
-        self.append_made(other, &mut steps.made)
+        let bytes = self.len_bytes();
+        let more = other.len_bytes();
+        if self.root.line_breaks() != other.root.line_breaks() {
+            return Err(Error::LineBreaksDiffer);
+        }
+        if more > MAX_TEXT_BYTES - bytes {
+            return Err(Error::TooLong);
+        }
+        if more == 0 {
+            return Ok(());
+        }
+        if bytes == 0 {
+            self.root = other.root;
+            return Ok(());
+        }
+        self.append_rope(&other, &mut steps.made)
     }
 }

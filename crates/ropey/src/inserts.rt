@@ -14,39 +14,6 @@ use rope_text::{Error, Result, Steps};
 use rope_tree::edit::{MAX_SHORT_BYTES, insert_at};
 
 impl Rope {
-    // Puts a short text in.
-    fn insert_short(&mut self, char_idx: usize, text: &str, made: &mut u64) -> Result<()>
-        requires within { char_idx ≤ length self.old.text }
-        requires fits { byte_len self.old.text + length text.now < 2 ^ 63 }
-        requires some { 0 < length text.now }
-        requires short { length text.now ≤ 981 }
-        ensures ok { OnOk result (self.new.text ≡ inserted self.old.text char_idx (chars text.now)) }
-        ensures refused { IfErr result (λ e. e ≡ OutOfMemory) }
-        ensures err { OnErr result (self.new ≡ self.old) }
-        ensures breaks { self.new.breaks ≡ self.old.breaks }
-        ensures kept { IsRope self.new }
-        ensures made { made.new ≤ made.old + 3 * self.old.depth + 5 }
-    {
-        insert_at(self.alloc, &mut self.root, char_idx, text, made)?;
-        Ok(())
-    }
-
-    // Puts a text of any length in.
-    fn insert_long(&mut self, char_idx: usize, text: &str, made: &mut u64) -> Result<()>
-        requires within { char_idx ≤ length self.old.text }
-        requires fits { byte_len self.old.text + length text.now < 2 ^ 63 }
-        ensures ok { OnOk result (self.new.text ≡ inserted self.old.text char_idx (chars text.now)) }
-        ensures refused { IfErr result (λ e. e ≡ OutOfMemory) }
-        ensures err { OnErr result (self.new ≡ self.old) }
-        ensures breaks { self.new.breaks ≡ self.old.breaks }
-        ensures kept { IsRope self.new }
-    {
-        let root = insert(self.alloc, &self.root, char_idx, text, made)?;
-        let _ = root.height();
-        self.root = root;
-        Ok(())
-    }
-
     // Puts a text that isn't empty where only running out of memory refuses it, and counts the nodes that are made.
     fn insert_some(&mut self, char_idx: usize, text: &str, made: &mut u64) -> Result<()>
         requires within { char_idx ≤ length self.old.text }
@@ -60,9 +27,12 @@ impl Rope {
         ensures made { length text.now ≤ 981 → made.new ≤ made.old + 3 * self.old.depth + 5 }
     {
         if text.len() > MAX_SHORT_BYTES {
-            return self.insert_long(char_idx, text, made);
+            let root = insert(self.alloc, &self.root, char_idx, text, made)?;
+            let _ = root.height();
+            self.root = root;
+            return Ok(());
         }
-        self.insert_short(char_idx, text, made)
+        Ok(insert_at(self.alloc, &mut self.root, char_idx, text, made)?)
     }
 
     // Puts a text before a character, and counts the nodes that are made.
@@ -89,20 +59,6 @@ impl Rope {
             return Ok(());
         }
         self.insert_some(char_idx, text, made)
-    }
-
-    // Puts a character before another, and counts the nodes that are made.
-    fn insert_char_made(&mut self, char_idx: usize, c: char, made: &mut u64) -> Result<()>
-        ensures ok { OnOk result ((insert_error self.old.text char_idx (c ∷ []) ≡ None)
-            × (self.new.text ≡ inserted self.old.text char_idx (c ∷ []))) }
-        ensures refused { IfErr result (IsRefusal (insert_error self.old.text char_idx (c ∷ []))) }
-        ensures err { OnErr result (self.new ≡ self.old) }
-        ensures breaks { self.new.breaks ≡ self.old.breaks }
-        ensures kept { IsRope self.new }
-        ensures made { made.new ≤ made.old + 3 * self.old.depth + 5 }
-    {
-        let mut buffer = [0; 4];
-        self.insert_made(char_idx, c.encode_utf8(&mut buffer), made)
     }
 
     /// As `insert`, for any index.
@@ -164,7 +120,7 @@ impl Rope {
         ensures breaks { self.new.breaks ≡ self.old.breaks }
         ensures kept { IsRope self.new }
     {
-        self.insert_char_made(char_idx, c, &mut 0)
+        self.try_insert(char_idx, c.encode_utf8(&mut [0; 4]))
     }
 
     /// Inserts the character `c` before the character `char_idx`; for `len_chars()`, at the end.
@@ -209,6 +165,6 @@ impl Rope {
         ensures made { steps.new.made ≤ 8 * self.old.depth + 16 }
     {
         *steps = Steps::new();
-        self.insert_char_made(char_idx, c, &mut steps.made)
+        self.insert_made(char_idx, c.encode_utf8(&mut [0; 4]), &mut steps.made)
     }
 }

@@ -22,11 +22,7 @@ impl Rope {
     pub fn get_byte(&self, byte_idx: usize) -> Option<u8>
         ensures { result ≡ slice_get (encode_utf8_all self.now.text) byte_idx }
     {
-        if byte_idx < self.len_bytes() {
-            Some(self.byte(byte_idx))
-        } else {
-            None
-        }
+        self.whole().get_byte(byte_idx)
     }
 
     /// The character `char_idx`, counted from 0.
@@ -44,10 +40,6 @@ impl Rope {
     pub fn get_char(&self, char_idx: usize) -> Option<char>
         ensures { result ≡ slice_get self.now.text char_idx }
     {
-        if char_idx < self.len_chars() {
-            Some(self.char(char_idx))
-        } else {
-            None
-        }
+        self.whole().get_char(char_idx)
     }
 }

@@ -141,9 +141,7 @@ impl Rope {
         ensures depth { result.now.height ≡ self.now.depth }
         ensures low { result.now.height ≤ 18 }
     {
-        let node: &Node = &self.root;
-        let _ = node.height();
-        node
+        &self.root
     }
 
     /// The set of line breaks by which lines are counted. Takes constant time and no memory.
@@ -215,23 +213,13 @@ impl Rope {
         ensures refused { IfErr result (λ e. e ≡ OutOfMemory) }
         ensures err { OnErr result (self.new ≡ self.old) }
     {
-        let builder = self.with_chunks()?;
-        let root = builder.finish(&mut 0)?;
-        self.root = root;
-        Ok(())
-    }
-
-    // A builder to which the chunks were passed in.
-    fn with_chunks(&self) -> Result<Builder>
-        ensures text { IfOk result (λ builder. builder.text ≡ self.now.text) }
-        ensures breaks { IfOk result (λ builder. builder.breaks ≡ self.now.breaks) }
-        ensures refused { IfErr result (λ e. e ≡ OutOfMemory) }
-    {
         let mut builder = Builder::new(self.alloc, self.line_breaks());
         for chunk in self.chunks() {
             append_chunk(&mut builder, chunk)?;
         }
-        Ok(builder)
+        let root = builder.finish(&mut 0)?;
+        self.root = root;
+        Ok(())
     }
 
     /// A cursor over the chunks, before the first, facing forward. Costs one look-up; takes no memory.

@@ -64,10 +64,7 @@ impl Rope {
         ensures owned { IfOk result IsOwnedStr }
         ensures err { IfErr result (λ e. e ≡ OutOfMemory) }
     {
-        match self.try_into_string() {
-            Ok(text) => Ok(CowStr::Owned(text)),
-            Err(error) => Err(error),
-        }
+        Ok(CowStr::Owned(self.try_into_string()?))
     }
 }
 

@@ -9,4 +9,4 @@ pub returns-in_err-root-clause-kept : goal.returns-in_err-root-clause-kept
 returns-in_err-root-clause-kept c = subst IsRope c.self.view_is (rope_of c.self.inside.root c.self.invariant)
 
 pub returns-clause-kept : goal.returns-clause-kept
-returns-clause-kept c = rope_of c.in_ok-root.root c.height-2.ensures.tree
+returns-clause-kept c = rope_of c.in_ok-root.root c.height.ensures.tree

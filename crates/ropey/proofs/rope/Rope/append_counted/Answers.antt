@@ -4,8 +4,8 @@ use Rattle.std.proofs.lemmas.List.{append-nil}
 use denote.Enum.Bare.{same_true}
 use Rattle.rope_text.specs.contracts.line_breaks.LineBreaks.{the_type}
 use Rattle.ropey.proofs.Refusals.{append_error-none, no_text}
-use Rattle.ropey.proofs.rope.Rope.append_made.Goals.{Else-ne}
-use Rattle.ropey.proofs.rope.Rope.append_made.Goals as goal
+use Rattle.ropey.proofs.rope.Rope.append_counted.Goals.{Else-ne}
+use Rattle.ropey.proofs.rope.Rope.append_counted.Goals as goal
 
 not_false : (x : Bool) → false ≡ not x → x ≡ true
 not_false true e = refl

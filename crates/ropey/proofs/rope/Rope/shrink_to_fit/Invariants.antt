@@ -2,12 +2,12 @@
 use Rattle.std.proofs.Common.{◌≡◌, ◌++◌, length}
 use Rattle.std.specs.List.{concat}
 use Rattle.rope_text.specs.Sides.{ahead}
-use Rattle.ropey.proofs.rope.Rope.with_chunks.Given as goal
+use Rattle.ropey.proofs.rope.Rope.shrink_to_fit.Given as goal
 
 abbrev pub invariant-loop-chunk : goal.invariant-loop-chunk
 invariant-loop-chunk l = record {
-  text : l.builder.text ++ concat (ahead l.chunk-iterator) ≡ l.self.text;
-  breaks : l.builder.breaks ≡ l.self.breaks;
+  text : l.builder.text ++ concat (ahead l.chunk-iterator) ≡ l.fn.self.text;
+  breaks : l.builder.breaks ≡ l.fn.self.breaks;
 }
 
 abbrev pub decreases-loop-chunk : goal.decreases-loop-chunk

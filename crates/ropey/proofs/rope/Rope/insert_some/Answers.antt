@@ -1,0 +1,18 @@
+-- Each tree is a rope.
+use Rattle.std.proofs.Common.{subst}
+use Rattle.rope_tree.specs.Tree.{IsTree}
+use Rattle.ropey.specs.View.{IsRope}
+use Rattle.ropey.proofs.Ropes.{rope_of}
+use Rattle.ropey.proofs.rope.Rope.insert_some.Goals as goal
+
+pub returns-in_err-insert_at-clause-kept : goal.returns-in_err-insert_at-clause-kept
+returns-in_err-insert_at-clause-kept c = rope_of c.insert_at.new.root c.insert_at.ensures.tree
+
+pub returns-clause-kept : goal.returns-clause-kept
+returns-clause-kept c = rope_of c.insert_at.new.root c.insert_at.ensures.tree
+
+pub returns-in_err-root-clause-kept : goal.returns-in_err-root-clause-kept
+returns-in_err-root-clause-kept c = subst IsRope c.self.view_is (rope_of c.self.inside.root c.self.invariant)
+
+pub returns-then-text-gt-MAX_SHORT_BYTES-clause-kept : goal.returns-then-text-gt-MAX_SHORT_BYTES-clause-kept
+returns-then-text-gt-MAX_SHORT_BYTES-clause-kept c = rope_of c.in_ok-root.root c.height.ensures.tree
