@@ -2,6 +2,7 @@ pub mod Stretches
 pub mod StretchLines
 pub mod LeafLines
 pub mod Measured
+pub mod Places
 pub mod StretchLaws
 pub mod Edges
 pub mod Clips

@@ -5,14 +5,13 @@ ghost use Rattle.std.specs.Str.{chars};
 ghost use Rattle.rope_text.specs.Text.{byte_len, utf16_len};
 ghost use Rattle.rope_text.specs.TextInfo.{info_of};
 ghost use Rattle.rope_text.specs.Lines.{line_start, line_count};
-ghost use Rattle.rope_text.specs.Conversions.{byte_to_char, byte_to_line, char_to_byte, char_to_line, char_to_utf16, line_to_byte, line_to_char, utf16_to_char};
+ghost use Rattle.rope_text.specs.Conversions.{byte_to_char};
 ghost use Rattle.rope_text.specs.Cutting.{clip, single_chunk};
-ghost use Rattle.rope_text.specs.Edit.{is_char_boundary};
 ghost use Rattle.rope_tree.specs.Tree.{text};
 
 use crate::plain::Plain;
 use crate::stretch::Stretch;
-use rope_text::{LineBreaks, TextInfo, str_utils};
+use rope_text::{LineBreaks, TextInfo};
 use rope_tree::node::Node;
 
 /// A part of a rope's text, or of a plain text. It counts its own text: one that ends after the CR of a CR LF has that CR
@@ -55,11 +54,14 @@ impl<'a> Part<'a> {
         ensures chunks { chunks_of result ≡ node.now.leaves }
         ensures breaks { breaks_of result ≡ node.now.breaks }
     {
+        // a proof needs what `height` says of every node: no leaf is empty
         let _ = node.height();
-        if node.info().chars == 0 {
+        let end = node.info();
+        if end.chars == 0 {
             return Part::empty(node.line_breaks());
         }
-        Part::InTree(Stretch::whole(node))
+        let start = TextInfo::new();
+        Part::InTree(Stretch { node, start, end })
     }
 
     /// The set of line breaks.
@@ -67,7 +69,7 @@ impl<'a> Part<'a> {
         ensures { result ≡ breaks_of self.now }
     {
         match self {
-            Part::InTree(stretch) => stretch.line_breaks(),
+            Part::InTree(stretch) => stretch.node.line_breaks(),
             Part::Alone(plain) => plain.breaks,
         }
     }
@@ -143,94 +145,6 @@ impl<'a> Part<'a> {
         self.char_range(self.byte_to_char(start), self.byte_to_char(end))
     }
 
-    /// The character that holds a byte; at the end of the text the end.
-    pub fn byte_to_char(&self, byte_idx: usize) -> usize
-        requires { byte_idx ≤ byte_len (text_of self.now) }
-        ensures { result ≡ byte_to_char (text_of self.now) byte_idx }
-    {
-        match self {
-            Part::InTree(stretch) => stretch.byte_to_char(byte_idx),
-            Part::Alone(plain) => str_utils::byte_to_char_idx(plain.text, byte_idx),
-        }
-    }
-
-    /// The line that a byte lies on.
-    pub fn byte_to_line(&self, byte_idx: usize) -> usize
-        requires { byte_idx ≤ byte_len (text_of self.now) }
-        ensures { result ≡ byte_to_line (breaks_of self.now) (text_of self.now) byte_idx }
-    {
-        match self {
-            Part::InTree(stretch) => stretch.byte_to_line(byte_idx),
-            Part::Alone(plain) => str_utils::byte_to_line_with(plain.text, byte_idx, plain.breaks),
-        }
-    }
-
-    /// The byte at which a character starts; at the end of the text its length.
-    pub fn char_to_byte(&self, char_idx: usize) -> usize
-        requires { char_idx ≤ length (text_of self.now) }
-        ensures { result ≡ char_to_byte (text_of self.now) char_idx }
-    {
-        match self {
-            Part::InTree(stretch) => stretch.char_to_byte(char_idx),
-            Part::Alone(plain) => str_utils::char_to_byte_idx(plain.text, char_idx),
-        }
-    }
-
-    /// The line that a character lies on.
-    pub fn char_to_line(&self, char_idx: usize) -> usize
-        requires { char_idx ≤ length (text_of self.now) }
-        ensures { result ≡ char_to_line (breaks_of self.now) (text_of self.now) char_idx }
-    {
-        match self {
-            Part::InTree(stretch) => stretch.char_to_line(char_idx),
-            Part::Alone(plain) => str_utils::char_to_line_with(plain.text, char_idx, plain.breaks),
-        }
-    }
-
-    /// The code unit at which a character starts; at the end of the text its length in code units.
-    pub fn char_to_utf16(&self, char_idx: usize) -> usize
-        requires { char_idx ≤ length (text_of self.now) }
-        ensures { result ≡ char_to_utf16 (text_of self.now) char_idx }
-    {
-        match self {
-            Part::InTree(stretch) => stretch.char_to_utf16(char_idx),
-            Part::Alone(plain) => str_utils::char_to_utf16_idx(plain.text, char_idx),
-        }
-    }
-
-    /// The character that holds a code unit; at the end of the text the end.
-    pub fn utf16_to_char(&self, utf16_idx: usize) -> usize
-        requires { utf16_idx ≤ utf16_len (text_of self.now) }
-        ensures { result ≡ utf16_to_char (text_of self.now) utf16_idx }
-    {
-        match self {
-            Part::InTree(stretch) => stretch.utf16_to_char(utf16_idx),
-            Part::Alone(plain) => str_utils::utf16_to_char_idx(plain.text, utf16_idx),
-        }
-    }
-
-    /// The character at which a line starts; past the last line the end of the text.
-    pub fn line_to_char(&self, line_idx: usize) -> usize
-        requires { line_idx ≤ line_count (breaks_of self.now) (text_of self.now) }
-        ensures { result ≡ line_to_char (breaks_of self.now) (text_of self.now) line_idx }
-    {
-        match self {
-            Part::InTree(stretch) => stretch.line_to_char(line_idx),
-            Part::Alone(plain) => str_utils::line_to_char_with(plain.text, line_idx, plain.breaks),
-        }
-    }
-
-    /// The byte at which a line starts; past the last line the end of the text.
-    pub fn line_to_byte(&self, line_idx: usize) -> usize
-        requires { line_idx ≤ line_count (breaks_of self.now) (text_of self.now) }
-        ensures { result ≡ line_to_byte (breaks_of self.now) (text_of self.now) line_idx }
-    {
-        match self {
-            Part::InTree(stretch) => stretch.line_to_byte(line_idx),
-            Part::Alone(plain) => str_utils::line_to_byte_with(plain.text, line_idx, plain.breaks),
-        }
-    }
-
     /// The counts of its text before a line; past the last line those of all of it. One look-up in a rope's text.
     pub fn before_line(&self, line_idx: usize) -> TextInfo
         requires { line_idx ≤ line_count (breaks_of self.now) (text_of self.now) }
@@ -249,18 +163,11 @@ impl<'a> Part<'a> {
         ensures start { result.0 ≡ info_of (breaks_of self.now) (take (line_start (breaks_of self.now) (text_of self.now) line_idx) (text_of self.now)) }
         ensures end { result.1 ≡ info_of (breaks_of self.now) (take (line_start (breaks_of self.now) (text_of self.now) (line_idx + 1)) (text_of self.now)) }
     {
+        // a proof needs what `info` says of every part: there is a number for the line past the last
         let _ = self.info();
         match self {
             Part::InTree(stretch) => stretch.around_line(line_idx),
             Part::Alone(plain) => (plain.before_line(line_idx), plain.before_line(line_idx + 1)),
         }
-    }
-
-    /// Whether a character begins at a byte, or the text ends there.
-    pub fn is_char_boundary(&self, byte_idx: usize) -> bool
-        requires { byte_idx ≤ byte_len (text_of self.now) }
-        ensures { result ≡ is_char_boundary (text_of self.now) byte_idx }
-    {
-        self.char_to_byte(self.byte_to_char(byte_idx)) == byte_idx
     }
 }

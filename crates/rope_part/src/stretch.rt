@@ -1,18 +1,20 @@
 //! Characters of a tree's text, one at least.
 ghost use Rattle.std.specs.Prelude.{◌≡◌, ◌+◌, ◌-◌, ◌≤◌, ◌<◌, length, take};
 ghost use Rattle.std.specs.List.{slice_range};
+ghost use Rattle.std.specs.Str.{chars};
 ghost use Rattle.rope_text.specs.TextInfo.{info_of};
-ghost use Rattle.rope_text.specs.Text.{byte_len, utf16_len};
 ghost use Rattle.rope_text.specs.Lines.{line_start, line_count};
-ghost use Rattle.rope_text.specs.Conversions.{byte_to_char, byte_to_line, char_to_byte, char_to_line, char_to_utf16, line_to_byte, line_to_char, utf16_to_char};
 ghost use Rattle.rope_text.specs.Cutting.{clip};
-ghost use Rattle.rope_tree.specs.Tree.{text};
+ghost use Rattle.rope_text.specs.Lookup.{found_chunk, chunk_index_at_char};
+ghost use Rattle.rope_tree.specs.Search.{count_of};
+ghost use Rattle.rope_tree.specs.Tree.{IsTree, text};
 ghost use Rattle.rope_part.specs.Edge.{start_info, end_info, IsStretch, IsStretch-prop};
 
 use crate::edge::{around_line, before_line, end_at, start_at};
-use rope_text::{LineBreaks, Steps, TextInfo};
-use rope_tree::conversions;
+use rope_text::TextInfo;
+use rope_tree::lookup::Found;
 use rope_tree::node::Node;
+use rope_tree::search::{Unit, count};
 
 /// Characters of a tree's text, one at least. It keeps the counts of the text before their start and before their end, so
 /// that a length is a difference of two of them, and a conversion is one of the tree's.
@@ -28,29 +30,20 @@ pub struct Stretch<'a> {
 }
 
 impl<'a> Stretch<'a> {
+    ghost use Rattle.rope_part.specs.Found.{IsFoundChunk, MeetsLeaf, first_in};
     ghost use Rattle.rope_part.specs.Kept.{IsPart};
     ghost use Rattle.rope_part.specs.Stretch.{content_of, text_of, chunks_of, breaks_of};
 
-    /// The whole text of a tree.
-    pub fn whole(node: &'a Node) -> Stretch<'a>
-        requires { 0 < length (text node.now) }
-        ensures text { text_of result ≡ text node.now }
-        ensures chunks { chunks_of result ≡ node.now.leaves }
-        ensures breaks { breaks_of result ≡ node.now.breaks }
+    /// A place of its text, as one of the tree's. Of lines it may be the one past the last.
+    #[inline(always)]
+    pub(crate) fn place(&self, unit: Unit, idx: usize) -> usize
+        requires { idx ≤ count_of unit (info_of (breaks_of self.now) (text_of self.now)) + 1 }
+        ensures value { result ≡ count_of unit self.now.start + idx }
+        ensures low { self.now.node.now.height ≤ 18 }
+        ensures tree { IsTree self.now.node.now }
     {
-        let _ = node.height();
-        Stretch {
-            node,
-            start: TextInfo::new(),
-            end: node.info(),
-        }
-    }
-
-    /// The set of line breaks.
-    pub fn line_breaks(&self) -> LineBreaks
-        ensures { result ≡ breaks_of self.now }
-    {
-        self.node.line_breaks()
+        let _ = self.node.height();
+        count(self.start, unit) + idx
     }
 
     /// The counts of its text.
@@ -58,6 +51,7 @@ impl<'a> Stretch<'a> {
         ensures value { result ≡ info_of (breaks_of self.now) (text_of self.now) }
         ensures kept { IsPart (content_of self.now) }
     {
+        // a proof needs what `height` says of every node: how long its text may be, and how it is cut
         let _ = self.node.height();
         self.end.minus(self.start)
     }
@@ -70,8 +64,7 @@ impl<'a> Stretch<'a> {
         if char_idx == 0 {
             return self.start;
         }
-        let _ = self.node.height();
-        start_at(self.node, self.start.chars + char_idx)
+        start_at(self.node, self.place(Unit::Char, char_idx))
     }
 
     // The counts before the end of its part up to a character.
@@ -79,8 +72,7 @@ impl<'a> Stretch<'a> {
         requires { char_idx ≤ length (text_of self.now) }
         ensures { result ≡ end_info self.now.node.now.breaks (text self.now.node.now) (self.now.start.chars + char_idx) }
     {
-        let _ = self.node.height();
-        let place = self.start.chars + char_idx;
+        let place = self.place(Unit::Char, char_idx);
         if place == self.end.chars {
             return self.end;
         }
@@ -102,100 +94,24 @@ impl<'a> Stretch<'a> {
         }
     }
 
-    /// The character that holds a byte; at the end of the text the end.
-    pub fn byte_to_char(&self, byte_idx: usize) -> usize
-        requires { byte_idx ≤ byte_len (text_of self.now) }
-        ensures { result ≡ byte_to_char (text_of self.now) byte_idx }
+    /// What of a leaf lies in it, and the counts of its text before that.
+    pub(crate) fn chunk_in(&self, found: Found<'a>) -> (&'a str, usize, usize, usize)
+        requires tree { IsTree self.now.node.now }
+        requires meets { MeetsLeaf self.now found.leaf found.before }
+        ensures { IsFoundChunk (found_chunk (breaks_of self.now) (chunks_of self.now)
+            (chunk_index_at_char (chunks_of self.now) (first_in self.now found.entry.before)))
+            (chars result.0.now) result.1 result.2 result.3 }
     {
-        let _ = self.node.height();
-        let place = self.start.bytes + byte_idx;
-        conversions::byte_to_char(self.node, place, &mut Steps::new()) - self.start.chars
-    }
-
-    /// The line that a byte lies on.
-    pub fn byte_to_line(&self, byte_idx: usize) -> usize
-        requires { byte_idx ≤ byte_len (text_of self.now) }
-        ensures { result ≡ byte_to_line (breaks_of self.now) (text_of self.now) byte_idx }
-    {
-        let _ = self.node.height();
-        let place = self.start.bytes + byte_idx;
-        if place == self.end.bytes {
-            return self.end.break_count - self.start.break_count;
-        }
-        conversions::byte_to_line(self.node, place, &mut Steps::new()) - self.start.break_count
-    }
-
-    /// The byte at which a character starts; at the end of the text its length.
-    pub fn char_to_byte(&self, char_idx: usize) -> usize
-        requires { char_idx ≤ length (text_of self.now) }
-        ensures { result ≡ char_to_byte (text_of self.now) char_idx }
-    {
-        let _ = self.node.height();
-        let place = self.start.chars + char_idx;
-        conversions::char_to_byte(self.node, place, &mut Steps::new()) - self.start.bytes
-    }
-
-    /// The line that a character lies on.
-    pub fn char_to_line(&self, char_idx: usize) -> usize
-        requires { char_idx ≤ length (text_of self.now) }
-        ensures { result ≡ char_to_line (breaks_of self.now) (text_of self.now) char_idx }
-    {
-        let _ = self.node.height();
-        let place = self.start.chars + char_idx;
-        if place == self.end.chars {
-            return self.end.break_count - self.start.break_count;
-        }
-        conversions::char_to_line(self.node, place, &mut Steps::new()) - self.start.break_count
-    }
-
-    /// The code unit at which a character starts; at the end of the text its length in code units.
-    pub fn char_to_utf16(&self, char_idx: usize) -> usize
-        requires { char_idx ≤ length (text_of self.now) }
-        ensures { result ≡ char_to_utf16 (text_of self.now) char_idx }
-    {
-        let _ = self.node.height();
-        let place = self.start.chars + char_idx;
-        let units = self.start.chars + self.start.utf16_surrogates;
-        conversions::char_to_utf16(self.node, place, &mut Steps::new()) - units
-    }
-
-    /// The character that holds a code unit; at the end of the text the end.
-    pub fn utf16_to_char(&self, utf16_idx: usize) -> usize
-        requires { utf16_idx ≤ utf16_len (text_of self.now) }
-        ensures { result ≡ utf16_to_char (text_of self.now) utf16_idx }
-    {
-        let _ = self.node.height();
-        let units = self.start.chars + self.start.utf16_surrogates;
-        conversions::utf16_to_char(self.node, units + utf16_idx, &mut Steps::new())
-            - self.start.chars
-    }
-
-    /// The character at which a line starts; past the last line the end of the text.
-    pub fn line_to_char(&self, line_idx: usize) -> usize
-        requires { line_idx ≤ line_count (breaks_of self.now) (text_of self.now) }
-        ensures { result ≡ line_to_char (breaks_of self.now) (text_of self.now) line_idx }
-    {
-        if line_idx == 0 {
-            return 0;
-        }
-        let _ = self.node.height();
-        let line = self.start.break_count + line_idx;
-        let place = conversions::line_to_char(self.node, line, &mut Steps::new());
-        place.min(self.end.chars) - self.start.chars
-    }
-
-    /// The byte at which a line starts; past the last line the end of the text.
-    pub fn line_to_byte(&self, line_idx: usize) -> usize
-        requires { line_idx ≤ line_count (breaks_of self.now) (text_of self.now) }
-        ensures { result ≡ line_to_byte (breaks_of self.now) (text_of self.now) line_idx }
-    {
-        if line_idx == 0 {
-            return 0;
-        }
-        let _ = self.node.height();
-        let line = self.start.break_count + line_idx;
-        let place = conversions::line_to_byte(self.node, line, &mut Steps::new());
-        place.min(self.end.bytes) - self.start.bytes
+        let leaf = found.leaf.as_str();
+        let before = found.before;
+        let from = self.start.bytes.saturating_sub(before.bytes);
+        let to = (self.end.bytes - before.bytes).min(leaf.len());
+        (
+            &leaf[from..to],
+            before.bytes.saturating_sub(self.start.bytes),
+            before.chars.saturating_sub(self.start.chars),
+            before.break_count.saturating_sub(self.start.break_count),
+        )
     }
 
     // The counts of its text up to a place of the tree's text behind its start; past its end those of all of it.
@@ -219,8 +135,7 @@ impl<'a> Stretch<'a> {
         if line_idx == 0 {
             return TextInfo::new();
         }
-        let _ = self.node.height();
-        self.counts_to(before_line(self.node, self.start.break_count + line_idx))
+        self.counts_to(before_line(self.node, self.place(Unit::LineBreak, line_idx)))
     }
 
     /// The counts of its text before a line, and before the next one; past the last line those of all of it.
@@ -232,8 +147,7 @@ impl<'a> Stretch<'a> {
         if line_idx == 0 {
             return (TextInfo::new(), self.before_line(1));
         }
-        let _ = self.node.height();
-        let (start, end) = around_line(self.node, self.start.break_count + line_idx);
+        let (start, end) = around_line(self.node, self.place(Unit::LineBreak, line_idx));
         (self.counts_to(start), self.counts_to(end))
     }
 }

@@ -1,14 +1,29 @@
-use Rattle.std.proofs.Common.{◌∙◌, ap, sym}
+use Rattle.std.proofs.Common.{◌∙◌, ap, sym, arith}
 use Rattle.rope_text.specs.Text.{byte_len}
 use Rattle.rope_tree.specs.Tree.{text}
 use Rattle.rope_tree.proofs.ChunksFound.{no_leaves_of}
-use Rattle.rope_part.proofs.Clips.{no_chars}
+use Rattle.rope_tree.proofs.LeafLaws.{nonempty_leaves}
+use Rattle.rope_part.proofs.Clips.{no_chars, whole_part, whole_clip}
+use Rattle.rope_part.proofs.Measured.{whole_stretch}
 use Rattle.rope_part.proofs.part.Part.of_node.Goals as goal
 
-pub returns-then-info-eq0-clause-text : goal.returns-then-info-eq0-clause-text
-returns-then-info-eq0-clause-text c = c.empty.ensures.text ∙ sym (no_chars (text c.args.node.now) (sym (ap (λ x. x.chars) c.info.ensures) ∙ c.if-info-eq0.true))
+pub returns-then-end-eq0-clause-text : goal.returns-then-end-eq0-clause-text
+returns-then-end-eq0-clause-text c = c.empty.ensures.text ∙ sym (no_chars (text c.args.node.now) (sym (ap (λ x. x.chars) c.info-end.ensures) ∙ c.if-end-eq0.true))
 
-pub returns-then-info-eq0-clause-chunks : goal.returns-then-info-eq0-clause-chunks
-returns-then-info-eq0-clause-chunks c =
-    let none = no_chars (text c.args.node.now) (sym (ap (λ x. x.chars) c.info.ensures) ∙ c.if-info-eq0.true) in
+pub returns-then-end-eq0-clause-chunks : goal.returns-then-end-eq0-clause-chunks
+returns-then-end-eq0-clause-chunks c =
+    let none = no_chars (text c.args.node.now) (sym (ap (λ x. x.chars) c.info-end.ensures) ∙ c.if-end-eq0.true) in
     c.empty.ensures.chunks ∙ sym (no_leaves_of c.args.node.now c.height.ensures.tree (ap byte_len none))
+
+pub invariant_of-result : goal.invariant_of-result
+invariant_of-result c = record {
+  is_stretch = whole_stretch c.args.node.now.breaks (text c.args.node.now) c.new-start.result c.info-end.result (omega (arith, ap (λ x. x.chars) c.info-end.ensures, c.if-end-eq0.false)) (c.new-start.ensures c.args.node.now.breaks) c.info-end.ensures;
+}
+
+pub returns-clause-text : goal.returns-clause-text
+returns-clause-text c = whole_part (text c.args.node.now) c.new-start.result.chars c.info-end.result.chars (ap (λ x. x.chars) (c.new-start.ensures c.args.node.now.breaks)) (ap (λ x. x.chars) c.info-end.ensures)
+
+pub returns-clause-chunks : goal.returns-clause-chunks
+returns-clause-chunks c =
+    whole_clip c.args.node.now.leaves c.new-start.result.chars c.info-end.result.chars (nonempty_leaves c.args.node.now.leaves c.height.ensures.tree.leaves.each)
+    (ap (λ x. x.chars) (c.new-start.ensures c.args.node.now.breaks)) (ap (λ x. x.chars) c.info-end.ensures)

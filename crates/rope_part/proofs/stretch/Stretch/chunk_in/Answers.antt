@@ -9,8 +9,8 @@ use Rattle.rope_part.proofs.stretch.Stretch.chunk_in.Goals as goal
 
 part : (c : After-as_str-leaf) → LeafIn c.args.self.now.node.now c.args.self.now.start c.args.self.now.end c.args.found.leaf c.args.found.before
 part c =
-    leaf_in c.args.self.now.node.now c.args.self.now.start c.args.self.now.end c.args.found.leaf c.args.found.before c.height.ensures.tree c.args.self.now.is_stretch
-    c.requires.index c.requires.within c.requires.leaf_is c.requires.before_is c.requires.starts c.requires.ends
+    leaf_in c.args.self.now.node.now c.args.self.now.start c.args.self.now.end c.args.found.leaf c.args.found.before c.requires.tree c.args.self.now.is_stretch
+    c.requires.meets.index c.requires.meets.within c.requires.meets.leaf_is c.requires.meets.before_is c.requires.meets.starts c.requires.meets.ends
 
 size : (c : After-as_str-leaf) → length c.as_str-leaf.result.now ≡ byte_len c.args.found.leaf
 size c = sym (byte_len-chars c.as_str-leaf.result.now c.as_str-leaf.utf8) ∙ ap byte_len c.as_str-leaf.ensures.chars

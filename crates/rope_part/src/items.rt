@@ -1,6 +1,6 @@
-//! Chunks of a part.
-ghost use Rattle.std.specs.Prelude.{◌≡◌, ◌≤◌, ◌<◌, length, OnSome, IfSome, IfNone};
-ghost use Rattle.std.specs.Str.{chars};
+//! Bytes, characters and chunks of a part.
+ghost use Rattle.std.specs.Prelude.{◌≡◌, ◌≤◌, ◌<◌, length, slice_get, Some, OnSome, IfSome, IfNone};
+ghost use Rattle.std.specs.Str.{chars, encode_utf8_all};
 ghost use Rattle.rope_text.specs.Text.{byte_len};
 ghost use Rattle.rope_text.specs.Lines.{line_count};
 ghost use Rattle.rope_text.specs.Lookup.{found_chunk, chunk_index_at_byte, chunk_index_at_char, chunk_index_at_line_break};
@@ -8,6 +8,9 @@ ghost use Rattle.rope_part.specs.Found.{IsFoundChunk};
 ghost use Rattle.rope_part.specs.Part.{text_of, chunks_of, breaks_of};
 
 use crate::part::Part;
+use rope_text::Steps;
+use rope_tree::lookup::{byte_at, char_at, leaf_at};
+use rope_tree::search::Unit;
 
 // The length of a text in bytes, by its characters.
 fn byte_len_of(text: &str) -> usize
@@ -17,6 +20,34 @@ fn byte_len_of(text: &str) -> usize
 }
 
 impl<'a> Part<'a> {
+    /// The byte at a place.
+    pub fn byte(&self, byte_idx: usize) -> u8
+        requires { byte_idx < byte_len (text_of self.now) }
+        ensures { slice_get (encode_utf8_all (text_of self.now)) byte_idx ≡ Some result }
+    {
+        match self {
+            Part::InTree(stretch) => {
+                let place = stretch.place(Unit::Byte, byte_idx);
+                byte_at(stretch.node, place, &mut Steps::new())
+            }
+            Part::Alone(plain) => plain.byte(byte_idx),
+        }
+    }
+
+    /// The character at a place.
+    pub fn char(&self, char_idx: usize) -> char
+        requires { char_idx < length (text_of self.now) }
+        ensures { slice_get (text_of self.now) char_idx ≡ Some result }
+    {
+        match self {
+            Part::InTree(stretch) => {
+                let place = stretch.place(Unit::Char, char_idx);
+                char_at(stretch.node, place, &mut Steps::new())
+            }
+            Part::Alone(plain) => plain.char(char_idx),
+        }
+    }
+
     /// The chunk that holds a byte; at the end of the text the last chunk. With it the bytes, the characters and the line
     /// breaks that end before it. With no chunk it is `("", 0, 0, 0)`.
     pub fn chunk_at_byte(&self, byte_idx: usize) -> (&'a str, usize, usize, usize)
@@ -26,7 +57,12 @@ impl<'a> Part<'a> {
             (chars result.0.now) result.1 result.2 result.3 }
     {
         match self {
-            Part::InTree(stretch) => stretch.chunk_at_byte(byte_idx),
+            Part::InTree(stretch) => {
+                let place = stretch
+                    .place(Unit::Byte, byte_idx)
+                    .min(stretch.end.bytes - 1);
+                stretch.chunk_in(leaf_at(stretch.node, Unit::Byte, place, &mut Steps::new()))
+            }
             Part::Alone(plain) => (plain.text, 0, 0, 0),
         }
     }
@@ -40,7 +76,12 @@ impl<'a> Part<'a> {
             (chars result.0.now) result.1 result.2 result.3 }
     {
         match self {
-            Part::InTree(stretch) => stretch.chunk_at_char(char_idx),
+            Part::InTree(stretch) => {
+                let place = stretch
+                    .place(Unit::Char, char_idx)
+                    .min(stretch.end.chars - 1);
+                stretch.chunk_in(leaf_at(stretch.node, Unit::Char, place, &mut Steps::new()))
+            }
             Part::Alone(plain) => (plain.text, 0, 0, 0),
         }
     }
@@ -55,6 +96,7 @@ impl<'a> Part<'a> {
             (chunk_index_at_line_break (breaks_of self.now) (chunks_of self.now) line_break_idx))
             (chars result.0.now) result.1 result.2 result.3 }
     {
+        // a proof needs what `info` says of every part: no chunk is empty
         let _ = self.info();
         let end = self.line_to_char(line_break_idx);
         self.chunk_at_char(end.saturating_sub(1))

@@ -1,0 +1,38 @@
+use Rattle.std.proofs.Common.{◌≡◌, ◌+◌, ◌-◌, ◌≤◌, ◌∙◌, min, take, ap, sym, arith}
+use Rattle.rope_text.specs.Text.{byte_len}
+use Rattle.rope_text.specs.Lines.{line_count}
+use Rattle.rope_text.specs.Conversions.{line_to_byte}
+use Rattle.rope_tree.specs.Tree.{text}
+use Rattle.rope_tree.proofs.FoundLaws.{line_start_first}
+use Rattle.rope_part.specs.Part as of_part
+use Rattle.rope_part.specs.Stretch.{text_of, breaks_of}
+use Rattle.rope_part.proofs.Measured.{measured}
+use Rattle.rope_part.proofs.StretchLaws.{stretch_line_to_byte}
+use Rattle.rope_part.proofs.part.Part.line_to_byte.Goals.{After-line_to_byte-place, After-min}
+use Rattle.rope_part.proofs.part.Part.line_to_byte.Goals as goal
+
+value : (c : After-line_to_byte-place) → min c.line_to_byte-place.result c.in-InTree-2.stretch.end.bytes ≡ c.in-InTree-2.stretch.start.bytes + line_to_byte (breaks_of c.in-InTree-2.stretch) (text_of c.in-InTree-2.stretch) c.args.line_idx
+value c =
+    ap (λ n. min n c.in-InTree-2.stretch.end.bytes) (c.line_to_byte-place.ensures.value ∙ ap (line_to_byte c.in-InTree-2.stretch.node.now.breaks (text c.in-InTree-2.stretch.node.now)) c.place-line.ensures.value)
+    ∙ stretch_line_to_byte _ _ _ _ c.in-InTree-2.stretch.is_stretch c.args.line_idx (omega (arith, c.if-line_idx-eq0.false))
+
+own : (c : After-min) → c.min.result - c.in-InTree-2.stretch.start.bytes ≡ line_to_byte (breaks_of c.in-InTree-2.stretch) (text_of c.in-InTree-2.stretch) c.args.line_idx
+own c = omega (arith, value c.before, c.min.ensures)
+
+pub returns-in-InTree : goal.returns-in-InTree
+returns-in-InTree c =
+    let breaks = of_part.breaks_of c.args.self.now in
+    let t = of_part.text_of c.args.self.now in
+    sym (ap (line_to_byte breaks t) c.if-line_idx-eq0.true ∙ ap (λ n. byte_len (take n t)) (line_start_first breaks t))
+
+pub line_to_byte-place-requires-clause-within : goal.line_to_byte-place-requires-clause-within
+line_to_byte-place-requires-clause-within c =
+    let m = measured _ _ _ _ c.in-InTree-2.stretch.is_stretch in
+    let fits : c.args.line_idx ≤ line_count (breaks_of c.in-InTree-2.stretch) (text_of c.in-InTree-2.stretch) = rw c.in-InTree-2.is at c.requires in
+    omega (arith, c.place-line.ensures.value)
+
+pub overflow_sub-result : goal.overflow_sub-result
+overflow_sub-result c = omega (arith, value (goal.at.overflow_sub-result c).After-line_to_byte-place, c.min.ensures)
+
+pub returns-in-InTree-2 : goal.returns-in-InTree-2
+returns-in-InTree-2 c = rw c.in-InTree-2.is (own (goal.at.returns-in-InTree-2 c).After-min)
