@@ -225,8 +225,7 @@ impl<'a> Gap<'a> {
     {
         Gap {
             span: self.span.copy(),
-            inside: self.inside,
-            near: self.near,
+            ..*self
         }
     }
 

@@ -176,9 +176,7 @@ impl<'a> Span<'a> {
     {
         Span {
             path: self.path.copy(),
-            start: self.start,
-            from: self.from,
-            to: self.to,
+            ..*self
         }
     }
 
