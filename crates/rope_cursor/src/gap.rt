@@ -155,6 +155,18 @@ fn find_last(
     None
 }
 
+// What `count_last_of_all` answers, found near the end of the text where it is there.
+fn count_last(text: &str, skip: usize, breaks: LineBreaks) -> (usize, TextInfo)
+    ensures start { result.0 ≡ byte_len (take (last_start breaks (chars text.now) skip) (chars text.now)) }
+    ensures counts { result.1 ≡ info_of breaks (drop (last_start breaks (chars text.now) skip) (chars text.now)) }
+{
+    let end = byte_len_of(text);
+    if let Some(found) = find_last(text, end, NEAR_BYTES, skip, breaks) {
+        return found;
+    }
+    count_last_of_all(text, skip, breaks)
+}
+
 // What `count_last_of_all` answers of a text's front. It is looked for so many bytes before the front's end, and then in twice
 // as many, so a line costs its own length, however long the text is before it.
 fn count_last_before(
@@ -189,9 +201,7 @@ fn pass_chunks_back(span: &mut Span<'_>, skip: usize, breaks: LineBreaks) -> (us
     let mut passed = TextInfo::new();
     let mut left = skip;
     while span.retreat() {
-        let chunk = span.chunk();
-        let end = byte_len_of(chunk);
-        let (start, more) = count_last_before(chunk, end, NEAR_BYTES, left, breaks);
+        let (start, more) = count_last(span.chunk(), left, breaks);
         passed = more.plus(passed);
         if start > 0 {
             return (start, passed);
