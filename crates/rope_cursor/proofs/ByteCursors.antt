@@ -116,11 +116,11 @@ module _ (text : List ℕ) (p : Place) (whole : concat (leaves p) ≡ text) (chu
   pub place_at : (idx : ℕ) → byte_len (concat p.before) + at ≡ idx → at ≤ byte_len p.here → length (encode_utf8_all (concat p.before) ++ take at chunk) ≡ idx
   place_at idx e l = omega (arith, length-append (encode_utf8_all (concat p.before)) (take at chunk), length-take at chunk, same)
 
-  pub cursor_at : (idx total : ℕ) → byte_len (concat p.before) + at ≡ idx → at ≤ byte_len p.here → total ≡ byte_len text → (0 < length text → All (λ leaf. 0 < length leaf) (leaves p)) → IsByteCursor p chunk at (idx - at) total
-  cursor_at idx total e l all solid = record {
+  pub cursor_at : (before total : ℕ) → before ≡ byte_len (concat p.before) → at ≤ byte_len p.here → total ≡ byte_len text → (0 < length text → All (λ leaf. 0 < length leaf) (leaves p)) → IsByteCursor p chunk at before total
+  cursor_at before total e l all solid = record {
     chunk_is = h;
     within = omega (arith, same);
-    before_is = omega arith;
+    before_is = e;
     total_is = omega (arith, sizes, same);
     solid = λ some. solid (some_chars text (omega arith));
   }

@@ -214,12 +214,6 @@ module _ (p : Place) (start : ℕ) (from to : Edge) (h : IsSpan p start from to)
     | inr none ↦ let n = h.none none in rw (n.here, n.to_is, take-nil (to.chars - length (concat p.before))) (omega arith)
   ]
 
-  pub bytes_before : byte_len (concat (clip p.before from.chars to.chars)) ≡ start - from.bytes
-  bytes_before = elim (cases_lt from.chars to.chars) [
-    | inl some ↦ bytes_before_within p start from to (h.some some)
-    | inr none ↦ let n = h.none none in rw (n.before, n.start_is) (omega arith)
-  ]
-
   pub no_next : to.bytes - start ≤ byte_len p.here → (clipped_place p from.chars to.chars).after ≡ []
   no_next l = elim (cases_lt from.chars to.chars) [
     | inl some ↦ none_after p start from to (h.some some) l

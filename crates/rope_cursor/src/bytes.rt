@@ -47,13 +47,13 @@ impl<'a> Bytes<'a> {
         ensures { result ≡ at_place (encode_utf8_all (text_of part.now)) byte_idx }
     {
         let total = part.info().bytes;
-        let (span, at) = Span::at_byte(part, byte_idx);
+        let (span, before, _, _) = Span::with_byte(part, byte_idx);
         let chunk = span.chunk();
         Bytes {
             span,
             chunk,
-            at,
-            before: byte_idx - at,
+            at: byte_idx - before,
+            before,
             total,
             is_backward: false,
         }
@@ -133,21 +133,9 @@ impl<'a> Bytes<'a> {
     pub fn reversed(self) -> Bytes<'a>
         ensures { result ≡ turned self.entry }
     {
-        let mut turned = self;
-        turned.reverse();
-        turned
-    }
-
-    // How many bytes `next` still gives.
-    fn count_ahead(&self) -> usize
-        ensures { result ≡ length (ahead self.now) }
-    {
-        let total = self.total;
-        let passed = self.before + self.at;
-        if self.is_backward {
-            passed
-        } else {
-            total - passed
+        Bytes {
+            is_backward: !self.is_backward,
+            ..self
         }
     }
 }
@@ -179,7 +167,7 @@ impl<'a> Iterator for Bytes<'a> {
         ensures exact { result.0 ≡ length (ahead self.now) }
         ensures exact_upper { result.1 ≡ Some (length (ahead self.now)) }
     {
-        let count = self.count_ahead();
+        let count = self.len();
         (count, Some(count))
     }
 }
@@ -187,7 +175,13 @@ impl<'a> Iterator for Bytes<'a> {
 impl<'a> ExactSizeIterator for Bytes<'a> {
     /// How many bytes it still gives.
     fn len(&self) -> usize {
-        self.count_ahead()
+        let total = self.total;
+        let passed = self.before + self.at;
+        if self.is_backward {
+            passed
+        } else {
+            total - passed
+        }
     }
 }
 
@@ -199,11 +193,7 @@ impl<'a> Clone for Bytes<'a> {
     fn clone(&self) -> Result<Bytes<'a>, AllocError> {
         Ok(Bytes {
             span: self.span.copy(),
-            chunk: self.chunk,
-            at: self.at,
-            before: self.before,
-            total: self.total,
-            is_backward: self.is_backward,
+            ..*self
         })
     }
 }

@@ -136,19 +136,9 @@ impl<'a> Chars<'a> {
     pub fn reversed(self) -> Chars<'a>
         ensures { result ≡ turned self.entry }
     {
-        let mut turned = self;
-        turned.reverse();
-        turned
-    }
-
-    // How many characters `next` still gives.
-    fn count_ahead(&self) -> usize
-        ensures { result ≡ length (ahead self.now) }
-    {
-        if self.is_backward {
-            self.passed
-        } else {
-            self.total - self.passed
+        Chars {
+            is_backward: !self.is_backward,
+            ..self
         }
     }
 }
@@ -180,7 +170,7 @@ impl<'a> Iterator for Chars<'a> {
         ensures exact { result.0 ≡ length (ahead self.now) }
         ensures exact_upper { result.1 ≡ Some (length (ahead self.now)) }
     {
-        let count = self.count_ahead();
+        let count = self.len();
         (count, Some(count))
     }
 }
@@ -188,7 +178,11 @@ impl<'a> Iterator for Chars<'a> {
 impl<'a> ExactSizeIterator for Chars<'a> {
     /// How many characters it still gives.
     fn len(&self) -> usize {
-        self.count_ahead()
+        if self.is_backward {
+            self.passed
+        } else {
+            self.total - self.passed
+        }
     }
 }
 
@@ -200,11 +194,7 @@ impl<'a> Clone for Chars<'a> {
     fn clone(&self) -> Result<Chars<'a>, AllocError> {
         Ok(Chars {
             span: self.span.copy(),
-            chunk: self.chunk,
-            at: self.at,
-            passed: self.passed,
-            total: self.total,
-            is_backward: self.is_backward,
+            ..*self
         })
     }
 }

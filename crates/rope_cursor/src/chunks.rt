@@ -204,9 +204,10 @@ impl<'a> Chunks<'a> {
     pub fn reversed(self) -> Chunks<'a>
         ensures { result ≡ turned self.entry }
     {
-        let mut turned = self;
-        turned.reverse();
-        turned
+        Chunks {
+            is_backward: !self.is_backward,
+            ..self
+        }
     }
 }
 
@@ -238,9 +239,7 @@ impl<'a> Clone for Chunks<'a> {
     fn clone(&self) -> Result<Chunks<'a>, AllocError> {
         Ok(Chunks {
             span: self.span.copy(),
-            is_empty: self.is_empty,
-            is_past: self.is_past,
-            is_backward: self.is_backward,
+            ..*self
         })
     }
 }

@@ -101,20 +101,6 @@ fn count_last_of_all(text: &str, skip: usize, breaks: LineBreaks) -> (usize, Tex
     (start, info)
 }
 
-// The same, found near the end of the text where it is there.
-fn count_last(text: &str, skip: usize, breaks: LineBreaks) -> (usize, TextInfo)
-    ensures start { result.0 ≡ byte_len (take (last_start breaks (chars text.now) skip) (chars text.now)) }
-    ensures counts { result.1 ≡ info_of breaks (drop (last_start breaks (chars text.now) skip) (chars text.now)) }
-{
-    let _ = byte_len_of(text);
-    let cut = cut_before(text, text.len(), NEAR_BYTES);
-    let (start, last) = count_last_of_all(text_after(text, cut), skip, breaks);
-    if start > 0 {
-        return (cut + start, last);
-    }
-    count_last_of_all(text, skip, breaks)
-}
-
 // The counts of the first bytes of a text, which have so many line breaks.
 fn count_front(text: &str, bytes: usize, count: usize, breaks: LineBreaks) -> TextInfo
     requires between { IsBetween (chars text.now) bytes }
@@ -140,7 +126,7 @@ fn start_of_line(text: &str, line_idx: usize, breaks: LineBreaks) -> usize
     line_to_byte_with(text, line_idx, breaks)
 }
 
-// What `count_last` answers of a text's front, where it is found in the bytes near the front's end. What follows the front
+// What `count_last_of_all` answers of a text's front, where it is found in the bytes near the front's end. What follows the front
 // helps to count, since whole blocks are counted at once.
 fn find_last(
     text: &str,
@@ -169,8 +155,20 @@ fn find_last(
     None
 }
 
-// What `count_last` answers of a text's front. It is looked for so many bytes before the front's end, and then in twice as
-// many, so a line costs its own length, however long the text is before it.
+// What `count_last_of_all` answers, found near the end of the text where it is there.
+fn count_last(text: &str, skip: usize, breaks: LineBreaks) -> (usize, TextInfo)
+    ensures start { result.0 ≡ byte_len (take (last_start breaks (chars text.now) skip) (chars text.now)) }
+    ensures counts { result.1 ≡ info_of breaks (drop (last_start breaks (chars text.now) skip) (chars text.now)) }
+{
+    let end = byte_len_of(text);
+    if let Some(found) = find_last(text, end, NEAR_BYTES, skip, breaks) {
+        return found;
+    }
+    count_last_of_all(text, skip, breaks)
+}
+
+// What `count_last_of_all` answers of a text's front. It is looked for so many bytes before the front's end, and then in twice
+// as many, so a line costs its own length, however long the text is before it.
 fn count_last_before(
     text: &str,
     end: usize,
@@ -237,8 +235,7 @@ impl<'a> Gap<'a> {
     {
         Gap {
             span: self.span.copy(),
-            inside: self.inside,
-            near: self.near,
+            ..*self
         }
     }
 

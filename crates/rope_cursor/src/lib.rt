@@ -7,13 +7,13 @@ pub mod bytes;
 pub mod chars;
 pub mod chunks;
 mod cuts;
-pub mod gap;
+mod gap;
 pub mod laws;
 pub mod lines;
-pub mod path;
+mod path;
 pub mod pieces;
 mod point;
-pub mod span;
+mod span;
 mod walk;
 
 pub use bytes::Bytes;

@@ -128,19 +128,9 @@ impl<'a> Lines<'a> {
     pub fn reversed(self) -> Lines<'a>
         ensures { result ≡ turned self.entry }
     {
-        let mut turned = self;
-        turned.reverse();
-        turned
-    }
-
-    // How many lines `next` still gives.
-    fn count_ahead(&self) -> usize
-        ensures { result ≡ length (ahead self.now) }
-    {
-        if self.is_backward {
-            self.line
-        } else {
-            self.total - self.line
+        Lines {
+            is_backward: !self.is_backward,
+            ..self
         }
     }
 }
@@ -172,7 +162,7 @@ impl<'a> Iterator for Lines<'a> {
         ensures exact { result.0 ≡ length (ahead self.now) }
         ensures exact_upper { result.1 ≡ Some (length (ahead self.now)) }
     {
-        let count = self.count_ahead();
+        let count = self.len();
         (count, Some(count))
     }
 }
@@ -180,7 +170,11 @@ impl<'a> Iterator for Lines<'a> {
 impl<'a> ExactSizeIterator for Lines<'a> {
     /// How many lines are still to come.
     fn len(&self) -> usize {
-        self.count_ahead()
+        if self.is_backward {
+            self.line
+        } else {
+            self.total - self.line
+        }
     }
 }
 
@@ -191,12 +185,8 @@ impl<'a> Clone for Lines<'a> {
 
     fn clone(&self) -> Result<Lines<'a>, AllocError> {
         Ok(Lines {
-            part: self.part,
             gap: self.gap.copy(),
-            before: self.before,
-            line: self.line,
-            total: self.total,
-            is_backward: self.is_backward,
+            ..*self
         })
     }
 }

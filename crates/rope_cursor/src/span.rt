@@ -168,27 +168,6 @@ impl<'a> Span<'a> {
         (span, char_idx - chars)
     }
 
-    /// The chunk of a part that holds a byte, and the place of that byte within the chunk. At the end of the text it is the
-    /// last chunk, and its end. An empty part has no chunk: then it is the empty text.
-    pub fn at_byte(part: &Part<'a>, byte_idx: usize) -> (Span<'a>, usize)
-        requires { byte_idx ≤ byte_len (text_of part.now) }
-        ensures text { concat (leaves result.0) ≡ text_of part.now }
-        ensures chunks { 0 < length (text_of part.now) → leaves result.0 ≡ chunks_of part.now }
-        ensures place { byte_len (concat result.0.before) + result.1 ≡ byte_idx }
-        ensures within { result.1 ≤ byte_len result.0.here }
-        ensures inside { byte_idx < byte_len (text_of part.now) → result.1 < byte_len result.0.here }
-    {
-        let (span, bytes, _, _) = Span::with_byte(part, byte_idx);
-        (span, byte_idx - bytes)
-    }
-
-    /// The bytes of the chunks before it.
-    pub fn bytes_before(&self) -> usize
-        ensures { result ≡ byte_len (concat self.now.before) }
-    {
-        self.start.saturating_sub(self.from.bytes)
-    }
-
     /// The same way.
     // Expanded where it is called, since a call would be told where the way lies.
     #[inline(always)]
@@ -197,9 +176,7 @@ impl<'a> Span<'a> {
     {
         Span {
             path: self.path.copy(),
-            start: self.start,
-            from: self.from,
-            to: self.to,
+            ..*self
         }
     }
 

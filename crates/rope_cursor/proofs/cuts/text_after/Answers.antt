@@ -4,9 +4,9 @@ use Rattle.rope_text.specs.Conversions.{byte_to_char}
 use Rattle.rope_text.proofs.TextParts.{chars_back, byte_len_boundary}
 use Rattle.rope_cursor.proofs.cuts.text_after.Goals as goal
 
-pub from_byte-requires : goal.from_byte-requires
-from_byte-requires c = rw (sym c.requires) (byte_len_boundary c.args.text.now (byte_to_char (chars c.args.text.now) c.args.byte) c.utf8.text)
+pub range_from-requires : goal.range_from-requires
+range_from-requires c = λ _. rw (sym c.requires) (byte_len_boundary c.args.text.now (byte_to_char (chars c.args.text.now) c.args.byte) c.utf8.text)
 
 pub returns : goal.returns
 returns c =
-    chars_back c.args.text.now c.from_byte.result.now (chars c.args.text.now) (byte_to_char (chars c.args.text.now) c.args.byte) c.args.byte c.utf8.text refl (sym c.requires) c.from_byte.ensures
+    chars_back c.args.text.now c.range_from.result.now (chars c.args.text.now) (byte_to_char (chars c.args.text.now) c.args.byte) c.args.byte c.utf8.text refl (sym c.requires) c.range_from.ensures.value

@@ -1,4 +1,4 @@
-use Rattle.std.proofs.Common.{◌<◌, List, ℕ, All, ap, subst, sym, length, refl}
+use Rattle.std.proofs.Common.{◌-◌, ◌<◌, List, ℕ, All, ap, subst, sym, length, refl, arith}
 use Rattle.std.specs.Str.{encode_utf8_all}
 use Rattle.rope_text.proofs.SidesPlaces.{sides_at}
 use Rattle.rope_part.specs.Part.{text_of}
@@ -8,18 +8,21 @@ use Rattle.rope_cursor.proofs.bytes.Bytes.at.Goals as goal
 
 pub invariant_of-result : goal.invariant_of-result
 invariant_of-result c =
-    let e = c.at_byte-span.ensures in
+    let e = c.with_byte-span.ensures in
     let t = text_of c.args.part.now in
-    let p = c.at_byte-span.result.0 in
+    let p = c.with_byte-span.result.0 in
+    let before = c.with_byte-span.result.1 in
     let chunk : IsChunkAt p c.chunk-chunk.result.now = record { utf8 = c.chunk-chunk.utf8; here = c.chunk-chunk.ensures } in
-    step.cursor_at t p e.text c.chunk-chunk.result.now chunk c.at_byte-span.result.1 c.args.byte_idx c.info-total.result.bytes e.place e.within (ap (λ i. i.bytes) c.info-total.ensures.value)
+    step.cursor_at t p e.text c.chunk-chunk.result.now chunk (c.args.byte_idx - before) before c.info-total.result.bytes e.before.bytes_are (omega (arith, e.within)) (ap (λ i. i.bytes) c.info-total.ensures.value)
     (λ (some : 0 < length t). subst (λ (xs : List (List ℕ)). All (λ leaf. 0 < length leaf) xs) (sym (e.chunks some)) c.info-total.ensures.kept.cut.nonempty)
 
 pub returns : goal.returns
 returns c =
-    let e = c.at_byte-span.ensures in
-    let p = c.at_byte-span.result.0 in
+    let e = c.with_byte-span.ensures in
+    let t = text_of c.args.part.now in
+    let p = c.with_byte-span.result.0 in
+    let at : ℕ = c.args.byte_idx - c.with_byte-span.result.1 in
     let chunk : IsChunkAt p c.chunk-chunk.result.now = record { utf8 = c.chunk-chunk.utf8; here = c.chunk-chunk.ensures } in
-    let items = step.items_at (text_of c.args.part.now) p e.text c.chunk-chunk.result.now chunk c.at_byte-span.result.1 in
-    let place = step.place_at (text_of c.args.part.now) p e.text c.chunk-chunk.result.now chunk c.at_byte-span.result.1 c.args.byte_idx e.place e.within in
-    sides_at _ (encode_utf8_all (text_of c.args.part.now)) c.args.byte_idx items place refl
+    let items = step.items_at t p e.text c.chunk-chunk.result.now chunk at in
+    let place = step.place_at t p e.text c.chunk-chunk.result.now chunk at c.args.byte_idx (omega (arith, e.before.bytes_are, e.starts)) (omega (arith, e.within)) in
+    sides_at _ (encode_utf8_all t) c.args.byte_idx items place refl
