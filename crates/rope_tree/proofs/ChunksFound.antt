@@ -4,7 +4,7 @@ use Rattle.std.specs.List.{concat}
 use Rattle.std.proofs.lemmas.List.{take_all, nil_from_length}
 use Rattle.std.proofs.lemmas.Str.{length-le-encodes}
 use Rattle.std.proofs.lemmas.Bool.{cases_lt}
-use Rattle.std.proofs.Common.{inl, inr, ◌⊎◌, ◌^◌}
+use Rattle.std.proofs.Common.{inl, inr, ◌^◌}
 use Rattle.std.proofs.Math.Nat.{mul-le-mul_right, one-le-pow}
 use Rattle.std.proofs.lemmas.List.Elements.{All-get_or}
 use Rattle.std.proofs.lemmas.Bool.{le-leb, leb-true}
@@ -16,13 +16,13 @@ use Rattle.rope_text.proofs.BreakLaws.{break_ends-nil}
 use Rattle.rope_text.specs.Text.{byte_len, surrogate_count}
 use Rattle.rope_text.specs.Breaks.{break_ends, break_count}
 use Rattle.rope_text.specs.Conversions.{char_to_line}
-use Rattle.rope_text.specs.Lookup.{front_chunks, found_chunk, chunk_index_at_byte, chunk_index_at_char, chunk_index_at_line_break}
-use Rattle.rope_text.proofs.Measures.{IsMeasure, IsMeasure-byte_len, IsMeasure-length}
+use Rattle.rope_text.specs.Lookup.{front_chunks, found_chunk, chunk_index_at_line_break}
+use Rattle.rope_text.proofs.Measures.{IsMeasure, IsMeasure-length}
 use Rattle.rope_text.proofs.ConversionLaws.{char_to_line_start}
 use Rattle.rope_text.proofs.ChunkLaws.{before_more}
-use Rattle.rope_text.proofs.LookupLaws.{size-front_chunks, breaks_before, chunk_index_at_byte_is, chunk_index_at_char_is, chunk_index_at_line_break_is}
+use Rattle.rope_text.proofs.LookupLaws.{size-front_chunks, breaks_before, chunk_index_at_line_break_is}
 use Rattle.rope_tree.specs.declared.search.Unit.{Unit}
-use Rattle.rope_tree.specs.declared.search.Unit.TheVariants.{Byte, Char, LineBreak}
+use Rattle.rope_tree.specs.declared.search.Unit.TheVariants.{Char, LineBreak}
 use Rattle.rope_tree.specs.Tree.{Tree, text, leaf_tree, one_leaf, IsTree}
 use Rattle.rope_tree.specs.Found.{IsFound, IsChunkAt}
 use Rattle.rope_tree.proofs.LeafLaws.{nonempty_leaves, leaves_le}
@@ -81,24 +81,6 @@ chunk_of unit at t leaf front k i f same =
     })
 
 module _ (t : Tree) (leaf : List ℕ) (front : TextInfo) (i : IsTree t) where
-  pub chunk_by_byte : (at b : ℕ) → IsFound Byte at t leaf front → (b ≡ at) ⊎ ((at + 1 ≡ byte_len (text t)) × (b ≡ byte_len (text t))) → IsChunkAt t (chunk_index_at_byte t.leaves b) leaf front
-  chunk_by_byte at b f last =
-      let l = lies_at Byte at t leaf front f in
-      let full = nonempty_leaves t.leaves i.leaves.each in
-      let next : at < byte_len (front_chunks t.leaves (suc f.index)) = (let e : f.index + 1 ≡ suc f.index = omega arith in omega (arith, f.past, ap (λ n. byte_len (concat (take n t.leaves))) e)) in
-      chunk_of Byte at t leaf front (chunk_index_at_byte t.leaves b) i f
-      (chunk_index_at_byte_is t.leaves b f.index f.within (elim last [ inl same ↦ omega (arith, l.bytes, f.not_past) | inr end ↦ omega (arith, l.bytes, f.not_past, end.0, end.1) ])
-      (λ more. elim last [ inl same ↦ omega (arith, next) | inr end ↦ absurd (omega (arith, next, end.0, front_inside byte_len IsMeasure-byte_len t.leaves (suc f.index) full more)) ]))
-
-  pub chunk_by_char : (at b : ℕ) → IsFound Char at t leaf front → (b ≡ at) ⊎ ((at + 1 ≡ length (text t)) × (b ≡ length (text t))) → IsChunkAt t (chunk_index_at_char t.leaves b) leaf front
-  chunk_by_char at b f last =
-      let l = lies_at Char at t leaf front f in
-      let full = nonempty_leaves t.leaves i.leaves.each in
-      let next : at < length (front_chunks t.leaves (suc f.index)) = (let e : f.index + 1 ≡ suc f.index = omega arith in omega (arith, f.past, ap (λ n. length (concat (take n t.leaves))) e)) in
-      chunk_of Char at t leaf front (chunk_index_at_char t.leaves b) i f
-      (chunk_index_at_char_is t.leaves b f.index f.within (elim last [ inl same ↦ omega (arith, l.chars, f.not_past) | inr end ↦ omega (arith, l.chars, f.not_past, end.0, end.1) ])
-      (λ more. elim last [ inl same ↦ omega (arith, next) | inr end ↦ absurd (omega (arith, next, end.0, front_inside length IsMeasure-length t.leaves (suc f.index) full more)) ]))
-
   -- at a line break: before the first, between, and past the last
   pub chunk_by_first : IsFound Char 0 t leaf front → IsChunkAt t (chunk_index_at_line_break t.breaks t.leaves 0) leaf front
   chunk_by_first f =

@@ -1,8 +1,8 @@
-//! The chunk at a place, with what lies before it. None of these takes memory.
-ghost use Rattle.std.specs.Prelude.{◌≡◌, ℕ, ◌≤◌, length};
+//! The chunk at a line break, with what lies before it. It takes no memory.
+ghost use Rattle.std.specs.Prelude.{◌≡◌, ℕ, ◌≤◌};
 ghost use Rattle.rope_text.specs.Text.{byte_len};
 ghost use Rattle.rope_text.specs.Lines.{line_count};
-ghost use Rattle.rope_text.specs.Lookup.{chunk_index_at_byte, chunk_index_at_char, chunk_index_at_line_break};
+ghost use Rattle.rope_text.specs.Lookup.{chunk_index_at_line_break};
 ghost use Rattle.rope_tree.specs.Tree.{text};
 ghost use Rattle.rope_tree.specs.Found.{IsChunkAt};
 
@@ -24,37 +24,6 @@ fn no_chunk(node: &Node) -> Found<'_>
         },
         View::Inner(_, _) => unreachable!(),
     }
-}
-
-/// The chunk that holds a byte; at the end of the text the last chunk.
-pub fn chunk_at_byte(node: &Node, byte_idx: usize) -> Found<'_>
-    requires { byte_idx ≤ byte_len (text node.now) }
-    ensures { IsChunkAt node.now (chunk_index_at_byte node.now.leaves byte_idx) result.leaf result.before }
-{
-    let _ = node.height();
-    let len = node.info().bytes;
-    if len == 0 {
-        return no_chunk(node);
-    }
-    leaf_at(node, Unit::Byte, byte_idx.min(len - 1), &mut Steps::new())
-}
-
-/// The chunk that holds a character; at the end of the text the last chunk.
-pub fn chunk_at_char(node: &Node, char_idx: usize) -> Found<'_>
-    requires { char_idx ≤ length (text node.now) }
-    ensures { IsChunkAt node.now (chunk_index_at_char node.now.leaves char_idx) result.leaf result.before }
-{
-    let _ = node.height();
-    let info = node.info();
-    if info.bytes == 0 {
-        return no_chunk(node);
-    }
-    leaf_at(
-        node,
-        Unit::Char,
-        char_idx.min(info.chars - 1),
-        &mut Steps::new(),
-    )
 }
 
 /// The first chunk by whose end so many line breaks have ended; where there are fewer, the last chunk.

@@ -1,4 +1,3 @@
-use Rattle.std.proofs.Common.{arith}
 use Rattle.rope_tree.proofs.Rows.{row_before, row_behind}
 use Rattle.rope_tree.proofs.search.narrow.marks_from.Goals as goal
 

@@ -1,4 +1,4 @@
-use Rattle.std.proofs.Common.{ℕ, ◌<◌, ◌≤◌, length, get_or, refl, arith}
+use Rattle.std.proofs.Common.{ℕ, ◌<◌, ◌≤◌, length, refl, arith}
 use Rattle.rope_tree.specs.WideShape.{counts_at}
 use Rattle.rope_tree.proofs.WideKept.{many, total_seen, same_seen, sums_seen, traded, Trades}
 use Rattle.rope_tree.proofs.search.wide.WideTotals.retotal.Goals.{After-shift-4}
