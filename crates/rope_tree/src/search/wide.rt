@@ -33,56 +33,14 @@ impl Model for WideTotals {
     ghost invariant = { IsTotals };
 }
 
+/// A mask of all bits.
+const ALL: usize = usize::MAX;
+
 /// No bits for 24 places, and then all bits for 24.
 static MASKS: [usize; 48] = [
-    0,
-    0,
-    0,
-    0,
-    0,
-    0,
-    0,
-    0,
-    0,
-    0,
-    0,
-    0,
-    0,
-    0,
-    0,
-    0,
-    0,
-    0,
-    0,
-    0,
-    0,
-    0,
-    0,
-    0,
-    usize::MAX,
-    usize::MAX,
-    usize::MAX,
-    usize::MAX,
-    usize::MAX,
-    usize::MAX,
-    usize::MAX,
-    usize::MAX,
-    usize::MAX,
-    usize::MAX,
-    usize::MAX,
-    usize::MAX,
-    usize::MAX,
-    usize::MAX,
-    usize::MAX,
-    usize::MAX,
-    usize::MAX,
-    usize::MAX,
-    usize::MAX,
-    usize::MAX,
-    usize::MAX,
-    usize::MAX,
-    usize::MAX,
-    usize::MAX,
+    0, 0, 0, 0, 0, 0, 0, 0, 0, 0, 0, 0, 0, 0, 0, 0, 0, 0, 0, 0, 0, 0, 0, 0, ALL, ALL, ALL, ALL,
+    ALL, ALL, ALL, ALL, ALL, ALL, ALL, ALL, ALL, ALL, ALL, ALL, ALL, ALL, ALL, ALL, ALL, ALL, ALL,
+    ALL,
 ];
 
 /// For each of 24 places all bits where it is `from` or behind it, and none before.
