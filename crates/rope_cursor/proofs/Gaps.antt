@@ -24,7 +24,7 @@ use Rattle.rope_text.proofs.LineLaws.{line_start-le-length}
 use Rattle.rope_text.proofs.LineSeams.{parts_crlf-take, first_line-left, first_line-right, first_line-all, no_break_at_all, break_count-apart}
 use Rattle.rope_text.proofs.InfoLaws.{break_count-le-length}
 use Rattle.rope_cursor.specs.Path.{Place, IsNext, leaves}
-use Rattle.rope_cursor.specs.Gap.{IsBetween, AreChunks, PassesLine, PassedTexts, PassedChunks}
+use Rattle.rope_cursor.specs.Gap.{AreChunks, PassesLine, PassedTexts, PassedChunks}
 use Rattle.rope_cursor.proofs.Spans.{leaves_next}
 
 -- no CR meets LF behind joined texts, or before part of a text
@@ -75,9 +75,6 @@ size_front n t = omega (arith, ap byte_len (take-append-drop n t), size_two (tak
 -- the bytes of a front are its place
 pub front_place : (here : List ℕ) (n : ℕ) → n ≤ length here → byte_to_char here (byte_len (take n here)) ≡ n
 front_place here n within = byte_to_char-char_to_byte here n within
-
-pub front_between : (here : List ℕ) (n : ℕ) → n ≤ length here → IsBetween here (byte_len (take n here))
-front_between here n within = ap (λ k. byte_len (take k here)) (front_place here n within)
 
 -- a first line with a break is of a text with one
 pub some_break : (breaks : LineBreaks) (text : List ℕ) (info : TextInfo) → info ≡ info_of breaks (first_line breaks text) → 0 < info.break_count → 0 < break_count breaks text

@@ -1,7 +1,7 @@
 -- The counts of one line of a text.
 use Rattle.std.proofs.Common.{◌≡◌, ℕ, ◌+◌, ◌-◌, ◌<◌, ◌≤◌, min, true, false, List, length, take, drop, refl, sym, ap, ◌∙◌, arith, inl, inr}
 use Rattle.std.proofs.lemmas.Bool.{cases_lt}
-use Rattle.std.proofs.lemmas.List.{take_all, length-take-le, take-append-drop, drop-drop}
+use Rattle.std.proofs.lemmas.List.{length-take-le, take-append-drop, drop-drop}
 use Rattle.std.proofs.Math.Seq.{take-add}
 use Rattle.std.specs.Str.{chars, IsUtf8}
 use Rattle.std.proofs.lemmas.Str.{IsUtf8-take, IsUtf8-drop}
@@ -14,46 +14,17 @@ use Rattle.rope_text.proofs.TextParts.{chars_front, chars_back}
 use Rattle.rope_text.proofs.ConversionLaws.{char_to_line-line_start}
 use Rattle.rope_text.proofs.SliceLaws.{break_count-drop}
 use Rattle.rope_cursor.proofs.Gaps.{front_place, size_two}
-use Rattle.rope_cursor.proofs.GapsBack.{last_start_none}
 use Rattle.rope_text.specs.declared.line_breaks.LineBreaks.{LineBreaks}
 use Rattle.rope_text.specs.declared.text_info.TextInfo.{TextInfo}
 use Rattle.rope_text.specs.Text.{byte_len, surrogate_count}
 use Rattle.rope_text.specs.TextInfo.{info_of}
 use Rattle.rope_text.specs.Breaks.{break_count}
-use Rattle.rope_text.specs.Lines.{line_start}
 use Rattle.rope_text.specs.Conversions.{byte_to_char}
-use Rattle.rope_text.specs.LineParts.{first_line, last_start}
-use Rattle.rope_text.proofs.Measures.{size_lt, IsMeasure-byte_len}
+use Rattle.rope_text.specs.LineParts.{last_start}
 use Rattle.rope_text.proofs.LineLaws.{line_start-le-length}
-use Rattle.rope_text.proofs.LineSeams.{break_count-front, first_line-all, last_start-right}
+use Rattle.rope_text.proofs.LineSeams.{last_start-right}
 use Rattle.rope_text.proofs.InfoLaws.{same_info}
 use Rattle.rope_cursor.proofs.PartsBetween.{char_at_byte}
-
--- a line that ends before the text does has one break
-pub one_break : (breaks : LineBreaks) (text : List ℕ) → byte_len (first_line breaks text) < byte_len text → break_count breaks (first_line breaks text) ≡ 1
-one_break breaks text less = elim (cases_lt 0 (break_count breaks text)) [
-  | inl some ↦ omega (arith, break_count-front breaks text 1 (omega arith))
-  | inr none ↦ absurd (let all = ap byte_len (first_line-all breaks text (omega arith)) in omega arith)
-]
-
--- a line that ends with the text is the text
-pub only_line : (breaks : LineBreaks) (text : List ℕ) → byte_len text ≤ byte_len (first_line breaks text) → first_line breaks text ≡ text
-only_line breaks text past = elim (cases_lt (line_start breaks text 1) (length text)) [
-  | inr end ↦ take_all (line_start breaks text 1) text end
-  | inl less ↦ absurd (
-      let shorter = size_lt byte_len IsMeasure-byte_len text (line_start breaks text 1) (length text) less (omega arith) in
-      let all = ap byte_len (take_all (length text) text (omega arith)) in
-      omega arith)
-]
-
--- the counts, each found by itself
-pub line_counts : (breaks : LineBreaks) (text : List ℕ) (info : TextInfo) → info.bytes ≡ byte_len (first_line breaks text) → info.chars ≡ byte_to_char text info.bytes
-    → info.utf16_surrogates ≡ surrogate_count (take (byte_to_char text info.bytes) text) → info.break_count ≡ break_count breaks (first_line breaks text) → info ≡ info_of breaks (first_line breaks text)
-line_counts breaks text info bytes chars pairs count =
-    let n : ℕ = line_start breaks text 1 in
-    let within = line_start-le-length breaks text 1 in
-    let place : byte_to_char text info.bytes ≡ n = char_at_byte text info.bytes n within bytes in
-    same_info info (info_of breaks (first_line breaks text)) bytes (chars ∙ place ∙ sym (length-take-le n text within)) (pairs ∙ ap (λ k. surrogate_count (take k text)) place) count
 
 -- the breaks from a line's start on
 pub last_breaks : (breaks : LineBreaks) (text : List ℕ) (k : ℕ) → break_count breaks (drop (last_start breaks text k) text) ≡ min k (break_count breaks text)
@@ -82,12 +53,6 @@ module _ (breaks : LineBreaks) (text : List ℕ) (i skip : ℕ) (within : i ≤ 
 
   pub near_rest : drop (last_start breaks (drop i text) skip) (drop i text) ≡ drop (last_start breaks text skip) text
   near_rest = drop-drop (last_start breaks (drop i text) skip) i text ∙ ap (λ n. drop n text) (sym near_start)
-
-pub near_enough : (breaks : LineBreaks) (text : List ℕ) (skip start : ℕ) → start ≡ byte_len (take (last_start breaks text skip) text) → 0 < start → skip < break_count breaks text
-near_enough breaks text skip start e some = elim (cases_lt skip (break_count breaks text)) [
-  | inl less ↦ less
-  | inr past ↦ absurd (let none = ap (λ n. byte_len (take n text)) (last_start_none breaks text skip past) in omega arith)
-]
 
 -- a byte at which the text may be cut
 pub cut_at : (bs : List ℕ) (r : ℕ) → IsUtf8 bs → is_cut bs r ≡ true → (0 < r → r < length bs)

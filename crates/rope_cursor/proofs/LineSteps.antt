@@ -5,7 +5,7 @@ use Rattle.rope_text.specs.declared.text_info.TextInfo.{TextInfo}
 use Rattle.rope_text.specs.Lines.{line_count}
 use Rattle.rope_text.specs.Content.{Content}
 use Rattle.rope_text.specs.LineParts.{line_of, lines_of}
-use Rattle.rope_text.specs.Sides.{ahead, place}
+use Rattle.rope_text.specs.Sides.{ahead}
 use Rattle.rope_text.proofs.LinePartLaws.{length-lines_of, take-lines_of, drop-lines_of}
 use Rattle.rope_cursor.specs.Lines.{at_line, IsLineStart}
 use Rattle.rope_cursor.specs.Gap.{Halves}
@@ -24,9 +24,6 @@ left_of_line c l back some within =
 
 pub no_line_right : (c : Content) (h : Halves) (before : TextInfo) (l total : ℕ) (back : Bool) → IsLineStart c h before l total → l ≡ total → (at_line c l back).right ≡ []
 no_line_right c h before l total back s e = drop_all l (lines_of c) (omega (arith, length-lines_of c, s.total_is))
-
-pub place_of_line : (c : Content) (l : ℕ) (back : Bool) → l ≤ line_count c.breaks c.text → place (at_line c l back) ≡ l
-place_of_line c l back within = omega (arith, length-take l (lines_of c), length-lines_of c)
 
 -- how many lines are ahead
 pub ahead_forward : (c : Content) (h : Halves) (before : TextInfo) (l total : ℕ) → IsLineStart c h before l total → length (ahead (at_line c l false)) ≡ total - l

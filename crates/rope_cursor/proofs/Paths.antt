@@ -174,29 +174,11 @@ module _ (frames : List Frame) (depth level : ℕ) (f : Frame) (h : AreFramesOf 
       let t = after_of_none frames (level - 1) f (omega (arith, h.1.len, h.1.room)) e (omega arith) in
       same ∙ (rw on at t)
 
-  pub has_next : after_of (take depth frames) ≡ after_of (take level frames) → 1 < length f.children.now - f.at → HasNextAt frames depth (level - 1)
-  has_next same n =
-      let on : level - 1 + 1 ≡ level = omega arith in
-      record {
-        below = omega arith;
-        more = λ g q. let t = same_frame g q in rw t (omega arith);
-        same = rw on same;
-      }
-
   pub no_prev : before_of (take depth frames) ≡ before_of (take level frames) → f.at ≤ 0 → before_of (take depth frames) ≡ before_of (take (level - 1) frames)
   no_prev same n =
       let on : level - 1 + 1 ≡ level = omega arith in
       let t = before_of_none frames (level - 1) f (omega (arith, h.1.len, h.1.room)) e (omega arith) in
       same ∙ (rw on at t)
-
-  pub has_prev : before_of (take depth frames) ≡ before_of (take level frames) → 0 < f.at → HasPrevAt frames depth (level - 1)
-  has_prev same n =
-      let on : level - 1 + 1 ≡ level = omega arith in
-      record {
-        below = omega arith;
-        more = λ g q. let t = same_frame g q in rw t (omega arith);
-        same = rw on same;
-      }
 
 -- the step to the next leaf: frame i stands at f, and rc is the child after its own
 module _ (frames : List Frame) (depth i : ℕ) (f : Frame) (rc : Tree) (child : Tree) (leaf : List ℕ) (h : AreFrames frames depth (around frames depth (leaf ∷ [])))
