@@ -1,17 +1,15 @@
 -- Lines and columns, by counts of fronts of the text.
-use Rattle.std.proofs.Common.{◌≡◌, ℕ, ◌+◌, ◌-◌, ◌<◌, ◌≤◌, List, Option, Some, None, Result, Ok, nat_le, length, take, drop, ap, sym, ◌∙◌, arith}
+use Rattle.std.proofs.Common.{◌≡◌, ℕ, ◌+◌, ◌-◌, ◌≤◌, List, Option, Some, None, Result, Ok, length, take, drop, ap, sym, ◌∙◌, arith}
 use Rattle.std.specs.List.{slice_range}
 use Rattle.std.proofs.Math.Seq.{take-add}
 use Rattle.std.proofs.lemmas.List.{take-take, length-take, length-drop}
 use Rattle.std.proofs.lemmas.Bool.{le-leb}
 use Rattle.std.proofs.lemmas.Bool.Decides.{nat_tests}
-use Rattle.std.proofs.lemmas.List.Sums.{count_by-le-length}
 use Rattle.rope_text.specs.declared.error.Error.{Error}
 use Rattle.rope_text.specs.declared.line_breaks.LineBreaks.{LineBreaks}
-use Rattle.rope_text.specs.Breaks.{break_ends}
 use Rattle.rope_text.specs.Conversions.{char_to_line, utf16_to_char}
 use Rattle.rope_text.specs.Edit.{char_index_error}
-use Rattle.rope_text.specs.Lines.{line_start, line, line_count}
+use Rattle.rope_text.specs.Lines.{line_start, line}
 use Rattle.rope_text.specs.Position.{char_to_column, position_to_char}
 use Rattle.rope_text.specs.Text.{utf16_len}
 use Rattle.rope_text.proofs.ConversionLaws.{char_to_line-less}

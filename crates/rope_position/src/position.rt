@@ -3,15 +3,12 @@
 //! In `"one\ntwo"`, `char_to_position(5)` is line 1, column 1, and `position_to_char` of that is 5.
 ghost use Rattle.std.specs.Prelude.{◌≡◌, ◌≤◌, length, None};
 ghost use Rattle.rope_text.specs.Content.{Content};
-ghost use Rattle.rope_text.specs.Conversions.{utf16_to_char};
-ghost use Rattle.rope_text.specs.Edit.{char_index_error, utf16_index_error};
+ghost use Rattle.rope_text.specs.Edit.{char_index_error};
 ghost use Rattle.rope_text.specs.Position as of_text;
-ghost use Rattle.rope_text.specs.Text.{utf16_len};
-ghost use Rattle.rope_slice.specs.Slice.{text_of};
 ghost use Rattle.rope_text.specs.Answer.{checked};
 ghost use Rattle.rope_position.specs.Positions.{position_at};
 
-use ropey::{Error, Result, RopeSlice};
+use ropey::Result;
 
 /// A place in a text as an editor shows it: a line, and a column in UTF-16 code units.
 #[derive(Clone, Copy, PartialEq, Eq, PartialOrd, Ord, Hash, Debug)]
@@ -78,16 +75,4 @@ pub trait Positions {
             Err(_) => unreachable!(),
         }
     }
-}
-
-/// The character of a line, counted from the line's start, that a column is in, or why the column is refused.
-pub(crate) fn char_in_line(line: RopeSlice<'_>, column: usize) -> Result<usize>
-    ensures { result ≡ checked (utf16_index_error column (utf16_len (text_of line.entry))) (utf16_to_char
-        (text_of line.entry) column) }
-{
-    let units = line.len_utf16_cu();
-    if column > units {
-        return Err(Error::Utf16IndexOutOfBounds(column, units));
-    }
-    Ok(line.utf16_cu_to_char(column))
 }

@@ -1,5 +1,5 @@
 //! Positions in slices.
-use crate::position::{Position, Positions, char_in_line};
+use crate::position::{Position, Positions};
 use ropey::{Error, Result, RopeSlice};
 
 impl<'a> Positions for RopeSlice<'a> {
@@ -25,7 +25,8 @@ impl<'a> Positions for RopeSlice<'a> {
         }
         // as many characters as a `usize` counts, so the sum fits
         let _ = self.len_chars();
-        match char_in_line(self.line(position.line), position.column) {
+        let line = self.line(position.line);
+        match line.try_utf16_cu_to_char(position.column) {
             Ok(inside) => Ok(self.line_to_char(position.line) + inside),
             Err(error) => Err(error),
         }

@@ -1,6 +1,5 @@
 -- A text has no more pairs than characters, and no more characters than bytes.
-use Rattle.std.proofs.Common.{arith, ap, ◌∙◌}
-use Rattle.rope_text.specs.TextInfo.{info_of}
+use Rattle.std.proofs.Common.{arith, ap}
 use Rattle.rope_tree.specs.Tree.{text}
 use Rattle.rope_tree.proofs.Infos.{small_info}
 use Rattle.ropey.proofs.rope.Rope.len_utf16_cu.Goals as goal

@@ -1,6 +1,5 @@
 -- Both trees are ropes.
 use Rattle.std.proofs.Common.{subst}
-use Rattle.rope_tree.specs.Tree.{IsTree}
 use Rattle.ropey.specs.View.{IsRope}
 use Rattle.ropey.proofs.Ropes.{rope_of}
 use Rattle.ropey.proofs.rope.Rope.split_off_counted.Goals as goal
