@@ -11,6 +11,7 @@ ghost use Rattle.rope_text.specs.Edit.{byte_index_error, char_index_error, line_
 ghost use Rattle.rope_text.specs.Answer.{checked};
 ghost use Rattle.rope_slice.specs.Slice.{text_of, breaks_of};
 
+use crate::bounds::check;
 use crate::slice::RopeSlice;
 use rope_text::{Error, Result};
 
@@ -37,9 +38,7 @@ impl<'a> RopeSlice<'a> {
             (byte_to_char (text_of self.now) byte_idx) }
     {
         let len = self.len_bytes();
-        if byte_idx > len {
-            return Err(Error::ByteIndexOutOfBounds(byte_idx, len));
-        }
+        check(byte_idx, len, Error::ByteIndexOutOfBounds(byte_idx, len))?;
         Ok(self.byte_to_char(byte_idx))
     }
 
@@ -65,9 +64,7 @@ impl<'a> RopeSlice<'a> {
             (byte_to_line (breaks_of self.now) (text_of self.now) byte_idx) }
     {
         let len = self.len_bytes();
-        if byte_idx > len {
-            return Err(Error::ByteIndexOutOfBounds(byte_idx, len));
-        }
+        check(byte_idx, len, Error::ByteIndexOutOfBounds(byte_idx, len))?;
         Ok(self.byte_to_line(byte_idx))
     }
 
@@ -93,9 +90,7 @@ impl<'a> RopeSlice<'a> {
             (char_to_byte (text_of self.now) char_idx) }
     {
         let len = self.len_chars();
-        if char_idx > len {
-            return Err(Error::CharIndexOutOfBounds(char_idx, len));
-        }
+        check(char_idx, len, Error::CharIndexOutOfBounds(char_idx, len))?;
         Ok(self.char_to_byte(char_idx))
     }
 
@@ -121,9 +116,7 @@ impl<'a> RopeSlice<'a> {
             (char_to_line (breaks_of self.now) (text_of self.now) char_idx) }
     {
         let len = self.len_chars();
-        if char_idx > len {
-            return Err(Error::CharIndexOutOfBounds(char_idx, len));
-        }
+        check(char_idx, len, Error::CharIndexOutOfBounds(char_idx, len))?;
         Ok(self.char_to_line(char_idx))
     }
 
@@ -149,9 +142,7 @@ impl<'a> RopeSlice<'a> {
             (char_to_utf16 (text_of self.now) char_idx) }
     {
         let len = self.len_chars();
-        if char_idx > len {
-            return Err(Error::CharIndexOutOfBounds(char_idx, len));
-        }
+        check(char_idx, len, Error::CharIndexOutOfBounds(char_idx, len))?;
         Ok(self.char_to_utf16_cu(char_idx))
     }
 
@@ -177,9 +168,11 @@ impl<'a> RopeSlice<'a> {
             (utf16_to_char (text_of self.now) utf16_cu_idx) }
     {
         let len = self.len_utf16_cu();
-        if utf16_cu_idx > len {
-            return Err(Error::Utf16IndexOutOfBounds(utf16_cu_idx, len));
-        }
+        check(
+            utf16_cu_idx,
+            len,
+            Error::Utf16IndexOutOfBounds(utf16_cu_idx, len),
+        )?;
         Ok(self.utf16_cu_to_char(utf16_cu_idx))
     }
 
@@ -204,9 +197,7 @@ impl<'a> RopeSlice<'a> {
             (line_to_byte (breaks_of self.now) (text_of self.now) line_idx) }
     {
         let len = self.len_lines();
-        if line_idx > len {
-            return Err(Error::LineIndexOutOfBounds(line_idx, len));
-        }
+        check(line_idx, len, Error::LineIndexOutOfBounds(line_idx, len))?;
         Ok(self.line_to_byte(line_idx))
     }
 
@@ -231,9 +222,7 @@ impl<'a> RopeSlice<'a> {
             (line_to_char (breaks_of self.now) (text_of self.now) line_idx) }
     {
         let len = self.len_lines();
-        if line_idx > len {
-            return Err(Error::LineIndexOutOfBounds(line_idx, len));
-        }
+        check(line_idx, len, Error::LineIndexOutOfBounds(line_idx, len))?;
         Ok(self.line_to_char(line_idx))
     }
 }

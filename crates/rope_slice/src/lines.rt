@@ -100,10 +100,7 @@ impl<'a> Lines<'a> {
     pub fn prev(&mut self) -> Option<RopeSlice<'a>>
         ensures { StepsBack (λ x. content_of x) self.old result self.new }
     {
-        match self.parts.prev() {
-            Some(part) => Some(RopeSlice { part }),
-            None => None,
-        }
+        self.parts.prev().map(|part| RopeSlice { part })
     }
 
     /// Turns the cursor round where it stands: `next` and `prev` change places. Takes constant time and no memory.
@@ -136,10 +133,7 @@ impl<'a> Iterator for Lines<'a> {
         ensures steps { YieldsFirstBy (λ x. content_of x) ahead self.old result self.new }
         ensures goes { GoesAhead (λ x. content_of x) self.old result self.new }
     {
-        match self.parts.next() {
-            Some(part) => Some(RopeSlice { part }),
-            None => None,
-        }
+        self.parts.next().map(|part| RopeSlice { part })
     }
 
     /// How many lines are still to come, as both bounds. Takes constant time and no memory.

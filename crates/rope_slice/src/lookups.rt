@@ -9,6 +9,7 @@ ghost use Rattle.rope_text.specs.Lookup.{found_chunk, chunk_index_at_byte, chunk
 ghost use Rattle.rope_part.specs.Found.{IsFoundChunk};
 ghost use Rattle.rope_slice.specs.Slice.{text_of, chunks_of, breaks_of};
 
+use crate::bounds::check;
 use crate::slice::RopeSlice;
 use rope_text::{Error, Result};
 
@@ -84,9 +85,7 @@ impl<'a> RopeSlice<'a> {
             (λ fault. result ≡ Err fault) }
     {
         let len = self.len_bytes();
-        if byte_idx > len {
-            return Err(Error::ByteIndexOutOfBounds(byte_idx, len));
-        }
+        check(byte_idx, len, Error::ByteIndexOutOfBounds(byte_idx, len))?;
         Ok(self.chunk_at_byte(byte_idx))
     }
 

@@ -40,12 +40,10 @@ impl<'a> RopeSlice<'a> {
             × IsSlice (content_of self.now) (range_start (R.given_start range)) (range_end (R.given_end range) (length (text_of self.now)))
             (content_of slice)) }
     {
-        match char_bounds(&range, self.len_chars()) {
-            Ok((start, end)) => Some(RopeSlice {
-                part: self.part.char_range(start, end),
-            }),
-            Err(_) => None,
-        }
+        let (start, end) = char_bounds(&range, self.len_chars()).ok()?;
+        Some(RopeSlice {
+            part: self.part.char_range(start, end),
+        })
     }
 
     /// As `byte_slice`, for any range. Costs a few look-ups, or a count of the text where it is plain; takes no
@@ -88,9 +86,6 @@ impl<'a> RopeSlice<'a> {
         ensures { IsSlice (content_of self.now) (byte_to_char (text_of self.now) (range_start (R.given_start range)))
             (byte_to_char (text_of self.now) (range_end (R.given_end range) (byte_len (text_of self.now)))) (content_of result) }
     {
-        match self.try_byte_slice(range) {
-            Ok(slice) => slice,
-            Err(_) => unreachable!(),
-        }
+        self.try_byte_slice(range).unwrap()
     }
 }

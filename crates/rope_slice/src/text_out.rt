@@ -10,7 +10,7 @@ ghost use Rattle.rope_slice.specs.Slice.{text_of, chunks_of};
 
 use crate::slice::RopeSlice;
 use rope_compare::text_out::{copy, show};
-use rope_text::{Error, Result};
+use rope_text::Result;
 use std::alloc::Global;
 use std::borrow::CowStr;
 use std::fmt;
@@ -25,10 +25,7 @@ impl<'a> RopeSlice<'a> {
         ensures text { IfOk result (λ text. chars (string_bytes text) ≡ text_of self.now) }
         ensures err { IfErr result (λ e. e ≡ OutOfMemory) }
     {
-        match copy(alloc, &self.part) {
-            Ok(text) => Ok(text),
-            Err(_) => Err(Error::OutOfMemory),
-        }
+        Ok(copy(alloc, &self.part)?)
     }
 
     /// The text: borrowed exactly where the slice has at most one chunk, which takes no memory and never fails;
@@ -46,10 +43,7 @@ impl<'a> RopeSlice<'a> {
         if let Some(text) = self.as_str() {
             return Ok(CowStr::Borrowed(text));
         }
-        match self.try_to_string(alloc) {
-            Ok(text) => Ok(CowStr::Owned(text)),
-            Err(error) => Err(error),
-        }
+        Ok(CowStr::Owned(self.try_to_string(alloc)?))
     }
 }
 
