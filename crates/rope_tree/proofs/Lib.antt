@@ -4,6 +4,7 @@ pub mod StandLaws
 pub mod TreeLaws
 pub mod Halving
 pub mod RowLaws
+pub mod PartLaws
 pub mod Rows
 pub mod ShortTexts
 pub mod WideKept

@@ -8,14 +8,14 @@ use Rattle.rope_text.specs.declared.line_breaks.LineBreaks.{LineBreaks}
 use Rattle.rope_text.specs.declared.text_info.TextInfo.{TextInfo}
 use Rattle.rope_text.specs.TextInfo.{info_of, info_sum}
 use Rattle.rope_text.proofs.InfoLaws.{info_of-append_apart}
-use Rattle.rope_tree.specs.declared.node.Children.TheInside.{Inside}
+use Rattle.rope_tree.specs.declared.node.row.NewList.{NewList}
 use Rattle.rope_tree.specs.Leaves.{AreLeaves}
 use Rattle.rope_tree.specs.Tree.{Tree, text, joined, leaves_of, height_of, breaks_of, IsChild, AreChildren}
 use Rattle.rope_tree.specs.Siblings.{AreSiblings}
 use Rattle.rope_tree.specs.Totals.{HasTotals, IsTotalOf}
 use Rattle.rope_tree.specs.Search.{IsSmall}
 use Rattle.rope_tree.specs.Flat.{IsFlat}
-use Rattle.rope_tree.specs.Listed.{listed, IsListed}
+use Rattle.rope_tree.specs.NewList.{nodes_in, IsNewList}
 use Rattle.rope_tree.proofs.LeafLaws.{leaves_seam, all_right, no_leaves}
 use Rattle.rope_tree.proofs.Infos.{small_info}
 use Rattle.rope_tree.proofs.NodeLaws.{leaves_of-append, joined-append, joined_one, totals_more, children_of_first}
@@ -37,15 +37,6 @@ front_counts (t ∷ ts) x before is = is.all (omega arith)
 kept : (x : Tree) (xs : List Tree) (totals : List TextInfo) → HasTotals (breaks_of xs) totals xs → HasTotals (breaks_of (xs ++ x ∷ [])) totals xs
 kept x [] totals h = record { as_many = h.as_many; total_at = λ k d p. absurd (omega arith) }
 kept x (t ∷ ts) totals h = h
-
--- the first tree stays the first
-same_height : (xs ys : List Tree) → 1 ≤ length xs → height_of xs ≡ height_of (xs ++ ys)
-same_height [] ys some = absurd (omega arith)
-same_height (t ∷ ts) ys some = refl
-
-same_set : (xs ys : List Tree) → 1 ≤ length xs → breaks_of xs ≡ breaks_of (xs ++ ys)
-same_set [] ys some = absurd (omega arith)
-same_set (t ∷ ts) ys some = refl
 
 -- one more tree is counted
 pub record AddsTree (xs : List Tree) (x : Tree) (before info : TextInfo) : Type 0 where
@@ -80,24 +71,17 @@ module _ (xs : List Tree) (x : Tree) (s : AreSiblings (breaks_of (xs ++ x ∷ []
         sum = whole;
       }
 
-  -- what the fields say of the first tree holds of each
-  pub top_height : (a : Inside) → IsListed a → listed a ≡ xs → 1 ≤ length xs → a.height ≡ x.height + 1
-  top_height a i view some = i.above ∙ ap (λ ts. height_of ts + 1) view ∙ ap (λ n. n + 1) (same_height xs (x ∷ []) some ∙ sym own.at_height)
-
-  pub top_set : (a : Inside) → IsListed a → listed a ≡ xs → 1 ≤ length xs → a.breaks ≡ x.breaks
-  top_set a i view some = i.same_breaks ∙ ap breaks_of view ∙ same_set xs (x ∷ []) some ∙ sym own.same_breaks
-
-  -- the fields with it
-  module _ (a b : Inside) (n : ℕ) (total : TextInfo) (i : IsListed a) (view : listed a ≡ xs) (room : length xs < 24) (n_is : n ≡ length a.totals) (totals : b.totals ≡ a.totals ++ total ∷ [])
-      (nodes : b.nodes ≡ set a.nodes n x) (height : b.height ≡ x.height + 1) (breaks : b.breaks ≡ x.breaks) (total_is : total ≡ info_of (breaks_of (xs ++ x ∷ [])) (joined (xs ++ x ∷ []))) where
+  -- the list with it
+  module _ (a b : NewList) (n : ℕ) (total : TextInfo) (i : IsNewList a) (view : nodes_in a ≡ xs) (room : length xs < 24) (n_is : n ≡ length a.totals) (totals : b.totals ≡ a.totals ++ total ∷ [])
+      (nodes : b.nodes ≡ set a.nodes n x) (total_is : total ≡ info_of (breaks_of (xs ++ x ∷ [])) (joined (xs ++ x ∷ []))) where
     many : n ≡ length xs
     many = omega (arith, ap length view, i.totals_right.as_many)
 
     longer : length b.totals ≡ n + 1
     longer = omega (arith, ap length totals, length-append a.totals (total ∷ []))
 
-    pub more_listed : listed b ≡ xs ++ x ∷ []
-    more_listed =
+    pub more_in : nodes_in b ≡ xs ++ x ∷ []
+    more_in =
         let ys = set a.nodes n x in
         let lt : n < length ys = omega (arith, many, length-set a.nodes n x, i.room) in
         let front : take n ys ≡ xs = take-set-le n a.nodes n x (omega arith) ∙ ap (λ m. take m a.nodes) n_is ∙ view in
@@ -114,15 +98,13 @@ module _ (xs : List Tree) (x : Tree) (s : AreSiblings (breaks_of (xs ++ x ∷ []
         let more = totals_more (breaks_of ts) ts n a.totals total (omega (arith, many, len)) (rw front was) (rw whole total_is) in
         rw (totals) (rw whole at more)
 
-    pub is_listed_more : IsListed b
-    is_listed_more =
+    pub is_new_list_more : IsNewList b
+    is_new_list_more =
         let behind : drop (length b.totals) b.nodes ≡ drop 1 (drop (length a.totals) a.nodes) =
         (rw (longer, nodes) refl) ∙ drop-set-lt (n + 1) a.nodes n x (omega arith) ∙ ap (λ m. drop (m + 1) a.nodes) n_is ∙ sym (drop-drop 1 (length a.totals) a.nodes) in
         record {
           room = ap length nodes ∙ length-set a.nodes n x ∙ i.room;
-          totals_right = rw more_listed more_totals;
-          above = height ∙ ap (λ m. m + 1) own.at_height ∙ ap (λ ts. height_of ts + 1) (sym more_listed);
-          same_breaks = breaks ∙ own.same_breaks ∙ ap breaks_of (sym more_listed);
+          totals_right = rw more_in more_totals;
           places = rw behind (All-drop IsFlat 1 (drop (length a.totals) a.nodes) i.places);
         }
 

@@ -1,11 +1,12 @@
 -- Running totals of any size, kept by kind of count.
-use Rattle.std.proofs.Common.{◌≡◌, ℕ, ◌+◌, ◌-◌, ◌%◌, ◌<◌, ◌≤◌, List, [], ◌∷◌, ◌++◌, length, get_or, set, map, refl, sym, ap, ◌∙◌, arith, get_or-set_other, get_or-set_same}
+use Rattle.std.proofs.Common.{◌≡◌, ℕ, ◌+◌, ◌-◌, ◌%◌, ◌<◌, ◌≤◌, List, [], ◌∷◌, ◌++◌, length, get_or, set, take, drop, map, refl, sym, ap, ◌∙◌, arith, get_or-set_other, get_or-set_same}
 use Rattle.std.specs.List.{range_with_len}
 use Rattle.std.proofs.lemmas.List.FromFn.{length-map-range_with_len, get_or-map-range_with_len, map-range_with_len_more, fill_by_all}
 use Rattle.rope_text.specs.declared.text_info.TextInfo.{TextInfo}
 use Rattle.rope_text.specs.TextInfo.{info_sum}
 use Rattle.rope_tree.specs.declared.search.wide.WideTotals.TheInside.{Inside}
 use Rattle.rope_tree.specs.WideShape.{counts_at, all_totals, IsTotals}
+use Rattle.rope_tree.proofs.Rows.{put_before, put_within, put_length}
 
 pub many : (a : Inside) (ts : List TextInfo) → all_totals a ≡ ts → a.len ≡ length ts
 many a ts view = sym (length-map-range_with_len (counts_at a) 0 a.len) ∙ ap length view
@@ -101,3 +102,48 @@ pub record Trades (a b : Inside) (j : ℕ) (old new : TextInfo) : Type 0 where
   pub chars : get_or b.chars j 0 + old.chars ≡ get_or a.chars j 0 + new.chars
   pub pairs : get_or b.pairs j 0 + old.utf16_surrogates ≡ get_or a.pairs j 0 + new.utf16_surrogates
   pub breaks : get_or b.breaks j 0 + old.break_count ≡ get_or a.breaks j 0 + new.break_count
+
+-- totals of another list behind them
+module _ (a o b : Inside) (ts us : List TextInfo) (from count : ℕ) (i : IsTotals a) (view : all_totals a ≡ ts) (j : IsTotals o) (others : all_totals o ≡ us) (within : from + count ≤ length us) (room : length ts + count ≤ 24) (len : b.len ≡ a.len + count)
+    (bytes : b.bytes ≡ take a.len a.bytes ++ (take count (drop from o.bytes) ++ drop (a.len + count) a.bytes)) (chars : b.chars ≡ take a.len a.chars ++ (take count (drop from o.chars) ++ drop (a.len + count) a.chars))
+    (pairs : b.pairs ≡ take a.len a.pairs ++ (take count (drop from o.pairs) ++ drop (a.len + count) a.pairs)) (breaks : b.breaks ≡ take a.len a.breaks ++ (take count (drop from o.breaks) ++ drop (a.len + count) a.breaks)) where
+  pub longer : length (all_totals b) ≡ length ts + count
+  longer = omega (arith, length-map-range_with_len (counts_at b) 0 b.len, len, many a ts view)
+
+  kept_at : (xs ys : List ℕ) (k : ℕ) → length xs ≡ 24 → k < a.len → get_or (take a.len xs ++ (take count (drop from ys) ++ drop (a.len + count) xs)) k 0 ≡ get_or xs k 0
+  kept_at xs ys k e lt = put_before a.len count from xs ys k (omega (arith, i.few)) lt
+
+  moved_at : (xs ys : List ℕ) (k : ℕ) → length xs ≡ 24 → length ys ≡ 24 → k < count → get_or (take a.len xs ++ (take count (drop from ys) ++ drop (a.len + count) xs)) (a.len + k) 0 ≡ get_or ys (from + k) 0
+  moved_at xs ys k e f lt = put_within a.len count from xs ys k (omega (arith, i.few)) (omega (arith, within, j.few, many o us others)) lt
+
+  pub kept_counts : (k : ℕ) → k < a.len → counts_at b k ≡ counts_at a k
+  kept_counts k lt =
+      four_counts (counts_at b k) (counts_at a k) (ap (λ l. get_or l k 0) bytes ∙ kept_at a.bytes o.bytes k i.bytes lt) (ap (λ l. get_or l k 0) chars ∙ kept_at a.chars o.chars k i.chars lt)
+      (ap (λ l. get_or l k 0) pairs ∙ kept_at a.pairs o.pairs k i.pairs lt) (ap (λ l. get_or l k 0) breaks ∙ kept_at a.breaks o.breaks k i.breaks lt)
+
+  pub moved_counts : (k : ℕ) → k < count → counts_at b (a.len + k) ≡ counts_at o (from + k)
+  moved_counts k lt =
+      four_counts (counts_at b (a.len + k)) (counts_at o (from + k)) (ap (λ l. get_or l (a.len + k) 0) bytes ∙ moved_at a.bytes o.bytes k i.bytes j.bytes lt) (ap (λ l. get_or l (a.len + k) 0) chars ∙ moved_at a.chars o.chars k i.chars j.chars lt)
+      (ap (λ l. get_or l (a.len + k) 0) pairs ∙ moved_at a.pairs o.pairs k i.pairs j.pairs lt) (ap (λ l. get_or l (a.len + k) 0) breaks ∙ moved_at a.breaks o.breaks k i.breaks j.breaks lt)
+
+  pub kept_totals : (k : ℕ) (d : TextInfo) → k < length ts → get_or (all_totals b) k d ≡ get_or ts k d
+  kept_totals k d lt =
+      let n = many a ts view in
+      get_or-map-range_with_len (counts_at b) 0 b.len k k d (omega (arith, len)) (omega arith) ∙ kept_counts k (omega arith) ∙ sym (total_seen a ts k d view lt)
+
+  pub moved_totals : (k : ℕ) (d : TextInfo) → k < count → get_or (all_totals b) (length ts + k) d ≡ get_or us (from + k) d
+  moved_totals k d lt =
+      let n = many a ts view in
+      get_or-map-range_with_len (counts_at b) 0 b.len (length ts + k) (a.len + k) d (omega (arith, len)) (omega arith) ∙ moved_counts k lt ∙ sym (total_seen o us (from + k) d others (omega (arith, within)))
+
+  long : (xs ys : List ℕ) → length xs ≡ 24 → length ys ≡ 24 → length (take a.len xs ++ (take count (drop from ys) ++ drop (a.len + count) xs)) ≡ 24
+  long xs ys e f = put_length a.len count from xs ys (omega (arith, room, many a ts view)) (omega (arith, within, j.few, many o us others)) ∙ e
+
+  pub all_there : IsTotals b
+  all_there = record {
+    few = omega (arith, len, room, many a ts view);
+    bytes = ap length bytes ∙ long a.bytes o.bytes i.bytes j.bytes;
+    chars = ap length chars ∙ long a.chars o.chars i.chars j.chars;
+    pairs = ap length pairs ∙ long a.pairs o.pairs i.pairs j.pairs;
+    breaks = ap length breaks ∙ long a.breaks o.breaks i.breaks j.breaks;
+  }

@@ -16,6 +16,8 @@ pub mod Shape
 pub mod Falls
 pub mod View
 pub mod Siblings
+pub mod Rows
+pub mod NewList
 pub mod Fronts
 pub mod Found
 pub mod StepBounds

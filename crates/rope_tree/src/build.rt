@@ -6,7 +6,7 @@ ghost use Rattle.rope_tree.specs.Siblings.{AreSiblings};
 
 use crate::insert::leaf_of;
 use crate::node::Node;
-use crate::node::row::make_over;
+use crate::node::row::node_over;
 use crate::node_text::{NodeText, first_leaf_len};
 use rope_text::{LineBreaks, MAX_BYTES, MAX_CHILDREN};
 use std::alloc::{AllocError, Global};
@@ -69,7 +69,7 @@ fn level_over(alloc: Global, nodes: &[Node], made: &mut u64) -> Result<Vec<Node>
     let mut rest = nodes;
     while groups > 0 {
         let len = group_len(rest.len(), groups);
-        level.push(make_over(alloc, &[], &[], &rest[..len], made)?)?;
+        level.push(node_over(alloc, &rest[..len], made)?)?;
         rest = &rest[len..];
         groups -= 1;
     }
@@ -92,7 +92,7 @@ pub(crate) fn root_over(alloc: Global, nodes: Vec<Node>, made: &mut u64) -> Resu
     if level.len() == 1 {
         return Ok(level[0].share()?);
     }
-    Ok(make_over(alloc, &[], &[], &level, made)?)
+    Ok(node_over(alloc, &level, made)?)
 }
 
 /// A tree of this text, built from the bottom: leaves cut in order, then nodes of 12 to 22 children level by level.

@@ -11,7 +11,7 @@ ghost use Rattle.rope_tree.specs.Insert.{MayInsert, IsInserted};
 use crate::counts::ends_in_cr;
 use crate::insert::insert;
 use crate::lookup::char_at;
-use crate::node::row::make_over;
+use crate::node::row::node_over;
 use crate::node::{Node, Nodes};
 use crate::short_text::ShortText;
 use rope_text::Steps;
@@ -77,7 +77,7 @@ fn root_of(
     match nodes {
         Nodes::One(node) => Ok(node),
         Nodes::Two(first, second) => {
-            let node = make_over(alloc, &[], &[first, second], &[], made)?;
+            let node = node_over(alloc, &[first, second], made)?;
             Ok(node)
         }
     }

@@ -11,7 +11,7 @@ ghost use Rattle.rope_tree.specs.Insert.{MayInsert, IsInserted};
 
 use crate::counts::info_with;
 use crate::lookup::total_before;
-use crate::node::row::pack;
+use crate::node::row::{Row, pack};
 use crate::node::{Node, Nodes, View, make_leaf};
 use crate::node_text::NodeText;
 use crate::search::{Unit, char_to_hold, place_of};
@@ -96,8 +96,17 @@ pub fn insert(
             let place = place_of(totals, Unit::Char, held, &mut Steps::new());
             let front = total_before(totals, place).chars;
             let middle = insert(alloc, &children[place], at - front, added, to_right, made)?;
-            let before = &children[..place];
-            Ok(pack(alloc, before, middle, &children[place + 1..], made)?)
+            let before = Row {
+                nodes: &children[..place],
+                totals: Some(totals),
+                from: 0,
+            };
+            let after = Row {
+                nodes: &children[place + 1..],
+                totals: Some(totals),
+                from: place + 1,
+            };
+            Ok(pack(alloc, before, middle, after, made)?)
         }
     }
 }

@@ -1,5 +1,5 @@
 //! Running totals over children, and the child that holds a place, found by halving over them.
-ghost use Rattle.std.specs.Prelude.{◌≡◌, ℕ, ◌+◌, ◌-◌, ◌<◌, ◌≤◌, ◌^◌, [], ◌∷◌, ◌++◌, true, false, length, slice_index_or, IfOk, OnOk, OnErr};
+ghost use Rattle.std.specs.Prelude.{◌≡◌, ℕ, ◌+◌, ◌-◌, ◌<◌, ◌≤◌, ◌^◌, [], ◌∷◌, ◌++◌, true, false, length, take, drop, slice_index_or, IfOk, OnOk, OnErr};
 ghost use Rattle.rope_text.specs.declared.text_info.TextInfo.{TextInfo};
 ghost use Rattle.rope_text.specs.TextInfo.{info_sum};
 ghost use Rattle.rope_tree.specs.Search.{count_of, IsSmall, HasPart};
@@ -61,6 +61,16 @@ impl Model for Totals {
     ghost use Rattle.rope_tree.specs.TotalsShape.{totals_of};
 
     ghost view = { totals_of };
+}
+
+/// Puts counts of another row, `count` of them from one place on, into a row, from another place on.
+#[inline(always)]
+fn put_row<T: Copy>(counts: &mut [T], place: usize, others: &[T], from: usize, count: usize)
+    requires room { place + count ≤ length counts.old }
+    requires within { from + count ≤ length others.now }
+    ensures { counts.new ≡ take place counts.old ++ (take count (drop from others.now) ++ drop (place + count) counts.old) }
+{
+    counts[place..place + count].copy_from_slice(&others[from..from + count]);
 }
 
 /// The same totals in words, and one more behind them. It is kept out of the callers, which seldom come to it.
@@ -168,6 +178,60 @@ impl Totals {
             Width::Wide(totals) => totals.push(total),
         }
         Ok(())
+    }
+
+    /// The same totals in words.
+    fn widen(&mut self, alloc: Global) -> Result<(), AllocError>
+        requires { length self.old ≤ 24 }
+        ensures { self.new ≡ self.old }
+    {
+        if let Width::Narrow(totals) = &self.width {
+            self.width = Width::Wide(Box::new(alloc, WideTotals::of(totals))?);
+        }
+        Ok(())
+    }
+
+    /// Puts totals of another list behind these: `count` of them from one place on, with the counts `new` in each for the part
+    /// `old`. Returns whether it did: not where they would be of two widths, and then nothing has changed.
+    pub(crate) fn append(
+        &mut self,
+        alloc: Global,
+        others: &Totals,
+        from: usize,
+        count: usize,
+        old: TextInfo,
+        new: TextInfo,
+    ) -> Result<bool, AllocError>
+        requires some { 1 ≤ count }
+        requires within { from + count ≤ length others.now }
+        requires few { length others.now ≤ 24 }
+        requires room { length self.old + count ≤ 24 }
+        requires small { (j : ℕ) (d : TextInfo) → j < length self.old → IsSmall (slice_index_or self.old j d) }
+        requires small_others { (j : ℕ) (d : TextInfo) → j < count → IsSmall (slice_index_or others.now (from + j) d) }
+        requires part { (j : ℕ) (d : TextInfo) → j < count → HasPart (slice_index_or others.now (from + j) d) old }
+        requires new { IsSmall new }
+        requires fits { (j : ℕ) (d : TextInfo) → j < count → (slice_index_or others.now (from + count - 1) d).bytes + new.bytes < 2 ^ 16 + old.bytes → FitsWith (slice_index_or others.now (from + j) d) old new }
+        ensures len { IfOk result (λ did. did ≡ true → length self.new ≡ length self.old + count) }
+        ensures before { IfOk result (λ did. did ≡ true → (j : ℕ) (d : TextInfo) → j < length self.old → slice_index_or self.new j d ≡ slice_index_or self.old j d) }
+        ensures behind { IfOk result (λ did. did ≡ true → (j : ℕ) (d : TextInfo) → j < count → info_sum (slice_index_or self.new (length self.old + j) d) old ≡ info_sum (slice_index_or others.now (from + j) d) new) }
+        ensures kept { IfOk result (λ did. did ≡ false → self.new ≡ self.old) }
+    {
+        let last = others.get(from + count - 1);
+        let is_wide = last.bytes - old.bytes + new.bytes >= TOO_WIDE;
+        if is_wide {
+            self.widen(alloc)?;
+        }
+        match (&mut self.width, &others.width) {
+            (Width::Narrow(totals), Width::Narrow(others)) if !is_wide => {
+                totals.append_with(others, from, count, old, new);
+                Ok(true)
+            }
+            (Width::Wide(totals), Width::Wide(others)) => {
+                totals.append_with(others, from, count, old, new);
+                Ok(true)
+            }
+            _ => Ok(false),
+        }
     }
 
     /// Puts the total of one child more before the one at a place.

@@ -5,7 +5,7 @@ ghost use Rattle.rope_text.specs.TextInfo.{info_sum};
 ghost use Rattle.rope_tree.specs.Search.{count_of, HasPart};
 ghost use Rattle.rope_tree.specs.Narrow.{IsNarrow, AreNarrow, FitsWith};
 
-use super::Unit;
+use super::{Unit, put_row};
 use rope_text::TextInfo;
 use std::marker::Model;
 use std::mem;
@@ -188,6 +188,23 @@ impl NarrowTotals {
         self.len += 1;
     }
 
+    /// Puts totals of another list behind these: `count` of them, from a place on.
+    #[inline(always)]
+    fn append(&mut self, others: &NarrowTotals, from: usize, count: usize)
+        requires within { from + count ≤ length others.now }
+        requires room { length self.old + count ≤ 24 }
+        ensures len { length self.new ≡ length self.old + count }
+        ensures before { (j : ℕ) (d : TextInfo) → j < length self.old → slice_index_or self.new j d ≡ slice_index_or self.old j d }
+        ensures behind { (j : ℕ) (d : TextInfo) → j < count → slice_index_or self.new (length self.old + j) d ≡ slice_index_or others.now (from + j) d }
+    {
+        let place = self.len;
+        put_row(&mut self.bytes, place, &others.bytes, from, count);
+        put_row(&mut self.chars, place, &others.chars, from, count);
+        put_row(&mut self.pairs, place, &others.pairs, from, count);
+        put_row(&mut self.breaks, place, &others.breaks, from, count);
+        self.len = place + count;
+    }
+
     /// Puts the total of one child more before the one at a place.
     pub(super) fn insert(&mut self, place: usize, total: TextInfo)
         requires within { place ≤ length self.old }
@@ -231,5 +248,28 @@ impl NarrowTotals {
             difference(old.utf16_surrogates, new.utf16_surrogates),
         );
         shift(breaks, place, difference(old.break_count, new.break_count));
+    }
+
+    /// The same, with the counts `new` in each of them for the part `old`.
+    pub(super) fn append_with(
+        &mut self,
+        others: &NarrowTotals,
+        from: usize,
+        count: usize,
+        old: TextInfo,
+        new: TextInfo,
+    )
+        requires some { 1 ≤ count }
+        requires within { from + count ≤ length others.now }
+        requires room { length self.old + count ≤ 24 }
+        requires part { (j : ℕ) (d : TextInfo) → j < count → HasPart (slice_index_or others.now (from + j) d) old }
+        requires fits { (j : ℕ) (d : TextInfo) → j < count → FitsWith (slice_index_or others.now (from + j) d) old new }
+        ensures len { length self.new ≡ length self.old + count }
+        ensures before { (j : ℕ) (d : TextInfo) → j < length self.old → slice_index_or self.new j d ≡ slice_index_or self.old j d }
+        ensures behind { (j : ℕ) (d : TextInfo) → j < count → info_sum (slice_index_or self.new (length self.old + j) d) old ≡ info_sum (slice_index_or others.now (from + j) d) new }
+    {
+        let place = self.len();
+        self.append(others, from, count);
+        self.retotal(place, old, new);
     }
 }

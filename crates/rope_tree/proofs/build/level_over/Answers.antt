@@ -10,8 +10,8 @@ use Rattle.rope_tree.proofs.build.level_over.Goals as goal
 over_at : {breaks : LineBreaks} {h : ℕ} {whole : List Tree} {done more rest left : List Tree} → more ≡ done → left ≡ rest → AreOver breaks h whole done rest → AreOver breaks h whole more left
 over_at {breaks = breaks} {h = h} {whole = whole} {more = more} {rest = rest} e f a = subst (AreOver breaks h whole more) (sym f) (subst (λ ts. AreOver breaks h whole ts rest) (sym e) a)
 
-pub make_over-requires : goal.make_over-requires
-make_over-requires c =
+pub node_over-requires : goal.node_over-requires
+node_over-requires c =
     let rest = c.loop-groups.rest.now in
     let n = c.group_len-len.result in
     let a = group_children _ _ rest n c.loop-groups.invariant.over.left c.group_len-len.ensures.least c.group_len-len.ensures.most (omega (arith, c.group_len-len.ensures.within)) in
@@ -21,8 +21,8 @@ pub loop-groups-preserved : goal.loop-groups-preserved
 loop-groups-preserved c =
     let rest = c.loop-groups.rest.now in
     let n = c.group_len-len.result in
-    let over = over_more _ _ _ _ rest n c.in_ok-make_over.field-0 c.loop-groups.invariant.over c.group_len-len.ensures.least c.group_len-len.ensures.most (omega (arith, c.group_len-len.ensures.within))
-    c.in_ok-make_over.ensures.ok in
+    let over = over_more _ _ _ _ rest n c.in_ok-node_over.field-0 c.loop-groups.invariant.over c.group_len-len.ensures.least c.group_len-len.ensures.most (omega (arith, c.group_len-len.ensures.within))
+    c.in_ok-node_over.ensures.ok in
     let pushed = c.in_ok-push.ensures.items in
     let g = c.group_len-len.ensures in
     let after = back_of rest _ n refl in
@@ -32,6 +32,6 @@ loop-groups-preserved c =
       over = over_at pushed after over;
       least = omega (arith, g.least_after);
       most = omega (arith, g.most_after);
-      counted = omega (arith, ap length c.in_ok-push.ensures.items, length-append c.loop-groups.level.items (c.in_ok-make_over.field-0 ∷ []), c.loop-groups.invariant.counted);
-      made = omega (arith, c.in_ok-make_over.ensures.made, ap length c.in_ok-push.ensures.items, length-append c.loop-groups.level.items (c.in_ok-make_over.field-0 ∷ []), c.loop-groups.invariant.made);
+      counted = omega (arith, ap length c.in_ok-push.ensures.items, length-append c.loop-groups.level.items (c.in_ok-node_over.field-0 ∷ []), c.loop-groups.invariant.counted);
+      made = omega (arith, c.in_ok-node_over.ensures.made, ap length c.in_ok-push.ensures.items, length-append c.loop-groups.level.items (c.in_ok-node_over.field-0 ∷ []), c.loop-groups.invariant.made);
     }

@@ -26,11 +26,11 @@ children c =
     let ts = c.loop-alloc.level.items in
     children_of_first _ _ ts (children_of _ _ ts c.loop-alloc.invariant.siblings (omega (arith, c.loop-alloc.invariant.some)) (omega arith))
 
-pub make_over-requires : goal.make_over-requires
-make_over-requires c = rw c.deref-2.ensures.value (children (goal.at.make_over-requires c).After-deref-2)
+pub node_over-requires : goal.node_over-requires
+node_over-requires c = rw c.deref-2.ensures.value (children (goal.at.node_over-requires c).After-deref-2)
 
 pub returns-clause-tree : goal.returns-clause-tree
 returns-clause-tree c =
     let ts = c.loop-alloc.level.items in
-    let is = c.in_ok-make_over.ensures.ok ∙ ap tree_over c.deref-2.ensures.value in
+    let is = c.in_ok-node_over.ensures.ok ∙ ap tree_over c.deref-2.ensures.value in
     subst IsTree (sym is) (is_tree_over (breaks_of ts) (height_of ts) ts (children (goal.at.returns-clause-tree c).After-deref-2))

@@ -1,8 +1,0 @@
-use Rattle.rope_tree.proofs.NodeLaws.{same_at}
-use Rattle.rope_tree.proofs.RowLaws.{next_siblings}
-use Rattle.rope_tree.proofs.node.Children.push_all.Goals as goal
-
-pub push-requires-clause-siblings : goal.push-requires-clause-siblings
-push-requires-clause-siblings c =
-    next_siblings c.args.self.now c.args.nodes.now c.loop-node.node-index c.in_ok-share.field-0 c.loop-node.self c.requires.siblings c.loop-node-test.true
-    (same_at c.args.nodes.now c.loop-node.node-index c.node-item.result c.in_ok-share.field-0 c.node-item.is c.in_ok-share.ensures) c.loop-node.invariant.list

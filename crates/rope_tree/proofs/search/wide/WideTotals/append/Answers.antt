@@ -1,0 +1,39 @@
+use Rattle.std.proofs.Common.{refl, arith}
+use Rattle.rope_tree.proofs.WideKept.{many, longer, kept_totals, moved_totals, all_there}
+use Rattle.rope_tree.proofs.search.wide.WideTotals.append.Goals as goal
+
+pub put_row-requires-clause-room : goal.put_row-requires-clause-room
+put_row-requires-clause-room c = omega (arith, c.requires.room, c.self.invariant.bytes, many c.self.inside c.args.self.now c.self.view_is)
+
+pub put_row-requires-clause-within : goal.put_row-requires-clause-within
+put_row-requires-clause-within c = omega (arith, c.requires.within, c.others.invariant.bytes, c.others.invariant.few, many c.others.inside c.args.others.now c.others.view_is)
+
+pub put_row-requires-2-clause-room : goal.put_row-requires-2-clause-room
+put_row-requires-2-clause-room c = omega (arith, c.requires.room, c.self.invariant.chars, many c.self.inside c.args.self.now c.self.view_is)
+
+pub put_row-requires-2-clause-within : goal.put_row-requires-2-clause-within
+put_row-requires-2-clause-within c = omega (arith, c.requires.within, c.others.invariant.chars, c.others.invariant.few, many c.others.inside c.args.others.now c.others.view_is)
+
+pub put_row-requires-3-clause-room : goal.put_row-requires-3-clause-room
+put_row-requires-3-clause-room c = omega (arith, c.requires.room, c.self.invariant.pairs, many c.self.inside c.args.self.now c.self.view_is)
+
+pub put_row-requires-3-clause-within : goal.put_row-requires-3-clause-within
+put_row-requires-3-clause-within c = omega (arith, c.requires.within, c.others.invariant.pairs, c.others.invariant.few, many c.others.inside c.args.others.now c.others.view_is)
+
+pub put_row-requires-4-clause-room : goal.put_row-requires-4-clause-room
+put_row-requires-4-clause-room c = omega (arith, c.requires.room, c.self.invariant.breaks, many c.self.inside c.args.self.now c.self.view_is)
+
+pub put_row-requires-4-clause-within : goal.put_row-requires-4-clause-within
+put_row-requires-4-clause-within c = omega (arith, c.requires.within, c.others.invariant.breaks, c.others.invariant.few, many c.others.inside c.args.others.now c.others.view_is)
+
+pub invariant_of-self : goal.invariant_of-self
+invariant_of-self c = all_there c.self.inside c.others.inside _ c.args.self.now c.args.others.now c.args.from c.args.count c.self.invariant c.self.view_is c.others.invariant c.others.view_is c.requires.within c.requires.room refl c.put_row.ensures c.put_row-2.ensures c.put_row-3.ensures c.put_row-4.ensures
+
+pub returns-clause-len : goal.returns-clause-len
+returns-clause-len c = longer c.self.inside c.others.inside _ c.args.self.now c.args.others.now c.args.from c.args.count c.self.invariant c.self.view_is c.others.invariant c.others.view_is c.requires.within c.requires.room refl c.put_row.ensures c.put_row-2.ensures c.put_row-3.ensures c.put_row-4.ensures
+
+pub returns-clause-before : goal.returns-clause-before
+returns-clause-before c = λ j d lt. kept_totals c.self.inside c.others.inside _ c.args.self.now c.args.others.now c.args.from c.args.count c.self.invariant c.self.view_is c.others.invariant c.others.view_is c.requires.within c.requires.room refl c.put_row.ensures c.put_row-2.ensures c.put_row-3.ensures c.put_row-4.ensures j d lt
+
+pub returns-clause-behind : goal.returns-clause-behind
+returns-clause-behind c = λ j d lt. moved_totals c.self.inside c.others.inside _ c.args.self.now c.args.others.now c.args.from c.args.count c.self.invariant c.self.view_is c.others.invariant c.others.view_is c.requires.within c.requires.room refl c.put_row.ensures c.put_row-2.ensures c.put_row-3.ensures c.put_row-4.ensures j d lt

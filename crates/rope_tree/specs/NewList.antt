@@ -1,0 +1,17 @@
+-- What holds of a list of children that is being made.
+use Rattle.std.specs.Prelude.{◌≡◌, List, length, take, drop}
+use Rattle.std.specs.List.{All}
+use Rattle.rope_tree.specs.Tree.{Tree, breaks_of}
+use Rattle.rope_tree.specs.Totals.{HasTotals}
+use Rattle.rope_tree.specs.Flat.{IsFlat}
+use Rattle.rope_tree.specs.declared.node.row.NewList.{NewList}
+
+-- the nodes that have totals
+abbrev pub nodes_in : NewList → List Tree
+nodes_in a = take (length a.totals) a.nodes
+
+-- the totals are those of these nodes, and behind them stand empty ones
+pub record IsNewList (a : NewList) : Type 0 where
+  pub room : length a.nodes ≡ 24
+  pub totals_right : HasTotals (breaks_of (nodes_in a)) a.totals (nodes_in a)
+  pub places : All IsFlat (drop (length a.totals) a.nodes)
