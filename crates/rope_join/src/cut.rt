@@ -7,6 +7,7 @@ use crate::join::{join_before, join_behind};
 use rope_text::{LineBreaks, Steps};
 use rope_tree::insert::leaf_of;
 use rope_tree::lookup::total_before;
+use rope_tree::node::row::Row;
 use rope_tree::node::{Node, View};
 use rope_tree::node_text::NodeText;
 use rope_tree::search::{Unit, place_of};
@@ -70,7 +71,12 @@ pub fn front(alloc: Global, node: &Node, at: usize, made: &mut u64) -> Result<No
             if place == 0 {
                 return Ok(part);
             }
-            Ok(join_behind(alloc, &children[..place], &part, made)?)
+            let before = Row {
+                nodes: &children[..place],
+                totals: Some(totals),
+                from: 0,
+            };
+            Ok(join_behind(alloc, before, &part, made)?)
         }
     }
 }
@@ -95,7 +101,11 @@ pub fn back(alloc: Global, node: &Node, at: usize, made: &mut u64) -> Result<Nod
             if place + 1 == children.len() {
                 return Ok(part);
             }
-            let after = &children[place + 1..];
+            let after = Row {
+                nodes: &children[place + 1..],
+                totals: Some(totals),
+                from: place + 1,
+            };
             Ok(join_before(alloc, &part, after, made)?)
         }
     }

@@ -5,11 +5,12 @@ ghost use Rattle.rope_text.specs.Dense.{IsDenseBehind, last_bytes};
 ghost use Rattle.rope_tree.specs.Tree.{height_of, breaks_of};
 ghost use Rattle.rope_tree.specs.View.{trees_in};
 ghost use Rattle.rope_tree.specs.Siblings.{AreSiblings};
+ghost use Rattle.rope_tree.specs.Rows.{IsRow};
 ghost use Rattle.rope_join.specs.Join.{CanJoin, IsNear, IsUnion, IsJoin, gathered};
 
 use crate::near::is_near;
 use rope_text::{MAX_BYTES, MAX_CHILDREN, MIN_BYTES, MIN_CHILDREN};
-use rope_tree::node::row::{make_over, pack, pack_over};
+use rope_tree::node::row::{Row, node_over, pack, pack_over};
 use rope_tree::node::{Node, Nodes, View, make_leaf};
 use rope_tree::node_text::NodeText;
 use rope_tree::short_text::ShortText;
@@ -69,8 +70,8 @@ fn merge(alloc: Global, left: &Node, right: &Node, made: &mut u64) -> Result<Nod
             }
             Ok(keep(left, right)?)
         }
-        View::Inner(first, _) => {
-            let View::Inner(second, _) = right.view() else {
+        View::Inner(first, first_totals) => {
+            let View::Inner(second, second_totals) = right.view() else {
                 unreachable!()
             };
             if first.len() >= MIN_CHILDREN
@@ -79,7 +80,17 @@ fn merge(alloc: Global, left: &Node, right: &Node, made: &mut u64) -> Result<Nod
             {
                 return Ok(keep(left, right)?);
             }
-            Ok(pack_over(alloc, &[], first, second, made)?)
+            let before = Row {
+                nodes: first,
+                totals: Some(first_totals),
+                from: 0,
+            };
+            let after = Row {
+                nodes: second,
+                totals: Some(second_totals),
+                from: 0,
+            };
+            Ok(pack_over(alloc, before, &[], after, made)?)
         }
     }
 }
@@ -97,32 +108,62 @@ fn unite(alloc: Global, left: &Node, right: &Node, made: &mut u64) -> Result<Nod
     let left_height = left.height();
     let right_height = right.height();
     if right_height < left_height {
-        let View::Inner(children, _) = left.view() else {
+        let View::Inner(children, totals) = left.view() else {
             unreachable!()
         };
         let last = children.len() - 1;
         let middle = unite(alloc, &children[last], right, made)?;
-        return Ok(pack(alloc, &children[..last], middle, &[], made)?);
+        let before = Row {
+            nodes: &children[..last],
+            totals: Some(totals),
+            from: 0,
+        };
+        let none = Row {
+            nodes: &[],
+            totals: None,
+            from: 0,
+        };
+        return Ok(pack(alloc, before, middle, none, made)?);
     }
     if left_height < right_height {
-        let View::Inner(children, _) = right.view() else {
+        let View::Inner(children, totals) = right.view() else {
             unreachable!()
         };
         let middle = unite(alloc, left, &children[0], made)?;
-        return Ok(pack(alloc, &[], middle, &children[1..], made)?);
+        let after = Row {
+            nodes: &children[1..],
+            totals: Some(totals),
+            from: 1,
+        };
+        let none = Row {
+            nodes: &[],
+            totals: None,
+            from: 0,
+        };
+        return Ok(pack(alloc, none, middle, after, made)?);
     }
     if left_height == 0 || is_near(left, right) {
         return Ok(merge(alloc, left, right, made)?);
     }
-    let View::Inner(before, _) = left.view() else {
+    let View::Inner(before, before_totals) = left.view() else {
         unreachable!()
     };
-    let View::Inner(after, _) = right.view() else {
+    let View::Inner(after, after_totals) = right.view() else {
         unreachable!()
     };
     let end = before.len() - 1;
     let meeting = unite(alloc, &before[end], &after[0], made)?;
-    Ok(pack(alloc, &before[..end], meeting, &after[1..], made)?)
+    let front = Row {
+        nodes: &before[..end],
+        totals: Some(before_totals),
+        from: 0,
+    };
+    let back = Row {
+        nodes: &after[1..],
+        totals: Some(after_totals),
+        from: 1,
+    };
+    Ok(pack(alloc, front, meeting, back, made)?)
 }
 
 /// The text of the one tree and then that of the other as one tree, at most one level higher than the higher of them. No
@@ -143,7 +184,7 @@ pub fn join(alloc: Global, left: &Node, right: &Node, made: &mut u64) -> Result<
     }
     match unite(alloc, left, right, made)? {
         Nodes::One(node) => Ok(node),
-        Nodes::Two(first, second) => { Ok(make_over(alloc, &[], &[first, second], &[], made)?) }
+        Nodes::Two(first, second) => { Ok(node_over(alloc, &[first, second], made)?) }
     }
 }
 
@@ -151,29 +192,40 @@ pub fn join(alloc: Global, left: &Node, right: &Node, made: &mut u64) -> Result<
 /// node over them, which isn't made.
 pub fn join_behind(
     alloc: Global,
-    nodes: &[Node],
+    row: Row<'_>,
     right: &Node,
     made: &mut u64,
 ) -> Result<Node, AllocError>
-    requires siblings { AreSiblings (breaks_of nodes.now) (height_of nodes.now) nodes.now }
-    requires some { 1 ≤ length nodes.now }
-    requires at_most_24 { length nodes.now ≤ 24 }
+    requires row { IsRow row }
+    requires siblings { AreSiblings (breaks_of row.nodes.now) (height_of row.nodes.now) row.nodes.now }
+    requires some { 1 ≤ length row.nodes.now }
+    requires at_most_24 { length row.nodes.now ≤ 24 }
     requires right_some { 1 ≤ length right.now.leaves }
-    requires no_higher { right.now.height ≤ height_of nodes.now }
-    requires join { CanJoin (gathered nodes.now) right.now }
-    requires near { IsNear (gathered nodes.now) right.now }
-    ensures join { IfOk result (λ node. IsJoin (gathered nodes.now) right.now node) }
+    requires no_higher { right.now.height ≤ height_of row.nodes.now }
+    requires join { CanJoin (gathered row.nodes.now) right.now }
+    requires near { IsNear (gathered row.nodes.now) right.now }
+    ensures join { IfOk result (λ node. IsJoin (gathered row.entry.nodes.now) right.now node) }
     ensures made_ok { IfOk result (λ node. made.new + 2 * right.now.height ≤ made.old + 2 * node.height + 3) }
-    ensures made { made.new ≤ made.old + 2 * (height_of nodes.now - right.now.height) + 5 }
+    ensures made { made.new ≤ made.old + 2 * (height_of row.entry.nodes.now - right.now.height) + 5 }
 {
+    let nodes = row.nodes;
     let last = nodes.len() - 1;
     if last == 0 {
         return Ok(join(alloc, &nodes[0], right, made)?);
     }
     let middle = unite(alloc, &nodes[last], right, made)?;
-    match pack(alloc, &nodes[..last], middle, &[], made)? {
+    let before = Row {
+        nodes: &nodes[..last],
+        ..row
+    };
+    let none = Row {
+        nodes: &[],
+        totals: None,
+        from: 0,
+    };
+    match pack(alloc, before, middle, none, made)? {
         Nodes::One(node) => Ok(node),
-        Nodes::Two(first, second) => Ok(make_over(alloc, &[], &[first, second], &[], made)?),
+        Nodes::Two(first, second) => Ok(node_over(alloc, &[first, second], made)?),
     }
 }
 
@@ -181,26 +233,38 @@ pub fn join_behind(
 pub fn join_before(
     alloc: Global,
     left: &Node,
-    nodes: &[Node],
+    row: Row<'_>,
     made: &mut u64,
 ) -> Result<Node, AllocError>
-    requires siblings { AreSiblings (breaks_of nodes.now) (height_of nodes.now) nodes.now }
-    requires some { 1 ≤ length nodes.now }
-    requires at_most_24 { length nodes.now ≤ 24 }
+    requires row { IsRow row }
+    requires siblings { AreSiblings (breaks_of row.nodes.now) (height_of row.nodes.now) row.nodes.now }
+    requires some { 1 ≤ length row.nodes.now }
+    requires at_most_24 { length row.nodes.now ≤ 24 }
     requires left_some { 1 ≤ length left.now.leaves }
-    requires no_higher { left.now.height ≤ height_of nodes.now }
-    requires join { CanJoin left.now (gathered nodes.now) }
-    requires near { IsNear left.now (gathered nodes.now) }
-    ensures join { IfOk result (λ node. IsJoin left.now (gathered nodes.now) node) }
+    requires no_higher { left.now.height ≤ height_of row.nodes.now }
+    requires join { CanJoin left.now (gathered row.nodes.now) }
+    requires near { IsNear left.now (gathered row.nodes.now) }
+    ensures join { IfOk result (λ node. IsJoin left.now (gathered row.entry.nodes.now) node) }
     ensures made_ok { IfOk result (λ node. made.new + 2 * left.now.height ≤ made.old + 2 * node.height + 3) }
-    ensures made { made.new ≤ made.old + 2 * (height_of nodes.now - left.now.height) + 5 }
+    ensures made { made.new ≤ made.old + 2 * (height_of row.entry.nodes.now - left.now.height) + 5 }
 {
+    let nodes = row.nodes;
     if nodes.len() == 1 {
         return Ok(join(alloc, left, &nodes[0], made)?);
     }
     let middle = unite(alloc, left, &nodes[0], made)?;
-    match pack(alloc, &[], middle, &nodes[1..], made)? {
+    let after = Row {
+        nodes: &nodes[1..],
+        from: row.from.saturating_add(1),
+        ..row
+    };
+    let none = Row {
+        nodes: &[],
+        totals: None,
+        from: 0,
+    };
+    match pack(alloc, none, middle, after, made)? {
         Nodes::One(node) => Ok(node),
-        Nodes::Two(first, second) => Ok(make_over(alloc, &[], &[first, second], &[], made)?),
+        Nodes::Two(first, second) => Ok(node_over(alloc, &[first, second], made)?),
     }
 }

@@ -42,6 +42,21 @@ module _ (ts : List Tree) (totals : List TextInfo) (from : ℕ) (p : IsPart ts t
   pub part_within : from + length ts ≤ length p.whole
   part_within = omega (arith, p.within, ap length p.is, length-take (length ts) (drop from p.whole), length-drop from p.whole)
 
+  -- the first of them
+  pub part_first : (m : ℕ) → IsPart (take m ts) totals from
+  part_first m = record {
+    whole = p.whole;
+    children = p.children;
+    totals_right = p.totals_right;
+    within = p.within;
+    is = elim (cases_lt (length ts) m) [
+      | inl past ↦ let all = take_all m ts (omega arith) in rw all p.is
+      | inr near ↦
+          let n : length (take m ts) ≡ m = omega (arith, near, length-take m ts) in
+          ap (take m) p.is ∙ take-take m (length ts) (drop from p.whole) (omega (arith, near)) ∙ ap (λ l. take l (drop from p.whole)) (sym n)
+    ];
+  }
+
   -- what follows the first of them
   pub part_rest : (m k : ℕ) → k ≡ min m (length ts) → IsPart (drop m ts) totals (from + k)
   part_rest m k e = elim (cases_lt (length ts) m) [

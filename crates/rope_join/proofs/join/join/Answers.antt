@@ -10,15 +10,15 @@ pub returns-then-info-eq0-2-clause-join : goal.returns-then-info-eq0-2-clause-jo
 returns-then-info-eq0-2-clause-join c =
     join_empty_left c.args.left.now c.args.right.now _ c.height.ensures.tree c.height-2.ensures.tree (omega (arith, ap (λ x. x.bytes) c.info-2.ensures)) c.requires c.in_ok-share-2.ensures
 
-pub make_over-requires : goal.make_over-requires
-make_over-requires c =
+pub node_over-requires : goal.node_over-requires
+node_over-requires c =
     let u = rw c.in-Two.is at c.in_ok-node.ensures.union in
     root_children c.args.left.now c.args.right.now _ _ u c.requires
 
 pub returns-in-One-clause-join : goal.returns-in-One-clause-join
 returns-in-One-clause-join c = join_one _ _ _ (rw c.in-One.is at c.in_ok-node.ensures.union)
 
-pub returns-in_ok-make_over-in-Two-clause-join : goal.returns-in_ok-make_over-in-Two-clause-join
-returns-in_ok-make_over-in-Two-clause-join c =
+pub returns-in_ok-node_over-in-Two-clause-join : goal.returns-in_ok-node_over-in-Two-clause-join
+returns-in_ok-node_over-in-Two-clause-join c =
     let u = rw c.in-Two.is at c.in_ok-node.ensures.union in
-    join_two c.args.left.now c.args.right.now _ _ u c.requires _ c.in_ok-make_over-in-Two.ensures.ok
+    join_two c.args.left.now c.args.right.now _ _ u c.requires _ c.in_ok-node_over-in-Two.ensures.ok
