@@ -1,7 +1,10 @@
 -- A comparison under way.
-use Rattle.std.proofs.Common.{IsTrue, ◌↔◌, Ordering, Less, Equal, Greater, ◌==◌, Bool, true, false, not, nat_eq, refl, ◌≡◌, ℕ, List, [], ◌++◌, length, sym, ap, ◌∙◌, arith, length-append}
-use Rattle.std.proofs.lemmas.List.{append_cancel_left}
-use Rattle.std.proofs.lemmas.Str.{encodes_same}
+use Rattle.std.proofs.Common.{IsTrue, ◌↔◌, Ordering, Less, Equal, Greater, ◌==◌, Bool, true, false, not, nat_eq, refl, ◌≡◌, ℕ, List, [], ◌++◌, length, sym, ap, ap₂, ◌∙◌, ◌+◌, ◌≤◌, arith, length-append, append_assoc}
+use Rattle.std.proofs.lemmas.List.{append_cancel_left, append-nil, drop_all}
+use Rattle.std.proofs.lemmas.List.Folds.{drop_split}
+use Rattle.std.specs.List.{slice_range}
+use Rattle.rope_text.specs.Text.{byte_len}
+use Rattle.std.proofs.lemmas.Str.{encodes_same, encodes-append}
 use Rattle.std.specs.Str.{encode_utf8_all}
 use lib.Pointwise.{pointwise, bytes_decides}
 use Rattle.std.specs.Cmp.Lexicographic.{slice_cmp}
@@ -29,6 +32,21 @@ passed a b rest ahead front back bytes next m e f same = record {
   back = λ g. m.back (e ∙ ap (λ x. x ++ back) same ∙ ap (λ x. bytes ++ x) g ∙ sym f);
   size = omega (arith, ap length e, ap length f, ap length same, m.size, length-append front back, length-append bytes next);
 }
+
+-- texts whose fronts are the same are the same exactly if what follows them is
+module _ (x x_rest y y_rest front back other other_back next_x next_y : List ℕ) (cut_x : x ≡ front ++ back) (cut_y : y ≡ other ++ other_back) (same : front ≡ other)
+    (on_x : next_x ≡ back ++ x_rest) (on_y : next_y ≡ other_back ++ y_rest) where
+  whole_x : x ++ x_rest ≡ front ++ next_x
+  whole_x = ap (λ z. z ++ x_rest) cut_x ∙ append_assoc front back x_rest ∙ ap (λ z. front ++ z) (sym on_x)
+
+  whole_y : y ++ y_rest ≡ other ++ next_y
+  whole_y = ap (λ z. z ++ y_rest) cut_y ∙ append_assoc other other_back y_rest ∙ ap (λ z. other ++ z) (sym on_y)
+
+  pub fronts_passed : (x ++ x_rest ≡ y ++ y_rest) ↔ (next_x ≡ next_y)
+  fronts_passed = (
+    λ e. behind front other next_x next_y same (sym whole_x ∙ e ∙ whole_y),
+    λ e. whole_x ∙ ap (λ z. front ++ z) e ∙ ap (λ z. z ++ next_y) same ∙ sym whole_y,
+  )
 
 -- what a test of two texts says
 of_not_false : (b : Bool) → false ≡ not b → b ≡ true
@@ -63,3 +81,45 @@ pub bytes_tell : (s t : List ℕ) → IsTrue (pointwise nat_eq (encode_utf8_all 
 bytes_tell s t =
     let bytes = bytes_decides (encode_utf8_all s) (encode_utf8_all t) in
     (λ h. encodes_same s t (bytes.0 h), λ e. bytes.1 (ap encode_utf8_all e))
+
+-- what says whether the bytes of two texts are the same says it of the texts
+pub texts_same : (r : Bool) (s t left right : List ℕ) → left ≡ encode_utf8_all s → right ≡ encode_utf8_all t → IsTrue r ↔ (left ≡ right) → IsTrue r ↔ (s ≡ t)
+texts_same r s t left right e f same = (
+  λ h. encodes_same s t (sym e ∙ same.0 h ∙ f),
+  λ g. same.1 (e ∙ ap encode_utf8_all g ∙ sym f),
+)
+
+-- two texts that are cut after so many characters
+module _ (s t s₁ s₂ t₁ t₂ : List ℕ) (half size : ℕ) (within : half ≤ size) (long_s : size ≡ length s) (long_t : size ≡ length t)
+    (first_s : s₁ ≡ slice_range s 0 half) (second_s : s₂ ≡ slice_range s half size) (first_t : t₁ ≡ slice_range t 0 half) (second_t : t₂ ≡ slice_range t half size) where
+  in_halves : (u u₁ u₂ : List ℕ) → size ≡ length u → u₁ ≡ slice_range u 0 half → u₂ ≡ slice_range u half size → u ≡ u₁ ++ u₂
+  in_halves u u₁ u₂ long first second =
+      drop_split u 0 half (omega arith) ∙ ap₂ (λ a b. a ++ b) (sym first) (
+      drop_split u half size within ∙ ap (λ z. slice_range u half size ++ z) (drop_all size u (omega (arith, long))) ∙ append-nil (slice_range u half size) ∙ sym second
+      )
+
+  whole_s : s ≡ s₁ ++ s₂
+  whole_s = in_halves s s₁ s₂ long_s first_s second_s
+
+  whole_t : t ≡ t₁ ++ t₂
+  whole_t = in_halves t t₁ t₂ long_t first_t second_t
+
+  bytes_of_halves : (u u₁ u₂ : List ℕ) → u ≡ u₁ ++ u₂ → byte_len u ≡ byte_len u₁ + byte_len u₂
+  bytes_of_halves u u₁ u₂ e = ap byte_len e ∙ ap length (encodes-append u₁ u₂) ∙ length-append (encode_utf8_all u₁) (encode_utf8_all u₂)
+
+  -- as many bytes of both texts and of their first halves leave as many
+  pub second_bytes : byte_len s ≡ byte_len t → byte_len s₁ ≡ byte_len t₁ → byte_len s₂ ≡ byte_len t₂
+  second_bytes e f = omega (arith, e, f, bytes_of_halves s s₁ s₂ whole_s, bytes_of_halves t t₁ t₂ whole_t)
+
+  -- they are the same exactly if both halves are
+  pub same_by_halves : (r : Bool) (a b c d : List ℕ) → a ≡ encode_utf8_all s₁ → b ≡ encode_utf8_all t₁ → c ≡ encode_utf8_all s₂ → d ≡ encode_utf8_all t₂
+      → IsTrue r ↔ ((a ≡ b) × (c ≡ d)) → IsTrue r ↔ (s ≡ t)
+  same_by_halves r a b c d e f g h same = (
+    λ yes.
+        let both = same.0 yes in
+        whole_s ∙ ap₂ (λ x y. x ++ y) (encodes_same s₁ t₁ (sym e ∙ both.0 ∙ f)) (encodes_same s₂ t₂ (sym g ∙ both.1 ∙ h)) ∙ sym whole_t,
+    λ eq.
+        let first : s₁ ≡ t₁ = first_s ∙ ap (λ u. slice_range u 0 half) eq ∙ sym first_t in
+        let second : s₂ ≡ t₂ = second_s ∙ ap (λ u. slice_range u half size) eq ∙ sym second_t in
+        same.1 (e ∙ ap encode_utf8_all first ∙ sym f, g ∙ ap encode_utf8_all second ∙ sym h),
+  )

@@ -3,5 +3,7 @@
 
 pub mod hashing;
 pub mod order;
+mod pair;
 mod pieces;
+mod same_bytes;
 pub mod text_out;

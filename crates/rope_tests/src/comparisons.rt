@@ -197,3 +197,54 @@ fn random_texts(rt: HostRuntime) -> Result<(), Fail> {
     }
     Ok(())
 }
+
+/// The same text in other leaves.
+fn shifted(alloc: Global, text: &str) -> Result<Rope, Fail> {
+    let mut rope = Rope::from_str(alloc, text)?;
+    shift_by_one(&mut rope)?;
+    rope.try_remove(0..1)?;
+    Ok(rope)
+}
+
+fn has_order(rt: &impl Abort, rope: &Rope, other: &Rope, order: Ordering) {
+    assert!(rt; (*rope == *other) == (order == Ordering::Equal));
+    assert!(rt; rope.cmp(other) == order && other.cmp(rope) == order.reverse());
+}
+
+/// The rope, and another of its text, before and after a greater character of one byte stands at a place.
+fn compare_with_greater_at(
+    rt: &impl Abort,
+    rope: &Rope,
+    other: &mut Rope,
+    place: usize,
+) -> Result<(), Fail> {
+    has_order(rt, rope, other, Ordering::Equal);
+    other.try_insert_char(place, 'b')?;
+    other.try_remove(place + 1..place + 2)?;
+    has_order(rt, rope, other, Ordering::Less);
+    Ok(())
+}
+
+/// Texts of as many bytes and characters, of which one has its longest character in the other half; and of as many bytes.
+fn compare_halves(rt: &impl Abort, alloc: Global) -> Result<(), Fail> {
+    let mut early = padded_rope(alloc, 400_000, "b")?;
+    let mut late = padded_rope(alloc, 400_000, "b")?;
+    early.try_insert_char(100_000, 'こ')?;
+    late.try_insert_char(300_000, 'こ')?;
+    let narrow = padded_rope(alloc, 400_003, "b")?;
+    assert!(rt; early.len_bytes() == late.len_bytes() && early != late);
+    assert!(rt; early.len_bytes() == narrow.len_bytes() && early != narrow);
+    Ok(())
+}
+
+#[test]
+fn long_texts(rt: HostRuntime) -> Result<(), Fail> {
+    let alloc = rt.alloc();
+    let text = repeated(alloc, "aéこ", 60_000)?;
+    let rope = Rope::from_str(alloc, text.as_str())?;
+    for place in [0, 45_000, 89_997, 90_000, 90_003, 135_000, 179_997] {
+        let mut other = shifted(alloc, text.as_str())?;
+        compare_with_greater_at(&rt, &rope, &mut other, place)?;
+    }
+    compare_halves(&rt, alloc)
+}
