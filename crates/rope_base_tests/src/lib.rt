@@ -8,6 +8,8 @@ mod builder;
 #[cfg(test)]
 mod crlf;
 #[cfg(test)]
+mod nearer_end;
+#[cfg(test)]
 mod node_text;
 #[cfg(test)]
 mod range;

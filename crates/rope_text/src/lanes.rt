@@ -356,6 +356,21 @@ pub(crate) fn count_begins_before(bytes: &[u8], to: usize) -> usize
     total + begins_between(bytes, i, to)
 }
 
+/// How many characters begin at the byte `from` or behind it.
+#[tactic(auto, using(crate::proofs::Blocks::begins_le))]
+pub(crate) fn count_begins_from(bytes: &[u8], from: usize) -> usize
+    requires { from ≤ length bytes.now }
+    ensures { result ≡ count_by begins_char (drop from bytes.now) }
+{
+    let mut total = 0;
+    let mut i = from;
+    while bytes.len() - i >= 32 {
+        total += chars_in(bytes, i);
+        i += 32;
+    }
+    total + begins_between(bytes, i, bytes.len())
+}
+
 /// How many of the bytes begin a character.
 pub(crate) fn count_begins(bytes: &[u8]) -> usize
     ensures { result ≡ count_by begins_char bytes.now }

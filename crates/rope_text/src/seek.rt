@@ -53,17 +53,41 @@ fn skip_chars(bytes: &[u8], n: usize) -> (usize, usize)
     (at, left)
 }
 
-/// The byte at which the character `n` begins.
-pub(crate) fn place_of_char(bytes: &[u8], n: usize) -> usize
+// The same from the end, where it is known how many characters there are: the last pair of blocks that begins at or before the
+// character `n`, or the start, and which character it is from there on.
+#[inline(always)]
+fn skip_chars_back(bytes: &[u8], n: usize, chars: usize) -> (usize, usize)
+    requires within { n ≤ chars }
+    requires chars { chars ≡ count_by begins_char bytes.now }
+    ensures bound { result.0 ≤ length bytes.now }
+    ensures counted { count_by begins_char bytes.now + result.1 ≡ n + count_by begins_char (drop result.0 bytes.now) }
+{
+    let mut at = bytes.len();
+    // The characters from `n` on that begin before `at`.
+    let mut left = chars - n;
+    while at >= 64 {
+        let passed = chars_in_two(bytes, at - 64);
+        if left <= passed {
+            return (at - 64, passed - left);
+        }
+        left -= passed;
+        at -= 64;
+    }
+    (0, n)
+}
+
+// The byte at which the character `n` begins, the characters counted from the byte `from` on.
+#[inline(always)]
+fn find_char_from(bytes: &[u8], from: usize, n: usize) -> usize
+    requires { from ≤ length bytes.now }
     ensures bound { result ≤ length bytes.now }
     ensures inside { result < length bytes.now
-        → (count_by begins_char bytes.now ≡ n + count_by begins_char (drop result bytes.now))
+        → (count_by begins_char (drop from bytes.now) ≡ n + count_by begins_char (drop result bytes.now))
         × IsTrue (begins_char (slice_index bytes.now result)) }
-    ensures end { result ≡ length bytes.now → count_by begins_char bytes.now ≤ n }
+    ensures end { result ≡ length bytes.now → count_by begins_char (drop from bytes.now) ≤ n }
 {
-    let (from, more) = skip_chars(bytes, n);
     let mut at = from;
-    let mut left = more;
+    let mut left = n;
     while bytes.len() - at >= 32 {
         let mask = char_mask(bytes, at);
         let passed = ones_before(mask, 32);
@@ -74,6 +98,38 @@ pub(crate) fn place_of_char(bytes: &[u8], n: usize) -> usize
         at += 32;
     }
     find_char(bytes, at, left)
+}
+
+/// The byte at which the character `n` begins.
+pub(crate) fn place_of_char(bytes: &[u8], n: usize) -> usize
+    ensures bound { result ≤ length bytes.now }
+    ensures inside { result < length bytes.now
+        → (count_by begins_char bytes.now ≡ n + count_by begins_char (drop result bytes.now))
+        × IsTrue (begins_char (slice_index bytes.now result)) }
+    ensures end { result ≡ length bytes.now → count_by begins_char bytes.now ≤ n }
+{
+    let (from, left) = skip_chars(bytes, n);
+    find_char_from(bytes, from, left)
+}
+
+/// The same, where it is known how many characters there are: the side of it that has fewer of them is gone over.
+pub(crate) fn place_of_char_of(bytes: &[u8], n: usize, chars: usize) -> usize
+    requires { chars ≡ count_by begins_char bytes.now }
+    ensures bound { result ≤ length bytes.now }
+    ensures inside { result < length bytes.now
+        → (count_by begins_char bytes.now ≡ n + count_by begins_char (drop result bytes.now))
+        × IsTrue (begins_char (slice_index bytes.now result)) }
+    ensures end { result ≡ length bytes.now → count_by begins_char bytes.now ≤ n }
+{
+    if n >= chars {
+        return bytes.len();
+    }
+    let (from, left) = if n <= chars / 2 {
+        skip_chars(bytes, n)
+    } else {
+        skip_chars_back(bytes, n, chars)
+    };
+    find_char_from(bytes, from, left)
 }
 
 // The blocks before the character `n`: their end, which character it is from there on, and the breaks in them.

@@ -1,5 +1,5 @@
--- Short texts that are known to have as many bytes as characters.
-use Rattle.std.proofs.Common.{◌≡◌, ℕ, true, List, length, ap, sym, subst, ◌∙◌}
+-- Short texts that are known to have as many bytes as characters, or fewer.
+use Rattle.std.proofs.Common.{◌≡◌, ℕ, List, length, ap, sym, ◌∙◌, arith}
 use Rattle.std.specs.Str.{chars}
 use Rattle.std.proofs.lemmas.Str.{IsUtf8-from_is_utf8}
 use Rattle.rope_text.specs.Text.{byte_len}
@@ -7,9 +7,9 @@ use Rattle.rope_text.proofs.Walks.{byte_len-chars}
 use Rattle.rope_tree.specs.Short.{IsShort}
 use Rattle.rope_tree.specs.declared.short_text.ShortText.TheInside.{Inside}
 
-module _ (s : Inside) (cs : List ℕ) (i : IsShort s) (view : chars s.text.now ≡ cs) (yes : s.is_narrow ≡ true) where
-  pub narrow : byte_len cs ≡ length cs
-  narrow = subst (λ l. byte_len l ≡ length l) view (i.narrow yes)
-
+module _ (s : Inside) (cs : List ℕ) (i : IsShort s) (view : chars s.text.now ≡ cs) (yes : s.count ≡ length s.text.now) where
   pub as_many : length s.text.now ≡ length cs
-  as_many = sym (byte_len-chars s.text.now (IsUtf8-from_is_utf8 s.text.now i.utf8)) ∙ ap byte_len view ∙ narrow
+  as_many = sym yes ∙ i.counted (omega arith) ∙ ap length view
+
+  pub narrow : byte_len cs ≡ length cs
+  narrow = ap byte_len (sym view) ∙ byte_len-chars s.text.now (IsUtf8-from_is_utf8 s.text.now i.utf8) ∙ as_many

@@ -127,9 +127,10 @@ impl Leaf {
         if self.text.len() + added.len() <= MAX_BYTES {
             return Ok(None);
         }
-        let old = ShortText::new(self.text.as_str());
+        let info = self.summary.info();
+        let old = ShortText::with_chars(self.text.as_str(), info.chars);
         let breaks = self.summary.line_breaks();
-        let info = info_with(self.summary.info(), &old, at, added, breaks);
+        let info = info_with(info, &old, at, added, breaks);
         let mut front = NodeText::from_str(old.as_str());
         let back = front.insert_str_split(at, added.as_str());
         let front_info = TextInfo::from_str(front.as_str(), breaks);

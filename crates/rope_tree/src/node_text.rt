@@ -11,7 +11,7 @@ use crate::leaf_bytes::{LeafBytes, append_bytes, put_bytes, take_bytes};
 use arrayvec::{ArrayString, ArrayVec};
 use rope_text::MAX_BYTES;
 use rope_text::crlf::{next_break, prev_break};
-use rope_text::str_utils::{char_to_byte_idx, count_chars};
+use rope_text::str_utils::{char_to_byte_idx, char_to_byte_idx_of, count_chars};
 use std::marker::Model;
 use std::str;
 
@@ -163,7 +163,7 @@ impl NodeText {
         if chars == bytes {
             return at;
         }
-        char_to_byte_idx(text, at)
+        char_to_byte_idx_of(text, chars, at)
     }
 
     /// The bytes that the characters from `start` up to `end` take, where the text is known to have `chars` characters: where
@@ -179,7 +179,7 @@ impl NodeText {
     {
         let text = self.as_str();
         if chars < text.len() {
-            return self.range_of_bytes(start, end);
+            return self.range_of_bytes(start, end, chars);
         }
         ByteRange {
             from: start.min(chars),
@@ -188,8 +188,9 @@ impl NodeText {
     }
 
     // The same, from the text's bytes.
-    fn range_of_bytes(&self, start: usize, end: usize) -> ByteRange
-        requires { start ≤ end }
+    fn range_of_bytes(&self, start: usize, end: usize, chars: usize) -> ByteRange
+        requires ordered { start ≤ end }
+        requires chars { chars ≡ length self.now }
         ensures from { result.from ≡ byte_len (take start self.now) }
         ensures to { result.to ≡ byte_len (take end self.now) }
         ensures ordered { result.from ≤ result.to }
@@ -197,8 +198,9 @@ impl NodeText {
         ensures to_boundary { IsCharBoundary (encode_utf8_all self.now) result.to }
     {
         let text = self.as_str();
-        let from = char_to_byte_idx(text, start);
-        let to = from + char_to_byte_idx(&text[from..], end - start);
+        let from = char_to_byte_idx_of(text, chars, start);
+        let rest = chars.saturating_sub(start);
+        let to = from + char_to_byte_idx_of(&text[from..], rest, end - start);
         ByteRange { from, to }
     }
 

@@ -10,12 +10,17 @@ use std::marker::Model;
 /// A text of at most `MAX_BYTES` bytes that lies elsewhere, seen as the list of its characters.
 ///
 /// Where it is known to have as many bytes as characters, the indices of a place are the same number, and nothing is read
-/// to convert them.
+/// to convert them. Where it is known to have another number of characters, the shorter side of a place is read to convert
+/// bytes and characters.
 #[derive(Drop)]
 pub struct ShortText<'a> {
     text: &'a str,
-    is_narrow: bool,
+    /// The number of its characters, or more than that of its bytes, where it isn't known.
+    count: usize,
 }
+
+// More than any short text has: its characters were not counted.
+const UNCOUNTED: usize = usize::MAX;
 
 impl<'a> Model for ShortText<'a> {
     ghost use Rattle.std.specs.Prelude.{ℕ, List};
@@ -38,7 +43,7 @@ impl<'a> ShortText<'a> {
     {
         ShortText {
             text,
-            is_narrow: false,
+            count: UNCOUNTED,
         }
     }
 
@@ -48,10 +53,7 @@ impl<'a> ShortText<'a> {
         requires count { count ≡ length (chars text.now) }
         ensures { result ≡ chars text.now }
     {
-        ShortText {
-            text,
-            is_narrow: count == text.len(),
-        }
+        ShortText { text, count }
     }
 
     /// The text.
@@ -77,8 +79,10 @@ impl<'a> ShortText<'a> {
         ensures value { result ≡ char_to_byte self.now char_idx }
         ensures boundary { IsCharBoundary (encode_utf8_all self.now) result }
     {
-        if self.is_narrow {
+        if self.count == self.text.len() {
             char_idx.min(self.text.len())
+        } else if self.count < self.text.len() {
+            str_utils::char_to_byte_idx_of(self.text, self.count, char_idx)
         } else {
             str_utils::char_to_byte_idx(self.text, char_idx)
         }
@@ -88,8 +92,10 @@ impl<'a> ShortText<'a> {
     pub fn byte_to_char_idx(&self, byte_idx: usize) -> usize
         ensures { result ≡ byte_to_char self.now byte_idx }
     {
-        if self.is_narrow {
+        if self.count == self.text.len() {
             byte_idx.min(self.text.len())
+        } else if self.count < self.text.len() {
+            str_utils::byte_to_char_idx_of(self.text, self.count, byte_idx)
         } else {
             str_utils::byte_to_char_idx(self.text, byte_idx)
         }
@@ -99,7 +105,7 @@ impl<'a> ShortText<'a> {
     pub fn char_to_utf16_idx(&self, char_idx: usize) -> usize
         ensures { result ≡ char_to_utf16 self.now char_idx }
     {
-        if self.is_narrow {
+        if self.count == self.text.len() {
             char_idx.min(self.text.len())
         } else {
             str_utils::char_to_utf16_idx(self.text, char_idx)
@@ -110,7 +116,7 @@ impl<'a> ShortText<'a> {
     pub fn utf16_to_char_idx(&self, utf16_idx: usize) -> usize
         ensures { result ≡ utf16_to_char self.now utf16_idx }
     {
-        if self.is_narrow {
+        if self.count == self.text.len() {
             utf16_idx.min(self.text.len())
         } else {
             str_utils::utf16_to_char_idx(self.text, utf16_idx)
@@ -121,7 +127,7 @@ impl<'a> ShortText<'a> {
     pub fn char_to_line_with(&self, char_idx: usize, breaks: LineBreaks) -> usize
         ensures { result ≡ char_to_line breaks self.now char_idx }
     {
-        if self.is_narrow {
+        if self.count == self.text.len() {
             str_utils::byte_to_line_with(self.text, char_idx, breaks)
         } else {
             str_utils::char_to_line_with(self.text, char_idx, breaks)

@@ -7,14 +7,14 @@ use Rattle.rope_tree.proofs.leaf.Leaf.cut.Goals.{After-info_with-info, After-fro
 use Rattle.rope_tree.proofs.leaf.Leaf.cut.Goals as goal
 
 -- the text that was lent is the leaf's
-lent : (c : After-info_with-info) → c.new-old.result ≡ c.self.inside.text
-lent c = c.new-old.ensures.value ∙ c.as_str.ensures.chars
+lent : (c : After-info_with-info) → c.with_chars-old.result ≡ c.self.inside.text
+lent c = c.with_chars-old.ensures ∙ c.as_str.ensures.chars
 
 -- the two parts are the leaf with the text
 whole : (c : After-from_str-front_info) → c.insert_str_split-back.new.self ++ c.insert_str_split-back.result ≡ inserted c.self.inside.text c.args.at c.args.added.now
 whole c =
     c.insert_str_split-back.ensures.joined ∙ ap (inserted c.from_str-front.result c.args.at) c.as_str-3.ensures.chars
-    ∙ ap (λ l. inserted l c.args.at c.args.added.now) (c.from_str-front.ensures.value ∙ c.as_str-2.ensures.chars ∙ c.new-old.ensures.value ∙ c.as_str.ensures.chars)
+    ∙ ap (λ l. inserted l c.args.at c.args.added.now) (c.from_str-front.ensures.value ∙ c.as_str-2.ensures.chars ∙ c.with_chars-old.ensures ∙ c.as_str.ensures.chars)
 
 counted : (c : After-from_str-front_info) → c.from_str-front_info.result ≡ info_of c.line_breaks-breaks.result c.insert_str_split-back.new.self
 counted c = c.from_str-front_info.ensures ∙ ap (info_of c.line_breaks-breaks.result) c.as_str-4.ensures.chars
@@ -22,7 +22,7 @@ counted c = c.from_str-front_info.ensures ∙ ap (info_of c.line_breaks-breaks.r
 parted : (c : After-from_str-front_info) → c.info_with-info.result ≡ info_sum c.from_str-front_info.result (info_of c.line_breaks-breaks.result c.insert_str_split-back.result)
 parted c =
     let breaks = c.line_breaks-breaks.result in
-    c.info_with-info.ensures ∙ ap (λ l. info_of breaks (inserted l c.args.at c.args.added.now)) (c.new-old.ensures.value ∙ c.as_str.ensures.chars) ∙ ap (info_of breaks) (sym (whole c))
+    c.info_with-info.ensures ∙ ap (λ l. info_of breaks (inserted l c.args.at c.args.added.now)) (c.with_chars-old.ensures ∙ c.as_str.ensures.chars) ∙ ap (info_of breaks) (sym (whole c))
     ∙ info_of-append_apart breaks c.insert_str_split-back.new.self c.insert_str_split-back.result c.insert_str_split-back.ensures.apart
     ∙ ap (λ i. info_sum i (info_of breaks c.insert_str_split-back.result)) (sym (counted c))
 

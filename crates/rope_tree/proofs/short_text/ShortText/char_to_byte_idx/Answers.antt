@@ -24,8 +24,14 @@ returns-then-self-clause-boundary c =
     subst (λ s. IsCharBoundary (encode_utf8_all s) c.min.result) c.self.view_is
     (subst (λ x. IsCharBoundary x c.min.result) (sym bytes) (subst (IsCharBoundary bs) place (byte_len_boundary bs c.args.char_idx u)))
 
-pub returns-else-self-clause-boundary : goal.returns-else-self-clause-boundary
-returns-else-self-clause-boundary c =
+pub returns-then-self-2-clause-boundary : goal.returns-then-self-2-clause-boundary
+returns-then-self-2-clause-boundary c =
+    let bs = c.self.inside.text.now in
+    let bytes = encodes-chars bs (IsUtf8-from_is_utf8 bs c.self.invariant.utf8) in
+    subst (λ s. IsCharBoundary (encode_utf8_all s) c.char_to_byte_idx_of.result) c.self.view_is (subst (λ x. IsCharBoundary x c.char_to_byte_idx_of.result) (sym bytes) c.char_to_byte_idx_of.ensures.boundary)
+
+pub returns-else-self-2-clause-boundary : goal.returns-else-self-2-clause-boundary
+returns-else-self-2-clause-boundary c =
     let bs = c.self.inside.text.now in
     let bytes = encodes-chars bs (IsUtf8-from_is_utf8 bs c.self.invariant.utf8) in
     subst (λ s. IsCharBoundary (encode_utf8_all s) c.char_to_byte_idx.result) c.self.view_is (subst (λ x. IsCharBoundary x c.char_to_byte_idx.result) (sym bytes) c.char_to_byte_idx.ensures.boundary)

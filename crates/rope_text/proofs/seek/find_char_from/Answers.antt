@@ -3,7 +3,7 @@ use Rattle.rope_text.specs.Bits.{ones_below}
 use Rattle.rope_text.specs.Bytes.{begins_char}
 use Rattle.rope_text.proofs.BitLaws.{found_mark}
 use Rattle.rope_text.proofs.Blocks.{count_by-drop}
-use Rattle.rope_text.proofs.seek.place_of_char.Goals as goal
+use Rattle.rope_text.proofs.seek.find_char_from.Goals as goal
 
 pub returns-then-left-passed-clause-inside : goal.returns-then-left-passed-clause-inside
 returns-then-left-passed-clause-inside c = λ inside.
