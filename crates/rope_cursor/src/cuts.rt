@@ -1,7 +1,6 @@
 //! A text cut at a byte at which a character begins.
 ghost use Rattle.std.specs.Prelude.{◌≡◌};
 ghost use Rattle.std.specs.Str.{chars};
-ghost use Rattle.rope_text.specs.Text.{byte_len};
 ghost use Rattle.rope_cursor.specs.Gap.{before_byte, after_byte, IsBetween};
 
 /// The text before a byte.
@@ -18,11 +17,4 @@ pub(crate) fn text_after(text: &str, byte: usize) -> &str
     ensures { chars result.now ≡ after_byte (chars text.now) byte }
 {
     &text[byte..]
-}
-
-/// The length of a text in bytes, by its characters.
-pub(crate) fn byte_len_of(text: &str) -> usize
-    ensures { result ≡ byte_len (chars text.now) }
-{
-    text.len()
 }

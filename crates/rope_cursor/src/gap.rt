@@ -11,14 +11,14 @@ ghost use Rattle.rope_text.specs.TextInfo.{info_of};
 ghost use Rattle.rope_part.specs.Part.{text_of};
 ghost use Rattle.rope_cursor.specs.Gap.{before_byte, after_byte, AreChunks, IsBetween, PassesLine, PassesBack};
 
-use crate::cuts::{byte_len_of, text_after, text_before};
+use crate::cuts::{text_after, text_before};
 use crate::point::byte_of_char;
 use crate::span::Span;
 use rope_part::Part;
 use rope_text::crlf::prev_break;
 use rope_text::str_utils::{
-    byte_to_char_idx, byte_to_line_with, byte_to_surrogates, count_breaks, count_chars,
-    count_surrogates, line_to_byte_with,
+    byte_len_of, byte_to_char_idx, byte_to_line_with, byte_to_surrogates, count_breaks,
+    count_chars, count_surrogates, line_to_byte_with,
 };
 use rope_text::{LineBreaks, TextInfo};
 use std::marker::Model;

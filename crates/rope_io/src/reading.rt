@@ -10,16 +10,13 @@ ghost use Rattle.rope_io.specs.Reading.{Reads};
 
 use crate::device::Source;
 use crate::error::ReadError;
-use rope_text::{Error, LineBreaks, Result};
+use rope_text::{Error, LineBreaks, MAX_TEXT_BYTES, Result};
 use rope_tree::builder::Builder;
 use rope_tree::node::Node;
 use std::alloc::Global;
 
 // How many bytes are held at once, and are refused where they begin with no character.
 const BUFFER_BYTES: usize = 1968;
-
-// The bytes that a text has at the most.
-const MAX_TEXT_BYTES: usize = isize::MAX as usize;
 
 // The longest front of the bytes that is a text.
 fn front_of(bytes: &[u8]) -> &str

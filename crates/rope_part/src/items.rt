@@ -9,15 +9,9 @@ ghost use Rattle.rope_part.specs.Part.{text_of, chunks_of, breaks_of};
 
 use crate::part::Part;
 use rope_text::Steps;
+use rope_text::str_utils::byte_len_of;
 use rope_tree::lookup::{byte_at, char_at, leaf_at};
 use rope_tree::search::Unit;
-
-// The length of a text in bytes, by its characters.
-fn byte_len_of(text: &str) -> usize
-    ensures { result ≡ byte_len (chars text.now) }
-{
-    text.len()
-}
 
 impl<'a> Part<'a> {
     /// The byte at a place.

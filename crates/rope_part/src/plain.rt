@@ -7,7 +7,7 @@ ghost use Rattle.rope_text.specs.Text.{byte_len};
 ghost use Rattle.rope_text.specs.Lines.{line_start};
 ghost use Rattle.rope_part.specs.Edge.{IsInfo-prop};
 
-use rope_text::str_utils::{char_to_byte_idx, line_to_byte_with};
+use rope_text::str_utils::{char_to_byte_idx, first_char, line_to_byte_with};
 use rope_text::{LineBreaks, TextInfo};
 
 /// A plain text, with its counts by a set of line breaks.
@@ -17,17 +17,6 @@ pub struct Plain<'a> {
     pub info: TextInfo,
     pub breaks: LineBreaks,
     ghost counted: { info ≡ info_of breaks (chars text.now) } by { IsInfo-prop breaks (chars text.now) info },
-}
-
-// The first character of a text that is not empty.
-fn first_char(text: &str) -> char
-    requires { 0 < length (chars text.now) }
-    ensures { slice_get (chars text.now) 0 ≡ Some result }
-{
-    match text.chars().next() {
-        Some(first) => first,
-        None => unreachable!(),
-    }
 }
 
 impl<'a> Plain<'a> {

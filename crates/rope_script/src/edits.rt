@@ -6,6 +6,7 @@ ghost use Rattle.ropey.specs.View.{content, IsRope};
 ghost use Rattle.rope_script.specs.Step.{edit_reply, Inserts, Removes, Joins, Shrinks};
 
 use crate::script::Reply;
+use rope_text::MAX_TEXT_BYTES;
 use ropey::{Error, IndexRange, Result, Rope};
 
 /// Inserts a text into a rope.
@@ -64,9 +65,6 @@ pub(crate) fn remove(
     }
     reply_to_edit(ropes[rope].try_remove(Bounds { start, end }))
 }
-
-/// The most bytes that a text may have.
-const MAX_TEXT_BYTES: usize = isize::MAX as usize;
 
 /// Puts the text of one rope behind that of another. What their line breaks or their lengths forbid
 /// is refused before a clone is made, so that this takes no memory.

@@ -22,6 +22,9 @@ pub use range::IndexRange;
 pub use steps::Steps;
 pub use text_info::TextInfo;
 
+/// The bytes that a text may have at the most.
+pub const MAX_TEXT_BYTES: usize = isize::MAX as usize;
+
 /// The bytes that a leaf holds at the most.
 pub const MAX_BYTES: usize = 984;
 

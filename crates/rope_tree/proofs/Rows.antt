@@ -31,5 +31,12 @@ put_within at count from xs ys k le fits lt =
 
 pub put_length : (at count from : ℕ) (xs ys : List ℕ) → at + count ≤ length xs → from + count ≤ length ys → length (take at xs ++ (take count (drop from ys) ++ drop (at + count) xs)) ≡ length xs
 put_length at count from xs ys le fits =
-    omega (arith, length-append (take at xs) (take count (drop from ys) ++ drop (at + count) xs), length-append (take count (drop from ys)) (drop (at + count) xs), length-take-le at xs (omega arith),
-    length-take-le count (drop from ys) (omega (arith, length-drop from ys)), length-drop from ys, length-drop (at + count) xs)
+    omega (
+      arith,
+      length-append (take at xs) (take count (drop from ys) ++ drop (at + count) xs),
+      length-append (take count (drop from ys)) (drop (at + count) xs),
+      length-take-le at xs (omega arith),
+      length-take-le count (drop from ys) (omega (arith, length-drop from ys)),
+      length-drop from ys,
+      length-drop (at + count) xs,
+    )

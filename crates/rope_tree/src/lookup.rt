@@ -13,6 +13,7 @@ ghost use Rattle.rope_tree.specs.StepBounds.{HaveRoom, LooksUp};
 use crate::node::{Node, View};
 use crate::search::{Totals, Unit, count, place_of};
 use crate::short_text::ShortText;
+use rope_text::str_utils::first_char;
 use rope_text::{Steps, TextInfo};
 
 /// A leaf, and the counts of the text before it.
@@ -99,17 +100,6 @@ pub fn byte_at(node: &Node, byte_idx: usize, steps: &mut Steps) -> u8
     let found = leaf_at(node, Unit::Byte, byte_idx, steps);
     let bytes = found.leaf.as_str().as_bytes();
     bytes[byte_idx - found.before.bytes]
-}
-
-/// The first character of a text that is not empty.
-fn first_char(text: &str) -> char
-    requires { 0 < length (chars text.now) }
-    ensures { slice_get (chars text.now) 0 ≡ Some result }
-{
-    match text.chars().next() {
-        Some(first) => first,
-        None => unreachable!(),
-    }
 }
 
 /// The character at a place.

@@ -8,10 +8,10 @@ ghost use Rattle.rope_text.specs.Text.{byte_len};
 ghost use Rattle.rope_text.specs.Edit.{char_index_error, char_range_error, range_start, range_end, removed, append_error, IsRefusal};
 ghost use Rattle.ropey.specs.View.{IsRope};
 
-use crate::rope::{MAX_TEXT_BYTES, Rope};
+use crate::rope::Rope;
 use rope_join::edit::{Parts, append, remove, split};
 use rope_text::range::{IndexRange, char_bounds};
-use rope_text::{Error, Result, Steps};
+use rope_text::{Error, MAX_TEXT_BYTES, Result, Steps};
 
 impl Rope {
     /// As `split_off`, for any index.
@@ -136,8 +136,9 @@ impl Rope {
     /// Takes the characters of a range out of the text.
     ///
     /// The range's bounds are at most `len_chars()`, and its start is at most its end. An empty range takes no
-    /// memory and changes nothing; any other takes memory for at most 17 h + 12 nodes, where h is the rope's depth,
-    /// and it is tried first without memory, in the chunk where the characters lie. No text is walked.
+    /// memory and changes nothing; any other takes memory for at most 17 h + 12 nodes, where h is the rope's depth.
+    /// Where the characters lie in one chunk that keeps enough bytes, it takes memory for the nodes alone that are shared with
+    /// clones, on the way down to it, and else for none. No text is walked.
     ///
     /// # Errors
     ///

@@ -8,9 +8,9 @@ ghost use Rattle.rope_text.specs.Text.{byte_len};
 ghost use Rattle.rope_text.specs.Edit.{inserted, insert_error, IsRefusal};
 ghost use Rattle.ropey.specs.View.{IsRope};
 
-use crate::rope::{MAX_TEXT_BYTES, Rope};
+use crate::rope::Rope;
 use rope_join::edit::insert;
-use rope_text::{Error, Result, Steps};
+use rope_text::{Error, MAX_TEXT_BYTES, Result, Steps};
 use rope_tree::edit::{MAX_SHORT_BYTES, insert_at};
 
 impl Rope {

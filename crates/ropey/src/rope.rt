@@ -55,9 +55,6 @@ impl Clone for Rope {
     }
 }
 
-// The bytes that a text has at the most.
-pub(crate) const MAX_TEXT_BYTES: usize = isize::MAX as usize;
-
 // Hands a chunk in, whose bytes are counted by its characters.
 fn append_chunk(builder: &mut Builder, chunk: &str) -> Result<()>
     requires { byte_len builder.old.text + byte_len (chars chunk.now) < 2 ^ 63 }

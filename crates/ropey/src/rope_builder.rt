@@ -8,8 +8,8 @@ ghost use Rattle.rope_text.specs.Text.{byte_len};
 ghost use Rattle.rope_text.specs.Edit.{or_else, size_error, IsRefusal};
 ghost use Rattle.ropey.specs.View.{IsRope, HasFewChunks};
 
-use crate::rope::{MAX_TEXT_BYTES, Rope};
-use rope_text::{Error, LineBreaks, Result};
+use crate::rope::Rope;
+use rope_text::{Error, LineBreaks, MAX_TEXT_BYTES, Result};
 use rope_tree::builder::Builder;
 use std::alloc::Global;
 use std::fmt;

@@ -118,7 +118,10 @@ impl NewList {
     {
         let base = total_before(totals, from);
         let count = self.totals.len();
-        if !self.totals.append(alloc, totals, from, nodes.len(), base, before)? {
+        if !self
+            .totals
+            .append(alloc, totals, from, nodes.len(), base, before)?
+        {
             return self.push_all(alloc, nodes, before);
         }
         share_all(&mut self.nodes, count, nodes)?;
@@ -281,11 +284,7 @@ pub fn pack_over(
         after.first(most),
     );
     let first = make_over(alloc, left, mid, right, made)?;
-    let (left, mid, right) = (
-        before.rest(half),
-        rest_of(middle, more),
-        after.rest(most),
-    );
+    let (left, mid, right) = (before.rest(half), rest_of(middle, more), after.rest(most));
     let second = make_over(alloc, left, mid, right, made)?;
     Ok(Nodes::Two(first, second))
 }

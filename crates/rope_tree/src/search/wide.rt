@@ -4,8 +4,8 @@ ghost use Rattle.rope_text.specs.declared.text_info.TextInfo.{TextInfo};
 ghost use Rattle.rope_text.specs.TextInfo.{info_sum};
 ghost use Rattle.rope_tree.specs.Search.{count_of, IsSmall, HasPart};
 
-use super::{Unit, put_row};
 use super::narrow::NarrowTotals;
+use super::{Unit, put_row};
 use rope_text::TextInfo;
 use std::marker::Model;
 use std::mem;
