@@ -1,10 +1,7 @@
 -- A comparison under way.
-use Rattle.std.proofs.Common.{IsTrue, ◌↔◌, Ordering, Less, Equal, Greater, ◌==◌, Bool, true, false, not, nat_eq, refl, ◌≡◌, ℕ, List, [], ◌++◌, length, sym, ap, ap₂, ◌∙◌, ◌+◌, ◌≤◌, arith, length-append, append_assoc}
-use Rattle.std.proofs.lemmas.List.{append_cancel_left, append-nil, drop_all}
-use Rattle.std.proofs.lemmas.List.Folds.{drop_split}
-use Rattle.std.specs.List.{slice_range}
-use Rattle.rope_text.specs.Text.{byte_len}
-use Rattle.std.proofs.lemmas.Str.{encodes_same, encodes-append}
+use Rattle.std.proofs.Common.{IsTrue, ◌↔◌, Ordering, Less, Equal, Greater, ◌==◌, Bool, true, false, not, nat_eq, refl, ◌≡◌, ℕ, List, [], ◌++◌, length, sym, ap, ◌∙◌, arith, length-append, append_assoc}
+use Rattle.std.proofs.lemmas.List.{append_cancel_left}
+use Rattle.std.proofs.lemmas.Str.{encodes_same}
 use Rattle.std.specs.Str.{encode_utf8_all}
 use lib.Pointwise.{pointwise, bytes_decides}
 use Rattle.std.specs.Cmp.Lexicographic.{slice_cmp}
@@ -88,38 +85,3 @@ texts_same r s t left right e f same = (
   λ h. encodes_same s t (sym e ∙ same.0 h ∙ f),
   λ g. same.1 (e ∙ ap encode_utf8_all g ∙ sym f),
 )
-
--- two texts that are cut after so many characters
-module _ (s t s₁ s₂ t₁ t₂ : List ℕ) (half size : ℕ) (within : half ≤ size) (long_s : size ≡ length s) (long_t : size ≡ length t)
-    (first_s : s₁ ≡ slice_range s 0 half) (second_s : s₂ ≡ slice_range s half size) (first_t : t₁ ≡ slice_range t 0 half) (second_t : t₂ ≡ slice_range t half size) where
-  in_halves : (u u₁ u₂ : List ℕ) → size ≡ length u → u₁ ≡ slice_range u 0 half → u₂ ≡ slice_range u half size → u ≡ u₁ ++ u₂
-  in_halves u u₁ u₂ long first second =
-      drop_split u 0 half (omega arith) ∙ ap₂ (λ a b. a ++ b) (sym first) (
-      drop_split u half size within ∙ ap (λ z. slice_range u half size ++ z) (drop_all size u (omega (arith, long))) ∙ append-nil (slice_range u half size) ∙ sym second
-      )
-
-  whole_s : s ≡ s₁ ++ s₂
-  whole_s = in_halves s s₁ s₂ long_s first_s second_s
-
-  whole_t : t ≡ t₁ ++ t₂
-  whole_t = in_halves t t₁ t₂ long_t first_t second_t
-
-  bytes_of_halves : (u u₁ u₂ : List ℕ) → u ≡ u₁ ++ u₂ → byte_len u ≡ byte_len u₁ + byte_len u₂
-  bytes_of_halves u u₁ u₂ e = ap byte_len e ∙ ap length (encodes-append u₁ u₂) ∙ length-append (encode_utf8_all u₁) (encode_utf8_all u₂)
-
-  -- as many bytes of both texts and of their first halves leave as many
-  pub second_bytes : byte_len s ≡ byte_len t → byte_len s₁ ≡ byte_len t₁ → byte_len s₂ ≡ byte_len t₂
-  second_bytes e f = omega (arith, e, f, bytes_of_halves s s₁ s₂ whole_s, bytes_of_halves t t₁ t₂ whole_t)
-
-  -- they are the same exactly if both halves are
-  pub same_by_halves : (r : Bool) (a b c d : List ℕ) → a ≡ encode_utf8_all s₁ → b ≡ encode_utf8_all t₁ → c ≡ encode_utf8_all s₂ → d ≡ encode_utf8_all t₂
-      → IsTrue r ↔ ((a ≡ b) × (c ≡ d)) → IsTrue r ↔ (s ≡ t)
-  same_by_halves r a b c d e f g h same = (
-    λ yes.
-        let both = same.0 yes in
-        whole_s ∙ ap₂ (λ x y. x ++ y) (encodes_same s₁ t₁ (sym e ∙ both.0 ∙ f)) (encodes_same s₂ t₂ (sym g ∙ both.1 ∙ h)) ∙ sym whole_t,
-    λ eq.
-        let first : s₁ ≡ t₁ = first_s ∙ ap (λ u. slice_range u 0 half) eq ∙ sym first_t in
-        let second : s₂ ≡ t₂ = second_s ∙ ap (λ u. slice_range u half size) eq ∙ sym second_t in
-        same.1 (e ∙ ap encode_utf8_all first ∙ sym f, g ∙ ap encode_utf8_all second ∙ sym h),
-  )

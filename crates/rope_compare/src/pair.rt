@@ -58,9 +58,9 @@ impl<'a> Pair<'a> {
         !self.x.is_empty()
     }
 
-    /// Compares the fronts, up to the end of the shorter, and passes them where they are the same. Answers whether they are.
+    // Compares the fronts, up to the end of the shorter, and passes them where they are the same. Answers whether they are.
     #[inline(always)]
-    pub(crate) fn pass(&mut self) -> bool
+    fn pass(&mut self) -> bool
         ensures same { OnTrue result ((self.old.left ≡ self.old.right) ↔ (self.new.left ≡ self.new.right)) }
         ensures other { OnFalse result (self.old.left ≡ self.old.right → ⊥) }
         ensures less { OnTrue result (0 < length self.old.left → length self.new.left < length self.old.left) }
@@ -87,20 +87,4 @@ impl<'a> Pair<'a> {
         }
         true
     }
-}
-
-/// Whether all that is left is the same in both pairs. A piece of each is compared in turn, so that their waits for memory
-/// overlap.
-pub(crate) fn are_same(first: &mut Pair<'_>, second: &mut Pair<'_>) -> bool
-    ensures { IsTrue result ↔ ((first.old.left ≡ first.old.right) × (second.old.left ≡ second.old.right)) }
-{
-    while first.is_open() {
-        if !first.pass() {
-            return false;
-        }
-        if !second.pass() {
-            return false;
-        }
-    }
-    second.is_same()
 }
