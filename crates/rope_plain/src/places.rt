@@ -17,19 +17,27 @@ pub fn compare_at(rope: &Rope, text: &[char], char_idx: usize) -> Result<(), Dif
 /// The conversions from and to a place.
 fn compare_place(rope: &Rope, char_idx: usize, place: Place) -> Result<(), Difference> {
     let answers = [
-        (rope.try_char_to_byte(char_idx)?, place.byte),
-        (rope.try_char_to_line(char_idx)?, place.line),
-        (rope.try_char_to_utf16_cu(char_idx)?, place.unit),
-        (rope.try_byte_to_char(place.byte)?, char_idx),
-        (rope.try_byte_to_line(place.byte)?, place.line),
-        (rope.try_utf16_cu_to_char(place.unit)?, char_idx),
-        (rope.try_line_to_char(place.line)?, place.line_start_char),
-        (rope.try_line_to_byte(place.line)?, place.line_start_byte),
+        rope.try_char_to_byte(char_idx),
+        rope.try_char_to_line(char_idx),
+        rope.try_char_to_utf16_cu(char_idx),
+        rope.try_byte_to_char(place.byte),
+        rope.try_byte_to_line(place.byte),
+        rope.try_utf16_cu_to_char(place.unit),
+        rope.try_line_to_char(place.line),
+        rope.try_line_to_byte(place.line),
     ];
-    for (answer, expected) in answers {
-        if answer != expected {
-            return Err(Difference::Conversion);
-        }
+    let expected = [
+        Ok(place.byte),
+        Ok(place.line),
+        Ok(place.unit),
+        Ok(char_idx),
+        Ok(place.line),
+        Ok(char_idx),
+        Ok(place.line_start_char),
+        Ok(place.line_start_byte),
+    ];
+    if answers != expected {
+        return Err(Difference::Conversion);
     }
     Ok(())
 }
@@ -44,14 +52,12 @@ fn compare_char(rope: &Rope, char_idx: usize, place: Place, c: char) -> Result<(
     let last_byte = place.byte.saturating_add(c.len_utf8()).saturating_sub(1);
     let last_unit = place.unit.saturating_add(c.len_utf16()).saturating_sub(1);
     let answers = [
-        (rope.try_byte_to_char(last_byte)?, char_idx),
-        (rope.try_byte_to_line(last_byte)?, place.line),
-        (rope.try_utf16_cu_to_char(last_unit)?, char_idx),
+        rope.try_byte_to_char(last_byte),
+        rope.try_byte_to_line(last_byte),
+        rope.try_utf16_cu_to_char(last_unit),
     ];
-    for (answer, expected) in answers {
-        if answer != expected {
-            return Err(Difference::Conversion);
-        }
+    if answers != [Ok(char_idx), Ok(place.line), Ok(char_idx)] {
+        return Err(Difference::Conversion);
     }
     Ok(())
 }
@@ -65,16 +71,13 @@ fn compare_chunk(
 ) -> Result<(), Difference> {
     let (expected, start) = chunk_of(rope, char_idx);
     let before = place_of(text, start, rope.line_breaks());
-    for found in [
+    let found = [
         rope.get_chunk_at_char(char_idx),
         rope.get_chunk_at_byte(byte),
-    ] {
-        let Some((chunk, bytes, chars, break_count)) = found else {
-            return Err(Difference::ChunkAt);
-        };
-        if chunk != expected || (bytes, chars, break_count) != (before.byte, start, before.line) {
-            return Err(Difference::ChunkAt);
-        }
+    ];
+    let chunk = Some((expected, before.byte, start, before.line));
+    if found != [chunk, chunk] {
+        return Err(Difference::ChunkAt);
     }
     Ok(())
 }

@@ -18,19 +18,17 @@ pub fn compare_whole(slice: &RopeSlice<'_>, plain: &PlainSlice<'_>) -> Result<()
 fn compare_lengths(slice: &RopeSlice<'_>, plain: &PlainSlice<'_>) -> Result<(), Difference> {
     let chars = plain.text.len();
     let end = place_of(plain.text, chars, plain.breaks);
-    for (answer, expected, difference) in [
-        (slice.len_bytes(), end.byte, Difference::Bytes),
-        (slice.len_chars(), chars, Difference::Chars),
-        (slice.len_utf16_cu(), end.unit, Difference::Units),
-        (
-            slice.len_lines(),
-            end.line.saturating_add(1),
-            Difference::Lines,
-        ),
-    ] {
-        if answer != expected {
-            return Err(difference);
-        }
+    if slice.len_bytes() != end.byte {
+        return Err(Difference::Bytes);
+    }
+    if slice.len_chars() != chars {
+        return Err(Difference::Chars);
+    }
+    if slice.len_utf16_cu() != end.unit {
+        return Err(Difference::Units);
+    }
+    if slice.len_lines() != end.line.saturating_add(1) {
+        return Err(Difference::Lines);
     }
     Ok(())
 }
@@ -59,19 +57,21 @@ fn compare_past(slice: &RopeSlice<'_>) -> Result<(), Difference> {
     let past_char = Err(Error::CharIndexOutOfBounds(char_idx, chars));
     let past_line = Err(Error::LineIndexOutOfBounds(line, lines));
     let past_unit = Err(Error::Utf16IndexOutOfBounds(unit, units));
-    for (answer, expected) in [
-        (slice.try_byte_to_char(byte), past_byte),
-        (slice.try_byte_to_line(byte), past_byte),
-        (slice.try_char_to_byte(char_idx), past_char),
-        (slice.try_char_to_line(char_idx), past_char),
-        (slice.try_char_to_utf16_cu(char_idx), past_char),
-        (slice.try_utf16_cu_to_char(unit), past_unit),
-        (slice.try_line_to_byte(line), past_line),
-        (slice.try_line_to_char(line), past_line),
-    ] {
-        if answer != expected {
-            return Err(Difference::Conversion);
-        }
+    let answers = [
+        slice.try_byte_to_char(byte),
+        slice.try_byte_to_line(byte),
+        slice.try_char_to_byte(char_idx),
+        slice.try_char_to_line(char_idx),
+        slice.try_char_to_utf16_cu(char_idx),
+        slice.try_utf16_cu_to_char(unit),
+        slice.try_line_to_byte(line),
+        slice.try_line_to_char(line),
+    ];
+    let expected = [
+        past_byte, past_byte, past_char, past_char, past_char, past_unit, past_line, past_line,
+    ];
+    if answers != expected {
+        return Err(Difference::Conversion);
     }
     Ok(())
 }
@@ -95,19 +95,27 @@ pub fn compare_at(
 /// The conversions from and to a place.
 fn compare_place(slice: &RopeSlice<'_>, char_idx: usize, place: Place) -> Result<(), Difference> {
     let answers = [
-        (slice.try_char_to_byte(char_idx)?, place.byte),
-        (slice.try_char_to_line(char_idx)?, place.line),
-        (slice.try_char_to_utf16_cu(char_idx)?, place.unit),
-        (slice.try_byte_to_char(place.byte)?, char_idx),
-        (slice.try_byte_to_line(place.byte)?, place.line),
-        (slice.try_utf16_cu_to_char(place.unit)?, char_idx),
-        (slice.try_line_to_char(place.line)?, place.line_start_char),
-        (slice.try_line_to_byte(place.line)?, place.line_start_byte),
+        slice.try_char_to_byte(char_idx),
+        slice.try_char_to_line(char_idx),
+        slice.try_char_to_utf16_cu(char_idx),
+        slice.try_byte_to_char(place.byte),
+        slice.try_byte_to_line(place.byte),
+        slice.try_utf16_cu_to_char(place.unit),
+        slice.try_line_to_char(place.line),
+        slice.try_line_to_byte(place.line),
     ];
-    for (answer, expected) in answers {
-        if answer != expected {
-            return Err(Difference::Conversion);
-        }
+    let expected = [
+        Ok(place.byte),
+        Ok(place.line),
+        Ok(place.unit),
+        Ok(char_idx),
+        Ok(place.line),
+        Ok(char_idx),
+        Ok(place.line_start_char),
+        Ok(place.line_start_byte),
+    ];
+    if answers != expected {
+        return Err(Difference::Conversion);
     }
     Ok(())
 }
@@ -127,14 +135,12 @@ fn compare_char(
     let last_byte = place.byte.saturating_add(c.len_utf8()).saturating_sub(1);
     let last_unit = place.unit.saturating_add(c.len_utf16()).saturating_sub(1);
     let answers = [
-        (slice.try_byte_to_char(last_byte)?, char_idx),
-        (slice.try_byte_to_line(last_byte)?, place.line),
-        (slice.try_utf16_cu_to_char(last_unit)?, char_idx),
+        slice.try_byte_to_char(last_byte),
+        slice.try_byte_to_line(last_byte),
+        slice.try_utf16_cu_to_char(last_unit),
     ];
-    for (answer, expected) in answers {
-        if answer != expected {
-            return Err(Difference::Conversion);
-        }
+    if answers != [Ok(char_idx), Ok(place.line), Ok(char_idx)] {
+        return Err(Difference::Conversion);
     }
     Ok(())
 }
@@ -147,6 +153,19 @@ fn compare_end(slice: &RopeSlice<'_>, char_idx: usize, place: Place) -> Result<(
     Ok(())
 }
 
+/// A chunk, and the bytes, characters and line breaks before it.
+type Found<'a> = Option<(&'a str, usize, usize, usize)>;
+
+/// Whether it was found, with these characters, and with these counts before it.
+fn is_chunk(found: Found<'_>, chars: &[char], counts: (usize, usize, usize)) -> bool {
+    match found {
+        Some((chunk, bytes, before, break_count)) => {
+            is_text(chunk, chars) && (bytes, before, break_count) == counts
+        }
+        None => false,
+    }
+}
+
 /// The chunk at a character and at its first byte.
 fn compare_chunk(
     slice: &RopeSlice<'_>,
@@ -156,18 +175,13 @@ fn compare_chunk(
 ) -> Result<(), Difference> {
     let (start, end) = plain.chunk_at(char_idx);
     let chars = plain.part(start, end).text;
-    for found in [
-        slice.get_chunk_at_char(char_idx),
-        slice.try_chunk_at_byte(byte).ok(),
-    ] {
-        let Some((chunk, bytes, before, break_count)) = found else {
-            return Err(Difference::ChunkAt);
-        };
-        if !is_text(chunk, chars) || (bytes, before, break_count) != plain.counts_before(start) {
-            return Err(Difference::ChunkAt);
-        }
+    let counts = plain.counts_before(start);
+    if is_chunk(slice.get_chunk_at_char(char_idx), chars, counts)
+        && is_chunk(slice.try_chunk_at_byte(byte).ok(), chars, counts)
+    {
+        return Ok(());
     }
-    Ok(())
+    Err(Difference::ChunkAt)
 }
 
 /// The chunk at a line break.
@@ -178,11 +192,9 @@ fn compare_break(
 ) -> Result<(), Difference> {
     let (start, end) = plain.chunk_at_line_break(line);
     let chars = plain.part(start, end).text;
-    let Some((chunk, bytes, before, break_count)) = slice.get_chunk_at_line_break(line) else {
-        return Err(Difference::ChunkAtBreak);
-    };
-    if !is_text(chunk, chars) || (bytes, before, break_count) != plain.counts_before(start) {
-        return Err(Difference::ChunkAtBreak);
+    let found = slice.get_chunk_at_line_break(line);
+    if is_chunk(found, chars, plain.counts_before(start)) {
+        return Ok(());
     }
-    Ok(())
+    Err(Difference::ChunkAtBreak)
 }

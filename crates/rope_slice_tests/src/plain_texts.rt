@@ -6,26 +6,21 @@ use std::test::Fail;
 #[test]
 fn a_plain_text_is_one_chunk(rt: HostRuntime) -> Result<(), Fail> {
     let slice = RopeSlice::from("abc");
-    for found in [
+    let found = [
         slice.try_chunk_at_byte(3).ok(),
         slice.get_chunk_at_char(3),
         slice.get_chunk_at_line_break(1),
-    ] {
-        let Some((chunk, bytes, chars, break_count)) = found else {
-            return Err(Fail::from("a place within the text has no chunk"));
-        };
-        assert!(rt; chunk == "abc");
-        assert_eq!(rt; [bytes, chars, break_count], [0, 0, 0]);
-    }
-    assert!(rt; slice.get_chunk_at_line_break(2).is_none());
+        slice.get_chunk_at_line_break(2),
+    ];
+    let whole = Some(("abc", 0, 0, 0));
+    assert!(rt; found == [whole, whole, whole, None]);
     Ok(())
 }
 
 #[test]
 fn the_empty_text(rt: HostRuntime) {
     let slice = RopeSlice::from("");
-    assert!(rt; slice.as_str() == Some(""));
-    assert_eq!(rt; lens(&slice), [0, 0, 1, 0]);
+    assert!(rt; slice.as_str() == Some("") && lens(&slice) == [0, 0, 1, 0]);
 }
 
 #[test]

@@ -51,8 +51,12 @@ impl Pair {
     fn insert(&mut self, alloc: Global, numbers: &mut Numbers) -> Result<(), Fail> {
         let at = numbers.up_to(self.plain.len());
         let text = random_edit_text(alloc, numbers)?;
-        self.rope.try_insert(at, text.as_str())?;
-        self.plain = inserted(alloc, &self.plain, at, text.as_str())?;
+        self.put_in(alloc, at, text.as_str())
+    }
+
+    fn put_in(&mut self, alloc: Global, at: usize, text: &str) -> Result<(), Fail> {
+        self.rope.try_insert(at, text)?;
+        self.plain = inserted(alloc, &self.plain, at, text)?;
         Ok(())
     }
 
@@ -67,15 +71,20 @@ impl Pair {
         self.plain.extend_from_slice(&back)?;
         Ok(())
     }
+
+    fn edit(&mut self, alloc: Global, numbers: &mut Numbers) -> Result<(), Fail> {
+        for _ in 0..EDITS {
+            self.insert(alloc, numbers)?;
+            self.remove(alloc, numbers)?;
+        }
+        Ok(())
+    }
 }
 
 /// A rope whose chunks are of uneven lengths.
 pub fn edited(alloc: Global, numbers: &mut Numbers, breaks: LineBreaks) -> Result<Pair, Fail> {
     let mut pair = Pair::new(alloc, numbers, breaks)?;
-    for _ in 0..EDITS {
-        pair.insert(alloc, numbers)?;
-        pair.remove(alloc, numbers)?;
-    }
+    pair.edit(alloc, numbers)?;
     Ok(pair)
 }
 
@@ -169,6 +178,16 @@ fn compare_nested<'a>(
 }
 
 /// Slices of one rope.
+fn compare_pair(numbers: &mut Numbers, pair: &Pair, all: PlainSlice<'_>) -> Result<(), Fail> {
+    for _ in 0..4 {
+        let (start, end) = random_range(numbers, pair.plain.len());
+        let slice = slice_of(numbers, pair, start, end)?;
+        compare_nested(numbers, slice, all.part(start, end))?;
+    }
+    Ok(())
+}
+
+/// Slices of a random rope.
 fn compare_rope(alloc: Global, numbers: &mut Numbers, breaks: LineBreaks) -> Result<(), Fail> {
     let pair = edited(alloc, numbers, breaks)?;
     let ends = chunk_ends(alloc, &pair.rope)?;
@@ -178,23 +197,17 @@ fn compare_rope(alloc: Global, numbers: &mut Numbers, breaks: LineBreaks) -> Res
         ends: &ends,
         breaks,
     };
-    for _ in 0..4 {
-        let (start, end) = random_range(numbers, pair.plain.len());
-        let slice = slice_of(numbers, &pair, start, end)?;
-        compare_nested(numbers, slice, all.part(start, end))?;
-    }
-    Ok(())
+    compare_pair(numbers, &pair, all)
 }
 
 /// Slices of one plain text.
 fn compare_str(alloc: Global, numbers: &mut Numbers, breaks: LineBreaks) -> Result<(), Fail> {
     let text = random_text(alloc, numbers, 2_000)?;
     let plain = chars_of(alloc, text.as_str())?;
-    let ends = [plain.len()];
     let all = PlainSlice {
         text: &plain,
         before: 0,
-        ends: &ends,
+        ends: &[plain.len()],
         breaks,
     };
     compare_nested(

@@ -1,7 +1,7 @@
 //! Random walks of cursors over random ropes, slices and plain texts, against plain lists of their items.
 use crate::compare::compare_whole;
 use crate::plain_slice::{PlainSlice, is_text};
-use crate::random_slices::{SETS, edited, random_range, slice_of};
+use crate::random_slices::{Pair, SETS, edited, random_range, slice_of};
 use rope_plain::given::given;
 use rope_plain::numbers::Numbers;
 use rope_plain::plain_cursor::PlainCursor;
@@ -115,51 +115,82 @@ struct Items<'p> {
     ends: Vec<usize>,
 }
 
+/// The bytes of these characters.
+fn text_of(alloc: Global, chars: &[char]) -> Result<String, Fail> {
+    let mut text = String::new(alloc);
+    for c in chars {
+        text.push(*c)?;
+    }
+    Ok(text)
+}
+
+/// Where the chunks of a slice end, in its characters.
+fn ends_of(alloc: Global, plain: &PlainSlice<'_>) -> Result<Vec<usize>, Fail> {
+    let mut ends = Vec::new(alloc);
+    let mut last = 0;
+    for end in plain.ends {
+        let end = end.saturating_sub(plain.before).min(plain.text.len());
+        if end > last {
+            ends.push(end)?;
+            last = end;
+        }
+    }
+    Ok(ends)
+}
+
 impl<'p> Items<'p> {
     fn new(alloc: Global, plain: PlainSlice<'p>) -> Result<Items<'p>, Fail> {
-        let mut bytes = String::new(alloc);
-        for c in plain.text {
-            bytes.push(*c)?;
-        }
-        let mut ends = Vec::new(alloc);
-        let mut last = 0;
-        for end in plain.ends {
-            let end = end.saturating_sub(plain.before).min(plain.text.len());
-            if end > last {
-                ends.push(end)?;
-                last = end;
-            }
-        }
-        Ok(Items { plain, bytes, ends })
+        Ok(Items {
+            plain,
+            bytes: text_of(alloc, plain.text)?,
+            ends: ends_of(alloc, &plain)?,
+        })
     }
 
     fn line_count(&self) -> usize {
         char_to_line(self.plain.text, self.plain.text.len(), self.plain.breaks).saturating_add(1)
     }
 
+    /// Which chunk holds a character, and where it starts; at the end of the text the end.
+    fn chunk_start(&self, char_idx: usize) -> (usize, usize) {
+        let mut index: usize = 0;
+        let mut start: usize = 0;
+        for end in &self.ends {
+            if *end <= char_idx {
+                index = index.saturating_add(1);
+                start = *end;
+            }
+        }
+        (index, start)
+    }
+
+    /// Whether this is the chunk with that index.
+    fn is_chunk(&self, chunk: &str, index: usize) -> bool {
+        let start = match index.checked_sub(1) {
+            Some(before) => self.ends.get(before),
+            None => Some(&0),
+        };
+        match (start, self.ends.get(index)) {
+            (Some(start), Some(end)) => is_text(chunk, self.plain.part(*start, *end).text),
+            _ => false,
+        }
+    }
+
+    /// Whether this is the line with that index.
+    fn is_line(&self, line: &RopeSlice<'_>, index: usize) -> bool {
+        let next = index.saturating_add(1);
+        let start = line_to_char(self.plain.text, index, self.plain.breaks);
+        let end = line_to_char(self.plain.text, next, self.plain.breaks);
+        compare_whole(line, &self.plain.part(start, end)).is_ok()
+    }
+
     /// Whether this is the item with that index.
     fn is_item(&self, item: Item<'_>, index: usize) -> bool {
-        let next = index.saturating_add(1);
         match item {
             Item::Byte(byte) => self.bytes.as_str().as_bytes().get(index) == Some(&byte),
             Item::Char(c) => self.plain.text.get(index) == Some(&c),
-            Item::Chunk(chunk) => {
-                let start = match index.checked_sub(1) {
-                    Some(before) => self.ends.get(before),
-                    None => Some(&0),
-                };
-                match (start, self.ends.get(index)) {
-                    (Some(start), Some(end)) => {
-                        is_text(chunk, self.plain.part(*start, *end).text)
-                    }
-                    _ => false,
-                }
-            }
-            Item::Line(line) => {
-                let start = line_to_char(self.plain.text, index, self.plain.breaks);
-                let end = line_to_char(self.plain.text, next, self.plain.breaks);
-                compare_whole(&line, &self.plain.part(start, end)).is_ok()
-            }
+            Item::Chunk(chunk) => self.is_chunk(chunk, index),
+            Item::Line(line) => self.is_line(&line, index),
         }
     }
 
@@ -173,87 +204,123 @@ impl<'p> Items<'p> {
     }
 }
 
-/// A walk from where the cursor stands.
-fn walk<'a, W: Walker<'a> + Drop>(
+/// A random step of a cursor and of its partner: whether they give the same, and have as much left.
+fn steps_agree<'a, W: Walker<'a>>(
     numbers: &mut Numbers,
-    walker: W,
+    walker: &mut W,
+    plain: &mut PlainCursor,
+    items: &Items<'_>,
+) -> bool {
+    let agrees = match numbers.up_to(8) {
+        0 => {
+            walker.turn();
+            plain.reverse();
+            true
+        }
+        1 | 2 | 3 => items.agree(walker.back(), plain.prev()),
+        _ => items.agree(walker.ahead(), plain.next()),
+    };
+    let counts = match walker.left_over() {
+        Some(count) => count == plain.left_over(),
+        None => true,
+    };
+    agrees && counts
+}
+
+/// A walk from where the cursor stands.
+fn walk<'a, W: Walker<'a>>(
+    numbers: &mut Numbers,
+    walker: &mut W,
     partner: PlainCursor,
     items: &Items<'_>,
 ) -> Result<(), Fail> {
-    let mut walker = walker;
     let mut plain = partner;
     for _ in 0..STEPS {
-        let agrees = match numbers.up_to(8) {
-            0 => {
-                walker.turn();
-                plain.reverse();
-                true
-            }
-            1 | 2 | 3 => items.agree(walker.back(), plain.prev()),
-            _ => items.agree(walker.ahead(), plain.next()),
-        };
-        let counts = match walker.left_over() {
-            Some(count) => count == plain.left_over(),
-            None => true,
-        };
-        if !agrees || !counts {
+        if !steps_agree(numbers, walker, &mut plain, items) {
             return Err(Fail::from("a walk went astray"));
         }
     }
     Ok(())
 }
 
+fn walk_bytes(
+    numbers: &mut Numbers,
+    slice: &RopeSlice<'_>,
+    items: &Items<'_>,
+    char_idx: usize,
+) -> Result<(), Fail> {
+    let byte_idx = char_to_byte(items.plain.text, char_idx);
+    let mut cursor = given(slice.get_bytes_at(byte_idx))?;
+    let partner = PlainCursor::at(items.bytes.len(), byte_idx);
+    walk(numbers, &mut cursor, partner, items)
+}
+
+fn walk_chars(
+    numbers: &mut Numbers,
+    slice: &RopeSlice<'_>,
+    items: &Items<'_>,
+    char_idx: usize,
+) -> Result<(), Fail> {
+    let mut cursor = given(slice.get_chars_at(char_idx))?;
+    let partner = PlainCursor::at(items.plain.text.len(), char_idx);
+    walk(numbers, &mut cursor, partner, items)
+}
+
+fn walk_lines(
+    numbers: &mut Numbers,
+    slice: &RopeSlice<'_>,
+    items: &Items<'_>,
+    line_idx: usize,
+) -> Result<(), Fail> {
+    let mut cursor = given(slice.get_lines_at(line_idx))?;
+    let partner = PlainCursor::at(items.line_count(), line_idx);
+    walk(numbers, &mut cursor, partner, items)
+}
+
 /// A walk of each kind over a slice, each from a random place or from an end.
 fn walk_all(numbers: &mut Numbers, slice: &RopeSlice<'_>, items: &Items<'_>) -> Result<(), Fail> {
     let chars = items.plain.text.len();
     let char_idx = numbers.up_to(chars);
-    let byte_idx = char_to_byte(items.plain.text, char_idx);
-    let lines = items.line_count();
-    let line_idx = numbers.up_to(lines);
-    let bytes = items.bytes.len();
-    let cursor = given(slice.get_bytes_at(byte_idx))?;
-    walk(numbers, cursor, PlainCursor::at(bytes, byte_idx), items)?;
-    let cursor = given(slice.get_chars_at(char_idx))?;
-    walk(numbers, cursor, PlainCursor::at(chars, char_idx), items)?;
-    let cursor = given(slice.get_lines_at(line_idx))?;
-    walk(numbers, cursor, PlainCursor::at(lines, line_idx), items)?;
-    walk(
-        numbers,
-        slice.chunks(),
-        PlainCursor::at(items.ends.len(), 0),
-        items,
-    )?;
-    walk_chunks(numbers, slice, items, char_idx)
+    let line_idx = numbers.up_to(items.line_count());
+    walk_bytes(numbers, slice, items, char_idx)?;
+    walk_chars(numbers, slice, items, char_idx)?;
+    walk_lines(numbers, slice, items, line_idx)?;
+    let from_start = PlainCursor::at(items.ends.len(), 0);
+    walk(numbers, &mut slice.chunks(), from_start, items)?;
+    walk_chunks(numbers, slice, items, char_idx)?;
+    walk_chunks(numbers, slice, items, chars)
 }
 
-/// Walks over chunks from the one that holds a character, and from the end.
+/// A walk over chunks from the one that holds a character, or from the end.
 fn walk_chunks(
     numbers: &mut Numbers,
     slice: &RopeSlice<'_>,
     items: &Items<'_>,
     char_idx: usize,
 ) -> Result<(), Fail> {
-    let chars = items.plain.text.len();
-    for place in [char_idx, chars] {
-        let (cursor, bytes, before, break_count) = given(slice.get_chunks_at_char(place))?;
-        let mut index: usize = 0;
-        let mut start: usize = 0;
-        for end in &items.ends {
-            if *end <= place {
-                index = index.saturating_add(1);
-                start = *end;
-            }
-        }
-        if (bytes, before, break_count) != items.plain.counts_before(start) {
-            return Err(Fail::from("a cursor gives other counts"));
-        }
-        let plain = PlainCursor::at(items.ends.len(), index);
-        walk(numbers, cursor, plain, items)?;
+    let (mut cursor, bytes, before, break_count) = given(slice.get_chunks_at_char(char_idx))?;
+    let (index, start) = items.chunk_start(char_idx);
+    if (bytes, before, break_count) != items.plain.counts_before(start) {
+        return Err(Fail::from("a cursor gives other counts"));
     }
-    Ok(())
+    let partner = PlainCursor::at(items.ends.len(), index);
+    walk(numbers, &mut cursor, partner, items)
 }
 
-/// Walks over a rope and over two slices of it.
+/// Walks over a random slice of a rope.
+fn walk_slice(
+    alloc: Global,
+    numbers: &mut Numbers,
+    pair: &Pair,
+    all: &PlainSlice<'_>,
+) -> Result<(), Fail> {
+    let (start, end) = random_range(numbers, pair.plain().len());
+    let slice = slice_of(numbers, pair, start, end)?;
+    let items = Items::new(alloc, all.part(start, end))?;
+    walk_all(numbers, &slice, &items)
+}
+
+/// Walks over three slices of a random rope.
 fn walk_rope(alloc: Global, numbers: &mut Numbers, breaks: LineBreaks) -> Result<(), Fail> {
     let pair = edited(alloc, numbers, breaks)?;
     let ends = pair.chunk_ends(alloc)?;
@@ -264,31 +331,34 @@ fn walk_rope(alloc: Global, numbers: &mut Numbers, breaks: LineBreaks) -> Result
         breaks,
     };
     for _ in 0..3 {
-        let (start, end) = random_range(numbers, pair.plain().len());
-        let slice = slice_of(numbers, &pair, start, end)?;
-        let items = Items::new(alloc, all.part(start, end))?;
-        walk_all(numbers, &slice, &items)?;
+        walk_slice(alloc, numbers, &pair, &all)?;
     }
     Ok(())
 }
 
-/// Walks over a plain text.
+/// Walks over a slice of a plain text.
+fn walk_text(
+    alloc: Global,
+    numbers: &mut Numbers,
+    slice: &RopeSlice<'_>,
+    all: PlainSlice<'_>,
+) -> Result<(), Fail> {
+    let items = Items::new(alloc, all)?;
+    walk_all(numbers, slice, &items)
+}
+
+/// Walks over a random plain text.
 fn walk_str(alloc: Global, numbers: &mut Numbers, breaks: LineBreaks) -> Result<(), Fail> {
     let text = random_text(alloc, numbers, 300)?;
     let plain = chars_of(alloc, text.as_str())?;
-    let ends = [plain.len()];
     let all = PlainSlice {
         text: &plain,
         before: 0,
-        ends: &ends,
+        ends: &[plain.len()],
         breaks,
     };
-    let items = Items::new(alloc, all)?;
-    walk_all(
-        numbers,
-        &RopeSlice::from_str_with(text.as_str(), breaks),
-        &items,
-    )
+    let slice = RopeSlice::from_str_with(text.as_str(), breaks);
+    walk_text(alloc, numbers, &slice, all)
 }
 
 #[test]
