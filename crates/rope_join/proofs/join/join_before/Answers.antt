@@ -23,10 +23,10 @@ unite-requires-clause-join c =
 
 pub pack-requires-clause-after : goal.pack-requires-clause-after
 pack-requires-clause-after c = IfSome_then c.args.row.totals c.requires.row (λ totals p.
-  let ts = c.args.row.nodes.now in
-  let few = part_within ts totals.now c.args.row.from p in
-  let from : c.args.row.from + 1 ≡ c.saturating_add.result = omega (arith, few, p.children.at_most_24, c.saturating_add.ensures) in
-  rw (take_rest ts 1) (subst (IsPart (drop 1 ts) totals.now) from (part_rest ts totals.now c.args.row.from p 1 1 (omega (arith, c.requires.some)))))
+    let ts = c.args.row.nodes.now in
+    let few = part_within ts totals.now c.args.row.from p in
+    let from : c.args.row.from + 1 ≡ c.saturating_add.result = omega (arith, few, p.children.at_most_24, c.saturating_add.ensures) in
+    rw (take_rest ts 1) (subst (IsPart (drop 1 ts) totals.now) from (part_rest ts totals.now c.args.row.from p 1 1 (omega (arith, c.requires.some)))))
 
 pub pack-requires-clause-siblings : goal.pack-requires-clause-siblings
 pack-requires-clause-siblings c =

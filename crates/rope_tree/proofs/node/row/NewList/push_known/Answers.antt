@@ -1,11 +1,11 @@
-use Rattle.std.proofs.Common.{◌≡◌, ◌+◌, ◌≤◌, length, take, refl, arith}
+use Rattle.std.proofs.Common.{◌≡◌, take, refl, arith}
 use Rattle.rope_text.specs.TextInfo.{info_of}
 use Rattle.rope_tree.specs.Tree.{joined, breaks_of}
 use Rattle.rope_tree.specs.NewList.{nodes_in}
 use Rattle.rope_tree.proofs.NodeLaws.{small_totals}
 use Rattle.rope_tree.proofs.SiblingLaws.{byte_len-append}
 use Rattle.rope_tree.proofs.Descents.{front_is}
-use Rattle.rope_tree.proofs.PartLaws.{part_within, small_before, small_part, has_base, part_fits, part_in, is_new_list_part, part_counted}
+use Rattle.rope_tree.proofs.PartLaws.{small_before, small_part, has_base, part_fits, part_in, is_new_list_part, part_counted}
 use Rattle.rope_tree.proofs.node.row.NewList.push_known.Goals.{After-total_before-base}
 use Rattle.rope_tree.proofs.node.row.NewList.push_known.Goals as goal
 

@@ -1,9 +1,8 @@
 -- From the place on each total is one of the others.
-use Rattle.std.proofs.Common.{◌≡◌, ℕ, ◌+◌, ◌-◌, ◌<◌, ◌≤◌, inl, inr, length, get_or, sym, ap, subst, ◌∙◌, arith}
-use Rattle.std.proofs.lemmas.Bool.{cases_lt}
+use Rattle.std.proofs.Common.{◌≡◌, ℕ, ◌+◌, ◌-◌, ◌<◌, ◌≤◌, length, get_or, sym, ap, subst, ◌∙◌, arith}
 use Rattle.rope_text.specs.declared.text_info.TextInfo.{TextInfo}
 use Rattle.rope_text.specs.TextInfo.{info_sum}
-use Rattle.rope_tree.specs.Search.{HasPart, IsSmall}
+use Rattle.rope_tree.specs.Search.{HasPart}
 use Rattle.rope_tree.specs.Narrow.{FitsWith}
 use Rattle.rope_tree.proofs.search.narrow.NarrowTotals.append_with.Goals.{After-append}
 use Rattle.rope_tree.proofs.search.narrow.NarrowTotals.append_with.Goals as goal

@@ -4,7 +4,6 @@ use Rattle.std.proofs.lemmas.Bool.{cases_lt}
 use Rattle.rope_text.specs.declared.text_info.TextInfo.{TextInfo}
 use Rattle.rope_text.specs.TextInfo.{info_sum}
 use Rattle.rope_tree.specs.Search.{HasPart, IsSmall}
-use Rattle.rope_tree.specs.Narrow.{FitsWith}
 use Rattle.rope_tree.proofs.search.wide.WideTotals.append_with.Goals.{After-append}
 use Rattle.rope_tree.proofs.search.wide.WideTotals.append_with.Goals as goal
 
