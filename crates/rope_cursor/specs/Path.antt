@@ -1,6 +1,7 @@
 -- A way from the root of a tree to a leaf, seen as a place among the leaves.
 use Rattle.std.specs.Prelude.{◌≡◌, ℕ, ◌+◌, ◌-◌, ◌<◌, ◌≤◌, List, [], ◌∷◌, ◌++◌, length, take, drop, get_or, All}
 use Rattle.std.specs.List.{concat, flat_map}
+use Rattle.rope_text.specs.declared.TheConstants.{MAX_CHILDREN, MAX_HEIGHT}
 use Rattle.rope_text.specs.declared.line_breaks.LineBreaks.{LineBreaks}
 use Rattle.rope_text.specs.declared.text_info.TextInfo.{TextInfo}
 use Rattle.rope_text.specs.TextInfo.{info_of}
@@ -55,15 +56,15 @@ pub record IsLow (t : Tree) (n : ℕ) : Type 0 where
 -- a frame stands at one of its nodes, each of which has at most n levels below it
 pub record IsFrame (f : Frame) (n : ℕ) : Type 0 where
   pub within : f.at < length f.children.now
-  pub few : length f.children.now ≤ 24
+  pub few : length f.children.now ≤ MAX_CHILDREN
   pub low : All (λ rc. IsLow rc n) f.children.now
 
 -- the first `level` of 18 frames: at each of them, what stands before, the leaves below its children, and what stands after
 -- are the whole
 pub record AreFrames (frames : List Frame) (level : ℕ) (whole : List (List ℕ)) : Type 0 where
-  pub room : level ≤ 18
-  pub len : length frames ≡ 18
-  pub fit : (i : ℕ) (d : Frame) → i < level → IsFrame (get_or frames i d) (17 - i)
+  pub room : level ≤ MAX_HEIGHT
+  pub len : length frames ≡ MAX_HEIGHT
+  pub fit : (i : ℕ) (d : Frame) → i < level → IsFrame (get_or frames i d) (MAX_HEIGHT - 1 - i)
   pub parts : (i : ℕ) (d : Frame) → i < level →
       before_of (take i frames) ++ (leaves_below (get_or frames i d).children.now ++ after_of (take i frames)) ≡ whole
 

@@ -3,6 +3,7 @@ ghost use Rattle.std.specs.Prelude.{◌≡◌, ◌+◌, ◌-◌, ◌<◌, ◌^�
 ghost use Rattle.std.specs.Bool.{OnTrue, OnFalse};
 ghost use Rattle.std.specs.List.{concat, All};
 ghost use Rattle.std.specs.Str.{chars};
+ghost use Rattle.rope_text.specs.declared.TheConstants.{MAX_HEIGHT};
 ghost use Rattle.rope_text.specs.Text.{byte_len};
 ghost use Rattle.rope_text.specs.TextInfo.{info_of};
 ghost use Rattle.rope_tree.specs.Search.{count_of};
@@ -10,7 +11,7 @@ ghost use Rattle.rope_tree.specs.Leaves.{AreLeaves};
 ghost use Rattle.rope_tree.specs.Tree.{text};
 ghost use Rattle.rope_cursor.specs.Path.{before_of, after_of, around, place_of, AreFrames, AreFramesOf, LeadsTo, HasNextAt, HasPrevAt, IsLow, IsNext, HoldsPlace, leaves, leaves_below};
 
-use rope_text::{Steps, TextInfo};
+use rope_text::{MAX_HEIGHT, Steps, TextInfo};
 use rope_tree::lookup::total_before;
 use rope_tree::node::{Node, View};
 use rope_tree::search::{Unit, count, place_of};
@@ -28,7 +29,7 @@ struct Frame<'a> {
 pub struct Path<'a> {
     leaf: &'a str,
     depth: usize,
-    frames: [Frame<'a>; 18],
+    frames: [Frame<'a>; MAX_HEIGHT],
 }
 
 impl<'a> Model for Path<'a> {
@@ -82,9 +83,9 @@ pub(crate) fn lowest_text(node: &Node) -> &str
 }
 
 // Goes down from a node at a level to its first leaf. Answers how many frames lead there, and the leaf's text.
-fn enter_first<'a>(frames: &mut [Frame<'a>; 18], level: usize, node: &'a Node) -> (usize, &'a str)
+fn enter_first<'a>(frames: &mut [Frame<'a>; MAX_HEIGHT], level: usize, node: &'a Node) -> (usize, &'a str)
     requires frames { AreFrames frames.old level (around frames.old level node.now.leaves) }
-    requires low { IsLow node.now (18 - level) }
+    requires low { IsLow node.now (MAX_HEIGHT - level) }
     ensures leads { LeadsTo frames.new result.0 (chars result.1.now) (around frames.old level node.now.leaves) }
     ensures before { before_of (take result.0 frames.new) ≡ before_of (take level frames.old) }
 {
@@ -104,9 +105,9 @@ fn enter_first<'a>(frames: &mut [Frame<'a>; 18], level: usize, node: &'a Node) -
 // What `enter_first` does. Most nodes that a step reaches are leaves, and for these it is kept where it is called, and its
 // answer in registers: so it takes apart what `enter_first` answers, which comes through memory.
 #[inline(always)]
-fn reach_first<'a>(frames: &mut [Frame<'a>; 18], level: usize, node: &'a Node) -> (usize, &'a str)
+fn reach_first<'a>(frames: &mut [Frame<'a>; MAX_HEIGHT], level: usize, node: &'a Node) -> (usize, &'a str)
     requires frames { AreFrames frames.old level (around frames.old level node.now.leaves) }
-    requires low { IsLow node.now (18 - level) }
+    requires low { IsLow node.now (MAX_HEIGHT - level) }
     ensures leads { LeadsTo frames.new result.0 (chars result.1.now) (around frames.old level node.now.leaves) }
     ensures before { before_of (take result.0 frames.new) ≡ before_of (take level frames.old) }
 {
@@ -118,9 +119,9 @@ fn reach_first<'a>(frames: &mut [Frame<'a>; 18], level: usize, node: &'a Node) -
 }
 
 // Goes down from a node at a level to its last leaf.
-fn enter_last<'a>(frames: &mut [Frame<'a>; 18], level: usize, node: &'a Node) -> (usize, &'a str)
+fn enter_last<'a>(frames: &mut [Frame<'a>; MAX_HEIGHT], level: usize, node: &'a Node) -> (usize, &'a str)
     requires frames { AreFrames frames.old level (around frames.old level node.now.leaves) }
-    requires low { IsLow node.now (18 - level) }
+    requires low { IsLow node.now (MAX_HEIGHT - level) }
     ensures leads { LeadsTo frames.new result.0 (chars result.1.now) (around frames.old level node.now.leaves) }
     ensures after { after_of (take result.0 frames.new) ≡ after_of (take level frames.old) }
 {
@@ -136,9 +137,9 @@ fn enter_last<'a>(frames: &mut [Frame<'a>; 18], level: usize, node: &'a Node) ->
 
 // What `enter_last` does, kept where it is called, as `reach_first` is.
 #[inline(always)]
-fn reach_last<'a>(frames: &mut [Frame<'a>; 18], level: usize, node: &'a Node) -> (usize, &'a str)
+fn reach_last<'a>(frames: &mut [Frame<'a>; MAX_HEIGHT], level: usize, node: &'a Node) -> (usize, &'a str)
     requires frames { AreFrames frames.old level (around frames.old level node.now.leaves) }
-    requires low { IsLow node.now (18 - level) }
+    requires low { IsLow node.now (MAX_HEIGHT - level) }
     ensures leads { LeadsTo frames.new result.0 (chars result.1.now) (around frames.old level node.now.leaves) }
     ensures after { after_of (take result.0 frames.new) ≡ after_of (take level frames.old) }
 {
@@ -162,7 +163,7 @@ struct Held<'a> {
 // Goes down from a node at a level to the leaf that holds a place of its text; `before` are the counts of the text before
 // the node.
 fn enter_at<'a>(
-    frames: &mut [Frame<'a>; 18],
+    frames: &mut [Frame<'a>; MAX_HEIGHT],
     level: usize,
     node: &'a Node,
     before: TextInfo,
@@ -170,7 +171,7 @@ fn enter_at<'a>(
     at: usize,
 ) -> Held<'a>
     requires frames { AreFrames frames.old level (around frames.old level node.now.leaves) }
-    requires low { IsLow node.now (18 - level) }
+    requires low { IsLow node.now (MAX_HEIGHT - level) }
     requires within { at < count_of unit (info_of node.now.breaks (text node.now)) }
     requires before { before ≡ info_of node.now.breaks (concat (before_of (take level frames.old))) }
     requires leaves { AreLeaves (around frames.old level node.now.leaves) }
@@ -205,7 +206,7 @@ fn enter_at<'a>(
 }
 
 // The deepest frame that has a child after its own.
-fn level_with_next(frames: &[Frame<'_>; 18], depth: usize) -> Option<usize>
+fn level_with_next(frames: &[Frame<'_>; MAX_HEIGHT], depth: usize) -> Option<usize>
     requires { AreFramesOf frames.now depth }
     ensures found { IfSome result (HasNextAt frames.now depth) }
     ensures none { IfNone result (after_of (take depth frames.now) ≡ []) }
@@ -223,7 +224,7 @@ fn level_with_next(frames: &[Frame<'_>; 18], depth: usize) -> Option<usize>
 }
 
 // The deepest frame that has a child before its own.
-fn level_with_prev(frames: &[Frame<'_>; 18], depth: usize) -> Option<usize>
+fn level_with_prev(frames: &[Frame<'_>; MAX_HEIGHT], depth: usize) -> Option<usize>
     requires { AreFramesOf frames.now depth }
     ensures found { IfSome result (HasPrevAt frames.now depth) }
     ensures none { IfNone result (before_of (take depth frames.now) ≡ []) }
@@ -243,7 +244,7 @@ fn level_with_prev(frames: &[Frame<'_>; 18], depth: usize) -> Option<usize>
 // Goes on from a leaf to the next one, by the frame at a level.
 #[inline(always)]
 fn go_right<'a>(
-    frames: &mut [Frame<'a>; 18],
+    frames: &mut [Frame<'a>; MAX_HEIGHT],
     depth: usize,
     leaf: &'a str,
     level: usize,
@@ -264,7 +265,7 @@ fn go_right<'a>(
 // Goes back from a leaf to the one before, by the frame at a level.
 #[inline(always)]
 fn go_left<'a>(
-    frames: &mut [Frame<'a>; 18],
+    frames: &mut [Frame<'a>; MAX_HEIGHT],
     depth: usize,
     leaf: &'a str,
     level: usize,
@@ -285,7 +286,7 @@ fn go_left<'a>(
 // Moves the deepest frame to its last child, where all children after its own are leaves and there are some. Answers these, and
 // the text of the last. Elsewhere nothing is changed.
 fn to_last_leaf<'a>(
-    frames: &mut [Frame<'a>; 18],
+    frames: &mut [Frame<'a>; MAX_HEIGHT],
     depth: usize,
     leaf: &'a str,
 ) -> Option<(&'a [Node], &'a str)>
@@ -321,7 +322,7 @@ impl<'a> Path<'a> {
         let mut frames = [Frame {
             children: &[],
             at: 0,
-        }; 18];
+        }; MAX_HEIGHT];
         let held = enter_at(&mut frames, 0, node, TextInfo::new(), unit, at);
         let path = Path {
             leaf: held.leaf,
@@ -343,7 +344,7 @@ impl<'a> Path<'a> {
             frames: [Frame {
                 children: &[],
                 at: 0,
-            }; 18],
+            }; MAX_HEIGHT],
         }
     }
 

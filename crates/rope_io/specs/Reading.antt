@@ -2,6 +2,7 @@
 use Rattle.std.specs.Prelude.{◌≡◌, ℕ, ◌+◌, ◌^◌, ◌<◌, ◌≤◌, Bool, true, false, List, [], ◌∷◌, length, Option, None, Some, Result, Ok, Err, ⊤}
 use Rattle.std.specs.Str.{encode_utf8_all}
 use Rattle.std.specs.Io.KnownBytes.{Consumes, IsAtEnd}
+use Rattle.rope_text.specs.declared.TheConstants.{BUFFER_BYTES}
 use Rattle.rope_text.specs.Edit.{size_error, IsRefusal}
 use Rattle.rope_text.specs.Read.{text_front, text_rest, IsRefused}
 use Rattle.rope_io.specs.declared.error.ReadError.{ReadError}
@@ -23,9 +24,9 @@ module _ {R : Type 0} (text_of : R → List ℕ) where
   -- they are, and so is a text that is too long
   abbrev pub Answers : List ℕ → Option (List ℕ) → Bool → Result R ReadError → Type 0
   Answers bytes left failed (Ok rope) = (encode_utf8_all (text_of rope) ≡ bytes) × (length (text_rest bytes) ≡ 0) × IsAtEnd left × (failed ≡ false)
-  Answers bytes left failed (Err (Read e)) = (length (text_rest bytes) < 1968) × Fits bytes × (failed ≡ true)
-  Answers bytes left failed (Err InvalidData) = IsRefused bytes (has_ended left) × (length (text_rest bytes) ≤ 1968) × Fits bytes × (failed ≡ false)
-  Answers bytes left failed (Err (Rope e)) = IsRefusal (size_error (length (text_front bytes))) e × (length bytes < 2 ^ 63 + 1968) × (failed ≡ false)
+  Answers bytes left failed (Err (Read e)) = (length (text_rest bytes) < BUFFER_BYTES) × Fits bytes × (failed ≡ true)
+  Answers bytes left failed (Err InvalidData) = IsRefused bytes (has_ended left) × (length (text_rest bytes) ≤ BUFFER_BYTES) × Fits bytes × (failed ≡ false)
+  Answers bytes left failed (Err (Rope e)) = IsRefusal (size_error (length (text_front bytes))) e × (length bytes < 2 ^ 63 + BUFFER_BYTES) × (failed ≡ false)
 
   -- the bytes that were given, by what the device had to give before and has now, decide the answer
   abbrev pub Reads : Option (List ℕ) → Option (List ℕ) → Bool → Result R ReadError → Type 0

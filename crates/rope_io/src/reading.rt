@@ -1,6 +1,7 @@
 //! Texts read to the reader's end.
-ghost use Rattle.std.specs.Prelude.{◌≡◌, ◌+◌, ◌^◌, ◌<◌, ◌≤◌, ◌*◌, ◌/◌, ◌++◌, false, [], length, take, OnOk, IfOk, IfErr};
+ghost use Rattle.std.specs.Prelude.{◌≡◌, ◌+◌, ◌-◌, ◌^◌, ◌<◌, ◌≤◌, ◌*◌, ◌/◌, ◌++◌, false, [], length, take, OnOk, IfOk, IfErr};
 ghost use Rattle.std.specs.Str.{IsUtf8, encode_utf8_all};
+ghost use Rattle.rope_text.specs.declared.TheConstants.{MIN_CUT_BYTES};
 ghost use Rattle.rope_text.specs.Text.{byte_len};
 ghost use Rattle.rope_text.specs.Edit.{size_error, IsRefusal};
 ghost use Rattle.rope_text.specs.Read.{text_front, text_rest};
@@ -16,7 +17,7 @@ use rope_tree::node::Node;
 use std::alloc::Global;
 
 // How many bytes are held at once, and are refused where they begin with no character.
-const BUFFER_BYTES: usize = 1968;
+const BUFFER_BYTES: usize = rope_text::BUFFER_BYTES;
 
 // The longest front of the bytes that is a text.
 fn front_of(bytes: &[u8]) -> &str
@@ -125,7 +126,7 @@ pub fn read_tree<S: Source>(
     ensures once { S.failures source.new ≡ count_failure (reader_failure result) (S.failures source.old) }
     ensures breaks { IfOk result (λ node. node.breaks ≡ breaks) }
     ensures tree { IfOk result (λ node. IsTree node) }
-    ensures few { IfOk result (λ node. length node.leaves ≤ (byte_len (text node) + 980) / 981) }
+    ensures few { IfOk result (λ node. length node.leaves ≤ (byte_len (text node) + (MIN_CUT_BYTES - 1)) / MIN_CUT_BYTES) }
 {
     source.clear();
     let mut builder = Builder::new(alloc, breaks);

@@ -1,5 +1,6 @@
 -- What trees joined and gathered are.
 use Rattle.std.specs.Prelude.{◌≡◌, ◌+◌, ◌^◌, ◌≤◌, ◌<◌, max, List, [], ◌∷◌}
+use Rattle.rope_text.specs.declared.TheConstants.{MAX_CHILDREN, MIN_PAIR_BYTES}
 use Rattle.rope_text.specs.Text.{byte_len}
 use Rattle.rope_text.specs.Dense.{IsDenseBehind, last_bytes}
 use Rattle.rope_tree.specs.Leaves.{IsSeam, Recuts}
@@ -14,7 +15,7 @@ pub record CanJoin (left right : Tree) : Type 0 where
 
 -- where the two meet, one of them is a leaf, or the last leaf of the one and the first of the other have 492 bytes or more together
 pub record IsNear (left right : Tree) : Type 0 where
-  pub near : 1 ≤ left.height → 1 ≤ right.height → IsDenseBehind (last_bytes 492 left.leaves) right.leaves
+  pub near : 1 ≤ left.height → 1 ≤ right.height → IsDenseBehind (last_bytes MIN_PAIR_BYTES left.leaves) right.leaves
 
 -- the two trees as one tree or two of the greater height
 pub record IsUnion (left right : Tree) (ts : List Tree) : Type 0 where
@@ -29,8 +30,8 @@ pub record IsJoin (left right t : Tree) : Type 0 where
   pub recuts : Recuts left.leaves right.leaves t.leaves
   pub least : max left.height right.height ≤ t.height
   pub most : t.height ≤ max left.height right.height + 1
-  pub below_left : right.height < left.height → left.width < 24 → t.height ≡ left.height
-  pub below_right : left.height < right.height → right.width < 24 → t.height ≡ right.height
+  pub below_left : right.height < left.height → left.width < MAX_CHILDREN → t.height ≡ left.height
+  pub below_right : left.height < right.height → right.width < MAX_CHILDREN → t.height ≡ right.height
 
 -- trees side by side as one: the only one, or a node over them
 abbrev pub gathered : List Tree → Tree

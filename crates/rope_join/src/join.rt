@@ -1,5 +1,6 @@
 //! Two trees as one.
 ghost use Rattle.std.specs.Prelude.{◌≡◌, ◌+◌, ◌-◌, ◌*◌, ◌<◌, ◌≤◌, [], ◌∷◌, ◌++◌, true, false, length, max, IfOk};
+ghost use Rattle.rope_text.specs.declared.TheConstants.{MAX_BYTES, MAX_CHILDREN, MIN_PAIR_BYTES};
 ghost use Rattle.rope_text.specs.Text.{byte_len};
 ghost use Rattle.rope_text.specs.Dense.{IsDenseBehind, last_bytes};
 ghost use Rattle.rope_tree.specs.Tree.{height_of, breaks_of};
@@ -18,7 +19,7 @@ use std::alloc::{AllocError, Global};
 
 /// One text of two that fit in one leaf.
 fn joined_text(first: &ShortText<'_>, second: &ShortText<'_>) -> NodeText
-    requires { byte_len first.now + byte_len second.now ≤ 984 }
+    requires { byte_len first.now + byte_len second.now ≤ MAX_BYTES }
     ensures value { result ≡ first.now ++ second.now }
 {
     let mut text = NodeText::from_str(first.as_str());
@@ -28,10 +29,10 @@ fn joined_text(first: &ShortText<'_>, second: &ShortText<'_>) -> NodeText
 
 /// Whether two leaves of so many bytes become one: they fit in it, and one of them is short.
 fn become_one(first: usize, second: usize) -> bool
-    requires first { first ≤ 984 }
-    requires second { second ≤ 984 }
-    ensures fit { result ≡ true → first + second ≤ 984 }
-    ensures near { result ≡ false → 492 ≤ first + second }
+    requires first { first ≤ MAX_BYTES }
+    requires second { second ≤ MAX_BYTES }
+    ensures fit { result ≡ true → first + second ≤ MAX_BYTES }
+    ensures near { result ≡ false → MIN_PAIR_BYTES ≤ first + second }
 {
     first + second <= MAX_BYTES && (first < MIN_BYTES || second < MIN_BYTES)
 }
@@ -51,7 +52,7 @@ fn merge(alloc: Global, left: &Node, right: &Node, made: &mut u64) -> Result<Nod
     requires right_some { 1 ≤ length right.now.leaves }
     requires join { CanJoin left.now right.now }
     requires height { left.now.height ≡ right.now.height }
-    requires near { 1 ≤ left.now.height → IsDenseBehind (last_bytes 492 left.now.leaves) right.now.leaves }
+    requires near { 1 ≤ left.now.height → IsDenseBehind (last_bytes MIN_PAIR_BYTES left.now.leaves) right.now.leaves }
     ensures union { IfOk result (λ nodes. IsUnion left.now right.now (trees_in nodes)) }
     ensures made { made.new ≤ made.old + 2 }
 {
@@ -199,7 +200,7 @@ pub fn join_behind(
     requires row { IsRow row }
     requires siblings { AreSiblings (breaks_of row.nodes.now) (height_of row.nodes.now) row.nodes.now }
     requires some { 1 ≤ length row.nodes.now }
-    requires at_most_24 { length row.nodes.now ≤ 24 }
+    requires at_most_24 { length row.nodes.now ≤ MAX_CHILDREN }
     requires right_some { 1 ≤ length right.now.leaves }
     requires no_higher { right.now.height ≤ height_of row.nodes.now }
     requires join { CanJoin (gathered row.nodes.now) right.now }
@@ -239,7 +240,7 @@ pub fn join_before(
     requires row { IsRow row }
     requires siblings { AreSiblings (breaks_of row.nodes.now) (height_of row.nodes.now) row.nodes.now }
     requires some { 1 ≤ length row.nodes.now }
-    requires at_most_24 { length row.nodes.now ≤ 24 }
+    requires at_most_24 { length row.nodes.now ≤ MAX_CHILDREN }
     requires left_some { 1 ≤ length left.now.leaves }
     requires no_higher { left.now.height ≤ height_of row.nodes.now }
     requires join { CanJoin left.now (gathered row.nodes.now) }

@@ -1,5 +1,6 @@
 //! The two leaves next to where two trees meet.
 ghost use Rattle.std.specs.Prelude.{◌≡◌, ℕ, ◌+◌, ◌≤◌, ◌↔◌, length, IsTrue};
+ghost use Rattle.rope_text.specs.declared.TheConstants.{MAX_BYTES, MIN_PAIR_BYTES};
 ghost use Rattle.rope_text.specs.Dense.{IsDenseBehind, last_bytes};
 
 use rope_text::MIN_PAIR_BYTES;
@@ -9,7 +10,7 @@ use rope_tree::node::{Node, View};
 fn last_leaf_len(node: &Node) -> usize
     requires { 1 ≤ length node.now.leaves }
     ensures value { (n : ℕ) → result ≡ last_bytes n node.now.leaves }
-    ensures fits { result ≤ 984 }
+    ensures fits { result ≤ MAX_BYTES }
 {
     match node.view() {
         View::Leaf(leaf) => leaf.len(),
@@ -20,8 +21,8 @@ fn last_leaf_len(node: &Node) -> usize
 /// The bytes of a tree's first leaf: with those of what stands before it, they say whether the tree may stand there.
 fn first_leaf_len(node: &Node) -> usize
     requires { 1 ≤ length node.now.leaves }
-    ensures value { (n : ℕ) → 492 ≤ n + result ↔ IsDenseBehind n node.now.leaves }
-    ensures fits { result ≤ 984 }
+    ensures value { (n : ℕ) → MIN_PAIR_BYTES ≤ n + result ↔ IsDenseBehind n node.now.leaves }
+    ensures fits { result ≤ MAX_BYTES }
 {
     match node.view() {
         View::Leaf(leaf) => leaf.len(),
@@ -33,7 +34,7 @@ fn first_leaf_len(node: &Node) -> usize
 pub(crate) fn is_near(left: &Node, right: &Node) -> bool
     requires left_some { 1 ≤ length left.now.leaves }
     requires right_some { 1 ≤ length right.now.leaves }
-    ensures { IsTrue result ↔ IsDenseBehind (last_bytes 492 left.now.leaves) right.now.leaves }
+    ensures { IsTrue result ↔ IsDenseBehind (last_bytes MIN_PAIR_BYTES left.now.leaves) right.now.leaves }
 {
     last_leaf_len(left) + first_leaf_len(right) >= MIN_PAIR_BYTES
 }

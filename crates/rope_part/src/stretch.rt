@@ -30,6 +30,7 @@ pub struct Stretch<'a> {
 }
 
 impl<'a> Stretch<'a> {
+    ghost use Rattle.rope_text.specs.declared.TheConstants.{MAX_HEIGHT};
     ghost use Rattle.rope_part.specs.Found.{IsFoundChunk, MeetsLeaf, first_in};
     ghost use Rattle.rope_part.specs.Kept.{IsPart};
     ghost use Rattle.rope_part.specs.Stretch.{content_of, text_of, chunks_of, breaks_of};
@@ -39,7 +40,7 @@ impl<'a> Stretch<'a> {
     pub(crate) fn place(&self, unit: Unit, idx: usize) -> usize
         requires { idx ≤ count_of unit (info_of (breaks_of self.now) (text_of self.now)) + 1 }
         ensures value { result ≡ count_of unit self.now.start + idx }
-        ensures low { self.now.node.now.height ≤ 18 }
+        ensures low { self.now.node.now.height ≤ MAX_HEIGHT }
         ensures tree { IsTree self.now.node.now }
     {
         let _ = self.node.height();

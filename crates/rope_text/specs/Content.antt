@@ -1,6 +1,7 @@
 -- What a rope or a slice shows.
-use Rattle.std.specs.Prelude.{◌≡◌, ℕ, ◌+◌, ◌/◌, ◌^◌, ◌<◌, ◌≤◌, true, List, length}
+use Rattle.std.specs.Prelude.{◌≡◌, ℕ, ◌+◌, ◌-◌, ◌/◌, ◌^◌, ◌<◌, ◌≤◌, true, List, length}
 use Rattle.std.specs.Str.{all_scalars}
+use Rattle.rope_text.specs.declared.TheConstants.{MIN_CUT_BYTES}
 use Rattle.rope_text.specs.declared.line_breaks.LineBreaks.{LineBreaks}
 use Rattle.rope_text.specs.Text.{byte_len}
 use Rattle.rope_text.specs.Cutting.{IsRopeCutting}
@@ -20,4 +21,4 @@ pub record IsRope (c : Content) : Type 0 where
 
 -- at most one chunk for each 981 bytes, and one for the rest
 abbrev pub HasFewChunks : Content → Type 0
-HasFewChunks c = length c.chunks ≤ (byte_len c.text + 980) / 981
+HasFewChunks c = length c.chunks ≤ (byte_len c.text + (MIN_CUT_BYTES - 1)) / MIN_CUT_BYTES

@@ -1,6 +1,7 @@
 -- Texts cut into chunks, and what a slice keeps of them.
 use Rattle.std.specs.Prelude.{◌≡◌, ℕ, ◌-◌, ◌<◌, ◌≤◌, Bool, false, ◌&&◌, List, [], ◌∷◌, length, All, ⊤}
 use Rattle.std.specs.List.{concat, slice_range}
+use Rattle.rope_text.specs.declared.TheConstants.{MAX_BYTES}
 use Rattle.rope_text.specs.Text.{byte_len}
 use Rattle.rope_text.specs.Breaks.{begins_with_lf, ends_in_cr}
 
@@ -20,7 +21,7 @@ KeepsCrlf (chunk ∷ chunks) = (parts_crlf chunk (concat chunks) ≡ false) × K
 
 -- how many bytes a chunk may have
 abbrev pub IsChunkSize : ℕ → Type 0
-IsChunkSize n = (1 ≤ n) × (n ≤ 984)
+IsChunkSize n = (1 ≤ n) × (n ≤ MAX_BYTES)
 
 -- the chunks of a rope with this text: 1 to 984 bytes each, and no CRLF cut
 pub record IsRopeCutting (text : List ℕ) (chunks : List (List ℕ)) : Type 0 where

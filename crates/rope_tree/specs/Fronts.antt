@@ -1,6 +1,7 @@
 -- Leaves cut off the front of a text, and the rest of it.
 use Rattle.std.specs.Prelude.{◌≡◌, ℕ, ◌+◌, ◌*◌, ◌<◌, ◌≤◌, ◌^◌, List, ◌++◌, length}
 use Rattle.std.specs.List.{All, concat}
+use Rattle.rope_text.specs.declared.TheConstants.{MIN_CUT_BYTES, MIN_PAIR_BYTES}
 use Rattle.rope_text.specs.declared.line_breaks.LineBreaks.{LineBreaks}
 use Rattle.rope_text.specs.Text.{byte_len}
 use Rattle.rope_text.specs.Dense.{last_bytes}
@@ -12,7 +13,7 @@ use Rattle.rope_tree.specs.declared.builder.Builder.TheInside.{Inside}
 pub record AreFronts (text : List ℕ) (leaves : List (List ℕ)) (rest : List ℕ) : Type 0 where
   pub whole : concat leaves ++ rest ≡ text
   pub are_leaves : AreLeaves leaves
-  pub long : 1 ≤ length rest → 492 ≤ last_bytes 492 leaves
+  pub long : 1 ≤ length rest → MIN_PAIR_BYTES ≤ last_bytes MIN_PAIR_BYTES leaves
   pub apart : IsSeam (concat leaves) rest
 
 -- leaf nodes side by side, and the rest of the text
@@ -31,7 +32,7 @@ building_of a = record { text = joined a.leaves.items ++ a.rest; breaks = a.brea
 -- the leaves are cut off the front of the text, each of 981 bytes or more, and something follows them that is in no leaf yet
 pub record IsBuilding (a : Inside) : Type 0 where
   pub nodes : AreFrontNodes a.breaks (joined a.leaves.items ++ a.rest) a.leaves.items a.rest
-  pub long : 981 * length (leaves_of a.leaves.items) + byte_len a.rest ≤ a.bytes
+  pub long : MIN_CUT_BYTES * length (leaves_of a.leaves.items) + byte_len a.rest ≤ a.bytes
   pub followed : 0 < length a.leaves.items → 0 < byte_len a.rest
   pub counted : a.bytes ≡ byte_len (joined a.leaves.items ++ a.rest)
   pub fits : a.bytes < 2 ^ 63

@@ -1,5 +1,6 @@
 -- What an insert into a tree needs and gives.
 use Rattle.std.specs.Prelude.{◌≡◌, ℕ, ◌+◌, ◌≤◌, ◌<◌, ◌⊎◌, Bool, true, false, List, length, drop}
+use Rattle.rope_text.specs.declared.TheConstants.{MAX_CHILDREN, MIN_HALF_BYTES}
 use Rattle.rope_text.specs.Breaks.{begins_with_lf}
 use Rattle.rope_tree.specs.Leaves.{AreLeaves, IsSeam, StandFor}
 use Rattle.rope_tree.specs.Tree.{Tree, text, joined, leaves_of, height_of, breaks_of}
@@ -20,13 +21,13 @@ pub record GoesIn (at i n : ℕ) (to_right : Bool) : Type 0 where
 pub record IsInserted (old : Tree) (ts : List Tree) (new : List ℕ) : Type 0 where
   pub text_is : joined ts ≡ new
   pub leaves : AreLeaves (leaves_of ts)
-  pub stand : 1 ≤ length old.leaves → StandFor 491 491 old.leaves (leaves_of ts)
+  pub stand : 1 ≤ length old.leaves → StandFor MIN_HALF_BYTES MIN_HALF_BYTES old.leaves (leaves_of ts)
   pub parts : AreParts old.breaks old.width (old.width + 1) old.height ts
 
 -- at least as many trees of the same height as before, and at most 24, of this text
 pub record AreGrown (old ts : List Tree) (new : List ℕ) : Type 0 where
   pub as_many : length old ≤ length ts
-  pub at_most_24 : length ts ≤ 24
+  pub at_most_24 : length ts ≤ MAX_CHILDREN
   pub text_is : joined ts ≡ new
   pub siblings : AreSiblings (breaks_of old) (height_of old) ts
-  pub stand : StandFor 491 491 (leaves_of old) (leaves_of ts)
+  pub stand : StandFor MIN_HALF_BYTES MIN_HALF_BYTES (leaves_of old) (leaves_of ts)

@@ -1,6 +1,7 @@
 -- What a leaf's fields are seen as, and what holds of them.
 use Rattle.std.specs.Prelude.{◌≡◌, ◌≤◌, true}
 use Rattle.std.specs.Str.{all_scalars}
+use Rattle.rope_text.specs.declared.TheConstants.{MAX_BYTES}
 use Rattle.rope_text.specs.Text.{byte_len}
 use Rattle.rope_text.specs.TextInfo.{info_of}
 use Rattle.rope_tree.specs.Tree.{Tree, leaf_tree}
@@ -11,6 +12,6 @@ leaf_of a = leaf_tree a.summary.breaks a.text
 
 -- a text that fits, with its counts
 pub record IsLeaf (a : Inside) : Type 0 where
-  pub fits : byte_len a.text ≤ 984
+  pub fits : byte_len a.text ≤ MAX_BYTES
   pub scalars : all_scalars a.text ≡ true
   pub counted : a.summary.info ≡ info_of a.summary.breaks a.text

@@ -1,6 +1,7 @@
 -- What the fields of a list of children are seen as, and what holds of them.
 use Rattle.std.specs.Prelude.{◌≡◌, ℕ, ◌+◌, max, List, [], ◌∷◌, length, take, drop}
 use Rattle.std.specs.List.{All}
+use Rattle.rope_text.specs.declared.TheConstants.{MAX_CHILDREN}
 use Rattle.rope_tree.specs.declared.node.Children.TheInside.{Inside}
 use Rattle.rope_tree.specs.Tree.{Tree, height_of, breaks_of}
 use Rattle.rope_tree.specs.Totals.{HasTotals}
@@ -17,7 +18,7 @@ listed a = take (length a.totals) a.nodes
 
 -- the totals, the height and the set of line breaks are those of the nodes, and behind the nodes stand empty ones
 pub record IsListed (a : Inside) : Type 0 where
-  pub room : length a.nodes ≡ 24
+  pub room : length a.nodes ≡ MAX_CHILDREN
   pub totals_right : HasTotals (breaks_of (listed a)) a.totals (listed a)
   pub above : a.height ≡ height_of (listed a) + 1
   pub same_breaks : a.breaks ≡ breaks_of (listed a)

@@ -1,6 +1,7 @@
 -- What running totals of few bits, kept by kind of count, are seen as.
 use Rattle.std.specs.Prelude.{◌≡◌, ℕ, ◌<◌, ◌≤◌, List, length, map, slice_index}
 use Rattle.std.specs.List.{range_with_len}
+use Rattle.rope_text.specs.declared.TheConstants.{MAX_CHILDREN}
 use Rattle.rope_text.specs.declared.text_info.TextInfo.{TextInfo}
 use Rattle.rope_tree.specs.declared.search.narrow.NarrowTotals.TheInside.{Inside}
 use Rattle.rope_tree.specs.Narrow.{IsNarrow}
@@ -14,9 +15,9 @@ all_totals a = map (counts_at a) (range_with_len 0 a.len)
 
 -- there are 24 places, of which the first are in use, with counts that fit
 pub record IsTotals (a : Inside) : Type 0 where
-  pub few : a.len ≤ 24
-  pub bytes : length a.bytes ≡ 24
-  pub chars : length a.chars ≡ 24
-  pub pairs : length a.pairs ≡ 24
-  pub breaks : length a.breaks ≡ 24
+  pub few : a.len ≤ MAX_CHILDREN
+  pub bytes : length a.bytes ≡ MAX_CHILDREN
+  pub chars : length a.chars ≡ MAX_CHILDREN
+  pub pairs : length a.pairs ≡ MAX_CHILDREN
+  pub breaks : length a.breaks ≡ MAX_CHILDREN
   pub narrow : (k : ℕ) → k < a.len → IsNarrow (counts_at a k)

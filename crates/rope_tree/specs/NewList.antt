@@ -1,6 +1,7 @@
 -- What holds of a list of children that is being made.
 use Rattle.std.specs.Prelude.{◌≡◌, List, length, take, drop}
 use Rattle.std.specs.List.{All}
+use Rattle.rope_text.specs.declared.TheConstants.{MAX_CHILDREN}
 use Rattle.rope_tree.specs.Tree.{Tree, breaks_of}
 use Rattle.rope_tree.specs.Totals.{HasTotals}
 use Rattle.rope_tree.specs.Flat.{IsFlat}
@@ -12,6 +13,6 @@ nodes_in a = take (length a.totals) a.nodes
 
 -- the totals are those of these nodes, and behind them stand empty ones
 pub record IsNewList (a : NewList) : Type 0 where
-  pub room : length a.nodes ≡ 24
+  pub room : length a.nodes ≡ MAX_CHILDREN
   pub totals_right : HasTotals (breaks_of (nodes_in a)) a.totals (nodes_in a)
   pub places : All IsFlat (drop (length a.totals) a.nodes)

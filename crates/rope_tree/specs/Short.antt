@@ -1,10 +1,11 @@
 -- A text that goes into a leaf, or lies in one.
 use Rattle.std.specs.Prelude.{◌≡◌, ◌≤◌, true, length}
 use Rattle.std.specs.Str.{chars, is_utf8}
+use Rattle.rope_text.specs.declared.TheConstants.{MAX_BYTES}
 use Rattle.rope_tree.specs.declared.short_text.ShortText.TheInside.{Inside}
 
 -- how many characters it has is known, or the count is more than that of its bytes
 pub record IsShort (s : Inside) : Type 0 where
   pub utf8 : is_utf8 s.text.now ≡ true
-  pub fits : length s.text.now ≤ 984
+  pub fits : length s.text.now ≤ MAX_BYTES
   pub counted : s.count ≤ length s.text.now → s.count ≡ length (chars s.text.now)

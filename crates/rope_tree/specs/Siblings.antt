@@ -1,6 +1,7 @@
 -- Trees side by side, and what becomes of them.
 use Rattle.std.specs.Prelude.{◌≡◌, ℕ, ◌^◌, ◌≤◌, ◌<◌, min, List, length}
 use Rattle.std.specs.List.{All}
+use Rattle.rope_text.specs.declared.TheConstants.{MAX_CHILDREN, MIN_CHILDREN}
 use Rattle.rope_text.specs.declared.line_breaks.LineBreaks.{LineBreaks}
 use Rattle.rope_text.specs.Text.{byte_len}
 use Rattle.rope_tree.specs.Leaves.{AreLeaves}
@@ -16,6 +17,6 @@ pub record AreSiblings (breaks : LineBreaks) (h : ℕ) (ts : List Tree) : Type 0
 pub record AreParts (breaks : LineBreaks) (least most h : ℕ) (ts : List Tree) : Type 0 where
   pub some : 1 ≤ length ts
   pub at_most_two : length ts ≤ 2
-  pub each : All (IsWide breaks (min 12 least) h) ts
+  pub each : All (IsWide breaks (min MIN_CHILDREN least) h) ts
   pub two : length ts ≡ 2 → All (IsChild breaks h) ts
-  pub full : length ts ≡ 2 → 1 ≤ h → 24 < most
+  pub full : length ts ≡ 2 → 1 ≤ h → MAX_CHILDREN < most

@@ -1,6 +1,7 @@
 -- What a node is seen as.
 use Rattle.std.specs.Prelude.{◌≡◌, ℕ, ◌+◌, ◌-◌, ◌*◌, ◌^◌, ◌≤◌, ◌<◌, List, [], ◌∷◌, length}
 use Rattle.std.specs.List.{All, flat_map, concat}
+use Rattle.rope_text.specs.declared.TheConstants.{MAX_CHILDREN, MIN_CHILDREN}
 use Rattle.rope_text.specs.declared.line_breaks.LineBreaks.{LineBreaks}
 use Rattle.rope_text.specs.declared.line_breaks.LineBreaks.TheVariants.{Unicode}
 use Rattle.rope_text.specs.Text.{byte_len}
@@ -51,9 +52,9 @@ tree_over ts = record { breaks = breaks_of ts; leaves = leaves_of ts; height = h
 pub record IsTree (t : Tree) : Type 0 where
   pub lone : t.height ≡ 0 → length t.leaves ≤ 1
   pub at_least_two : 1 ≤ t.height → 2 ≤ t.width
-  pub at_most_24 : t.width ≤ 24
-  pub least_leaves : 1 ≤ t.height → t.width * 12 ^ (t.height - 1) ≤ length t.leaves
-  pub most_leaves : 1 ≤ t.height → length t.leaves ≤ t.width * 24 ^ (t.height - 1)
+  pub at_most_24 : t.width ≤ MAX_CHILDREN
+  pub least_leaves : 1 ≤ t.height → t.width * MIN_CHILDREN ^ (t.height - 1) ≤ length t.leaves
+  pub most_leaves : 1 ≤ t.height → length t.leaves ≤ t.width * MAX_CHILDREN ^ (t.height - 1)
   pub leaves : AreLeaves t.leaves
   pub fits : byte_len (concat t.leaves) < 2 ^ 63
 
@@ -67,12 +68,12 @@ pub record IsWide (breaks : LineBreaks) (w h : ℕ) (t : Tree) : Type 0 where
 
 -- what may stand below another node, at height h
 abbrev pub IsChild : LineBreaks → ℕ → Tree → Type 0
-IsChild breaks h t = IsWide breaks 12 h t
+IsChild breaks h t = IsWide breaks MIN_CHILDREN h t
 
 -- the children of a node at height h + 1
 pub record AreChildren (breaks : LineBreaks) (h : ℕ) (ts : List Tree) : Type 0 where
   pub at_least_two : 2 ≤ length ts
-  pub at_most_24 : length ts ≤ 24
+  pub at_most_24 : length ts ≤ MAX_CHILDREN
   pub each : All (IsChild breaks h) ts
   pub leaves : AreLeaves (leaves_of ts)
   pub fits : byte_len (joined ts) < 2 ^ 63

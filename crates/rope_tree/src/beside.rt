@@ -1,5 +1,6 @@
 //! How few bytes a leaf may keep beside its neighbours.
 ghost use Rattle.std.specs.Prelude.{◌≡◌, ℕ, ◌+◌, ◌<◌, ◌≤◌, List, length, take, drop};
+ghost use Rattle.rope_text.specs.declared.TheConstants.{MIN_PAIR_BYTES};
 ghost use Rattle.rope_text.specs.Dense.{IsDenseBehind, last_bytes};
 ghost use Rattle.rope_tree.specs.Leaves.{IsEnoughBehind, IsEnoughAhead};
 ghost use Rattle.rope_tree.specs.Tree.{Tree, leaves_of};
@@ -24,7 +25,7 @@ const ENOUGH_BYTES: usize = MIN_PAIR_BYTES - 1;
 /// wanted. The totals tell how many it has, and it isn't looked at.
 fn least_next_to(height: usize, totals: &Totals, place: usize) -> usize
     requires { place < length totals.now }
-    ensures behind { (ts : List Tree) → AreBelow height totals.now ts → (n : ℕ) → 492 ≤ last_bytes n (leaves_of (take (place + 1) ts)) + result }
+    ensures behind { (ts : List Tree) → AreBelow height totals.now ts → (n : ℕ) → MIN_PAIR_BYTES ≤ last_bytes n (leaves_of (take (place + 1) ts)) + result }
     ensures ahead { (ts : List Tree) → AreBelow height totals.now ts → IsDenseBehind result (leaves_of (drop place ts)) }
 {
     if height > 1 {

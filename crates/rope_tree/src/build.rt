@@ -1,6 +1,7 @@
 //! Trees of whole texts, built from the bottom up.
 ghost use Rattle.std.specs.Prelude.{◌≡◌, ◌+◌, ◌-◌, ◌*◌, ◌/◌, ◌<◌, ◌≤◌, length, IfOk};
 ghost use Rattle.std.specs.Str.{chars};
+ghost use Rattle.rope_text.specs.declared.TheConstants.{FRESH_CHILDREN, MAX_CHILDREN, MIN_CHILDREN, MIN_CUT_BYTES};
 ghost use Rattle.rope_tree.specs.Tree.{text, joined, leaves_of, height_of, breaks_of, IsTree};
 ghost use Rattle.rope_tree.specs.Siblings.{AreSiblings};
 
@@ -8,7 +9,7 @@ use crate::insert::leaf_of;
 use crate::node::Node;
 use crate::node::row::node_over;
 use crate::node_text::{NodeText, first_leaf_len};
-use rope_text::{LineBreaks, MAX_BYTES, MAX_CHILDREN};
+use rope_text::{FRESH_CHILDREN, LineBreaks, MAX_BYTES, MAX_CHILDREN};
 use std::alloc::{AllocError, Global};
 
 /// The leaves of a text that is not empty, in order, each but the last of 981 bytes or more.
@@ -22,7 +23,7 @@ fn leaf_nodes(
     ensures siblings { IfOk result (λ nodes. AreSiblings breaks 0 nodes.items) }
     ensures text { IfOk result (λ nodes. joined nodes.items ≡ chars whole.now) }
     ensures some { IfOk result (λ nodes. 1 ≤ length nodes.items) }
-    ensures few { IfOk result (λ nodes. length (leaves_of nodes.items) ≤ (length whole.now + 980) / 981) }
+    ensures few { IfOk result (λ nodes. length (leaves_of nodes.items) ≤ (length whole.now + (MIN_CUT_BYTES - 1)) / MIN_CUT_BYTES) }
     ensures made { IfOk result (λ nodes. made.new ≤ made.old + length nodes.items) }
 {
     let mut nodes = Vec::new(alloc);
@@ -40,28 +41,24 @@ fn leaf_nodes(
 /// How many of the nodes that are left come under the next of so many nodes, which share them evenly.
 fn group_len(left: usize, groups: usize) -> usize
     requires some { 1 ≤ groups }
-    requires least { 12 * groups ≤ left }
-    requires most { left ≤ 24 * groups }
-    ensures least { 12 ≤ result }
-    ensures most { result ≤ 24 }
+    requires least { MIN_CHILDREN * groups ≤ left }
+    requires most { left ≤ MAX_CHILDREN * groups }
+    ensures least { MIN_CHILDREN ≤ result }
+    ensures most { result ≤ MAX_CHILDREN }
     ensures within { result ≤ left }
-    ensures least_after { 12 * (groups - 1) ≤ left - result }
-    ensures most_after { left - result ≤ 24 * (groups - 1) }
+    ensures least_after { MIN_CHILDREN * (groups - 1) ≤ left - result }
+    ensures most_after { left - result ≤ MAX_CHILDREN * (groups - 1) }
 {
     left / groups
 }
 
-/// The children of a node that is made with others of its level: not as many as it can have, so that the first leaf below it that
-/// is cut in two stays under it, and no node on the way has to be made anew.
-const FRESH_CHILDREN: usize = 22;
-
 /// The nodes one level up, of 12 to 22 children each.
 fn level_over(alloc: Global, nodes: &[Node], made: &mut u64) -> Result<Vec<Node>, AllocError>
     requires siblings { AreSiblings (breaks_of nodes.now) (height_of nodes.now) nodes.now }
-    requires many { 24 < length nodes.now }
+    requires many { MAX_CHILDREN < length nodes.now }
     ensures siblings { IfOk result (λ level. AreSiblings (breaks_of nodes.now) (height_of nodes.now + 1) level.items) }
     ensures leaves { IfOk result (λ level. leaves_of level.items ≡ leaves_of nodes.now) }
-    ensures few { IfOk result (λ level. length level.items ≡ (length nodes.now + 21) / 22) }
+    ensures few { IfOk result (λ level. length level.items ≡ (length nodes.now + (FRESH_CHILDREN - 1)) / FRESH_CHILDREN) }
     ensures made { IfOk result (λ level. made.new ≤ made.old + length level.items) }
 {
     let mut groups = nodes.len().div_ceil(FRESH_CHILDREN);
@@ -106,7 +103,7 @@ pub fn build(
     ensures text { IfOk result (λ node. text node ≡ chars whole.now) }
     ensures breaks { IfOk result (λ node. node.breaks ≡ breaks) }
     ensures tree { IfOk result (λ node. IsTree node) }
-    ensures few { IfOk result (λ node. length node.leaves ≤ (length whole.now + 980) / 981) }
+    ensures few { IfOk result (λ node. length node.leaves ≤ (length whole.now + (MIN_CUT_BYTES - 1)) / MIN_CUT_BYTES) }
     ensures made { IfOk result (λ node. made.new ≤ made.old + 2 * length node.leaves + 1) }
 {
     if whole.is_empty() {

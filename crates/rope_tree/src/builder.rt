@@ -1,6 +1,7 @@
 //! Trees of texts that are passed in one after the other.
 ghost use Rattle.std.specs.Prelude.{◌≡◌, ◌+◌, ◌-◌, ◌*◌, ◌/◌, ◌<◌, ◌≤◌, ◌^◌, ◌++◌, [], false, length, drop, min, IsOk, IfOk, IfErr, OnOk, OnErr};
 ghost use Rattle.std.specs.Str.{chars, IsCharBoundary};
+ghost use Rattle.rope_text.specs.declared.TheConstants.{MAX_BYTES, MIN_CUT_BYTES};
 ghost use Rattle.rope_text.specs.Text.{byte_len};
 ghost use Rattle.rope_text.specs.Cutting.{parts_crlf};
 ghost use Rattle.rope_tree.specs.Tree.{text, joined, leaves_of, IsTree};
@@ -11,7 +12,7 @@ use crate::insert::leaf_of;
 use crate::node::Node;
 use crate::node_text::{NodeText, first_leaf_len, join_parts};
 use rope_text::crlf::prev_break;
-use rope_text::{LineBreaks, MAX_BYTES};
+use rope_text::{LineBreaks, MAX_BYTES, MIN_CUT_BYTES};
 use std::alloc::{AllocError, Global};
 use std::marker::Model;
 use std::mem;
@@ -22,8 +23,8 @@ const MAX_AHEAD_BYTES: usize = MAX_BYTES + 4;
 // How many bytes of a text are looked at for the end of a leaf that begins before it.
 fn ahead_len(text: &str) -> usize
     ensures boundary { IsCharBoundary text.now result }
-    ensures short { result ≤ 988 }
-    ensures long { min 985 (length text.now) ≤ result }
+    ensures short { result ≤ MAX_AHEAD_BYTES }
+    ensures long { min (MAX_BYTES + 1) (length text.now) ≤ result }
     ensures within { result ≤ length text.now }
 {
     if text.len() <= MAX_AHEAD_BYTES {
@@ -42,9 +43,6 @@ struct Front {
     taken: usize,
 }
 
-// The fewest bytes of a leaf that is cut off a longer text.
-const MIN_CUT_BYTES: usize = MAX_BYTES - 3;
-
 // The leaf at the front of a text of two parts, and how many bytes of the second part are in it.
 #[derive(Drop)]
 struct First {
@@ -54,12 +52,12 @@ struct First {
 
 // Cuts the first leaf off a text that begins with `rest` and goes on with `text`, wherever it ends.
 fn cut_at_seam(rest: &NodeText, text: &str) -> Front
-    requires { 984 < byte_len rest.now + length text.now }
+    requires { MAX_BYTES < byte_len rest.now + length text.now }
     ensures boundary { IsCharBoundary text.now result.taken }
     ensures whole { result.leaf ++ (result.rest ++ chars (drop result.taken text.now)) ≡ rest.now ++ chars text.now }
     ensures apart { parts_crlf result.leaf (result.rest ++ chars (drop result.taken text.now)) ≡ false }
-    ensures long { 981 ≤ byte_len result.leaf }
-    ensures short { byte_len result.leaf ≤ 984 }
+    ensures long { MIN_CUT_BYTES ≤ byte_len result.leaf }
+    ensures short { byte_len result.leaf ≤ MAX_BYTES }
     ensures left { byte_len result.leaf + (byte_len result.rest + (length text.now - result.taken)) ≡ byte_len rest.now + length text.now }
 {
     let first = rest.as_str();
@@ -84,12 +82,12 @@ fn cut_at_seam(rest: &NodeText, text: &str) -> Front
 // Cuts the first leaf off a text that begins with `rest` and goes on with `text`, and leaves what of `rest` is behind it.
 // Mostly the leaf ends within `text`, and then that is copied once.
 fn cut_front(rest: &mut NodeText, text: &str) -> First
-    requires { 984 < byte_len rest.old + length text.now }
+    requires { MAX_BYTES < byte_len rest.old + length text.now }
     ensures boundary { IsCharBoundary text.now result.taken }
     ensures whole { result.leaf ++ (rest.new ++ chars (drop result.taken text.now)) ≡ rest.old ++ chars text.now }
     ensures apart { parts_crlf result.leaf (rest.new ++ chars (drop result.taken text.now)) ≡ false }
-    ensures long { 981 ≤ byte_len result.leaf }
-    ensures short { byte_len result.leaf ≤ 984 }
+    ensures long { MIN_CUT_BYTES ≤ byte_len result.leaf }
+    ensures short { byte_len result.leaf ≤ MAX_BYTES }
     ensures left { byte_len result.leaf + (byte_len rest.new + (length text.now - result.taken)) ≡ byte_len rest.old + length text.now }
 {
     let room = MAX_BYTES - rest.len();
@@ -119,8 +117,8 @@ fn cut_leaves(
     requires some { 0 < length text.now }
     requires nodes { AreFrontNodes breaks (joined leaves.old.items ++ (rest.old ++ chars text.now)) leaves.old.items (rest.old ++ chars text.now) }
     ensures nodes { IfOk result (λ _. AreFrontNodes breaks (joined leaves.old.items ++ (rest.old ++ chars text.now)) leaves.new.items rest.new) }
-    ensures long { IfOk result (λ _. 981 * length (leaves_of leaves.new.items) + byte_len rest.new
-        ≤ 981 * length (leaves_of leaves.old.items) + byte_len rest.old + length text.now) }
+    ensures long { IfOk result (λ _. MIN_CUT_BYTES * length (leaves_of leaves.new.items) + byte_len rest.new
+        ≤ MIN_CUT_BYTES * length (leaves_of leaves.old.items) + byte_len rest.old + length text.now) }
     ensures followed { IfOk result (λ _. 0 < byte_len rest.new) }
 {
     let mut left = text;
@@ -144,8 +142,8 @@ fn append_to(
     requires some { 0 < length text.now }
     requires nodes { AreFrontNodes breaks (joined leaves.old.items ++ (rest.old ++ chars text.now)) leaves.old.items (rest.old ++ chars text.now) }
     ensures nodes { IfOk result (λ _. AreFrontNodes breaks (joined leaves.old.items ++ (rest.old ++ chars text.now)) leaves.new.items rest.new) }
-    ensures long { IfOk result (λ _. 981 * length (leaves_of leaves.new.items) + byte_len rest.new
-        ≤ 981 * length (leaves_of leaves.old.items) + byte_len rest.old + length text.now) }
+    ensures long { IfOk result (λ _. MIN_CUT_BYTES * length (leaves_of leaves.new.items) + byte_len rest.new
+        ≤ MIN_CUT_BYTES * length (leaves_of leaves.old.items) + byte_len rest.old + length text.now) }
     ensures followed { IfOk result (λ _. 0 < byte_len rest.new) }
 {
     if rest.len() + text.len() > MAX_BYTES {
@@ -233,7 +231,7 @@ impl Builder {
         ensures text { IfOk result (λ node. text node ≡ self.text) }
         ensures breaks { IfOk result (λ node. node.breaks ≡ self.breaks) }
         ensures tree { IfOk result (λ node. IsTree node) }
-        ensures few { IfOk result (λ node. length node.leaves ≤ (byte_len self.text + 980) / 981) }
+        ensures few { IfOk result (λ node. length node.leaves ≤ (byte_len self.text + (MIN_CUT_BYTES - 1)) / MIN_CUT_BYTES) }
         ensures made { IfOk result (λ node. made.new ≤ made.old + length node.leaves + 1) }
     {
         let rest = leaf_of(self.alloc, self.breaks, self.rest, made)?;

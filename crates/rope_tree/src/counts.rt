@@ -1,6 +1,7 @@
 //! Counts of a text after an edit, by sums and differences.
 ghost use Rattle.std.specs.Prelude.{◌≡◌, ◌+◌, ◌<◌, ◌≤◌, ◌++◌, ℕ, List, false, length, IfSome, IfNone};
 ghost use Rattle.std.specs.Str.{chars, IsCharBoundary};
+ghost use Rattle.rope_text.specs.declared.TheConstants.{MAX_BYTES};
 ghost use Rattle.rope_text.specs.Text.{byte_len};
 ghost use Rattle.rope_text.specs.TextInfo.{info_of, shared_breaks};
 ghost use Rattle.rope_text.specs.Edit.{inserted, removed};
@@ -47,8 +48,8 @@ fn info_between(
     breaks: LineBreaks,
 ) -> TextInfo
     requires info { info ≡ info_of breaks (chars front.now ++ chars back.now) }
-    requires fits { info.bytes ≤ 984 }
-    requires short { length added.now ≤ 984 }
+    requires fits { info.bytes ≤ MAX_BYTES }
+    requires short { length added.now ≤ MAX_BYTES }
     requires some { 1 ≤ length (chars added.now) }
     ensures { result ≡ info_of breaks (chars front.now ++ (chars added.now ++ chars back.now)) }
 {
@@ -90,7 +91,7 @@ pub fn put_in(
     requires info { info ≡ info_of breaks leaf.old }
     requires within { at ≤ length leaf.old }
     requires some { 1 ≤ length added.now }
-    requires fits { byte_len leaf.old + byte_len added.now ≤ 984 }
+    requires fits { byte_len leaf.old + byte_len added.now ≤ MAX_BYTES }
     ensures text { leaf.new ≡ inserted leaf.old at added.now }
     ensures info { result ≡ info_of breaks (inserted leaf.old at added.now) }
 {
@@ -106,7 +107,7 @@ pub fn put_in(
 /// over, and the ends.
 fn info_without(info: TextInfo, front: &str, part: &str, back: &str, breaks: LineBreaks) -> TextInfo
     requires info { info ≡ info_of breaks (chars front.now ++ (chars part.now ++ chars back.now)) }
-    requires fits { info.bytes ≤ 984 }
+    requires fits { info.bytes ≤ MAX_BYTES }
     requires some { 1 ≤ length (chars part.now) }
     ensures { result ≡ info_of breaks (chars front.now ++ chars back.now) }
 {

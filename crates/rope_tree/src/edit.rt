@@ -1,6 +1,7 @@
 //! Edits of whole trees.
 ghost use Rattle.std.specs.Prelude.{◌≡◌, ◌+◌, ◌-◌, ◌*◌, ◌<◌, ◌≤◌, ◌^◌, ◌&&◌, true, false, length, drop, IfOk, OnOk, OnErr};
 ghost use Rattle.std.specs.Str.{chars};
+ghost use Rattle.rope_text.specs.declared.TheConstants.{MAX_SHORT_BYTES};
 ghost use Rattle.rope_text.specs.Text.{byte_len};
 ghost use Rattle.rope_text.specs.Breaks.{begins_with_lf};
 ghost use Rattle.rope_text.specs.Edit.{inserted};
@@ -45,7 +46,7 @@ fn insert_in_place(
 ) -> Result<bool, AllocError>
     requires within { at ≤ length (text root.old) }
     requires some { 1 ≤ length added.now }
-    requires short { byte_len added.now ≤ 981 }
+    requires short { byte_len added.now ≤ MAX_SHORT_BYTES }
     requires fits { byte_len (text root.old) + byte_len added.now < 2 ^ 63 }
     ensures text { IfOk result (λ did. did ≡ true → text root.new ≡ inserted (text root.old) at added.now) }
     ensures breaks { root.new.breaks ≡ root.old.breaks }
@@ -93,7 +94,7 @@ pub fn insert_short(
 ) -> Result<Node, AllocError>
     requires within { at ≤ length (text node.now) }
     requires some { 1 ≤ length added.now }
-    requires short { byte_len added.now ≤ 981 }
+    requires short { byte_len added.now ≤ MAX_SHORT_BYTES }
     requires fits { byte_len (text node.now) + byte_len added.now < 2 ^ 63 }
     ensures text { IfOk result (λ new. text new ≡ inserted (text node.now) at added.now) }
     ensures breaks { IfOk result (λ new. new.breaks ≡ node.now.breaks) }
@@ -104,9 +105,6 @@ pub fn insert_short(
     let nodes = insert(alloc, node, at, added, to_right, made)?;
     Ok(root_of(alloc, node, nodes, added, at, made)?)
 }
-
-/// The bytes of the longest text that goes into a leaf: with it in, a full leaf can be cut into two wherever it goes.
-pub const MAX_SHORT_BYTES: usize = 981;
 
 /// Puts a text of 1 to 981 bytes before the character `at`: where the nodes stand, if the leaf has room, or is cut into two below
 /// a node that has room for one more, which takes memory for copies of shared nodes and for the second part alone; and else in a
@@ -120,7 +118,7 @@ pub fn insert_at(
 ) -> Result<(), AllocError>
     requires within { at ≤ length (text root.old) }
     requires some { 1 ≤ length added.now }
-    requires short { length added.now ≤ 981 }
+    requires short { length added.now ≤ MAX_SHORT_BYTES }
     requires fits { byte_len (text root.old) + length added.now < 2 ^ 63 }
     ensures text { OnOk result (text root.new ≡ inserted (text root.old) at (chars added.now)) }
     ensures breaks { root.new.breaks ≡ root.old.breaks }

@@ -1,5 +1,6 @@
 //! Inserts of short texts, by copies of the nodes on the way down.
 ghost use Rattle.std.specs.Prelude.{◌≡◌, ◌+◌, ◌-◌, ◌*◌, ◌<◌, ◌≤◌, ◌^◌, ℕ, Bool, true, false, length, IfOk};
+ghost use Rattle.rope_text.specs.declared.TheConstants.{MAX_SHORT_BYTES};
 ghost use Rattle.rope_text.specs.Text.{byte_len};
 ghost use Rattle.rope_text.specs.Edit.{inserted};
 ghost use Rattle.rope_text.specs.TextInfo.{info_of};
@@ -47,7 +48,7 @@ fn insert_into_leaf(
 ) -> Result<Nodes, AllocError>
     requires leaf { node.now ≡ leaf_tree node.now.breaks leaf.now }
     requires some { 1 ≤ length added.now }
-    requires short { byte_len added.now ≤ 981 }
+    requires short { byte_len added.now ≤ MAX_SHORT_BYTES }
     ensures ok { IfOk result (λ nodes. IsInserted node.now (trees_in nodes) (inserted leaf.now at added.now)) }
     ensures made { made.new ≤ made.old + 2 }
     ensures some_made { made.old < 18446744073709551615 → made.old < made.new }
@@ -80,7 +81,7 @@ pub fn insert(
 ) -> Result<Nodes, AllocError>
     requires within { at ≤ length (text node.now) }
     requires some { 1 ≤ length added.now }
-    requires short { byte_len added.now ≤ 981 }
+    requires short { byte_len added.now ≤ MAX_SHORT_BYTES }
     requires fits { byte_len (text node.now) + byte_len added.now < 2 ^ 63 }
     requires side { MayInsert node.now at added.now to_right }
     ensures ok { IfOk result (λ nodes. IsInserted node.now (trees_in nodes) (inserted (text node.now) at added.now)) }

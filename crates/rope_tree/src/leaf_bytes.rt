@@ -1,15 +1,17 @@
 //! The bytes of a leaf, which move once at each edit.
 ghost use Rattle.std.specs.Prelude.{◌≡◌, ◌+◌, ◌≤◌, ◌++◌, length, take};
 ghost use Rattle.std.specs.List.{insert_slice, remove_range};
+ghost use Rattle.rope_text.specs.declared.TheConstants.{MAX_BYTES};
 
 use arrayvec::ArrayVec;
+use rope_text::MAX_BYTES;
 
 /// Room for the bytes of a leaf.
-pub(crate) type LeafBytes = ArrayVec<u8, 984>;
+pub(crate) type LeafBytes = ArrayVec<u8, MAX_BYTES>;
 
 /// Puts bytes at the end.
 pub(crate) fn append_bytes(bytes: &mut LeafBytes, added: &[u8])
-    requires { length bytes.old.items + length added.now ≤ 984 }
+    requires { length bytes.old.items + length added.now ≤ MAX_BYTES }
     ensures { bytes.new.items ≡ bytes.old.items ++ added.now }
 {
     match bytes.try_extend_from_slice(added) {
@@ -32,7 +34,7 @@ fn put_in_gap(bytes: &mut [u8], place: usize, old_len: usize, added: &[u8])
 /// Puts bytes before the one at `place`. What follows it moves up once, and what stands before it stays.
 pub(crate) fn put_bytes(bytes: &mut LeafBytes, place: usize, added: &[u8])
     requires place { place ≤ length bytes.old.items }
-    requires fits { length bytes.old.items + length added.now ≤ 984 }
+    requires fits { length bytes.old.items + length added.now ≤ MAX_BYTES }
     ensures { bytes.new.items ≡ insert_slice bytes.old.items place added.now }
 {
     let old_len = bytes.len();

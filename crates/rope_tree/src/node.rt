@@ -1,6 +1,7 @@
 //! Nodes: an empty text, or a pointer to a leaf or to a list of children. No other module sees their fields.
 ghost use Rattle.std.specs.Prelude.{◌≡◌, ◌+◌, ◌<◌, ◌≤◌, List, length, take, drop, IfOk};
 ghost use Rattle.std.specs.List.{All};
+ghost use Rattle.rope_text.specs.declared.TheConstants.{MAX_HEIGHT};
 ghost use Rattle.rope_text.specs.TextInfo.{info_of};
 ghost use Rattle.rope_tree.specs.Tree.{Tree, text, joined, height_of, breaks_of, leaf_tree, tree_over, IsTree, AreChildren};
 ghost use Rattle.rope_tree.specs.Totals.{HasTotals};
@@ -11,7 +12,7 @@ use crate::leaf::Leaf;
 use crate::node_text::NodeText;
 use crate::search::Totals;
 use crate::short_text::ShortText;
-use rope_text::{LineBreaks, TextInfo};
+use rope_text::{LineBreaks, MAX_CHILDREN, TextInfo};
 use std::alloc::{AllocError, Global};
 use std::marker::Model;
 use std::rc::Rc;
@@ -46,7 +47,7 @@ struct Children {
     height: u8,
     breaks: LineBreaks,
     totals: Totals,
-    nodes: [Node; 24],
+    nodes: [Node; MAX_CHILDREN],
 }
 
 impl Model for Children {
@@ -144,7 +145,7 @@ impl Node {
     /// How many levels lie below it: 0 for a leaf, and at most 18. A call of it also says a proof what holds of every node.
     pub fn height(&self) -> usize
         ensures value { result ≡ self.now.height }
-        ensures low { self.now.height ≤ 18 }
+        ensures low { self.now.height ≤ MAX_HEIGHT }
         ensures tree { IsTree self.now }
     {
         match &self.form {

@@ -2,6 +2,7 @@
 ghost use Rattle.std.specs.Prelude.{◌≡◌, ℕ, ◌+◌, ◌<◌, ◌≤◌, ◌++◌, [], true, false, length, take, drop, IsTrue, IfNone, IfSome};
 ghost use Rattle.std.specs.List.{insert_slice, remove_range};
 ghost use Rattle.std.specs.Str.{chars, all_scalars, IsCharBoundary, encode_utf8_all};
+ghost use Rattle.rope_text.specs.declared.TheConstants.{MAX_BYTES, MAX_JOINED_BYTES, MAX_SHORT_BYTES, MIN_CUT_BYTES, MIN_HALF_BYTES};
 ghost use Rattle.rope_text.specs.Text.{byte_len};
 ghost use Rattle.rope_text.specs.Cutting.{parts_crlf};
 ghost use Rattle.rope_text.specs.Cuts.{is_cut};
@@ -9,9 +10,9 @@ ghost use Rattle.rope_text.specs.Edit.{inserted};
 
 use crate::leaf_bytes::{LeafBytes, append_bytes, put_bytes, take_bytes};
 use arrayvec::{ArrayString, ArrayVec};
-use rope_text::MAX_BYTES;
 use rope_text::crlf::{next_break, prev_break};
 use rope_text::str_utils::{char_to_byte_idx, char_to_byte_idx_of, count_chars};
+use rope_text::{MAX_BYTES, MAX_JOINED_BYTES};
 use std::marker::Model;
 use std::str;
 
@@ -29,12 +30,12 @@ pub(crate) fn join_parts<const N: usize>(first: &str, second: &str, third: &str)
 
 // The byte at which a text that is too long for one leaf is cut into two.
 fn split_place(text: &str) -> usize
-    requires long { 985 ≤ length text.now }
-    requires short { length text.now ≤ 1965 }
+    requires long { MAX_BYTES < length text.now }
+    requires short { length text.now ≤ MAX_JOINED_BYTES }
     ensures boundary { IsCharBoundary text.now result }
     ensures cut { is_cut text.now result ≡ true }
-    ensures left { (491 ≤ result) × (result ≤ 984) }
-    ensures right { (result + 491 ≤ length text.now) × (length text.now ≤ result + 984) }
+    ensures left { (MIN_HALF_BYTES ≤ result) × (result ≤ MAX_BYTES) }
+    ensures right { (result + MIN_HALF_BYTES ≤ length text.now) × (length text.now ≤ result + MAX_BYTES) }
 {
     next_break(text.len() / 2 - 2, text.as_bytes())
 }
@@ -57,12 +58,13 @@ impl Model for NodeText {
     ghost use Rattle.std.specs.Prelude.{◌≡◌, ℕ, List, true, ◌≤◌, length};
     ghost use Rattle.std.specs.List.{insert_slice};
     ghost use Rattle.std.specs.Str.{chars, is_utf8};
+    ghost use Rattle.rope_text.specs.declared.TheConstants.{MAX_BYTES};
 
     ghost Value = { List ℕ };
 
     ghost view = { λ s. chars s.bytes.items };
 
-    ghost invariant = { λ s. (is_utf8 s.bytes.items ≡ true) × (length s.bytes.items ≤ 984) };
+    ghost invariant = { λ s. (is_utf8 s.bytes.items ≡ true) × (length s.bytes.items ≤ MAX_BYTES) };
 }
 
 impl NodeText {
@@ -77,7 +79,7 @@ impl NodeText {
 
     /// A copy of a text of at most `MAX_BYTES` bytes.
     pub fn from_str(text: &str) -> Self
-        requires { length text.now ≤ 984 }
+        requires { length text.now ≤ MAX_BYTES }
         ensures value { result ≡ chars text.now }
         ensures len { byte_len result ≡ length text.now }
     {
@@ -90,7 +92,7 @@ impl NodeText {
     pub fn as_str(&self) -> &str
         ensures bytes { result.now ≡ encode_utf8_all self.now }
         ensures chars { chars result.now ≡ self.now }
-        ensures fits { byte_len self.now ≤ 984 }
+        ensures fits { byte_len self.now ≤ MAX_BYTES }
         ensures scalars { all_scalars self.now ≡ true }
     {
         // That they are a text is what the type keeps, so they are not checked again.
@@ -109,7 +111,7 @@ impl NodeText {
     /// The length in bytes.
     pub fn len(&self) -> usize
         ensures value { result ≡ byte_len self.now }
-        ensures fits { result ≤ 984 }
+        ensures fits { result ≤ MAX_BYTES }
     {
         self.as_str().len()
     }
@@ -123,7 +125,7 @@ impl NodeText {
 
     /// Puts `text` before the character `at`, or at the end.
     pub fn insert_str(&mut self, at: usize, text: &str)
-        requires { byte_len self.old + length text.now ≤ 984 }
+        requires { byte_len self.old + length text.now ≤ MAX_BYTES }
         ensures value { self.new ≡ inserted self.old at (chars text.now) }
         ensures len { byte_len self.new ≡ byte_len self.old + length text.now }
     {
@@ -134,7 +136,7 @@ impl NodeText {
     /// Puts `added` where a character starts, or at the end. What follows it moves down, and what stands before it stays.
     pub fn insert_bytes(&mut self, place: usize, added: &str)
         requires boundary { IsCharBoundary (encode_utf8_all self.old) place }
-        requires fits { byte_len self.old + length added.now ≤ 984 }
+        requires fits { byte_len self.old + length added.now ≤ MAX_BYTES }
         ensures value { self.new ≡ chars (insert_slice (encode_utf8_all self.old) place added.now) }
         ensures len { byte_len self.new ≡ byte_len self.old + length added.now }
     {
@@ -143,7 +145,7 @@ impl NodeText {
 
     /// Puts `text` at the end.
     pub fn push_str(&mut self, text: &str)
-        requires { byte_len self.old + length text.now ≤ 984 }
+        requires { byte_len self.old + length text.now ≤ MAX_BYTES }
         ensures value { self.new ≡ self.old ++ chars text.now }
         ensures len { byte_len self.new ≡ byte_len self.old + length text.now }
     {
@@ -217,17 +219,17 @@ impl NodeText {
     /// Puts `text` before the character `at`, or at the end, where one leaf cannot hold both: leaves the first part, and
     /// returns the second. Each part has half a leaf, but for a byte, and the cut parts no CR from an LF.
     pub fn insert_str_split(&mut self, at: usize, text: &str) -> NodeText
-        requires long { 985 ≤ byte_len self.old + length text.now }
-        requires short { byte_len self.old + length text.now ≤ 1965 }
+        requires long { MAX_BYTES < byte_len self.old + length text.now }
+        requires short { byte_len self.old + length text.now ≤ MAX_JOINED_BYTES }
         ensures joined { self.new ++ result ≡ inserted self.old at (chars text.now) }
         ensures front { 0 < length self.new }
         ensures back { 0 < length result }
-        ensures halves { (491 ≤ byte_len self.new) × (491 ≤ byte_len result) }
+        ensures halves { (MIN_HALF_BYTES ≤ byte_len self.new) × (MIN_HALF_BYTES ≤ byte_len result) }
         ensures apart { parts_crlf self.new result ≡ false }
     {
         let old = self.as_str();
         let place = char_to_byte_idx(old, at);
-        let whole = join_parts::<1965>(&old[..place], text, &old[place..]);
+        let whole = join_parts::<MAX_JOINED_BYTES>(&old[..place], text, &old[place..]);
         let whole = whole.as_str();
         let cut = split_place(whole);
         let back = NodeText::from_str(&whole[cut..]);
@@ -238,11 +240,11 @@ impl NodeText {
     /// Puts `text` before the character `at`, or at the end: in this leaf, or, where it cannot hold both, in this one
     /// and the one that is returned.
     pub fn insert_or_split(&mut self, at: usize, text: &str) -> Option<NodeText>
-        requires { length text.now ≤ 981 }
-        ensures one { IfNone result ((byte_len self.old + length text.now ≤ 984) × (self.new ≡ inserted self.old at (chars text.now))) }
-        ensures two { IfSome result (λ back. (985 ≤ byte_len self.old + length text.now) × (self.new ++ back ≡ inserted self.old at (chars text.now))) }
+        requires { length text.now ≤ MAX_SHORT_BYTES }
+        ensures one { IfNone result ((byte_len self.old + length text.now ≤ MAX_BYTES) × (self.new ≡ inserted self.old at (chars text.now))) }
+        ensures two { IfSome result (λ back. (MAX_BYTES < byte_len self.old + length text.now) × (self.new ++ back ≡ inserted self.old at (chars text.now))) }
         ensures parts { IfSome result (λ back. (0 < length self.new) × (0 < length back) × (parts_crlf self.new back ≡ false)) }
-        ensures halves { IfSome result (λ back. (491 ≤ byte_len self.new) × (491 ≤ byte_len back)) }
+        ensures halves { IfSome result (λ back. (MIN_HALF_BYTES ≤ byte_len self.new) × (MIN_HALF_BYTES ≤ byte_len back)) }
     {
         if self.len() + text.len() <= MAX_BYTES {
             self.insert_str(at, text);
@@ -255,12 +257,12 @@ impl NodeText {
 
 /// The byte at which the first leaf of a longer text ends: the last cut by which it has `MAX_BYTES` bytes at the most.
 pub fn first_leaf_len(text: &str) -> usize
-    requires { 984 < length text.now }
+    requires { MAX_BYTES < length text.now }
     ensures boundary { IsCharBoundary text.now result }
     ensures cut { is_cut text.now result ≡ true }
-    ensures long { 981 ≤ result }
-    ensures short { result ≤ 984 }
-    ensures last { (k : ℕ) → k ≤ 984 → IsTrue (is_cut text.now k) → k ≤ result }
+    ensures long { MIN_CUT_BYTES ≤ result }
+    ensures short { result ≤ MAX_BYTES }
+    ensures last { (k : ℕ) → k ≤ MAX_BYTES → IsTrue (is_cut text.now k) → k ≤ result }
 {
     prev_break(MAX_BYTES + 1, text.as_bytes())
 }

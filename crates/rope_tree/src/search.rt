@@ -1,5 +1,6 @@
 //! Running totals over children, and the child that holds a place, found by halving over them.
 ghost use Rattle.std.specs.Prelude.{◌≡◌, ℕ, ◌+◌, ◌-◌, ◌<◌, ◌≤◌, ◌^◌, [], ◌∷◌, ◌++◌, true, false, length, take, drop, slice_index_or, IfOk, OnOk, OnErr};
+ghost use Rattle.rope_text.specs.declared.TheConstants.{MAX_CHILDREN};
 ghost use Rattle.rope_text.specs.declared.text_info.TextInfo.{TextInfo};
 ghost use Rattle.rope_text.specs.TextInfo.{info_sum};
 ghost use Rattle.rope_tree.specs.Search.{count_of, IsSmall, HasPart};
@@ -80,7 +81,7 @@ fn widened(
     totals: &NarrowTotals,
     total: TextInfo,
 ) -> Result<Box<WideTotals>, AllocError>
-    requires { length totals.now < 24 }
+    requires { length totals.now < MAX_CHILDREN }
     ensures { IfOk result (λ wide. wide.value ≡ totals.now ++ total ∷ []) }
 {
     let mut wide = Box::new(alloc, WideTotals::of(totals))?;
@@ -162,7 +163,7 @@ impl Totals {
     /// Puts the total of one child more behind the others.
     #[inline(always)]
     pub(crate) fn push(&mut self, alloc: Global, total: TextInfo) -> Result<(), AllocError>
-        requires room { length self.old < 24 }
+        requires room { length self.old < MAX_CHILDREN }
         requires small { IsSmall total }
         ensures ok { OnOk result (self.new ≡ self.old ++ total ∷ []) }
         ensures err { OnErr result (self.new ≡ self.old) }
@@ -182,7 +183,7 @@ impl Totals {
 
     /// The same totals in words.
     fn widen(&mut self, alloc: Global) -> Result<(), AllocError>
-        requires { length self.old ≤ 24 }
+        requires { length self.old ≤ MAX_CHILDREN }
         ensures { self.new ≡ self.old }
     {
         if let Width::Narrow(totals) = &self.width {
@@ -204,8 +205,8 @@ impl Totals {
     ) -> Result<bool, AllocError>
         requires some { 1 ≤ count }
         requires within { from + count ≤ length others.now }
-        requires few { length others.now ≤ 24 }
-        requires room { length self.old + count ≤ 24 }
+        requires few { length others.now ≤ MAX_CHILDREN }
+        requires room { length self.old + count ≤ MAX_CHILDREN }
         requires small { (j : ℕ) (d : TextInfo) → j < length self.old → IsSmall (slice_index_or self.old j d) }
         requires small_others { (j : ℕ) (d : TextInfo) → j < count → IsSmall (slice_index_or others.now (from + j) d) }
         requires part { (j : ℕ) (d : TextInfo) → j < count → HasPart (slice_index_or others.now (from + j) d) old }
@@ -237,7 +238,7 @@ impl Totals {
     /// Puts the total of one child more before the one at a place.
     pub(crate) fn insert(&mut self, place: usize, total: TextInfo)
         requires within { place ≤ length self.old }
-        requires room { length self.old < 24 }
+        requires room { length self.old < MAX_CHILDREN }
         requires narrow { AreNarrow self.old → IsNarrow total }
         ensures len { length self.new ≡ length self.old + 1 }
         ensures before { (j : ℕ) (d : TextInfo) → j < place → slice_index_or self.new j d ≡ slice_index_or self.old j d }
@@ -273,7 +274,7 @@ impl Totals {
 #[inline(always)]
 pub fn place_of(totals: &Totals, unit: Unit, at: usize, steps: &mut Steps) -> usize
     requires some { 0 < length totals.now }
-    requires few { length totals.now ≤ 24 }
+    requires few { length totals.now ≤ MAX_CHILDREN }
     requires small { (j : ℕ) (d : TextInfo) → j < length totals.now → IsSmall (slice_index_or totals.now j d) }
     requires last { (d : TextInfo) → at < count_of unit (slice_index_or totals.now (length totals.now - 1) d) }
     requires room { steps.old.compares + 5 < 2 ^ 64 }

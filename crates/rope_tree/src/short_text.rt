@@ -1,6 +1,7 @@
 //! A text that goes into a leaf, or lies in one.
 ghost use Rattle.std.specs.Prelude.{◌≡◌, ◌≤◌, true, length};
 ghost use Rattle.std.specs.Str.{chars, all_scalars, encode_utf8_all, IsCharBoundary};
+ghost use Rattle.rope_text.specs.declared.TheConstants.{MAX_BYTES};
 ghost use Rattle.rope_text.specs.Text.{byte_len};
 ghost use Rattle.rope_text.specs.Conversions.{byte_to_char, char_to_byte, char_to_line, char_to_utf16, utf16_to_char};
 
@@ -37,7 +38,7 @@ impl<'a> Model for ShortText<'a> {
 impl<'a> ShortText<'a> {
     /// The text, of at most `MAX_BYTES` bytes.
     pub fn new(text: &'a str) -> ShortText<'a>
-        requires { length text.now ≤ 984 }
+        requires { length text.now ≤ MAX_BYTES }
         ensures value { result ≡ chars text.now }
         ensures len { byte_len result ≡ length text.now }
     {
@@ -49,7 +50,7 @@ impl<'a> ShortText<'a> {
 
     /// A text of at most `MAX_BYTES` bytes that is known to have so many characters.
     pub(crate) fn with_chars(text: &'a str, count: usize) -> ShortText<'a>
-        requires short { length text.now ≤ 984 }
+        requires short { length text.now ≤ MAX_BYTES }
         requires count { count ≡ length (chars text.now) }
         ensures { result ≡ chars text.now }
     {
@@ -60,7 +61,7 @@ impl<'a> ShortText<'a> {
     pub fn as_str(&self) -> &'a str
         ensures bytes { result.now ≡ encode_utf8_all self.now }
         ensures chars { chars result.now ≡ self.now }
-        ensures fits { byte_len self.now ≤ 984 }
+        ensures fits { byte_len self.now ≤ MAX_BYTES }
         ensures scalars { all_scalars self.now ≡ true }
     {
         self.text
@@ -69,7 +70,7 @@ impl<'a> ShortText<'a> {
     /// The length in bytes.
     pub fn len(&self) -> usize
         ensures value { result ≡ byte_len self.now }
-        ensures fits { result ≤ 984 }
+        ensures fits { result ≤ MAX_BYTES }
     {
         self.as_str().len()
     }

@@ -1,5 +1,6 @@
 //! What a leaf keeps of its text beside it, in few bytes.
 ghost use Rattle.std.specs.Prelude.{◌≡◌, ◌≤◌};
+ghost use Rattle.rope_text.specs.declared.TheConstants.{MAX_BYTES};
 
 use rope_text::{LineBreaks, TextInfo};
 use std::marker::Model;
@@ -28,10 +29,10 @@ impl Model for Summary {
 impl Summary {
     /// These counts, by this set.
     pub(crate) fn new(breaks: LineBreaks, info: TextInfo) -> Summary
-        requires chars { info.chars ≤ 984 }
+        requires chars { info.chars ≤ MAX_BYTES }
         requires surrogates { info.utf16_surrogates ≤ 246 }
-        requires break_count { info.break_count ≤ 984 }
-        requires bytes { info.bytes ≤ 984 }
+        requires break_count { info.break_count ≤ MAX_BYTES }
+        requires bytes { info.bytes ≤ MAX_BYTES }
         ensures breaks { result.breaks ≡ breaks }
         ensures info { result.info ≡ info }
     {

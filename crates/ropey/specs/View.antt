@@ -1,5 +1,6 @@
 -- What a rope shows, and what each rope keeps.
 use Rattle.std.specs.Prelude.{◌≡◌, ℕ, ◌-◌, ◌*◌, ◌^◌, ◌≤◌, List, length}
+use Rattle.rope_text.specs.declared.TheConstants.{MAX_CHILDREN, MAX_HEIGHT, MIN_CHILDREN}
 use Rattle.rope_text.specs.declared.line_breaks.LineBreaks.{LineBreaks}
 use Rattle.rope_text.specs.Content.{Content}
 use Rattle.rope_text.specs.Content as of_content
@@ -27,10 +28,10 @@ view_of t = record { text = text t; chunks = t.leaves; breaks = t.breaks; depth 
 -- what every rope keeps: its chunks are a rope cutting of its text, and their number bounds its depth on both sides
 pub record IsRope (r : RopeView) : Type 0 where
   pub content : of_content.IsRope (content r)
-  pub low : r.depth ≤ 18
+  pub low : r.depth ≤ MAX_HEIGHT
   pub lone : r.depth ≡ 0 → length r.chunks ≤ 1
-  pub least : 1 ≤ r.depth → 2 * 12 ^ (r.depth - 1) ≤ length r.chunks
-  pub most : length r.chunks ≤ 24 ^ r.depth
+  pub least : 1 ≤ r.depth → 2 * MIN_CHILDREN ^ (r.depth - 1) ≤ length r.chunks
+  pub most : length r.chunks ≤ MAX_CHILDREN ^ r.depth
 
 -- at most one chunk for each 981 bytes, and one for the rest
 abbrev pub HasFewChunks : RopeView → Type 0

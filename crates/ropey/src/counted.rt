@@ -4,6 +4,7 @@
 //! In a rope of one chunk, `byte_counted(0, &mut steps)` leaves `steps.nodes` at 1 and `steps.compares` at 0.
 ghost use Rattle.std.specs.Prelude.{◌≡◌, ◌<◌, ◌≤◌, length, slice_get, Some};
 ghost use Rattle.std.specs.Str.{encode_utf8_all};
+ghost use Rattle.rope_text.specs.declared.TheConstants.{MAX_HEIGHT};
 ghost use Rattle.rope_text.specs.Text.{byte_len, utf16_len};
 ghost use Rattle.rope_text.specs.Lines.{line_count};
 ghost use Rattle.rope_text.specs.Conversions.{byte_to_char, byte_to_line, char_to_byte, char_to_line, char_to_utf16, line_to_byte, line_to_char, utf16_to_char};
@@ -22,7 +23,7 @@ impl Rope {
         ensures text { text result.now ≡ self.now.text }
         ensures breaks { result.now.breaks ≡ self.now.breaks }
         ensures depth { result.now.height ≡ self.now.depth }
-        ensures low { result.now.height ≤ 18 }
+        ensures low { result.now.height ≤ MAX_HEIGHT }
         ensures zero { steps.new ≡ record { nodes = 0; compares = 0; made = 0 } }
     {
         *steps = Steps::new();

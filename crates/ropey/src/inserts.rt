@@ -4,14 +4,15 @@
 ghost use Rattle.std.specs.Prelude.{◌≡◌, ◌+◌, ◌*◌, ◌<◌, ◌≤◌, ◌^◌, [], ◌∷◌, length, None, IsOk, IfErr, OnOk, OnErr};
 ghost use Rattle.std.specs.Str.{chars};
 ghost use Rattle.rope_text.specs.declared.error.Error.TheVariants.{OutOfMemory};
+ghost use Rattle.rope_text.specs.declared.TheConstants.{MAX_SHORT_BYTES};
 ghost use Rattle.rope_text.specs.Text.{byte_len};
 ghost use Rattle.rope_text.specs.Edit.{inserted, insert_error, IsRefusal};
 ghost use Rattle.ropey.specs.View.{IsRope};
 
 use crate::rope::Rope;
 use rope_join::edit::insert;
-use rope_text::{Error, MAX_TEXT_BYTES, Result, Steps};
-use rope_tree::edit::{MAX_SHORT_BYTES, insert_at};
+use rope_text::{Error, MAX_SHORT_BYTES, MAX_TEXT_BYTES, Result, Steps};
+use rope_tree::edit::insert_at;
 
 impl Rope {
     // Puts a text that isn't empty where only running out of memory refuses it, and counts the nodes that are made.
@@ -24,7 +25,7 @@ impl Rope {
         ensures err { OnErr result (self.new ≡ self.old) }
         ensures breaks { self.new.breaks ≡ self.old.breaks }
         ensures kept { IsRope self.new }
-        ensures made { length text.now ≤ 981 → made.new ≤ made.old + 3 * self.old.depth + 5 }
+        ensures made { length text.now ≤ MAX_SHORT_BYTES → made.new ≤ made.old + 3 * self.old.depth + 5 }
     {
         if text.len() > MAX_SHORT_BYTES {
             let root = insert(self.alloc, &self.root, char_idx, text, made)?;
@@ -45,7 +46,7 @@ impl Rope {
             → IsOk result × (self.new ≡ self.old) }
         ensures breaks { self.new.breaks ≡ self.old.breaks }
         ensures kept { IsRope self.new }
-        ensures made { length text.now ≤ 981 → made.new ≤ made.old + 3 * self.old.depth + 5 }
+        ensures made { length text.now ≤ MAX_SHORT_BYTES → made.new ≤ made.old + 3 * self.old.depth + 5 }
     {
         let bytes = self.len_bytes();
         let len = self.len_chars();

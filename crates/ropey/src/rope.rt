@@ -5,6 +5,7 @@ ghost use Rattle.std.specs.Prelude.{◌≡◌, ℕ, ◌+◌, ◌-◌, ◌*◌, �
 ghost use Rattle.std.specs.Str.{chars};
 ghost use Rattle.rope_text.specs.declared.error.Error.TheVariants.{OutOfMemory};
 ghost use Rattle.rope_text.specs.declared.line_breaks.LineBreaks.TheVariants.{Unicode};
+ghost use Rattle.rope_text.specs.declared.TheConstants.{MAX_BYTES, MAX_HEIGHT};
 ghost use Rattle.rope_text.specs.Text.{byte_len, utf16_len};
 ghost use Rattle.rope_text.specs.Lines.{line_count};
 ghost use Rattle.rope_text.specs.Edit.{inserted, insert_error, IsRefusal};
@@ -136,7 +137,7 @@ impl Rope {
         ensures leaves { result.now.leaves ≡ self.now.chunks }
         ensures breaks { result.now.breaks ≡ self.now.breaks }
         ensures depth { result.now.height ≡ self.now.depth }
-        ensures low { result.now.height ≤ 18 }
+        ensures low { result.now.height ≤ MAX_HEIGHT }
     {
         &self.root
     }
@@ -190,7 +191,7 @@ impl Rope {
     /// The bytes for which the chunks have room: `MAX_BYTES` for each chunk, and `usize::MAX` at most. Enters each
     /// inner node of the tree once, reads no text and takes no memory.
     pub fn capacity(&self) -> usize
-        ensures { result ≡ min (984 * length self.now.chunks) (2 ^ 64 - 1) }
+        ensures { result ≡ min (MAX_BYTES * length self.now.chunks) (2 ^ 64 - 1) }
     {
         leaf_count(&self.root).saturating_mul(MAX_BYTES)
     }

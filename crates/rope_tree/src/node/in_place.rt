@@ -1,5 +1,6 @@
 //! Inserts of short texts where the nodes stand: one way down, on which a node that is shared is copied.
 ghost use Rattle.std.specs.Prelude.{◌≡◌, ◌+◌, ◌<◌, ◌≤◌, ◌^◌, [], ◌∷◌, true, false, length, take, slice_index_or, IfOk, OnErr};
+ghost use Rattle.rope_text.specs.declared.TheConstants.{MAX_SHORT_BYTES};
 ghost use Rattle.rope_text.specs.Text.{byte_len};
 ghost use Rattle.rope_text.specs.Edit.{inserted};
 ghost use Rattle.rope_tree.specs.Tree.{Tree, text, joined, breaks_of, height_of, tree_over, AreChildren};
@@ -55,7 +56,7 @@ impl Children {
         requires children { AreChildren (breaks_of self.old) (height_of self.old) self.old }
         requires within { at ≤ length (joined self.old) }
         requires some { 1 ≤ length added.now }
-        requires short { byte_len added.now ≤ 981 }
+        requires short { byte_len added.now ≤ MAX_SHORT_BYTES }
         requires fits { byte_len (joined self.old) + byte_len added.now < 2 ^ 63 }
         requires side { MayInsert (tree_over self.old) at added.now to_right }
         ensures done { IfOk result (λ did. did ≡ true → AreGrown self.old self.new (inserted (joined self.old) at added.now)) }
@@ -105,7 +106,7 @@ impl Node {
     ) -> Result<bool, AllocError>
         requires within { at ≤ length (text self.old) }
         requires some { 1 ≤ length added.now }
-        requires short { byte_len added.now ≤ 981 }
+        requires short { byte_len added.now ≤ MAX_SHORT_BYTES }
         requires fits { byte_len (text self.old) + byte_len added.now < 2 ^ 63 }
         requires side { MayInsert self.old at added.now to_right }
         ensures done { IfOk result (λ did. did ≡ true → IsInserted self.old (self.new ∷ []) (inserted (text self.old) at added.now)) }

@@ -1,6 +1,7 @@
 //! Inserts of short texts where the nodes stand, into a leaf that has no room: it is cut into two, of which the first stays.
 ghost use Rattle.std.specs.Prelude.{◌≡◌, ◌+◌, ◌<◌, ◌≤◌, ◌^◌, ◌-◌, [], ◌∷◌, true, false, length, take, IfOk, OnOk, OnErr, IfSome, IfNone};
 ghost use Rattle.std.specs.List.{insert};
+ghost use Rattle.rope_text.specs.declared.TheConstants.{MAX_SHORT_BYTES};
 ghost use Rattle.rope_text.specs.Text.{byte_len};
 ghost use Rattle.rope_text.specs.Edit.{inserted};
 ghost use Rattle.rope_tree.specs.Tree.{text, joined, breaks_of, height_of, tree_over, AreChildren};
@@ -29,7 +30,7 @@ impl Children {
         requires children { AreChildren (breaks_of self.old) (height_of self.old) self.old }
         requires within { at ≤ length (joined self.old) }
         requires some { 1 ≤ length added.now }
-        requires short { byte_len added.now ≤ 981 }
+        requires short { byte_len added.now ≤ MAX_SHORT_BYTES }
         requires fits { byte_len (joined self.old) + byte_len added.now < 2 ^ 63 }
         requires side { MayInsert (tree_over self.old) at added.now to_right }
         ensures done { IfOk result (λ did. did ≡ true → AreGrown self.old self.new (inserted (joined self.old) at added.now)) }
@@ -77,7 +78,7 @@ impl Node {
         made: &mut u64,
     ) -> Result<Option<Node>, AllocError>
         requires some { 1 ≤ length added.now }
-        requires short { byte_len added.now ≤ 981 }
+        requires short { byte_len added.now ≤ MAX_SHORT_BYTES }
         ensures cut { IfOk result (λ found. IfSome found (λ back. IsInserted self.old (self.new ∷ back ∷ []) (inserted (text self.old) at added.now))) }
         ensures kept { IfOk result (λ found. IfNone found (self.new ≡ self.old)) }
         ensures err { OnErr result (self.new ≡ self.old) }

@@ -4,6 +4,7 @@ ghost use Rattle.rope_tree.specs.Shape.{form_tree, IsForm};
 
 use super::{Children, Form, Node, add_made};
 use crate::leaf::Leaf;
+use rope_text::MAX_CHILDREN;
 use std::alloc::{AllocError, Global};
 use std::rc::Rc;
 
@@ -12,7 +13,7 @@ impl Children {
     fn copied(&self, alloc: Global) -> Result<Children, AllocError>
         ensures { IfOk result (λ copy. copy ≡ self.now) }
     {
-        let mut nodes: [Node; 24] = Default::default();
+        let mut nodes: [Node; MAX_CHILDREN] = Default::default();
         for place in 0..self.totals.len() {
             nodes[place] = self.nodes[place].share()?;
         }

@@ -1,5 +1,6 @@
 //! Nodes put side by side, and the nodes over them.
-ghost use Rattle.std.specs.Prelude.{◌≡◌, ◌+◌, ◌<◌, ◌≤◌, ◌++◌, [], ◌∷◌, length, take, drop, IfOk, OnOk};
+ghost use Rattle.std.specs.Prelude.{◌≡◌, ◌+◌, ◌*◌, ◌<◌, ◌≤◌, ◌++◌, [], ◌∷◌, length, take, drop, IfOk, OnOk};
+ghost use Rattle.rope_text.specs.declared.TheConstants.{MAX_CHILDREN};
 ghost use Rattle.rope_tree.specs.Tree.{height_of, breaks_of, leaves_of, tree_over, AreChildren};
 ghost use Rattle.rope_tree.specs.Totals.{IsTotalOf};
 ghost use Rattle.rope_tree.specs.View.{trees_in};
@@ -27,7 +28,7 @@ pub struct Row<'a> {
 #[derive(Drop)]
 struct NewList {
     totals: Totals,
-    nodes: [Node; 24],
+    nodes: [Node; MAX_CHILDREN],
 }
 
 /// Shares nodes, and puts them in the places of as many others, from a place on.
@@ -60,7 +61,7 @@ impl NewList {
     #[inline(always)]
     fn push(&mut self, alloc: Global, node: Node, before: TextInfo) -> Result<TextInfo, AllocError>
         requires list { IsNewList self.old }
-        requires room { length (nodes_in self.old) < 24 }
+        requires room { length (nodes_in self.old) < MAX_CHILDREN }
         requires before { IsTotalOf (nodes_in self.old) before }
         requires siblings { AreSiblings (breaks_of (nodes_in self.old ++ node ∷ [])) (height_of (nodes_in self.old ++ node ∷ [])) (nodes_in self.old ++ node ∷ []) }
         ensures list { OnOk result (IsNewList self.new) }
@@ -83,7 +84,7 @@ impl NewList {
         before: TextInfo,
     ) -> Result<TextInfo, AllocError>
         requires list { IsNewList self.old }
-        requires room { length (nodes_in self.old) + length nodes.now ≤ 24 }
+        requires room { length (nodes_in self.old) + length nodes.now ≤ MAX_CHILDREN }
         requires before { IsTotalOf (nodes_in self.old) before }
         requires siblings { AreSiblings (breaks_of (nodes_in self.old ++ nodes.now)) (height_of (nodes_in self.old ++ nodes.now)) (nodes_in self.old ++ nodes.now) }
         ensures list { OnOk result (IsNewList self.new) }
@@ -108,7 +109,7 @@ impl NewList {
     ) -> Result<TextInfo, AllocError>
         requires list { IsNewList self.old }
         requires some { 1 ≤ length nodes.now }
-        requires room { length (nodes_in self.old) + length nodes.now ≤ 24 }
+        requires room { length (nodes_in self.old) + length nodes.now ≤ MAX_CHILDREN }
         requires part { IsPart nodes.now totals.now from }
         requires before { IsTotalOf (nodes_in self.old) before }
         requires siblings { AreSiblings (breaks_of (nodes_in self.old ++ nodes.now)) (height_of (nodes_in self.old ++ nodes.now)) (nodes_in self.old ++ nodes.now) }
@@ -137,7 +138,7 @@ impl NewList {
         before: TextInfo,
     ) -> Result<TextInfo, AllocError>
         requires list { IsNewList self.old }
-        requires room { length (nodes_in self.old) + length row.nodes.now ≤ 24 }
+        requires room { length (nodes_in self.old) + length row.nodes.now ≤ MAX_CHILDREN }
         requires row { IsRow row }
         requires before { IsTotalOf (nodes_in self.old) before }
         requires siblings { AreSiblings (breaks_of (nodes_in self.old ++ row.nodes.now)) (height_of (nodes_in self.old ++ row.nodes.now)) (nodes_in self.old ++ row.nodes.now) }
@@ -264,7 +265,7 @@ pub fn pack_over(
     requires after { IsRow after }
     requires siblings { let ts = before.nodes.now ++ (middle.now ++ after.nodes.now) in AreSiblings (breaks_of ts) (height_of ts) ts }
     requires at_least_two { 2 ≤ length (before.nodes.now ++ (middle.now ++ after.nodes.now)) }
-    requires at_most_48 { length (before.nodes.now ++ (middle.now ++ after.nodes.now)) ≤ 48 }
+    requires at_most_48 { length (before.nodes.now ++ (middle.now ++ after.nodes.now)) ≤ 2 * MAX_CHILDREN }
     ensures leaves { IfOk result (λ p. leaves_of (trees_in p) ≡ leaves_of (before.entry.nodes.now ++ (middle.now ++ after.entry.nodes.now))) }
     ensures shape { let ts = before.entry.nodes.now ++ (middle.now ++ after.entry.nodes.now) in IfOk result (λ p. AreParts (breaks_of ts) (length ts) (length ts) (height_of ts + 1) (trees_in p)) }
     ensures made { made.new ≤ made.old + 2 }
@@ -301,7 +302,7 @@ pub fn pack(
     requires after { IsRow after }
     requires siblings { let ts = before.nodes.now ++ (trees_in middle ++ after.nodes.now) in AreSiblings (breaks_of ts) (height_of ts) ts }
     requires at_least_two { 2 ≤ length (before.nodes.now ++ (trees_in middle ++ after.nodes.now)) }
-    requires at_most_48 { length (before.nodes.now ++ (trees_in middle ++ after.nodes.now)) ≤ 48 }
+    requires at_most_48 { length (before.nodes.now ++ (trees_in middle ++ after.nodes.now)) ≤ 2 * MAX_CHILDREN }
     ensures leaves { IfOk result (λ p. leaves_of (trees_in p) ≡ leaves_of (before.entry.nodes.now ++ (trees_in middle ++ after.entry.nodes.now))) }
     ensures shape { let ts = before.entry.nodes.now ++ (trees_in middle ++ after.entry.nodes.now) in IfOk result (λ p. AreParts (breaks_of ts) (length ts) (length ts) (height_of ts + 1) (trees_in p)) }
     ensures made { made.new ≤ made.old + 2 }

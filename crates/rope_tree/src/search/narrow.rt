@@ -1,12 +1,13 @@
 //! Running totals of which each count fits in 16 bits, as those over leaves do.
 ghost use Rattle.std.specs.Prelude.{◌≡◌, ℕ, ◌+◌, ◌-◌, ◌%◌, ◌<◌, ◌≤◌, ◌^◌, [], ◌∷◌, ◌++◌, true, false, length, slice_index, slice_index_or};
+ghost use Rattle.rope_text.specs.declared.TheConstants.{MAX_CHILDREN};
 ghost use Rattle.rope_text.specs.declared.text_info.TextInfo.{TextInfo};
 ghost use Rattle.rope_text.specs.TextInfo.{info_sum};
 ghost use Rattle.rope_tree.specs.Search.{count_of, HasPart};
 ghost use Rattle.rope_tree.specs.Narrow.{IsNarrow, AreNarrow, FitsWith};
 
 use super::{Unit, put_row};
-use rope_text::TextInfo;
+use rope_text::{MAX_CHILDREN, TextInfo};
 use std::marker::Model;
 use std::mem;
 
@@ -15,10 +16,10 @@ use std::mem;
 #[derive(Drop)]
 pub(crate) struct NarrowTotals {
     len: usize,
-    bytes: [u16; 24],
-    chars: [u16; 24],
-    pairs: [u16; 24],
-    breaks: [u16; 24],
+    bytes: [u16; MAX_CHILDREN],
+    chars: [u16; MAX_CHILDREN],
+    pairs: [u16; MAX_CHILDREN],
+    breaks: [u16; MAX_CHILDREN],
 }
 
 impl Model for NarrowTotals {
@@ -45,7 +46,7 @@ fn difference(old: usize, new: usize) -> u16
 }
 
 /// 24 times 0, and then 24 times 1.
-static MARKS: [u16; 48] = [
+static MARKS: [u16; 2 * MAX_CHILDREN] = [
     0, 0, 0, 0, 0, 0, 0, 0, 0, 0, 0, 0, 0, 0, 0, 0, 0, 0, 0, 0, 0, 0, 0, 0, 1, 1, 1, 1, 1, 1, 1, 1,
     1, 1, 1, 1, 1, 1, 1, 1, 1, 1, 1, 1, 1, 1, 1, 1,
 ];
@@ -53,12 +54,12 @@ static MARKS: [u16; 48] = [
 /// For each of 24 places 1 where it is `from` or behind it, and 0 before.
 #[inline(always)]
 fn marks_from(from: usize) -> &'static [u16]
-    requires { from ≤ 24 }
-    ensures len { length result.now ≡ 24 }
+    requires { from ≤ MAX_CHILDREN }
+    ensures len { length result.now ≡ MAX_CHILDREN }
     ensures before { (j : ℕ) → j < from → slice_index result.now j ≡ 0 }
-    ensures behind { (j : ℕ) → from ≤ j → j < 24 → slice_index result.now j ≡ 1 }
+    ensures behind { (j : ℕ) → from ≤ j → j < MAX_CHILDREN → slice_index result.now j ≡ 1 }
 {
-    &MARKS[24 - from..48 - from]
+    &MARKS[MAX_CHILDREN - from..2 * MAX_CHILDREN - from]
 }
 
 /// Adds a number, modulo 2^16, to the counts from a place on. It goes over all places, eight at once, and multiplies by 0 before
@@ -66,29 +67,29 @@ fn marks_from(from: usize) -> &'static [u16]
 /// the counts are left alone.
 #[inline(always)]
 fn shift(counts: &mut [u16], from: usize, more: u16)
-    requires len { length counts.old ≡ 24 }
-    requires place { from ≤ 24 }
+    requires len { length counts.old ≡ MAX_CHILDREN }
+    requires place { from ≤ MAX_CHILDREN }
     ensures before { (j : ℕ) → j < from → slice_index counts.new j ≡ slice_index counts.old j }
-    ensures after { (j : ℕ) → from ≤ j → j < 24 → slice_index counts.new j ≡ (slice_index counts.old j + more) % 2 ^ 16 }
-    ensures len { length counts.new ≡ 24 }
+    ensures after { (j : ℕ) → from ≤ j → j < MAX_CHILDREN → slice_index counts.new j ≡ (slice_index counts.old j + more) % 2 ^ 16 }
+    ensures len { length counts.new ≡ MAX_CHILDREN }
 {
     if more == 0 {
         return;
     }
     let marks = marks_from(from);
-    for j in 0..24usize {
+    for j in 0..MAX_CHILDREN {
         counts[j] = counts[j].wrapping_add(more.wrapping_mul(marks[j]));
     }
 }
 
 /// Puts a count before the one at a place, of so many that are in use.
-fn put_in(counts: &mut [u16; 24], place: usize, len: usize, count: u16)
+fn put_in(counts: &mut [u16; MAX_CHILDREN], place: usize, len: usize, count: u16)
     requires within { place ≤ len }
-    requires room { len < 24 }
+    requires room { len < MAX_CHILDREN }
     ensures before { (j : ℕ) → j < place → slice_index counts.new j ≡ slice_index counts.old j }
     ensures here { slice_index counts.new place ≡ count }
     ensures behind { (j : ℕ) → place ≤ j → j < len → slice_index counts.new (j + 1) ≡ slice_index counts.old j }
-    ensures len { length counts.new ≡ 24 }
+    ensures len { length counts.new ≡ MAX_CHILDREN }
 {
     let mut next = count;
     for j in place..len + 1 {
@@ -103,10 +104,10 @@ impl NarrowTotals {
     {
         NarrowTotals {
             len: 0,
-            bytes: [0; 24],
-            chars: [0; 24],
-            pairs: [0; 24],
-            breaks: [0; 24],
+            bytes: [0; MAX_CHILDREN],
+            chars: [0; MAX_CHILDREN],
+            pairs: [0; MAX_CHILDREN],
+            breaks: [0; MAX_CHILDREN],
         }
     }
 
@@ -177,7 +178,7 @@ impl NarrowTotals {
     /// Puts the total of one child more behind the others.
     #[inline(always)]
     pub(super) fn push(&mut self, total: TextInfo)
-        requires room { length self.old < 24 }
+        requires room { length self.old < MAX_CHILDREN }
         requires narrow { IsNarrow total }
         ensures { self.new ≡ self.old ++ total ∷ [] }
     {
@@ -192,7 +193,7 @@ impl NarrowTotals {
     #[inline(always)]
     fn append(&mut self, others: &NarrowTotals, from: usize, count: usize)
         requires within { from + count ≤ length others.now }
-        requires room { length self.old + count ≤ 24 }
+        requires room { length self.old + count ≤ MAX_CHILDREN }
         ensures len { length self.new ≡ length self.old + count }
         ensures before { (j : ℕ) (d : TextInfo) → j < length self.old → slice_index_or self.new j d ≡ slice_index_or self.old j d }
         ensures behind { (j : ℕ) (d : TextInfo) → j < count → slice_index_or self.new (length self.old + j) d ≡ slice_index_or others.now (from + j) d }
@@ -208,7 +209,7 @@ impl NarrowTotals {
     /// Puts the total of one child more before the one at a place.
     pub(super) fn insert(&mut self, place: usize, total: TextInfo)
         requires within { place ≤ length self.old }
-        requires room { length self.old < 24 }
+        requires room { length self.old < MAX_CHILDREN }
         requires narrow { AreNarrow self.old → IsNarrow total }
         ensures len { length self.new ≡ length self.old + 1 }
         ensures before { (j : ℕ) (d : TextInfo) → j < place → slice_index_or self.new j d ≡ slice_index_or self.old j d }
@@ -261,7 +262,7 @@ impl NarrowTotals {
     )
         requires some { 1 ≤ count }
         requires within { from + count ≤ length others.now }
-        requires room { length self.old + count ≤ 24 }
+        requires room { length self.old + count ≤ MAX_CHILDREN }
         requires part { (j : ℕ) (d : TextInfo) → j < count → HasPart (slice_index_or others.now (from + j) d) old }
         requires fits { (j : ℕ) (d : TextInfo) → j < count → FitsWith (slice_index_or others.now (from + j) d) old new }
         ensures len { length self.new ≡ length self.old + count }

@@ -1,12 +1,13 @@
 //! Running totals of any size, kept by kind of count.
 ghost use Rattle.std.specs.Prelude.{◌≡◌, ℕ, ◌+◌, ◌-◌, ◌%◌, ◌<◌, ◌≤◌, ◌^◌, [], ◌∷◌, ◌++◌, true, false, length, slice_index, slice_index_or};
+ghost use Rattle.rope_text.specs.declared.TheConstants.{MAX_CHILDREN};
 ghost use Rattle.rope_text.specs.declared.text_info.TextInfo.{TextInfo};
 ghost use Rattle.rope_text.specs.TextInfo.{info_sum};
 ghost use Rattle.rope_tree.specs.Search.{count_of, IsSmall, HasPart};
 
 use super::narrow::NarrowTotals;
 use super::{Unit, put_row};
-use rope_text::TextInfo;
+use rope_text::{MAX_CHILDREN, TextInfo};
 use std::marker::Model;
 use std::mem;
 
@@ -14,10 +15,10 @@ use std::mem;
 #[derive(Drop)]
 pub(crate) struct WideTotals {
     len: usize,
-    bytes: [usize; 24],
-    chars: [usize; 24],
-    pairs: [usize; 24],
-    breaks: [usize; 24],
+    bytes: [usize; MAX_CHILDREN],
+    chars: [usize; MAX_CHILDREN],
+    pairs: [usize; MAX_CHILDREN],
+    breaks: [usize; MAX_CHILDREN],
 }
 
 impl Model for WideTotals {
@@ -37,7 +38,7 @@ impl Model for WideTotals {
 const ALL: usize = usize::MAX;
 
 /// No bits for 24 places, and then all bits for 24.
-static MASKS: [usize; 48] = [
+static MASKS: [usize; 2 * MAX_CHILDREN] = [
     0, 0, 0, 0, 0, 0, 0, 0, 0, 0, 0, 0, 0, 0, 0, 0, 0, 0, 0, 0, 0, 0, 0, 0, ALL, ALL, ALL, ALL,
     ALL, ALL, ALL, ALL, ALL, ALL, ALL, ALL, ALL, ALL, ALL, ALL, ALL, ALL, ALL, ALL, ALL, ALL, ALL,
     ALL,
@@ -46,12 +47,12 @@ static MASKS: [usize; 48] = [
 /// For each of 24 places all bits where it is `from` or behind it, and none before.
 #[inline(always)]
 fn masks_from(from: usize) -> &'static [usize]
-    requires { from ≤ 24 }
-    ensures len { length result.now ≡ 24 }
+    requires { from ≤ MAX_CHILDREN }
+    ensures len { length result.now ≡ MAX_CHILDREN }
     ensures before { (j : ℕ) → j < from → slice_index result.now j ≡ 0 }
-    ensures behind { (j : ℕ) → from ≤ j → j < 24 → slice_index result.now j ≡ usize.MAX }
+    ensures behind { (j : ℕ) → from ≤ j → j < MAX_CHILDREN → slice_index result.now j ≡ usize.MAX }
 {
-    &MASKS[24 - from..48 - from]
+    &MASKS[MAX_CHILDREN - from..2 * MAX_CHILDREN - from]
 }
 
 /// A number, or nothing.
@@ -67,29 +68,29 @@ fn masked(number: usize, mask: usize) -> usize
 /// depends on one; where nothing is added, the counts are left alone.
 #[inline(always)]
 fn shift(counts: &mut [usize], from: usize, more: usize)
-    requires len { length counts.old ≡ 24 }
-    requires place { from ≤ 24 }
+    requires len { length counts.old ≡ MAX_CHILDREN }
+    requires place { from ≤ MAX_CHILDREN }
     ensures before { (j : ℕ) → j < from → slice_index counts.new j ≡ slice_index counts.old j }
-    ensures after { (j : ℕ) → from ≤ j → j < 24 → slice_index counts.new j ≡ (slice_index counts.old j + more) % 2 ^ 64 }
-    ensures len { length counts.new ≡ 24 }
+    ensures after { (j : ℕ) → from ≤ j → j < MAX_CHILDREN → slice_index counts.new j ≡ (slice_index counts.old j + more) % 2 ^ 64 }
+    ensures len { length counts.new ≡ MAX_CHILDREN }
 {
     if more == 0 {
         return;
     }
     let masks = masks_from(from);
-    for j in 0..24usize {
+    for j in 0..MAX_CHILDREN {
         counts[j] = counts[j].wrapping_add(masked(more, masks[j]));
     }
 }
 
 /// Puts a count before the one at a place, of so many that are in use.
-fn put_in(counts: &mut [usize; 24], place: usize, len: usize, count: usize)
+fn put_in(counts: &mut [usize; MAX_CHILDREN], place: usize, len: usize, count: usize)
     requires within { place ≤ len }
-    requires room { len < 24 }
+    requires room { len < MAX_CHILDREN }
     ensures before { (j : ℕ) → j < place → slice_index counts.new j ≡ slice_index counts.old j }
     ensures here { slice_index counts.new place ≡ count }
     ensures behind { (j : ℕ) → place ≤ j → j < len → slice_index counts.new (j + 1) ≡ slice_index counts.old j }
-    ensures len { length counts.new ≡ 24 }
+    ensures len { length counts.new ≡ MAX_CHILDREN }
 {
     let mut next = count;
     for j in place..len + 1 {
@@ -100,15 +101,15 @@ fn put_in(counts: &mut [usize; 24], place: usize, len: usize, count: usize)
 impl WideTotals {
     /// The same totals.
     pub(super) fn of(totals: &NarrowTotals) -> WideTotals
-        requires { length totals.now ≤ 24 }
+        requires { length totals.now ≤ MAX_CHILDREN }
         ensures { result ≡ totals.now }
     {
         let mut wide = WideTotals {
             len: 0,
-            bytes: [0; 24],
-            chars: [0; 24],
-            pairs: [0; 24],
-            breaks: [0; 24],
+            bytes: [0; MAX_CHILDREN],
+            chars: [0; MAX_CHILDREN],
+            pairs: [0; MAX_CHILDREN],
+            breaks: [0; MAX_CHILDREN],
         };
         for place in 0..totals.len() {
             wide.push(totals.get(place));
@@ -183,7 +184,7 @@ impl WideTotals {
 
     /// Puts the total of one child more behind the others.
     pub(super) fn push(&mut self, total: TextInfo)
-        requires { length self.old < 24 }
+        requires { length self.old < MAX_CHILDREN }
         ensures { self.new ≡ self.old ++ total ∷ [] }
     {
         self.bytes[self.len] = total.bytes;
@@ -197,7 +198,7 @@ impl WideTotals {
     #[inline(always)]
     fn append(&mut self, others: &WideTotals, from: usize, count: usize)
         requires within { from + count ≤ length others.now }
-        requires room { length self.old + count ≤ 24 }
+        requires room { length self.old + count ≤ MAX_CHILDREN }
         ensures len { length self.new ≡ length self.old + count }
         ensures before { (j : ℕ) (d : TextInfo) → j < length self.old → slice_index_or self.new j d ≡ slice_index_or self.old j d }
         ensures behind { (j : ℕ) (d : TextInfo) → j < count → slice_index_or self.new (length self.old + j) d ≡ slice_index_or others.now (from + j) d }
@@ -213,7 +214,7 @@ impl WideTotals {
     /// Puts the total of one child more before the one at a place.
     pub(super) fn insert(&mut self, place: usize, total: TextInfo)
         requires within { place ≤ length self.old }
-        requires room { length self.old < 24 }
+        requires room { length self.old < MAX_CHILDREN }
         ensures len { length self.new ≡ length self.old + 1 }
         ensures before { (j : ℕ) (d : TextInfo) → j < place → slice_index_or self.new j d ≡ slice_index_or self.old j d }
         ensures here { (d : TextInfo) → slice_index_or self.new place d ≡ total }
@@ -256,7 +257,7 @@ impl WideTotals {
     )
         requires some { 1 ≤ count }
         requires within { from + count ≤ length others.now }
-        requires room { length self.old + count ≤ 24 }
+        requires room { length self.old + count ≤ MAX_CHILDREN }
         requires part { (j : ℕ) (d : TextInfo) → j < count → HasPart (slice_index_or others.now (from + j) d) old }
         requires small { (j : ℕ) (d : TextInfo) → j < length self.old → IsSmall (slice_index_or self.old j d) }
         requires small_others { (j : ℕ) (d : TextInfo) → j < count → IsSmall (slice_index_or others.now (from + j) d) }
