@@ -83,7 +83,11 @@ pub(crate) fn lowest_text(node: &Node) -> &str
 }
 
 // Goes down from a node at a level to its first leaf. Answers how many frames lead there, and the leaf's text.
-fn enter_first<'a>(frames: &mut [Frame<'a>; MAX_HEIGHT], level: usize, node: &'a Node) -> (usize, &'a str)
+fn enter_first<'a>(
+    frames: &mut [Frame<'a>; MAX_HEIGHT],
+    level: usize,
+    node: &'a Node,
+) -> (usize, &'a str)
     requires frames { AreFrames frames.old level (around frames.old level node.now.leaves) }
     requires low { IsLow node.now (MAX_HEIGHT - level) }
     ensures leads { LeadsTo frames.new result.0 (chars result.1.now) (around frames.old level node.now.leaves) }
@@ -105,7 +109,11 @@ fn enter_first<'a>(frames: &mut [Frame<'a>; MAX_HEIGHT], level: usize, node: &'a
 // What `enter_first` does. Most nodes that a step reaches are leaves, and for these it is kept where it is called, and its
 // answer in registers: so it takes apart what `enter_first` answers, which comes through memory.
 #[inline(always)]
-fn reach_first<'a>(frames: &mut [Frame<'a>; MAX_HEIGHT], level: usize, node: &'a Node) -> (usize, &'a str)
+fn reach_first<'a>(
+    frames: &mut [Frame<'a>; MAX_HEIGHT],
+    level: usize,
+    node: &'a Node,
+) -> (usize, &'a str)
     requires frames { AreFrames frames.old level (around frames.old level node.now.leaves) }
     requires low { IsLow node.now (MAX_HEIGHT - level) }
     ensures leads { LeadsTo frames.new result.0 (chars result.1.now) (around frames.old level node.now.leaves) }
@@ -119,7 +127,11 @@ fn reach_first<'a>(frames: &mut [Frame<'a>; MAX_HEIGHT], level: usize, node: &'a
 }
 
 // Goes down from a node at a level to its last leaf.
-fn enter_last<'a>(frames: &mut [Frame<'a>; MAX_HEIGHT], level: usize, node: &'a Node) -> (usize, &'a str)
+fn enter_last<'a>(
+    frames: &mut [Frame<'a>; MAX_HEIGHT],
+    level: usize,
+    node: &'a Node,
+) -> (usize, &'a str)
     requires frames { AreFrames frames.old level (around frames.old level node.now.leaves) }
     requires low { IsLow node.now (MAX_HEIGHT - level) }
     ensures leads { LeadsTo frames.new result.0 (chars result.1.now) (around frames.old level node.now.leaves) }
@@ -137,7 +149,11 @@ fn enter_last<'a>(frames: &mut [Frame<'a>; MAX_HEIGHT], level: usize, node: &'a 
 
 // What `enter_last` does, kept where it is called, as `reach_first` is.
 #[inline(always)]
-fn reach_last<'a>(frames: &mut [Frame<'a>; MAX_HEIGHT], level: usize, node: &'a Node) -> (usize, &'a str)
+fn reach_last<'a>(
+    frames: &mut [Frame<'a>; MAX_HEIGHT],
+    level: usize,
+    node: &'a Node,
+) -> (usize, &'a str)
     requires frames { AreFrames frames.old level (around frames.old level node.now.leaves) }
     requires low { IsLow node.now (MAX_HEIGHT - level) }
     ensures leads { LeadsTo frames.new result.0 (chars result.1.now) (around frames.old level node.now.leaves) }
