@@ -56,6 +56,17 @@ impl Clone for Rope {
     }
 }
 
+// Hands a chunk in, whose bytes are counted by its characters.
+fn append_chunk(builder: &mut Builder, chunk: &str) -> Result<()>
+    requires { byte_len builder.old.text + byte_len (chars chunk.now) < 2 ^ 63 }
+    ensures ok { OnOk result (builder.new.text ≡ builder.old.text ++ chars chunk.now) }
+    ensures breaks { builder.new.breaks ≡ builder.old.breaks }
+    ensures refused { IfErr result (λ e. e ≡ OutOfMemory) }
+{
+    builder.append(chunk)?;
+    Ok(())
+}
+
 impl Rope {
     /// A rope of the empty text, with Unicode's line breaks, in no chunk. Takes memory for one node.
     ///
@@ -202,7 +213,7 @@ impl Rope {
     {
         let mut builder = Builder::new(self.alloc, self.line_breaks());
         for chunk in self.chunks() {
-            builder.append(chunk)?;
+            append_chunk(&mut builder, chunk)?;
         }
         let root = builder.finish(&mut 0)?;
         self.root = root;
