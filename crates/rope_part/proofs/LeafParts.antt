@@ -146,15 +146,15 @@ ends_break k at t start end leaf front tree s f some next last =
     let early : front.chars < end.chars = elim (cases_lt front.chars end.chars) [
       | inl less ↦ less
       | inr more ↦ absurd (omega (
-          arith,
-          ap (λ x. x.break_count) s.end_is,
-          ap (break_count t.breaks) (take-take end.chars front.chars (text t) more),
-          break_count-front t.breaks (take front.chars (text t)) end.chars,
-          ap (break_count t.breaks) (before_is_front t.leaves f.index f.within),
-          ap (λ n. break_count t.breaks (take n (text t))) l.chars,
-          l.count,
-          f.not_past,
-        ))
+        arith,
+        ap (λ x. x.break_count) s.end_is,
+        ap (break_count t.breaks) (take-take end.chars front.chars (text t) more),
+        break_count-front t.breaks (take front.chars (text t)) end.chars,
+        ap (break_count t.breaks) (before_is_front t.leaves f.index f.within),
+        ap (λ n. break_count t.breaks (take n (text t))) l.chars,
+        l.count,
+        f.not_past,
+      ))
     ] in
     let upto : from ≤ front.chars + length leaf = omega (arith, found_line_start at line t leaf front tree f refl, line_start-le-length t.breaks leaf (line - front.break_count)) in
     record {

@@ -99,13 +99,8 @@ impl<'a> Part<'a> {
         }
         match self {
             Part::InTree(stretch) => {
-                let line = stretch.place(Unit::LineBreak, line_break_idx);
-                stretch.chunk_in(leaf_at(
-                    stretch.node,
-                    Unit::LineBreak,
-                    line - 1,
-                    &mut Steps::new(),
-                ))
+                let at = stretch.place(Unit::LineBreak, line_break_idx - 1);
+                stretch.chunk_in(leaf_at(stretch.node, Unit::LineBreak, at, &mut Steps::new()))
             }
             Part::Alone(plain) => (plain.text, 0, 0, 0),
         }

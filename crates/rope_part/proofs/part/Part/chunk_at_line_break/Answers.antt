@@ -14,8 +14,8 @@ ends : (c : After-leaf_at) → EndsBreak c.in-InTree.stretch.node.now c.in-InTre
 ends c =
     let m = measured _ _ _ _ c.in-InTree.stretch.is_stretch in
     let own = rw c.in-InTree.is at c.info-info.ensures.value in
-    ends_break c.args.line_break_idx (c.place-line.result - 1) c.in-InTree.stretch.node.now c.in-InTree.stretch.start c.in-InTree.stretch.end c.leaf_at.result.leaf c.leaf_at.result.before
-    c.place-line.ensures.tree c.in-InTree.stretch.is_stretch c.leaf_at.ensures.found (omega arith) (omega (arith, c.place-line.ensures.value)) (omega (arith, c.place-line.ensures.value, m.count, ap (λ x. x.break_count) own))
+    ends_break c.args.line_break_idx c.place-at.result c.in-InTree.stretch.node.now c.in-InTree.stretch.start c.in-InTree.stretch.end c.leaf_at.result.leaf c.leaf_at.result.before
+    c.place-at.ensures.tree c.in-InTree.stretch.is_stretch c.leaf_at.ensures.found (omega arith) (omega (arith, c.place-at.ensures.value)) (omega (arith, c.place-at.ensures.value, m.count, ap (λ x. x.break_count) own))
 
 pub returns-then-line_break_idx-eq0 : goal.returns-then-line_break_idx-eq0
 returns-then-line_break_idx-eq0 c =
@@ -36,7 +36,7 @@ pub leaf_at-requires-clause-within : goal.leaf_at-requires-clause-within
 leaf_at-requires-clause-within c =
     let m = measured _ _ _ _ c.in-InTree.stretch.is_stretch in
     let own = rw c.in-InTree.is at c.info-info.ensures.value in
-    omega (arith, c.place-line.ensures.value, m.count, m.all_breaks, ap (λ x. x.break_count) own)
+    omega (arith, c.place-at.ensures.value, m.count, m.all_breaks, ap (λ x. x.break_count) own)
 
 pub chunk_in-requires-clause-meets : goal.chunk_in-requires-clause-meets
 chunk_in-requires-clause-meets c =
