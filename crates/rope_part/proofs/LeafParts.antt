@@ -1,24 +1,33 @@
 -- A leaf of a tree that has a character of a stretch.
-use Rattle.std.proofs.Common.{◌≡◌, ℕ, ◌+◌, ◌-◌, ◌<◌, ◌≤◌, min, List, [], ◌++◌, length, take, get_or, sym, ap, ◌∙◌, arith, inl, inr}
+use Rattle.std.proofs.Common.{◌≡◌, ℕ, ◌+◌, ◌-◌, ◌<◌, ◌≤◌, min, List, [], ◌++◌, length, take, get_or, refl, sym, ap, ◌∙◌, arith, inl, inr, All}
 use Rattle.std.specs.List.{concat, slice_range}
 use Rattle.std.proofs.lemmas.Bool.{cases_lt}
-use Rattle.std.proofs.lemmas.List.{length-append}
+use Rattle.std.proofs.lemmas.List.{length-append, take-take}
 use Rattle.rope_text.specs.declared.text_info.TextInfo.{TextInfo}
 use Rattle.rope_text.specs.Text.{byte_len}
 use Rattle.rope_text.specs.TextInfo.{info_of}
+use Rattle.rope_text.specs.Conversions.{char_to_line}
+use Rattle.rope_text.specs.Breaks.{break_count}
+use Rattle.rope_text.specs.Lines.{line_start}
 use Rattle.rope_text.specs.Cutting.{clip}
-use Rattle.rope_text.specs.Lookup.{found_chunk, chunk_index_at_byte, chunk_index_at_char}
+use Rattle.rope_text.specs.Lookup.{found_chunk, chunk_index_at_byte, chunk_index_at_char, chunk_index_at_line_break}
 use Rattle.rope_text.proofs.ChunkLaws.{before}
+use Rattle.rope_text.proofs.ClipLaws.{concat-clip}
+use Rattle.rope_text.proofs.ConversionLaws.{char_to_line-line_start}
+use Rattle.rope_text.proofs.LineLaws.{line_start-le-length}
+use Rattle.rope_text.proofs.LookupLaws.{breaks_before}
 use Rattle.rope_text.proofs.Measures.{IsMeasure-byte_len, size_le}
 use Rattle.rope_tree.specs.Tree.{Tree, text, IsTree}
 use Rattle.rope_tree.proofs.LeafLaws.{nonempty_leaves}
-use Rattle.rope_tree.specs.declared.search.Unit.TheVariants.{Byte, Char}
+use Rattle.rope_tree.specs.declared.search.Unit.TheVariants.{Byte, Char, LineBreak}
 use Rattle.rope_tree.specs.Found.{IsFound}
-use Rattle.rope_tree.proofs.FoundLaws.{lies_at}
+use Rattle.rope_tree.proofs.FoundLaws.{lies_at, found_line_start}
 use Rattle.rope_part.proofs.ClippedChunks.{before_is_front, upto_is_front}
 use Rattle.rope_part.specs.Edge.{IsStretch}
 use Rattle.rope_part.specs.Found.{IsFoundChunk}
-use Rattle.rope_part.proofs.Measured.{measured}
+use Rattle.rope_part.proofs.Lookups.{line_break_index, char_to_line-mono}
+use Rattle.rope_part.proofs.Measured.{measured, break_count-front}
+use Rattle.rope_part.proofs.Stretches.{line_start_part}
 use Rattle.rope_part.proofs.ChunkParts.{leaf_start, leaf_end, ordered, found_in, index_at_char, index_at_byte}
 
 pub record LeafIn (t : Tree) (start end : TextInfo) (leaf : List ℕ) (front : TextInfo) : Type 0 where
@@ -107,4 +116,57 @@ meets_byte at t start end leaf front s f low high =
       ];
       bytes = omega (arith, l.bytes);
       chars = omega (arith, l.chars);
+    }
+
+-- the leaf in which a break of the stretch ends: it has a character of the stretch, and its part is the chunk at the break
+pub record EndsBreak (t : Tree) (start end : TextInfo) (leaf : List ℕ) (front : TextInfo) (k : ℕ) : Type 0 where
+  pub starts : front.chars < end.chars
+  pub ends : start.chars < front.chars + length leaf
+  pub index : All (λ chunk. 0 < length chunk) (clip t.leaves start.chars end.chars)
+      → chunk_index_at_line_break t.breaks (clip t.leaves start.chars end.chars) k ≡ chunk_index_at_char (clip t.leaves start.chars end.chars) (front.chars - start.chars)
+
+pub ends_break : (k at : ℕ) (t : Tree) (start end : TextInfo) (leaf : List ℕ) (front : TextInfo) → IsTree t → IsStretch t.breaks (text t) start end → IsFound LineBreak at t leaf front
+    → 0 < k → at + 1 ≡ start.break_count + k → at < end.break_count → EndsBreak t start end leaf front k
+ends_break k at t start end leaf front tree s f some next last =
+    let m = measured t.breaks (text t) start end s in
+    let l = lies_at LineBreak at t leaf front f in
+    let line : ℕ = at + 1 in
+    let from : ℕ = line_start t.breaks (text t) line in
+    let full = nonempty_leaves t.leaves tree.leaves.each in
+    let lines = char_to_line-line_start t.breaks (text t) line (omega (arith, m.all_breaks)) in
+    let in_text = line_start-le-length t.breaks (text t) line in
+    let before_it : front.chars < from = elim (cases_lt front.chars from) [
+      | inl less ↦ less
+      | inr more ↦ absurd (omega (arith, char_to_line-mono t.breaks (text t) from front.chars more in_text, ap (λ n. char_to_line t.breaks (text t) n) l.chars, breaks_before t.breaks t.leaves f.index full tree.leaves.whole, l.count, f.not_past))
+    ] in
+    let late : start.chars < from = elim (cases_lt start.chars from) [
+      | inl less ↦ less
+      | inr more ↦ absurd (omega (arith, char_to_line-mono t.breaks (text t) from start.chars more in_text, m.start_breaks))
+    ] in
+    let early : front.chars < end.chars = elim (cases_lt front.chars end.chars) [
+      | inl less ↦ less
+      | inr more ↦ absurd (omega (
+        arith,
+        ap (λ x. x.break_count) s.end_is,
+        ap (break_count t.breaks) (take-take end.chars front.chars (text t) more),
+        break_count-front t.breaks (take front.chars (text t)) end.chars,
+        ap (break_count t.breaks) (before_is_front t.leaves f.index f.within),
+        ap (λ n. break_count t.breaks (take n (text t))) l.chars,
+        l.count,
+        f.not_past,
+      ))
+    ] in
+    let upto : from ≤ front.chars + length leaf = omega (arith, found_line_start at line t leaf front tree f refl, line_start-le-length t.breaks leaf (line - front.break_count)) in
+    record {
+      starts = early;
+      ends = omega arith;
+      index = λ nonempty.
+          (let p = leaf_in t start end leaf front tree s f.index f.within f.leaf_is f.before_is early (omega arith) in
+          let i : ℕ = line_start t.breaks (slice_range (text t) start.chars end.chars) k in
+          let place = line_start_part t.breaks (text t) start.chars end.chars m.some m.within k some in
+          let next_is : char_to_line t.breaks (text t) start.chars + k ≡ line = omega (arith, m.start_breaks) in
+          let same = ap (line_start t.breaks (text t)) next_is in
+          let joined = ap (λ u. line_start t.breaks u k) (concat-clip t.leaves start.chars end.chars) in
+          line_break_index t.breaks (clip t.leaves start.chars end.chars) k nonempty ∙ ap (λ n. chunk_index_at_char (clip t.leaves start.chars end.chars) (n - 1)) joined
+          ∙ p.at_char (i - 1) (omega arith) (omega arith));
     }

@@ -35,6 +35,11 @@ unfolding chunk_index_at_char
 char_index_single [] i = refl
 char_index_single (c ∷ text) i = refl
 
+pub break_index_single : (breaks : LineBreaks) (text : List ℕ) (k : ℕ) → chunk_index_at_line_break breaks (single_chunk text) k ≡ 0
+unfolding chunk_index_at_line_break
+break_index_single breaks [] k = refl
+break_index_single breaks (c ∷ text) k = refl
+
 -- a single chunk is found with nothing before it; with no chunk the empty text is
 pub found_single : (breaks : LineBreaks) (text chunk : List ℕ) (k : ℕ) → k ≡ 0 → chunk ≡ text → IsFoundChunk (found_chunk breaks (single_chunk text) k) chunk 0 0 0
 unfolding found_chunk
@@ -60,7 +65,7 @@ holds_char chunks i =
       ];
     }
 
-char_to_line-mono : (breaks : LineBreaks) (text : List ℕ) (i j : ℕ) → i ≤ j → i ≤ length text → char_to_line breaks text i ≤ char_to_line breaks text j
+pub char_to_line-mono : (breaks : LineBreaks) (text : List ℕ) (i j : ℕ) → i ≤ j → i ≤ length text → char_to_line breaks text i ≤ char_to_line breaks text j
 char_to_line-mono breaks text i j l within =
     let on : i + (j - i) ≡ j = omega arith in
     let later = rw on at (char_to_line-drop breaks text i (j - i) within) in

@@ -10,7 +10,7 @@ ghost use Rattle.rope_tree.specs.Tree.{text};
 ghost use Rattle.rope_part.specs.Edge.{start_info, end_info, IsLeafFrom};
 
 use rope_text::str_utils::count_surrogates;
-use rope_text::{LineBreaks, Steps, TextInfo};
+use rope_text::{Steps, TextInfo};
 use rope_tree::lookup::leaf_at;
 use rope_tree::node::Node;
 use rope_tree::search::Unit;
@@ -108,19 +108,7 @@ pub fn before_line(node: &Node, line_idx: usize) -> TextInfo
     if line_idx > info.break_count {
         return info;
     }
-    let start = line_start_at(node, line_idx);
-    start.before
-}
-
-// The counts of a text's first line, where a break ends it.
-fn first_line_info(text: &str, breaks: LineBreaks) -> Option<TextInfo>
-    ensures { IfSome result (λ info. (0 < break_count breaks (chars text.now)) × (info ≡ info_of breaks (first_line breaks (chars text.now)))) }
-{
-    let line = TextInfo::of_first_line(text, breaks);
-    if line.break_count == 0 {
-        return None;
-    }
-    Some(line)
+    line_start_at(node, line_idx).before
 }
 
 /// The counts of the text before a line that is not the first, and before the next one. It is one look-up where the line
@@ -134,8 +122,9 @@ pub fn around_line(node: &Node, line_idx: usize) -> (TextInfo, TextInfo)
     let _ = node.height();
     let _ = node.info();
     let start = line_start_at(node, line_idx);
-    match first_line_info(start.rest, node.line_breaks()) {
-        Some(line) => (start.before, start.before.plus(line)),
-        None => (start.before, before_line(node, line_idx + 1)),
+    let line = TextInfo::of_first_line(start.rest, node.line_breaks());
+    if line.break_count == 0 {
+        return (start.before, before_line(node, line_idx + 1));
     }
+    (start.before, start.before.plus(line))
 }

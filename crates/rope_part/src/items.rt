@@ -90,10 +90,20 @@ impl<'a> Part<'a> {
             (chunk_index_at_line_break (breaks_of self.now) (chunks_of self.now) line_break_idx))
             (chars result.0.now) result.1 result.2 result.3 }
     {
-        // a proof needs what `info` says of every part: no chunk is empty
-        let _ = self.info();
-        let end = self.line_to_char(line_break_idx);
-        self.chunk_at_char(end.saturating_sub(1))
+        let info = self.info();
+        if line_break_idx == 0 {
+            return self.chunk_at_char(0);
+        }
+        if line_break_idx > info.break_count {
+            return self.chunk_at_char(info.chars.saturating_sub(1));
+        }
+        match self {
+            Part::InTree(stretch) => {
+                let at = stretch.place(Unit::LineBreak, line_break_idx - 1);
+                stretch.chunk_in(leaf_at(stretch.node, Unit::LineBreak, at, &mut Steps::new()))
+            }
+            Part::Alone(plain) => (plain.text, 0, 0, 0),
+        }
     }
 
     /// The text, where it is one chunk or none.

@@ -29,10 +29,7 @@ fn invalid(start: Option<usize>, end: Option<usize>) -> Option<Error>
 fn is_past(bound: Option<usize>, len: usize) -> bool
     ensures { result ≡ given (nat_lt len) bound }
 {
-    match bound {
-        Some(b) => b > len,
-        None => false,
-    }
+    bound.is_some_and(|b| b > len)
 }
 
 impl<'a> RopeSlice<'a> {

@@ -24,12 +24,7 @@ impl<'a> RopeSlice<'a> {
         ensures { IsSlice (content_of self.now) (range_start (R.given_start range)) (range_end (R.given_end range) (length (text_of self.now)))
             (content_of result) }
     {
-        match char_bounds(&range, self.len_chars()) {
-            Ok((start, end)) => RopeSlice {
-                part: self.part.char_range(start, end),
-            },
-            Err(_) => unreachable!(),
-        }
+        self.get_slice(range).unwrap()
     }
 
     /// As `slice`, or `None` exactly where a bound is past `len_chars()` or the range's start is past its end.

@@ -10,7 +10,6 @@ ghost use Rattle.rope_text.specs.Lookup.{found_chunk, chunk_index_at_byte, chunk
 ghost use Rattle.rope_part.specs.Found.{IsFoundChunk};
 
 use crate::rope::Rope;
-use rope_tree::chunk_lookup;
 
 impl Rope {
     /// The chunk that holds the byte `byte_idx`, and at the end of the text the last chunk. With it the numbers of
@@ -35,10 +34,7 @@ impl Rope {
             (chunk_index_at_byte self.now.chunks byte_idx))
             (chars found.0.now) found.1 found.2 found.3) }
     {
-        if byte_idx > self.len_bytes() {
-            return None;
-        }
-        Some(self.chunk_at_byte(byte_idx))
+        self.whole().try_chunk_at_byte(byte_idx).ok()
     }
 
     /// The chunk that holds the character `char_idx`, and at the end of the text the last chunk. With it the
@@ -78,14 +74,7 @@ impl Rope {
             (chunk_index_at_line_break self.now.breaks self.now.chunks line_break_idx))
             (chars result.0.now) result.1 result.2 result.3 }
     {
-        let found = chunk_lookup::chunk_at_line_break(self.root(), line_break_idx);
-        let before = found.before;
-        (
-            found.leaf.as_str(),
-            before.bytes,
-            before.chars,
-            before.break_count,
-        )
+        self.whole().chunk_at_line_break(line_break_idx)
     }
 
     /// As `chunk_at_line_break`, or `None` exactly where the index is past `len_lines()`. Costs one look-up; takes
@@ -100,9 +89,6 @@ impl Rope {
             (chunk_index_at_line_break self.now.breaks self.now.chunks line_break_idx))
             (chars found.0.now) found.1 found.2 found.3) }
     {
-        if line_break_idx > self.len_lines() {
-            return None;
-        }
-        Some(self.chunk_at_line_break(line_break_idx))
+        self.whole().get_chunk_at_line_break(line_break_idx)
     }
 }

@@ -182,23 +182,6 @@ impl Rope {
         self.remove_range(range, &mut steps.made)
     }
 
-    // Appends where only running out of memory refuses it, and counts the nodes that are made.
-    fn append_rope(&mut self, other: &Rope, made: &mut u64) -> Result<()>
-        requires same_breaks { other.now.breaks ≡ self.old.breaks }
-        requires fits { byte_len self.old.text + byte_len other.now.text < 2 ^ 63 }
-        ensures ok { OnOk result (self.new.text ≡ self.old.text ++ other.now.text) }
-        ensures refused { IfErr result (λ e. e ≡ OutOfMemory) }
-        ensures err { OnErr result (self.new ≡ self.old) }
-        ensures breaks { self.new.breaks ≡ self.old.breaks }
-        ensures kept { IsRope self.new }
-        ensures made { made.new ≤ made.old + 16 * max self.old.depth other.now.depth + 11 }
-    {
-        let root = append(self.alloc, &self.root, &other.root, made)?;
-        let _ = root.height();
-        self.root = root;
-        Ok(())
-    }
-
     /// Puts the text of another rope behind this one's. The rope shares what it can of the other's tree.
     ///
     /// Where one of the two is empty it takes no memory, and the rope has the chunks of the other; else it takes
@@ -255,6 +238,9 @@ impl Rope {
             self.root = other.root;
             return Ok(());
         }
-        self.append_rope(&other, &mut steps.made)
+        let root = append(self.alloc, &self.root, &other.root, &mut steps.made)?;
+        let _ = root.height();
+        self.root = root;
+        Ok(())
     }
 }

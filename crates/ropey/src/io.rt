@@ -111,10 +111,8 @@ impl Rope {
         ensures kept { IfOk result IsRope }
         ensures few { IfOk result HasFewChunks }
     {
-        match read_tree(alloc, source, breaks) {
-            Ok(root) => Ok(Rope { root, alloc }),
-            Err(error) => Err(error),
-        }
+        let root = read_tree(alloc, source, breaks)?;
+        Ok(Rope { root, alloc })
     }
 
     /// Writes the whole text as UTF-8, chunk by chunk, and does not flush. Takes no memory of its own.

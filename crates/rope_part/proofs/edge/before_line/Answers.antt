@@ -12,6 +12,6 @@ returns-then-line_idx-info c =
     let e = ap (λ x. x.break_count) c.info-info.ensures in
     c.info-info.ensures ∙ sym (ap (info_of breaks) (ap (λ n. take n t) (line_start_past breaks t c.args.line_idx (omega (arith, e))) ∙ take_all (length t) t (omega arith)))
 
-pub line_start_at-start-requires-clause-within : goal.line_start_at-start-requires-clause-within
-line_start_at-start-requires-clause-within c =
+pub line_start_at-requires-clause-within : goal.line_start_at-requires-clause-within
+line_start_at-requires-clause-within c =
     let e = ap (λ x. x.break_count) c.info-info.ensures in omega (arith, e)

@@ -2,5 +2,5 @@
 use Rattle.ropey.proofs.Ropes.{rope_of}
 use Rattle.ropey.proofs.rope.Rope.from_watched_with.Goals as goal
 
-pub returns-in-Ok-clause-kept : goal.returns-in-Ok-clause-kept
-returns-in-Ok-clause-kept g c = rope_of c.in-Ok.root c.in-Ok.ensures.tree
+pub returns-clause-kept : goal.returns-clause-kept
+returns-clause-kept g c = rope_of c.in_ok-root.root c.in_ok-root.ensures.tree
