@@ -11,13 +11,18 @@ const HALF: usize = 1 << 61;
 
 const WHOLE: usize = 1 << 62;
 
-/// A text that is joined to itself so many times.
-fn doubled(alloc: Global, text: &str, times: usize) -> Result<Rope, Fail> {
-    let mut rope = Rope::from_str(alloc, text)?;
+fn double(rope: &mut Rope, times: usize) -> Result<(), Fail> {
     for _ in 0..times {
         let copy = rope.clone()?;
         rope.append(copy)?;
     }
+    Ok(())
+}
+
+/// A text that is joined to itself so many times.
+fn doubled(alloc: Global, text: &str, times: usize) -> Result<Rope, Fail> {
+    let mut rope = Rope::from_str(alloc, text)?;
+    double(&mut rope, times)?;
     Ok(rope)
 }
 
@@ -29,13 +34,17 @@ fn assert_char(rt: &impl Abort, rope: &Rope, char_idx: usize, c: char) {
     assert!(rt; answers == [c, c] && rope.get_char(char_idx) == Some(c));
 }
 
-#[test]
-fn letters_doubled(rt: HostRuntime) -> Result<(), Fail> {
-    let mut rope = doubled(rt.alloc(), "a", 62)?;
-    assert_eq!(rt; [rope.len_bytes(), rope.len_lines()], [WHOLE, 1]);
+fn refuse_a_double(rt: &impl Abort, rope: &mut Rope) -> Result<(), Fail> {
+    assert!(rt; [rope.len_bytes(), rope.len_lines()] == [WHOLE, 1]);
     let copy = rope.clone()?;
     assert!(rt; rope.append(copy) == Err(Error::TooLong) && rope.len_bytes() == WHOLE);
     Ok(())
+}
+
+#[test]
+fn letters_doubled(rt: HostRuntime) -> Result<(), Fail> {
+    let mut rope = doubled(rt.alloc(), "a", 62)?;
+    refuse_a_double(&rt, &mut rope)
 }
 
 /// Cut behind its first character, and joined with as long a text, of which one character is left out.
@@ -76,56 +85,66 @@ fn edit_the_middle(rt: &impl Abort, rope: &mut Rope) -> Result<(), Fail> {
     Ok(())
 }
 
+/// A clone is edited, and the rope stays.
+fn edit_a_clone(rt: &impl Abort, whole: &Rope) -> Result<(), Fail> {
+    let mut rope = whole.clone()?;
+    edit_the_middle(rt, &mut rope)
+}
+
 #[test]
 fn edits_in_the_middle(rt: HostRuntime) -> Result<(), Fail> {
     let whole = doubled(rt.alloc(), "a", 62)?;
-    let mut rope = whole.clone()?;
-    edit_the_middle(&rt, &mut rope)?;
+    edit_a_clone(&rt, &whole)?;
     assert!(rt; whole.len_bytes() == WHOLE);
+    Ok(())
+}
+
+/// The same edits, by calls that count their steps.
+fn edit_the_middle_counted(rt: &impl Abort, rope: &mut Rope) -> Result<(), Fail> {
+    assert!(rt; rope.len_chars() == WHOLE);
+    let mut steps = Steps::new();
+    rope.insert_char_counted(HALF, 'x', &mut steps)?;
+    assert_char(rt, rope, HALF, 'x');
+    rope.try_insert(HALF, "yz")?;
+    assert_char(rt, rope, HALF, 'y');
+    assert!(rt; rope.len_chars() == WHOLE + 3);
+    rope.remove_counted(1..WHOLE + 2, &mut steps)?;
+    compare_unicode(rope, &['a', 'a'])?;
     Ok(())
 }
 
 #[test]
 fn counted_edits_in_the_middle(rt: HostRuntime) -> Result<(), Fail> {
     let mut rope = doubled(rt.alloc(), "a", 62)?;
-    assert!(rt; rope.len_chars() == WHOLE);
-    let mut steps = Steps::new();
-    rope.insert_char_counted(HALF, 'x', &mut steps)?;
-    assert_char(&rt, &rope, HALF, 'x');
-    rope.try_insert(HALF, "yz")?;
-    assert_char(&rt, &rope, HALF, 'y');
-    assert!(rt; rope.len_chars() == WHOLE + 3);
-    rope.remove_counted(1..WHOLE + 2, &mut steps)?;
-    compare_unicode(&rope, &['a', 'a'])?;
+    edit_the_middle_counted(&rt, &mut rope)
+}
+
+fn insert_a_long_text(rt: &impl Abort, rope: &mut Rope, text: &str) -> Result<(), Fail> {
+    rope.try_insert(HALF, text)?;
+    assert!(rt; rope.len_bytes() == WHOLE + 6_000);
+    assert_char(rt, rope, HALF + 5_999, 'z');
+    assert_char(rt, rope, HALF + 6_000, 'a');
     Ok(())
 }
 
 #[test]
 fn a_long_text_in_the_middle(rt: HostRuntime) -> Result<(), Fail> {
+    let text = repeated(rt.alloc(), "z", 6_000)?;
     let mut rope = doubled(rt.alloc(), "a", 62)?;
-    rope.try_insert(HALF, repeated(rt.alloc(), "z", 6_000)?.as_str())?;
-    assert_eq!(rt; rope.len_bytes(), WHOLE + 6_000);
-    assert_char(&rt, &rope, HALF + 5_999, 'z');
-    assert_char(&rt, &rope, HALF + 6_000, 'a');
-    Ok(())
+    insert_a_long_text(&rt, &mut rope, text.as_str())
 }
 
 #[test]
 fn pairs_doubled(rt: HostRuntime) -> Result<(), Fail> {
     let rope = doubled(rt.alloc(), "\r\n", 61)?;
-    assert_eq!(rt;
-        [rope.len_bytes(), rope.len_lines()],
-        [WHOLE, 2_305_843_009_213_693_953]
-    );
+    assert!(rt; [rope.len_bytes(), rope.len_lines()] == [WHOLE, 2_305_843_009_213_693_953]);
     Ok(())
 }
 
 #[test]
 fn wide_characters_doubled(rt: HostRuntime) -> Result<(), Fail> {
     let rope = doubled(rt.alloc(), "🐸", 60)?;
-    assert_eq!(rt;
-        [rope.len_bytes(), rope.len_chars(), rope.len_utf16_cu()],
-        [WHOLE, 1 << 60, HALF]
-    );
+    let counts = [rope.len_bytes(), rope.len_chars(), rope.len_utf16_cu()];
+    assert!(rt; counts == [WHOLE, 1 << 60, HALF]);
     Ok(())
 }

@@ -40,8 +40,12 @@ impl Pair {
     fn insert(&mut self, alloc: Global, numbers: &mut Numbers) -> Result<(), Fail> {
         let at = self.place(numbers);
         let text = random_edit_text(alloc, numbers)?;
-        self.rope.try_insert(at, text.as_str())?;
-        self.plain = inserted(alloc, &self.plain, at, text.as_str())?;
+        self.put_in(alloc, at, text.as_str())
+    }
+
+    fn put_in(&mut self, alloc: Global, at: usize, text: &str) -> Result<(), Fail> {
+        self.rope.try_insert(at, text)?;
+        self.plain = inserted(alloc, &self.plain, at, text)?;
         Ok(())
     }
 
@@ -176,28 +180,47 @@ fn shrink_all(pairs: &mut [Pair], breaks: LineBreaks) -> Result<(), Fail> {
 /// How many rounds of edits are done between two times that all ropes are re-chunked.
 const BETWEEN_SHRINKS: usize = 16;
 
-/// Edits of several ropes of one set of line breaks, which are compared after each hundred of them, and the clones made before
-/// it too.
-fn edit_and_compare(alloc: Global, breaks: LineBreaks, rounds: usize) -> Result<(), Fail> {
+/// A round of edits, after which the ropes are compared, and the clones made before it too.
+fn edit_a_round(
+    pairs: &mut Vec<Pair>,
+    alloc: Global,
+    numbers: &mut Numbers,
+    breaks: LineBreaks,
+    round: usize,
+) -> Result<(), Fail> {
+    let clones = copies(pairs, alloc)?;
+    edit(pairs, alloc, numbers, BETWEEN)?;
+    compare_all(pairs, breaks)?;
+    if round % BETWEEN_SHRINKS == 0 {
+        shrink_all(pairs, breaks)?;
+    }
+    compare_all(&clones, breaks)
+}
+
+/// Rounds of edits of several ropes of one set of line breaks, of which the first is empty.
+fn edit_in_rounds(
+    pairs: &mut Vec<Pair>,
+    alloc: Global,
+    breaks: LineBreaks,
+    rounds: usize,
+) -> Result<(), Fail> {
     let mut numbers = Numbers::new(0x9E37_79B9_7F4A_7C15);
-    let mut pairs = Vec::new(alloc);
     keep(
-        &mut pairs,
+        pairs,
         Pair {
             rope: Rope::new_with(alloc, breaks)?,
             plain: Vec::new(alloc),
         },
     )?;
     for round in 1..=rounds {
-        let clones = copies(&pairs, alloc)?;
-        edit(&mut pairs, alloc, &mut numbers, BETWEEN)?;
-        compare_all(&pairs, breaks)?;
-        if round % BETWEEN_SHRINKS == 0 {
-            shrink_all(&mut pairs, breaks)?;
-        }
-        compare_all(&clones, breaks)?;
+        edit_a_round(pairs, alloc, &mut numbers, breaks, round)?;
     }
     Ok(())
+}
+
+fn edit_and_compare(alloc: Global, breaks: LineBreaks, rounds: usize) -> Result<(), Fail> {
+    let mut pairs = Vec::new(alloc);
+    edit_in_rounds(&mut pairs, alloc, breaks, rounds)
 }
 
 #[test]

@@ -34,17 +34,27 @@ fn insert_both(
 }
 
 /// Many inserts into one rope, which is compared now and then at some places, and at the end in whole.
+fn insert_many(
+    rope: &mut Rope,
+    plain: &mut Vec<char>,
+    alloc: Global,
+    numbers: &mut Numbers,
+    inserts: usize,
+) -> Result<(), Fail> {
+    for round in 1..=inserts {
+        *plain = insert_both(rope, plain, alloc, numbers)?;
+        if round % BETWEEN == 0 {
+            compare_both(rope, plain, numbers)?;
+        }
+    }
+    compare_unicode(rope, plain)?;
+    Ok(())
+}
+
 fn insert_and_compare(alloc: Global, numbers: &mut Numbers, inserts: usize) -> Result<(), Fail> {
     let mut rope = Rope::from_str(alloc, "")?;
     let mut plain = Vec::new(alloc);
-    for round in 1..=inserts {
-        plain = insert_both(&mut rope, &plain, alloc, numbers)?;
-        if round % BETWEEN == 0 {
-            compare_both(&rope, &plain, numbers)?;
-        }
-    }
-    compare_unicode(&rope, &plain)?;
-    Ok(())
+    insert_many(&mut rope, &mut plain, alloc, numbers, inserts)
 }
 
 #[test]

@@ -8,41 +8,59 @@ use std::test::Fail;
 
 /// A million letters.
 fn million(alloc: Global) -> Result<Rope, Fail> {
-    Ok(Rope::from_str(alloc, repeated(alloc, "a", 1_000_000)?.as_str())?)
+    let text = repeated(alloc, "a", 1_000_000)?;
+    Ok(Rope::from_str(alloc, text.as_str())?)
+}
+
+fn remove_all_but_the_ends(rt: &impl Abort, rope: &mut Rope) -> Result<(), Fail> {
+    assert!(rt; rope.len_chars() == 2_000);
+    rope.remove(1..1_999)?;
+    compare_unicode(rope, &['\r', '\n'])?;
+    let counts = [
+        rope.len_lines(),
+        rope.chunks().count(),
+        rope.depth(),
+        rope.capacity(),
+    ];
+    assert!(rt; counts == [2, 1, 0, 984]);
+    Ok(())
+}
+
+fn thousand_pairs(alloc: Global) -> Result<Rope, Fail> {
+    let text = repeated(alloc, "\r\n", 1_000)?;
+    Ok(Rope::from_str(alloc, text.as_str())?)
 }
 
 #[test]
 fn all_pairs_but_the_ends(rt: HostRuntime) -> Result<(), Fail> {
-    let mut rope = Rope::from_str(rt.alloc(), repeated(rt.alloc(), "\r\n", 1_000)?.as_str())?;
-    assert!(rt; rope.len_chars() == 2_000);
-    rope.remove(1..1_999)?;
-    compare_unicode(&rope, &['\r', '\n'])?;
-    assert_eq!(rt;
-        [
-            rope.len_lines(),
-            rope.chunks().count(),
-            rope.depth(),
-            rope.capacity()
-        ],
-        [2, 1, 0, 984]
-    );
+    let mut rope = thousand_pairs(rt.alloc())?;
+    remove_all_but_the_ends(&rt, &mut rope)
+}
+
+/// Takes the characters from `start` on and before `end` out, of which so much is left.
+fn remove_to(rope: &mut Rope, start: usize, end: usize, left: &[char]) -> Result<(), Fail> {
+    rope.try_remove(start..end)?;
+    compare_unicode(rope, left)?;
     Ok(())
 }
 
-/// A clone with the characters from `start` on and before `end` taken out, of which so much is left.
-fn without(whole: &Rope, start: usize, end: usize, left: &[char]) -> Result<Rope, Fail> {
+fn leave_one(rt: &impl Abort, whole: &Rope) -> Result<(), Fail> {
     let mut rope = whole.clone()?;
-    rope.try_remove(start..end)?;
-    compare_unicode(&rope, left)?;
-    Ok(rope)
+    remove_to(&mut rope, 0, 999_999, &['a'])?;
+    assert!(rt; [rope.chunks().count(), rope.depth()] == [1, 0]);
+    Ok(())
+}
+
+fn leave_twenty(rt: &impl Abort, whole: &Rope) -> Result<(), Fail> {
+    let mut rope = whole.clone()?;
+    remove_to(&mut rope, 10, 999_990, &['a'; 20])?;
+    assert!(rt; rope.depth() <= 1 && whole.len_bytes() == 1_000_000);
+    Ok(())
 }
 
 fn remove_nearly_all(rt: &impl Abort, whole: &Rope) -> Result<(), Fail> {
-    let rope = without(whole, 0, 999_999, &['a'])?;
-    assert_eq!(rt; [rope.chunks().count(), rope.depth()], [1, 0]);
-    let rope = without(whole, 10, 999_990, &['a'; 20])?;
-    assert!(rt; rope.depth() <= 1 && whole.len_bytes() == 1_000_000);
-    Ok(())
+    leave_one(rt, whole)?;
+    leave_twenty(rt, whole)
 }
 
 #[test]
@@ -51,18 +69,21 @@ fn nearly_all_of_a_million(rt: HostRuntime) -> Result<(), Fail> {
     remove_nearly_all(&rt, &whole)
 }
 
-fn split_and_join(rt: &impl Abort, whole: &Rope, char_idx: usize, rest: usize) -> Result<(), Fail> {
-    let mut front = whole.clone()?;
+/// The back of a rope is cut off at a character, and joined again.
+fn split_one(rt: &impl Abort, front: &mut Rope, char_idx: usize, rest: usize) -> Result<(), Fail> {
     let back = front.try_split_off(char_idx)?;
-    assert_eq!(rt; [front.len_bytes(), back.len_bytes()], [char_idx, rest]);
+    assert!(rt; [front.len_bytes(), back.len_bytes()] == [char_idx, rest]);
     front.append(back)?;
     assert!(rt; front.len_bytes() == 1_000_000 && (3..=4).contains(&front.depth()));
     Ok(())
 }
 
-#[test]
-fn splits_of_a_million(rt: HostRuntime) -> Result<(), Fail> {
-    let whole = million(rt.alloc())?;
+fn split_and_join(rt: &impl Abort, whole: &Rope, char_idx: usize, rest: usize) -> Result<(), Fail> {
+    let mut front = whole.clone()?;
+    split_one(rt, &mut front, char_idx, rest)
+}
+
+fn split_at_each(rt: &impl Abort, whole: &Rope) -> Result<(), Fail> {
     for (char_idx, rest) in [
         (1, 999_999),
         (983, 999_017),
@@ -71,10 +92,16 @@ fn splits_of_a_million(rt: HostRuntime) -> Result<(), Fail> {
         (500_000, 500_000),
         (999_999, 1),
     ] {
-        split_and_join(&rt, &whole, char_idx, rest)?;
+        split_and_join(rt, whole, char_idx, rest)?;
     }
     assert!(rt; whole.len_bytes() == 1_000_000 && whole.depth() == 3);
     Ok(())
+}
+
+#[test]
+fn splits_of_a_million(rt: HostRuntime) -> Result<(), Fail> {
+    let whole = million(rt.alloc())?;
+    split_at_each(&rt, &whole)
 }
 
 fn count_an_insert(rt: &impl Abort, whole: &Rope) -> Result<(), Fail> {
@@ -117,13 +144,17 @@ fn count_an_append(rt: &impl Abort, whole: &Rope) -> Result<(), Fail> {
     Ok(())
 }
 
+fn count_all(rt: &impl Abort, whole: &Rope) -> Result<(), Fail> {
+    count_an_insert(rt, whole)?;
+    count_a_removal(rt, whole)?;
+    count_a_split(rt, whole)?;
+    count_an_append(rt, whole)
+}
+
 #[test]
 fn nodes_made_by_edits(rt: HostRuntime) -> Result<(), Fail> {
     let whole = million(rt.alloc())?;
-    count_an_insert(&rt, &whole)?;
-    count_a_removal(&rt, &whole)?;
-    count_a_split(&rt, &whole)?;
-    count_an_append(&rt, &whole)
+    count_all(&rt, &whole)
 }
 
 /// So many letters, and an end.
@@ -142,14 +173,23 @@ fn add_parted_pair(text: &mut String) -> Result<(), Fail> {
     add_letters(text, "b", 984, "")
 }
 
+/// A rope of a CR, 984 letters and an LF, between letters.
+fn parted_pair(alloc: Global) -> Result<Rope, Fail> {
+    let mut text = String::new(alloc);
+    add_parted_pair(&mut text)?;
+    Ok(Rope::from_str(alloc, text.as_str())?)
+}
+
+fn remove_between(rt: &impl Abort, rope: &mut Rope) -> Result<(), Fail> {
+    rope.try_remove(984..1_968)?;
+    assert!(rt; lens(rope) == [1_969, 1_969, 2, 1_969] && lie_together(rope, 983));
+    Ok(())
+}
+
 #[test]
 fn a_pair_that_meets_by_removal(rt: HostRuntime) -> Result<(), Fail> {
-    let mut text = String::new(rt.alloc());
-    add_parted_pair(&mut text)?;
-    let mut rope = Rope::from_str(rt.alloc(), text.as_str())?;
-    rope.try_remove(984..1_968)?;
-    assert!(rt; lens(&rope) == [1_969, 1_969, 2, 1_969] && lie_together(&rope, 983));
-    Ok(())
+    let mut rope = parted_pair(rt.alloc())?;
+    remove_between(&rt, &mut rope)
 }
 
 /// 983 letters and an end.
@@ -159,34 +199,52 @@ fn letters_to(alloc: Global, end: &str) -> Result<String, Fail> {
     Ok(text)
 }
 
+/// A rope of 983 letters and a CR.
+fn letters_and_cr(alloc: Global) -> Result<Rope, Fail> {
+    let text = letters_to(alloc, "\r")?;
+    Ok(Rope::from_str(alloc, text.as_str())?)
+}
+
+fn append_lf(alloc: Global, rope: &mut Rope) -> Result<(), Fail> {
+    rope.append(Rope::from_str(alloc, "\n")?)?;
+    Ok(())
+}
+
 /// A text of 983 letters and a CR, and one of an LF, joined.
 fn joined(alloc: Global) -> Result<Rope, Fail> {
-    let mut rope = Rope::from_str(alloc, letters_to(alloc, "\r")?.as_str())?;
-    rope.append(Rope::from_str(alloc, "\n")?)?;
+    let mut rope = letters_and_cr(alloc)?;
+    append_lf(alloc, &mut rope)?;
     Ok(rope)
+}
+
+fn has_a_pair(rt: &impl Abort, rope: &Rope) {
+    let lines = [rope.try_char_to_line(984), rope.try_char_to_line(985)];
+    assert!(rt; lens(rope) == [985, 985, 2, 985] && lines == [Ok(0), Ok(1)]);
+    assert!(rt; rope.chunks().count() >= 2 && lie_together(rope, 983));
 }
 
 #[test]
 fn a_pair_that_meets_by_append(rt: HostRuntime) -> Result<(), Fail> {
     let rope = joined(rt.alloc())?;
-    assert_eq!(rt; lens(&rope), [985, 985, 2, 985]);
-    assert_eq!(rt;
-        [rope.try_char_to_line(984)?, rope.try_char_to_line(985)?],
-        [0, 1]
-    );
-    assert!(rt; rope.chunks().count() >= 2 && lie_together(&rope, 983));
+    has_a_pair(&rt, &rope);
     Ok(())
 }
 
 fn compare_text(alloc: Global, rope: &Rope, text: &str) -> Result<(), Fail> {
-    compare_unicode(rope, &chars_of(alloc, text)?)?;
+    let plain = chars_of(alloc, text)?;
+    compare_unicode(rope, &plain)?;
     Ok(())
+}
+
+fn compare_joined(alloc: Global, rope: &Rope) -> Result<(), Fail> {
+    let text = letters_to(alloc, "\r\n")?;
+    compare_text(alloc, rope, text.as_str())
 }
 
 #[test]
 fn the_text_of_a_pair_that_meets(rt: HostRuntime) -> Result<(), Fail> {
     let rope = joined(rt.alloc())?;
-    compare_text(rt.alloc(), &rope, letters_to(rt.alloc(), "\r\n")?.as_str())
+    compare_joined(rt.alloc(), &rope)
 }
 
 fn refuse_ranges(rt: &impl Abort, rope: &mut Rope) {

@@ -31,14 +31,39 @@ fn add_without(rest: &mut Vec<char>, plain: &[char], at: usize) -> Result<(), Fa
     Ok(())
 }
 
+/// The rope has the first of these characters.
+fn has_front(
+    alloc: Global,
+    rope: &Rope,
+    plain: &[char],
+    len: usize,
+    breaks: LineBreaks,
+) -> Result<(), Fail> {
+    let mut front = inserted(alloc, plain, 0, "")?;
+    front.truncate(len);
+    compare(rope, &front, breaks)?;
+    Ok(())
+}
+
+/// The rope has these characters but the first of them.
+fn has_back(
+    alloc: Global,
+    rope: &Rope,
+    plain: &[char],
+    start: usize,
+    breaks: LineBreaks,
+) -> Result<(), Fail> {
+    let back = part_from(alloc, plain, start)?;
+    compare(rope, &back, breaks)?;
+    Ok(())
+}
+
 /// Splits the rope, compares both parts, and joins them again.
 fn split_and_join(alloc: Global, rope: &mut Rope, plain: &[char], at: usize) -> Result<(), Fail> {
     let breaks = rope.line_breaks();
     let back = rope.try_split_off(at)?;
-    let mut front = inserted(alloc, plain, 0, "")?;
-    front.truncate(at);
-    compare(rope, &front, breaks)?;
-    compare(&back, &part_from(alloc, plain, at)?, breaks)?;
+    has_front(alloc, rope, plain, at, breaks)?;
+    has_back(alloc, &back, plain, at, breaks)?;
     rope.append(back)?;
     Ok(())
 }
@@ -77,16 +102,40 @@ struct Given<'a> {
 }
 
 impl Given<'_> {
-    /// One edit of a rope of its own, and of a clone, whose original stays.
-    fn edit_both(&self, alloc: Global, at: usize, edit: Edit<'_>) -> Result<(), Fail> {
-        let mut alone = Rope::from_str_with(alloc, self.text, self.breaks)?;
-        let expected = edited(alloc, &mut alone, self.plain, at, edit)?;
-        compare(&alone, &expected, self.breaks)?;
+    /// One edit of a rope of its own: answers the characters that it has then.
+    fn edit_alone(
+        &self,
+        alloc: Global,
+        alone: &mut Rope,
+        at: usize,
+        edit: Edit<'_>,
+    ) -> Result<Vec<char>, Fail> {
+        let expected = edited(alloc, alone, self.plain, at, edit)?;
+        compare(alone, &expected, self.breaks)?;
+        Ok(expected)
+    }
+
+    /// One edit of a clone, whose original stays, gives the same rope.
+    fn edit_clone(
+        &self,
+        alloc: Global,
+        alone: &Rope,
+        at: usize,
+        edit: Edit<'_>,
+    ) -> Result<Rope, Fail> {
         let mut clone = self.rope.clone()?;
         edited(alloc, &mut clone, self.plain, at, edit)?;
-        if clone != alone || lens(&clone) != lens(&alone) {
+        if clone != *alone || lens(&clone) != lens(alone) {
             return Err(Fail::from("an edit of a clone gave another text"));
         }
+        Ok(clone)
+    }
+
+    /// One edit of a rope of its own, and of a clone.
+    fn edit_both(&self, alloc: Global, at: usize, edit: Edit<'_>) -> Result<(), Fail> {
+        let mut alone = Rope::from_str_with(alloc, self.text, self.breaks)?;
+        let expected = self.edit_alone(alloc, &mut alone, at, edit)?;
+        let clone = self.edit_clone(alloc, &alone, at, edit)?;
         compare_at(&clone, &expected, at.min(expected.len()))?;
         Ok(())
     }
@@ -104,6 +153,14 @@ impl Given<'_> {
 }
 
 /// Each edit at each place from the character before the word to the sixth of it and what follows.
+fn edit_places(alloc: Global, given: Given<'_>, before: usize, texts: &[&str]) -> Result<(), Fail> {
+    for at in before.saturating_sub(1)..=before.saturating_add(5) {
+        given.edit_at(alloc, at, texts)?;
+    }
+    compare(given.rope, given.plain, given.breaks)?;
+    Ok(())
+}
+
 fn edit_around(
     alloc: Global,
     before: usize,
@@ -120,11 +177,7 @@ fn edit_around(
         rope: &rope,
         breaks,
     };
-    for at in before.saturating_sub(1)..=before.saturating_add(5) {
-        given.edit_at(alloc, at, texts)?;
-    }
-    compare(&rope, &plain, breaks)?;
-    Ok(())
+    edit_places(alloc, given, before, texts)
 }
 
 /// All words of so many letters behind a text of each length.

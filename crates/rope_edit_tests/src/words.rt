@@ -13,15 +13,26 @@ pub const SHORTEST: usize = 978;
 
 pub const LONGEST: usize = 986;
 
+/// The word with a letter behind it.
+fn with_letter(word: &String, letter: &str) -> Result<String, AllocError> {
+    let mut next = word.clone()?;
+    next.push_str(letter)?;
+    Ok(next)
+}
+
+fn add_longer(all: &mut Vec<String>, word: &String, letters: &[&str]) -> Result<(), AllocError> {
+    for letter in letters {
+        all.push(with_letter(word, letter)?)
+            .map_err(AllocError::from)?;
+    }
+    Ok(())
+}
+
 /// The words of the list, each with each letter behind it.
 fn longer(alloc: Global, words: &[String], letters: &[&str]) -> Result<Vec<String>, AllocError> {
     let mut all = Vec::new(alloc);
     for word in words {
-        for letter in letters {
-            let mut next = word.clone()?;
-            next.push_str(letter)?;
-            all.push(next).map_err(AllocError::from)?;
-        }
+        add_longer(&mut all, word, letters)?;
     }
     Ok(all)
 }
@@ -36,10 +47,15 @@ pub fn words(alloc: Global, letters: &[&str], count: usize) -> Result<Vec<String
     Ok(all)
 }
 
+fn add_word_and_leaf(alloc: Global, text: &mut String, word: &str) -> Result<(), AllocError> {
+    text.push_str(word)?;
+    text.push_str(repeated(alloc, "b", 984)?.as_str())?;
+    Ok(())
+}
+
 /// So many letters, the word, and letters that fill a leaf.
 pub fn around(alloc: Global, before: usize, word: &str) -> Result<String, AllocError> {
     let mut text = repeated(alloc, "a", before)?;
-    text.push_str(word)?;
-    text.push_str(repeated(alloc, "b", 984)?.as_str())?;
+    add_word_and_leaf(alloc, &mut text, word)?;
     Ok(text)
 }

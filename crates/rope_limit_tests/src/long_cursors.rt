@@ -1,7 +1,6 @@
 //! Cursors over texts of 2^62 bytes, started at both ends and in the middle.
 use crate::long_texts::{Long, Place, Unit, WHOLE, all};
-use rope_plain::given::given;
-use ropey::Rope;
+use ropey::{Rope, RopeSlice};
 use std::process::Abort;
 use std::test::Fail;
 
@@ -14,8 +13,10 @@ pub fn char_at(unit: &Unit, char_idx: usize) -> Option<char> {
 }
 
 /// A cursor over the characters gives the one behind the place and the one before it, and says how many are left.
-fn has_chars(rope: &Rope, unit: &Unit, place: Place) -> Result<bool, Fail> {
-    let mut chars = given(rope.get_chars_at(place.char_idx))?;
+fn has_chars(rope: &Rope, unit: &Unit, place: Place) -> bool {
+    let Some(mut chars) = rope.get_chars_at(place.char_idx) else {
+        return false;
+    };
     let left = unit.char_count().saturating_sub(place.char_idx);
     let counts = chars.len() == left && chars.size_hint() == (left, Some(left));
     let next = chars.next();
@@ -26,12 +27,14 @@ fn has_chars(rope: &Rope, unit: &Unit, place: Place) -> Result<bool, Fail> {
         Some(before) => char_at(unit, before),
         None => None,
     };
-    Ok(counts && next == char_at(unit, place.char_idx) && chars.prev() == before)
+    counts && next == char_at(unit, place.char_idx) && chars.prev() == before
 }
 
 /// A cursor over the bytes does the same.
-fn has_bytes(rope: &Rope, place: Place) -> Result<bool, Fail> {
-    let mut bytes = given(rope.get_bytes_at(place.byte_idx))?;
+fn has_bytes(rope: &Rope, place: Place) -> bool {
+    let Some(mut bytes) = rope.get_bytes_at(place.byte_idx) else {
+        return false;
+    };
     let left = WHOLE.saturating_sub(place.byte_idx);
     let counts = bytes.len() == left && bytes.size_hint() == (left, Some(left));
     let next = bytes.next();
@@ -42,144 +45,186 @@ fn has_bytes(rope: &Rope, place: Place) -> Result<bool, Fail> {
         Some(before) => rope.get_byte(before),
         None => None,
     };
-    Ok(counts && next == rope.get_byte(place.byte_idx) && bytes.prev() == before)
+    counts && next == rope.get_byte(place.byte_idx) && bytes.prev() == before
 }
 
-fn bytes_and_chars_of_one(rt: &impl Abort, long: &Long) -> Result<(), Fail> {
+fn bytes_and_chars_of_one(rt: &impl Abort, long: &Long) {
     for place in long.unit.places() {
-        assert!(rt; has_chars(&long.rope, &long.unit, place)?);
-        assert!(rt; has_bytes(&long.rope, place)?);
+        assert!(rt; has_chars(&long.rope, &long.unit, place));
+        assert!(rt; has_bytes(&long.rope, place));
     }
+}
+
+fn bytes_and_chars_past_the_end_of_one(rt: &impl Abort, long: &Long) {
     for past in [WHOLE.saturating_add(1), usize::MAX] {
         assert!(rt; long.rope.get_chars_at(past).is_none());
         assert!(rt; long.rope.get_bytes_at(past).is_none());
     }
-    Ok(())
 }
 
 #[test]
 fn bytes_and_chars(rt: HostRuntime) -> Result<(), Fail> {
     let all = all(rt.alloc())?;
     for long in &all {
-        bytes_and_chars_of_one(&rt, long)?;
+        bytes_and_chars_of_one(&rt, long);
+        bytes_and_chars_past_the_end_of_one(&rt, long);
     }
     Ok(())
 }
 
-fn chunks_of_one(rt: &impl Abort, long: &Long) -> Result<(), Fail> {
+/// A cursor over the chunks from a place on, by its byte and by its character, begins where the counts say.
+fn has_chunks(rope: &Rope, unit: &Unit, place: Place) -> bool {
+    let Some((mut by_byte, byte_idx, _, _)) = rope.get_chunks_at_byte(place.byte_idx) else {
+        return false;
+    };
+    let Some((mut by_char, start, char_idx, break_count)) = rope.get_chunks_at_char(place.char_idx)
+    else {
+        return false;
+    };
+    let before = unit.place(char_idx);
+    let chunk = by_byte.next();
+    [byte_idx, start, break_count] == [before.byte_idx, before.byte_idx, before.line_idx]
+        && chunk == by_char.next()
+        && chunk.is_none() == (place.char_idx == unit.char_count())
+}
+
+fn chunks_of_one(rt: &impl Abort, long: &Long) {
     for place in long.unit.places() {
-        let (mut by_byte, byte_idx, _, _) = given(long.rope.get_chunks_at_byte(place.byte_idx))?;
-        let (mut by_char, start, char_idx, break_count) = given(
-            long.rope.get_chunks_at_char(place.char_idx),
-        )?;
-        let before = long.unit.place(char_idx);
-        assert_eq!(rt; [byte_idx, start], [before.byte_idx, before.byte_idx]);
-        assert_eq!(rt; break_count, before.line_idx);
-        let chunk = by_byte.next();
-        assert!(rt; chunk == by_char.next());
-        assert_eq!(rt; chunk.is_none(), place.char_idx == long.unit.char_count());
+        assert!(rt; has_chunks(&long.rope, &long.unit, place));
     }
     assert!(rt; long.rope.get_chunks_at_byte(usize::MAX).is_none());
     assert!(rt; long.rope.get_chunks_at_char(usize::MAX).is_none());
     assert!(rt; long.rope.get_chunks_at_line_break(usize::MAX).is_none());
-    Ok(())
 }
 
 #[test]
 fn chunks(rt: HostRuntime) -> Result<(), Fail> {
     let all = all(rt.alloc())?;
     for long in &all {
-        chunks_of_one(&rt, long)?;
+        chunks_of_one(&rt, long);
     }
     Ok(())
 }
 
-fn chunks_past_the_last_line_of_one(rt: &impl Abort, long: &Long) -> Result<(), Fail> {
-    let break_count = long.unit.break_count();
-    let lines = break_count.saturating_add(1);
-    let (mut chunks, byte_idx, char_idx, before) = given(
-        long.rope.get_chunks_at_line_break(lines),
-    )?;
-    let expected = [WHOLE, long.unit.char_count(), break_count];
-    assert_eq!(rt; [byte_idx, char_idx, before], expected);
-    assert!(rt; chunks.next().is_none() && chunks.prev().is_some());
+/// A cursor behind so many lines stands at the end of the text.
+fn has_chunks_behind(rope: &Rope, unit: &Unit, lines: usize) -> bool {
+    match rope.get_chunks_at_line_break(lines) {
+        Some((mut chunks, byte_idx, char_idx, before)) => {
+            [byte_idx, char_idx, before] == [WHOLE, unit.char_count(), unit.break_count()]
+                && chunks.next().is_none()
+                && chunks.prev().is_some()
+        }
+        None => false,
+    }
+}
+
+fn chunks_past_the_last_line_of_one(rt: &impl Abort, long: &Long) {
+    let lines = long.unit.break_count().saturating_add(1);
     let past = lines.saturating_add(1);
+    assert!(rt; has_chunks_behind(&long.rope, &long.unit, lines));
     assert!(rt; long.rope.get_chunks_at_line_break(past).is_none());
-    Ok(())
 }
 
 #[test]
 fn chunks_past_the_last_line(rt: HostRuntime) -> Result<(), Fail> {
     let all = all(rt.alloc())?;
     for long in &all {
-        chunks_past_the_last_line_of_one(&rt, long)?;
+        chunks_past_the_last_line_of_one(&rt, long);
     }
     Ok(())
 }
 
 /// The characters of a line that a cursor gave.
-fn chars_of_line(line: Option<ropey::RopeSlice<'_>>) -> Option<usize> {
-    Some(line?.len_chars())
+fn chars_of_line(line: Option<RopeSlice<'_>>) -> Option<usize> {
+    match line {
+        Some(line) => Some(line.len_chars()),
+        None => None,
+    }
 }
 
-fn lines_of_one(rt: &impl Abort, long: &Long) -> Result<(), Fail> {
+/// Whether a cursor over the lines from one on says how many are left of all.
+fn has_lines_left(rope: &Rope, line_idx: usize, all: usize) -> bool {
+    match rope.get_lines_at(line_idx) {
+        Some(lines) => lines.len() == all.saturating_sub(line_idx),
+        None => false,
+    }
+}
+
+/// Whether a cursor over the lines gives the one behind and the two before a place, each the text of the unit.
+fn has_lines_beside(rope: &Rope, unit: &Unit, line_idx: usize) -> bool {
+    let Some(mut lines) = rope.get_lines_at(line_idx) else {
+        return false;
+    };
+    let steps = [
+        chars_of_line(lines.next()),
+        chars_of_line(lines.prev()),
+        chars_of_line(lines.prev()),
+    ];
+    steps == [Some(unit.chars), Some(unit.chars), Some(unit.chars)]
+}
+
+fn is_line(line: Option<RopeSlice<'_>>, text: &str) -> bool {
+    match line {
+        Some(line) => line.eq_str(text),
+        None => false,
+    }
+}
+
+fn lines_of_one(rt: &impl Abort, long: &Long) {
     let break_count = long.unit.break_count();
-    for line_idx in [
-        0,
-        break_count / 2,
-        break_count,
-        break_count.saturating_add(1),
-    ] {
-        let mut lines = given(long.rope.get_lines_at(line_idx))?;
-        assert_eq!(rt;
-            lines.len(),
-            break_count.saturating_add(1).saturating_sub(line_idx)
-        );
+    let all = break_count.saturating_add(1);
+    for line_idx in [0, break_count / 2, break_count, all] {
+        assert!(rt; has_lines_left(&long.rope, line_idx, all));
         if 0 < line_idx && line_idx < break_count {
-            assert_eq!(rt; chars_of_line(lines.next()), Some(long.unit.chars));
-            assert_eq!(rt; chars_of_line(lines.prev()), Some(long.unit.chars));
-            assert_eq!(rt; chars_of_line(lines.prev()), Some(long.unit.chars));
-            let line = given(long.rope.get_line(line_idx))?;
-            assert!(rt; line.eq_str(long.unit.text));
+            assert!(rt; has_lines_beside(&long.rope, &long.unit, line_idx));
+            assert!(rt; is_line(long.rope.get_line(line_idx), long.unit.text));
         }
     }
-    assert!(rt;
-        long.rope
-            .get_lines_at(break_count.saturating_add(2))
-            .is_none()
-    );
+}
+
+fn lines_past_the_end_of_one(rt: &impl Abort, long: &Long) {
+    let all = long.unit.break_count().saturating_add(1);
+    assert!(rt; long.rope.get_lines_at(all.saturating_add(1)).is_none());
     assert!(rt; long.rope.get_lines_at(usize::MAX).is_none());
-    assert!(rt; long.rope.get_line(break_count.saturating_add(1)).is_none());
+    assert!(rt; long.rope.get_line(all).is_none());
     assert!(rt; long.rope.get_line(usize::MAX).is_none());
-    Ok(())
 }
 
 #[test]
 fn lines(rt: HostRuntime) -> Result<(), Fail> {
     let all = all(rt.alloc())?;
     for long in &all {
-        lines_of_one(&rt, long)?;
+        lines_of_one(&rt, long);
+        lines_past_the_end_of_one(&rt, long);
     }
     Ok(())
 }
 
-fn the_last_lines_of_texts_with_breaks_of_one(rt: &impl Abort, long: &Long) -> Result<(), Fail> {
-    let break_count = long.unit.break_count();
-    if break_count > 0 {
-        let mut lines = given(long.rope.get_lines_at(break_count))?;
-        assert_eq!(rt; chars_of_line(lines.next()), Some(0));
-        assert_eq!(rt; chars_of_line(lines.next()), None);
-        assert_eq!(rt; chars_of_line(lines.prev()), Some(0));
-        assert_eq!(rt; chars_of_line(lines.prev()), Some(long.unit.chars));
+/// Whether a cursor before the last line gives it, which is empty, then nothing, and back it and the line before it.
+fn has_last_lines(rope: &Rope, unit: &Unit) -> bool {
+    let Some(mut lines) = rope.get_lines_at(unit.break_count()) else {
+        return false;
+    };
+    let steps = [
+        chars_of_line(lines.next()),
+        chars_of_line(lines.next()),
+        chars_of_line(lines.prev()),
+        chars_of_line(lines.prev()),
+    ];
+    steps == [Some(0), None, Some(0), Some(unit.chars)]
+}
+
+fn the_last_lines_of_texts_with_breaks_of_one(rt: &impl Abort, long: &Long) {
+    if long.unit.break_count() > 0 {
+        assert!(rt; has_last_lines(&long.rope, &long.unit));
     }
-    Ok(())
 }
 
 #[test]
 fn the_last_lines_of_texts_with_breaks(rt: HostRuntime) -> Result<(), Fail> {
     let all = all(rt.alloc())?;
     for long in &all {
-        the_last_lines_of_texts_with_breaks_of_one(&rt, long)?;
+        the_last_lines_of_texts_with_breaks_of_one(&rt, long);
     }
     Ok(())
 }

@@ -1,14 +1,16 @@
 //! Slices of texts of 2^62 bytes, from both ends and across the middle.
 use crate::long_cursors::char_at;
-use crate::long_texts::{Long, Place, Unit, WHOLE, all};
-use rope_plain::given::given;
+use crate::long_texts::{Long, Place, UNITS, Unit, WHOLE, all};
 use ropey::{Rope, RopeSlice};
 use std::process::Abort;
 use std::test::Fail;
 
-/// A slice's bytes, characters and code units.
-fn counts(slice: &RopeSlice<'_>) -> [usize; 3] {
-    [slice.len_bytes(), slice.len_chars(), slice.len_utf16_cu()]
+/// A slice's bytes, characters and code units, where there is one.
+fn counts(slice: Option<RopeSlice<'_>>) -> Option<[usize; 3]> {
+    match slice {
+        Some(slice) => Some([slice.len_bytes(), slice.len_chars(), slice.len_utf16_cu()]),
+        None => None,
+    }
 }
 
 /// What so many characters count.
@@ -18,38 +20,56 @@ fn expected(unit: &Unit, chars: usize) -> [usize; 3] {
 }
 
 /// Whether the parts before and behind a place, by characters and by bytes, have their counts.
-fn has_parts(rope: &Rope, unit: &Unit, place: Place) -> Result<bool, Fail> {
+fn has_parts(rope: &Rope, unit: &Unit, place: Place) -> bool {
     let before = expected(unit, place.char_idx);
     let behind = expected(unit, unit.char_count().saturating_sub(place.char_idx));
-    Ok(
-        counts(&given(rope.get_slice(..place.char_idx))?) == before
-            && counts(&given(rope.get_byte_slice(..place.byte_idx))?) == before
-            && counts(&given(rope.get_slice(place.char_idx..))?) == behind
-            && counts(&given(rope.get_byte_slice(place.byte_idx..))?) == behind,
-    )
+    let fronts = [
+        counts(rope.get_slice(..place.char_idx)),
+        counts(rope.get_byte_slice(..place.byte_idx)),
+    ];
+    let backs = [
+        counts(rope.get_slice(place.char_idx..)),
+        counts(rope.get_byte_slice(place.byte_idx..)),
+    ];
+    fronts == [Some(before), Some(before)] && backs == [Some(behind), Some(behind)]
 }
 
-fn lengths_of_fronts_and_backs_of_one(rt: &impl Abort, long: &Long) -> Result<(), Fail> {
+fn lengths_of_fronts_and_backs_of_one(rt: &impl Abort, long: &Long) {
     for place in long.unit.places() {
-        assert!(rt; has_parts(&long.rope, &long.unit, place)?);
+        assert!(rt; has_parts(&long.rope, &long.unit, place));
     }
-    Ok(())
 }
 
 #[test]
 fn lengths_of_fronts_and_backs(rt: HostRuntime) -> Result<(), Fail> {
     let all = all(rt.alloc())?;
     for long in &all {
-        lengths_of_fronts_and_backs_of_one(&rt, long)?;
+        lengths_of_fronts_and_backs_of_one(&rt, long);
     }
     Ok(())
 }
 
-#[test]
-fn lines_of_cut_pairs(rt: HostRuntime) -> Result<(), Fail> {
-    let pairs = crate::long_texts::UNITS[1].whole(rt.alloc())?;
+/// The lines of a slice, where there is one.
+fn lines_of(slice: Option<RopeSlice<'_>>) -> Option<usize> {
+    match slice {
+        Some(slice) => Some(slice.len_lines()),
+        None => None,
+    }
+}
+
+/// Whether the parts before and behind a place have so many lines.
+fn has_lines(pairs: &Rope, row: (usize, usize, usize)) -> bool {
+    let (char_idx, before, behind) = row;
+    let found = [
+        lines_of(pairs.get_slice(..char_idx)),
+        lines_of(pairs.get_slice(char_idx..)),
+    ];
+    found == [Some(before), Some(behind)]
+}
+
+fn cut_pairs(rt: &impl Abort, pairs: &Rope) {
     let middle = WHOLE / 2;
-    for (char_idx, before, behind) in [
+    for row in [
         (0, 1, middle + 1),
         (1, 2, middle + 1),
         (middle - 1, middle / 2 + 1, middle / 2 + 2),
@@ -58,33 +78,54 @@ fn lines_of_cut_pairs(rt: HostRuntime) -> Result<(), Fail> {
         (WHOLE - 1, middle + 1, 2),
         (WHOLE, middle + 1, 1),
     ] {
-        let front = given(pairs.get_slice(..char_idx))?;
-        let back = given(pairs.get_slice(char_idx..))?;
-        assert_eq!(rt; [front.len_lines(), back.len_lines()], [before, behind]);
+        assert!(rt; has_lines(pairs, row));
     }
+}
+
+#[test]
+fn lines_of_cut_pairs(rt: HostRuntime) -> Result<(), Fail> {
+    let pairs = UNITS[1].whole(rt.alloc())?;
+    cut_pairs(&rt, &pairs);
     Ok(())
 }
 
-fn conversions_of_backs_of_one(rt: &impl Abort, long: &Long) -> Result<(), Fail> {
-    let middle = long.unit.place(long.unit.char_count() / 2);
-    let back = given(long.rope.get_slice(middle.char_idx..))?;
-    for place in [long.unit.place(0), long.unit.place(1), middle] {
-        assert_eq!(rt; back.try_char_to_byte(place.char_idx)?, place.byte_idx);
-        assert_eq!(rt; back.try_char_to_utf16_cu(place.char_idx)?, place.unit_idx);
-        assert_eq!(rt; back.try_char_to_line(place.char_idx)?, place.line_idx);
-        assert_eq!(rt; back.try_byte_to_char(place.byte_idx)?, place.char_idx);
-        assert_eq!(rt; back.try_byte_to_line(place.byte_idx)?, place.line_idx);
-        assert_eq!(rt; back.try_utf16_cu_to_char(place.unit_idx)?, place.char_idx);
-        assert_eq!(rt; back.try_line_to_char(place.line_idx)?, place.line_char);
+/// Whether each conversion of the back half answers at a place of its own what it has to.
+fn is_converted(back: &RopeSlice<'_>, place: Place) -> bool {
+    let of_char = [
+        back.try_char_to_byte(place.char_idx),
+        back.try_char_to_utf16_cu(place.char_idx),
+        back.try_char_to_line(place.char_idx),
+    ];
+    let of_others = [
+        back.try_byte_to_char(place.byte_idx),
+        back.try_byte_to_line(place.byte_idx),
+        back.try_utf16_cu_to_char(place.unit_idx),
+    ];
+    of_char == [Ok(place.byte_idx), Ok(place.unit_idx), Ok(place.line_idx)]
+        && of_others == [Ok(place.char_idx), Ok(place.line_idx), Ok(place.char_idx)]
+        && back.try_line_to_char(place.line_idx) == Ok(place.line_char)
+}
+
+fn convert_a_back(rt: &impl Abort, back: &RopeSlice<'_>, unit: &Unit, middle: Place) {
+    for place in [unit.place(0), unit.place(1), middle] {
+        assert!(rt; is_converted(back, place));
     }
-    Ok(())
+}
+
+fn conversions_of_backs_of_one(rt: &impl Abort, long: &Long) {
+    let middle = long.unit.place(long.unit.char_count() / 2);
+    let back = long.rope.get_slice(middle.char_idx..);
+    assert!(rt; back.is_some());
+    if let Some(back) = back {
+        convert_a_back(rt, &back, &long.unit, middle);
+    }
 }
 
 #[test]
 fn conversions_of_backs(rt: HostRuntime) -> Result<(), Fail> {
     let all = all(rt.alloc())?;
     for long in &all {
-        conversions_of_backs_of_one(&rt, long)?;
+        conversions_of_backs_of_one(&rt, long);
     }
     Ok(())
 }
@@ -99,24 +140,38 @@ fn is_repeated(slice: &RopeSlice<'_>, unit: &Unit) -> bool {
     true
 }
 
-fn texts_across_the_middle_of_one(rt: &impl Abort, long: &Long) -> Result<(), Fail> {
-    let middle = long.unit.char_count() / 2;
-    let start = middle.saturating_sub(400);
-    let wide = given(long.rope.get_slice(start..))?;
-    let slice = given(wide.get_slice(..1_000))?;
-    assert_eq!(rt; slice.len_chars(), 1_000);
-    assert!(rt; is_repeated(&slice, &long.unit));
-    let bytes = 800usize.saturating_mul(long.unit.bytes_a_char);
-    let part = given(slice.get_byte_slice(..bytes))?;
-    assert_eq!(rt; part.len_chars(), 800);
-    Ok(())
+/// The first characters of a slice, where there is one and it has so many.
+fn front<'a>(slice: Option<RopeSlice<'a>>, chars: usize) -> Option<RopeSlice<'a>> {
+    match slice {
+        Some(slice) => slice.get_slice(..chars),
+        None => None,
+    }
+}
+
+/// Whether these are 1,000 characters of the text, of which 800 are cut off by their bytes.
+fn is_thousand(slice: &RopeSlice<'_>, unit: &Unit) -> bool {
+    let bytes = 800usize.saturating_mul(unit.bytes_a_char);
+    let part = match slice.get_byte_slice(..bytes) {
+        Some(part) => part.len_chars(),
+        None => 0,
+    };
+    [slice.len_chars(), part] == [1_000, 800] && is_repeated(slice, unit)
+}
+
+fn texts_across_the_middle_of_one(rt: &impl Abort, long: &Long) {
+    let start = (long.unit.char_count() / 2).saturating_sub(400);
+    let is_right = match front(long.rope.get_slice(start..), 1_000) {
+        Some(slice) => is_thousand(&slice, &long.unit),
+        None => false,
+    };
+    assert!(rt; is_right);
 }
 
 #[test]
 fn texts_across_the_middle(rt: HostRuntime) -> Result<(), Fail> {
     let all = all(rt.alloc())?;
     for long in &all {
-        texts_across_the_middle_of_one(&rt, long)?;
+        texts_across_the_middle_of_one(&rt, long);
     }
     Ok(())
 }

@@ -1,6 +1,5 @@
 //! Texts of 2^62 bytes, asked for their lengths, conversions, items, chunks and positions at both ends and in the middle.
 use rope_plain::compare::lens;
-use rope_plain::given::given;
 use rope_position::{Position, Positions};
 use ropey::{Error, Rope};
 use std::alloc::{AllocError, Global};
@@ -70,14 +69,20 @@ pub struct Place {
     pub line_char: usize,
 }
 
+/// A rope is joined to itself so many times.
+fn double(rope: &mut Rope, times: u32) -> Result<(), Fail> {
+    for _ in 0..times {
+        let copy = rope.clone()?;
+        rope.append(copy)?;
+    }
+    Ok(())
+}
+
 impl Unit {
     /// The text, repeated to 2^62 bytes.
     pub fn whole(&self, alloc: Global) -> Result<Rope, Fail> {
         let mut rope = Rope::from_str(alloc, self.text)?;
-        for _ in 0..self.times {
-            let copy = rope.clone()?;
-            rope.append(copy)?;
-        }
+        double(&mut rope, self.times)?;
         Ok(rope)
     }
 
@@ -129,14 +134,30 @@ pub struct Long {
     pub unit: Unit,
 }
 
+fn add(alloc: Global, long: &mut Vec<Long>, unit: Unit) -> Result<(), Fail> {
+    let rope = unit.whole(alloc)?;
+    long.push(Long { rope, unit }).map_err(AllocError::from)?;
+    Ok(())
+}
+
+fn add_each(alloc: Global, long: &mut Vec<Long>) -> Result<(), Fail> {
+    for unit in UNITS {
+        add(alloc, long, unit)?;
+    }
+    Ok(())
+}
+
 /// One of each.
 pub fn all(alloc: Global) -> Result<Vec<Long>, Fail> {
     let mut long = Vec::new(alloc);
-    for unit in UNITS {
-        let rope = unit.whole(alloc)?;
-        long.push(Long { rope, unit }).map_err(AllocError::from)?;
-    }
+    add_each(alloc, &mut long)?;
     Ok(long)
+}
+
+/// Whether a long text has these counts, in a tree that is not deep.
+fn has_lengths(alloc: Global, unit: &Unit, counts: [usize; 4]) -> Result<bool, Fail> {
+    let rope = unit.whole(alloc)?;
+    Ok(lens(&rope) == counts && rope.depth() <= 18)
 }
 
 #[test]
@@ -153,84 +174,92 @@ fn lengths(rt: HostRuntime) -> Result<(), Fail> {
         [WHOLE, WHOLE, 1_152_921_504_606_846_977, WHOLE],
     ];
     for (unit, counts) in UNITS.iter().zip(expected.iter()) {
-        let rope = unit.whole(rt.alloc())?;
-        assert_eq!(rt; lens(&rope), *counts);
-        assert!(rt; rope.depth() <= 18);
+        assert!(rt; has_lengths(rt.alloc(), unit, *counts)?);
     }
     Ok(())
 }
 
-/// What each conversion answers at a place, and what it has to.
-fn conversions(rope: &Rope, place: Place) -> Result<[(usize, usize); 6], Fail> {
-    Ok([
-        (rope.try_char_to_byte(place.char_idx)?, place.byte_idx),
-        (rope.try_char_to_utf16_cu(place.char_idx)?, place.unit_idx),
-        (rope.try_char_to_line(place.char_idx)?, place.line_idx),
-        (rope.try_byte_to_char(place.byte_idx)?, place.char_idx),
-        (rope.try_byte_to_line(place.byte_idx)?, place.line_idx),
-        (rope.try_utf16_cu_to_char(place.unit_idx)?, place.char_idx),
-    ])
+/// Whether each conversion answers at a place what it has to.
+fn is_converted(rope: &Rope, place: Place) -> bool {
+    let of_char = [
+        rope.try_char_to_byte(place.char_idx),
+        rope.try_char_to_utf16_cu(place.char_idx),
+        rope.try_char_to_line(place.char_idx),
+    ];
+    let of_bytes_and_units = [
+        rope.try_byte_to_char(place.byte_idx),
+        rope.try_byte_to_line(place.byte_idx),
+        rope.try_utf16_cu_to_char(place.unit_idx),
+    ];
+    of_char == [Ok(place.byte_idx), Ok(place.unit_idx), Ok(place.line_idx)]
+        && of_bytes_and_units == [Ok(place.char_idx), Ok(place.line_idx), Ok(place.char_idx)]
 }
 
-/// The indices within a character belong to it, and a line's start is one of them.
-fn within(rope: &Rope, unit: &Unit, place: Place) -> Result<[(usize, usize); 4], Fail> {
+/// Whether the indices within a character belong to it.
+fn is_whole(rope: &Rope, unit: &Unit, place: Place) -> bool {
     let last_byte = place
         .byte_idx
         .saturating_add(unit.bytes_a_char.saturating_sub(1));
     let last_unit = place
         .unit_idx
         .saturating_add(unit.units_a_char.saturating_sub(1));
-    Ok([
-        (rope.try_byte_to_char(last_byte)?, place.char_idx),
-        (rope.try_utf16_cu_to_char(last_unit)?, place.char_idx),
-        (rope.try_line_to_char(place.line_idx)?, place.line_char),
-        (
-            rope.try_line_to_byte(place.line_idx)?,
-            place.line_char.saturating_mul(unit.bytes_a_char),
-        ),
-    ])
+    let answers = [
+        rope.try_byte_to_char(last_byte),
+        rope.try_utf16_cu_to_char(last_unit),
+    ];
+    answers == [Ok(place.char_idx), Ok(place.char_idx)]
 }
 
-fn each_conversion_of_one(rt: &impl Abort, long: &Long) -> Result<(), Fail> {
+/// Whether the line of a place starts at its character and at that one's byte.
+fn has_line_start(rope: &Rope, unit: &Unit, place: Place) -> bool {
+    let byte_idx = place.line_char.saturating_mul(unit.bytes_a_char);
+    let answers = [
+        rope.try_line_to_char(place.line_idx),
+        rope.try_line_to_byte(place.line_idx),
+    ];
+    answers == [Ok(place.line_char), Ok(byte_idx)]
+}
+
+fn each_conversion_of_one(rt: &impl Abort, long: &Long) {
     for place in long.unit.places() {
-        for (answer, expected) in conversions(&long.rope, place)? {
-            assert_eq!(rt; answer, expected);
-        }
+        assert!(rt; is_converted(&long.rope, place));
         if place.char_idx < long.unit.char_count() {
-            for (answer, expected) in within(&long.rope, &long.unit, place)? {
-                assert_eq!(rt; answer, expected);
-            }
+            assert!(rt; is_whole(&long.rope, &long.unit, place));
+            assert!(rt; has_line_start(&long.rope, &long.unit, place));
         }
     }
-    Ok(())
 }
 
 #[test]
 fn each_conversion(rt: HostRuntime) -> Result<(), Fail> {
     let all = all(rt.alloc())?;
     for long in &all {
-        each_conversion_of_one(&rt, long)?;
+        each_conversion_of_one(&rt, long);
     }
     Ok(())
 }
 
-fn the_start_past_the_last_line_of_one(rt: &impl Abort, long: &Long) -> Result<(), Fail> {
+fn the_start_past_the_last_line_of_one(rt: &impl Abort, long: &Long) {
     let lines = long.unit.break_count().saturating_add(1);
-    let end = long.unit.char_count();
-    assert_eq!(rt; long.rope.try_line_to_char(lines)?, end);
-    assert_eq!(rt; long.rope.try_line_to_byte(lines)?, WHOLE);
     let past = lines.saturating_add(1);
-    let refused = Err(Error::LineIndexOutOfBounds(past, lines));
-    assert!(rt; long.rope.try_line_to_char(past) == refused);
-    assert!(rt; long.rope.try_line_to_byte(past) == refused);
-    Ok(())
+    let refused = Error::LineIndexOutOfBounds(past, lines);
+    let starts = [
+        long.rope.try_line_to_char(lines),
+        long.rope.try_line_to_byte(lines),
+    ];
+    let refusals = [
+        long.rope.try_line_to_char(past),
+        long.rope.try_line_to_byte(past),
+    ];
+    assert!(rt; starts == [Ok(long.unit.char_count()), Ok(WHOLE)]);
+    assert!(rt; refusals == [Err(refused), Err(refused)]);
 }
 
 #[test]
 fn the_start_past_the_last_line(rt: HostRuntime) -> Result<(), Fail> {
     let all = all(rt.alloc())?;
     for long in &all {
-        the_start_past_the_last_line_of_one(&rt, long)?;
+        the_start_past_the_last_line_of_one(&rt, long);
     }
     Ok(())
 }
@@ -315,74 +344,100 @@ fn holds(found: (&str, usize, usize, usize), unit: &Unit, place: Place) -> bool 
         && is_in
 }
 
-fn chunks_of_one(rt: &impl Abort, long: &Long) -> Result<(), Fail> {
-    for place in long.unit.places() {
-        let by_byte = given(long.rope.get_chunk_at_byte(place.byte_idx))?;
-        let by_char = given(long.rope.get_chunk_at_char(place.char_idx))?;
-        assert!(rt; holds(by_byte, &long.unit, place));
-        assert!(rt; by_char == by_byte);
+/// Whether the chunk at a place holds it, by its byte and by its character.
+fn has_chunk(rope: &Rope, unit: &Unit, place: Place) -> bool {
+    let by_char = rope.get_chunk_at_char(place.char_idx);
+    match rope.get_chunk_at_byte(place.byte_idx) {
+        Some(by_byte) => by_char == Some(by_byte) && holds(by_byte, unit, place),
+        None => false,
     }
-    Ok(())
+}
+
+fn chunks_of_one(rt: &impl Abort, long: &Long) {
+    for place in long.unit.places() {
+        assert!(rt; has_chunk(&long.rope, &long.unit, place));
+    }
 }
 
 #[test]
 fn chunks(rt: HostRuntime) -> Result<(), Fail> {
     let all = all(rt.alloc())?;
     for long in &all {
-        chunks_of_one(&rt, long)?;
+        chunks_of_one(&rt, long);
     }
     Ok(())
 }
 
-fn chunks_at_line_breaks_of_one(rt: &impl Abort, long: &Long) -> Result<(), Fail> {
+/// Whether a chunk has a line break, where there is one before it, and begins where the counts say.
+fn has_break(
+    rope: &Rope,
+    unit: &Unit,
+    found: (&str, usize, usize, usize),
+    line_break: usize,
+) -> bool {
+    let (chunk, byte_idx, char_idx, before) = found;
+    let start = unit.place(char_idx);
+    let is_in = match rope.try_byte_to_line(byte_idx.saturating_add(chunk.len())) {
+        Ok(end) => line_break <= end,
+        Err(_) => false,
+    };
+    [start.byte_idx, start.line_idx] == [byte_idx, before]
+        && (before < line_break || byte_idx == 0)
+        && is_in
+}
+
+fn has_chunk_at_break(rope: &Rope, unit: &Unit, line_break: usize) -> bool {
+    match rope.get_chunk_at_line_break(line_break) {
+        Some(found) => has_break(rope, unit, found, line_break),
+        None => false,
+    }
+}
+
+fn chunks_at_line_breaks_of_one(rt: &impl Abort, long: &Long) {
     let break_count = long.unit.break_count();
     for line_break in [0, 1, break_count / 2, break_count] {
         let line_break = line_break.min(break_count);
-        let (chunk, byte_idx, char_idx, before) = given(
-            long.rope.get_chunk_at_line_break(line_break),
-        )?;
-        let end = long
-            .rope
-            .try_byte_to_line(byte_idx.saturating_add(chunk.len()))?;
-        assert_eq!(rt; long.unit.place(char_idx).byte_idx, byte_idx);
-        assert_eq!(rt; long.unit.place(char_idx).line_idx, before);
-        assert!(rt; (before < line_break || byte_idx == 0) && line_break <= end);
+        assert!(rt; has_chunk_at_break(&long.rope, &long.unit, line_break));
     }
-    Ok(())
 }
 
 #[test]
 fn chunks_at_line_breaks(rt: HostRuntime) -> Result<(), Fail> {
     let all = all(rt.alloc())?;
     for long in &all {
-        chunks_at_line_breaks_of_one(&rt, long)?;
+        chunks_at_line_breaks_of_one(&rt, long);
     }
     Ok(())
 }
 
+/// Whether a place has its line and column, and they lead back to it.
+fn has_position(rope: &Rope, unit: &Unit, place: Place) -> bool {
+    let start = unit.place(place.line_char);
+    let position = Position {
+        line: place.line_idx,
+        column: place.unit_idx.saturating_sub(start.unit_idx),
+    };
+    rope.try_char_to_position(place.char_idx) == Ok(position)
+        && rope.try_position_to_char(position) == Ok(place.char_idx)
+}
+
 fn positions_of_one(rt: &impl Abort, long: &Long) {
-    let unit = long.unit;
-    for place in unit.places() {
-        let start = unit.place(place.line_char);
-        let position = Position {
-            line: place.line_idx,
-            column: place.unit_idx.saturating_sub(start.unit_idx),
-        };
-        assert_eq!(rt;
-            long.rope.try_char_to_position(place.char_idx),
-            Ok(position)
-        );
-        assert_eq!(rt;
-            long.rope.try_position_to_char(position),
-            Ok(place.char_idx)
-        );
+    for place in long.unit.places() {
+        assert!(rt; has_position(&long.rope, &long.unit, place));
     }
-    let past = unit.break_count().saturating_add(1);
-    for line in [past, usize::MAX] {
-        let refused = Err(Error::LineIndexOutOfBounds(line, past));
-        assert!(rt; long.rope.try_position_to_char(Position { line, column: 0 }) == refused);
-    }
-    let refused = Err(Error::CharIndexOutOfBounds(usize::MAX, unit.char_count()));
+}
+
+/// Whether a line is refused that lies past the last of so many.
+fn refuses_line(rope: &Rope, line: usize, lines: usize) -> bool {
+    let refused = Err(Error::LineIndexOutOfBounds(line, lines));
+    rope.try_position_to_char(Position { line, column: 0 }) == refused
+}
+
+fn positions_past_the_end_of_one(rt: &impl Abort, long: &Long) {
+    let lines = long.unit.break_count().saturating_add(1);
+    let refused = Err(Error::CharIndexOutOfBounds(usize::MAX, long.unit.char_count()));
+    assert!(rt; refuses_line(&long.rope, lines, lines));
+    assert!(rt; refuses_line(&long.rope, usize::MAX, lines));
     assert!(rt; long.rope.try_char_to_position(usize::MAX) == refused);
 }
 
@@ -391,6 +446,7 @@ fn positions(rt: HostRuntime) -> Result<(), Fail> {
     let all = all(rt.alloc())?;
     for long in &all {
         positions_of_one(&rt, long);
+        positions_past_the_end_of_one(&rt, long);
     }
     Ok(())
 }

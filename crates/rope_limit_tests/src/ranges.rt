@@ -1,7 +1,9 @@
 //! Ranges of all six kinds, with bounds at the ends of a text, past them, reversed, and as great as an index may be.
 use crate::expected::{Told, behind};
+use crate::long_texts::{UNITS, WHOLE};
 use ropey::{IndexRange, Rope, RopeSlice};
 use std::alloc::Global;
+use std::process::Abort;
 use std::test::Fail;
 
 /// Characters of one to four bytes, and a pair: 6 characters in 12 bytes.
@@ -31,18 +33,19 @@ const BOUNDS: [usize; 12] = [
 ];
 
 /// A removal of the range is refused by its error and changes nothing, or else takes its characters out.
-fn removes<R: IndexRange + Drop>(alloc: Global, range: R, told: Told) -> Result<(), Fail> {
-    let mut rope = Rope::from_str(alloc, TEXT)?;
+fn is_removed<R: IndexRange + Drop>(rope: &mut Rope, range: R, told: Told) -> bool {
     let answer = rope.try_remove(range);
     let left = match told.char_error(CHARS) {
         Some(error) if answer == Err(error) => CHARS,
         None if answer == Ok(()) => CHARS.saturating_sub(told.count(CHARS)),
-        _ => return Err(Fail::from("a removal was answered otherwise")),
+        _ => return false,
     };
-    if rope.len_chars() != left || (left == CHARS && !rope.eq_str(TEXT)) {
-        return Err(Fail::from("a removal left another text"));
-    }
-    Ok(())
+    rope.len_chars() == left && (left != CHARS || rope.eq_str(TEXT))
+}
+
+fn removes<R: IndexRange + Drop>(alloc: Global, range: R, told: Told) -> Result<bool, Fail> {
+    let mut rope = Rope::from_str(alloc, TEXT)?;
+    Ok(is_removed(&mut rope, range, told))
 }
 
 /// A slice by characters is one exactly where the range is none that a removal refuses, and has its characters.
@@ -63,76 +66,110 @@ fn is_byte_sliced(answer: ropey::Result<RopeSlice<'_>>, told: Told) -> bool {
     }
 }
 
-/// Slices of a rope and of a plain text by the range, by characters and by bytes.
-macro_rules! assert_slices {
-    ($rope:ident, $range:expr, $told:ident) => {
-        let slice = RopeSlice::from(TEXT);
-        let agree = is_sliced($rope.get_slice($range), $told)
-            && is_sliced(slice.get_slice($range), $told)
-            && is_byte_sliced($rope.try_byte_slice($range), $told)
-            && is_byte_sliced(slice.try_byte_slice($range), $told)
-            && $rope.get_byte_slice($range).is_none()
+/// Whether slices of a text by the range are as told, by characters and by bytes.
+macro_rules! is_cut {
+    ($text:ident, $range:expr, $told:ident) => {
+        is_sliced($text.get_slice($range), $told)
+            && is_byte_sliced($text.try_byte_slice($range), $told)
+            && $text.get_byte_slice($range).is_none()
                 == $told.byte_error(&STARTS, BYTES).is_some()
-            && slice.get_byte_slice($range).is_none()
-                == $told.byte_error(&STARTS, BYTES).is_some();
-        if !agree {
-            return Err(Fail::from("a slice was answered otherwise"));
-        }
     };
 }
 
-/// Ranges with a start and an end.
-fn closed(alloc: Global, rope: &Rope, start: usize, end: usize) -> Result<(), Fail> {
+/// Whether a rope and a plain text are cut as told.
+macro_rules! are_cut {
+    ($rope:ident, $range:expr, $told:ident) => {{
+        let slice = RopeSlice::from(TEXT);
+        is_cut!($rope, $range, $told) && is_cut!(slice, $range, $told)
+    }};
+}
+
+/// Ranges with a start and an excluded end.
+fn half_open(alloc: Global, rope: &Rope, start: usize, end: usize) -> Result<bool, Fail> {
     let told = Told {
         start: Some(start),
         end: Some(end),
     };
-    removes(alloc, start..end, told)?;
-    assert_slices!(rope, start..end, told);
+    let is_removed = removes(alloc, start..end, told)?;
+    Ok(is_removed && are_cut!(rope, start..end, told))
+}
+
+/// Ranges with a start and a last index.
+fn closed(alloc: Global, rope: &Rope, start: usize, end: usize) -> Result<bool, Fail> {
     let told = Told {
         start: Some(start),
         end: Some(behind(end)),
     };
-    removes(alloc, start..=end, told)?;
-    assert_slices!(rope, start..=end, told);
-    Ok(())
+    let is_removed = removes(alloc, start..=end, told)?;
+    Ok(is_removed && are_cut!(rope, start..=end, told))
 }
 
 /// Ranges with a start and no end.
-fn open_behind(alloc: Global, rope: &Rope, start: usize) -> Result<(), Fail> {
+fn open_behind(alloc: Global, rope: &Rope, start: usize) -> Result<bool, Fail> {
     let told = Told {
         start: Some(start),
         end: None,
     };
-    removes(alloc, start.., told)?;
-    assert_slices!(rope, start.., told);
-    Ok(())
+    let is_removed = removes(alloc, start.., told)?;
+    Ok(is_removed && are_cut!(rope, start.., told))
 }
 
-/// Ranges with an end and no start.
-fn open_before(alloc: Global, rope: &Rope, end: usize) -> Result<(), Fail> {
+/// Ranges with an excluded end and no start.
+fn open_before(alloc: Global, rope: &Rope, end: usize) -> Result<bool, Fail> {
     let told = Told {
         start: None,
         end: Some(end),
     };
-    removes(alloc, ..end, told)?;
-    assert_slices!(rope, ..end, told);
+    let is_removed = removes(alloc, ..end, told)?;
+    Ok(is_removed && are_cut!(rope, ..end, told))
+}
+
+/// Ranges with a last index and no start.
+fn up_to(alloc: Global, rope: &Rope, end: usize) -> Result<bool, Fail> {
     let told = Told {
         start: None,
         end: Some(behind(end)),
     };
-    removes(alloc, ..=end, told)?;
-    assert_slices!(rope, ..=end, told);
+    let is_removed = removes(alloc, ..=end, told)?;
+    Ok(is_removed && are_cut!(rope, ..=end, told))
+}
+
+/// The range with no bound.
+fn open(alloc: Global, rope: &Rope) -> Result<bool, Fail> {
+    let told = Told {
+        start: None,
+        end: None,
+    };
+    let is_removed = removes(alloc, .., told)?;
+    Ok(is_removed && are_cut!(rope, .., told))
+}
+
+fn from_one_start(rt: &impl Abort, alloc: Global, rope: &Rope, start: usize) -> Result<(), Fail> {
+    for end in BOUNDS {
+        assert!(rt; half_open(alloc, rope, start, end)?);
+        assert!(rt; closed(alloc, rope, start, end)?);
+    }
+    Ok(())
+}
+
+fn from_each_start(rt: &impl Abort, alloc: Global, rope: &Rope) -> Result<(), Fail> {
+    for start in BOUNDS {
+        from_one_start(rt, alloc, rope, start)?;
+    }
     Ok(())
 }
 
 #[test]
 fn of_two_bounds(rt: HostRuntime) -> Result<(), Fail> {
     let rope = Rope::from_str(rt.alloc(), TEXT)?;
-    for start in BOUNDS {
-        for end in BOUNDS {
-            closed(rt.alloc(), &rope, start, end)?;
-        }
+    from_each_start(&rt, rt.alloc(), &rope)
+}
+
+fn from_or_to_each_bound(rt: &impl Abort, alloc: Global, rope: &Rope) -> Result<(), Fail> {
+    for bound in BOUNDS {
+        assert!(rt; open_behind(alloc, rope, bound)?);
+        assert!(rt; open_before(alloc, rope, bound)?);
+        assert!(rt; up_to(alloc, rope, bound)?);
     }
     Ok(())
 }
@@ -140,35 +177,34 @@ fn of_two_bounds(rt: HostRuntime) -> Result<(), Fail> {
 #[test]
 fn of_one_bound_and_of_none(rt: HostRuntime) -> Result<(), Fail> {
     let rope = Rope::from_str(rt.alloc(), TEXT)?;
-    for bound in BOUNDS {
-        open_behind(rt.alloc(), &rope, bound)?;
-        open_before(rt.alloc(), &rope, bound)?;
-    }
-    let told = Told {
-        start: None,
-        end: None,
-    };
-    removes(rt.alloc(), .., told)?;
-    assert_slices!(rope, .., told);
-    Ok(())
+    assert!(rt; open(rt.alloc(), &rope)?);
+    from_or_to_each_bound(&rt, rt.alloc(), &rope)
 }
 
-#[test]
-fn a_pair_of_a_long_text(rt: HostRuntime) -> Result<(), Fail> {
-    let mut rope = Rope::from_str(rt.alloc(), "\r\n")?;
-    for _ in 0..61 {
-        let copy = rope.clone()?;
-        rope.append(copy)?;
-    }
-    let len = 1usize << 62;
+/// Whether a range within the text is cut out by its excluded end, and not by a last index that is the text's end.
+fn is_cut_to_its_end(rope: &Rope, start: usize, end: usize) -> bool {
+    let are_none = [
+        rope.get_slice(start..end).is_none(),
+        rope.get_byte_slice(start..end).is_none(),
+        rope.get_slice(start..=end).is_none(),
+        rope.get_byte_slice(start..=end).is_none(),
+    ];
+    are_none == [false, false, true, true]
+}
+
+fn cut_a_long_text(rt: &impl Abort, rope: &Rope) {
+    let len = WHOLE;
     for (start, end) in [(len - 1, len), (len, len), (0, len)] {
-        assert!(rt; rope.get_slice(start..end).is_some());
-        assert!(rt; rope.get_byte_slice(start..end).is_some());
-        assert!(rt; rope.get_slice(start..=end).is_none());
-        assert!(rt; rope.get_byte_slice(start..=end).is_none());
+        assert!(rt; is_cut_to_its_end(rope, start, end));
     }
     assert!(rt; rope.get_slice(len + 1..).is_none() && rope.get_slice(..=len - 1).is_some());
     assert!(rt; rope.get_slice(usize::MAX..).is_none());
     assert!(rt; rope.get_byte_slice(..=usize::MAX).is_none());
+}
+
+#[test]
+fn a_pair_of_a_long_text(rt: HostRuntime) -> Result<(), Fail> {
+    let rope = UNITS[1].whole(rt.alloc())?;
+    cut_a_long_text(&rt, &rope);
     Ok(())
 }

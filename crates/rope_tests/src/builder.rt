@@ -4,6 +4,7 @@ use rope_plain::numbers::Numbers;
 use rope_plain::texts::{padded, random_text, repeated};
 use ropey::{LineBreaks, Rope, RopeBuilder};
 use std::alloc::Global;
+use std::process::Abort;
 use std::test::Fail;
 
 /// A builder, and the list of characters that it was handed.
@@ -34,10 +35,15 @@ impl Pair {
     /// The rope, which has the text in few chunks.
     fn finish(self) -> Result<Rope, Fail> {
         let rope = self.builder.finish()?;
-        compare(&rope, &self.plain, self.breaks)?;
-        has_few_chunks(&rope)?;
+        compare_few(&rope, &self.plain, self.breaks)?;
         Ok(rope)
     }
+}
+
+fn compare_few(rope: &Rope, plain: &[char], breaks: LineBreaks) -> Result<(), Fail> {
+    compare(rope, plain, breaks)?;
+    has_few_chunks(rope)?;
+    Ok(())
 }
 
 /// Pieces that part each CR LF, or lie between two.
@@ -61,41 +67,55 @@ const PIECES: [&str; 14] = [
 const WHOLE: &str =
     "Hello there!  How're you doing?\r\nIt's a fine day, isn't it?\r\nAren't you glad we're alive?\r\nこんにちは、みんなさん！";
 
+fn append_all(builder: &mut RopeBuilder) -> Result<(), Fail> {
+    for piece in &PIECES {
+        builder.append(piece)?;
+    }
+    Ok(())
+}
+
 #[test]
 fn pieces(rt: HostRuntime) -> Result<(), Fail> {
     let mut builder = RopeBuilder::new(rt.alloc())?;
-    for piece in PIECES {
-        builder.append(piece)?;
-    }
+    append_all(&mut builder)?;
     let rope = builder.finish()?;
-    assert_eq!(rt; lens(&rope), [127, 103, 4, 103]);
-    assert!(rt; rope.chunks().next() == Some(WHOLE));
+    assert!(rt; lens(&rope) == [127, 103, 4, 103] && rope.chunks().next() == Some(WHOLE));
+    Ok(())
+}
+
+fn append_three(pair: &mut Pair, letters: &str, first: &str, second: &str) -> Result<(), Fail> {
+    pair.append(letters)?;
+    pair.append(first)?;
+    pair.append(second)
+}
+
+/// Two pieces behind so many letters make a rope of two chunks.
+fn build_two_chunks(
+    rt: &impl Abort,
+    alloc: Global,
+    letters: &str,
+    pieces: (&str, &str),
+    expected: [usize; 4],
+) -> Result<(), Fail> {
+    let mut pair = Pair::new(alloc, LineBreaks::Unicode)?;
+    append_three(&mut pair, letters, pieces.0, pieces.1)?;
+    let rope = pair.finish()?;
+    assert!(rt; lens(&rope) == expected && rope.chunks().count() == 2);
     Ok(())
 }
 
 #[test]
 fn a_piece_behind_a_nearly_full_leaf(rt: HostRuntime) -> Result<(), Fail> {
     let letters = repeated(rt.alloc(), "a", 983)?;
-    for (first, second, expected) in [
-        ("こ", "", [986, 984, 1, 984]),
-        ("\r", "\n", [985, 985, 2, 985]),
-    ] {
-        let mut pair = Pair::new(rt.alloc(), LineBreaks::Unicode)?;
-        pair.append(letters.as_str())?;
-        pair.append(first)?;
-        pair.append(second)?;
-        let rope = pair.finish()?;
-        assert_eq!(rt; lens(&rope), expected);
-        assert_eq!(rt; rope.chunks().count(), 2);
-    }
-    Ok(())
+    let letters = letters.as_str();
+    build_two_chunks(&rt, rt.alloc(), letters, ("こ", ""), [986, 984, 1, 984])?;
+    build_two_chunks(&rt, rt.alloc(), letters, ("\r", "\n"), [985, 985, 2, 985])
 }
 
 #[test]
 fn no_pieces(rt: HostRuntime) -> Result<(), Fail> {
     let rope = RopeBuilder::new(rt.alloc())?.finish()?;
-    assert_eq!(rt; lens(&rope), [0, 0, 1, 0]);
-    assert!(rt; rope.chunks().next().is_none());
+    assert!(rt; lens(&rope) == [0, 0, 1, 0] && rope.chunks().next().is_none());
     Ok(())
 }
 
@@ -104,8 +124,7 @@ fn pieces_by_lf(rt: HostRuntime) -> Result<(), Fail> {
     let mut pair = Pair::new(rt.alloc(), LineBreaks::Lf)?;
     pair.append("a\r\n")?;
     let rope = pair.finish()?;
-    assert_eq!(rt; rope.len_lines(), 2);
-    assert!(rt; rope.line_breaks() == LineBreaks::Lf);
+    assert!(rt; rope.len_lines() == 2 && rope.line_breaks() == LineBreaks::Lf);
     Ok(())
 }
 
@@ -121,30 +140,67 @@ const SEAMS: [(&str, &str); 8] = [
     ("a", "こ"),
 ];
 
+/// A piece of so many bytes, with such ends.
+fn append_padded(
+    pair: &mut Pair,
+    alloc: Global,
+    first: &str,
+    bytes: usize,
+    last: &str,
+) -> Result<(), Fail> {
+    let piece = padded(alloc, first, bytes, last)?;
+    pair.append(piece.as_str())
+}
+
 /// Three pieces with such ends between them, the first and the last of so many bytes.
+fn append_with_seams(
+    pair: &mut Pair,
+    alloc: Global,
+    (last, first): (&str, &str),
+    bytes: usize,
+    middle: usize,
+) -> Result<(), Fail> {
+    append_padded(pair, alloc, "", bytes, last)?;
+    append_padded(pair, alloc, first, middle, last)?;
+    append_padded(pair, alloc, first, bytes, "")
+}
+
+/// A rope of three pieces, the one in the middle of so many bytes.
+fn build_one(
+    alloc: Global,
+    seam: (&str, &str),
+    bytes: usize,
+    middle: usize,
+    breaks: LineBreaks,
+) -> Result<(), Fail> {
+    let mut pair = Pair::new(alloc, breaks)?;
+    append_with_seams(&mut pair, alloc, seam, bytes, middle)?;
+    pair.finish()?;
+    Ok(())
+}
+
+/// Ropes of three pieces, the one in the middle of some lengths.
 fn build_with_seams(
     alloc: Global,
-    last: &str,
-    first: &str,
+    seam: (&str, &str),
     bytes: usize,
     breaks: LineBreaks,
 ) -> Result<(), Fail> {
     for middle in [0, 1, 462, 978, 984, 1_968] {
-        let mut pair = Pair::new(alloc, breaks)?;
-        pair.append(padded(alloc, "", bytes, last)?.as_str())?;
-        pair.append(padded(alloc, first, middle, last)?.as_str())?;
-        pair.append(padded(alloc, first, bytes, "")?.as_str())?;
-        pair.finish()?;
+        build_one(alloc, seam, bytes, middle, breaks)?;
     }
     Ok(())
 }
 
+/// Each set of line breaks.
+const SETS: [LineBreaks; 3] = [LineBreaks::Lf, LineBreaks::CrLf, LineBreaks::Unicode];
+
 /// Pieces of every length of a range, with each of the ends.
 fn build_lengths(alloc: Global, from: usize, to: usize) -> Result<(), Fail> {
     for bytes in from..=to {
-        for (last, first) in SEAMS {
-            for breaks in [LineBreaks::Lf, LineBreaks::CrLf, LineBreaks::Unicode] {
-                build_with_seams(alloc, last, first, bytes, breaks)?;
+        for seam in SEAMS {
+            for breaks in SETS {
+                build_with_seams(alloc, seam, bytes, breaks)?;
             }
         }
     }
@@ -175,13 +231,19 @@ fn pieces_of_nearly_two_leaves(rt: HostRuntime) -> Result<(), Fail> {
 const MOST: [usize; 6] = [3, 12, 100, 990, 2_000, 9_000];
 
 /// Many pieces, most of them short.
-fn build_at_random(alloc: Global, numbers: &mut Numbers, breaks: LineBreaks) -> Result<(), Fail> {
-    let mut pair = Pair::new(alloc, breaks)?;
+fn append_at_random(pair: &mut Pair, alloc: Global, numbers: &mut Numbers) -> Result<(), Fail> {
     let kinds = numbers.up_to(5);
     for _ in 0..numbers.up_to(60) {
         let most = MOST[numbers.up_to(kinds) % 6];
         pair.append(random_text(alloc, numbers, most)?.as_str())?;
     }
+    Ok(())
+}
+
+/// A rope of many pieces.
+fn build_at_random(alloc: Global, numbers: &mut Numbers, breaks: LineBreaks) -> Result<(), Fail> {
+    let mut pair = Pair::new(alloc, breaks)?;
+    append_at_random(&mut pair, alloc, numbers)?;
     pair.finish()?;
     Ok(())
 }
@@ -190,7 +252,7 @@ fn build_at_random(alloc: Global, numbers: &mut Numbers, breaks: LineBreaks) -> 
 fn many_random_pieces(rt: HostRuntime) -> Result<(), Fail> {
     let mut numbers = Numbers::new(0x9E37_79B9_7F4A_7C15);
     for _ in 0..100 {
-        for breaks in [LineBreaks::Lf, LineBreaks::CrLf, LineBreaks::Unicode] {
+        for breaks in SETS {
             build_at_random(rt.alloc(), &mut numbers, breaks)?;
         }
     }

@@ -7,6 +7,7 @@ use rope_callers::positions::insert_at_position;
 use rope_callers::search::insert_before_char;
 use rope_position::Position;
 use ropey::{Error, Rope};
+use std::alloc::Global;
 use std::process::Abort;
 use std::test::Fail;
 
@@ -19,8 +20,7 @@ fn a_titled_text(rt: HostRuntime) -> Result<(), Fail> {
 
 fn edit_inside(rt: &impl Abort, rope: &mut Rope) -> Result<(), Fail> {
     put_at_end(rope, "c\nd")?;
-    assert!(rt; rope.eq_str("ä\nb\nc\nd"));
-    assert!(rt; 1 <= rope.len_bytes());
+    assert!(rt; rope.eq_str("ä\nb\nc\nd") && 1 <= rope.len_bytes());
     insert_at_byte(rope, 1, "x")?;
     assert!(rt; rope.eq_str("xä\nb\nc\nd"));
     Ok(())
@@ -29,8 +29,7 @@ fn edit_inside(rt: &impl Abort, rope: &mut Rope) -> Result<(), Fail> {
 fn remove_lines(rt: &impl Abort, rope: &mut Rope) -> Result<(), Fail> {
     assert!(rt; 6 <= rope.len_chars());
     assert!(rt; line_start_of(rope, 6) == 5);
-    assert!(rt; remove_line(rope, 1)?);
-    assert!(rt; rope.eq_str("xä\nc\nd"));
+    assert!(rt; remove_line(rope, 1)? && rope.eq_str("xä\nc\nd"));
     assert!(rt; !remove_line(rope, 3)?);
     Ok(())
 }
@@ -42,14 +41,17 @@ fn places_that_are_inside(rt: HostRuntime) -> Result<(), Fail> {
     remove_lines(&rt, &mut rope)
 }
 
+fn copy_a_part(rt: &impl Abort, rope: &Rope) -> Result<(), Fail> {
+    assert!(rt; rope.len_chars() == 4);
+    let copy = copy_without(rope, 1, 3)?;
+    assert!(rt; [copy.eq_str("ad"), rope.eq_str("abcd")] == [true; 2]);
+    Ok(())
+}
+
 #[test]
 fn a_copy_without_a_part(rt: HostRuntime) -> Result<(), Fail> {
     let rope = Rope::from_str(rt.alloc(), "abcd")?;
-    assert_eq!(rt; rope.len_chars(), 4);
-    let copy = copy_without(&rope, 1, 3)?;
-    assert!(rt; copy.eq_str("ad"));
-    assert!(rt; rope.eq_str("abcd"));
-    Ok(())
+    copy_a_part(&rt, &rope)
 }
 
 fn insert_two(rt: &impl Abort, history: &mut History) -> Result<(), Fail> {
@@ -62,11 +64,9 @@ fn insert_two(rt: &impl Abort, history: &mut History) -> Result<(), Fail> {
 
 fn undo_all(rt: &impl Abort, history: &mut History) {
     for text in ["ab", "b"] {
-        assert!(rt; history.undo());
-        assert!(rt; history.text.eq_str(text));
+        assert!(rt; history.undo() && history.text.eq_str(text));
     }
-    assert!(rt; !history.undo());
-    assert!(rt; history.text.eq_str("b"));
+    assert!(rt; !history.undo() && history.text.eq_str("b"));
 }
 
 #[test]
@@ -81,9 +81,11 @@ fn edits_undone(rt: HostRuntime) -> Result<(), Fail> {
 }
 
 fn insert_before(rt: &impl Abort, rope: &mut Rope) -> Result<(), Fail> {
-    assert!(rt; insert_before_char(rope, '=', " ")? == Some(1));
-    assert!(rt; insert_before_char(rope, 'x', " ")?.is_none());
-    assert!(rt; rope.eq_str("ä =b=c"));
+    let places = [
+        insert_before_char(rope, '=', " ")?,
+        insert_before_char(rope, 'x', " ")?,
+    ];
+    assert!(rt; places == [Some(1), None] && rope.eq_str("ä =b=c"));
     Ok(())
 }
 
@@ -95,10 +97,14 @@ fn insert_at_positions(rt: &impl Abort, rope: &mut Rope) -> Result<(), Fail> {
     Ok(())
 }
 
+fn edit_before_chars(rt: &impl Abort, alloc: Global) -> Result<(), Fail> {
+    let mut rope = Rope::from_str(alloc, "ä=b=c")?;
+    insert_before(rt, &mut rope)
+}
+
 #[test]
 fn edits_at_places_that_are_sought(rt: HostRuntime) -> Result<(), Fail> {
-    let mut rope = Rope::from_str(rt.alloc(), "ä=b=c")?;
-    insert_before(&rt, &mut rope)?;
+    edit_before_chars(&rt, rt.alloc())?;
     let mut rope = Rope::from_str(rt.alloc(), "a\n𝔸b")?;
     insert_at_positions(&rt, &mut rope)
 }

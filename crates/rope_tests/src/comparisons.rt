@@ -31,63 +31,97 @@ fn hash_of<T: Hash>(value: &T) -> u64 {
     hasher.finish()
 }
 
-/// The ropes are compared as the texts are, in both directions, and so are slices of all of them.
-fn compare(rt: &impl Abort, ropes: (&Rope, &Rope), texts: (&str, &str)) {
+/// The ropes are equal as the texts are, and so are slices of them and their hashes.
+fn compare_equality(rt: &impl Abort, ropes: (&Rope, &Rope), texts: (&str, &str)) {
     let (a, b) = ropes;
     let (s, t) = texts;
-    assert!(rt; (a == b) == (s == t));
-    assert!(rt; a.cmp(b) == s.cmp(t));
-    assert!(rt; b.cmp(a) == t.cmp(s));
-    assert!(rt; a.partial_cmp(b) == Some(s.cmp(t)));
-    assert!(rt; a.eq_str(t) == (s == t));
-    assert!(rt; (hash_of(a) == hash_of(b)) == (s == t));
     let slice = RopeSlice::from(s);
-    assert!(rt; (slice == b.slice(..)) == (s == t));
-    assert!(rt; slice.cmp(&b.slice(..)) == s.cmp(t));
-    assert!(rt; b.slice(..).eq_str(s) == (s == t));
+    let are_equal = [
+        a == b,
+        a.eq_str(t),
+        hash_of(a) == hash_of(b),
+        slice == b.slice(..),
+        b.slice(..).eq_str(s),
+    ];
+    assert!(rt; are_equal == [s == t; 5]);
     assert!(rt; hash_of(&slice) == hash_of(a));
+}
+
+/// The ropes are ordered as the texts are, in both directions, and so are slices of them.
+fn compare_order(rt: &impl Abort, ropes: (&Rope, &Rope), texts: (&str, &str)) {
+    let (a, b) = ropes;
+    let (s, t) = texts;
+    let orders = [
+        Some(a.cmp(b)),
+        a.partial_cmp(b),
+        Some(RopeSlice::from(s).cmp(&b.slice(..))),
+        Some(b.cmp(a)),
+    ];
+    let order = Some(s.cmp(t));
+    assert!(rt; orders == [order, order, order, Some(t.cmp(s))]);
+}
+
+/// The ropes are compared as the texts are.
+fn compare(rt: &impl Abort, ropes: (&Rope, &Rope), texts: (&str, &str)) {
+    compare_equality(rt, ropes, texts);
+    compare_order(rt, ropes, texts);
 }
 
 /// The ropes are ordered as their numbers are, and so are slices of all of them.
 fn order_by_numbers(rt: &impl Abort, (left, i): (&Rope, usize), (right, k): (&Rope, usize)) {
-    let order = i.cmp(&k);
-    assert!(rt; left.cmp(right) == order && left.partial_cmp(right) == Some(order));
-    assert!(rt; (*left == *right) == (i == k));
-    let (left, right) = (left.slice(..), right.slice(..));
-    assert!(rt; left.cmp(&right) == order && (left == right) == (i == k));
+    let (part, other) = (left.slice(..), right.slice(..));
+    let orders = [
+        Some(left.cmp(right)),
+        left.partial_cmp(right),
+        Some(part.cmp(&other)),
+    ];
+    assert!(rt; orders == [Some(i.cmp(&k)); 3]);
+    assert!(rt; [*left == *right, part == other] == [i == k; 2]);
 }
 
-#[test]
-fn by_bytes(rt: HostRuntime) -> Result<(), Fail> {
-    let texts = ["", "z", "é", "こ"];
-    for (i, left) in texts.iter().enumerate() {
-        let left = Rope::from_str(rt.alloc(), left)?;
-        for (k, right) in texts.iter().enumerate() {
-            let right = Rope::from_str(rt.alloc(), right)?;
-            order_by_numbers(&rt, (&left, i), (&right, k));
-        }
+/// The texts by their bytes, the least first.
+const BY_BYTES: [&str; 4] = ["", "z", "é", "こ"];
+
+fn order_with_all(rt: &impl Abort, alloc: Global, left: &Rope, i: usize) -> Result<(), Fail> {
+    for (k, right) in BY_BYTES.iter().enumerate() {
+        order_by_numbers(rt, (left, i), (&Rope::from_str(alloc, right)?, k));
     }
     Ok(())
 }
 
-fn compare_two_chunks(rt: &impl Abort, two: RopeSlice<'_>) {
-    assert!(rt; two.as_str().is_none());
+#[test]
+fn by_bytes(rt: HostRuntime) -> Result<(), Fail> {
+    for (i, left) in BY_BYTES.iter().enumerate() {
+        order_with_all(&rt, rt.alloc(), &Rope::from_str(rt.alloc(), left)?, i)?;
+    }
+    Ok(())
+}
+
+fn equal_two_chunks(rt: &impl Abort, two: RopeSlice<'_>) {
     let one = RopeSlice::from("ab");
-    assert!(rt; one == two && two == one);
-    assert!(rt; one.cmp(&two) == Ordering::Equal);
-    assert!(rt; two.eq_str("ab") && one.eq_str("ab"));
+    let are_equal = [one == two, two == one, two.eq_str("ab"), one.eq_str("ab")];
+    assert!(rt; are_equal == [true; 4]);
+    assert!(rt; two.as_str().is_none() && one.cmp(&two) == Ordering::Equal);
+}
+
+/// A slice of two chunks, whose text is `ab`, is unequal to another text, and ordered as the texts are.
+fn differ_from(rt: &impl Abort, two: RopeSlice<'_>, text: &str) {
+    let other = RopeSlice::from(text);
+    let order = "ab".cmp(text);
+    assert!(rt; [two == other, two.eq_str(text)] == [false; 2]);
+    assert!(rt; [two.cmp(&other), other.cmp(&two).reverse()] == [order; 2]);
+}
+
+fn compare_two_chunks(rt: &impl Abort, two: RopeSlice<'_>) {
+    equal_two_chunks(rt, two);
     for other in ["", "a", "aa", "ac", "abb", "bb"] {
-        let order = "ab".cmp(other);
-        assert!(rt; two != RopeSlice::from(other) && !two.eq_str(other));
-        assert!(rt; two.cmp(&RopeSlice::from(other)) == order);
-        assert!(rt; RopeSlice::from(other).cmp(&two) == order.reverse());
+        differ_from(rt, two, other);
     }
 }
 
 #[test]
 fn of_one_chunk_and_of_two(rt: HostRuntime) -> Result<(), Fail> {
-    let text = padded(rt.alloc(), "", 985, "b")?;
-    let rope = Rope::from_str(rt.alloc(), text.as_str())?;
+    let rope = padded_rope(rt.alloc(), 985, "b")?;
     compare_two_chunks(&rt, given(rope.get_slice(983..985))?);
     Ok(())
 }
@@ -96,11 +130,25 @@ fn of_one_chunk_and_of_two(rt: HostRuntime) -> Result<(), Fail> {
 fn compare_part(rt: &impl Abort, other: RopeSlice<'_>, text: &str, ropes: (&Rope, &Rope, &Rope)) {
     let (rope, less, more) = ropes;
     let (rope, less, more) = (rope.slice(..), less.slice(..), more.slice(..));
-    assert!(rt; other == rope && other.eq_str(text));
-    assert!(rt; other.cmp(&rope) == Ordering::Equal);
-    assert!(rt; other != less && other.cmp(&less) == Ordering::Greater);
-    assert!(rt; less.cmp(&other) == Ordering::Less);
-    assert!(rt; other != more && other.cmp(&more) == Ordering::Less);
+    let are_equal = [
+        other == rope,
+        other.eq_str(text),
+        other == less,
+        other == more,
+    ];
+    let orders = [
+        other.cmp(&rope),
+        other.cmp(&less),
+        less.cmp(&other),
+        other.cmp(&more),
+    ];
+    let expected = [
+        Ordering::Equal,
+        Ordering::Greater,
+        Ordering::Less,
+        Ordering::Less,
+    ];
+    assert!(rt; are_equal == [true, true, false, false] && orders == expected);
 }
 
 fn shift_by_one(rope: &mut Rope) -> Result<(), Fail> {
@@ -148,8 +196,13 @@ fn with_seams_at_every_offset(rt: HostRuntime) -> Result<(), Fail> {
 }
 
 fn compare_sets(rt: &impl Abort, lf: &Rope, unicode: &Rope) {
-    assert!(rt; *lf == *unicode && lf.cmp(unicode) == Ordering::Equal);
-    assert!(rt; lf.eq_str("a\r\nb") && !lf.eq_str("a\r\n") && !lf.eq_str("a\r\nbb"));
+    let are_equal = [
+        *lf == *unicode,
+        lf.eq_str("a\r\nb"),
+        lf.eq_str("a\r\n"),
+        lf.eq_str("a\r\nbb"),
+    ];
+    assert!(rt; are_equal == [true, true, false, false] && lf.cmp(unicode) == Ordering::Equal);
 }
 
 #[test]
@@ -160,13 +213,17 @@ fn by_texts_alone(rt: HostRuntime) -> Result<(), Fail> {
     Ok(())
 }
 
+fn compare_with_shorter(rt: &impl Abort, alloc: Global, long: &str) -> Result<(), Fail> {
+    let less = repeated(alloc, "こ", 999)?;
+    let rope = Rope::from_str(alloc, long)?;
+    assert!(rt; [rope.eq_str(long), rope.eq_str(less.as_str())] == [true, false]);
+    Ok(())
+}
+
 #[test]
 fn with_a_shorter_text(rt: HostRuntime) -> Result<(), Fail> {
     let long = repeated(rt.alloc(), "こ", 1_000)?;
-    let less = repeated(rt.alloc(), "こ", 999)?;
-    let rope = Rope::from_str(rt.alloc(), long.as_str())?;
-    assert!(rt; rope.eq_str(long.as_str()) && !rope.eq_str(less.as_str()));
-    Ok(())
+    compare_with_shorter(&rt, rt.alloc(), long.as_str())
 }
 
 /// Another rope of the text, before and after an insert.
@@ -185,15 +242,25 @@ fn compare_with_changed(
     Ok(())
 }
 
+/// A rope of a text, and one to which it came character by character.
+fn compare_typed(
+    rt: &impl Abort,
+    alloc: Global,
+    numbers: &mut Numbers,
+    text: &str,
+) -> Result<(), Fail> {
+    let rope = Rope::from_str(alloc, text)?;
+    let mut other = typed(alloc, text)?;
+    compare_with_changed(rt, &mut other, (&rope, text), numbers, alloc)
+}
+
 #[test]
 fn random_texts(rt: HostRuntime) -> Result<(), Fail> {
     let alloc = rt.alloc();
     let mut numbers = Numbers::new(0x9E37_79B9_7F4A_7C15);
     for _ in 0..6 {
         let text = random_text(alloc, &mut numbers, 3_000)?;
-        let rope = Rope::from_str(alloc, text.as_str())?;
-        let mut other = typed(alloc, text.as_str())?;
-        compare_with_changed(&rt, &mut other, (&rope, text.as_str()), &mut numbers, alloc)?;
+        compare_typed(&rt, alloc, &mut numbers, text.as_str())?;
     }
     Ok(())
 }

@@ -22,82 +22,154 @@ struct Sample {
 impl Sample {
     /// So many letters `a`, and then the text that the number names.
     fn new(alloc: Global, padding: usize, len: usize, number: usize) -> Result<Sample, Fail> {
-        let mut text = String::new(alloc);
-        let mut chars = Vec::new(alloc);
+        let mut sample = Sample {
+            text: String::new(alloc),
+            chars: Vec::new(alloc),
+        };
+        sample.add_padding(padding)?;
+        sample.add_text(len, number)?;
+        Ok(sample)
+    }
+
+    fn add(&mut self, c: char) -> Result<(), Fail> {
+        self.text.push(c)?;
+        self.chars.push(c)?;
+        Ok(())
+    }
+
+    fn add_padding(&mut self, padding: usize) -> Result<(), Fail> {
         for _ in 0..padding {
-            text.push('a')?;
-            chars.push('a')?;
+            self.add('a')?;
         }
+        Ok(())
+    }
+
+    fn add_text(&mut self, len: usize, number: usize) -> Result<(), Fail> {
         let mut rest = number;
         for _ in 0..len {
-            let c = LETTERS[rest % 9];
-            text.push(c)?;
-            chars.push(c)?;
+            self.add(LETTERS[rest % 9])?;
             rest /= 9;
         }
-        Ok(Sample { text, chars })
+        Ok(())
     }
+}
+
+/// Whether the whole text has its characters, code units and surrogate pairs.
+fn has_counts(text: &str, chars: &[char]) -> bool {
+    let answers = [
+        str_utils::count_chars(text),
+        str_utils::count_utf16(text),
+        str_utils::count_surrogates(text),
+    ];
+    let expected = [
+        chars.len(),
+        plain_text::char_to_utf16(chars, chars.len()),
+        plain_text::surrogates_before(chars, chars.len()),
+    ];
+    answers == expected
+}
+
+/// Whether a byte and a code unit belong to their characters.
+fn belong(text: &str, chars: &[char], byte: usize, unit: usize) -> bool {
+    let place = plain_text::byte_to_char(chars, byte);
+    let answers = [
+        str_utils::byte_to_char_idx(text, byte),
+        str_utils::byte_to_surrogates(text, byte),
+        str_utils::utf16_to_char_idx(text, unit),
+    ];
+    let expected = [
+        place,
+        plain_text::surrogates_before(chars, place),
+        plain_text::utf16_to_char(chars, unit),
+    ];
+    answers == expected
+}
+
+/// Whether a character starts at its byte and its code unit, and these and the next ones belong to their characters.
+fn is_place(text: &str, chars: &[char], i: usize) -> bool {
+    let byte = plain_text::char_to_byte(chars, i);
+    let unit = plain_text::char_to_utf16(chars, i);
+    let answers = [
+        str_utils::char_to_byte_idx(text, i),
+        str_utils::char_to_utf16_idx(text, i),
+    ];
+    answers == [byte, unit]
+        && belong(text, chars, byte, unit)
+        && belong(text, chars, byte.saturating_add(1), unit.saturating_add(1))
 }
 
 /// Compares what does not depend on the set of line breaks, from the character `from` on.
 fn compare_places(rt: &impl Abort, sample: &Sample, from: usize) {
     let text = sample.text.as_str();
     let chars = sample.chars.as_slice();
-    assert!(rt; str_utils::count_chars(text) == chars.len());
-    assert!(rt; str_utils::count_utf16(text) == plain_text::char_to_utf16(chars, chars.len()));
-    let pairs = plain_text::surrogates_before(chars, chars.len());
-    assert!(rt; str_utils::count_surrogates(text) == pairs);
+    assert!(rt; has_counts(text, chars));
     for i in from..=chars.len() {
-        let byte = plain_text::char_to_byte(chars, i);
-        let unit = plain_text::char_to_utf16(chars, i);
-        assert!(rt; str_utils::char_to_byte_idx(text, i) == byte);
-        assert!(rt; str_utils::char_to_utf16_idx(text, i) == unit);
-        for more in 0..2 {
-            let byte = byte.saturating_add(more);
-            let unit = unit.saturating_add(more);
-            let place = plain_text::byte_to_char(chars, byte);
-            let pairs = plain_text::surrogates_before(chars, place);
-            assert!(rt; str_utils::byte_to_char_idx(text, byte) == place);
-            assert!(rt; str_utils::byte_to_surrogates(text, byte) == pairs);
-            assert!(rt;
-                str_utils::utf16_to_char_idx(text, unit) == plain_text::utf16_to_char(chars, unit)
-            );
-        }
+        assert!(rt; is_place(text, chars, i));
     }
+}
+
+/// Whether a character and its byte lie on their line.
+fn lies_on_line(text: &str, chars: &[char], i: usize, breaks: LineBreaks) -> bool {
+    let byte = plain_text::char_to_byte(chars, i);
+    let line = plain_text::char_to_line(chars, i, breaks);
+    let answers = [
+        str_utils::char_to_line_with(text, i, breaks),
+        str_utils::byte_to_line_with(text, byte, breaks),
+    ];
+    answers == [line, line]
+}
+
+/// Whether a line starts at its character and its byte.
+fn starts_there(text: &str, chars: &[char], line: usize, breaks: LineBreaks) -> bool {
+    let start = plain_text::line_to_char(chars, line, breaks);
+    let answers = [
+        str_utils::line_to_char_with(text, line, breaks),
+        str_utils::line_to_byte_with(text, line, breaks),
+    ];
+    answers == [start, plain_text::char_to_byte(chars, start)]
 }
 
 /// Compares lines by a set of line breaks, from the character `from` on.
 fn compare_lines(rt: &impl Abort, sample: &Sample, from: usize, breaks: LineBreaks) {
     let text = sample.text.as_str();
     let chars = sample.chars.as_slice();
+    for i in from..=chars.len() {
+        assert!(rt; lies_on_line(text, chars, i, breaks));
+    }
+    compare_starts(rt, text, chars, breaks);
+}
+
+/// Compares the starts of all lines, and of two past the last.
+fn compare_starts(rt: &impl Abort, text: &str, chars: &[char], breaks: LineBreaks) {
     let break_count = plain_text::char_to_line(chars, chars.len(), breaks);
     assert!(rt; str_utils::count_breaks(text, breaks) == break_count);
-    for i in from..=chars.len() {
-        let byte = plain_text::char_to_byte(chars, i);
-        let line = plain_text::char_to_line(chars, i, breaks);
-        assert!(rt; str_utils::char_to_line_with(text, i, breaks) == line);
-        assert!(rt; str_utils::byte_to_line_with(text, byte, breaks) == line);
-    }
     for line in 0..=break_count.saturating_add(2) {
-        let start = plain_text::line_to_char(chars, line, breaks);
-        assert!(rt; str_utils::line_to_char_with(text, line, breaks) == start);
-        assert!(rt;
-            str_utils::line_to_byte_with(text, line, breaks)
-                == plain_text::char_to_byte(chars, start)
-        );
+        assert!(rt; starts_there(text, chars, line, breaks));
     }
+}
+
+/// Compares one text, by each set of line breaks.
+fn compare_sample(
+    rt: &impl Abort,
+    alloc: Global,
+    padding: usize,
+    len: usize,
+    number: usize,
+) -> Result<(), Fail> {
+    let sample = Sample::new(alloc, padding, len, number)?;
+    let from = padding.saturating_sub(1);
+    compare_places(rt, &sample, from);
+    compare_lines(rt, &sample, from, LineBreaks::Lf);
+    compare_lines(rt, &sample, from, LineBreaks::CrLf);
+    compare_lines(rt, &sample, from, LineBreaks::Unicode);
+    Ok(())
 }
 
 /// Every text of up to five of the nine characters, behind so many letters `a`.
 fn compare_all(rt: &impl Abort, alloc: Global, padding: usize) -> Result<(), Fail> {
     for (len, count) in TEXTS.iter().enumerate() {
         for number in 0..*count {
-            let sample = Sample::new(alloc, padding, len, number)?;
-            let from = padding.saturating_sub(1);
-            compare_places(rt, &sample, from);
-            compare_lines(rt, &sample, from, LineBreaks::Lf);
-            compare_lines(rt, &sample, from, LineBreaks::CrLf);
-            compare_lines(rt, &sample, from, LineBreaks::Unicode);
+            compare_sample(rt, alloc, padding, len, number)?;
         }
     }
     Ok(())

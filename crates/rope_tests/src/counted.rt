@@ -2,6 +2,8 @@
 use rope_plain::compare::lens;
 use rope_plain::texts::repeated;
 use ropey::{Rope, Steps};
+use std::alloc::Global;
+use std::process::Abort;
 use std::test::Fail;
 
 /// A look-up that counts its steps.
@@ -83,79 +85,116 @@ impl LookUp {
     }
 }
 
-#[test]
-fn a_byte_in_two_levels(rt: HostRuntime) -> Result<(), Fail> {
-    let rope = Rope::from_str(rt.alloc(), repeated(rt.alloc(), "a", 20_000)?.as_str())?;
-    assert_eq!(rt;
-        [
-            rope.len_bytes(),
-            rope.chunks().count(),
-            rope.depth(),
-            rope.capacity()
-        ],
-        [20_000, 21, 1, 20_664]
-    );
+/// A rope of so many times a text.
+fn rope_of(alloc: Global, text: &str, count: usize) -> Result<Rope, Fail> {
+    let text = repeated(alloc, text, count)?;
+    Ok(Rope::from_str(alloc, text.as_str())?)
+}
+
+fn has_two_levels(rt: &impl Abort, rope: &Rope) {
+    let counts = [
+        rope.len_bytes(),
+        rope.chunks().count(),
+        rope.depth(),
+        rope.capacity(),
+    ];
+    assert!(rt; counts == [20_000, 21, 1, 20_664]);
+}
+
+/// What looking a byte up compares, which goes through two nodes.
+fn compares_for_byte(rt: &impl Abort, rope: &Rope, place: usize) -> u64 {
+    let mut steps = Steps::new();
+    let answer = LookUp::Byte.answer(rope, place, &mut steps);
+    assert!(rt; answer == Some(97) && steps.nodes == 2);
+    steps.compares
+}
+
+fn look_bytes_up(rt: &impl Abort, rope: &Rope) {
     let mut most = 0;
     for place in 0..20_000 {
-        let mut steps = Steps::new();
-        let answer = LookUp::Byte.answer(&rope, place, &mut steps);
-        assert!(rt; answer == Some(97) && steps.nodes == 2);
-        most = most.max(steps.compares);
+        most = most.max(compares_for_byte(rt, rope, place));
     }
-    assert_eq!(rt; most, 5);
+    assert!(rt; most == 5);
+}
+
+#[test]
+fn a_byte_in_two_levels(rt: HostRuntime) -> Result<(), Fail> {
+    let rope = rope_of(rt.alloc(), "a", 20_000)?;
+    has_two_levels(&rt, &rope);
+    look_bytes_up(&rt, &rope);
     Ok(())
+}
+
+/// Each look-up, and before which place it has an answer.
+const ENDS: [(LookUp, usize); 10] = [
+    (LookUp::Byte, 20_000),
+    (LookUp::ByteToChar, 20_000),
+    (LookUp::ByteToLine, 20_000),
+    (LookUp::Char, 20_000),
+    (LookUp::CharToByte, 20_000),
+    (LookUp::CharToLine, 20_000),
+    (LookUp::CharToUtf16, 20_000),
+    (LookUp::Utf16ToChar, 20_000),
+    (LookUp::LineToByte, 10_000),
+    (LookUp::LineToChar, 10_000),
+];
+
+fn look_all_up(rt: &impl Abort, rope: &Rope) {
+    assert!(rt; lens(rope) == [20_000, 20_000, 10_001, 20_000]);
+    assert!(rt; [rope.chunks().count(), rope.depth()] == [21, 1]);
+    for (look_up, end) in &ENDS {
+        assert!(rt; look_up.most_compares(rope, *end) == Some(5));
+    }
 }
 
 #[test]
 fn look_ups_in_two_levels(rt: HostRuntime) -> Result<(), Fail> {
-    let rope = Rope::from_str(rt.alloc(), repeated(rt.alloc(), "a\n", 10_000)?.as_str())?;
-    assert_eq!(rt; lens(&rope), [20_000, 20_000, 10_001, 20_000]);
-    assert_eq!(rt; [rope.chunks().count(), rope.depth()], [21, 1]);
-    for (look_up, end) in [
-        (LookUp::Byte, 20_000),
-        (LookUp::ByteToChar, 20_000),
-        (LookUp::ByteToLine, 20_000),
-        (LookUp::Char, 20_000),
-        (LookUp::CharToByte, 20_000),
-        (LookUp::CharToLine, 20_000),
-        (LookUp::CharToUtf16, 20_000),
-        (LookUp::Utf16ToChar, 20_000),
-        (LookUp::LineToByte, 10_000),
-        (LookUp::LineToChar, 10_000),
-    ] {
-        assert!(rt; look_up.most_compares(&rope, end) == Some(5));
-    }
+    let rope = rope_of(rt.alloc(), "a\n", 10_000)?;
+    look_all_up(&rt, &rope);
     Ok(())
+}
+
+/// A look-up in four levels answers this, through four nodes and by few comparisons.
+fn answers_in_four(rt: &impl Abort, rope: &Rope, look_up: LookUp, place: usize, expected: usize) {
+    let mut steps = Steps::new();
+    let answer = look_up.answer(rope, place, &mut steps);
+    assert!(rt; answer == Some(expected) && steps.nodes == 4 && steps.compares <= 15);
+}
+
+fn has_four_levels(rt: &impl Abort, rope: &Rope) {
+    assert!(rt; (1_017..=1_020).contains(&rope.chunks().count()) && rope.depth() == 3);
 }
 
 #[test]
 fn a_char_in_four_levels(rt: HostRuntime) -> Result<(), Fail> {
-    let rope = Rope::from_str(rt.alloc(), repeated(rt.alloc(), "a", 1_000_000)?.as_str())?;
-    assert!(rt; (1_017..=1_020).contains(&rope.chunks().count()));
-    assert_eq!(rt; rope.depth(), 3);
-    let mut steps = Steps::new();
-    let answer = LookUp::CharToByte.answer(&rope, 500_000, &mut steps);
-    assert!(rt; answer == Some(500_000) && steps.nodes == 4 && steps.compares <= 15);
+    let rope = rope_of(rt.alloc(), "a", 1_000_000)?;
+    has_four_levels(&rt, &rope);
+    answers_in_four(&rt, &rope, LookUp::CharToByte, 500_000, 500_000);
     Ok(())
+}
+
+/// Each conversion, a place in the middle, and what it answers there.
+const IN_THE_MIDDLE: [(LookUp, usize, usize); 8] = [
+    (LookUp::ByteToChar, 500_000, 500_000),
+    (LookUp::ByteToLine, 500_000, 250_000),
+    (LookUp::CharToByte, 500_000, 500_000),
+    (LookUp::CharToLine, 500_000, 250_000),
+    (LookUp::CharToUtf16, 500_000, 500_000),
+    (LookUp::Utf16ToChar, 500_000, 500_000),
+    (LookUp::LineToByte, 250_000, 500_000),
+    (LookUp::LineToChar, 250_000, 500_000),
+];
+
+fn convert_in_the_middle(rt: &impl Abort, rope: &Rope) {
+    assert!(rt; rope.depth() == 3);
+    for (look_up, place, expected) in &IN_THE_MIDDLE {
+        answers_in_four(rt, rope, *look_up, *place, *expected);
+    }
 }
 
 #[test]
 fn conversions_in_four_levels(rt: HostRuntime) -> Result<(), Fail> {
-    let rope = Rope::from_str(rt.alloc(), repeated(rt.alloc(), "a\n", 500_000)?.as_str())?;
-    assert_eq!(rt; rope.depth(), 3);
-    for (look_up, place, expected) in [
-        (LookUp::ByteToChar, 500_000, 500_000),
-        (LookUp::ByteToLine, 500_000, 250_000),
-        (LookUp::CharToByte, 500_000, 500_000),
-        (LookUp::CharToLine, 500_000, 250_000),
-        (LookUp::CharToUtf16, 500_000, 500_000),
-        (LookUp::Utf16ToChar, 500_000, 500_000),
-        (LookUp::LineToByte, 250_000, 500_000),
-        (LookUp::LineToChar, 250_000, 500_000),
-    ] {
-        let mut steps = Steps::new();
-        let answer = look_up.answer(&rope, place, &mut steps);
-        assert!(rt; answer == Some(expected) && steps.nodes == 4 && steps.compares <= 15);
-    }
+    let rope = rope_of(rt.alloc(), "a\n", 500_000)?;
+    convert_in_the_middle(&rt, &rope);
     Ok(())
 }
