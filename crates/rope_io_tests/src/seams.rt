@@ -1,5 +1,6 @@
 //! Texts whose long characters and breaks lie where a leaf is cut, read and written by one byte at a time.
 use crate::devices::{NEVER, Narrow, Parts, SINGLY};
+use crate::stumbles::read_kind;
 use rope_plain::compare::{compare_unicode, has_few_chunks};
 use rope_plain::texts::{chars_of, repeated};
 use ropey::Rope;
@@ -11,40 +12,53 @@ use std::test::Fail;
 /// Line breaks of two and three bytes, and characters of two to four.
 const LETTERS: [&str; 7] = ["\r\n", "\u{85}", "\u{2028}", "\u{2029}", "é", "こ", "🐸"];
 
-/// So many letters, the letter twice, and letters that fill a leaf.
-fn around(alloc: Global, before: usize, letter: &str) -> Result<String, Fail> {
-    let mut text = repeated(alloc, "a", before)?;
+/// The letter twice, and letters that fill a leaf.
+fn add_letters(alloc: Global, text: &mut String, letter: &str) -> Result<(), Fail> {
     text.push_str(letter)?;
     text.push_str(letter)?;
     text.push_str(repeated(alloc, "b", 984)?.as_str())?;
+    Ok(())
+}
+
+/// So many letters before these.
+fn around(alloc: Global, before: usize, letter: &str) -> Result<String, Fail> {
+    let mut text = repeated(alloc, "a", before)?;
+    add_letters(alloc, &mut text, letter)?;
     Ok(text)
+}
+
+fn compare_read(alloc: Global, rope: &Rope, text: &str) -> Result<(), Fail> {
+    let plain = chars_of(alloc, text)?;
+    compare_unicode(rope, &plain)?;
+    has_few_chunks(rope)?;
+    Ok(())
 }
 
 /// The whole text is read, by one byte a read.
 fn read_whole(alloc: Global, text: &str) -> Result<Rope, Fail> {
     match Rope::from_reader(alloc, Parts::new(text.as_bytes(), SINGLY, NEVER)) {
         Ok(rope) => {
-            compare_unicode(&rope, &chars_of(alloc, text)?)?;
-            has_few_chunks(&rope)?;
+            compare_read(alloc, &rope, text)?;
             Ok(rope)
         }
         Err(_) => Err(Fail::from("a text was not read")),
     }
 }
 
-/// Whether a reading of the first bytes ends as it has to: at their end, and at a failure there.
-fn ends_well(alloc: Global, text: &str, len: usize) -> Result<bool, Fail> {
+/// Whether a reading of the first bytes ends as it has to at their end.
+fn ends_well(alloc: Global, text: &str, len: usize) -> bool {
     let (front, _) = text.as_bytes().split_at(len.min(text.len()));
-    let failed = Rope::from_reader(alloc, Parts::new(text.as_bytes(), SINGLY, len));
-    let is_failed = match failed {
-        Err(ReadError::Read(error)) => error.kind() == ErrorKind::Interrupted,
-        _ => false,
-    };
     match Rope::from_reader(alloc, Parts::new(front, SINGLY, NEVER)) {
-        Ok(rope) => Ok(is_failed && text.is_char_boundary(len) && rope.len_bytes() == len),
-        Err(ReadError::InvalidData) => Ok(is_failed && !text.is_char_boundary(len)),
-        Err(_) => Ok(false),
+        Ok(rope) => text.is_char_boundary(len) && rope.len_bytes() == len,
+        Err(ReadError::InvalidData) => !text.is_char_boundary(len),
+        Err(_) => false,
     }
+}
+
+/// Whether a reading that fails behind the first bytes answers the failure.
+fn is_failed(alloc: Global, text: &str, len: usize) -> bool {
+    let failed = Rope::from_reader(alloc, Parts::new(text.as_bytes(), SINGLY, len));
+    read_kind(failed) == Some(ErrorKind::Interrupted)
 }
 
 /// Whether a writer that keeps one byte a write has the first bytes, and the writing fails only where it has no room.
@@ -55,18 +69,41 @@ fn is_written(rt: &HostRuntime, rope: &Rope, text: &str, room: usize) -> bool {
     written.is_ok() == (room >= text.len()) && writer.kept.as_slice() == front
 }
 
+/// Whether reading and writing stop well at each of the bytes from one on.
+fn stops_well(rt: &HostRuntime, rope: &Rope, text: &str, before: usize) -> bool {
+    for more in 0..10usize {
+        let len = before.saturating_add(more);
+        if !ends_well(rt.alloc(), text, len)
+            || !is_failed(rt.alloc(), text, len)
+            || !is_written(rt, rope, text, len)
+        {
+            return false;
+        }
+    }
+    is_written(rt, rope, text, text.len())
+}
+
+/// Whether a text is read and written well whose letter stands behind so many.
+fn is_moved(rt: &HostRuntime, before: usize, letter: &str) -> Result<bool, Fail> {
+    let text = around(rt.alloc(), before, letter)?;
+    let rope = read_whole(rt.alloc(), text.as_str())?;
+    Ok(stops_well(rt, &rope, text.as_str(), before))
+}
+
+/// Whether it is wherever the letter stands near the end of a leaf.
+fn is_moved_near_a_seam(rt: &HostRuntime, letter: &str) -> Result<bool, Fail> {
+    for before in 976..=986usize {
+        if !is_moved(rt, before, letter)? {
+            return Ok(false);
+        }
+    }
+    Ok(true)
+}
+
 #[test]
 fn one_byte_at_a_time(rt: HostRuntime) -> Result<(), Fail> {
     for letter in LETTERS {
-        for before in 976..=986usize {
-            let text = around(rt.alloc(), before, letter)?;
-            let rope = read_whole(rt.alloc(), text.as_str())?;
-            for len in before..=before + 9 {
-                assert!(rt; ends_well(rt.alloc(), text.as_str(), len)?);
-                assert!(rt; is_written(&rt, &rope, text.as_str(), len));
-            }
-            assert!(rt; is_written(&rt, &rope, text.as_str(), text.as_str().len()));
-        }
+        assert!(rt; is_moved_near_a_seam(&rt, letter)?);
     }
     Ok(())
 }

@@ -6,6 +6,7 @@ use ropey::io::{Mark, ReadError, Watched};
 use std::alloc::Global;
 use std::cell::Cell;
 use std::io::{self, ErrorKind};
+use std::process::Abort;
 use std::test::Fail;
 
 /// Failures after which a device may go on.
@@ -20,7 +21,7 @@ const KINDS: [ErrorKind; 4] = [
 const TEXT: &str = "aé\r\nこ🐸";
 
 /// The kind of the error of a reading, where the reader's is answered.
-fn read_kind(answer: Result<Rope, ReadError>) -> Option<ErrorKind> {
+pub fn read_kind(answer: Result<Rope, ReadError>) -> Option<ErrorKind> {
     match answer {
         Err(ReadError::Read(error)) => Some(error.kind()),
         _ => None,
@@ -28,79 +29,123 @@ fn read_kind(answer: Result<Rope, ReadError>) -> Option<ErrorKind> {
 }
 
 /// The kind of the error of a writing, if it was refused.
-fn write_kind(written: io::Result<()>) -> Option<ErrorKind> {
+pub fn write_kind(written: io::Result<()>) -> Option<ErrorKind> {
     match written {
         Ok(()) => None,
         Err(error) => Some(error.kind()),
     }
 }
 
-#[test]
-fn a_read_fails_once(rt: HostRuntime) -> Result<(), Fail> {
-    let bytes = TEXT.as_bytes();
-    for kind in KINDS {
-        for before in 0..13usize {
-            let calls = Cell::new(0usize);
-            let reader = Stumbling::new(bytes, before, Stumble::Fails(kind), &calls);
-            assert!(rt; read_kind(Rope::from_reader(rt.alloc(), reader)) == Some(kind));
-            assert_eq!(rt; calls.get(), before.saturating_add(1));
-            let calls = Cell::new(0usize);
-            let reader = Stumbling::new(bytes, before, Stumble::Fails(kind), &calls);
-            let mut source = Watched::new(reader);
-            let answer = Rope::from_watched(rt.alloc(), &mut source);
-            assert!(rt; read_kind(answer) == Some(kind) && source.failed());
-            assert_eq!(rt; calls.get(), before.saturating_add(1));
-        }
-    }
-    Ok(())
+/// Whether a reading answers the one failure after so many bytes, and asks no more.
+fn is_failed(alloc: Global, before: usize, kind: ErrorKind) -> bool {
+    let calls = Cell::new(0usize);
+    let reader = Stumbling::new(TEXT.as_bytes(), before, Stumble::Fails(kind), &calls);
+    let answer = read_kind(Rope::from_reader(alloc, reader));
+    answer == Some(kind) && calls.get() == before.saturating_add(1)
 }
 
-/// The text that was read up to an end after so many bytes, and whether there is one.
-fn is_front(alloc: Global, answer: Result<Rope, ReadError>, before: usize) -> Result<bool, Fail> {
-    let starts = [0usize, 1, 3, 4, 5, 8, 12];
+/// Whether a reading that marks its device does the same, and sets the mark.
+fn is_marked(alloc: Global, before: usize, kind: ErrorKind) -> bool {
+    let calls = Cell::new(0usize);
+    let reader = Stumbling::new(TEXT.as_bytes(), before, Stumble::Fails(kind), &calls);
+    let mut source = Watched::new(reader);
+    let answer = read_kind(Rope::from_watched(alloc, &mut source));
+    answer == Some(kind) && source.failed() && calls.get() == before.saturating_add(1)
+}
+
+fn fail_at_each_byte(rt: &impl Abort, alloc: Global, kind: ErrorKind) {
+    for before in 0..13usize {
+        assert!(rt; is_failed(alloc, before, kind));
+        assert!(rt; is_marked(alloc, before, kind));
+    }
+}
+
+#[test]
+fn a_read_fails_once(rt: HostRuntime) {
+    for kind in KINDS {
+        fail_at_each_byte(&rt, rt.alloc(), kind);
+    }
+}
+
+/// Whether a rope has the first bytes of the text.
+fn is_front(alloc: Global, rope: &Rope, len: usize) -> Result<bool, Fail> {
+    let mut written = Vec::new(alloc);
+    rope.write_to(&mut written)?;
+    let (front, _) = TEXT.as_bytes().split_at(len.min(TEXT.len()));
+    Ok(written.as_slice() == front)
+}
+
+/// Whether a reading answers the text up to an end after so many bytes, or that it is none.
+fn ends_well(alloc: Global, answer: Result<Rope, ReadError>, len: usize) -> Result<bool, Fail> {
+    let is_start = [0usize, 1, 3, 4, 5, 8, 12].contains(&len);
     match answer {
-        Ok(rope) => {
-            let mut written = Vec::new(alloc);
-            rope.write_to(&mut written)?;
-            let (front, _) = TEXT.as_bytes().split_at(before.min(TEXT.len()));
-            Ok(starts.contains(&before) && written.as_slice() == front)
-        }
-        Err(ReadError::InvalidData) => Ok(!starts.contains(&before)),
+        Ok(rope) => Ok(is_start && is_front(alloc, &rope, len)?),
+        Err(ReadError::InvalidData) => Ok(!is_start),
         Err(_) => Ok(false),
     }
+}
+
+/// Whether a reading ends well at the one end that is given after so many bytes, and asks no more.
+fn is_ended(alloc: Global, before: usize) -> Result<bool, Fail> {
+    let calls = Cell::new(0usize);
+    let reader = Stumbling::new(TEXT.as_bytes(), before, Stumble::MovesNone, &calls);
+    let ends = ends_well(alloc, Rope::from_reader(alloc, reader), before)?;
+    Ok(ends && calls.get() == before.saturating_add(1))
 }
 
 #[test]
 fn an_end_is_given_once(rt: HostRuntime) -> Result<(), Fail> {
     for before in 0..13usize {
-        let calls = Cell::new(0usize);
-        let reader = Stumbling::new(TEXT.as_bytes(), before, Stumble::MovesNone, &calls);
-        let answer = Rope::from_reader(rt.alloc(), reader);
-        assert!(rt; is_front(rt.alloc(), answer, before)?);
-        assert_eq!(rt; calls.get(), before.saturating_add(1));
+        assert!(rt; is_ended(rt.alloc(), before)?);
     }
     Ok(())
+}
+
+/// What a writing is refused with at such a stumble.
+fn kind_of(stumble: Stumble) -> ErrorKind {
+    match stumble {
+        Stumble::Fails(kind) => kind,
+        Stumble::MovesNone => ErrorKind::WriteZero,
+    }
+}
+
+/// Whether a writing stops at the one stumble after so many bytes, with these kept, and asks no more.
+fn is_halted(alloc: Global, rope: &Rope, room: usize, stumble: Stumble) -> bool {
+    let calls = Cell::new(0usize);
+    let mut writer = Halting::new(alloc, 1, room, stumble, &calls);
+    let answer = write_kind(rope.write_to(&mut writer));
+    let (front, _) = TEXT.as_bytes().split_at(room.min(TEXT.len()));
+    answer == Some(kind_of(stumble))
+        && calls.get() == room.saturating_add(1)
+        && writer.kept.as_slice() == front
+}
+
+/// Whether a writing that marks its device does the same, and sets the mark.
+fn is_halted_and_marked(alloc: Global, rope: &Rope, room: usize, stumble: Stumble) -> bool {
+    let calls = Cell::new(0usize);
+    let mut sink = Watched::new(Halting::new(alloc, 1, room, stumble, &calls));
+    let answer = write_kind(rope.write_watched(&mut sink));
+    let is_marked = sink.failed();
+    let writer = sink.into_inner();
+    let (front, _) = TEXT.as_bytes().split_at(room.min(TEXT.len()));
+    is_marked
+        && answer == Some(kind_of(stumble))
+        && calls.get() == room.saturating_add(1)
+        && writer.kept.as_slice() == front
+}
+
+fn halt_at_each_byte(rt: &impl Abort, alloc: Global, rope: &Rope, stumble: Stumble) {
+    for room in 0..12usize {
+        assert!(rt; is_halted(alloc, rope, room, stumble));
+        assert!(rt; is_halted_and_marked(alloc, rope, room, stumble));
+    }
 }
 
 #[test]
 fn a_write_fails_once(rt: HostRuntime) -> Result<(), Fail> {
     let rope = Rope::from_str(rt.alloc(), TEXT)?;
-    let bytes = TEXT.as_bytes();
     for kind in KINDS {
-        for room in 0..12usize {
-            let calls = Cell::new(0usize);
-            let mut writer = Halting::new(rt.alloc(), 1, room, Stumble::Fails(kind), &calls);
-            assert!(rt; write_kind(rope.write_to(&mut writer)) == Some(kind));
-            assert_eq!(rt; calls.get(), room.saturating_add(1));
-            assert!(rt; writer.kept.as_slice() == &bytes[..room]);
-            let calls = Cell::new(0usize);
-            let writer = Halting::new(rt.alloc(), 1, room, Stumble::Fails(kind), &calls);
-            let mut sink = Watched::new(writer);
-            assert!(rt; write_kind(rope.write_watched(&mut sink)) == Some(kind));
-            assert!(rt; sink.failed());
-            assert_eq!(rt; calls.get(), room.saturating_add(1));
-            assert!(rt; sink.into_inner().kept.as_slice() == &bytes[..room]);
-        }
+        halt_at_each_byte(&rt, rt.alloc(), &rope, Stumble::Fails(kind));
     }
     Ok(())
 }
@@ -108,41 +153,32 @@ fn a_write_fails_once(rt: HostRuntime) -> Result<(), Fail> {
 #[test]
 fn a_write_takes_none_once(rt: HostRuntime) -> Result<(), Fail> {
     let rope = Rope::from_str(rt.alloc(), TEXT)?;
-    let bytes = TEXT.as_bytes();
-    for room in 0..12usize {
-        let calls = Cell::new(0usize);
-        let mut writer = Halting::new(rt.alloc(), 1, room, Stumble::MovesNone, &calls);
-        let kind = write_kind(rope.write_to(&mut writer));
-        assert!(rt; kind == Some(ErrorKind::WriteZero));
-        assert_eq!(rt; calls.get(), room.saturating_add(1));
-        assert!(rt; writer.kept.as_slice() == &bytes[..room]);
-        let calls = Cell::new(0usize);
-        let writer = Halting::new(rt.alloc(), 1, room, Stumble::MovesNone, &calls);
-        let mut sink = Watched::new(writer);
-        let kind = write_kind(rope.write_watched(&mut sink));
-        assert!(rt; kind == Some(ErrorKind::WriteZero) && sink.failed());
-        assert_eq!(rt; calls.get(), room.saturating_add(1));
-        assert!(rt; sink.into_inner().kept.as_slice() == &bytes[..room]);
-    }
+    halt_at_each_byte(&rt, rt.alloc(), &rope, Stumble::MovesNone);
     Ok(())
+}
+
+/// Whether a writing of whole chunks stops at the one stumble after so many bytes, with these kept.
+fn is_halted_within(alloc: Global, rope: &Rope, text: &str, room: usize, stumble: Stumble) -> bool {
+    let calls = Cell::new(0usize);
+    let mut writer = Halting::new(alloc, usize::MAX, room, stumble, &calls);
+    let answer = write_kind(rope.write_to(&mut writer));
+    let (front, _) = text.as_bytes().split_at(room.min(text.len()));
+    answer == Some(kind_of(stumble)) && writer.kept.as_slice() == front
+}
+
+fn halt_within(rt: &impl Abort, alloc: Global, rope: &Rope, text: &str) {
+    for room in [0usize, 1, 977, 984, 985, 1962, 2999] {
+        let fails = Stumble::Fails(ErrorKind::Interrupted);
+        assert!(rt; is_halted_within(alloc, rope, text, room, fails));
+        assert!(rt; is_halted_within(alloc, rope, text, room, Stumble::MovesNone));
+    }
 }
 
 #[test]
 fn nothing_follows_in_a_later_chunk(rt: HostRuntime) -> Result<(), Fail> {
     let text = repeated(rt.alloc(), "abc\ndefgh\r", 300)?;
     let rope = Rope::from_str(rt.alloc(), text.as_str())?;
-    assert_eq!(rt; text.as_str().len(), 3000);
-    let interrupted = Stumble::Fails(ErrorKind::Interrupted);
-    for (stumble, kind) in [
-        (interrupted, ErrorKind::Interrupted),
-        (Stumble::MovesNone, ErrorKind::WriteZero),
-    ] {
-        for room in [0usize, 1, 977, 984, 985, 1962, 2999] {
-            let calls = Cell::new(0usize);
-            let mut writer = Halting::new(rt.alloc(), usize::MAX, room, stumble, &calls);
-            assert!(rt; write_kind(rope.write_to(&mut writer)) == Some(kind));
-            assert!(rt; writer.kept.as_slice() == &text.as_str().as_bytes()[..room]);
-        }
-    }
+    assert!(rt; text.as_str().len() == 3000);
+    halt_within(&rt, rt.alloc(), &rope, text.as_str());
     Ok(())
 }

@@ -1,86 +1,105 @@
 //! Writers that take few bytes, fail, or take none.
 use crate::devices::Narrow;
+use crate::stumbles::write_kind;
 use rope_plain::texts::repeated;
 use ropey::Rope;
 use ropey::io::{Mark, Watched};
-use std::io::{self, ErrorKind};
+use std::alloc::Global;
+use std::io::ErrorKind;
+use std::process::Abort;
 use std::test::Fail;
 
-/// The kind of the error of a writing, if it was refused.
-fn kind(written: io::Result<()>) -> Option<ErrorKind> {
-    match written {
-        Ok(()) => None,
-        Err(error) => Some(error.kind()),
-    }
+/// Whether a writing is refused with this kind, or with none, and leaves these bytes.
+fn is_written(rope: &Rope, device: Narrow, kind: Option<ErrorKind>, bytes: &[u8]) -> bool {
+    let mut writer = device;
+    write_kind(rope.write_to(&mut writer)) == kind && writer.kept.as_slice() == bytes
+}
+
+/// Whether a writing that marks its device does the same, and sets the mark only where it is refused.
+fn is_written_and_marked(
+    rope: &Rope,
+    device: Narrow,
+    kind: Option<ErrorKind>,
+    bytes: &[u8],
+) -> bool {
+    let mut sink = Watched::new(device);
+    let is_same = write_kind(rope.write_watched(&mut sink)) == kind;
+    let is_marked = sink.failed();
+    let writer = sink.into_inner();
+    is_same && is_marked == kind.is_some() && writer.kept.as_slice() == bytes
 }
 
 #[test]
 fn a_write_fails(rt: HostRuntime) -> Result<(), Fail> {
     let rope = Rope::from_str(rt.alloc(), "Hello!")?;
-    let mut sink = Watched::new(Narrow::new(&rt, 3, 3));
-    assert!(rt; kind(rope.write_watched(&mut sink)) == Some(ErrorKind::Interrupted));
-    assert!(rt; sink.failed());
-    assert_eq!(rt; sink.into_inner().kept.as_slice(), b"Hel".as_slice());
-    let mut writer = Narrow::new(&rt, 3, 3);
-    assert!(rt; kind(rope.write_to(&mut writer)) == Some(ErrorKind::Interrupted));
-    assert_eq!(rt; writer.kept.as_slice(), b"Hel".as_slice());
+    let kind = Some(ErrorKind::Interrupted);
+    assert!(rt; is_written_and_marked(&rope, Narrow::new(&rt, 3, 3), kind, b"Hel"));
+    assert!(rt; is_written(&rope, Narrow::new(&rt, 3, 3), kind, b"Hel"));
     Ok(())
 }
 
 #[test]
 fn a_write_takes_none(rt: HostRuntime) -> Result<(), Fail> {
     let rope = Rope::from_str(rt.alloc(), "Hello!")?;
-    let mut sink = Watched::new(Narrow::full(&rt));
-    assert!(rt; kind(rope.write_watched(&mut sink)) == Some(ErrorKind::WriteZero));
-    assert!(rt; sink.failed());
-    assert!(rt; sink.into_inner().kept.is_empty());
-    let mut writer = Narrow::full(&rt);
-    assert!(rt; kind(rope.write_to(&mut writer)) == Some(ErrorKind::WriteZero));
-    assert!(rt; writer.kept.is_empty());
+    let kind = Some(ErrorKind::WriteZero);
+    assert!(rt; is_written_and_marked(&rope, Narrow::full(&rt), kind, b""));
+    assert!(rt; is_written(&rope, Narrow::full(&rt), kind, b""));
+    Ok(())
+}
+
+/// The bytes of a rope, from a writing that leaves no mark.
+fn bytes_of(rt: &impl Abort, alloc: Global, rope: &Rope) -> Result<Vec<u8>, Fail> {
+    let mut sink = Watched::new(Vec::new(alloc));
+    rope.write_watched(&mut sink)?;
+    assert!(rt; !sink.failed());
+    Ok(sink.into_inner())
+}
+
+/// They are written once more behind these.
+fn write_twice(rt: &impl Abort, alloc: Global, rope: &Rope) -> Result<(), Fail> {
+    let mut bytes = bytes_of(rt, alloc, rope)?;
+    rope.write_to(&mut bytes)?;
+    assert!(rt; bytes.as_slice() == b"Hello!Hello!".as_slice());
     Ok(())
 }
 
 #[test]
 fn to_memory(rt: HostRuntime) -> Result<(), Fail> {
     let rope = Rope::from_str(rt.alloc(), "Hello!")?;
-    let mut sink = Watched::new(Vec::new(rt.alloc()));
-    rope.write_watched(&mut sink)?;
-    assert!(rt; !sink.failed());
-    let mut bytes = sink.into_inner();
-    rope.write_to(&mut bytes)?;
-    assert_eq!(rt; bytes.as_slice(), b"Hello!Hello!".as_slice());
-    Ok(())
+    write_twice(&rt, rt.alloc(), &rope)
 }
 
 #[test]
 fn the_empty_text_is_never_refused(rt: HostRuntime) -> Result<(), Fail> {
     let rope = Rope::new(rt.alloc())?;
-    let mut sink = Watched::new(Narrow::full(&rt));
-    rope.write_watched(&mut sink)?;
-    assert!(rt; !sink.failed());
+    assert!(rt; is_written_and_marked(&rope, Narrow::full(&rt), None, b""));
     Ok(())
+}
+
+/// Whether a writing to a device of so much room keeps as much, and is refused where that is short.
+fn is_stopped(rt: &HostRuntime, rope: &Rope, bytes: &[u8], room: usize) -> bool {
+    let kind = if room < 3000 {
+        Some(ErrorKind::Interrupted)
+    } else {
+        None
+    };
+    let (front, _) = bytes.split_at(room.min(bytes.len()));
+    is_written_and_marked(rope, Narrow::new(rt, 7, room), kind, front)
+}
+
+fn stop_at_each_byte(rt: &HostRuntime, rope: &Rope, bytes: &[u8]) -> bool {
+    for room in 0..3001usize {
+        if !is_stopped(rt, rope, bytes, room) {
+            return false;
+        }
+    }
+    bytes.len() == 3000
 }
 
 #[test]
 fn stopped_at_each_byte(rt: HostRuntime) -> Result<(), Fail> {
     let text = repeated(rt.alloc(), "abc\ndefgh\r", 300)?;
     let rope = Rope::from_str(rt.alloc(), text.as_str())?;
-    let bytes = text.as_str().as_bytes();
-    assert_eq!(rt; bytes.len(), 3000);
-    for room in 0..3001usize {
-        let mut sink = Watched::new(Narrow::new(&rt, 7, room));
-        let written = kind(rope.write_watched(&mut sink));
-        let is_short = room < 3000;
-        assert!(rt; sink.failed() == is_short);
-        assert!(rt;
-            written
-                == if is_short {
-                    Some(ErrorKind::Interrupted)
-                } else {
-                    None
-                }
-        );
-        assert!(rt; sink.into_inner().kept.as_slice() == &bytes[..room]);
-    }
+    assert!(rt; stop_at_each_byte(&rt, &rope, text.as_str().as_bytes()));
     Ok(())
 }
