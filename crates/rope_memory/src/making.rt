@@ -63,20 +63,21 @@ const MAKERS: [Maker; 5] = [
     Maker::OfCows,
 ];
 
+/// A text three times, each of its own.
+fn three_of(alloc: Global, text: &str) -> Result<[String; 3]> {
+    let first = String::from_str(alloc, text)?;
+    let second = String::from_str(alloc, text)?;
+    let third = String::from_str(alloc, text)?;
+    Ok([first, second, third])
+}
+
 /// A rope of the text, or of the text three times by a call that takes an iterator.
 fn make_once(alloc: Global, maker: Maker, text: &str) -> Result<Rope> {
     match maker {
         Maker::OfString => Rope::from_string(alloc, String::from_str(alloc, text)?),
         Maker::OfCow => Rope::from_cow(alloc, CowStr::Owned(String::from_str(alloc, text)?)),
         Maker::OfStrs => Rope::from_str_iter(alloc, [text, text, text]),
-        Maker::OfStrings => Rope::from_string_iter(
-            alloc,
-            [
-                String::from_str(alloc, text)?,
-                String::from_str(alloc, text)?,
-                String::from_str(alloc, text)?,
-            ],
-        ),
+        Maker::OfStrings => Rope::from_string_iter(alloc, three_of(alloc, text)?),
         Maker::OfCows => Rope::from_cow_iter(
             alloc,
             [

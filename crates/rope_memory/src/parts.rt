@@ -88,17 +88,32 @@ fn double_and_edit(rt: &impl Print, alloc: Global, rope: &mut Rope, kept: &Rope)
     Some(faults.saturating_add(double.faults))
 }
 
+/// Takes a rope apart and joins its parts beside a clone that was kept.
+fn edit_beside(rt: &impl Print, alloc: Global, rope: &mut Rope, kept: &Rope) -> Option<usize> {
+    let joined = split_and_join(rt, rope)?;
+    let edited = double_and_edit(rt, alloc, rope, kept)?;
+    Some(joined.saturating_add(edited))
+}
+
+/// Keeps a clone of a rope and edits it, and answers how many refusals or edits changed what they had to leave.
+fn edit_and_compare(rt: &impl Print, alloc: Global, rope: &mut Rope) -> Option<usize> {
+    show(rt, rope)?;
+    let before = fingerprint(rope);
+    let kept = clone(rope)?;
+    let edited = edit_beside(rt, alloc, rope, &kept.rope)?;
+    let changed = usize::from(fingerprint(&kept.rope) != before);
+    Some(kept.faults.saturating_add(edited).saturating_add(changed))
+}
+
+/// A rope of many lines.
+fn made_of_lines(alloc: Global) -> Option<Rope> {
+    let lines = repeated(alloc, "12345678\r\n", 3_000)?;
+    made(alloc, lines.as_str())
+}
+
 /// Takes a rope apart and joins its parts, prints it after each edit, and answers how many refusals or edits
 /// changed what they had to leave.
 pub fn run(rt: &impl Print, alloc: Global) -> Option<usize> {
-    let lines = repeated(alloc, "12345678\r\n", 3_000)?;
-    let mut rope = made(alloc, lines.as_str())?;
-    show(rt, &rope)?;
-    let before = fingerprint(&rope);
-    let kept = clone(&rope)?;
-    let joined = split_and_join(rt, &mut rope)?;
-    let edited = double_and_edit(rt, alloc, &mut rope, &kept.rope)?;
-    let changed = usize::from(fingerprint(&kept.rope) != before);
-    let faults = kept.faults.saturating_add(joined);
-    Some(faults.saturating_add(edited).saturating_add(changed))
+    let mut rope = made_of_lines(alloc)?;
+    edit_and_compare(rt, alloc, &mut rope)
 }

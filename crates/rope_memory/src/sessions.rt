@@ -90,24 +90,31 @@ fn moves(alloc: Global) -> Option<Vec<Move>> {
     None
 }
 
-/// Commands of which most take memory.
-fn many_commands(alloc: Global) -> Option<[Command; 14]> {
-    Some([
-        Command::Text(owned(alloc, "a\r\nbこ🐸")?),
+/// Commands of which most take memory, with the two texts and the steps that they take.
+fn commands_with(text: String, line: String, moves: Vec<Move>) -> [Command; 14] {
+    [
+        Command::Text(text),
         Command::Copy((0, Some((1, 4)))),
-        Command::Insert(1, 0, owned(alloc, "x\n")?),
+        Command::Insert(1, 0, line),
         Command::InsertChar(0, 2, 'é'),
         Command::Ask(0, None, Query::Show),
         Command::Ask(1, None, Query::Chunks),
         Command::Ask(0, Some((3, 6)), Query::Line(1)),
         Command::Ask(0, None, Query::ChunkAt(At::Char, 1)),
-        Command::Ask(1, None, Query::Walk(Unit::Lines, 0, moves(alloc)?)),
+        Command::Ask(1, None, Query::Walk(Unit::Lines, 0, moves)),
         Command::Ask(0, None, Query::Compare((1, None))),
         Command::Cut(0, 2),
         Command::Join(0, 2),
         Command::Clone(0),
         Command::Ask(3, None, Query::Lens),
-    ])
+    ]
+}
+
+/// The same, made again where memory was refused.
+fn many_commands(alloc: Global) -> Option<[Command; 14]> {
+    let text = owned(alloc, "a\r\nbこ🐸")?;
+    let line = owned(alloc, "x\n")?;
+    Some(commands_with(text, line, moves(alloc)?))
 }
 
 /// Runs the commands, and where memory was refused those that have no reply yet, on the ropes that the others left.
