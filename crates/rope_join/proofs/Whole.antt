@@ -14,7 +14,7 @@ use Rattle.rope_tree.specs.Tree.{Tree, text, joined, leaves_of, height_of, break
 use Rattle.rope_tree.specs.Siblings.{AreParts}
 use Rattle.rope_tree.proofs.TreeLaws.{height_of_is, breaks_of_is}
 use Rattle.rope_tree.proofs.NodeLaws.{children_of_first}
-use Rattle.rope_tree.proofs.ChunksFound.{no_leaves_of, lone_of_none}
+use Rattle.rope_tree.proofs.EmptyTrees.{no_leaves_of, lone_of_none}
 use Rattle.rope_join.specs.Join.{CanJoin, IsUnion, IsJoin}
 
 pub join_empty_right : (a b t : Tree) → IsTree a → IsTree b → byte_len (text b) ≡ 0 → CanJoin a b → t ≡ a → IsJoin a b t

@@ -9,7 +9,6 @@ use rope_tree::insert::leaf_of;
 use rope_tree::lookup::total_before;
 use rope_tree::node::row::Row;
 use rope_tree::node::{Node, View};
-use rope_tree::node_text::NodeText;
 use rope_tree::search::{Unit, place_of};
 use rope_tree::short_text::ShortText;
 use std::alloc::{AllocError, Global};
@@ -28,7 +27,7 @@ fn leaf_front(
     ensures made { made.new ≤ made.old + 1 }
 {
     let text = leaf.as_str();
-    let part = NodeText::from_str(&text[..leaf.char_to_byte_idx(at)]);
+    let part = &text[..leaf.char_to_byte_idx(at)];
     leaf_of(alloc, breaks, part, made)
 }
 
@@ -46,7 +45,7 @@ fn leaf_back(
     ensures made { made.new ≤ made.old + 1 }
 {
     let text = leaf.as_str();
-    let part = NodeText::from_str(&text[leaf.char_to_byte_idx(at)..]);
+    let part = &text[leaf.char_to_byte_idx(at)..];
     leaf_of(alloc, breaks, part, made)
 }
 

@@ -17,7 +17,6 @@ use rope_tree::edit::is_lf;
 use rope_tree::insert::leaf_of;
 use rope_tree::lookup::char_at;
 use rope_tree::node::Node;
-use rope_tree::node_text::NodeText;
 use rope_tree::removal::remove_at;
 use std::alloc::{AllocError, Global};
 
@@ -46,7 +45,7 @@ fn front_or_none(alloc: Global, node: &Node, at: usize, made: &mut u64) -> Resul
     ensures made { made.new ≤ made.old + 6 * node.now.height + 1 }
 {
     if at == 0 {
-        return Ok(leaf_of(alloc, node.line_breaks(), NodeText::new(), made)?);
+        return Ok(leaf_of(alloc, node.line_breaks(), "", made)?);
     }
     Ok(front(alloc, node, at, made)?)
 }
@@ -58,7 +57,7 @@ fn back_or_none(alloc: Global, node: &Node, at: usize, made: &mut u64) -> Result
     ensures made { made.new ≤ made.old + 6 * node.now.height + 1 }
 {
     if at == node.info().chars {
-        return Ok(leaf_of(alloc, node.line_breaks(), NodeText::new(), made)?);
+        return Ok(leaf_of(alloc, node.line_breaks(), "", made)?);
     }
     Ok(back(alloc, node, at, made)?)
 }
@@ -78,7 +77,7 @@ fn join_by_pair(
 {
     let _ = left.height();
     let _ = right.height();
-    let pair = leaf_of(alloc, left.line_breaks(), NodeText::from_str("\r\n"), made)?;
+    let pair = leaf_of(alloc, left.line_breaks(), "\r\n", made)?;
     let first = join(alloc, left, &pair, made)?;
     Ok(join(alloc, &first, right, made)?)
 }

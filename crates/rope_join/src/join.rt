@@ -66,7 +66,7 @@ fn merge(alloc: Global, left: &Node, right: &Node, made: &mut u64) -> Result<Nod
             if become_one(first.len(), second.len()) {
                 let info = left.info().plus(right.info());
                 let text = joined_text(&first, &second);
-                let node = make_leaf(alloc, left.line_breaks(), text, info, made)?;
+                let node = make_leaf(alloc, left.line_breaks(), text.as_str(), info, made)?;
                 return Ok(Nodes::One(node));
             }
             Ok(keep(left, right)?)

@@ -14,6 +14,7 @@ pub mod CountLaws
 pub mod TotalLaws
 pub mod CutLaws
 pub mod GrownLaws
+pub mod EmptyTrees
 pub mod FormLaws
 pub mod ListedLaws
 pub mod ChildLaws
@@ -30,7 +31,6 @@ pub mod InsertLaws
 pub mod InsertTrees
 pub mod InsertLeaves
 pub mod InsertDescents
-pub mod ChunksFound
 pub mod InsertRoots
 pub mod BuildLaws
 pub mod FrontLaws

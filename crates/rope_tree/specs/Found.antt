@@ -3,8 +3,6 @@ use Rattle.std.specs.Prelude.{◌≡◌, ℕ, ◌+◌, ◌≤◌, ◌<◌, List,
 use Rattle.std.specs.List.{concat}
 use Rattle.rope_text.specs.declared.text_info.TextInfo.{TextInfo}
 use Rattle.rope_text.specs.TextInfo.{info_of}
-use Rattle.rope_text.specs.Text.{surrogate_count}
-use Rattle.rope_text.specs.Lookup.{found_chunk, front_chunks}
 use Rattle.rope_tree.specs.declared.search.Unit.{Unit}
 use Rattle.rope_tree.specs.Search.{count_of}
 use Rattle.rope_tree.specs.Tree.{Tree}
@@ -17,11 +15,3 @@ pub record IsFound (unit : Unit) (at : ℕ) (t : Tree) (leaf : List ℕ) (before
   pub before_is : before ≡ info_of t.breaks (concat (take index t.leaves))
   pub not_past : count_of unit before ≤ at
   pub past : at < count_of unit (info_of t.breaks (concat (take (index + 1) t.leaves)))
-
--- the k-th leaf, and the counts of the text before it; with no leaf the empty text and zeros
-pub record IsChunkAt (t : Tree) (k : ℕ) (leaf : List ℕ) (before : TextInfo) : Type 0 where
-  pub text_is : leaf ≡ (found_chunk t.breaks t.leaves k).text
-  pub bytes : before.bytes ≡ (found_chunk t.breaks t.leaves k).bytes
-  pub chars : before.chars ≡ (found_chunk t.breaks t.leaves k).chars
-  pub surrogates : before.utf16_surrogates ≡ surrogate_count (front_chunks t.leaves k)
-  pub count : before.break_count ≡ (found_chunk t.breaks t.leaves k).break_count

@@ -8,7 +8,7 @@ ghost use Rattle.rope_tree.specs.Siblings.{AreSiblings};
 use crate::insert::leaf_of;
 use crate::node::Node;
 use crate::node::row::node_over;
-use crate::node_text::{NodeText, first_leaf_len};
+use crate::node_text::first_leaf_len;
 use rope_text::{FRESH_CHILDREN, LineBreaks, MAX_BYTES, MAX_CHILDREN};
 use std::alloc::{AllocError, Global};
 
@@ -30,11 +30,10 @@ fn leaf_nodes(
     let mut rest = whole;
     while rest.len() > MAX_BYTES {
         let len = first_leaf_len(rest);
-        let leaf = NodeText::from_str(&rest[..len]);
-        nodes.push(leaf_of(alloc, breaks, leaf, made)?)?;
+        nodes.push(leaf_of(alloc, breaks, &rest[..len], made)?)?;
         rest = &rest[len..];
     }
-    nodes.push(leaf_of(alloc, breaks, NodeText::from_str(rest), made)?)?;
+    nodes.push(leaf_of(alloc, breaks, rest, made)?)?;
     Ok(nodes)
 }
 
@@ -93,7 +92,7 @@ pub(crate) fn root_over(alloc: Global, nodes: Vec<Node>, made: &mut u64) -> Resu
 }
 
 /// A tree of this text, built from the bottom: leaves cut in order, then nodes of 12 to 22 children level by level.
-/// It makes two nodes at the most for each leaf, or one for the empty text. No text is read twice for its counts.
+/// It makes two nodes at the most for each leaf, and one for a text that fits in a leaf. No text is read twice for its counts.
 pub fn build(
     alloc: Global,
     whole: &str,
@@ -106,8 +105,8 @@ pub fn build(
     ensures few { IfOk result (λ node. length node.leaves ≤ (length whole.now + (MIN_CUT_BYTES - 1)) / MIN_CUT_BYTES) }
     ensures made { IfOk result (λ node. made.new ≤ made.old + 2 * length node.leaves + 1) }
 {
-    if whole.is_empty() {
-        return Ok(leaf_of(alloc, breaks, NodeText::new(), made)?);
+    if whole.len() <= MAX_BYTES {
+        return Ok(leaf_of(alloc, breaks, whole, made)?);
     }
     let leaves = leaf_nodes(alloc, whole, breaks, made)?;
     Ok(root_over(alloc, leaves, made)?)

@@ -124,7 +124,7 @@ fn cut_leaves(
     let mut left = text;
     while rest.len() + left.len() > MAX_BYTES {
         let front = cut_front(rest, left);
-        leaves.push(leaf_of(alloc, breaks, front.leaf, &mut 0)?)?;
+        leaves.push(leaf_of(alloc, breaks, front.leaf.as_str(), &mut 0)?)?;
         left = &left[front.taken..];
     }
     rest.push_str(left);
@@ -234,7 +234,7 @@ impl Builder {
         ensures few { IfOk result (λ node. length node.leaves ≤ (byte_len self.text + (MIN_CUT_BYTES - 1)) / MIN_CUT_BYTES) }
         ensures made { IfOk result (λ node. made.new ≤ made.old + length node.leaves + 1) }
     {
-        let rest = leaf_of(self.alloc, self.breaks, self.rest, made)?;
+        let rest = leaf_of(self.alloc, self.breaks, self.rest.as_str(), made)?;
         if self.leaves.is_empty() {
             return Ok(rest);
         }

@@ -1,16 +1,17 @@
 //! Counts of a text after an edit, by sums and differences.
 ghost use Rattle.std.specs.Prelude.{◌≡◌, ◌+◌, ◌<◌, ◌≤◌, ◌++◌, ℕ, List, false, length, IfSome, IfNone};
 ghost use Rattle.std.specs.Str.{chars, IsCharBoundary};
-ghost use Rattle.rope_text.specs.declared.TheConstants.{MAX_BYTES};
+ghost use Rattle.rope_text.specs.declared.TheConstants.{MAX_BYTES, MAX_SHORT_BYTES};
 ghost use Rattle.rope_text.specs.Text.{byte_len};
 ghost use Rattle.rope_text.specs.TextInfo.{info_of, shared_breaks};
 ghost use Rattle.rope_text.specs.Edit.{inserted, removed};
 ghost use Rattle.rope_text.specs.Breaks.{begins_with_lf, ends_in_cr};
 ghost use Rattle.rope_tree.specs.Removal.{KeepsEnds};
 
-use crate::node_text::NodeText;
+use crate::node_text::{NodeText, join_parts};
 use crate::short_text::ShortText;
-use rope_text::{LineBreaks, TextInfo};
+use arrayvec::ArrayString;
+use rope_text::{LineBreaks, MAX_JOINED_BYTES, TextInfo};
 
 /// Whether CR is the last character.
 pub(crate) fn ends_in_cr(text: &str) -> bool
@@ -62,21 +63,38 @@ fn info_between(
     }
 }
 
-/// The counts of a leaf with another text before its character `at`, by the counts of the leaf.
-pub fn info_with(
+/// A leaf's text with another one put into it, which may be too long for one leaf, and its counts.
+#[derive(Drop)]
+pub(crate) struct Grown {
+    pub(crate) text: ArrayString<MAX_JOINED_BYTES>,
+    pub(crate) info: TextInfo,
+}
+
+/// The text of a leaf with another before its character `at`. Its counts come from those of the leaf.
+#[inline(always)]
+pub(crate) fn leaf_with(
     info: TextInfo,
     leaf: &ShortText<'_>,
     at: usize,
     added: &ShortText<'_>,
     breaks: LineBreaks,
-) -> TextInfo
+) -> Grown
     requires info { info ≡ info_of breaks leaf.now }
     requires some { 1 ≤ length added.now }
-    ensures { result ≡ info_of breaks (inserted leaf.now at added.now) }
+    requires short { byte_len added.now ≤ MAX_SHORT_BYTES }
+    ensures text { chars result.text.bytes ≡ inserted leaf.now at added.now }
+    ensures len { length result.text.bytes ≡ byte_len leaf.now + byte_len added.now }
+    ensures info { result.info ≡ info_of breaks (inserted leaf.now at added.now) }
 {
     let text = leaf.as_str();
     let place = leaf.char_to_byte_idx(at);
-    info_between(info, &text[..place], added.as_str(), &text[place..], breaks)
+    let front = &text[..place];
+    let back = &text[place..];
+    let added = added.as_str();
+    Grown {
+        text: join_parts(front, added, back),
+        info: info_between(info, front, added, back, breaks),
+    }
 }
 
 /// Puts a text before the character `at` of a leaf that has room for it, and gives the counts of the whole, by those of what

@@ -1,6 +1,7 @@
 //! Inserts of short texts, by copies of the nodes on the way down.
 ghost use Rattle.std.specs.Prelude.{◌≡◌, ◌+◌, ◌-◌, ◌*◌, ◌<◌, ◌≤◌, ◌^◌, ℕ, Bool, true, false, length, IfOk};
-ghost use Rattle.rope_text.specs.declared.TheConstants.{MAX_SHORT_BYTES};
+ghost use Rattle.std.specs.Str.{chars};
+ghost use Rattle.rope_text.specs.declared.TheConstants.{MAX_BYTES, MAX_SHORT_BYTES};
 ghost use Rattle.rope_text.specs.Text.{byte_len};
 ghost use Rattle.rope_text.specs.Edit.{inserted};
 ghost use Rattle.rope_text.specs.TextInfo.{info_of};
@@ -10,30 +11,31 @@ ghost use Rattle.rope_tree.specs.Totals.{HasTotals};
 ghost use Rattle.rope_tree.specs.View.{trees_in};
 ghost use Rattle.rope_tree.specs.Insert.{MayInsert, IsInserted};
 
-use crate::counts::info_with;
+use crate::counts::leaf_with;
 use crate::lookup::total_before;
 use crate::node::row::{Row, pack};
 use crate::node::{Node, Nodes, View, make_leaf};
-use crate::node_text::NodeText;
+use crate::node_text::halves_of;
 use crate::search::{Unit, char_to_hold, place_of};
 use crate::short_text::ShortText;
-use rope_text::{LineBreaks, Steps, TextInfo};
+use rope_text::{LineBreaks, MAX_BYTES, Steps, TextInfo};
 use std::alloc::{AllocError, Global};
 
 /// A leaf of its own with this text.
 pub fn leaf_of(
     alloc: Global,
     breaks: LineBreaks,
-    leaf: NodeText,
+    text: &str,
     made: &mut u64,
 ) -> Result<Node, AllocError>
-    ensures ok { IfOk result (λ node. node ≡ leaf_tree breaks leaf) }
+    requires { length text.now ≤ MAX_BYTES }
+    ensures ok { IfOk result (λ node. node ≡ leaf_tree breaks (chars text.now)) }
     ensures tree { IfOk result (λ node. IsTree node) }
     ensures made { made.new ≤ made.old + 1 }
     ensures added { made.old < 18446744073709551615 → made.new ≡ made.old + 1 }
 {
-    let info = TextInfo::from_str(leaf.as_str(), breaks);
-    make_leaf(alloc, breaks, leaf, info, made)
+    let info = TextInfo::from_str(text, breaks);
+    make_leaf(alloc, breaks, text, info, made)
 }
 
 /// The leaf with another text before its character `at`, or two leaves where one can't hold both. The counts of the leaf
@@ -55,18 +57,18 @@ fn insert_into_leaf(
     ensures rises { made.old ≤ made.new }
 {
     let breaks = node.line_breaks();
-    let info = info_with(node.info(), leaf, at, added, breaks);
-    let mut front = NodeText::from_str(leaf.as_str());
-    match front.insert_or_split(at, added.as_str()) {
-        None => Ok(Nodes::One(make_leaf(alloc, breaks, front, info, made)?)),
-        Some(back) => {
-            let front_info = TextInfo::from_str(front.as_str(), breaks);
-            let back_info = info.minus(front_info);
-            let first = make_leaf(alloc, breaks, front, front_info, made)?;
-            let second = make_leaf(alloc, breaks, back, back_info, made)?;
-            Ok(Nodes::Two(first, second))
-        }
+    let grown = leaf_with(node.info(), leaf, at, added, breaks);
+    let text = grown.text.as_str();
+    if text.len() <= MAX_BYTES {
+        let node = make_leaf(alloc, breaks, text, grown.info, made)?;
+        return Ok(Nodes::One(node));
     }
+    let halves = halves_of(text);
+    let front_info = TextInfo::from_str(halves.front, breaks);
+    let back_info = grown.info.minus(front_info);
+    let first = make_leaf(alloc, breaks, halves.front, front_info, made)?;
+    let second = make_leaf(alloc, breaks, halves.back, back_info, made)?;
+    Ok(Nodes::Two(first, second))
 }
 
 /// The tree with a text of at most 981 bytes before its character `at`, as one tree or two of the same height. The old

@@ -1,6 +1,7 @@
 //! Leaves: a text with its counts and its set of line breaks.
 ghost use Rattle.std.specs.Prelude.{◌≡◌, ◌+◌, ◌<◌, ◌≤◌, [], ◌∷◌, true, false, length, IfOk, OnErr, IfSome, IfNone};
-ghost use Rattle.rope_text.specs.declared.TheConstants.{MAX_SHORT_BYTES};
+ghost use Rattle.std.specs.Str.{chars};
+ghost use Rattle.rope_text.specs.declared.TheConstants.{MAX_BYTES, MAX_SHORT_BYTES};
 ghost use Rattle.rope_text.specs.Text.{byte_len};
 ghost use Rattle.rope_text.specs.TextInfo.{info_of};
 ghost use Rattle.rope_text.specs.Edit.{inserted};
@@ -10,9 +11,9 @@ ghost use Rattle.rope_tree.specs.Insert.{IsInserted};
 ghost use Rattle.rope_tree.specs.Removal.{IsRemoved};
 
 use crate::beside::Least;
-use crate::counts::{info_with, put_in, take_out};
+use crate::counts::{leaf_with, put_in, take_out};
 use crate::node::{Node, make_leaf};
-use crate::node_text::NodeText;
+use crate::node_text::{NodeText, halves_of};
 use crate::short_text::ShortText;
 use crate::summary::Summary;
 use rope_text::{LineBreaks, MAX_BYTES, TextInfo};
@@ -39,16 +40,27 @@ impl Model for Leaf {
 }
 
 impl Leaf {
-    /// A leaf with this text, whose counts the caller knows.
-    pub(crate) fn new(breaks: LineBreaks, leaf: NodeText, info: TextInfo) -> Leaf
-        requires { info ≡ info_of breaks leaf }
-        ensures { result ≡ leaf_tree breaks leaf }
+    /// A leaf with a copy of this text, whose counts the caller knows.
+    #[inline(always)]
+    pub(crate) fn of(breaks: LineBreaks, text: &str, info: TextInfo) -> Leaf
+        requires fits { length text.now ≤ MAX_BYTES }
+        requires info { info ≡ info_of breaks (chars text.now) }
+        ensures { result ≡ leaf_tree breaks (chars text.now) }
     {
-        let _ = leaf.as_str();
         Leaf {
             summary: Summary::new(breaks, info),
-            text: leaf,
+            text: NodeText::from_str(text),
         }
+    }
+
+    /// Puts a copy of another text in the place of its own, whose counts the caller knows.
+    fn set(&mut self, text: &str, info: TextInfo)
+        requires fits { length text.now ≤ MAX_BYTES }
+        requires info { info ≡ info_of self.old.breaks (chars text.now) }
+        ensures { self.new ≡ leaf_tree self.old.breaks (chars text.now) }
+    {
+        self.summary = Summary::new(self.line_breaks(), info);
+        self.text.set(text);
     }
 
     /// The same leaf once more, with a copy of its text.
@@ -125,19 +137,17 @@ impl Leaf {
         ensures unmade { IfOk result (λ found. IfNone found (made.new ≡ made.old)) }
         ensures made { made.new ≤ made.old + 1 }
     {
-        if self.text.len() + added.len() <= MAX_BYTES {
+        let old = self.text();
+        if old.len() + added.len() <= MAX_BYTES {
             return Ok(None);
         }
-        let info = self.summary.info();
-        let old = ShortText::with_chars(self.text.as_str(), info.chars);
-        let breaks = self.summary.line_breaks();
-        let info = info_with(info, &old, at, added, breaks);
-        let mut front = NodeText::from_str(old.as_str());
-        let back = front.insert_str_split(at, added.as_str());
-        let front_info = TextInfo::from_str(front.as_str(), breaks);
-        let back_info = info.minus(front_info);
-        let behind = make_leaf(alloc, breaks, back, back_info, made)?;
-        *self = Leaf::new(breaks, front, front_info);
+        let breaks = self.line_breaks();
+        let grown = leaf_with(self.info(), &old, at, added, breaks);
+        let halves = halves_of(grown.text.as_str());
+        let front_info = TextInfo::from_str(halves.front, breaks);
+        let back_info = grown.info.minus(front_info);
+        let behind = make_leaf(alloc, breaks, halves.back, back_info, made)?;
+        self.set(halves.front, front_info);
         Ok(Some(behind))
     }
 

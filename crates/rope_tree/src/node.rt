@@ -1,7 +1,8 @@
 //! Nodes: an empty text, or a pointer to a leaf or to a list of children. No other module sees their fields.
 ghost use Rattle.std.specs.Prelude.{◌≡◌, ◌+◌, ◌<◌, ◌≤◌, List, length, take, drop, IfOk};
 ghost use Rattle.std.specs.List.{All};
-ghost use Rattle.rope_text.specs.declared.TheConstants.{MAX_HEIGHT};
+ghost use Rattle.std.specs.Str.{chars};
+ghost use Rattle.rope_text.specs.declared.TheConstants.{MAX_BYTES, MAX_HEIGHT};
 ghost use Rattle.rope_text.specs.TextInfo.{info_of};
 ghost use Rattle.rope_tree.specs.Tree.{Tree, text, joined, height_of, breaks_of, leaf_tree, tree_over, IsTree, AreChildren};
 ghost use Rattle.rope_tree.specs.Totals.{HasTotals};
@@ -9,7 +10,6 @@ ghost use Rattle.rope_tree.specs.Flat.{IsFlat};
 ghost use Rattle.rope_tree.specs.View.{IsViewOf};
 
 use crate::leaf::Leaf;
-use crate::node_text::NodeText;
 use crate::search::Totals;
 use crate::short_text::ShortText;
 use rope_text::{LineBreaks, MAX_CHILDREN, TextInfo};
@@ -235,12 +235,13 @@ fn add_made(made: &mut u64)
 pub fn make_leaf(
     alloc: Global,
     breaks: LineBreaks,
-    leaf: NodeText,
+    text: &str,
     info: TextInfo,
     made: &mut u64,
 ) -> Result<Node, AllocError>
-    requires { info ≡ info_of breaks leaf }
-    ensures ok { IfOk result (λ node. node ≡ leaf_tree breaks leaf) }
+    requires fits { length text.now ≤ MAX_BYTES }
+    requires info { info ≡ info_of breaks (chars text.now) }
+    ensures ok { IfOk result (λ node. node ≡ leaf_tree breaks (chars text.now)) }
     ensures tree { IfOk result (λ node. IsTree node) }
     ensures made { made.new ≤ made.old + 1 }
     ensures added { made.old < 18446744073709551615 → made.new ≡ made.old + 1 }
@@ -250,7 +251,7 @@ pub fn make_leaf(
     let form = if info.bytes == 0 {
         Form::Empty(breaks)
     } else {
-        Form::Leaf(Rc::new(alloc, Leaf::new(breaks, leaf, info))?)
+        Form::Leaf(Rc::new(alloc, Leaf::of(breaks, text, info))?)
     };
     let node = Node { form };
     let _ = node.height();

@@ -1,7 +1,7 @@
 //! The text of a leaf.
 ghost use Rattle.std.specs.Prelude.{◌≡◌, ℕ, ◌+◌, ◌<◌, ◌≤◌, ◌++◌, [], true, false, length, take, drop, IsTrue, IfNone, IfSome};
 ghost use Rattle.std.specs.List.{insert_slice, remove_range};
-ghost use Rattle.std.specs.Str.{chars, all_scalars, IsCharBoundary, encode_utf8_all};
+ghost use Rattle.std.specs.Str.{chars, all_scalars, IsUtf8, IsCharBoundary, encode_utf8_all};
 ghost use Rattle.rope_text.specs.declared.TheConstants.{MAX_BYTES, MAX_JOINED_BYTES, MAX_SHORT_BYTES, MIN_CUT_BYTES, MIN_HALF_BYTES};
 ghost use Rattle.rope_text.specs.Text.{byte_len};
 ghost use Rattle.rope_text.specs.Cutting.{parts_crlf};
@@ -38,6 +38,32 @@ fn split_place(text: &str) -> usize
     ensures right { (result + MIN_HALF_BYTES ≤ length text.now) × (length text.now ≤ result + MAX_BYTES) }
 {
     next_break(text.len() / 2 - 2, text.as_bytes())
+}
+
+/// The two parts of a text that is too long for one leaf.
+#[derive(Clone, Copy)]
+pub(crate) struct Halves<'a> {
+    pub(crate) front: &'a str,
+    pub(crate) back: &'a str,
+}
+
+/// Cuts a text that is too long for one leaf into two. Each part has half a leaf, but for a byte, and the cut parts no CR from
+/// an LF.
+pub(crate) fn halves_of(text: &str) -> Halves<'_>
+    requires long { MAX_BYTES < length text.now }
+    requires short { length text.now ≤ MAX_JOINED_BYTES }
+    ensures utf8 { IsUtf8 result.front.now × IsUtf8 result.back.now }
+    ensures joined { chars result.front.now ++ chars result.back.now ≡ chars text.now }
+    ensures some { (0 < length (chars result.front.now)) × (0 < length (chars result.back.now)) }
+    ensures apart { parts_crlf (chars result.front.now) (chars result.back.now) ≡ false }
+    ensures least { (MIN_HALF_BYTES ≤ length result.front.now) × (MIN_HALF_BYTES ≤ length result.back.now) }
+    ensures most { (length result.front.now ≤ MAX_BYTES) × (length result.back.now ≤ MAX_BYTES) }
+{
+    let cut = split_place(text);
+    Halves {
+        front: &text[..cut],
+        back: &text[cut..],
+    }
 }
 
 /// The bytes of some characters of a text: where the first of them starts, and where what follows them starts.
@@ -123,16 +149,6 @@ impl NodeText {
         count_chars(self.as_str())
     }
 
-    /// Puts `text` before the character `at`, or at the end.
-    pub fn insert_str(&mut self, at: usize, text: &str)
-        requires { byte_len self.old + length text.now ≤ MAX_BYTES }
-        ensures value { self.new ≡ inserted self.old at (chars text.now) }
-        ensures len { byte_len self.new ≡ byte_len self.old + length text.now }
-    {
-        let place = char_to_byte_idx(self.as_str(), at);
-        self.insert_bytes(place, text);
-    }
-
     /// Puts `added` where a character starts, or at the end. What follows it moves down, and what stands before it stays.
     pub fn insert_bytes(&mut self, place: usize, added: &str)
         requires boundary { IsCharBoundary (encode_utf8_all self.old) place }
@@ -141,6 +157,15 @@ impl NodeText {
         ensures len { byte_len self.new ≡ byte_len self.old + length added.now }
     {
         put_bytes(&mut self.bytes, place, added.as_bytes());
+    }
+
+    /// Puts another text of at most `MAX_BYTES` bytes in its place.
+    pub(crate) fn set(&mut self, text: &str)
+        requires { length text.now ≤ MAX_BYTES }
+        ensures { self.new ≡ chars text.now }
+    {
+        self.bytes.clear();
+        append_bytes(&mut self.bytes, text.as_bytes());
     }
 
     /// Puts `text` at the end.
@@ -214,44 +239,6 @@ impl NodeText {
         ensures { self.new ≡ chars (remove_range (encode_utf8_all self.old) range.from range.to) }
     {
         take_bytes(&mut self.bytes, range.from, range.to);
-    }
-
-    /// Puts `text` before the character `at`, or at the end, where one leaf cannot hold both: leaves the first part, and
-    /// returns the second. Each part has half a leaf, but for a byte, and the cut parts no CR from an LF.
-    pub fn insert_str_split(&mut self, at: usize, text: &str) -> NodeText
-        requires long { MAX_BYTES < byte_len self.old + length text.now }
-        requires short { byte_len self.old + length text.now ≤ MAX_JOINED_BYTES }
-        ensures joined { self.new ++ result ≡ inserted self.old at (chars text.now) }
-        ensures front { 0 < length self.new }
-        ensures back { 0 < length result }
-        ensures halves { (MIN_HALF_BYTES ≤ byte_len self.new) × (MIN_HALF_BYTES ≤ byte_len result) }
-        ensures apart { parts_crlf self.new result ≡ false }
-    {
-        let old = self.as_str();
-        let place = char_to_byte_idx(old, at);
-        let whole = join_parts::<MAX_JOINED_BYTES>(&old[..place], text, &old[place..]);
-        let whole = whole.as_str();
-        let cut = split_place(whole);
-        let back = NodeText::from_str(&whole[cut..]);
-        *self = NodeText::from_str(&whole[..cut]);
-        back
-    }
-
-    /// Puts `text` before the character `at`, or at the end: in this leaf, or, where it cannot hold both, in this one
-    /// and the one that is returned.
-    pub fn insert_or_split(&mut self, at: usize, text: &str) -> Option<NodeText>
-        requires { length text.now ≤ MAX_SHORT_BYTES }
-        ensures one { IfNone result ((byte_len self.old + length text.now ≤ MAX_BYTES) × (self.new ≡ inserted self.old at (chars text.now))) }
-        ensures two { IfSome result (λ back. (MAX_BYTES < byte_len self.old + length text.now) × (self.new ++ back ≡ inserted self.old at (chars text.now))) }
-        ensures parts { IfSome result (λ back. (0 < length self.new) × (0 < length back) × (parts_crlf self.new back ≡ false)) }
-        ensures halves { IfSome result (λ back. (MIN_HALF_BYTES ≤ byte_len self.new) × (MIN_HALF_BYTES ≤ byte_len back)) }
-    {
-        if self.len() + text.len() <= MAX_BYTES {
-            self.insert_str(at, text);
-            None
-        } else {
-            Some(self.insert_str_split(at, text))
-        }
     }
 }
 

@@ -8,7 +8,7 @@ join-requires c =
     let ia = c.height.ensures.tree in
     let ib = c.height-2.ensures.tree in
     let breaks = c.line_breaks.ensures in
-    let e = c.in_ok-pair.ensures.ok ∙ ap₂ leaf_tree breaks (c.from_str.ensures.value ∙ chars_crlf) in
+    let e = c.in_ok-pair.ensures.ok ∙ ap₂ leaf_tree breaks chars_crlf in
     pair_first c.args.left.now _ c.args.right.now ia c.in_ok-pair.ensures.tree ib c.requires.same_breaks e c.requires.fits
 
 pub join-requires-2 : goal.join-requires-2
@@ -16,7 +16,7 @@ join-requires-2 c =
     let ia = c.height.ensures.tree in
     let ib = c.height-2.ensures.tree in
     let breaks = c.line_breaks.ensures in
-    let e = c.in_ok-pair.ensures.ok ∙ ap₂ leaf_tree breaks (c.from_str.ensures.value ∙ chars_crlf) in
+    let e = c.in_ok-pair.ensures.ok ∙ ap₂ leaf_tree breaks chars_crlf in
     pair_second c.args.left.now _ c.args.right.now ia c.in_ok-pair.ensures.tree ib c.requires.same_breaks e c.requires.fits _ c.in_ok-first.ensures.join
 
 pub returns-clause-text : goal.returns-clause-text
@@ -24,5 +24,5 @@ returns-clause-text c =
     let ia = c.height.ensures.tree in
     let ib = c.height-2.ensures.tree in
     let breaks = c.line_breaks.ensures in
-    let e = c.in_ok-pair.ensures.ok ∙ ap₂ leaf_tree breaks (c.from_str.ensures.value ∙ chars_crlf) in
+    let e = c.in_ok-pair.ensures.ok ∙ ap₂ leaf_tree breaks chars_crlf in
     pair_joined c.args.left.now _ c.args.right.now ia c.in_ok-pair.ensures.tree ib c.requires.same_breaks e c.requires.fits _ c.in_ok-first.ensures.join _ c.in_ok-join.ensures.join

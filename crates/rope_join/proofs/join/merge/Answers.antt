@@ -1,4 +1,4 @@
-use Rattle.std.proofs.Common.{ap, ◌∙◌, arith}
+use Rattle.std.proofs.Common.{ap, ap₂, ◌∙◌, arith}
 use Rattle.rope_tree.specs.Search.{IsSmall}
 use Rattle.rope_tree.proofs.Infos.{small_info}
 use Rattle.rope_tree.specs.Tree.{leaf_tree}
@@ -36,7 +36,7 @@ returns-in_ok-pack_over-in-Inner-clause-union c =
 pub returns-then-become_one-clause-union : goal.returns-then-become_one-clause-union
 returns-then-become_one-clause-union c =
     let right = c.in-Leaf-view.ensures.is ∙ ap (λ b. leaf_tree b c.in-Leaf-view.second) c.requires.join.same_breaks in
-    let one = c.in_ok-node-in-Leaf.ensures.ok ∙ ap (λ b. leaf_tree b c.joined_text-text.result) c.line_breaks.ensures in
+    let one = c.in_ok-node-in-Leaf.ensures.ok ∙ ap₂ leaf_tree c.line_breaks.ensures c.as_str.ensures.chars in
     merged_leaves c.args.left.now.breaks _ _ _ _ _ _ c.in-Leaf.ensures.is right c.joined_text-text.ensures.value one c.in_ok-node-in-Leaf.ensures.tree c.requires.left_some c.requires.right_some
 
 pub returns-then-first-second-gt-MAX_CHILDREN-clause-union : goal.returns-then-first-second-gt-MAX_CHILDREN-clause-union

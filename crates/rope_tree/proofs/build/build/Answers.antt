@@ -1,18 +1,22 @@
 -- The leaves have the text, and the tree has the leaves.
 use Rattle.std.proofs.Common.{ap, ◌≡◌, ◌∙◌, true, length, sym, arith}
 use Rattle.std.proofs.lemmas.Bool.Decides.{nat_tests}
+use Rattle.std.proofs.lemmas.Str.{chars-nil}
 use Rattle.std.specs.Prelude.{◌==◌}
+use Rattle.std.specs.Str.{chars}
+use Rattle.rope_text.proofs.Walks.{byte_len-chars}
+use Rattle.rope_tree.specs.Tree.{Tree}
 use Rattle.rope_tree.proofs.TreeLaws.{breaks_of_is}
 use Rattle.rope_tree.proofs.InsertLeaves.{text_of_leaf}
-use Rattle.rope_tree.proofs.BuildLaws.{no_chars, nodes_le}
+use Rattle.rope_tree.proofs.BuildLaws.{leaf_few, nodes_le}
 use Rattle.rope_tree.proofs.build.build.Goals as goal
 
-pub returns-then-is_empty-clause-text : goal.returns-then-is_empty-clause-text
-returns-then-is_empty-clause-text c =
-    let whole = c.args.whole.now in
-    let empty : (length whole == 0) ≡ true = sym c.is_empty.ensures ∙ c.if-is_empty.true in
-    let none : length whole ≡ 0 = grind (arith, nat_tests) in
-    text_of_leaf c.args.breaks c.in_ok-leaf_of.field-0 _ c.in_ok-leaf_of.ensures.ok ∙ c.new.ensures ∙ sym (no_chars whole none)
+pub returns-then-whole-le-MAX_BYTES-clause-text : goal.returns-then-whole-le-MAX_BYTES-clause-text
+returns-then-whole-le-MAX_BYTES-clause-text c = text_of_leaf c.args.breaks c.in_ok-leaf_of.field-0 _ c.in_ok-leaf_of.ensures.ok
+
+pub returns-then-whole-le-MAX_BYTES-clause-few : goal.returns-then-whole-le-MAX_BYTES-clause-few
+returns-then-whole-le-MAX_BYTES-clause-few c =
+    omega (arith, leaf_few (chars c.args.whole.now), ap (λ (t : Tree). length t.leaves) c.in_ok-leaf_of.ensures.ok, byte_len-chars c.args.whole.now c.utf8.whole)
 
 pub returns-clause-breaks : goal.returns-clause-breaks
 returns-clause-breaks c =

@@ -1,5 +1,5 @@
 -- Each turn cuts one leaf off, and what is left at last is one more.
-use Rattle.std.proofs.Common.{◌≡◌, ◌+◌, ◌<◌, ◌^◌, [], ◌∷◌, length, ap, arith}
+use Rattle.std.proofs.Common.{◌≡◌, refl, ◌+◌, ◌<◌, ◌^◌, [], ◌∷◌, length, ap, arith}
 use Rattle.std.proofs.lemmas.List.{length-append}
 use Rattle.std.specs.Str.{chars}
 use Rattle.rope_text.specs.Text.{byte_len}
@@ -17,9 +17,9 @@ loop-rest-preserved c =
     let before = c.loop-rest.invariant in
     let node = c.in_ok-leaf_of.field-0 in
     let pushed = c.in_ok-push.ensures.items in
-    let more = nodes_cut c.args.breaks (chars c.args.whole.now) c.loop-rest.nodes.items rest c.range.result.now c.range_from-rest.result.now c.from_str-leaf.result len.result node
+    let more = nodes_cut c.args.breaks (chars c.args.whole.now) c.loop-rest.nodes.items rest c.range.result.now c.range_from-rest.result.now (chars c.range.result.now) len.result node
     before.nodes before.utf8 c.range.utf8 c.range_from-rest.utf8 c.range.ensures.value c.range_from-rest.ensures.value
-    (omega (arith, len.ensures.long)) (omega (arith, len.ensures.short, c.loop-rest-test.true)) len.ensures.short len.ensures.cut c.from_str-leaf.ensures.value c.in_ok-leaf_of.ensures.ok c.in_ok-leaf_of.ensures.tree in
+    (omega (arith, len.ensures.long)) (omega (arith, len.ensures.short, c.loop-rest-test.true)) len.ensures.short len.ensures.cut refl c.in_ok-leaf_of.ensures.ok c.in_ok-leaf_of.ensures.tree in
     record {
       utf8 = c.range_from-rest.utf8;
       some = omega (arith, len.ensures.short, c.range_from-rest.ensures.len, c.loop-rest-test.true);
@@ -34,8 +34,8 @@ last c =
     let before = c.loop-rest.invariant in
     let node = c.in_ok-leaf_of-2.field-0 in
     let pushed = c.in_ok-push-2.ensures.items in
-    rw pushed (nodes_last c.args.breaks (chars c.args.whole.now) c.loop-rest.nodes.items rest c.from_str.result node
-    before.nodes before.utf8 before.some c.loop-rest-test.false c.from_str.ensures.value c.in_ok-leaf_of-2.ensures.ok c.in_ok-leaf_of-2.ensures.tree)
+    rw pushed (nodes_last c.args.breaks (chars c.args.whole.now) c.loop-rest.nodes.items rest (chars rest) node
+    before.nodes before.utf8 before.some c.loop-rest-test.false refl c.in_ok-leaf_of-2.ensures.ok c.in_ok-leaf_of-2.ensures.tree)
 
 pub returns-clause-siblings : goal.returns-clause-siblings
 returns-clause-siblings c =

@@ -1,4 +1,5 @@
 use Rattle.std.proofs.Common.{ap, sym, ◌∙◌}
+use Rattle.std.specs.Str.{chars}
 use Rattle.rope_tree.specs.Tree.{leaf_tree}
 use Rattle.rope_tree.specs.Shape.{form_tree}
 use Rattle.rope_tree.proofs.FormLaws.{no_text}
@@ -9,6 +10,6 @@ pub returns-clause-ok : goal.returns-clause-ok
 returns-clause-ok c =
     elim c.if-info-eq0.branch [
       | then-info-eq0 w ↦
-          rw w.form-is (ap (leaf_tree c.args.breaks) (sym (no_text c.args.leaf (sym (ap (λ i. i.bytes) c.requires) ∙ w.if-info-eq0.true))))
-      | else-info-eq0+in_ok-new w ↦ ap form_tree w.form-is ∙ w.in_ok-new.ensures.ok ∙ w.new.ensures
+          rw w.form-is (ap (leaf_tree c.args.breaks) (sym (no_text (chars c.args.text.now) (sym (ap (λ i. i.bytes) c.requires.info) ∙ w.if-info-eq0.true))))
+      | else-info-eq0+in_ok-new w ↦ ap form_tree w.form-is ∙ w.in_ok-new.ensures.ok ∙ w.of.ensures
     ]

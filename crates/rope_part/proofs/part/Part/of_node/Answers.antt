@@ -1,7 +1,7 @@
 use Rattle.std.proofs.Common.{◌∙◌, ap, sym, arith}
 use Rattle.rope_text.specs.Text.{byte_len}
 use Rattle.rope_tree.specs.Tree.{text}
-use Rattle.rope_tree.proofs.ChunksFound.{no_leaves_of}
+use Rattle.rope_tree.proofs.EmptyTrees.{no_leaves_of}
 use Rattle.rope_tree.proofs.LeafLaws.{nonempty_leaves}
 use Rattle.rope_part.proofs.Clips.{no_chars, whole_part, whole_clip}
 use Rattle.rope_part.proofs.Measured.{whole_stretch}

@@ -5,7 +5,7 @@ use Rattle.std.proofs.lemmas.Bool.Decides.{nat_tests}
 use Rattle.std.proofs.lemmas.List.{length-append, append-nil}
 use Rattle.std.specs.List.{concat}
 use Rattle.rope_text.specs.Text.{byte_len}
-use Rattle.rope_tree.specs.Tree.{Tree, joined, leaves_of}
+use Rattle.rope_tree.specs.Tree.{Tree, leaf_tree, joined, leaves_of}
 use Rattle.rope_tree.specs.Fronts.{AreFrontNodes, Building}
 use Rattle.rope_tree.specs.Siblings.{AreSiblings}
 use Rattle.rope_tree.proofs.TreeLaws.{breaks_of_is}
@@ -31,7 +31,7 @@ last c =
     let node = c.in_ok-rest.rest in
     let pushed = c.in_ok-push.ensures.items in
     rw pushed (nodes_front a.breaks (joined a.leaves.items ++ a.rest) a.leaves.items a.rest a.rest [] node
-    c.self.invariant.nodes (append-nil a.rest) (left c) (seam-nil a.rest) (λ more. absurd (omega arith)) c.in_ok-rest.ensures.ok c.in_ok-rest.ensures.tree)
+    c.self.invariant.nodes (append-nil a.rest) (left c) (seam-nil a.rest) (λ more. absurd (omega arith)) (c.in_ok-rest.ensures.ok ∙ ap (leaf_tree a.breaks) c.as_str.ensures.chars) c.in_ok-rest.ensures.tree)
 
 all : (c : In_ok-push) → AreSiblings c.self.inside.breaks 0 c.push.new.self.items
 all c =
@@ -46,7 +46,7 @@ some c =
 pub returns-then-is_empty-clause-few : goal.returns-then-is_empty-clause-few
 returns-then-is_empty-clause-few c =
     let a = c.self.inside in
-    omega (arith, leaf_few a.rest, ap (λ (t : Tree). length t.leaves) c.in_ok-rest.ensures.ok, c.self.invariant.long, c.self.invariant.counted, ap (λ (b : Building). byte_len b.text) c.self.view_is)
+    omega (arith, leaf_few a.rest, ap (λ (t : Tree). length t.leaves) (c.in_ok-rest.ensures.ok ∙ ap (leaf_tree a.breaks) c.as_str.ensures.chars), c.self.invariant.long, c.self.invariant.counted, ap (λ (b : Building). byte_len b.text) c.self.view_is)
 
 pub root_over-requires-clause-siblings : goal.root_over-requires-clause-siblings
 root_over-requires-clause-siblings c =

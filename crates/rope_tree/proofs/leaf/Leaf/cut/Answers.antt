@@ -1,39 +1,46 @@
-use Rattle.std.proofs.Common.{◌≡◌, ◌++◌, ap, sym, ◌∙◌, arith}
+use Rattle.std.proofs.Common.{◌≡◌, ◌≤◌, [], ◌∷◌, ◌++◌, ap, subst, sym, ◌∙◌, arith}
+use Rattle.std.proofs.lemmas.Str.{scalars-chars}
+use Rattle.std.specs.Str.{chars}
+use Rattle.rope_text.specs.Text.{byte_len}
 use Rattle.rope_text.specs.Edit.{inserted}
 use Rattle.rope_text.specs.TextInfo.{info_of, info_sum}
 use Rattle.rope_text.proofs.InfoLaws.{info_of-append_apart}
+use Rattle.rope_text.proofs.Walks.{byte_len-chars}
+use Rattle.rope_tree.specs.Tree.{text, leaf_tree}
+use Rattle.rope_tree.specs.Insert.{IsInserted}
 use Rattle.rope_tree.proofs.GrownLaws.{leaf_parted}
-use Rattle.rope_tree.proofs.leaf.Leaf.cut.Goals.{After-info_with-info, After-from_str-front_info}
+use Rattle.rope_tree.proofs.leaf.Leaf.cut.Goals.{After-from_str-front_info}
 use Rattle.rope_tree.proofs.leaf.Leaf.cut.Goals as goal
 
--- the text that was lent is the leaf's
-lent : (c : After-info_with-info) → c.with_chars-old.result ≡ c.self.inside.text
-lent c = c.with_chars-old.ensures ∙ c.as_str.ensures.chars
-
 -- the two parts are the leaf with the text
-whole : (c : After-from_str-front_info) → c.insert_str_split-back.new.self ++ c.insert_str_split-back.result ≡ inserted c.self.inside.text c.args.at c.args.added.now
-whole c =
-    c.insert_str_split-back.ensures.joined ∙ ap (inserted c.from_str-front.result c.args.at) c.as_str-3.ensures.chars
-    ∙ ap (λ l. inserted l c.args.at c.args.added.now) (c.from_str-front.ensures.value ∙ c.as_str-2.ensures.chars ∙ c.with_chars-old.ensures ∙ c.as_str.ensures.chars)
+whole : (c : After-from_str-front_info) → chars c.halves_of-halves.result.front.now ++ chars c.halves_of-halves.result.back.now ≡ inserted c.text-old.result c.args.at c.args.added.now
+whole c = c.halves_of-halves.ensures.joined ∙ ap chars c.as_str.ensures.value ∙ c.leaf_with-grown.ensures.text
 
-counted : (c : After-from_str-front_info) → c.from_str-front_info.result ≡ info_of c.line_breaks-breaks.result c.insert_str_split-back.new.self
-counted c = c.from_str-front_info.ensures ∙ ap (info_of c.line_breaks-breaks.result) c.as_str-4.ensures.chars
-
-parted : (c : After-from_str-front_info) → c.info_with-info.result ≡ info_sum c.from_str-front_info.result (info_of c.line_breaks-breaks.result c.insert_str_split-back.result)
+parted : (c : After-from_str-front_info) → c.leaf_with-grown.result.info ≡ info_sum c.from_str-front_info.result (info_of c.line_breaks-breaks.result (chars c.halves_of-halves.result.back.now))
 parted c =
     let breaks = c.line_breaks-breaks.result in
-    c.info_with-info.ensures ∙ ap (λ l. info_of breaks (inserted l c.args.at c.args.added.now)) (c.with_chars-old.ensures ∙ c.as_str.ensures.chars) ∙ ap (info_of breaks) (sym (whole c))
-    ∙ info_of-append_apart breaks c.insert_str_split-back.new.self c.insert_str_split-back.result c.insert_str_split-back.ensures.apart
-    ∙ ap (λ i. info_sum i (info_of breaks c.insert_str_split-back.result)) (sym (counted c))
+    let halves = c.halves_of-halves in
+    c.leaf_with-grown.ensures.info ∙ ap (info_of breaks) (sym (whole c))
+    ∙ info_of-append_apart breaks (chars halves.result.front.now) (chars halves.result.back.now) halves.ensures.apart
+    ∙ ap (λ i. info_sum i (info_of breaks (chars halves.result.back.now))) (sym c.from_str-front_info.ensures)
 
 pub minus-back_info-requires-clause-bytes : goal.minus-back_info-requires-clause-bytes
-minus-back_info-requires-clause-bytes c = omega (arith, ap (λ i. i.bytes) (parted c))
+minus-back_info-requires-clause-bytes c = omega (arith, ap (λ i. i.bytes) (parted (goal.at.minus-back_info-requires-clause-bytes c).After-from_str-front_info))
 
 pub minus-back_info-requires-clause-break_count : goal.minus-back_info-requires-clause-break_count
-minus-back_info-requires-clause-break_count c = omega (arith, ap (λ i. i.break_count) (parted c))
+minus-back_info-requires-clause-break_count c = omega (arith, ap (λ i. i.break_count) (parted (goal.at.minus-back_info-requires-clause-break_count c).After-from_str-front_info))
 
 pub returns-clause-cut : goal.returns-clause-cut
 returns-clause-cut c =
     let f = (goal.at.returns-clause-cut c).After-from_str-front_info in
-    rw (← c.self.view_is, c.self-2.view_is ∙ c.new.ensures, ← c.line_breaks-breaks.ensures) (leaf_parted c.line_breaks-breaks.result c.self.inside.text c.insert_str_split-back.new.self c.as_str-4.ensures.fits c.as_str-4.ensures.scalars c.args.at c.args.added.now c.insert_str_split-back.result c.in_ok-behind.behind
-    c.in_ok-behind.ensures.ok c.in_ok-behind.ensures.tree (whole f) (c.insert_str_split-back.ensures.front, c.insert_str_split-back.ensures.back, c.insert_str_split-back.ensures.apart) c.insert_str_split-back.ensures.halves)
+    let halves = c.halves_of-halves in
+    let front = halves.result.front.now in
+    let back = halves.result.back.now in
+    let breaks = c.args.self.now.breaks in
+    let behind = c.in_ok-behind.behind in
+    let s = c.args.added.now in
+    let long = byte_len-chars front halves.ensures.utf8.0 in
+    let least : (491 ≤ byte_len (chars front)) × (491 ≤ byte_len (chars back)) = (omega (arith, long, halves.ensures.least), omega (arith, byte_len-chars back halves.ensures.utf8.1, halves.ensures.least)) in
+    rw c.set.ensures (subst (λ t. IsInserted t (leaf_tree breaks (chars front) ∷ behind ∷ []) (inserted (text t) c.args.at s)) (sym c.text-old.ensures.is)
+    (leaf_parted breaks c.text-old.result (chars front) (omega (arith, long, halves.ensures.most)) (scalars-chars front halves.ensures.utf8.0) c.args.at s (chars back) behind
+    (c.in_ok-behind.ensures.ok ∙ ap (λ b. leaf_tree b (chars back)) c.line_breaks-breaks.ensures) c.in_ok-behind.ensures.tree (whole f) (halves.ensures.some.0, halves.ensures.some.1, halves.ensures.apart) least))

@@ -1,0 +1,10 @@
+use Rattle.std.proofs.Common.{[], ap, ◌∙◌}
+use Rattle.std.proofs.lemmas.Str.{chars-nil}
+use Rattle.std.specs.Str.{chars}
+use Rattle.rope_tree.specs.Tree.{leaf_tree}
+use Rattle.rope_join.proofs.Seams.{empty_back}
+use Rattle.rope_join.proofs.edit.back_or_none.Goals as goal
+
+pub returns-then-at-info-clause-back : goal.returns-then-at-info-clause-back
+returns-then-at-info-clause-back c =
+    empty_back c.args.node.now c.in_ok-leaf_of.field-0 (chars []) c.args.at (c.in_ok-leaf_of.ensures.ok ∙ ap (λ b. leaf_tree b (chars [])) c.line_breaks.ensures) chars-nil (c.if-at-info.true ∙ ap (λ i. i.chars) c.info.ensures)
