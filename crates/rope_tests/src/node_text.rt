@@ -11,22 +11,29 @@ fn hello() -> NodeText
 }
 
 #[test]
-fn edits(rt: HostRuntime) {
-    let mut text = hello();
-    text.insert_str(3, "oz");
-    assert_eq!(rt; text.as_str(), "Helozlo!");
-    let mut text = hello();
-    text.push_str("oz");
-    assert_eq!(rt; text.as_str(), "Hello!oz");
+fn inserts(rt: HostRuntime) {
+    let mut inner = hello();
+    inner.insert_str(3, "oz");
+    let mut last = hello();
+    last.push_str("oz");
+    assert!(rt; [inner.as_str(), last.as_str()] == ["Helozlo!", "Hello!oz"]);
+    assert!(rt; NodeText::new().len() == 0);
+}
+
+#[test]
+fn removals(rt: HostRuntime) {
     let mut text = hello();
     let range = text.byte_range(2, 4, text.count_chars());
     text.remove_bytes(range);
-    assert_eq!(rt; text.as_str(), "Heo!");
+    assert!(rt; text.as_str() == "Heo!");
+}
+
+#[test]
+fn removals_of_a_wide_character(rt: HostRuntime) {
     let mut text = NodeText::from_str("H\u{e9}llo!");
     let range = text.byte_range(1, 3, text.count_chars());
     text.remove_bytes(range);
-    assert_eq!(rt; text.as_str(), "Hlo!");
-    assert_eq!(rt; NodeText::new().len(), 0);
+    assert!(rt; text.as_str() == "Hlo!");
 }
 
 #[test]
@@ -38,10 +45,6 @@ fn full_leaf_splits(rt: HostRuntime) {
     let back = front
         .insert_or_split(492, "\r\n")
         .expect(&rt, "a leaf too full");
-    assert_eq!(rt; front.len() + back.len(), 986);
-    assert_eq!(rt; front.count_chars(), front.len());
-    assert_eq!(rt;
-        front.as_str().contains('\r'),
-        front.as_str().contains('\n')
-    );
+    assert!(rt; front.len() + back.len() == 986 && front.count_chars() == front.len());
+    assert!(rt; front.as_str().contains('\r') == front.as_str().contains('\n'));
 }

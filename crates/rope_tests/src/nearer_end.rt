@@ -17,7 +17,7 @@ fn check_bytes(rt: &impl Abort, text: &str, count: usize, idx: usize, from: usiz
     requires { count ≡ length (chars text.now) }
 {
     for byte in from..to {
-        assert_eq!(rt; byte_to_char_idx_of(text, count, byte), idx, "at {byte}");
+        assert!(rt; byte_to_char_idx_of(text, count, byte) == idx);
     }
 }
 
@@ -27,7 +27,7 @@ fn check_text(rt: &impl Abort, text: &str) {
     let mut byte: usize = 0;
     for c in text.chars() {
         let next = byte.saturating_add(c.len_utf8());
-        assert_eq!(rt; char_to_byte_idx_of(text, count, idx), byte, "at {idx}");
+        assert!(rt; char_to_byte_idx_of(text, count, idx) == byte);
         check_bytes(rt, text, count, idx, byte, next);
         idx = idx.saturating_add(1);
         byte = next;
@@ -52,18 +52,25 @@ fn places(node: &Node, char_idx: usize, byte_idx: usize) -> (usize, usize) {
     )
 }
 
-fn check_tree(rt: &impl Abort, alloc: Global, text: &str) -> Result<(), AllocError> {
-    let node = build(alloc, text, LineBreaks::Lf, &mut 0)?;
+fn check_places(rt: &impl Abort, node: &Node, text: &str) {
     let mut idx: usize = 0;
     let mut byte: usize = 0;
     for c in text.chars() {
         let next = byte.saturating_add(c.len_utf8());
-        assert_eq!(rt; places(&node, idx, byte), (byte, idx), "at {idx}");
-        assert!(rt; places(&node, idx, next.saturating_sub(1)) == (byte, idx));
+        let found = [
+            places(node, idx, byte),
+            places(node, idx, next.saturating_sub(1)),
+        ];
+        assert!(rt; found == [(byte, idx); 2]);
         idx = idx.saturating_add(1);
         byte = next;
     }
-    assert!(rt; places(&node, idx, byte) == (byte, idx));
+    assert!(rt; places(node, idx, byte) == (byte, idx));
+}
+
+fn check_tree(rt: &impl Abort, alloc: Global, text: &str) -> Result<(), AllocError> {
+    let node = build(alloc, text, LineBreaks::Lf, &mut 0)?;
+    check_places(rt, &node, text);
     Ok(())
 }
 
@@ -84,8 +91,8 @@ fn check_ranges(rt: &impl Abort, text: &str, len: usize) {
     for start in 0..count.saturating_add(2) {
         let end = start.saturating_add(len);
         let range = leaf.byte_range(start, end, count);
-        assert_eq!(rt; range.from, front_len(text, start), "from {start}");
-        assert_eq!(rt; range.to, front_len(text, end), "up to {end}");
+        let expected = [front_len(text, start), front_len(text, end)];
+        assert!(rt; [range.from, range.to] == expected);
     }
 }
 

@@ -1,7 +1,7 @@
 -- The text that was read is known, and so are those that the edits leave.
 use Rattle.std.proofs.Common.{arith}
-use Rattle.rope_io_tests.proofs.Texts.{is_first, four_lines, may_remove, ten, may_slice}
-use Rattle.rope_io_tests.proofs.example.a_text_is_read_edited_and_written.Goals as goal
+use Rattle.rope_device_tests.proofs.Texts.{is_first, four_lines, may_remove, ten, may_slice}
+use Rattle.rope_device_tests.proofs.example.a_text_is_read_edited_and_written.Goals as goal
 
 pub line-requires : goal.line-requires
 line-requires g c =

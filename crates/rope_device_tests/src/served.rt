@@ -1,5 +1,5 @@
 //! Lines that are served, with what was written for them.
-use crate::devices::{Dripping, Narrow};
+use crate::talks::{Dripping, Narrow};
 use rope_language::{Ended, serve};
 use std::alloc::Global;
 use std::process::Abort;

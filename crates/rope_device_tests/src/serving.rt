@@ -1,6 +1,6 @@
 //! Lines that come in parts, devices that fail, and how a run ends.
-use crate::devices::{Asking, Dripping, Halting, Narrow, Stumbling, Telling};
 use crate::served::told;
+use crate::talks::{Asking, Dripping, Halting, Narrow, Stumbling, Telling};
 use rope_language::{Ended, serve};
 use std::alloc::Global;
 use std::cell::Cell;
