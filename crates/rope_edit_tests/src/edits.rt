@@ -26,6 +26,19 @@ fn a_pair_at_a_full_leaf(rt: HostRuntime) -> Result<(), Fail> {
     insert_a_pair(&rt, &mut rope)
 }
 
+fn cut_between_letters(rt: &impl Abort, rope: &mut Rope) -> Result<(), Fail> {
+    rope.try_insert(492, "\r\n")?;
+    let is_cut = rope.chunks().count() == 2 && lie_together(rope, 492);
+    assert!(rt; lens(rope) == [986, 986, 2, 986] && is_cut);
+    Ok(())
+}
+
+#[test]
+fn a_full_leaf_that_is_cut(rt: HostRuntime) -> Result<(), Fail> {
+    let mut rope = rope_of(rt.alloc(), "a", 984)?;
+    cut_between_letters(&rt, &mut rope)
+}
+
 /// The break that is put in makes a pair with the one before it or behind it.
 fn pair_up(rt: &impl Abort, rope: &mut Rope, char_idx: usize, more: &str) -> Result<(), Fail> {
     rope.try_insert(char_idx, more)?;

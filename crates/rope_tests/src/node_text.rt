@@ -13,7 +13,8 @@ fn hello() -> NodeText
 #[test]
 fn inserts(rt: HostRuntime) {
     let mut inner = hello();
-    inner.insert_str(3, "oz");
+    let place = inner.byte_range(3, 3, inner.count_chars()).from;
+    inner.insert_bytes(place, "oz");
     let mut last = hello();
     last.push_str("oz");
     assert!(rt; [inner.as_str(), last.as_str()] == ["Helozlo!", "Hello!oz"]);
@@ -34,17 +35,4 @@ fn removals_of_a_wide_character(rt: HostRuntime) {
     let range = text.byte_range(1, 3, text.count_chars());
     text.remove_bytes(range);
     assert!(rt; text.as_str() == "Hlo!");
-}
-
-#[test]
-fn full_leaf_splits(rt: HostRuntime) {
-    let bytes = [b'a'; 984];
-    let full = std::str::from_utf8(&bytes).expect(&rt, "ASCII");
-    let mut front = NodeText::from_str(full);
-    assert!(rt; front.insert_or_split(984, "").is_none());
-    let back = front
-        .insert_or_split(492, "\r\n")
-        .expect(&rt, "a leaf too full");
-    assert!(rt; front.len() + back.len() == 986 && front.count_chars() == front.len());
-    assert!(rt; front.as_str().contains('\r') == front.as_str().contains('\n'));
 }
