@@ -1,5 +1,5 @@
 -- A tree of no text has no leaves, and is one node.
-use Rattle.std.proofs.Common.{◌≡◌, ℕ, ◌-◌, ◌<◌, ◌≤◌, ◌^◌, [], length, inl, inr, ap, arith}
+use Rattle.std.proofs.Common.{◌≡◌, ◌-◌, ◌^◌, [], length, inl, inr, ap, arith}
 use Rattle.std.specs.List.{concat}
 use Rattle.std.proofs.lemmas.List.{nil_from_length}
 use Rattle.std.proofs.lemmas.Str.{length-le-encodes}

@@ -1,8 +1,5 @@
 -- The leaves have the text, and the tree has the leaves.
-use Rattle.std.proofs.Common.{ap, ◌≡◌, ◌∙◌, true, length, sym, arith}
-use Rattle.std.proofs.lemmas.Bool.Decides.{nat_tests}
-use Rattle.std.proofs.lemmas.Str.{chars-nil}
-use Rattle.std.specs.Prelude.{◌==◌}
+use Rattle.std.proofs.Common.{ap, ◌∙◌, length, arith}
 use Rattle.std.specs.Str.{chars}
 use Rattle.rope_text.proofs.Walks.{byte_len-chars}
 use Rattle.rope_tree.specs.Tree.{Tree}

@@ -1,5 +1,5 @@
 -- Two texts made of one that is too long for a leaf.
-use Rattle.std.proofs.Common.{◌≡◌, ◌∙◌, ◌++◌, take, drop, length, ap, ap₂, sym, subst, arith, take-append-drop}
+use Rattle.std.proofs.Common.{◌≡◌, ◌∙◌, ◌++◌, take, ap, ap₂, sym, subst, arith, take-append-drop}
 use Rattle.std.proofs.lemmas.Str.{chars-append}
 use Rattle.std.specs.Str.{chars, IsUtf8}
 use Rattle.rope_text.specs.Cutting.{parts_crlf}
