@@ -14,9 +14,10 @@ returns-clause-joined c =
     sym (chars-append c.range.result.now c.range_from.result.now c.range.utf8) ∙ ap chars parts
 
 pub returns-clause-some : goal.returns-clause-some
-returns-clause-some c =
-    (has_chars c.range.result.now c.range.utf8 (omega (arith, c.range.ensures.len, c.split_place-cut.ensures.left)),
-    has_chars c.range_from.result.now c.range_from.utf8 (omega (arith, c.range_from.ensures.len, c.split_place-cut.ensures.right)))
+returns-clause-some c = (
+  has_chars c.range.result.now c.range.utf8 (omega (arith, c.range.ensures.len, c.split_place-cut.ensures.left)),
+  has_chars c.range_from.result.now c.range_from.utf8 (omega (arith, c.range_from.ensures.len, c.split_place-cut.ensures.right)),
+)
 
 pub returns-clause-apart : goal.returns-clause-apart
 returns-clause-apart c =

@@ -27,7 +27,7 @@ new-requires-clause-bytes c = (low (goal.at.new-requires-clause-bytes c).Start).
 
 pub invariant_of-result : goal.invariant_of-result
 invariant_of-result c = record {
-    fits = rw c.from_str.ensures.value (fits (goal.at.invariant_of-result c).Start);
-    scalars = rw c.from_str.ensures.value (scalars-chars c.args.text.now c.utf8.text);
-    counted = rw (c.from_str.ensures.value, c.new.ensures.breaks) (c.new.ensures.info ∙ c.requires.info);
+  fits = rw c.from_str.ensures.value (fits (goal.at.invariant_of-result c).Start);
+  scalars = rw c.from_str.ensures.value (scalars-chars c.args.text.now c.utf8.text);
+  counted = rw (c.from_str.ensures.value, c.new.ensures.breaks) (c.new.ensures.info ∙ c.requires.info);
 }
