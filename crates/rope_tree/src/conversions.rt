@@ -46,7 +46,8 @@ pub fn byte_to_line(node: &Node, byte_idx: usize, steps: &mut Steps) -> usize
     let found = leaf_at(node, Unit::Byte, byte_idx, steps);
     let leaf = found.leaf.as_str();
     let at = byte_idx - found.before.bytes;
-    found.before.break_count + str_utils::byte_to_line_with(leaf, at, node.line_breaks())
+    let count = found.inside.break_count;
+    found.before.break_count + str_utils::byte_to_line_of(leaf, count, at, node.line_breaks())
 }
 
 /// The byte at which a character starts; at the end of the text its length.

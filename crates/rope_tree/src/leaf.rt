@@ -109,7 +109,7 @@ impl Leaf {
         ensures done { result ≡ true → IsInserted self.old (self.new ∷ []) (inserted (text self.old) at added.now) }
         ensures kept { result ≡ false → self.new ≡ self.old }
     {
-        if self.text.len() + added.len() > MAX_BYTES {
+        if self.text.len() + added.len() > MAX_BYTES || self.text.is_no_text() {
             return false;
         }
         let old = self.summary;
@@ -159,6 +159,9 @@ impl Leaf {
         ensures done { result ≡ true → IsRemoved least.first least.last self.old self.new start end }
         ensures kept { result ≡ false → self.new ≡ self.old }
     {
+        if self.text.is_no_text() {
+            return false;
+        }
         let old = self.summary;
         let breaks = old.line_breaks();
         let least = least.first.max(least.last);

@@ -16,10 +16,11 @@ use crate::short_text::ShortText;
 use rope_text::str_utils::first_char;
 use rope_text::{Steps, TextInfo};
 
-/// A leaf, and the counts of the text before it.
+/// A leaf, its counts, and those of the text before it.
 #[derive(Drop)]
 pub struct Found<'a> {
     pub leaf: ShortText<'a>,
+    pub inside: TextInfo,
     pub before: TextInfo,
 }
 
@@ -45,6 +46,7 @@ pub fn leaf_at<'a>(node: &'a Node, unit: Unit, at: usize, steps: &mut Steps) -> 
     requires room { steps.old.nodes + node.now.height + 1 < 2 ^ 64 }
     requires room_to_compare { steps.old.compares + 5 * node.now.height < 2 ^ 64 }
     ensures found { IsFound unit at node.now result.leaf result.before }
+    ensures inside { result.inside ≡ info_of node.now.breaks result.leaf }
     ensures nodes { steps.new.nodes ≡ steps.old.nodes + node.now.height + 1 }
     ensures compares { steps.new.compares ≤ steps.old.compares + 5 * node.now.height }
     ensures counted { steps.old.compares + node.now.height ≤ steps.new.compares }
@@ -57,7 +59,13 @@ pub fn leaf_at<'a>(node: &'a Node, unit: Unit, at: usize, steps: &mut Steps) -> 
     'down: loop {
         steps.nodes += 1;
         match here.view() {
-            View::Leaf(leaf) => return Found { leaf, before },
+            View::Leaf(leaf) => {
+                return Found {
+                    leaf,
+                    inside: here.info(),
+                    before,
+                };
+            }
             View::Inner(children, totals) => {
                 let place = place_of(totals, unit, rest, steps);
                 let child = &children[place];

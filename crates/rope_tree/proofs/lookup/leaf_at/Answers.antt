@@ -1,8 +1,9 @@
-use Rattle.std.proofs.Common.{ap, refl, arith}
+use Rattle.std.proofs.Common.{ap, ap₂, refl, ◌∙◌, arith}
 use Rattle.rope_tree.specs.Tree.{breaks_of}
 use Rattle.rope_tree.specs.Search.{IsSmall}
-use Rattle.rope_text.specs.TextInfo.{info_sum}
+use Rattle.rope_text.specs.TextInfo.{info_of, info_sum}
 use Rattle.rope_tree.proofs.NodeLaws.{small_totals}
+use Rattle.rope_tree.proofs.InsertLeaves.{text_of_leaf}
 use Rattle.rope_tree.proofs.Descents.{Descends, descends}
 use Rattle.rope_tree.proofs.OnTheWay.{at_start, at_end, further, small_more}
 use Rattle.rope_tree.proofs.lookup.leaf_at.Goals.{After-total_before-front}
@@ -74,3 +75,8 @@ down-preserved c =
 
 pub returns-in-Leaf-clause-found : goal.returns-in-Leaf-clause-found
 returns-in-Leaf-clause-found c = at_end c.args.unit c.args.at c.args.node.now c.down.here.now c.down.rest c.down.before c.in-Leaf.leaf c.height.ensures.tree c.down.invariant.0 c.in-Leaf.ensures.is
+
+pub returns-in-Leaf-clause-inside : goal.returns-in-Leaf-clause-inside
+returns-in-Leaf-clause-inside c =
+    let here = c.down.here.now in
+    c.info.ensures ∙ ap₂ info_of c.down.invariant.0.same_breaks (text_of_leaf here.breaks here c.in-Leaf.leaf c.in-Leaf.ensures.is)
