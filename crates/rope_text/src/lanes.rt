@@ -611,6 +611,10 @@ fn count_few(bytes: &[u8], breaks: LineBreaks) -> (usize, usize, usize)
     for at in 0..bytes.len() {
         let byte = bytes[at];
         chars += chars_begun(byte);
+        // Letters are asked for nothing else.
+        if (0x0E..0xC2).contains(&byte) {
+            continue;
+        }
         pairs += pairs_begun(byte);
         break_count += breaks_begun(bytes, at, breaks);
     }
