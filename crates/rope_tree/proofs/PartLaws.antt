@@ -11,7 +11,6 @@ use Rattle.rope_text.specs.TextInfo.{info_of, info_sum}
 use Rattle.rope_text.proofs.InfoLaws.{info_of-append_apart}
 use Rattle.rope_tree.specs.Leaves.{AreLeaves}
 use Rattle.rope_text.specs.Text.{byte_len}
-use Rattle.rope_tree.specs.declared.node.row.NewList.{NewList}
 use Rattle.rope_tree.specs.Tree.{Tree, joined, leaves_of, height_of, breaks_of, IsChild, AreChildren}
 use Rattle.rope_tree.specs.Siblings.{AreSiblings}
 use Rattle.rope_tree.specs.Totals.{HasTotals, IsTotalOf}
@@ -19,7 +18,7 @@ use Rattle.rope_tree.specs.Search.{IsSmall, HasPart}
 use Rattle.rope_tree.specs.Narrow.{FitsWith}
 use Rattle.rope_tree.specs.Flat.{IsFlat}
 use Rattle.rope_tree.specs.Rows.{IsPart}
-use Rattle.rope_tree.specs.NewList.{nodes_in, IsNewList}
+use Rattle.rope_tree.specs.NewList.{NewList, nodes_in, IsNewList}
 use Rattle.rope_tree.proofs.LeafLaws.{leaves_left, leaves_seam}
 use Rattle.rope_tree.proofs.NodeLaws.{leaves_of-append, joined-append, byte_len-joined, small_totals}
 use Rattle.rope_tree.proofs.TreeLaws.{breaks_of_is}

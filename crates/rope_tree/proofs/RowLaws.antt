@@ -1,21 +1,21 @@
 -- Lists of children that grow at their end.
-use Rattle.std.proofs.Common.{◌≡◌, ℕ, ◌+◌, ◌-◌, ◌/◌, ◌<◌, List, [], ◌∷◌, ◌++◌, length, get_or, set, take, drop, refl, sym, ap, subst, ◌∙◌, arith, inl, inr}
+use Rattle.std.proofs.Common.{◌≡◌, ℕ, ◌+◌, ◌-◌, ◌/◌, ◌<◌, ◌≤◌, List, [], ◌∷◌, ◌++◌, length, get_or, set, take, drop, refl, sym, ap, subst, ◌∙◌, arith, inl, inr}
 use Rattle.std.proofs.lemmas.Bool.{cases_lt}
-use Rattle.std.proofs.lemmas.List.{append-nil, append_assoc, length-append, length-set, take_all, take_more, take-set-le, take-append-le, take-append-drop, get_or-set_same, drop_all, drop-append-le, drop-set-lt, drop-drop}
+use Rattle.std.proofs.lemmas.List.{append-nil, append_assoc, length-append, length-drop, length-set, take_all, take_more, take-set-le, take-append-le, take-append-drop, get_or-set_same, drop_all, drop-append-le, drop-set-lt, drop-drop}
+use Rattle.std.specs.List.{All}
 use Rattle.std.proofs.lemmas.List.Elements.{All-nil, All-head, All-drop}
-use Rattle.std.proofs.Math.Seq.{take-append_seam, take-append-add, drop-append-add}
+use Rattle.std.proofs.Math.Seq.{take-append_seam, take-append-add, drop-append_seam, drop-append-add}
 use Rattle.rope_text.specs.declared.line_breaks.LineBreaks.{LineBreaks}
 use Rattle.rope_text.specs.declared.text_info.TextInfo.{TextInfo}
 use Rattle.rope_text.specs.TextInfo.{info_of, info_sum}
 use Rattle.rope_text.proofs.InfoLaws.{info_of-append_apart}
-use Rattle.rope_tree.specs.declared.node.row.NewList.{NewList}
 use Rattle.rope_tree.specs.Leaves.{AreLeaves}
 use Rattle.rope_tree.specs.Tree.{Tree, text, joined, leaves_of, height_of, breaks_of, IsChild, AreChildren}
 use Rattle.rope_tree.specs.Siblings.{AreSiblings}
 use Rattle.rope_tree.specs.Totals.{HasTotals, IsTotalOf}
 use Rattle.rope_tree.specs.Search.{IsSmall}
 use Rattle.rope_tree.specs.Flat.{IsFlat}
-use Rattle.rope_tree.specs.NewList.{nodes_in, IsNewList}
+use Rattle.rope_tree.specs.NewList.{NewList, nodes_in, IsNewList}
 use Rattle.rope_tree.proofs.LeafLaws.{leaves_seam, all_right, no_leaves}
 use Rattle.rope_tree.proofs.Infos.{small_info}
 use Rattle.rope_tree.proofs.NodeLaws.{leaves_of-append, joined-append, joined_one, totals_more, children_of_first}
@@ -107,6 +107,24 @@ module _ (xs : List Tree) (x : Tree) (s : AreSiblings (breaks_of (xs ++ x ∷ []
           totals_right = rw more_in more_totals;
           places = rw behind (All-drop IsFlat 1 (drop (length a.totals) a.nodes) i.places);
         }
+
+-- nodes in the first places of a list that had none
+pub shared_list : (old new : NewList) (known : List TextInfo) (nodes : List Tree) → IsNewList old → nodes_in old ≡ [] → HasTotals (breaks_of nodes) known nodes → length nodes ≤ 24 → new.totals ≡ known
+    → new.nodes ≡ take 0 old.nodes ++ (nodes ++ drop (0 + length nodes) old.nodes) → IsNewList new
+shared_list old new known nodes i none h few totals places =
+    let n = length nodes in
+    let empty : length old.totals ≡ 0 = i.totals_right.as_many ∙ ap length none in
+    let flat : All IsFlat old.nodes = subst (λ m. All IsFlat (drop m old.nodes)) empty i.places in
+    let whole : 0 + n ≡ n = omega arith in
+    let now : new.nodes ≡ nodes ++ drop n old.nodes = places ∙ ap (λ m. nodes ++ drop m old.nodes) whole in
+    let many : length new.totals ≡ n = ap length totals ∙ h.as_many in
+    let seen : nodes_in new ≡ nodes = (rw (many, now) refl) ∙ take-append_seam nodes (drop n old.nodes) in
+    let behind : drop (length new.totals) new.nodes ≡ drop n old.nodes = (rw (many, now) refl) ∙ drop-append_seam nodes (drop n old.nodes) in
+    record {
+      room = omega (arith, ap length now, length-append nodes (drop n old.nodes), length-drop n old.nodes, i.room, few);
+      totals_right = rw (seen, totals) h;
+      places = rw behind (All-drop IsFlat n old.nodes flat);
+    }
 
 -- trees in front of others
 pub front_siblings : (xs ys : List Tree) → AreSiblings (breaks_of (xs ++ ys)) (height_of (xs ++ ys)) (xs ++ ys) → AreSiblings (breaks_of xs) (height_of xs) xs

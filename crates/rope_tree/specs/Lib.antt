@@ -6,6 +6,7 @@ pub mod Totals
 pub mod Narrow
 pub mod NarrowShape
 pub mod WideShape
+pub mod Shifted
 pub mod TotalsShape
 pub mod Flat
 pub mod LeafTree

@@ -2,10 +2,18 @@
 use Rattle.std.specs.Prelude.{◌≡◌, List, length, take, drop}
 use Rattle.std.specs.List.{All}
 use Rattle.rope_text.specs.declared.TheConstants.{MAX_CHILDREN}
+use Rattle.rope_text.specs.declared.text_info.TextInfo.{TextInfo}
 use Rattle.rope_tree.specs.Tree.{Tree, breaks_of}
 use Rattle.rope_tree.specs.Totals.{HasTotals}
 use Rattle.rope_tree.specs.Flat.{IsFlat}
-use Rattle.rope_tree.specs.declared.node.row.NewList.{NewList}
+
+-- the places of its nodes, and the totals of the first of them
+pub record NewList : Type 0 where
+  pub totals : List TextInfo
+  pub nodes : List Tree
+
+abbrev pub new_list : List TextInfo → List Tree → NewList
+new_list totals nodes = record { totals = totals; nodes = nodes }
 
 -- the nodes that have totals
 abbrev pub nodes_in : NewList → List Tree

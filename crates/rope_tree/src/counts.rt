@@ -29,7 +29,7 @@ fn begins_with_lf(text: &str) -> bool
 }
 
 /// How many breaks two texts have less where they are joined: one where a CR that is a break meets an LF.
-fn shared_breaks(first: &str, second: &str, breaks: LineBreaks) -> usize
+pub fn shared_breaks(first: &str, second: &str, breaks: LineBreaks) -> usize
     ensures { result ≡ shared_breaks breaks (chars first.now) (chars second.now) }
 {
     if ends_in_cr(first) && begins_with_lf(second) && breaks.is_break('\r') {

@@ -2,7 +2,7 @@
 ghost use Rattle.std.specs.Prelude.{◌≡◌, ◌+◌, ◌<◌, ◌≤◌, List, length, take, drop, IfOk};
 ghost use Rattle.std.specs.List.{All};
 ghost use Rattle.std.specs.Str.{chars};
-ghost use Rattle.rope_text.specs.declared.TheConstants.{MAX_BYTES, MAX_HEIGHT};
+ghost use Rattle.rope_text.specs.declared.TheConstants.{MAX_BYTES, MAX_CHILDREN, MAX_HEIGHT};
 ghost use Rattle.rope_text.specs.TextInfo.{info_of};
 ghost use Rattle.rope_tree.specs.Tree.{Tree, text, joined, height_of, breaks_of, leaf_tree, tree_over, IsTree, AreChildren};
 ghost use Rattle.rope_tree.specs.Totals.{HasTotals};
@@ -99,6 +99,7 @@ impl Children {
     fn parts(&self) -> ListParts<'_>
         ensures totals { HasTotals (breaks_of self.now) result.totals.now self.now }
         ensures nodes { result.nodes.now ≡ self.now }
+        ensures few { length self.now ≤ MAX_CHILDREN }
     {
         ListParts {
             totals: &self.totals,
@@ -133,10 +134,10 @@ impl Children {
 impl Default for Node {
     ghost is_default = { IsFlat };
 
-    /// An empty node.
+    /// An empty node, of which each byte is 0: so the places of a list are cleared at once.
     fn default() -> Self {
         Node {
-            form: Form::Empty(LineBreaks::Unicode),
+            form: Form::Empty(LineBreaks::Lf),
         }
     }
 }

@@ -74,18 +74,14 @@ fn put_row<T: Copy>(counts: &mut [T], place: usize, others: &[T], from: usize, c
     counts[place..place + count].copy_from_slice(&others[from..from + count]);
 }
 
-/// The same totals in words, and one more behind them. It is kept out of the callers, which seldom come to it.
+/// The same totals in words. It is kept out of the callers, which seldom come to it.
 #[inline(never)]
-fn widened(
-    alloc: Global,
-    totals: &NarrowTotals,
-    total: TextInfo,
-) -> Result<Box<WideTotals>, AllocError>
-    requires { length totals.now < MAX_CHILDREN }
-    ensures { IfOk result (λ wide. wide.value ≡ totals.now ++ total ∷ []) }
+fn widened(alloc: Global, totals: &NarrowTotals) -> Result<Box<WideTotals>, AllocError>
+    requires { length totals.now ≤ MAX_CHILDREN }
+    ensures { IfOk result (λ wide. wide.value ≡ totals.now) }
 {
-    let mut wide = Box::new(alloc, WideTotals::of(totals))?;
-    wide.push(total);
+    let mut wide = Box::new(alloc, WideTotals::new())?;
+    wide.push_all(totals);
     Ok(wide)
 }
 
@@ -174,7 +170,9 @@ impl Totals {
                     totals.push(total);
                     return Ok(());
                 }
-                self.width = Width::Wide(widened(alloc, totals, total)?);
+                let mut wide = widened(alloc, totals)?;
+                wide.push(total);
+                self.width = Width::Wide(wide);
             }
             Width::Wide(totals) => totals.push(total),
         }
@@ -187,7 +185,7 @@ impl Totals {
         ensures { self.new ≡ self.old }
     {
         if let Width::Narrow(totals) = &self.width {
-            self.width = Width::Wide(Box::new(alloc, WideTotals::of(totals))?);
+            self.width = Width::Wide(widened(alloc, totals)?);
         }
         Ok(())
     }

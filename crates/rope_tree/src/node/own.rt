@@ -1,28 +1,54 @@
 //! Nodes that other trees have too are copied before they are changed where they stand.
-ghost use Rattle.std.specs.Prelude.{◌≡◌, ◌+◌, ◌≤◌, IfOk};
+ghost use Rattle.std.specs.Prelude.{◌≡◌, ◌+◌, ◌≤◌, [], length, OnOk};
+ghost use Rattle.rope_text.specs.declared.TheConstants.{MAX_CHILDREN};
+ghost use Rattle.rope_tree.specs.Tree.{breaks_of};
+ghost use Rattle.rope_tree.specs.Totals.{HasTotals};
+ghost use Rattle.rope_tree.specs.NewList.{new_list, nodes_in, IsNewList};
 ghost use Rattle.rope_tree.specs.Shape.{form_tree, IsForm};
 
-use super::{Children, Form, Node, add_made};
+use super::row::{clear, empty_list, share_all};
+use super::{Children, Form, ListParts, Node, add_made};
 use crate::leaf::Leaf;
-use rope_text::MAX_CHILDREN;
+use crate::search::Totals;
 use std::alloc::{AllocError, Global};
 use std::rc::Rc;
 
+/// Shares the nodes of a list, and puts them into one that has none. Their totals are copied, and no node is looked at.
+#[inline(always)]
+fn share_list(
+    alloc: Global,
+    totals: &mut Totals,
+    places: &mut [Node],
+    known: &Totals,
+    nodes: &[Node],
+) -> Result<(), AllocError>
+    requires list { IsNewList (new_list totals.old places.old) }
+    requires none { nodes_in (new_list totals.old places.old) ≡ [] }
+    requires known { HasTotals (breaks_of nodes.now) known.now nodes.now }
+    requires room { length nodes.now ≤ MAX_CHILDREN }
+    ensures list { OnOk result (IsNewList (new_list totals.new places.new)) }
+    ensures nodes { OnOk result (nodes_in (new_list totals.new places.new) ≡ nodes.now) }
+{
+    *totals = known.copied(alloc)?;
+    share_all(places, 0, nodes)?;
+    Ok(())
+}
+
 impl Children {
-    /// The same nodes in a list of their own. Their totals are copied, and no node is looked at.
-    fn copied(&self, alloc: Global) -> Result<Children, AllocError>
-        ensures { IfOk result (λ copy. copy ≡ self.now) }
+    /// Shares the nodes of another list, where it has none. Where memory is refused it has none again.
+    fn copy(&mut self, others: &Children, alloc: Global) -> Result<(), AllocError>
+        requires none { self.old ≡ [] }
+        ensures { OnOk result (self.new ≡ others.now) }
     {
-        let mut nodes: [Node; MAX_CHILDREN] = Default::default();
-        for place in 0..self.totals.len() {
-            nodes[place] = self.nodes[place].share()?;
+        let ListParts { totals, nodes } = others.parts();
+        let shared = share_list(alloc, &mut self.totals, &mut self.nodes, totals, nodes);
+        if shared.is_ok() {
+            self.height = others.height;
+            self.breaks = others.breaks;
+        } else {
+            clear(&mut self.totals, &mut self.nodes);
         }
-        Ok(Children {
-            height: self.height,
-            breaks: self.breaks,
-            totals: self.totals.copied(alloc)?,
-            nodes,
-        })
+        shared
     }
 }
 
@@ -48,7 +74,13 @@ fn copy_children(
     ensures made { made.new ≤ made.old + 1 }
 {
     add_made(made);
-    *children = Rc::new(alloc, children.copied(alloc)?)?;
+    let mut list = empty_list(alloc)?;
+    // A list that was just made has no other owner, so that it can always be changed.
+    let Some(copy) = Rc::get_mut(&mut list) else {
+        return Err(AllocError);
+    };
+    copy.copy(children, alloc)?;
+    *children = list;
     Ok(())
 }
 

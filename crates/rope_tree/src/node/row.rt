@@ -6,12 +6,12 @@ ghost use Rattle.rope_tree.specs.Totals.{IsTotalOf};
 ghost use Rattle.rope_tree.specs.View.{trees_in};
 ghost use Rattle.rope_tree.specs.Siblings.{AreSiblings, AreParts};
 ghost use Rattle.rope_tree.specs.Rows.{IsPart, IsRow};
-ghost use Rattle.rope_tree.specs.NewList.{nodes_in, IsNewList};
+ghost use Rattle.rope_tree.specs.NewList.{new_list, nodes_in, IsNewList};
 
 use super::{Children, Form, Node, Nodes, add_made};
 use crate::lookup::total_before;
 use crate::search::Totals;
-use rope_text::{MAX_CHILDREN, TextInfo};
+use rope_text::{LineBreaks, MAX_CHILDREN, TextInfo};
 use std::alloc::{AllocError, Global};
 use std::rc::Rc;
 
@@ -24,16 +24,9 @@ pub struct Row<'a> {
     pub from: usize,
 }
 
-/// A list of children that is being made. The first nodes have totals, and behind them stand empty ones.
-#[derive(Drop)]
-struct NewList {
-    totals: Totals,
-    nodes: [Node; MAX_CHILDREN],
-}
-
 /// Shares nodes, and puts them in the places of as many others, from a place on.
 #[inline(always)]
-fn share_all(places: &mut [Node], from: usize, nodes: &[Node]) -> Result<(), AllocError>
+pub(super) fn share_all(places: &mut [Node], from: usize, nodes: &[Node]) -> Result<(), AllocError>
     requires { from + length nodes.now ≤ length places.old }
     ensures { OnOk result (places.new ≡ take from places.old ++ (nodes.now ++ drop (from + length nodes.now) places.old)) }
 {
@@ -43,151 +36,192 @@ fn share_all(places: &mut [Node], from: usize, nodes: &[Node]) -> Result<(), All
     Ok(())
 }
 
-impl NewList {
-    /// A list of no node.
-    #[inline(always)]
-    fn new() -> NewList
-        ensures list { IsNewList result }
-        ensures none { nodes_in result ≡ [] }
-    {
-        NewList {
-            totals: Totals::new(),
-            nodes: Default::default(),
-        }
-    }
-
-    /// Puts a node behind the others, whose counts the caller knows; returns the counts with it. So no total is read that was
-    /// written just before.
-    #[inline(always)]
-    fn push(&mut self, alloc: Global, node: Node, before: TextInfo) -> Result<TextInfo, AllocError>
-        requires list { IsNewList self.old }
-        requires room { length (nodes_in self.old) < MAX_CHILDREN }
-        requires before { IsTotalOf (nodes_in self.old) before }
-        requires siblings { AreSiblings (breaks_of (nodes_in self.old ++ node ∷ [])) (height_of (nodes_in self.old ++ node ∷ [])) (nodes_in self.old ++ node ∷ []) }
-        ensures list { OnOk result (IsNewList self.new) }
-        ensures nodes { OnOk result (nodes_in self.new ≡ nodes_in self.old ++ node ∷ []) }
-        ensures total { IfOk result (IsTotalOf (nodes_in self.new)) }
-    {
-        let count = self.totals.len();
-        let total = before.plus(node.info());
-        self.totals.push(alloc, total)?;
-        self.nodes[count] = node;
-        Ok(total)
-    }
-
-    /// Shares the nodes, and puts them behind the others, whose counts the caller knows; returns the counts with them.
-    #[inline(always)]
-    fn push_all(
-        &mut self,
-        alloc: Global,
-        nodes: &[Node],
-        before: TextInfo,
-    ) -> Result<TextInfo, AllocError>
-        requires list { IsNewList self.old }
-        requires room { length (nodes_in self.old) + length nodes.now ≤ MAX_CHILDREN }
-        requires before { IsTotalOf (nodes_in self.old) before }
-        requires siblings { AreSiblings (breaks_of (nodes_in self.old ++ nodes.now)) (height_of (nodes_in self.old ++ nodes.now)) (nodes_in self.old ++ nodes.now) }
-        ensures list { OnOk result (IsNewList self.new) }
-        ensures nodes { OnOk result (nodes_in self.new ≡ nodes_in self.old ++ nodes.now) }
-        ensures total { IfOk result (IsTotalOf (nodes_in self.new)) }
-    {
-        let mut total = before;
-        for node in nodes {
-            total = self.push(alloc, node.share()?, total)?;
-        }
-        Ok(total)
-    }
-
-    /// The same with nodes whose totals are known, which are moved in rows.
-    fn push_known(
-        &mut self,
-        alloc: Global,
-        nodes: &[Node],
-        totals: &Totals,
-        from: usize,
-        before: TextInfo,
-    ) -> Result<TextInfo, AllocError>
-        requires list { IsNewList self.old }
-        requires some { 1 ≤ length nodes.now }
-        requires room { length (nodes_in self.old) + length nodes.now ≤ MAX_CHILDREN }
-        requires part { IsPart nodes.now totals.now from }
-        requires before { IsTotalOf (nodes_in self.old) before }
-        requires siblings { AreSiblings (breaks_of (nodes_in self.old ++ nodes.now)) (height_of (nodes_in self.old ++ nodes.now)) (nodes_in self.old ++ nodes.now) }
-        ensures list { OnOk result (IsNewList self.new) }
-        ensures nodes { OnOk result (nodes_in self.new ≡ nodes_in self.old ++ nodes.now) }
-        ensures total { IfOk result (IsTotalOf (nodes_in self.new)) }
-    {
-        let base = total_before(totals, from);
-        let count = self.totals.len();
-        if !self
-            .totals
-            .append(alloc, totals, from, nodes.len(), base, before)?
-        {
-            return self.push_all(alloc, nodes, before);
-        }
-        share_all(&mut self.nodes, count, nodes)?;
-        Ok(self.totals.get(self.totals.len() - 1))
-    }
-
-    /// The same with any row.
-    #[inline(always)]
-    fn push_row(
-        &mut self,
-        alloc: Global,
-        row: Row<'_>,
-        before: TextInfo,
-    ) -> Result<TextInfo, AllocError>
-        requires list { IsNewList self.old }
-        requires room { length (nodes_in self.old) + length row.nodes.now ≤ MAX_CHILDREN }
-        requires row { IsRow row }
-        requires before { IsTotalOf (nodes_in self.old) before }
-        requires siblings { AreSiblings (breaks_of (nodes_in self.old ++ row.nodes.now)) (height_of (nodes_in self.old ++ row.nodes.now)) (nodes_in self.old ++ row.nodes.now) }
-        ensures list { OnOk result (IsNewList self.new) }
-        ensures nodes { OnOk result (nodes_in self.new ≡ nodes_in self.old ++ row.entry.nodes.now) }
-        ensures total { IfOk result (IsTotalOf (nodes_in self.new)) }
-    {
-        match row.totals {
-            Some(totals) if !row.nodes.is_empty() => {
-                self.push_known(alloc, row.nodes, totals, row.from, before)
-            }
-            _ => self.push_all(alloc, row.nodes, before),
-        }
-    }
-}
-
-/// A node over the nodes of a list.
+/// Puts a node behind the others of a list, whose counts the caller knows; returns the counts with it. So no total is read that
+/// was written just before.
 #[inline(always)]
-fn inner_over(alloc: Global, list: NewList) -> Result<Node, AllocError>
-    requires list { IsNewList list }
-    requires children { AreChildren (breaks_of (nodes_in list)) (height_of (nodes_in list)) (nodes_in list) }
-    ensures { IfOk result (λ node. node ≡ tree_over (nodes_in list)) }
+fn push(
+    alloc: Global,
+    totals: &mut Totals,
+    places: &mut [Node],
+    node: Node,
+    before: TextInfo,
+) -> Result<TextInfo, AllocError>
+    requires list { IsNewList (new_list totals.old places.old) }
+    requires room { length (nodes_in (new_list totals.old places.old)) < MAX_CHILDREN }
+    requires before { IsTotalOf (nodes_in (new_list totals.old places.old)) before }
+    requires siblings { let ts = nodes_in (new_list totals.old places.old) ++ node ∷ [] in AreSiblings (breaks_of ts) (height_of ts) ts }
+    ensures list { OnOk result (IsNewList (new_list totals.new places.new)) }
+    ensures nodes { OnOk result (nodes_in (new_list totals.new places.new) ≡ nodes_in (new_list totals.old places.old) ++ node ∷ []) }
+    ensures total { IfOk result (IsTotalOf (nodes_in (new_list totals.new places.new))) }
 {
-    let NewList { totals, nodes } = list;
-    let children = Children {
-        height: (nodes[0].height() + 1) as u8,
-        breaks: nodes[0].line_breaks(),
-        totals,
-        nodes,
+    let count = totals.len();
+    let total = before.plus(node.info());
+    totals.push(alloc, total)?;
+    places[count] = node;
+    Ok(total)
+}
+
+/// Shares the nodes, and puts them behind the others of a list, whose counts the caller knows; returns the counts with them.
+#[inline(always)]
+fn push_all(
+    alloc: Global,
+    totals: &mut Totals,
+    places: &mut [Node],
+    nodes: &[Node],
+    before: TextInfo,
+) -> Result<TextInfo, AllocError>
+    requires list { IsNewList (new_list totals.old places.old) }
+    requires room { length (nodes_in (new_list totals.old places.old)) + length nodes.now ≤ MAX_CHILDREN }
+    requires before { IsTotalOf (nodes_in (new_list totals.old places.old)) before }
+    requires siblings { let ts = nodes_in (new_list totals.old places.old) ++ nodes.now in AreSiblings (breaks_of ts) (height_of ts) ts }
+    ensures list { OnOk result (IsNewList (new_list totals.new places.new)) }
+    ensures nodes { OnOk result (nodes_in (new_list totals.new places.new) ≡ nodes_in (new_list totals.old places.old) ++ nodes.now) }
+    ensures total { IfOk result (IsTotalOf (nodes_in (new_list totals.new places.new))) }
+{
+    let mut total = before;
+    for node in nodes {
+        total = push(alloc, totals, places, node.share()?, total)?;
+    }
+    Ok(total)
+}
+
+/// The same with a row that isn't empty, whose totals are known: they are moved in rows.
+fn push_known(
+    alloc: Global,
+    totals: &mut Totals,
+    places: &mut [Node],
+    row: Row<'_>,
+    known: &Totals,
+    before: TextInfo,
+) -> Result<TextInfo, AllocError>
+    requires list { IsNewList (new_list totals.old places.old) }
+    requires some { 1 ≤ length row.nodes.now }
+    requires room { length (nodes_in (new_list totals.old places.old)) + length row.nodes.now ≤ MAX_CHILDREN }
+    requires part { IsPart row.nodes.now known.now row.from }
+    requires before { IsTotalOf (nodes_in (new_list totals.old places.old)) before }
+    requires siblings { let ts = nodes_in (new_list totals.old places.old) ++ row.nodes.now in AreSiblings (breaks_of ts) (height_of ts) ts }
+    ensures list { OnOk result (IsNewList (new_list totals.new places.new)) }
+    ensures nodes { OnOk result (nodes_in (new_list totals.new places.new) ≡ nodes_in (new_list totals.old places.old) ++ row.entry.nodes.now) }
+    ensures total { IfOk result (IsTotalOf (nodes_in (new_list totals.new places.new))) }
+{
+    let Row { nodes, from, .. } = row;
+    let base = total_before(known, from);
+    let count = totals.len();
+    if !totals.append(alloc, known, from, nodes.len(), base, before)? {
+        return push_all(alloc, totals, places, nodes, before);
+    }
+    share_all(places, count, nodes)?;
+    Ok(totals.get(totals.len() - 1))
+}
+
+/// The same with any row.
+#[inline(always)]
+fn push_row(
+    alloc: Global,
+    totals: &mut Totals,
+    places: &mut [Node],
+    row: Row<'_>,
+    before: TextInfo,
+) -> Result<TextInfo, AllocError>
+    requires list { IsNewList (new_list totals.old places.old) }
+    requires room { length (nodes_in (new_list totals.old places.old)) + length row.nodes.now ≤ MAX_CHILDREN }
+    requires row { IsRow row }
+    requires before { IsTotalOf (nodes_in (new_list totals.old places.old)) before }
+    requires siblings { let ts = nodes_in (new_list totals.old places.old) ++ row.nodes.now in AreSiblings (breaks_of ts) (height_of ts) ts }
+    ensures list { OnOk result (IsNewList (new_list totals.new places.new)) }
+    ensures nodes { OnOk result (nodes_in (new_list totals.new places.new) ≡ nodes_in (new_list totals.old places.old) ++ row.entry.nodes.now) }
+    ensures total { IfOk result (IsTotalOf (nodes_in (new_list totals.new places.new))) }
+{
+    match row.totals {
+        Some(known) if !row.nodes.is_empty() => {
+            push_known(alloc, totals, places, row, known, before)
+        }
+        _ => push_all(alloc, totals, places, row.nodes, before),
+    }
+}
+
+/// Puts the nodes of three lists into one that has none.
+#[inline(always)]
+fn push_three(
+    alloc: Global,
+    totals: &mut Totals,
+    places: &mut [Node],
+    before: Row<'_>,
+    middle: &[Node],
+    after: Row<'_>,
+) -> Result<(), AllocError>
+    requires list { IsNewList (new_list totals.old places.old) }
+    requires none { nodes_in (new_list totals.old places.old) ≡ [] }
+    requires before { IsRow before }
+    requires after { IsRow after }
+    requires children { let ts = before.nodes.now ++ (middle.now ++ after.nodes.now) in AreChildren (breaks_of ts) (height_of ts) ts }
+    ensures list { OnOk result (IsNewList (new_list totals.new places.new)) }
+    ensures nodes { OnOk result (nodes_in (new_list totals.new places.new) ≡ before.entry.nodes.now ++ (middle.now ++ after.entry.nodes.now)) }
+{
+    let total = push_row(alloc, totals, places, before, TextInfo::new())?;
+    let total = push_all(alloc, totals, places, middle, total)?;
+    push_row(alloc, totals, places, after, total)?;
+    Ok(())
+}
+
+/// Takes all nodes out of a list. It stands by itself, since a caller would clear room for the empty ones at each call.
+#[inline(never)]
+pub(super) fn clear(totals: &mut Totals, places: &mut [Node; MAX_CHILDREN])
+    ensures list { IsNewList (new_list totals.new places.new) }
+    ensures none { nodes_in (new_list totals.new places.new) ≡ [] }
+{
+    *totals = Totals::new();
+    *places = Default::default();
+}
+
+/// A list of no node.
+#[inline(always)]
+pub(super) fn empty_list(alloc: Global) -> Result<Rc<Children>, AllocError>
+    ensures { IfOk result (λ list. list.value ≡ []) }
+{
+    let none = Children {
+        height: 1,
+        breaks: LineBreaks::Unicode,
+        totals: Totals::new(),
+        nodes: Default::default(),
     };
-    let form = Form::Inner(Rc::new(alloc, children)?);
-    Ok(Node { form })
+    Ok(Rc::new(alloc, none)?)
 }
 
-/// A node over nodes side by side, which it shares.
-pub fn node_over(alloc: Global, nodes: &[Node], made: &mut u64) -> Result<Node, AllocError>
-    requires { AreChildren (breaks_of nodes.now) (height_of nodes.now) nodes.now }
-    ensures ok { IfOk result (λ node. node ≡ tree_over nodes.now) }
-    ensures made { made.new ≤ made.old + 1 }
-    ensures added { made.old < 18446744073709551615 → made.new ≡ made.old + 1 }
-    ensures rises { made.old ≤ made.new }
-{
-    add_made(made);
-    let mut list = NewList::new();
-    list.push_all(alloc, nodes, TextInfo::new())?;
-    inner_over(alloc, list)
+impl Children {
+    /// Puts the nodes of three lists, which it shares, into a list that has none. Where memory is refused it has none again.
+    fn fill(
+        &mut self,
+        alloc: Global,
+        before: Row<'_>,
+        middle: &[Node],
+        after: Row<'_>,
+    ) -> Result<(), AllocError>
+        requires none { self.old ≡ [] }
+        requires before { IsRow before }
+        requires after { IsRow after }
+        requires children { let ts = before.nodes.now ++ (middle.now ++ after.nodes.now) in AreChildren (breaks_of ts) (height_of ts) ts }
+        ensures { OnOk result (self.new ≡ before.entry.nodes.now ++ (middle.now ++ after.entry.nodes.now)) }
+    {
+        let filled = push_three(
+            alloc,
+            &mut self.totals,
+            &mut self.nodes,
+            before,
+            middle,
+            after,
+        );
+        if filled.is_ok() {
+            self.height = (self.nodes[0].height() + 1) as u8;
+            self.breaks = self.nodes[0].line_breaks();
+        } else {
+            clear(&mut self.totals, &mut self.nodes);
+        }
+        filled
+    }
 }
 
-/// A node over the nodes of three lists, which it shares.
+/// A node over the nodes of three lists, which it shares. The list is filled where it stays, so that no node is moved.
 #[inline(never)]
 fn make_over(
     alloc: Global,
@@ -205,11 +239,25 @@ fn make_over(
     ensures rises { made.old ≤ made.new }
 {
     add_made(made);
-    let mut list = NewList::new();
-    let total = list.push_row(alloc, before, TextInfo::new())?;
-    let total = list.push_all(alloc, middle, total)?;
-    list.push_row(alloc, after, total)?;
-    inner_over(alloc, list)
+    let mut list = empty_list(alloc)?;
+    // A list that was just made has no other owner, so that it can always be changed.
+    let Some(children) = Rc::get_mut(&mut list) else {
+        return Err(AllocError);
+    };
+    children.fill(alloc, before, middle, after)?;
+    let form = Form::Inner(list);
+    Ok(Node { form })
+}
+
+/// A node over nodes side by side, which it shares.
+pub fn node_over(alloc: Global, nodes: &[Node], made: &mut u64) -> Result<Node, AllocError>
+    requires { AreChildren (breaks_of nodes.now) (height_of nodes.now) nodes.now }
+    ensures ok { IfOk result (λ node. node ≡ tree_over nodes.now) }
+    ensures made { made.new ≤ made.old + 1 }
+    ensures added { made.old < 18446744073709551615 → made.new ≡ made.old + 1 }
+    ensures rises { made.old ≤ made.new }
+{
+    make_over(alloc, Row::none(), nodes, Row::none(), made)
 }
 
 /// The first nodes of a list, so many, or all.
@@ -227,6 +275,19 @@ fn rest_of(nodes: &[Node], past: usize) -> &[Node]
 }
 
 impl<'a> Row<'a> {
+    /// No node.
+    #[inline(always)]
+    pub fn none() -> Row<'a>
+        ensures row { IsRow result }
+        ensures nodes { result.nodes.now ≡ [] }
+    {
+        Row {
+            nodes: &[],
+            totals: None,
+            from: 0,
+        }
+    }
+
     /// The first nodes, so many, or all.
     fn first(self, most: usize) -> Row<'a>
         requires { IsRow self }

@@ -4,6 +4,7 @@ ghost use Rattle.rope_text.specs.declared.TheConstants.{MAX_CHILDREN};
 ghost use Rattle.rope_text.specs.declared.text_info.TextInfo.{TextInfo};
 ghost use Rattle.rope_text.specs.TextInfo.{info_sum};
 ghost use Rattle.rope_tree.specs.Search.{count_of, IsSmall, HasPart};
+ghost use Rattle.rope_tree.specs.Shifted.{IsShifted};
 
 use super::narrow::NarrowTotals;
 use super::{Unit, put_row};
@@ -34,52 +35,33 @@ impl Model for WideTotals {
     ghost invariant = { IsTotals };
 }
 
-/// A mask of all bits.
-const ALL: usize = usize::MAX;
-
-/// No bits for 24 places, and then all bits for 24.
-static MASKS: [usize; 2 * MAX_CHILDREN] = [
-    0, 0, 0, 0, 0, 0, 0, 0, 0, 0, 0, 0, 0, 0, 0, 0, 0, 0, 0, 0, 0, 0, 0, 0, ALL, ALL, ALL, ALL,
-    ALL, ALL, ALL, ALL, ALL, ALL, ALL, ALL, ALL, ALL, ALL, ALL, ALL, ALL, ALL, ALL, ALL, ALL, ALL,
-    ALL,
-];
-
-/// For each of 24 places all bits where it is `from` or behind it, and none before.
+/// Adds numbers, modulo 2^64, to the counts of four rows, from one place on and before another. The rows are gone over side by
+/// side, so that only one loop's end must be guessed.
 #[inline(always)]
-fn masks_from(from: usize) -> &'static [usize]
-    requires { from ≤ MAX_CHILDREN }
-    ensures len { length result.now ≡ MAX_CHILDREN }
-    ensures before { (j : ℕ) → j < from → slice_index result.now j ≡ 0 }
-    ensures behind { (j : ℕ) → from ≤ j → j < MAX_CHILDREN → slice_index result.now j ≡ usize.MAX }
+fn shift_rows(
+    bytes: &mut [usize],
+    chars: &mut [usize],
+    pairs: &mut [usize],
+    breaks: &mut [usize],
+    from: usize,
+    to: usize,
+    more: TextInfo,
+)
+    requires ordered { from ≤ to }
+    requires bytes { to ≤ length bytes.old }
+    requires chars { to ≤ length chars.old }
+    requires pairs { to ≤ length pairs.old }
+    requires breaks { to ≤ length breaks.old }
+    ensures bytes { IsShifted bytes.old bytes.new from to more.bytes }
+    ensures chars { IsShifted chars.old chars.new from to more.chars }
+    ensures pairs { IsShifted pairs.old pairs.new from to more.utf16_surrogates }
+    ensures breaks { IsShifted breaks.old breaks.new from to more.break_count }
 {
-    &MASKS[MAX_CHILDREN - from..2 * MAX_CHILDREN - from]
-}
-
-/// A number, or nothing.
-#[inline(always)]
-fn masked(number: usize, mask: usize) -> usize
-    ensures none { mask ≡ 0 → result ≡ 0 }
-    ensures all { mask ≡ usize.MAX → result ≡ number }
-{
-    number & mask
-}
-
-/// Adds a number, modulo 2^64, to the counts from a place on. It goes over all places, two at once, so that it has no branch that
-/// depends on one; where nothing is added, the counts are left alone.
-#[inline(always)]
-fn shift(counts: &mut [usize], from: usize, more: usize)
-    requires len { length counts.old ≡ MAX_CHILDREN }
-    requires place { from ≤ MAX_CHILDREN }
-    ensures before { (j : ℕ) → j < from → slice_index counts.new j ≡ slice_index counts.old j }
-    ensures after { (j : ℕ) → from ≤ j → j < MAX_CHILDREN → slice_index counts.new j ≡ (slice_index counts.old j + more) % 2 ^ 64 }
-    ensures len { length counts.new ≡ MAX_CHILDREN }
-{
-    if more == 0 {
-        return;
-    }
-    let masks = masks_from(from);
-    for j in 0..MAX_CHILDREN {
-        counts[j] = counts[j].wrapping_add(masked(more, masks[j]));
+    for j in from..to {
+        bytes[j] = bytes[j].wrapping_add(more.bytes);
+        chars[j] = chars[j].wrapping_add(more.chars);
+        pairs[j] = pairs[j].wrapping_add(more.utf16_surrogates);
+        breaks[j] = breaks[j].wrapping_add(more.break_count);
     }
 }
 
@@ -99,22 +81,29 @@ fn put_in(counts: &mut [usize; MAX_CHILDREN], place: usize, len: usize, count: u
 }
 
 impl WideTotals {
-    /// The same totals.
-    pub(super) fn of(totals: &NarrowTotals) -> WideTotals
-        requires { length totals.now ≤ MAX_CHILDREN }
-        ensures { result ≡ totals.now }
+    /// Those of no child.
+    #[inline(always)]
+    pub(super) fn new() -> WideTotals
+        ensures { result ≡ [] }
     {
-        let mut wide = WideTotals {
+        WideTotals {
             len: 0,
             bytes: [0; MAX_CHILDREN],
             chars: [0; MAX_CHILDREN],
             pairs: [0; MAX_CHILDREN],
             breaks: [0; MAX_CHILDREN],
-        };
-        for place in 0..totals.len() {
-            wide.push(totals.get(place));
         }
-        wide
+    }
+
+    /// Puts totals in 16 bits where there are none.
+    pub(super) fn push_all(&mut self, totals: &NarrowTotals)
+        requires none { self.old ≡ [] }
+        requires few { length totals.now ≤ MAX_CHILDREN }
+        ensures { self.new ≡ totals.now }
+    {
+        for place in 0..totals.len() {
+            self.push(totals.get(place));
+        }
     }
 
     /// The same totals once more.
@@ -238,12 +227,20 @@ impl WideTotals {
         ensures before { (j : ℕ) (d : TextInfo) → j < place → slice_index_or self.new j d ≡ slice_index_or self.old j d }
         ensures after { (j : ℕ) (d : TextInfo) → place ≤ j → j < length self.old → info_sum (slice_index_or self.new j d) old ≡ info_sum (slice_index_or self.old j d) new }
     {
-        shift(&mut self.bytes, place, new.bytes.wrapping_sub(old.bytes));
-        shift(&mut self.chars, place, new.chars.wrapping_sub(old.chars));
-        let pairs = new.utf16_surrogates.wrapping_sub(old.utf16_surrogates);
-        shift(&mut self.pairs, place, pairs);
-        let breaks = new.break_count.wrapping_sub(old.break_count);
-        shift(&mut self.breaks, place, breaks);
+        let more = TextInfo {
+            bytes: new.bytes.wrapping_sub(old.bytes),
+            chars: new.chars.wrapping_sub(old.chars),
+            utf16_surrogates: new.utf16_surrogates.wrapping_sub(old.utf16_surrogates),
+            break_count: new.break_count.wrapping_sub(old.break_count),
+        };
+        let WideTotals {
+            len,
+            bytes,
+            chars,
+            pairs,
+            breaks,
+        } = self;
+        shift_rows(bytes, chars, pairs, breaks, place, *len, more);
     }
 
     /// The same, with the counts `new` in each of them for the part `old`.
