@@ -5,3 +5,5 @@ pub mod Rows
 pub mod Whole
 pub mod Cuts
 pub mod Seams
+pub mod PartCounts
+pub mod PartTexts

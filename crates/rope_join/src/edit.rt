@@ -11,6 +11,7 @@ ghost use Rattle.rope_join.specs.Cut.{IsFront, IsBack};
 
 use crate::cut::{back, front};
 use crate::join::join;
+use crate::near::ends_in_cr;
 use rope_text::Steps;
 use rope_tree::build::build;
 use rope_tree::edit::is_lf;
@@ -29,13 +30,20 @@ fn is_cr_before(node: &Node, at: usize) -> bool
     at > 0 && char_at(node, at - 1, &mut Steps::new()) == '\r'
 }
 
-/// Whether a CR ends the first characters of the one text and an LF begins what follows those of the other.
-fn pair_meets(left: &Node, front: usize, right: &Node, back: usize) -> bool
-    requires front { front ≤ length (text left.now) }
-    requires back { back ≤ length (text right.now) }
-    ensures { result ≡ parts_crlf (take front (text left.now)) (drop back (text right.now)) }
+/// Whether a CR ends the first `front` characters and an LF begins what follows the first `back`.
+fn pair_meets(node: &Node, front: usize, back: usize) -> bool
+    requires front { front ≤ length (text node.now) }
+    requires back { back ≤ length (text node.now) }
+    ensures { result ≡ parts_crlf (take front (text node.now)) (drop back (text node.now)) }
 {
-    is_cr_before(left, front) && is_lf(right, back)
+    is_cr_before(node, front) && is_lf(node, back)
+}
+
+/// Whether a CR ends the one text and an LF begins the other.
+fn pair_at_seam(left: &Node, right: &Node) -> bool
+    ensures { result ≡ parts_crlf (text left.now) (text right.now) }
+{
+    ends_in_cr(left) && is_lf(right, 0)
 }
 
 /// The first `at` characters, perhaps none.
@@ -92,8 +100,8 @@ pub fn append(alloc: Global, left: &Node, right: &Node, made: &mut u64) -> Resul
 {
     let _ = left.height();
     let _ = right.height();
-    let end = left.info().chars;
-    if pair_meets(left, end, right, 0) {
+    if pair_at_seam(left, right) {
+        let end = left.info().chars;
         let first = front_or_none(alloc, left, end - 1, made)?;
         let second = back_or_none(alloc, right, 1, made)?;
         return Ok(join_by_pair(alloc, &first, &second, made)?);
@@ -116,7 +124,7 @@ fn without(
     ensures made { made.new ≤ made.old + 16 * node.now.height + 11 }
 {
     let _ = node.height();
-    if pair_meets(node, start, node, end) {
+    if pair_meets(node, start, end) {
         let first = front_or_none(alloc, node, start - 1, made)?;
         let second = back_or_none(alloc, node, end + 1, made)?;
         return Ok(join_by_pair(alloc, &first, &second, made)?);

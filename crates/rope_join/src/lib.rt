@@ -4,5 +4,6 @@
 pub mod cut;
 pub mod edit;
 pub mod join;
+mod leaf_cut;
 mod near;
 pub mod part;

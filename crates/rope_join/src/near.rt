@@ -2,9 +2,12 @@
 ghost use Rattle.std.specs.Prelude.{◌≡◌, ℕ, ◌+◌, ◌≤◌, ◌↔◌, length, IsTrue};
 ghost use Rattle.rope_text.specs.declared.TheConstants.{MAX_BYTES, MIN_PAIR_BYTES};
 ghost use Rattle.rope_text.specs.Dense.{IsDenseBehind, last_bytes};
+ghost use Rattle.rope_text.specs.Breaks.{ends_in_cr};
+ghost use Rattle.rope_tree.specs.Tree.{text};
 
 use rope_text::MIN_PAIR_BYTES;
 use rope_tree::node::{Node, View};
+use rope_tree::short_text::ShortText;
 
 /// The bytes of a tree's last leaf.
 fn last_leaf_len(node: &Node) -> usize
@@ -37,4 +40,22 @@ pub(crate) fn is_near(left: &Node, right: &Node) -> bool
     ensures { IsTrue result ↔ IsDenseBehind (last_bytes MIN_PAIR_BYTES left.now.leaves) right.now.leaves }
 {
     last_leaf_len(left) + first_leaf_len(right) >= MIN_PAIR_BYTES
+}
+
+/// Whether CR is the last character of a leaf.
+fn is_cr_last(leaf: &ShortText<'_>) -> bool
+    ensures { result ≡ ends_in_cr leaf.now }
+{
+    let bytes = leaf.as_str().as_bytes();
+    !bytes.is_empty() && bytes[bytes.len() - 1] == b'\r'
+}
+
+/// Whether CR is the last character of a tree's text, by its last leaf alone.
+pub(crate) fn ends_in_cr(node: &Node) -> bool
+    ensures { result ≡ ends_in_cr (text node.now) }
+{
+    match node.view() {
+        View::Leaf(leaf) => is_cr_last(&leaf),
+        View::Inner(children, _) => ends_in_cr(&children[children.len() - 1]),
+    }
 }
