@@ -3,7 +3,6 @@ use crate::cuts::{back, byte_back, byte_between, byte_front, front, part};
 use rope_plain::texts::repeated;
 use ropey::{LineBreaks, Rope, RopeSlice};
 use std::alloc::Global;
-use std::process::Abort;
 use std::test::Fail;
 
 /// The characters and the lines of a slice, where there is one.
@@ -14,44 +13,66 @@ fn counts(slice: Option<RopeSlice<'_>>) -> Option<[usize; 2]> {
     }
 }
 
-fn cut_one_pair(rt: &impl Abort, rope: &Rope) -> Result<(), Fail> {
-    assert!(rt; [front(rope, 2)?.len_lines(), back(rope, 2)?.len_lines()] == [2, 2]);
-    Ok(())
+/// The lines of a slice, where there is one.
+fn lines(slice: Option<RopeSlice<'_>>) -> Option<usize> {
+    match slice {
+        Some(slice) => Some(slice.len_lines()),
+        None => None,
+    }
+}
+
+fn cuts_one_pair(rope: &Rope) -> bool {
+    [lines(front(rope, 2)), lines(back(rope, 2))] == [Some(2), Some(2)]
 }
 
 /// Inclusive ends, behind the CR.
-fn cut_behind_the_cr(rt: &impl Abort, rope: &Rope) {
+fn cuts_behind_the_cr(rope: &Rope) -> bool {
     let found = [
         counts(rope.get_slice(..=1)),
         counts(rope.get_slice(0..=1)),
         counts(rope.get_byte_slice(..=1)),
     ];
-    assert!(rt; found == [Some([2, 2]), Some([2, 2]), Some([2, 2])]);
+    found == [Some([2, 2]), Some([2, 2]), Some([2, 2])]
 }
 
 #[test]
 fn one_pair(rt: HostRuntime) -> Result<(), Fail> {
     let rope = Rope::from_str(rt.alloc(), "a\r\nb")?;
-    cut_behind_the_cr(&rt, &rope);
-    cut_one_pair(&rt, &rope)
+    assert!(rt; cuts_behind_the_cr(&rope) && cuts_one_pair(&rope));
+    Ok(())
+}
+
+/// The line of a byte of a slice, where there is one.
+fn line_of(slice: Option<RopeSlice<'_>>, byte_idx: usize) -> Option<usize> {
+    match slice {
+        Some(slice) => slice.try_byte_to_line(byte_idx).ok(),
+        None => None,
+    }
 }
 
 /// Whether the front of so many characters has its lines: of pairs, and of pairs by LF alone.
-fn has_lines(rope: &Rope, lf: &Rope, len: usize) -> Result<bool, Fail> {
+fn has_lines(rope: &Rope, lf: &Rope, len: usize) -> bool {
     let answers = [
-        byte_front(rope, len)?.try_byte_to_line(len)?,
-        front(rope, len)?.len_lines(),
-        front(lf, len)?.len_lines(),
+        line_of(byte_front(rope, len), len),
+        lines(front(rope, len)),
+        lines(front(lf, len)),
     ];
     let crs = len.div_ceil(2);
-    Ok(answers == [crs, crs.saturating_add(1), (len / 2).saturating_add(1)])
+    answers
+        == [
+            Some(crs),
+            Some(crs.saturating_add(1)),
+            Some((len / 2).saturating_add(1)),
+        ]
 }
 
-fn count_fronts(rt: &impl Abort, rope: &Rope, lf: &Rope) -> Result<(), Fail> {
-    for i in 0..=29 {
-        assert!(rt; has_lines(rope, lf, i)?);
+fn have_lines(rope: &Rope, lf: &Rope) -> bool {
+    for len in 0..=29usize {
+        if !has_lines(rope, lf, len) {
+            return false;
+        }
     }
-    Ok(())
+    true
 }
 
 /// 15 pairs.
@@ -70,54 +91,89 @@ fn pairs_by_lf(alloc: Global) -> Result<Rope, Fail> {
 fn fronts_of_pairs(rt: HostRuntime) -> Result<(), Fail> {
     let rope = pairs(rt.alloc())?;
     let lf = pairs_by_lf(rt.alloc())?;
-    count_fronts(&rt, &rope, &lf)
+    assert!(rt; have_lines(&rope, &lf));
+    Ok(())
 }
 
-fn count_backs(rt: &impl Abort, rope: &Rope) -> Result<(), Fail> {
-    for i in 0..=29 {
-        assert!(rt; back(rope, i)?.len_lines() == 16 - i / 2);
+fn have_lines_behind(rope: &Rope) -> bool {
+    for start in 0..=29usize {
+        if lines(back(rope, start)) != Some(16 - start / 2) {
+            return false;
+        }
     }
-    Ok(())
+    true
 }
 
 #[test]
 fn backs_of_pairs(rt: HostRuntime) -> Result<(), Fail> {
     let rope = pairs(rt.alloc())?;
-    count_backs(&rt, &rope)
-}
-
-fn add_pair_and_letters(alloc: Global, text: &mut String) -> Result<(), Fail> {
-    text.push_str("\r\n")?;
-    text.push_str(repeated(alloc, "b", 100)?.as_str())?;
+    assert!(rt; have_lines_behind(&rope));
     Ok(())
 }
 
 /// 983 letters, a pair, and more letters.
 fn pair_near_a_full_leaf(alloc: Global) -> Result<Rope, Fail> {
-    let mut text = repeated(alloc, "a", 983)?;
-    add_pair_and_letters(alloc, &mut text)?;
+    let front = repeated(alloc, "a", 983)?;
+    let back = repeated(alloc, "b", 100)?;
+    let text = format!(in alloc; "{front}\r\n{back}")?;
     Ok(Rope::from_str(alloc, text.as_str())?)
 }
 
-fn cut_before_the_lf(rt: &impl Abort, rope: &Rope) -> Result<(), Fail> {
-    let before = byte_front(rope, 984)?;
-    let behind = byte_back(rope, 984)?;
-    let places = [before.try_char_to_line(984), behind.try_line_to_byte(1)];
-    assert!(rt; [before.len_lines(), behind.len_lines()] == [2, 2]);
-    assert!(rt; places == [Ok(1), Ok(1)]);
-    Ok(())
+/// Whether the parts before and behind the LF count their own lines.
+fn is_cut_before_the_lf(rope: &Rope) -> bool {
+    let found = [
+        lines(byte_front(rope, 984)),
+        lines(byte_back(rope, 984)),
+        line_of_char(byte_front(rope, 984), 984),
+        start_of_line(byte_back(rope, 984), 1),
+    ];
+    found == [Some(2), Some(2), Some(1), Some(1)]
 }
 
-fn cut_the_lf_out(rt: &impl Abort, rope: &Rope) -> Result<(), Fail> {
-    let by_bytes = byte_between(rope, 984, 985)?;
-    let of_a_slice = part(&byte_back(rope, 984)?, 0, 1)?;
-    assert!(rt; [by_bytes.as_str(), of_a_slice.as_str()] == [Some("\n"), Some("\n")]);
-    Ok(())
+/// The line of a character of a slice, where there is one.
+fn line_of_char(slice: Option<RopeSlice<'_>>, char_idx: usize) -> Option<usize> {
+    match slice {
+        Some(slice) => slice.try_char_to_line(char_idx).ok(),
+        None => None,
+    }
+}
+
+/// The byte at which a line of a slice starts.
+fn start_of_line(slice: Option<RopeSlice<'_>>, line: usize) -> Option<usize> {
+    match slice {
+        Some(slice) => slice.try_line_to_byte(line).ok(),
+        None => None,
+    }
+}
+
+/// The text of a slice that is one chunk.
+fn text<'a>(slice: Option<RopeSlice<'a>>) -> Option<&'a str> {
+    match slice {
+        Some(slice) => slice.as_str(),
+        None => None,
+    }
+}
+
+/// The first character of a slice.
+fn first<'a>(slice: Option<RopeSlice<'a>>) -> Option<RopeSlice<'a>> {
+    match slice {
+        Some(slice) => part(&slice, 0, 1),
+        None => None,
+    }
+}
+
+/// Whether the LF is cut out by its byte, and out of a slice that begins with it.
+fn is_cut_out(rope: &Rope) -> bool {
+    let found = [
+        text(byte_between(rope, 984, 985)),
+        text(first(byte_back(rope, 984))),
+    ];
+    found == [Some("\n"), Some("\n")]
 }
 
 #[test]
 fn a_pair_near_a_full_leaf(rt: HostRuntime) -> Result<(), Fail> {
     let rope = pair_near_a_full_leaf(rt.alloc())?;
-    cut_before_the_lf(&rt, &rope)?;
-    cut_the_lf_out(&rt, &rope)
+    assert!(rt; is_cut_before_the_lf(&rope) && is_cut_out(&rope));
+    Ok(())
 }

@@ -1,7 +1,6 @@
 //! Conversions of slices of ropes, against rows that were worked by hand.
 use crate::cuts::{between, lens, part};
 use ropey::{Error, Rope, RopeSlice};
-use std::process::Abort;
 use std::test::Fail;
 
 const FROGS: &str =
@@ -28,7 +27,7 @@ fn have_units(slice: &RopeSlice<'_>, rows: &[(usize, usize)]) -> bool {
     true
 }
 
-fn compare_units(rt: &impl Abort, slice: &RopeSlice<'_>) {
+fn has_units(slice: Option<RopeSlice<'_>>) -> bool {
     let rows = [
         (0, 0),
         (11, 11),
@@ -41,13 +40,16 @@ fn compare_units(rt: &impl Abort, slice: &RopeSlice<'_>) {
         (92, 96),
         (105, 109),
     ];
-    assert!(rt; have_units(slice, &rows));
+    match slice {
+        Some(slice) => have_units(&slice, &rows),
+        None => false,
+    }
 }
 
 #[test]
 fn units_behind_frogs(rt: HostRuntime) -> Result<(), Fail> {
     let rope = Rope::from_str(rt.alloc(), FROGS)?;
-    compare_units(&rt, &between(&rope, 1, 106)?);
+    assert!(rt; has_units(between(&rope, 1, 106)));
     Ok(())
 }
 
@@ -61,7 +63,7 @@ fn have_chars(slice: &RopeSlice<'_>, rows: &[(usize, usize)]) -> bool {
     true
 }
 
-fn compare_chars(rt: &impl Abort, letters: &RopeSlice<'_>, wide: &RopeSlice<'_>) {
+fn has_chars(slice: Option<RopeSlice<'_>>) -> bool {
     let rows = [
         (0, 0),
         (1, 1),
@@ -77,13 +79,23 @@ fn compare_chars(rt: &impl Abort, letters: &RopeSlice<'_>, wide: &RopeSlice<'_>)
         (35, 13),
         (36, 14),
     ];
-    assert!(rt; [letters.len_bytes(), letters.len_chars()] == [105, 91] && have_chars(wide, &rows));
+    match slice {
+        Some(slice) => have_chars(&slice, &rows),
+        None => false,
+    }
+}
+
+fn has_letters(slice: Option<RopeSlice<'_>>) -> bool {
+    match slice {
+        Some(slice) => [slice.len_bytes(), slice.len_chars()] == [105, 91],
+        None => false,
+    }
 }
 
 #[test]
 fn chars_of_bytes(rt: HostRuntime) -> Result<(), Fail> {
     let rope = Rope::from_str(rt.alloc(), SENTENCES)?;
-    compare_chars(&rt, &between(&rope, 7, 98)?, &between(&rope, 88, 102)?);
+    assert!(rt; has_letters(between(&rope, 7, 98)) && has_chars(between(&rope, 88, 102)));
     Ok(())
 }
 
@@ -98,53 +110,68 @@ fn have_starts(slice: &RopeSlice<'_>, rows: &[(usize, usize, usize)]) -> bool {
     true
 }
 
-fn compare_starts(rt: &impl Abort, slice: &RopeSlice<'_>) {
+fn has_starts(slice: Option<RopeSlice<'_>>) -> bool {
     let rows = [(0, 0, 0), (1, 25, 25), (2, 54, 54), (3, 78, 62)];
-    assert!(rt; lens(slice) == [78, 62, 3, 62] && have_starts(slice, &rows));
-    assert!(rt; slice.try_line_to_char(4) == Err(Error::LineIndexOutOfBounds(4, 3)));
+    match slice {
+        Some(slice) => {
+            lens(&slice) == [78, 62, 3, 62]
+                && have_starts(&slice, &rows)
+                && slice.try_line_to_char(4) == Err(Error::LineIndexOutOfBounds(4, 3))
+        }
+        None => false,
+    }
 }
 
 #[test]
 fn starts_of_lines(rt: HostRuntime) -> Result<(), Fail> {
     let rope = Rope::from_str(rt.alloc(), LINES)?;
-    compare_starts(&rt, &between(&rope, 34, 96)?);
+    assert!(rt; has_starts(between(&rope, 34, 96)));
     assert!(rt; [rope.len_bytes(), rope.len_chars(), rope.len_lines()] == [124, 100, 4]);
     Ok(())
 }
 
 /// The characters of a row are its text, in so many lines.
-fn has_line(slice: &RopeSlice<'_>, row: (usize, usize, &str, usize)) -> Result<bool, Fail> {
+fn has_line(slice: &RopeSlice<'_>, row: (usize, usize, &str, usize)) -> bool {
     let (start, end, text, lines) = row;
-    let line = part(slice, start, end)?;
-    Ok(line.as_str() == Some(text) && line.len_lines() == lines)
+    match part(slice, start, end) {
+        Some(line) => line.as_str() == Some(text) && line.len_lines() == lines,
+        None => false,
+    }
 }
 
-fn compare_lines(rt: &impl Abort, slice: &RopeSlice<'_>) -> Result<(), Fail> {
-    for row in [
-        (0, 25, "'s a fine day, isn't it?\n", 2),
-        (25, 54, "Aren't you glad we're alive?\n", 2),
-        (54, 62, "こんにちは、みん", 1),
-    ] {
-        assert!(rt; has_line(slice, row)?);
+fn has_lines(slice: Option<RopeSlice<'_>>) -> bool {
+    match slice {
+        Some(slice) => {
+            has_line(&slice, (0, 25, "'s a fine day, isn't it?\n", 2))
+                && has_line(&slice, (25, 54, "Aren't you glad we're alive?\n", 2))
+                && has_line(&slice, (54, 62, "こんにちは、みん", 1))
+        }
+        None => false,
     }
-    Ok(())
 }
 
 #[test]
 fn lines_of_a_slice(rt: HostRuntime) -> Result<(), Fail> {
     let rope = Rope::from_str(rt.alloc(), LINES)?;
-    compare_lines(&rt, &between(&rope, 34, 96)?)
+    assert!(rt; has_lines(between(&rope, 34, 96)));
+    Ok(())
 }
 
-fn compare_last_line(rt: &impl Abort, slice: &RopeSlice<'_>) {
-    let starts = [slice.try_line_to_char(1), slice.try_line_to_char(2)];
-    assert!(rt; slice.as_str() == Some("'s a fine day, isn't it?\n") && slice.len_lines() == 2);
-    assert!(rt; starts == [Ok(25), Ok(25)]);
+fn has_last_line(slice: Option<RopeSlice<'_>>) -> bool {
+    match slice {
+        Some(slice) => {
+            slice.as_str() == Some("'s a fine day, isn't it?\n")
+                && slice.len_lines() == 2
+                && slice.try_line_to_char(1) == Ok(25)
+                && slice.try_line_to_char(2) == Ok(25)
+        }
+        None => false,
+    }
 }
 
 #[test]
 fn a_last_line_that_is_empty(rt: HostRuntime) -> Result<(), Fail> {
     let rope = Rope::from_str(rt.alloc(), LINES)?;
-    compare_last_line(&rt, &between(&rope, 34, 59)?);
+    assert!(rt; has_last_line(between(&rope, 34, 59)));
     Ok(())
 }

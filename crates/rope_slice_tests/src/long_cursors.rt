@@ -1,7 +1,6 @@
 //! Cursors over texts of 2^62 bytes, started at both ends and in the middle.
 use crate::long_texts::{Long, Place, Unit, WHOLE, all};
 use ropey::{Rope, RopeSlice};
-use std::process::Abort;
 use std::test::Fail;
 
 /// The character of a repeated text with that index, or none past its end.
@@ -48,26 +47,28 @@ fn has_bytes(rope: &Rope, place: Place) -> bool {
     counts && next == rope.get_byte(place.byte_idx) && bytes.prev() == before
 }
 
-fn bytes_and_chars_of_one(rt: &impl Abort, long: &Long) {
-    for place in long.unit.places() {
-        assert!(rt; has_chars(&long.rope, &long.unit, place));
-        assert!(rt; has_bytes(&long.rope, place));
+fn bytes_and_chars_of_one(long: &Long) -> bool {
+    for place in &long.unit.places() {
+        if !has_chars(&long.rope, &long.unit, *place) || !has_bytes(&long.rope, *place) {
+            return false;
+        }
     }
+    true
 }
 
-fn bytes_and_chars_past_the_end_of_one(rt: &impl Abort, long: &Long) {
-    for past in [WHOLE.saturating_add(1), usize::MAX] {
-        assert!(rt; long.rope.get_chars_at(past).is_none());
-        assert!(rt; long.rope.get_bytes_at(past).is_none());
-    }
+fn bytes_and_chars_past_the_end_of_one(long: &Long) -> bool {
+    let past = WHOLE.saturating_add(1);
+    long.rope.get_chars_at(past).is_none()
+        && long.rope.get_chars_at(usize::MAX).is_none()
+        && long.rope.get_bytes_at(past).is_none()
+        && long.rope.get_bytes_at(usize::MAX).is_none()
 }
 
 #[test]
 fn bytes_and_chars(rt: HostRuntime) -> Result<(), Fail> {
     let all = all(rt.alloc())?;
     for long in &all {
-        bytes_and_chars_of_one(&rt, long);
-        bytes_and_chars_past_the_end_of_one(&rt, long);
+        assert!(rt; bytes_and_chars_of_one(long) && bytes_and_chars_past_the_end_of_one(long));
     }
     Ok(())
 }
@@ -88,20 +89,26 @@ fn has_chunks(rope: &Rope, unit: &Unit, place: Place) -> bool {
         && chunk.is_none() == (place.char_idx == unit.char_count())
 }
 
-fn chunks_of_one(rt: &impl Abort, long: &Long) {
-    for place in long.unit.places() {
-        assert!(rt; has_chunks(&long.rope, &long.unit, place));
+fn chunks_of_one(long: &Long) -> bool {
+    for place in &long.unit.places() {
+        if !has_chunks(&long.rope, &long.unit, *place) {
+            return false;
+        }
     }
-    assert!(rt; long.rope.get_chunks_at_byte(usize::MAX).is_none());
-    assert!(rt; long.rope.get_chunks_at_char(usize::MAX).is_none());
-    assert!(rt; long.rope.get_chunks_at_line_break(usize::MAX).is_none());
+    true
+}
+
+fn chunks_past_the_end_of_one(long: &Long) -> bool {
+    long.rope.get_chunks_at_byte(usize::MAX).is_none()
+        && long.rope.get_chunks_at_char(usize::MAX).is_none()
+        && long.rope.get_chunks_at_line_break(usize::MAX).is_none()
 }
 
 #[test]
 fn chunks(rt: HostRuntime) -> Result<(), Fail> {
     let all = all(rt.alloc())?;
     for long in &all {
-        chunks_of_one(&rt, long);
+        assert!(rt; chunks_of_one(long) && chunks_past_the_end_of_one(long));
     }
     Ok(())
 }
@@ -118,18 +125,20 @@ fn has_chunks_behind(rope: &Rope, unit: &Unit, lines: usize) -> bool {
     }
 }
 
-fn chunks_past_the_last_line_of_one(rt: &impl Abort, long: &Long) {
+fn chunks_past_the_last_line_of_one(long: &Long) -> bool {
     let lines = long.unit.break_count().saturating_add(1);
-    let past = lines.saturating_add(1);
-    assert!(rt; has_chunks_behind(&long.rope, &long.unit, lines));
-    assert!(rt; long.rope.get_chunks_at_line_break(past).is_none());
+    has_chunks_behind(&long.rope, &long.unit, lines)
+        && long
+            .rope
+            .get_chunks_at_line_break(lines.saturating_add(1))
+            .is_none()
 }
 
 #[test]
 fn chunks_past_the_last_line(rt: HostRuntime) -> Result<(), Fail> {
     let all = all(rt.alloc())?;
     for long in &all {
-        chunks_past_the_last_line_of_one(&rt, long);
+        assert!(rt; chunks_past_the_last_line_of_one(long));
     }
     Ok(())
 }
@@ -170,32 +179,36 @@ fn is_line(line: Option<RopeSlice<'_>>, text: &str) -> bool {
     }
 }
 
-fn lines_of_one(rt: &impl Abort, long: &Long) {
-    let break_count = long.unit.break_count();
-    let all = break_count.saturating_add(1);
-    for line_idx in [0, break_count / 2, break_count, all] {
-        assert!(rt; has_lines_left(&long.rope, line_idx, all));
-        if 0 < line_idx && line_idx < break_count {
-            assert!(rt; has_lines_beside(&long.rope, &long.unit, line_idx));
-            assert!(rt; is_line(long.rope.get_line(line_idx), long.unit.text));
-        }
-    }
+fn has_lines_at(rope: &Rope, unit: &Unit, line_idx: usize) -> bool {
+    let break_count = unit.break_count();
+    let is_within = 0 < line_idx && line_idx < break_count;
+    has_lines_left(rope, line_idx, break_count.saturating_add(1))
+        && (!is_within
+            || (has_lines_beside(rope, unit, line_idx)
+                && is_line(rope.get_line(line_idx), unit.text)))
 }
 
-fn lines_past_the_end_of_one(rt: &impl Abort, long: &Long) {
+fn lines_of_one(long: &Long) -> bool {
+    let break_count = long.unit.break_count();
+    has_lines_at(&long.rope, &long.unit, 0)
+        && has_lines_at(&long.rope, &long.unit, break_count / 2)
+        && has_lines_at(&long.rope, &long.unit, break_count)
+        && has_lines_at(&long.rope, &long.unit, break_count.saturating_add(1))
+}
+
+fn lines_past_the_end_of_one(long: &Long) -> bool {
     let all = long.unit.break_count().saturating_add(1);
-    assert!(rt; long.rope.get_lines_at(all.saturating_add(1)).is_none());
-    assert!(rt; long.rope.get_lines_at(usize::MAX).is_none());
-    assert!(rt; long.rope.get_line(all).is_none());
-    assert!(rt; long.rope.get_line(usize::MAX).is_none());
+    long.rope.get_lines_at(all.saturating_add(1)).is_none()
+        && long.rope.get_lines_at(usize::MAX).is_none()
+        && long.rope.get_line(all).is_none()
+        && long.rope.get_line(usize::MAX).is_none()
 }
 
 #[test]
 fn lines(rt: HostRuntime) -> Result<(), Fail> {
     let all = all(rt.alloc())?;
     for long in &all {
-        lines_of_one(&rt, long);
-        lines_past_the_end_of_one(&rt, long);
+        assert!(rt; lines_of_one(long) && lines_past_the_end_of_one(long));
     }
     Ok(())
 }
@@ -214,17 +227,15 @@ fn has_last_lines(rope: &Rope, unit: &Unit) -> bool {
     steps == [Some(0), None, Some(0), Some(unit.chars)]
 }
 
-fn the_last_lines_of_texts_with_breaks_of_one(rt: &impl Abort, long: &Long) {
-    if long.unit.break_count() > 0 {
-        assert!(rt; has_last_lines(&long.rope, &long.unit));
-    }
+fn the_last_lines_of_texts_with_breaks_of_one(long: &Long) -> bool {
+    long.unit.break_count() == 0 || has_last_lines(&long.rope, &long.unit)
 }
 
 #[test]
 fn the_last_lines_of_texts_with_breaks(rt: HostRuntime) -> Result<(), Fail> {
     let all = all(rt.alloc())?;
     for long in &all {
-        the_last_lines_of_texts_with_breaks_of_one(&rt, long);
+        assert!(rt; the_last_lines_of_texts_with_breaks_of_one(long));
     }
     Ok(())
 }

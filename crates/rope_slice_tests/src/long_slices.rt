@@ -2,7 +2,6 @@
 use crate::long_cursors::char_at;
 use crate::long_texts::{Long, Place, UNITS, Unit, WHOLE, all};
 use ropey::{Rope, RopeSlice};
-use std::process::Abort;
 use std::test::Fail;
 
 /// A slice's bytes, characters and code units, where there is one.
@@ -34,17 +33,20 @@ fn has_parts(rope: &Rope, unit: &Unit, place: Place) -> bool {
     fronts == [Some(before), Some(before)] && backs == [Some(behind), Some(behind)]
 }
 
-fn lengths_of_fronts_and_backs_of_one(rt: &impl Abort, long: &Long) {
-    for place in long.unit.places() {
-        assert!(rt; has_parts(&long.rope, &long.unit, place));
+fn lengths_of_fronts_and_backs_of_one(long: &Long) -> bool {
+    for place in &long.unit.places() {
+        if !has_parts(&long.rope, &long.unit, *place) {
+            return false;
+        }
     }
+    true
 }
 
 #[test]
 fn lengths_of_fronts_and_backs(rt: HostRuntime) -> Result<(), Fail> {
     let all = all(rt.alloc())?;
     for long in &all {
-        lengths_of_fronts_and_backs_of_one(&rt, long);
+        assert!(rt; lengths_of_fronts_and_backs_of_one(long));
     }
     Ok(())
 }
@@ -67,25 +69,21 @@ fn has_lines(pairs: &Rope, row: (usize, usize, usize)) -> bool {
     found == [Some(before), Some(behind)]
 }
 
-fn cut_pairs(rt: &impl Abort, pairs: &Rope) {
+fn has_cut_pairs(pairs: &Rope) -> bool {
     let middle = WHOLE / 2;
-    for row in [
-        (0, 1, middle + 1),
-        (1, 2, middle + 1),
-        (middle - 1, middle / 2 + 1, middle / 2 + 2),
-        (middle, middle / 2 + 1, middle / 2 + 1),
-        (middle + 1, middle / 2 + 2, middle / 2 + 1),
-        (WHOLE - 1, middle + 1, 2),
-        (WHOLE, middle + 1, 1),
-    ] {
-        assert!(rt; has_lines(pairs, row));
-    }
+    has_lines(pairs, (0, 1, middle + 1))
+        && has_lines(pairs, (1, 2, middle + 1))
+        && has_lines(pairs, (middle - 1, middle / 2 + 1, middle / 2 + 2))
+        && has_lines(pairs, (middle, middle / 2 + 1, middle / 2 + 1))
+        && has_lines(pairs, (middle + 1, middle / 2 + 2, middle / 2 + 1))
+        && has_lines(pairs, (WHOLE - 1, middle + 1, 2))
+        && has_lines(pairs, (WHOLE, middle + 1, 1))
 }
 
 #[test]
 fn lines_of_cut_pairs(rt: HostRuntime) -> Result<(), Fail> {
     let pairs = UNITS[1].whole(rt.alloc())?;
-    cut_pairs(&rt, &pairs);
+    assert!(rt; has_cut_pairs(&pairs));
     Ok(())
 }
 
@@ -106,18 +104,15 @@ fn is_converted(back: &RopeSlice<'_>, place: Place) -> bool {
         && back.try_line_to_char(place.line_idx) == Ok(place.line_char)
 }
 
-fn convert_a_back(rt: &impl Abort, back: &RopeSlice<'_>, unit: &Unit, middle: Place) {
-    for place in [unit.place(0), unit.place(1), middle] {
-        assert!(rt; is_converted(back, place));
-    }
-}
-
-fn conversions_of_backs_of_one(rt: &impl Abort, long: &Long) {
+fn conversions_of_backs_of_one(long: &Long) -> bool {
     let middle = long.unit.place(long.unit.char_count() / 2);
-    let back = long.rope.get_slice(middle.char_idx..);
-    assert!(rt; back.is_some());
-    if let Some(back) = back {
-        convert_a_back(rt, &back, &long.unit, middle);
+    match long.rope.get_slice(middle.char_idx..) {
+        Some(back) => {
+            is_converted(&back, long.unit.place(0))
+                && is_converted(&back, long.unit.place(1))
+                && is_converted(&back, middle)
+        }
+        None => false,
     }
 }
 
@@ -125,7 +120,7 @@ fn conversions_of_backs_of_one(rt: &impl Abort, long: &Long) {
 fn conversions_of_backs(rt: HostRuntime) -> Result<(), Fail> {
     let all = all(rt.alloc())?;
     for long in &all {
-        conversions_of_backs_of_one(&rt, long);
+        assert!(rt; conversions_of_backs_of_one(long));
     }
     Ok(())
 }
@@ -158,20 +153,19 @@ fn is_thousand(slice: &RopeSlice<'_>, unit: &Unit) -> bool {
     [slice.len_chars(), part] == [1_000, 800] && is_repeated(slice, unit)
 }
 
-fn texts_across_the_middle_of_one(rt: &impl Abort, long: &Long) {
+fn texts_across_the_middle_of_one(long: &Long) -> bool {
     let start = (long.unit.char_count() / 2).saturating_sub(400);
-    let is_right = match front(long.rope.get_slice(start..), 1_000) {
+    match front(long.rope.get_slice(start..), 1_000) {
         Some(slice) => is_thousand(&slice, &long.unit),
         None => false,
-    };
-    assert!(rt; is_right);
+    }
 }
 
 #[test]
 fn texts_across_the_middle(rt: HostRuntime) -> Result<(), Fail> {
     let all = all(rt.alloc())?;
     for long in &all {
-        texts_across_the_middle_of_one(&rt, long);
+        assert!(rt; texts_across_the_middle_of_one(long));
     }
     Ok(())
 }

@@ -3,7 +3,6 @@ use rope_plain::compare::lens;
 use rope_position::{Position, Positions};
 use ropey::{Error, Rope};
 use std::alloc::{AllocError, Global};
-use std::process::Abort;
 use std::test::Fail;
 
 /// How many bytes such a text has.
@@ -155,27 +154,38 @@ pub fn all(alloc: Global) -> Result<Vec<Long>, Fail> {
 }
 
 /// Whether a long text has these counts, in a tree that is not deep.
-fn has_lengths(alloc: Global, unit: &Unit, counts: [usize; 4]) -> Result<bool, Fail> {
-    let rope = unit.whole(alloc)?;
-    Ok(lens(&rope) == counts && rope.depth() <= 18)
+fn has_lengths(rope: &Rope, counts: [usize; 4]) -> bool {
+    lens(rope) == counts && rope.depth() <= 18
+}
+
+/// Their bytes, characters, lines and code units.
+const LENGTHS: [[usize; 4]; 4] = [
+    [WHOLE, WHOLE, 1, WHOLE],
+    [WHOLE, WHOLE, 2_305_843_009_213_693_953, WHOLE],
+    [
+        WHOLE,
+        1_152_921_504_606_846_976,
+        1,
+        2_305_843_009_213_693_952,
+    ],
+    [WHOLE, WHOLE, 1_152_921_504_606_846_977, WHOLE],
+];
+
+/// Whether the texts have these counts.
+fn have_lengths(all: &[Long]) -> bool {
+    for (place, counts) in LENGTHS.iter().enumerate() {
+        match all.get(place) {
+            Some(long) if has_lengths(&long.rope, *counts) => {}
+            _ => return false,
+        }
+    }
+    true
 }
 
 #[test]
 fn lengths(rt: HostRuntime) -> Result<(), Fail> {
-    let expected = [
-        [WHOLE, WHOLE, 1, WHOLE],
-        [WHOLE, WHOLE, 2_305_843_009_213_693_953, WHOLE],
-        [
-            WHOLE,
-            1_152_921_504_606_846_976,
-            1,
-            2_305_843_009_213_693_952,
-        ],
-        [WHOLE, WHOLE, 1_152_921_504_606_846_977, WHOLE],
-    ];
-    for (unit, counts) in UNITS.iter().zip(expected.iter()) {
-        assert!(rt; has_lengths(rt.alloc(), unit, *counts)?);
-    }
+    let all = all(rt.alloc())?;
+    assert!(rt; have_lengths(&all));
     Ok(())
 }
 
@@ -220,46 +230,55 @@ fn has_line_start(rope: &Rope, unit: &Unit, place: Place) -> bool {
     answers == [Ok(place.line_char), Ok(byte_idx)]
 }
 
-fn each_conversion_of_one(rt: &impl Abort, long: &Long) {
-    for place in long.unit.places() {
-        assert!(rt; is_converted(&long.rope, place));
-        if place.char_idx < long.unit.char_count() {
-            assert!(rt; is_whole(&long.rope, &long.unit, place));
-            assert!(rt; has_line_start(&long.rope, &long.unit, place));
+fn is_converted_within(rope: &Rope, unit: &Unit, place: Place) -> bool {
+    let is_within = place.char_idx < unit.char_count();
+    is_converted(rope, place)
+        && (!is_within || (is_whole(rope, unit, place) && has_line_start(rope, unit, place)))
+}
+
+/// Whether each place is converted, and those within the text with what belongs to their characters.
+fn each_conversion_of_one(long: &Long) -> bool {
+    for place in &long.unit.places() {
+        if !is_converted_within(&long.rope, &long.unit, *place) {
+            return false;
         }
     }
+    true
 }
 
 #[test]
 fn each_conversion(rt: HostRuntime) -> Result<(), Fail> {
     let all = all(rt.alloc())?;
     for long in &all {
-        each_conversion_of_one(&rt, long);
+        assert!(rt; each_conversion_of_one(long));
     }
     Ok(())
 }
 
-fn the_start_past_the_last_line_of_one(rt: &impl Abort, long: &Long) {
+fn the_start_past_the_last_line_of_one(long: &Long) -> bool {
     let lines = long.unit.break_count().saturating_add(1);
     let past = lines.saturating_add(1);
     let refused = Error::LineIndexOutOfBounds(past, lines);
     let starts = [
         long.rope.try_line_to_char(lines),
         long.rope.try_line_to_byte(lines),
-    ];
-    let refusals = [
         long.rope.try_line_to_char(past),
         long.rope.try_line_to_byte(past),
     ];
-    assert!(rt; starts == [Ok(long.unit.char_count()), Ok(WHOLE)]);
-    assert!(rt; refusals == [Err(refused), Err(refused)]);
+    starts
+        == [
+            Ok(long.unit.char_count()),
+            Ok(WHOLE),
+            Err(refused),
+            Err(refused),
+        ]
 }
 
 #[test]
 fn the_start_past_the_last_line(rt: HostRuntime) -> Result<(), Fail> {
     let all = all(rt.alloc())?;
     for long in &all {
-        the_start_past_the_last_line_of_one(&rt, long);
+        assert!(rt; the_start_past_the_last_line_of_one(long));
     }
     Ok(())
 }
@@ -282,19 +301,19 @@ fn refuses(rope: &Rope, past: usize, chars: usize, units: usize) -> bool {
         && rope.get_chunk_at_line_break(past).is_none()
 }
 
-fn past_the_end_of_one(rt: &impl Abort, long: &Long) {
+fn past_the_end_of_one(long: &Long) -> bool {
     let chars = long.unit.char_count();
     let units = chars.saturating_mul(long.unit.units_a_char);
-    for past in [WHOLE.saturating_add(1), isize::MAX as usize, usize::MAX] {
-        assert!(rt; refuses(&long.rope, past, chars, units));
-    }
+    refuses(&long.rope, WHOLE.saturating_add(1), chars, units)
+        && refuses(&long.rope, isize::MAX as usize, chars, units)
+        && refuses(&long.rope, usize::MAX, chars, units)
 }
 
 #[test]
 fn past_the_end(rt: HostRuntime) -> Result<(), Fail> {
     let all = all(rt.alloc())?;
     for long in &all {
-        past_the_end_of_one(&rt, long);
+        assert!(rt; past_the_end_of_one(long));
     }
     Ok(())
 }
@@ -313,21 +332,20 @@ fn has_items(rope: &Rope, unit: &Unit, place: Place) -> bool {
     rope.get_char(place.char_idx) == text && rope.get_byte(place.byte_idx) == byte
 }
 
-fn items_of_one(rt: &impl Abort, long: &Long) {
-    for place in long.unit.places() {
-        if place.char_idx < long.unit.char_count() {
-            assert!(rt; has_items(&long.rope, &long.unit, place));
+fn items_of_one(long: &Long) -> bool {
+    for place in &long.unit.places() {
+        if place.char_idx < long.unit.char_count() && !has_items(&long.rope, &long.unit, *place) {
+            return false;
         }
     }
-    assert!(rt; long.rope.get_char(long.unit.char_count()).is_none());
-    assert!(rt; long.rope.get_byte(WHOLE).is_none());
+    long.rope.get_char(long.unit.char_count()).is_none() && long.rope.get_byte(WHOLE).is_none()
 }
 
 #[test]
 fn items(rt: HostRuntime) -> Result<(), Fail> {
     let all = all(rt.alloc())?;
     for long in &all {
-        items_of_one(&rt, long);
+        assert!(rt; items_of_one(long));
     }
     Ok(())
 }
@@ -353,17 +371,20 @@ fn has_chunk(rope: &Rope, unit: &Unit, place: Place) -> bool {
     }
 }
 
-fn chunks_of_one(rt: &impl Abort, long: &Long) {
-    for place in long.unit.places() {
-        assert!(rt; has_chunk(&long.rope, &long.unit, place));
+fn chunks_of_one(long: &Long) -> bool {
+    for place in &long.unit.places() {
+        if !has_chunk(&long.rope, &long.unit, *place) {
+            return false;
+        }
     }
+    true
 }
 
 #[test]
 fn chunks(rt: HostRuntime) -> Result<(), Fail> {
     let all = all(rt.alloc())?;
     for long in &all {
-        chunks_of_one(&rt, long);
+        assert!(rt; chunks_of_one(long));
     }
     Ok(())
 }
@@ -393,19 +414,19 @@ fn has_chunk_at_break(rope: &Rope, unit: &Unit, line_break: usize) -> bool {
     }
 }
 
-fn chunks_at_line_breaks_of_one(rt: &impl Abort, long: &Long) {
+fn chunks_at_line_breaks_of_one(long: &Long) -> bool {
     let break_count = long.unit.break_count();
-    for line_break in [0, 1, break_count / 2, break_count] {
-        let line_break = line_break.min(break_count);
-        assert!(rt; has_chunk_at_break(&long.rope, &long.unit, line_break));
-    }
+    has_chunk_at_break(&long.rope, &long.unit, 0)
+        && has_chunk_at_break(&long.rope, &long.unit, 1.min(break_count))
+        && has_chunk_at_break(&long.rope, &long.unit, break_count / 2)
+        && has_chunk_at_break(&long.rope, &long.unit, break_count)
 }
 
 #[test]
 fn chunks_at_line_breaks(rt: HostRuntime) -> Result<(), Fail> {
     let all = all(rt.alloc())?;
     for long in &all {
-        chunks_at_line_breaks_of_one(&rt, long);
+        assert!(rt; chunks_at_line_breaks_of_one(long));
     }
     Ok(())
 }
@@ -421,10 +442,13 @@ fn has_position(rope: &Rope, unit: &Unit, place: Place) -> bool {
         && rope.try_position_to_char(position) == Ok(place.char_idx)
 }
 
-fn positions_of_one(rt: &impl Abort, long: &Long) {
-    for place in long.unit.places() {
-        assert!(rt; has_position(&long.rope, &long.unit, place));
+fn positions_of_one(long: &Long) -> bool {
+    for place in &long.unit.places() {
+        if !has_position(&long.rope, &long.unit, *place) {
+            return false;
+        }
     }
+    true
 }
 
 /// Whether a line is refused that lies past the last of so many.
@@ -433,20 +457,19 @@ fn refuses_line(rope: &Rope, line: usize, lines: usize) -> bool {
     rope.try_position_to_char(Position { line, column: 0 }) == refused
 }
 
-fn positions_past_the_end_of_one(rt: &impl Abort, long: &Long) {
+fn positions_past_the_end_of_one(long: &Long) -> bool {
     let lines = long.unit.break_count().saturating_add(1);
     let refused = Err(Error::CharIndexOutOfBounds(usize::MAX, long.unit.char_count()));
-    assert!(rt; refuses_line(&long.rope, lines, lines));
-    assert!(rt; refuses_line(&long.rope, usize::MAX, lines));
-    assert!(rt; long.rope.try_char_to_position(usize::MAX) == refused);
+    refuses_line(&long.rope, lines, lines)
+        && refuses_line(&long.rope, usize::MAX, lines)
+        && long.rope.try_char_to_position(usize::MAX) == refused
 }
 
 #[test]
 fn positions(rt: HostRuntime) -> Result<(), Fail> {
     let all = all(rt.alloc())?;
     for long in &all {
-        positions_of_one(&rt, long);
-        positions_past_the_end_of_one(&rt, long);
+        assert!(rt; positions_of_one(long) && positions_past_the_end_of_one(long));
     }
     Ok(())
 }

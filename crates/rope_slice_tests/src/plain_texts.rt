@@ -1,10 +1,9 @@
 //! Slices of plain texts.
 use crate::cuts::lens;
 use ropey::{LineBreaks, RopeSlice};
-use std::test::Fail;
 
 #[test]
-fn a_plain_text_is_one_chunk(rt: HostRuntime) -> Result<(), Fail> {
+fn a_plain_text_is_one_chunk(rt: HostRuntime) {
     let slice = RopeSlice::from("abc");
     let found = [
         slice.try_chunk_at_byte(3).ok(),
@@ -14,7 +13,6 @@ fn a_plain_text_is_one_chunk(rt: HostRuntime) -> Result<(), Fail> {
     ];
     let whole = Some(("abc", 0, 0, 0));
     assert!(rt; found == [whole, whole, whole, None]);
-    Ok(())
 }
 
 #[test]
@@ -23,15 +21,16 @@ fn the_empty_text(rt: HostRuntime) {
     assert!(rt; slice.as_str() == Some("") && lens(&slice) == [0, 0, 1, 0]);
 }
 
+/// Whether a text has so many lines by a set of line breaks.
+fn has_lines(breaks: LineBreaks, lines: usize) -> bool {
+    let slice = RopeSlice::from_str_with("a\r\nb\rc\u{2028}", breaks);
+    slice.line_breaks() == breaks && slice.len_lines() == lines
+}
+
 #[test]
 fn lines_by_set(rt: HostRuntime) {
-    for (breaks, lines) in [
-        (LineBreaks::Lf, 2),
-        (LineBreaks::CrLf, 3),
-        (LineBreaks::Unicode, 4),
-    ] {
-        let slice = RopeSlice::from_str_with("a\r\nb\rc\u{2028}", breaks);
-        assert!(rt; slice.line_breaks() == breaks && slice.len_lines() == lines);
-    }
+    let is_by_lf = has_lines(LineBreaks::Lf, 2);
+    let is_by_crlf = has_lines(LineBreaks::CrLf, 3);
+    assert!(rt; is_by_lf && is_by_crlf && has_lines(LineBreaks::Unicode, 4));
     assert!(rt; RopeSlice::from("a").line_breaks() == LineBreaks::Unicode);
 }

@@ -5,8 +5,8 @@ use crate::plain_slice::PlainSlice;
 use rope_plain::numbers::Numbers;
 use rope_plain::plain_text::char_to_byte;
 use rope_plain::texts::{chars_of, inserted, part_from, random_edit_text, random_text};
-use ropey::{LineBreaks, Rope, RopeSlice};
-use std::alloc::Global;
+use ropey::{Error, LineBreaks, Rope, RopeSlice};
+use std::alloc::{AllocError, Global};
 use std::test::Fail;
 
 /// Each set of line breaks.
@@ -30,7 +30,7 @@ pub struct Pair {
 
 impl Pair {
     /// A rope of a random text.
-    fn new(alloc: Global, numbers: &mut Numbers, breaks: LineBreaks) -> Result<Pair, Fail> {
+    fn new(alloc: Global, numbers: &mut Numbers, breaks: LineBreaks) -> Result<Pair, Error> {
         let text = random_text(alloc, numbers, 4_000)?;
         Ok(Pair {
             rope: Rope::from_str_with(alloc, text.as_str(), breaks)?,
@@ -44,23 +44,23 @@ impl Pair {
     }
 
     /// Where each of its chunks ends, in characters.
-    pub fn chunk_ends(&self, alloc: Global) -> Result<Vec<usize>, Fail> {
+    pub fn chunk_ends(&self, alloc: Global) -> Result<Vec<usize>, AllocError> {
         chunk_ends(alloc, &self.rope)
     }
 
-    fn insert(&mut self, alloc: Global, numbers: &mut Numbers) -> Result<(), Fail> {
+    fn insert(&mut self, alloc: Global, numbers: &mut Numbers) -> Result<(), Error> {
         let at = numbers.up_to(self.plain.len());
         let text = random_edit_text(alloc, numbers)?;
         self.put_in(alloc, at, text.as_str())
     }
 
-    fn put_in(&mut self, alloc: Global, at: usize, text: &str) -> Result<(), Fail> {
+    fn put_in(&mut self, alloc: Global, at: usize, text: &str) -> Result<(), Error> {
         self.rope.try_insert(at, text)?;
         self.plain = inserted(alloc, &self.plain, at, text)?;
         Ok(())
     }
 
-    fn remove(&mut self, alloc: Global, numbers: &mut Numbers) -> Result<(), Fail> {
+    fn remove(&mut self, alloc: Global, numbers: &mut Numbers) -> Result<(), Error> {
         let start = numbers.up_to(self.plain.len());
         let end = start
             .saturating_add(numbers.up_to(300))
@@ -72,7 +72,7 @@ impl Pair {
         Ok(())
     }
 
-    fn edit(&mut self, alloc: Global, numbers: &mut Numbers) -> Result<(), Fail> {
+    fn edit(&mut self, alloc: Global, numbers: &mut Numbers) -> Result<(), Error> {
         for _ in 0..EDITS {
             self.insert(alloc, numbers)?;
             self.remove(alloc, numbers)?;
@@ -82,14 +82,14 @@ impl Pair {
 }
 
 /// A rope whose chunks are of uneven lengths.
-pub fn edited(alloc: Global, numbers: &mut Numbers, breaks: LineBreaks) -> Result<Pair, Fail> {
+pub fn edited(alloc: Global, numbers: &mut Numbers, breaks: LineBreaks) -> Result<Pair, Error> {
     let mut pair = Pair::new(alloc, numbers, breaks)?;
     pair.edit(alloc, numbers)?;
     Ok(pair)
 }
 
 /// Where each chunk ends, in characters.
-fn chunk_ends(alloc: Global, rope: &Rope) -> Result<Vec<usize>, Fail> {
+fn chunk_ends(alloc: Global, rope: &Rope) -> Result<Vec<usize>, AllocError> {
     let mut ends = Vec::new(alloc);
     let mut end: usize = 0;
     for chunk in rope.chunks() {
@@ -121,7 +121,7 @@ pub fn slice_of<'a>(
     pair: &'a Pair,
     start: usize,
     end: usize,
-) -> Result<RopeSlice<'a>, Fail> {
+) -> Option<RopeSlice<'a>> {
     if numbers.up_to(1) == 0 {
         return between(&pair.rope, start, end);
     }
@@ -137,7 +137,7 @@ fn part_of<'a>(
     plain: &PlainSlice<'_>,
     start: usize,
     end: usize,
-) -> Result<RopeSlice<'a>, Fail> {
+) -> Option<RopeSlice<'a>> {
     if numbers.up_to(1) == 0 {
         return part(slice, start, end);
     }
@@ -146,75 +146,84 @@ fn part_of<'a>(
     byte_part(slice, start, end)
 }
 
-/// A slice in whole, at some places and at its end.
-fn compare_slice(
-    numbers: &mut Numbers,
-    slice: &RopeSlice<'_>,
-    plain: &PlainSlice<'_>,
-) -> Result<(), Fail> {
-    compare_whole(slice, plain)?;
+/// Whether a slice is right in whole, at some places and at its end.
+fn is_slice(numbers: &mut Numbers, slice: &RopeSlice<'_>, plain: &PlainSlice<'_>) -> bool {
     for _ in 0..PLACES {
-        compare_at(slice, plain, numbers.up_to(plain.text.len()))?;
+        if compare_at(slice, plain, numbers.up_to(plain.text.len())).is_err() {
+            return false;
+        }
     }
-    compare_at(slice, plain, plain.text.len())?;
-    Ok(())
+    compare_whole(slice, plain).is_ok() && compare_at(slice, plain, plain.text.len()).is_ok()
 }
 
-/// A slice, and slices each within the one before.
-fn compare_nested<'a>(
-    numbers: &mut Numbers,
-    whole: RopeSlice<'a>,
-    all: PlainSlice<'a>,
-) -> Result<(), Fail> {
+/// Whether a slice is right, and slices each within the one before.
+fn are_nested<'a>(numbers: &mut Numbers, whole: RopeSlice<'a>, all: PlainSlice<'a>) -> bool {
     let mut slice = whole;
     let mut plain = all;
     for _ in 0..DEPTH {
-        compare_slice(numbers, &slice, &plain)?;
+        if !is_slice(numbers, &slice, &plain) {
+            return false;
+        }
         let (start, end) = random_range(numbers, plain.text.len());
-        slice = part_of(numbers, &slice, &plain, start, end)?;
+        match part_of(numbers, &slice, &plain, start, end) {
+            Some(part) => slice = part,
+            None => return false,
+        }
         plain = plain.part(start, end);
     }
-    compare_slice(numbers, &slice, &plain)
+    is_slice(numbers, &slice, &plain)
 }
 
-/// Slices of one rope.
-fn compare_pair(numbers: &mut Numbers, pair: &Pair, all: PlainSlice<'_>) -> Result<(), Fail> {
-    for _ in 0..4 {
-        let (start, end) = random_range(numbers, pair.plain.len());
-        let slice = slice_of(numbers, pair, start, end)?;
-        compare_nested(numbers, slice, all.part(start, end))?;
+/// Whether a slice of a rope is right, and those within it.
+fn is_sliced(numbers: &mut Numbers, pair: &Pair, all: &PlainSlice<'_>) -> bool {
+    let (start, end) = random_range(numbers, pair.plain.len());
+    match slice_of(numbers, pair, start, end) {
+        Some(slice) => are_nested(numbers, slice, all.part(start, end)),
+        None => false,
     }
-    Ok(())
 }
 
-/// Slices of a random rope.
-fn compare_rope(alloc: Global, numbers: &mut Numbers, breaks: LineBreaks) -> Result<(), Fail> {
-    let pair = edited(alloc, numbers, breaks)?;
-    let ends = chunk_ends(alloc, &pair.rope)?;
+/// Whether four slices of one rope are right.
+fn are_sliced(numbers: &mut Numbers, pair: &Pair, ends: &[usize], breaks: LineBreaks) -> bool {
     let all = PlainSlice {
         text: &pair.plain,
         before: 0,
-        ends: &ends,
+        ends,
         breaks,
     };
-    compare_pair(numbers, &pair, all)
+    is_sliced(numbers, pair, &all)
+        && is_sliced(numbers, pair, &all)
+        && is_sliced(numbers, pair, &all)
+        && is_sliced(numbers, pair, &all)
 }
 
-/// Slices of one plain text.
-fn compare_str(alloc: Global, numbers: &mut Numbers, breaks: LineBreaks) -> Result<(), Fail> {
-    let text = random_text(alloc, numbers, 2_000)?;
-    let plain = chars_of(alloc, text.as_str())?;
+/// Whether slices of a random rope are right.
+fn is_rope_sliced(alloc: Global, numbers: &mut Numbers, breaks: LineBreaks) -> Result<bool, Error> {
+    let pair = edited(alloc, numbers, breaks)?;
+    let ends = pair.chunk_ends(alloc)?;
+    Ok(are_sliced(numbers, &pair, &ends, breaks))
+}
+
+/// Whether slices of a plain text are right.
+fn is_text_sliced(numbers: &mut Numbers, text: &str, plain: &[char], breaks: LineBreaks) -> bool {
     let all = PlainSlice {
-        text: &plain,
+        text: plain,
         before: 0,
         ends: &[plain.len()],
         breaks,
     };
-    compare_nested(
-        numbers,
-        RopeSlice::from_str_with(text.as_str(), breaks),
-        all,
-    )
+    are_nested(numbers, RopeSlice::from_str_with(text, breaks), all)
+}
+
+/// Whether slices of a random plain text are right.
+fn is_str_sliced(
+    alloc: Global,
+    numbers: &mut Numbers,
+    breaks: LineBreaks,
+) -> Result<bool, AllocError> {
+    let text = random_text(alloc, numbers, 2_000)?;
+    let plain = chars_of(alloc, text.as_str())?;
+    Ok(is_text_sliced(numbers, text.as_str(), &plain, breaks))
 }
 
 #[test]
@@ -222,7 +231,7 @@ fn slices_of_ropes(rt: HostRuntime) -> Result<(), Fail> {
     let mut numbers = Numbers::new(0x9E37_79B9_7F4A_7C15);
     for _ in 0..40 {
         for breaks in SETS {
-            compare_rope(rt.alloc(), &mut numbers, breaks)?;
+            assert!(rt; is_rope_sliced(rt.alloc(), &mut numbers, breaks)?);
         }
     }
     Ok(())
@@ -233,7 +242,7 @@ fn slices_of_plain_texts(rt: HostRuntime) -> Result<(), Fail> {
     let mut numbers = Numbers::new(0xD1B5_4A32_D192_ED03);
     for _ in 0..100 {
         for breaks in SETS {
-            compare_str(rt.alloc(), &mut numbers, breaks)?;
+            assert!(rt; is_str_sliced(rt.alloc(), &mut numbers, breaks)?);
         }
     }
     Ok(())

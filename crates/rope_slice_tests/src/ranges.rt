@@ -3,7 +3,6 @@ use crate::expected::{Told, behind};
 use crate::long_texts::{UNITS, WHOLE};
 use ropey::{IndexRange, Rope, RopeSlice};
 use std::alloc::Global;
-use std::process::Abort;
 use std::test::Fail;
 
 /// Characters of one to four bytes, and a pair: 6 characters in 12 bytes.
@@ -43,9 +42,11 @@ fn is_removed<R: IndexRange + Drop>(rope: &mut Rope, range: R, told: Told) -> bo
     rope.len_chars() == left && (left != CHARS || rope.eq_str(TEXT))
 }
 
-fn removes<R: IndexRange + Drop>(alloc: Global, range: R, told: Told) -> Result<bool, Fail> {
-    let mut rope = Rope::from_str(alloc, TEXT)?;
-    Ok(is_removed(&mut rope, range, told))
+fn removes<R: IndexRange + Drop>(alloc: Global, range: R, told: Told) -> bool {
+    match Rope::from_str(alloc, TEXT) {
+        Ok(mut rope) => is_removed(&mut rope, range, told),
+        Err(_) => false,
+    }
 }
 
 /// A slice by characters is one exactly where the range is none that a removal refuses, and has its characters.
@@ -85,100 +86,101 @@ macro_rules! are_cut {
 }
 
 /// Ranges with a start and an excluded end.
-fn half_open(alloc: Global, rope: &Rope, start: usize, end: usize) -> Result<bool, Fail> {
+fn half_open(alloc: Global, rope: &Rope, start: usize, end: usize) -> bool {
     let told = Told {
         start: Some(start),
         end: Some(end),
     };
-    let is_removed = removes(alloc, start..end, told)?;
-    Ok(is_removed && are_cut!(rope, start..end, told))
+    removes(alloc, start..end, told) && are_cut!(rope, start..end, told)
 }
 
 /// Ranges with a start and a last index.
-fn closed(alloc: Global, rope: &Rope, start: usize, end: usize) -> Result<bool, Fail> {
+fn closed(alloc: Global, rope: &Rope, start: usize, end: usize) -> bool {
     let told = Told {
         start: Some(start),
         end: Some(behind(end)),
     };
-    let is_removed = removes(alloc, start..=end, told)?;
-    Ok(is_removed && are_cut!(rope, start..=end, told))
+    removes(alloc, start..=end, told) && are_cut!(rope, start..=end, told)
 }
 
 /// Ranges with a start and no end.
-fn open_behind(alloc: Global, rope: &Rope, start: usize) -> Result<bool, Fail> {
+fn open_behind(alloc: Global, rope: &Rope, start: usize) -> bool {
     let told = Told {
         start: Some(start),
         end: None,
     };
-    let is_removed = removes(alloc, start.., told)?;
-    Ok(is_removed && are_cut!(rope, start.., told))
+    removes(alloc, start.., told) && are_cut!(rope, start.., told)
 }
 
 /// Ranges with an excluded end and no start.
-fn open_before(alloc: Global, rope: &Rope, end: usize) -> Result<bool, Fail> {
+fn open_before(alloc: Global, rope: &Rope, end: usize) -> bool {
     let told = Told {
         start: None,
         end: Some(end),
     };
-    let is_removed = removes(alloc, ..end, told)?;
-    Ok(is_removed && are_cut!(rope, ..end, told))
+    removes(alloc, ..end, told) && are_cut!(rope, ..end, told)
 }
 
 /// Ranges with a last index and no start.
-fn up_to(alloc: Global, rope: &Rope, end: usize) -> Result<bool, Fail> {
+fn up_to(alloc: Global, rope: &Rope, end: usize) -> bool {
     let told = Told {
         start: None,
         end: Some(behind(end)),
     };
-    let is_removed = removes(alloc, ..=end, told)?;
-    Ok(is_removed && are_cut!(rope, ..=end, told))
+    removes(alloc, ..=end, told) && are_cut!(rope, ..=end, told)
 }
 
 /// The range with no bound.
-fn open(alloc: Global, rope: &Rope) -> Result<bool, Fail> {
+fn open(alloc: Global, rope: &Rope) -> bool {
     let told = Told {
         start: None,
         end: None,
     };
-    let is_removed = removes(alloc, .., told)?;
-    Ok(is_removed && are_cut!(rope, .., told))
+    removes(alloc, .., told) && are_cut!(rope, .., told)
 }
 
-fn from_one_start(rt: &impl Abort, alloc: Global, rope: &Rope, start: usize) -> Result<(), Fail> {
-    for end in BOUNDS {
-        assert!(rt; half_open(alloc, rope, start, end)?);
-        assert!(rt; closed(alloc, rope, start, end)?);
+fn from_one_start(alloc: Global, rope: &Rope, start: usize) -> bool {
+    for end in &BOUNDS {
+        if !half_open(alloc, rope, start, *end) || !closed(alloc, rope, start, *end) {
+            return false;
+        }
     }
-    Ok(())
+    true
 }
 
-fn from_each_start(rt: &impl Abort, alloc: Global, rope: &Rope) -> Result<(), Fail> {
-    for start in BOUNDS {
-        from_one_start(rt, alloc, rope, start)?;
+fn from_each_start(alloc: Global, rope: &Rope) -> bool {
+    for start in &BOUNDS {
+        if !from_one_start(alloc, rope, *start) {
+            return false;
+        }
     }
-    Ok(())
+    true
 }
 
 #[test]
 fn of_two_bounds(rt: HostRuntime) -> Result<(), Fail> {
     let rope = Rope::from_str(rt.alloc(), TEXT)?;
-    from_each_start(&rt, rt.alloc(), &rope)
+    assert!(rt; from_each_start(rt.alloc(), &rope));
+    Ok(())
 }
 
-fn from_or_to_each_bound(rt: &impl Abort, alloc: Global, rope: &Rope) -> Result<(), Fail> {
-    for bound in BOUNDS {
-        assert!(rt; open_behind(alloc, rope, bound)?);
-        assert!(rt; open_before(alloc, rope, bound)?);
-        assert!(rt; up_to(alloc, rope, bound)?);
+fn from_or_to_each_bound(alloc: Global, rope: &Rope) -> bool {
+    for bound in &BOUNDS {
+        if !open_behind(alloc, rope, *bound)
+            || !open_before(alloc, rope, *bound)
+            || !up_to(alloc, rope, *bound)
+        {
+            return false;
+        }
     }
-    Ok(())
+    true
 }
 
 #[test]
 fn of_one_bound_and_of_none(rt: HostRuntime) -> Result<(), Fail> {
     let rope = Rope::from_str(rt.alloc(), TEXT)?;
-    assert!(rt; open(rt.alloc(), &rope)?);
-    from_or_to_each_bound(&rt, rt.alloc(), &rope)
+    assert!(rt; open(rt.alloc(), &rope) && from_or_to_each_bound(rt.alloc(), &rope));
+    Ok(())
 }
 
 /// Whether a range within the text is cut out by its excluded end, and not by a last index that is the text's end.
@@ -192,19 +194,23 @@ fn is_cut_to_its_end(rope: &Rope, start: usize, end: usize) -> bool {
     are_none == [false, false, true, true]
 }
 
-fn cut_a_long_text(rt: &impl Abort, rope: &Rope) {
+fn is_cut_at_its_end(rope: &Rope) -> bool {
     let len = WHOLE;
-    for (start, end) in [(len - 1, len), (len, len), (0, len)] {
-        assert!(rt; is_cut_to_its_end(rope, start, end));
-    }
-    assert!(rt; rope.get_slice(len + 1..).is_none() && rope.get_slice(..=len - 1).is_some());
-    assert!(rt; rope.get_slice(usize::MAX..).is_none());
-    assert!(rt; rope.get_byte_slice(..=usize::MAX).is_none());
+    is_cut_to_its_end(rope, len - 1, len)
+        && is_cut_to_its_end(rope, len, len)
+        && is_cut_to_its_end(rope, 0, len)
+        && rope.get_slice(..=len - 1).is_some()
+}
+
+fn is_not_cut_past_its_end(rope: &Rope) -> bool {
+    rope.get_slice(WHOLE + 1..).is_none()
+        && rope.get_slice(usize::MAX..).is_none()
+        && rope.get_byte_slice(..=usize::MAX).is_none()
 }
 
 #[test]
 fn a_pair_of_a_long_text(rt: HostRuntime) -> Result<(), Fail> {
     let rope = UNITS[1].whole(rt.alloc())?;
-    cut_a_long_text(&rt, &rope);
+    assert!(rt; is_cut_at_its_end(&rope) && is_not_cut_past_its_end(&rope));
     Ok(())
 }

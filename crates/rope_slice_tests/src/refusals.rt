@@ -1,6 +1,5 @@
 //! Ranges of bytes and of characters that are refused.
 use ropey::{Error, Rope, RopeSlice};
-use std::process::Abort;
 use std::test::Fail;
 
 /// What the ranges of the bytes of `é` are refused with.
@@ -11,37 +10,37 @@ const REFUSALS: [Option<Error>; 4] = [
     Some(Error::ByteRangeOutOfBounds(Some(3), None, 2)),
 ];
 
-/// The ranges of the bytes of `é` that are refused.
-macro_rules! assert_refused {
-    ($rt:ident, $text:ident) => {
+/// Whether the ranges of the bytes of `é` are refused so.
+macro_rules! is_refused {
+    ($text:ident) => {{
         let refused = [
             $text.try_byte_slice(1..1).err(),
             $text.try_byte_slice(..1).err(),
             $text.try_byte_slice(9..7).err(),
             $text.try_byte_slice(3..).err(),
         ];
-        assert!($rt; refused == REFUSALS && $text.get_byte_slice(1..1).is_none());
-    };
+        refused == REFUSALS && $text.get_byte_slice(1..1).is_none()
+    }};
 }
 
-fn refuse_bytes(rt: &impl Abort, rope: &Rope) {
-    assert_refused!(rt, rope);
+fn refuses_bytes(rope: &Rope) -> bool {
+    is_refused!(rope)
 }
 
 #[test]
 fn bytes_of_a_rope(rt: HostRuntime) -> Result<(), Fail> {
     let rope = Rope::from_str(rt.alloc(), "é")?;
-    refuse_bytes(&rt, &rope);
+    assert!(rt; refuses_bytes(&rope));
     Ok(())
 }
 
 #[test]
 fn bytes_of_a_slice(rt: HostRuntime) {
     let slice = RopeSlice::from("é");
-    assert_refused!(rt, slice);
+    assert!(rt; is_refused!(slice));
 }
 
-fn refuse_chars(rt: &impl Abort, rope: &Rope, slice: RopeSlice<'_>) {
+fn refuses_chars(rope: &Rope, slice: RopeSlice<'_>) -> bool {
     let are_none = [
         rope.get_slice(2..1).is_none(),
         slice.get_slice(2..1).is_none(),
@@ -52,12 +51,12 @@ fn refuse_chars(rt: &impl Abort, rope: &Rope, slice: RopeSlice<'_>) {
         rope.get_slice(2..).is_none(),
         slice.get_slice(2..).is_none(),
     ];
-    assert!(rt; are_none == [true, true, true, true, true, true, false, false]);
+    are_none == [true, true, true, true, true, true, false, false]
 }
 
 #[test]
 fn chars(rt: HostRuntime) -> Result<(), Fail> {
     let rope = Rope::from_str(rt.alloc(), "éa")?;
-    refuse_chars(&rt, &rope, RopeSlice::from("éa"));
+    assert!(rt; refuses_chars(&rope, RopeSlice::from("éa")));
     Ok(())
 }

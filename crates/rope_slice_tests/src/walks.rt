@@ -2,14 +2,13 @@
 use crate::compare::compare_whole;
 use crate::plain_slice::{PlainSlice, is_text};
 use crate::random_slices::{Pair, SETS, edited, random_range, slice_of};
-use rope_plain::given::given;
 use rope_plain::numbers::Numbers;
 use rope_plain::plain_cursor::PlainCursor;
 use rope_plain::plain_text::{char_to_byte, char_to_line, line_to_char};
 use rope_plain::texts::{chars_of, random_text};
 use ropey::iter::{Bytes, Chars, Chunks, Lines};
-use ropey::{LineBreaks, RopeSlice};
-use std::alloc::Global;
+use ropey::{Error, LineBreaks, RopeSlice};
+use std::alloc::{AllocError, Global};
 use std::test::Fail;
 
 /// How many steps a walk has.
@@ -116,7 +115,7 @@ struct Items<'p> {
 }
 
 /// The bytes of these characters.
-fn text_of(alloc: Global, chars: &[char]) -> Result<String, Fail> {
+fn text_of(alloc: Global, chars: &[char]) -> Result<String, AllocError> {
     let mut text = String::new(alloc);
     for c in chars {
         text.push(*c)?;
@@ -125,7 +124,7 @@ fn text_of(alloc: Global, chars: &[char]) -> Result<String, Fail> {
 }
 
 /// Where the chunks of a slice end, in its characters.
-fn ends_of(alloc: Global, plain: &PlainSlice<'_>) -> Result<Vec<usize>, Fail> {
+fn ends_of(alloc: Global, plain: &PlainSlice<'_>) -> Result<Vec<usize>, AllocError> {
     let mut ends = Vec::new(alloc);
     let mut last = 0;
     for end in plain.ends {
@@ -139,7 +138,7 @@ fn ends_of(alloc: Global, plain: &PlainSlice<'_>) -> Result<Vec<usize>, Fail> {
 }
 
 impl<'p> Items<'p> {
-    fn new(alloc: Global, plain: PlainSlice<'p>) -> Result<Items<'p>, Fail> {
+    fn new(alloc: Global, plain: PlainSlice<'p>) -> Result<Items<'p>, AllocError> {
         Ok(Items {
             plain,
             bytes: text_of(alloc, plain.text)?,
@@ -227,101 +226,127 @@ fn steps_agree<'a, W: Walker<'a>>(
     agrees && counts
 }
 
-/// A walk from where the cursor stands.
-fn walk<'a, W: Walker<'a>>(
+/// Whether a walk from where the cursor stands goes as that of its partner.
+fn is_walk<'a, W: Walker<'a>>(
     numbers: &mut Numbers,
     walker: &mut W,
     partner: PlainCursor,
     items: &Items<'_>,
-) -> Result<(), Fail> {
+) -> bool {
     let mut plain = partner;
     for _ in 0..STEPS {
         if !steps_agree(numbers, walker, &mut plain, items) {
-            return Err(Fail::from("a walk went astray"));
+            return false;
         }
     }
-    Ok(())
+    true
 }
 
-fn walk_bytes(
+fn walks_bytes(
     numbers: &mut Numbers,
     slice: &RopeSlice<'_>,
     items: &Items<'_>,
     char_idx: usize,
-) -> Result<(), Fail> {
+) -> bool {
     let byte_idx = char_to_byte(items.plain.text, char_idx);
-    let mut cursor = given(slice.get_bytes_at(byte_idx))?;
     let partner = PlainCursor::at(items.bytes.len(), byte_idx);
-    walk(numbers, &mut cursor, partner, items)
+    match slice.get_bytes_at(byte_idx) {
+        Some(mut cursor) => is_walk(numbers, &mut cursor, partner, items),
+        None => false,
+    }
 }
 
-fn walk_chars(
+fn walks_chars(
     numbers: &mut Numbers,
     slice: &RopeSlice<'_>,
     items: &Items<'_>,
     char_idx: usize,
-) -> Result<(), Fail> {
-    let mut cursor = given(slice.get_chars_at(char_idx))?;
+) -> bool {
     let partner = PlainCursor::at(items.plain.text.len(), char_idx);
-    walk(numbers, &mut cursor, partner, items)
+    match slice.get_chars_at(char_idx) {
+        Some(mut cursor) => is_walk(numbers, &mut cursor, partner, items),
+        None => false,
+    }
 }
 
-fn walk_lines(
+fn walks_lines(
     numbers: &mut Numbers,
     slice: &RopeSlice<'_>,
     items: &Items<'_>,
     line_idx: usize,
-) -> Result<(), Fail> {
-    let mut cursor = given(slice.get_lines_at(line_idx))?;
+) -> bool {
     let partner = PlainCursor::at(items.line_count(), line_idx);
-    walk(numbers, &mut cursor, partner, items)
-}
-
-/// A walk of each kind over a slice, each from a random place or from an end.
-fn walk_all(numbers: &mut Numbers, slice: &RopeSlice<'_>, items: &Items<'_>) -> Result<(), Fail> {
-    let chars = items.plain.text.len();
-    let char_idx = numbers.up_to(chars);
-    let line_idx = numbers.up_to(items.line_count());
-    walk_bytes(numbers, slice, items, char_idx)?;
-    walk_chars(numbers, slice, items, char_idx)?;
-    walk_lines(numbers, slice, items, line_idx)?;
-    let from_start = PlainCursor::at(items.ends.len(), 0);
-    walk(numbers, &mut slice.chunks(), from_start, items)?;
-    walk_chunks(numbers, slice, items, char_idx)?;
-    walk_chunks(numbers, slice, items, chars)
+    match slice.get_lines_at(line_idx) {
+        Some(mut cursor) => is_walk(numbers, &mut cursor, partner, items),
+        None => false,
+    }
 }
 
 /// A walk over chunks from the one that holds a character, or from the end.
-fn walk_chunks(
+fn walks_chunks(
     numbers: &mut Numbers,
     slice: &RopeSlice<'_>,
     items: &Items<'_>,
     char_idx: usize,
-) -> Result<(), Fail> {
-    let (mut cursor, bytes, before, break_count) = given(slice.get_chunks_at_char(char_idx))?;
+) -> bool {
     let (index, start) = items.chunk_start(char_idx);
-    if (bytes, before, break_count) != items.plain.counts_before(start) {
-        return Err(Fail::from("a cursor gives other counts"));
-    }
     let partner = PlainCursor::at(items.ends.len(), index);
-    walk(numbers, &mut cursor, partner, items)
+    match slice.get_chunks_at_char(char_idx) {
+        Some((mut cursor, bytes, before, break_count)) => {
+            (bytes, before, break_count) == items.plain.counts_before(start)
+                && is_walk(numbers, &mut cursor, partner, items)
+        }
+        None => false,
+    }
 }
 
-/// Walks over a random slice of a rope.
-fn walk_slice(
+/// Whether a walk of each kind over a slice goes well, each from a random place or from an end.
+fn walks_all(numbers: &mut Numbers, slice: &RopeSlice<'_>, items: &Items<'_>) -> bool {
+    let chars = items.plain.text.len();
+    let char_idx = numbers.up_to(chars);
+    let line_idx = numbers.up_to(items.line_count());
+    let from_start = PlainCursor::at(items.ends.len(), 0);
+    walks_bytes(numbers, slice, items, char_idx)
+        && walks_chars(numbers, slice, items, char_idx)
+        && walks_lines(numbers, slice, items, line_idx)
+        && is_walk(numbers, &mut slice.chunks(), from_start, items)
+        && walks_chunks(numbers, slice, items, char_idx)
+        && walks_chunks(numbers, slice, items, chars)
+}
+
+/// Whether walks over a slice go well, where there is one.
+fn walks_slice(
+    alloc: Global,
+    numbers: &mut Numbers,
+    slice: Option<RopeSlice<'_>>,
+    plain: PlainSlice<'_>,
+) -> Result<bool, AllocError> {
+    let items = Items::new(alloc, plain)?;
+    match slice {
+        Some(slice) => Ok(walks_all(numbers, &slice, &items)),
+        None => Ok(false),
+    }
+}
+
+/// Whether walks over three random slices of a rope go well.
+fn walks_slices(
     alloc: Global,
     numbers: &mut Numbers,
     pair: &Pair,
     all: &PlainSlice<'_>,
-) -> Result<(), Fail> {
-    let (start, end) = random_range(numbers, pair.plain().len());
-    let slice = slice_of(numbers, pair, start, end)?;
-    let items = Items::new(alloc, all.part(start, end))?;
-    walk_all(numbers, &slice, &items)
+) -> Result<bool, AllocError> {
+    for _ in 0..3 {
+        let (start, end) = random_range(numbers, all.text.len());
+        let slice = slice_of(numbers, pair, start, end);
+        if !walks_slice(alloc, numbers, slice, all.part(start, end))? {
+            return Ok(false);
+        }
+    }
+    Ok(true)
 }
 
-/// Walks over three slices of a random rope.
-fn walk_rope(alloc: Global, numbers: &mut Numbers, breaks: LineBreaks) -> Result<(), Fail> {
+/// Whether walks over three slices of a random rope go well.
+fn walks_rope(alloc: Global, numbers: &mut Numbers, breaks: LineBreaks) -> Result<bool, Error> {
     let pair = edited(alloc, numbers, breaks)?;
     let ends = pair.chunk_ends(alloc)?;
     let all = PlainSlice {
@@ -330,25 +355,11 @@ fn walk_rope(alloc: Global, numbers: &mut Numbers, breaks: LineBreaks) -> Result
         ends: &ends,
         breaks,
     };
-    for _ in 0..3 {
-        walk_slice(alloc, numbers, &pair, &all)?;
-    }
-    Ok(())
+    Ok(walks_slices(alloc, numbers, &pair, &all)?)
 }
 
-/// Walks over a slice of a plain text.
-fn walk_text(
-    alloc: Global,
-    numbers: &mut Numbers,
-    slice: &RopeSlice<'_>,
-    all: PlainSlice<'_>,
-) -> Result<(), Fail> {
-    let items = Items::new(alloc, all)?;
-    walk_all(numbers, slice, &items)
-}
-
-/// Walks over a random plain text.
-fn walk_str(alloc: Global, numbers: &mut Numbers, breaks: LineBreaks) -> Result<(), Fail> {
+/// Whether walks over a random plain text go well.
+fn walks_str(alloc: Global, numbers: &mut Numbers, breaks: LineBreaks) -> Result<bool, AllocError> {
     let text = random_text(alloc, numbers, 300)?;
     let plain = chars_of(alloc, text.as_str())?;
     let all = PlainSlice {
@@ -358,7 +369,7 @@ fn walk_str(alloc: Global, numbers: &mut Numbers, breaks: LineBreaks) -> Result<
         breaks,
     };
     let slice = RopeSlice::from_str_with(text.as_str(), breaks);
-    walk_text(alloc, numbers, &slice, all)
+    walks_slice(alloc, numbers, Some(slice), all)
 }
 
 #[test]
@@ -366,7 +377,7 @@ fn walks_over_ropes(rt: HostRuntime) -> Result<(), Fail> {
     let mut numbers = Numbers::new(0x2545_F491_4F6C_DD1D);
     for _ in 0..115 {
         for breaks in SETS {
-            walk_rope(rt.alloc(), &mut numbers, breaks)?;
+            assert!(rt; walks_rope(rt.alloc(), &mut numbers, breaks)?);
         }
     }
     Ok(())
@@ -377,7 +388,7 @@ fn walks_over_plain_texts(rt: HostRuntime) -> Result<(), Fail> {
     let mut numbers = Numbers::new(0x8CB9_2BA7_2F3D_8DD7);
     for _ in 0..330 {
         for breaks in SETS {
-            walk_str(rt.alloc(), &mut numbers, breaks)?;
+            assert!(rt; walks_str(rt.alloc(), &mut numbers, breaks)?);
         }
     }
     Ok(())
