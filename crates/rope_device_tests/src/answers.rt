@@ -1,46 +1,52 @@
 //! What a plain rope answers to each query.
-use crate::plain_rope::{Count, PlainRope, between, last_place, lengths_of, line_place, place_at};
-use crate::walking::walk;
+use crate::plain_rope::{Count, Part, PlainRope, last_place, lengths_of, line_place, place_at};
+use crate::walking::moved;
+use rope_plain::plain_cursor::PlainCursor;
 use rope_plain::plain_text::Place;
 use rope_script::{At, Conv, Item, Move, Query, Reply, Unit};
 use ropey::Error;
-use std::alloc::Global;
-use std::test::Fail;
+use std::alloc::{AllocError, Global};
 
 /// Whether a text is these characters.
 pub fn is_text(text: &str, chars: &[char]) -> bool {
-    text.chars().count() == chars.len() && text.chars().zip(chars.iter()).all(|(a, b)| a == *b)
+    let mut place: usize = 0;
+    for c in text.chars() {
+        if chars.get(place) != Some(&c) {
+            return false;
+        }
+        place = place.saturating_add(1);
+    }
+    place == chars.len()
 }
 
 /// A part that is asked, and its places.
-#[derive(Drop)]
-struct Asked {
-    part: PlainRope,
-    places: Vec<Place>,
-    alloc: Global,
+#[derive(Clone, Copy)]
+struct Asked<'a> {
+    part: Part<'a>,
+    places: &'a [Place],
 }
 
 /// A number, or the error of an index.
 type Answer = Result<usize, Error>;
 
-impl Asked {
+impl<'a> Asked<'a> {
     fn char_error(&self, index: usize) -> Option<Error> {
-        let len = lengths_of(&self.places).chars;
+        let len = lengths_of(self.places).chars;
         (index > len).then_some(Error::CharIndexOutOfBounds(index, len))
     }
 
     fn byte_error(&self, index: usize) -> Option<Error> {
-        let len = lengths_of(&self.places).bytes;
+        let len = lengths_of(self.places).bytes;
         (index > len).then_some(Error::ByteIndexOutOfBounds(index, len))
     }
 
     fn unit_error(&self, index: usize) -> Option<Error> {
-        let len = lengths_of(&self.places).units;
+        let len = lengths_of(self.places).units;
         (index > len).then_some(Error::Utf16IndexOutOfBounds(index, len))
     }
 
     fn line_error(&self, index: usize) -> Option<Error> {
-        let len = lengths_of(&self.places).lines;
+        let len = lengths_of(self.places).lines;
         (index > len).then_some(Error::LineIndexOutOfBounds(index, len))
     }
 
@@ -57,65 +63,45 @@ impl Asked {
         if let Some(error) = self.conversion_error(conversion, index) {
             return Err(error);
         }
-        let at_byte = last_place(&self.places, Count::Bytes, index);
-        let at_line = line_place(&self.places, index);
+        let at_byte = last_place(self.places, Count::Bytes, index);
+        let at_line = line_place(self.places, index);
         Ok(match conversion {
             Conv::ByteToChar => at_byte,
-            Conv::ByteToLine => place_at(&self.places, at_byte).line,
-            Conv::CharToByte => place_at(&self.places, index).byte,
-            Conv::CharToLine => place_at(&self.places, index).line,
-            Conv::CharToUtf16 => place_at(&self.places, index).unit,
-            Conv::Utf16ToChar => last_place(&self.places, Count::Units, index),
-            Conv::LineToByte => place_at(&self.places, at_line).byte,
+            Conv::ByteToLine => place_at(self.places, at_byte).line,
+            Conv::CharToByte => place_at(self.places, index).byte,
+            Conv::CharToLine => place_at(self.places, index).line,
+            Conv::CharToUtf16 => place_at(self.places, index).unit,
+            Conv::Utf16ToChar => last_place(self.places, Count::Units, index),
+            Conv::LineToByte => place_at(self.places, at_line).byte,
             Conv::LineToChar => at_line,
         })
     }
 
     /// The characters of a line, where there is one.
-    fn line(&self, line: usize) -> Result<Option<Vec<char>>, Fail> {
-        if line >= lengths_of(&self.places).lines {
-            return Ok(None);
+    fn line(&self, line: usize) -> Option<&'a [char]> {
+        if line >= lengths_of(self.places).lines {
+            return None;
         }
-        let start = line_place(&self.places, line);
-        let end = line_place(&self.places, line.saturating_add(1));
-        Ok(Some(between(self.alloc, &self.part.text, start, end)?))
+        let start = line_place(self.places, line);
+        let end = line_place(self.places, line.saturating_add(1));
+        self.part.text.get(start..end)
     }
 
-    /// All lines, in order.
-    fn lines(&self) -> Result<Vec<Vec<char>>, Fail> {
-        let mut lines = Vec::new(self.alloc);
-        for line in 0..lengths_of(&self.places).lines {
-            if let Some(chars) = self.line(line)? {
-                lines.push(chars)?;
-            }
-        }
-        Ok(lines)
-    }
-
-    /// All bytes, in order.
-    fn bytes(&self) -> Result<Vec<u8>, Fail> {
-        let mut all = Vec::new(self.alloc);
-        for c in self.part.text.iter() {
-            let mut bytes = [0; 4];
-            all.extend_from_slice(c.encode_utf8(&mut bytes).as_bytes())?;
-        }
-        Ok(all)
-    }
-
-    /// The character before which so many chunks lie.
-    fn chunk_start(&self, index: usize) -> usize {
-        let mut start: usize = 0;
-        for chunk in self.part.chunks.iter().take(index) {
-            start = start.saturating_add(chunk.len());
-        }
-        start
+    /// The byte at an index.
+    fn byte(&self, index: usize) -> Option<u8> {
+        let at = last_place(self.places, Count::Bytes, index);
+        let start = place_at(self.places, at).byte;
+        let c = self.part.text.get(at)?;
+        let mut bytes = [0; 4];
+        let encoded = c.encode_utf8(&mut bytes).as_bytes();
+        encoded.get(index.saturating_sub(start)).copied()
     }
 
     /// The last chunk that starts at a character or before it.
     fn chunk_of_char(&self, char_idx: usize) -> usize {
         let mut found = 0;
-        for index in 0..self.part.chunks.len() {
-            if self.chunk_start(index) <= char_idx {
+        for index in 0..self.part.chunk_count() {
+            if self.part.chunk_start(index) <= char_idx {
                 found = index;
             }
         }
@@ -124,21 +110,22 @@ impl Asked {
 
     /// The first chunk by whose end so many breaks have ended, or the last.
     fn chunk_of_break(&self, break_count: usize) -> usize {
-        for index in 0..self.part.chunks.len() {
-            let end = self.chunk_start(index.saturating_add(1));
-            if place_at(&self.places, end).line >= break_count {
+        let count = self.part.chunk_count();
+        for index in 0..count {
+            let end = self.part.chunk_start(index.saturating_add(1));
+            if place_at(self.places, end).line >= break_count {
                 return index;
             }
         }
-        self.part.chunks.len().saturating_sub(1)
+        count.saturating_sub(1)
     }
 
     /// Which chunk an index names and whether it is the end; none out of range.
     fn chunk_index(&self, at: &At, index: usize) -> Option<(usize, bool)> {
-        let lens = lengths_of(&self.places);
+        let lens = lengths_of(self.places);
         let (end, found) = match at {
             At::Byte => {
-                let place = last_place(&self.places, Count::Bytes, index);
+                let place = last_place(self.places, Count::Bytes, index);
                 (lens.bytes, self.chunk_of_char(place))
             }
             At::Char => (lens.chars, self.chunk_of_char(index)),
@@ -147,102 +134,114 @@ impl Asked {
         (index <= end).then_some((found, index == end))
     }
 
+    /// Whether this is the chunk with that index; where there is none it is empty.
+    fn is_chunk(&self, text: &str, index: usize) -> bool {
+        match self.part.chunk(index) {
+            Some(chunk) => is_text(text, chunk),
+            None => text.is_empty(),
+        }
+    }
+
     fn is_chunk_reply(&self, at: &At, index: usize, reply: &Reply) -> bool {
         match (self.chunk_index(at, index), reply) {
             (None, Reply::Absent) => true,
             (Some((found, _)), Reply::Chunk(text, bytes, chars, break_count)) => {
-                let start = self.chunk_start(found);
-                let place = place_at(&self.places, start);
-                let is_there = match self.part.chunks.get(found) {
-                    Some(chunk) => is_text(text.as_str(), chunk),
-                    None => text.is_empty(),
-                };
-                is_there && (*bytes, *chars, *break_count) == (place.byte, start, place.line)
+                let start = self.part.chunk_start(found);
+                let place = place_at(self.places, start);
+                [*bytes, *chars, *break_count] == [place.byte, start, place.line]
+                    && self.is_chunk(text.as_str(), found)
             }
             _ => false,
         }
     }
 
-    /// Whether the items are those of a list at these indices.
-    fn are_texts(
-        &self,
-        items: &[Option<Item>],
-        indices: &[Option<usize>],
-        list: &[Vec<char>],
-    ) -> bool {
-        items.len() == indices.len()
-            && items.iter().zip(indices.iter()).all(|(item, index)| match (item, index) {
-                (None, None) => true,
-                (Some(Item::Text(text)), Some(index)) => match list.get(*index) {
-                    Some(chars) => is_text(text.as_str(), chars),
-                    None => false,
-                },
-                _ => false,
-            })
-    }
-
-    fn are_chars(&self, items: &[Option<Item>], indices: &[Option<usize>]) -> bool {
-        items.len() == indices.len()
-            && items.iter().zip(indices.iter()).all(|(item, index)| match (item, index) {
-                (None, None) => true,
-                (Some(Item::Char(c)), Some(index)) => self.part.text.get(*index) == Some(c),
-                _ => false,
-            })
-    }
-
-    fn are_bytes(&self, items: &[Option<Item>], indices: &[Option<usize>], bytes: &[u8]) -> bool {
-        items.len() == indices.len()
-            && items.iter().zip(indices.iter()).all(|(item, index)| match (item, index) {
-                (None, None) => true,
-                (Some(Item::Byte(byte)), Some(index)) => bytes.get(*index) == Some(byte),
-                _ => false,
-            })
-    }
-
-    /// Where a walk starts among so many items; none out of range.
-    fn walk_start(&self, unit: &Unit, index: usize) -> Option<(usize, usize)> {
-        let lens = lengths_of(&self.places);
-        let (len, end, place) = match unit {
-            Unit::Bytes => (lens.bytes, lens.bytes, index),
-            Unit::Chars => (lens.chars, lens.chars, index),
-            Unit::Lines => (lens.lines, lens.lines, index),
-            Unit::Chunks(at) => {
-                let (found, is_end) = self.chunk_index(at, index)?;
-                let len = self.part.chunks.len();
-                (len, index, if is_end { len } else { found })
+    /// Whether these are all chunks, in order.
+    fn are_chunks(&self, texts: &[String]) -> bool {
+        for (index, text) in texts.iter().enumerate() {
+            if !self.is_chunk(text.as_str(), index) {
+                return false;
             }
-        };
-        (index <= end).then_some((len, place))
+        }
+        texts.len() == self.part.chunk_count()
     }
 
-    fn is_walk(
+    /// Whether an item that a cursor gave is the one with that index.
+    fn is_item(&self, unit: &Unit, item: &Item, index: usize) -> bool {
+        match (unit, item) {
+            (Unit::Bytes, Item::Byte(byte)) => self.byte(index) == Some(*byte),
+            (Unit::Chars, Item::Char(c)) => self.part.text.get(index) == Some(c),
+            (Unit::Lines, Item::Text(text)) => is_text_of(text.as_str(), self.line(index)),
+            (Unit::Chunks(_), Item::Text(text)) => {
+                is_text_of(text.as_str(), self.part.chunk(index))
+            }
+            _ => false,
+        }
+    }
+
+    /// Whether a step of a walk gave what it has to.
+    fn agrees(&self, unit: &Unit, item: Option<&Option<Item>>, index: Option<usize>) -> bool {
+        match (item, index) {
+            (Some(Some(item)), Some(index)) => self.is_item(unit, item, index),
+            (Some(None), None) => true,
+            _ => false,
+        }
+    }
+
+    /// Whether the items are those of a walk from where the cursor stands.
+    fn are_items(
         &self,
         unit: &Unit,
-        index: usize,
+        start: PlainCursor,
         moves: &[Move],
-        reply: &Reply,
-    ) -> Result<bool, Fail> {
-        let (len, place, items) = match (self.walk_start(unit, index), reply) {
-            (None, Reply::Absent) => return Ok(true),
-            (Some((len, place)), Reply::Walk(items)) => (len, place, items),
-            _ => return Ok(false),
+        items: &[Option<Item>],
+    ) -> bool {
+        let mut cursor = start;
+        let mut count: usize = 0;
+        for step in moves {
+            if let Some(index) = moved(&mut cursor, step) {
+                if !self.agrees(unit, items.get(count), index) {
+                    return false;
+                }
+                count = count.saturating_add(1);
+            }
+        }
+        count == items.len()
+    }
+
+    /// Where a walk starts among the chunks; none out of range.
+    fn walk_of_chunks(&self, at: &At, index: usize) -> Option<PlainCursor> {
+        let (found, is_end) = self.chunk_index(at, index)?;
+        let count = self.part.chunk_count();
+        Some(PlainCursor::at(count, if is_end { count } else { found }))
+    }
+
+    /// Where a walk starts among its items; none out of range.
+    fn walk_start(&self, unit: &Unit, index: usize) -> Option<PlainCursor> {
+        let lens = lengths_of(self.places);
+        let len = match unit {
+            Unit::Bytes => lens.bytes,
+            Unit::Chars => lens.chars,
+            Unit::Lines => lens.lines,
+            Unit::Chunks(at) => return self.walk_of_chunks(at, index),
         };
-        let indices = walk(self.alloc, len, place, moves)?;
-        Ok(match unit {
-            Unit::Bytes => self.are_bytes(items, &indices, &self.bytes()?),
-            Unit::Chars => self.are_chars(items, &indices),
-            Unit::Lines => self.are_texts(items, &indices, &self.lines()?),
-            Unit::Chunks(_) => self.are_texts(items, &indices, &self.part.chunks),
-        })
+        (index <= len).then_some(PlainCursor::at(len, index))
+    }
+
+    fn is_walk(&self, unit: &Unit, index: usize, moves: &[Move], reply: &Reply) -> bool {
+        match (self.walk_start(unit, index), reply) {
+            (None, Reply::Absent) => true,
+            (Some(start), Reply::Walk(items)) => self.are_items(unit, start, moves, items),
+            _ => false,
+        }
     }
 
     fn is_position(&self, index: usize, reply: &Reply) -> bool {
         match (self.char_error(index), reply) {
             (Some(error), Reply::Refused(refusal)) => error == *refusal,
             (None, Reply::Position(line, column)) => {
-                let place = place_at(&self.places, index);
-                let start = place_at(&self.places, place.line_start_char);
-                (*line, *column) == (place.line, place.unit.saturating_sub(start.unit))
+                let place = place_at(self.places, index);
+                let start = place_at(self.places, place.line_start_char);
+                [*line, *column] == [place.line, place.unit.saturating_sub(start.unit)]
             }
             _ => false,
         }
@@ -250,24 +249,90 @@ impl Asked {
 
     /// The last character of a line whose column is at most so much.
     fn position_to_char(&self, line: usize, column: usize) -> Answer {
-        let lens = lengths_of(&self.places);
+        let lens = lengths_of(self.places);
         if line >= lens.lines {
             return Err(Error::LineIndexOutOfBounds(line, lens.lines));
         }
-        let first = line_place(&self.places, line);
-        let last = line_place(&self.places, line.saturating_add(1));
-        let start = place_at(&self.places, first).unit;
-        let len = place_at(&self.places, last).unit.saturating_sub(start);
+        let first = line_place(self.places, line);
+        let last = line_place(self.places, line.saturating_add(1));
+        let start = place_at(self.places, first).unit;
+        let len = place_at(self.places, last).unit.saturating_sub(start);
         if column > len {
             return Err(Error::Utf16IndexOutOfBounds(column, len));
         }
         let unit = start.saturating_add(column);
-        Ok(last_place(&self.places, Count::Units, unit).min(last))
+        Ok(last_place(self.places, Count::Units, unit).min(last))
     }
 
-    /// The byte at an index.
-    fn byte(&self, index: usize) -> Result<Option<u8>, Fail> {
-        Ok(self.bytes()?.get(index).copied())
+    fn are_lens(&self, reply: &Reply) -> bool {
+        let lens = lengths_of(self.places);
+        match reply {
+            Reply::Lens(bytes, chars, lines, units) => {
+                [*bytes, *chars, *lines, *units] == [lens.bytes, lens.chars, lens.lines, lens.units]
+            }
+            _ => false,
+        }
+    }
+
+    fn is_byte(&self, index: usize, reply: &Reply) -> bool {
+        match (self.byte(index), reply) {
+            (Some(byte), Reply::Byte(shown)) => byte == *shown,
+            (None, Reply::Absent) => true,
+            _ => false,
+        }
+    }
+
+    fn is_char(&self, index: usize, reply: &Reply) -> bool {
+        match (self.part.text.get(index), reply) {
+            (Some(c), Reply::Char(shown)) => c == shown,
+            (None, Reply::Absent) => true,
+            _ => false,
+        }
+    }
+
+    /// Whether it is so ordered against a part of one of the ropes.
+    fn is_order(
+        &self,
+        ropes: &[PlainRope],
+        number: usize,
+        range: Option<(usize, usize)>,
+        reply: &Reply,
+    ) -> bool {
+        let Some(rope) = ropes.get(number) else {
+            return matches!(reply, Reply::NoRope);
+        };
+        match (rope.part(range), reply) {
+            (Some(part), Reply::Order(order)) => self.part.text.cmp(part.text) == *order,
+            (None, Reply::NoSlice) => true,
+            _ => false,
+        }
+    }
+
+    /// Whether a part may be replied so to a query.
+    fn is_reply(&self, ropes: &[PlainRope], query: &Query, reply: &Reply) -> bool {
+        match query {
+            Query::Lens => self.are_lens(reply),
+            Query::Show => is_text_or_absent(Some(self.part.text), reply),
+            Query::Chunks => match reply {
+                Reply::Texts(texts) => self.are_chunks(texts),
+                _ => false,
+            },
+            Query::Breaks => match reply {
+                Reply::Breaks(breaks) => *breaks == self.part.breaks,
+                _ => false,
+            },
+            Query::Convert(conversion, index) => is_number(self.convert(conversion, *index), reply),
+            Query::Byte(index) => self.is_byte(*index, reply),
+            Query::Char(index) => self.is_char(*index, reply),
+            Query::Line(line) => is_text_or_absent(self.line(*line), reply),
+            Query::ChunkAt(at, index) => self.is_chunk_reply(at, *index, reply),
+            Query::Walk(unit, index, moves) => self.is_walk(unit, *index, moves, reply),
+            Query::Compare((number, range)) => self.is_order(ropes, *number, *range, reply),
+            Query::ToPosition(index) => self.is_position(*index, reply),
+            Query::FromPosition(line, column) => {
+                is_number(self.position_to_char(*line, *column), reply)
+            }
+        }
     }
 }
 
@@ -279,15 +344,15 @@ fn is_number(answer: Answer, reply: &Reply) -> bool {
     }
 }
 
-fn are_texts(texts: &[String], chunks: &[Vec<char>]) -> bool {
-    texts.len() == chunks.len()
-        && texts
-            .iter()
-            .zip(chunks.iter())
-            .all(|(text, chunk)| is_text(text.as_str(), chunk))
+/// Whether there are characters, and a text is these.
+fn is_text_of(text: &str, chars: Option<&[char]>) -> bool {
+    match chars {
+        Some(chars) => is_text(text, chars),
+        None => false,
+    }
 }
 
-fn is_text_or_absent(chars: Option<&Vec<char>>, reply: &Reply) -> bool {
+fn is_text_or_absent(chars: Option<&[char]>, reply: &Reply) -> bool {
     match (chars, reply) {
         (Some(chars), Reply::Text(text)) => is_text(text.as_str(), chars),
         (None, Reply::Absent) => true,
@@ -299,57 +364,14 @@ fn is_text_or_absent(chars: Option<&Vec<char>>, reply: &Reply) -> bool {
 pub fn answers(
     alloc: Global,
     ropes: &[PlainRope],
-    part: PlainRope,
+    part: Part<'_>,
     query: &Query,
     reply: &Reply,
-) -> Result<bool, Fail> {
+) -> Result<bool, AllocError> {
     let places = part.places(alloc)?;
     let asked = Asked {
         part,
-        places,
-        alloc,
+        places: &places,
     };
-    match (query, reply) {
-        (Query::Lens, Reply::Lens(bytes, chars, lines, units)) => {
-            let lens = lengths_of(&asked.places);
-            let shown = (*bytes, *chars, *lines, *units);
-            Ok(shown == (lens.bytes, lens.chars, lens.lines, lens.units))
-        }
-        (Query::Show, _) => Ok(is_text_or_absent(Some(&asked.part.text), reply)),
-        (Query::Chunks, Reply::Texts(texts)) => Ok(are_texts(texts, &asked.part.chunks)),
-        (Query::Breaks, Reply::Breaks(breaks)) => Ok(*breaks == asked.part.breaks),
-        (Query::Convert(conversion, index), _) => {
-            Ok(is_number(asked.convert(conversion, *index), reply))
-        }
-        (Query::Byte(index), _) => match (asked.byte(*index)?, reply) {
-            (Some(byte), Reply::Byte(shown)) => Ok(byte == *shown),
-            (None, Reply::Absent) => Ok(true),
-            _ => Ok(false),
-        },
-        (Query::Char(index), _) => match (asked.part.text.get(*index), reply) {
-            (Some(c), Reply::Char(shown)) => Ok(*c == *shown),
-            (None, Reply::Absent) => Ok(true),
-            _ => Ok(false),
-        },
-        (Query::Line(line), _) => Ok(is_text_or_absent(asked.line(*line)?.as_ref(), reply)),
-        (Query::ChunkAt(at, index), _) => Ok(asked.is_chunk_reply(at, *index, reply)),
-        (Query::Walk(unit, index, moves), _) => asked.is_walk(unit, *index, moves, reply),
-        (Query::Compare((other, range)), _) => {
-            let Some(rope) = ropes.get(*other) else {
-                return Ok(matches!(reply, Reply::NoRope));
-            };
-            match (rope.part(alloc, *range)?, reply) {
-                (None, Reply::NoSlice) => Ok(true),
-                (Some(part), Reply::Order(order)) => {
-                    Ok(asked.part.text.as_slice().cmp(part.text.as_slice()) == *order)
-                }
-                _ => Ok(false),
-            }
-        }
-        (Query::ToPosition(index), _) => Ok(asked.is_position(*index, reply)),
-        (Query::FromPosition(line, column), _) => {
-            Ok(is_number(asked.position_to_char(*line, *column), reply))
-        }
-        _ => Ok(false),
-    }
+    Ok(asked.is_reply(ropes, query, reply))
 }

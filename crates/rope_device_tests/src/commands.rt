@@ -3,8 +3,7 @@ use crate::plain_rope::PlainRope;
 use rope_plain::texts::{chars_of, inserted, part_from};
 use rope_script::{Command, Reply};
 use ropey::{Error, LineBreaks};
-use std::alloc::Global;
-use std::test::Fail;
+use std::alloc::{AllocError, Global};
 
 /// What a command has to be replied.
 #[derive(Clone, Copy)]
@@ -56,20 +55,25 @@ pub fn is_reply(outcome: Outcome, count: usize, reply: &Reply) -> bool {
     }
 }
 
-fn add(
-    alloc: Global,
-    ropes: &mut Vec<PlainRope>,
-    text: Vec<char>,
-    breaks: LineBreaks,
-    is_few: bool,
-) -> Result<Effect, Fail> {
+/// Adds a rope of this text.
+fn add(ropes: &mut Vec<PlainRope>, rope: PlainRope, is_few: bool) -> Result<Effect, AllocError> {
     let number = ropes.len();
-    ropes.push(PlainRope::new(text, breaks, alloc))?;
+    ropes.push(rope).map_err(AllocError::from)?;
     Ok(Effect {
         outcome: Outcome::Made,
         recut: [Some(number), None],
         is_few,
     })
+}
+
+fn make(
+    alloc: Global,
+    ropes: &mut Vec<PlainRope>,
+    text: &str,
+    breaks: LineBreaks,
+) -> Result<Effect, AllocError> {
+    let text = chars_of(alloc, text)?;
+    add(ropes, PlainRope::new(text, breaks, alloc), true)
 }
 
 fn index_error(index: usize, len: usize) -> Option<Error> {
@@ -82,7 +86,7 @@ fn insert(
     number: usize,
     index: usize,
     text: &str,
-) -> Result<Effect, Fail> {
+) -> Result<Effect, AllocError> {
     let Some(rope) = ropes.get_mut(number) else {
         return Ok(effect_of(Outcome::NoRope));
     };
@@ -106,13 +110,25 @@ fn range_error(start: Option<usize>, end: Option<usize>, len: usize) -> Option<E
     (first > last).then_some(Error::CharRangeInvalid(first, last))
 }
 
+/// Takes the characters from one on and before another out.
+fn take_out(
+    alloc: Global,
+    text: &mut Vec<char>,
+    first: usize,
+    last: usize,
+) -> Result<(), AllocError> {
+    let back = part_from(alloc, text, last)?;
+    text.truncate(first);
+    text.extend_from_slice(&back)
+}
+
 fn remove(
     alloc: Global,
     ropes: &mut [PlainRope],
     number: usize,
     start: Option<usize>,
     end: Option<usize>,
-) -> Result<Effect, Fail> {
+) -> Result<Effect, AllocError> {
     let Some(rope) = ropes.get_mut(number) else {
         return Ok(effect_of(Outcome::NoRope));
     };
@@ -125,10 +141,15 @@ fn remove(
     if first == last {
         return Ok(effect_of(Outcome::Done));
     }
-    let back = part_from(alloc, &rope.text, last)?;
-    rope.text.truncate(first);
-    rope.text.extend_from_slice(&back)?;
+    take_out(alloc, &mut rope.text, first, last)?;
     Ok(recut(Outcome::Done, number))
+}
+
+/// Leaves the front, and answers the back.
+fn split_off(alloc: Global, rope: &mut PlainRope, index: usize) -> Result<PlainRope, AllocError> {
+    let back = part_from(alloc, &rope.text, index)?;
+    rope.text.truncate(index);
+    Ok(PlainRope::new(back, rope.breaks, alloc))
 }
 
 fn cut(
@@ -136,37 +157,29 @@ fn cut(
     ropes: &mut Vec<PlainRope>,
     number: usize,
     index: usize,
-) -> Result<Effect, Fail> {
+) -> Result<Effect, AllocError> {
     let Some(rope) = ropes.get_mut(number) else {
         return Ok(effect_of(Outcome::NoRope));
     };
     if let Some(error) = index_error(index, rope.text.len()) {
         return Ok(effect_of(Outcome::Refused(error)));
     }
-    let back = part_from(alloc, &rope.text, index)?;
-    let breaks = rope.breaks;
-    rope.text.truncate(index);
-    let mut effect = add(alloc, ropes, back, breaks, false)?;
+    let back = split_off(alloc, rope, index)?;
+    let mut effect = add(ropes, back, false)?;
     effect.recut = [effect.recut[0], Some(number)];
     Ok(effect)
 }
 
-fn join(ropes: &mut [PlainRope], number: usize, other: usize) -> Result<Effect, Fail> {
-    let (Some(rope), Some(more)) = (ropes.get(number), ropes.get(other)) else {
-        return Ok(effect_of(Outcome::NoRope));
-    };
-    if rope.breaks != more.breaks {
-        return Ok(effect_of(Outcome::Refused(Error::LineBreaksDiffer)));
-    }
-    let is_first = rope.text.is_empty();
-    let more = more.copy()?;
+/// Puts a copy of a rope, which is not empty, behind another, or in the place of one that is empty.
+fn put_behind(
+    ropes: &mut [PlainRope],
+    number: usize,
+    more: PlainRope,
+) -> Result<Effect, AllocError> {
     let Some(rope) = ropes.get_mut(number) else {
         return Ok(effect_of(Outcome::NoRope));
     };
-    if more.text.is_empty() {
-        return Ok(effect_of(Outcome::Done));
-    }
-    if is_first {
+    if rope.text.is_empty() {
         *rope = more;
         return Ok(effect_of(Outcome::Done));
     }
@@ -174,12 +187,26 @@ fn join(ropes: &mut [PlainRope], number: usize, other: usize) -> Result<Effect, 
     Ok(recut(Outcome::Done, number))
 }
 
-fn clone(ropes: &mut Vec<PlainRope>, number: usize) -> Result<Effect, Fail> {
+fn join(ropes: &mut [PlainRope], number: usize, other: usize) -> Result<Effect, AllocError> {
+    let (Some(rope), Some(more)) = (ropes.get(number), ropes.get(other)) else {
+        return Ok(effect_of(Outcome::NoRope));
+    };
+    if rope.breaks != more.breaks {
+        return Ok(effect_of(Outcome::Refused(Error::LineBreaksDiffer)));
+    }
+    if more.text.is_empty() {
+        return Ok(effect_of(Outcome::Done));
+    }
+    let more = more.copy()?;
+    put_behind(ropes, number, more)
+}
+
+fn clone(ropes: &mut Vec<PlainRope>, number: usize) -> Result<Effect, AllocError> {
     let Some(rope) = ropes.get(number) else {
         return Ok(effect_of(Outcome::NoRope));
     };
     let copy = rope.copy()?;
-    ropes.push(copy)?;
+    ropes.push(copy).map_err(AllocError::from)?;
     Ok(effect_of(Outcome::Made))
 }
 
@@ -188,31 +215,39 @@ fn copy(
     ropes: &mut Vec<PlainRope>,
     number: usize,
     range: Option<(usize, usize)>,
-) -> Result<Effect, Fail> {
+) -> Result<Effect, AllocError> {
     let Some(rope) = ropes.get(number) else {
         return Ok(effect_of(Outcome::NoRope));
     };
-    match rope.part(alloc, range)? {
-        Some(part) => add(alloc, ropes, part.text, part.breaks, false),
-        None => Ok(effect_of(Outcome::NoSlice)),
+    let Some(part) = rope.part(range) else {
+        return Ok(effect_of(Outcome::NoSlice));
+    };
+    let text = Vec::from_slice(alloc, part.text)?;
+    let breaks = part.breaks;
+    add(ropes, PlainRope::new(text, breaks, alloc), false)
+}
+
+fn shrink(ropes: &[PlainRope], number: usize) -> Effect {
+    if number >= ropes.len() {
+        return effect_of(Outcome::NoRope);
+    }
+    Effect {
+        outcome: Outcome::Done,
+        recut: [Some(number), None],
+        is_few: true,
     }
 }
 
-/// Does a command that asks nothing.
-pub fn apply(alloc: Global, ropes: &mut Vec<PlainRope>, command: &Command) -> Result<Effect, Fail> {
-    match command {
-        Command::New => {
-            let text = Vec::new(alloc);
-            add(alloc, ropes, text, LineBreaks::Unicode, true)
-        }
-        Command::Text(text) => {
-            let text = chars_of(alloc, text.as_str())?;
-            add(alloc, ropes, text, LineBreaks::Unicode, true)
-        }
-        Command::TextWith(breaks, text) => {
-            let text = chars_of(alloc, text.as_str())?;
-            add(alloc, ropes, text, *breaks, true)
-        }
+/// Does a command; nothing for one that asks.
+pub fn apply(
+    alloc: Global,
+    ropes: &mut Vec<PlainRope>,
+    command: &Command,
+) -> Result<Option<Effect>, AllocError> {
+    let effect = match command {
+        Command::New => make(alloc, ropes, "", LineBreaks::Unicode),
+        Command::Text(text) => make(alloc, ropes, text.as_str(), LineBreaks::Unicode),
+        Command::TextWith(breaks, text) => make(alloc, ropes, text.as_str(), *breaks),
         Command::Clone(number) => clone(ropes, *number),
         Command::Copy((number, range)) => copy(alloc, ropes, *number, *range),
         Command::Insert(number, index, text) => {
@@ -225,16 +260,8 @@ pub fn apply(alloc: Global, ropes: &mut Vec<PlainRope>, command: &Command) -> Re
         Command::Remove(number, start, end) => remove(alloc, ropes, *number, *start, *end),
         Command::Cut(number, index) => cut(alloc, ropes, *number, *index),
         Command::Join(number, other) => join(ropes, *number, *other),
-        Command::Shrink(number) => {
-            let is_there = *number < ropes.len();
-            let mut effect = recut(Outcome::Done, *number);
-            effect.is_few = true;
-            Ok(if is_there {
-                effect
-            } else {
-                effect_of(Outcome::NoRope)
-            })
-        }
-        Command::Ask(_, _, _) => Err(Fail::from("a command that asks")),
-    }
+        Command::Shrink(number) => Ok(shrink(ropes, *number)),
+        Command::Ask(_, _, _) => return Ok(None),
+    };
+    Ok(Some(effect?))
 }

@@ -101,16 +101,22 @@ fn moves(alloc: Global, numbers: &mut Numbers) -> Result<Vec<Move>, AllocError> 
     Ok(moves)
 }
 
-fn query(
-    alloc: Global,
+/// A query of a walk.
+fn walk(alloc: Global, numbers: &mut Numbers, start: usize) -> Result<Query, AllocError> {
+    let unit = unit(numbers);
+    Ok(Query::Walk(unit, start, moves(alloc, numbers)?))
+}
+
+/// A query of this kind, which is none of a walk.
+fn query_of(
     numbers: &mut Numbers,
     ropes: &[PlainRope],
     len: usize,
-) -> Result<Query, AllocError> {
-    // Lines are few and bytes are many: a third of the indices, or twice as many, hit and miss both.
-    let few = index(numbers, len / 3);
-    let many = index(numbers, len.saturating_mul(2));
-    Ok(match numbers.take() % 16 {
+    kind: usize,
+    few: usize,
+    many: usize,
+) -> Query {
+    match kind {
         0 => Query::Lens,
         1 => Query::Show,
         2 => Query::Chunks,
@@ -122,15 +128,29 @@ fn query(
         8 => Query::Line(few),
         9 => Query::ChunkAt(at(numbers), many),
         10 => Query::ChunkAt(at(numbers), few),
-        11 => Query::Walk(unit(numbers), few, moves(alloc, numbers)?),
-        12 => Query::Walk(unit(numbers), many, moves(alloc, numbers)?),
         13 => {
             let other = rope(numbers, ropes);
             Query::Compare((other, part(numbers, len_of(ropes, other))))
         }
         14 => Query::ToPosition(index(numbers, len)),
         _ => Query::FromPosition(few, numbers.up_to(12)),
-    })
+    }
+}
+
+fn query(
+    alloc: Global,
+    numbers: &mut Numbers,
+    ropes: &[PlainRope],
+    len: usize,
+) -> Result<Query, AllocError> {
+    // Lines are few and bytes are many: a third of the indices, or twice as many, hit and miss both.
+    let few = index(numbers, len / 3);
+    let many = index(numbers, len.saturating_mul(2));
+    match numbers.take() % 16 {
+        11 => walk(alloc, numbers, few),
+        12 => walk(alloc, numbers, many),
+        kind => Ok(query_of(numbers, ropes, len, kind, few, many)),
+    }
 }
 
 /// A command that asks.

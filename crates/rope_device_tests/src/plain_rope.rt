@@ -1,22 +1,13 @@
 //! Ropes, and parts of them, as plain lists of characters that are cut into plain chunks.
 use rope_plain::plain_text::{Place, START, places};
 use ropey::LineBreaks;
-use std::alloc::Global;
-use std::test::Fail;
+use std::alloc::{AllocError, Global};
 
-/// Some of the characters, where there are so many.
-pub fn between(alloc: Global, text: &[char], start: usize, end: usize) -> Result<Vec<char>, Fail> {
-    match text.get(start..end) {
-        Some(part) => Ok(Vec::from_slice(alloc, part)?),
-        None => Err(Fail::from("no characters between these places")),
-    }
-}
-
-/// A text, the chunks that it is cut into, and its set of line breaks.
+/// A text, where each of the chunks ends that it is cut into, and its set of line breaks.
 #[derive(Drop)]
 pub struct PlainRope {
     pub text: Vec<char>,
-    pub chunks: Vec<Vec<char>>,
+    pub ends: Vec<usize>,
     pub breaks: LineBreaks,
 }
 
@@ -34,50 +25,102 @@ impl PlainRope {
     pub fn new(text: Vec<char>, breaks: LineBreaks, alloc: Global) -> PlainRope {
         PlainRope {
             text,
-            chunks: Vec::new(alloc),
+            ends: Vec::new(alloc),
             breaks,
         }
     }
 
     /// The same text, chunks and set.
-    pub fn copy(&self) -> Result<PlainRope, Fail> {
+    pub fn copy(&self) -> Result<PlainRope, AllocError> {
         Ok(PlainRope {
             text: self.text.clone()?,
-            chunks: self.chunks.clone()?,
+            ends: self.ends.clone()?,
             breaks: self.breaks,
         })
     }
 
+    /// The part from one character up to another, or all; none where that is no range of the text.
+    pub fn part(&self, range: Option<(usize, usize)>) -> Option<Part<'_>> {
+        let (start, end) = range.unwrap_or((0, self.text.len()));
+        match self.text.get(start..end) {
+            Some(text) => Some(Part {
+                text,
+                before: start,
+                ends: &self.ends,
+                breaks: self.breaks,
+            }),
+            None => None,
+        }
+    }
+}
+
+/// A part of a plain rope, whose chunks are clipped.
+#[derive(Clone, Copy)]
+pub struct Part<'a> {
+    pub text: &'a [char],
+    /// How many characters of the rope come before it.
+    before: usize,
+    /// Where the chunks of the rope end.
+    ends: &'a [usize],
+    pub breaks: LineBreaks,
+}
+
+impl<'a> Part<'a> {
     /// The places before each character and at the end.
-    pub fn places(&self, alloc: Global) -> Result<Vec<Place>, Fail> {
-        Ok(places(alloc, &self.text, self.breaks)?)
+    pub fn places(&self, alloc: Global) -> Result<Vec<Place>, AllocError> {
+        places(alloc, self.text, self.breaks)
     }
 
-    /// The part from one character up to another, with the chunks clipped; none where that is no range of the text.
-    pub fn part(
-        &self,
-        alloc: Global,
-        range: Option<(usize, usize)>,
-    ) -> Result<Option<PlainRope>, Fail> {
-        let (start, end) = range.unwrap_or((0, self.text.len()));
-        if start > end || end > self.text.len() {
-            return Ok(None);
-        }
-        let mut chunks = Vec::new(alloc);
-        let mut passed: usize = 0;
-        for chunk in self.chunks.iter() {
-            let low = start.saturating_sub(passed).min(chunk.len());
-            let high = end.saturating_sub(passed).min(chunk.len());
-            if low < high {
-                chunks.push(between(alloc, chunk, low, high)?)?;
+    /// Where a chunk of the rope ends in the part.
+    fn clipped(&self, end: usize) -> usize {
+        end.saturating_sub(self.before).min(self.text.len())
+    }
+
+    /// Where the chunk with that index starts and ends; past the last chunk none.
+    fn chunk_place(&self, index: usize) -> Option<(usize, usize)> {
+        let mut start: usize = 0;
+        let mut count: usize = 0;
+        for end in self.ends {
+            let end = self.clipped(*end);
+            if start < end {
+                if count == index {
+                    return Some((start, end));
+                }
+                count = count.saturating_add(1);
+                start = end;
             }
-            passed = passed.saturating_add(chunk.len());
         }
-        Ok(Some(PlainRope {
-            text: between(alloc, &self.text, start, end)?,
-            chunks,
-            breaks: self.breaks,
-        }))
+        None
+    }
+
+    /// The chunk with that index.
+    pub fn chunk(&self, index: usize) -> Option<&'a [char]> {
+        match self.chunk_place(index) {
+            Some((start, end)) => self.text.get(start..end),
+            None => None,
+        }
+    }
+
+    /// The character before which so many chunks lie.
+    pub fn chunk_start(&self, index: usize) -> usize {
+        match self.chunk_place(index) {
+            Some((start, _)) => start,
+            None => self.text.len(),
+        }
+    }
+
+    /// How many chunks there are.
+    pub fn chunk_count(&self) -> usize {
+        let mut start: usize = 0;
+        let mut count: usize = 0;
+        for end in self.ends {
+            let end = self.clipped(*end);
+            if start < end {
+                count = count.saturating_add(1);
+                start = end;
+            }
+        }
+        count
     }
 }
 

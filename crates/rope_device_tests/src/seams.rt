@@ -5,43 +5,24 @@ use rope_plain::compare::{compare_unicode, has_few_chunks};
 use rope_plain::texts::{chars_of, repeated};
 use ropey::Rope;
 use ropey::io::ReadError;
-use std::alloc::Global;
+use std::alloc::{AllocError, Global};
 use std::io::ErrorKind;
-use std::test::Fail;
 
 /// Line breaks of two and three bytes, and characters of two to four.
 const LETTERS: [&str; 7] = ["\r\n", "\u{85}", "\u{2028}", "\u{2029}", "é", "こ", "🐸"];
 
-/// The letter twice, and letters that fill a leaf.
-fn add_letters(alloc: Global, text: &mut String, letter: &str) -> Result<(), Fail> {
-    text.push_str(letter)?;
-    text.push_str(letter)?;
-    text.push_str(repeated(alloc, "b", 984)?.as_str())?;
-    Ok(())
+/// So many letters before a letter twice, and letters that fill a leaf.
+fn around(alloc: Global, before: usize, letter: &str) -> Result<String, AllocError> {
+    let front = repeated(alloc, "a", before)?;
+    let back = repeated(alloc, "b", 984)?;
+    format!(in alloc; "{front}{letter}{letter}{back}")
 }
 
-/// So many letters before these.
-fn around(alloc: Global, before: usize, letter: &str) -> Result<String, Fail> {
-    let mut text = repeated(alloc, "a", before)?;
-    add_letters(alloc, &mut text, letter)?;
-    Ok(text)
-}
-
-fn compare_read(alloc: Global, rope: &Rope, text: &str) -> Result<(), Fail> {
-    let plain = chars_of(alloc, text)?;
-    compare_unicode(rope, &plain)?;
-    has_few_chunks(rope)?;
-    Ok(())
-}
-
-/// The whole text is read, by one byte a read.
-fn read_whole(alloc: Global, text: &str) -> Result<Rope, Fail> {
-    match Rope::from_reader(alloc, Parts::new(text.as_bytes(), SINGLY, NEVER)) {
-        Ok(rope) => {
-            compare_read(alloc, &rope, text)?;
-            Ok(rope)
-        }
-        Err(_) => Err(Fail::from("a text was not read")),
+/// Whether a rope is this text, in few chunks.
+fn is_text(alloc: Global, rope: &Rope, text: &str) -> bool {
+    match chars_of(alloc, text) {
+        Ok(plain) => compare_unicode(rope, &plain).is_ok() && has_few_chunks(rope).is_ok(),
+        Err(_) => false,
     }
 }
 
@@ -83,27 +64,39 @@ fn stops_well(rt: &HostRuntime, rope: &Rope, text: &str, before: usize) -> bool 
     is_written(rt, rope, text, text.len())
 }
 
+/// Whether what was read by one byte a read is a whole text, and reading and writing it stop well.
+fn is_whole(rt: &HostRuntime, answer: Result<Rope, ReadError>, text: &str, before: usize) -> bool {
+    match answer {
+        Ok(rope) => is_text(rt.alloc(), &rope, text) && stops_well(rt, &rope, text, before),
+        Err(_) => false,
+    }
+}
+
 /// Whether a text is read and written well whose letter stands behind so many.
-fn is_moved(rt: &HostRuntime, before: usize, letter: &str) -> Result<bool, Fail> {
-    let text = around(rt.alloc(), before, letter)?;
-    let rope = read_whole(rt.alloc(), text.as_str())?;
-    Ok(stops_well(rt, &rope, text.as_str(), before))
+fn is_moved(rt: &HostRuntime, before: usize, letter: &str) -> bool {
+    match around(rt.alloc(), before, letter) {
+        Ok(text) => {
+            let parts = Parts::new(text.as_str().as_bytes(), SINGLY, NEVER);
+            let answer = Rope::from_reader(rt.alloc(), parts);
+            is_whole(rt, answer, text.as_str(), before)
+        }
+        Err(_) => false,
+    }
 }
 
 /// Whether it is wherever the letter stands near the end of a leaf.
-fn is_moved_near_a_seam(rt: &HostRuntime, letter: &str) -> Result<bool, Fail> {
+fn is_moved_near_a_seam(rt: &HostRuntime, letter: &str) -> bool {
     for before in 976..=986usize {
-        if !is_moved(rt, before, letter)? {
-            return Ok(false);
+        if !is_moved(rt, before, letter) {
+            return false;
         }
     }
-    Ok(true)
+    true
 }
 
 #[test]
-fn one_byte_at_a_time(rt: HostRuntime) -> Result<(), Fail> {
-    for letter in LETTERS {
-        assert!(rt; is_moved_near_a_seam(&rt, letter)?);
+fn one_byte_at_a_time(rt: HostRuntime) {
+    for letter in &LETTERS {
+        assert!(rt; is_moved_near_a_seam(&rt, letter));
     }
-    Ok(())
 }

@@ -4,10 +4,9 @@ use crate::commands::{Effect, apply, is_reply};
 use crate::draw::command;
 use crate::plain_rope::PlainRope;
 use rope_plain::numbers::Numbers;
-use rope_plain::texts::chars_of;
 use rope_script::{Command, Query, Reply, Session};
-use ropey::MAX_BYTES;
-use std::alloc::Global;
+use ropey::{Error, MAX_BYTES};
+use std::alloc::{AllocError, Global};
 use std::test::Fail;
 
 /// How many sessions there are, and how many commands each has.
@@ -15,101 +14,155 @@ const SESSIONS: u64 = 500;
 
 const COMMANDS: usize = 60;
 
-/// The reply to one command.
-fn reply_to(alloc: Global, session: &mut Session, command: Command) -> Result<Reply, Fail> {
-    let mut replies = Vec::new(alloc);
-    session.run(&[command], &mut replies)?;
-    match (replies.pop(), replies.is_empty()) {
-        (Some(reply), true) => Ok(reply),
-        _ => Err(Fail::from("not one reply to one command")),
+/// Whether a chunk is neither empty nor too long, and these characters.
+fn is_chunk(chunk: &str, chars: Option<&[char]>) -> bool {
+    match chars {
+        Some(chars) => !chunk.is_empty() && chunk.len() <= MAX_BYTES && is_text(chunk, chars),
+        None => false,
     }
 }
 
-/// The chunks of a rope, as the session says them.
-fn chunks_of(alloc: Global, session: &mut Session, number: usize) -> Result<Vec<Vec<char>>, Fail> {
-    let Reply::Texts(texts) = reply_to(alloc, session, Command::Ask(number, None, Query::Chunks))?
-    else {
-        return Err(Fail::from("no chunks"));
-    };
-    let mut chunks = Vec::new(alloc);
-    for text in texts.iter() {
-        if text.is_empty() || text.len() > MAX_BYTES {
-            return Err(Fail::from("a chunk that is empty or too long"));
-        }
-        chunks.push(chars_of(alloc, text.as_str())?)?;
+/// Whether a place lies between a CR and its LF.
+fn parts_a_pair(text: &[char], place: usize) -> bool {
+    match place.checked_sub(1) {
+        Some(before) => text.get(before) == Some(&'\r') && text.get(place) == Some(&'\n'),
+        None => false,
     }
-    Ok(chunks)
 }
 
-/// The chunks are a text, and none ends in a CR whose LF begins the next.
-fn is_cutting(chunks: &[Vec<char>], text: &[char]) -> bool {
+/// Adds where each chunk ends, and says whether the chunks are the text, and none ends in a CR whose LF begins the next.
+fn add_ends(ends: &mut Vec<usize>, chunks: &[String], text: &[char]) -> Result<bool, AllocError> {
     let mut place: usize = 0;
-    let mut after_cr = false;
-    for chunk in chunks.iter() {
-        let end = place.saturating_add(chunk.len());
-        if text.get(place..end) != Some(chunk.as_slice()) {
-            return false;
+    for chunk in chunks {
+        let end = place.saturating_add(chunk.as_str().chars().count());
+        if !is_chunk(chunk.as_str(), text.get(place..end)) || parts_a_pair(text, end) {
+            return Ok(false);
         }
-        if after_cr && chunk.first() == Some(&'\n') {
-            return false;
-        }
-        after_cr = chunk.last() == Some(&'\r');
+        ends.push(end)?;
         place = end;
     }
-    place == text.len()
+    Ok(place == text.len())
 }
 
-/// At most one chunk for each 981 bytes, and one for the rest.
-fn are_few(chunks: &[Vec<char>]) -> bool {
+/// Whether there is at most one chunk for each 981 bytes, and one for the rest.
+fn are_few(rope: &PlainRope) -> bool {
     let mut bytes: usize = 0;
-    for chunk in chunks.iter() {
-        for c in chunk.iter() {
-            bytes = bytes.saturating_add(c.len_utf8());
-        }
+    for c in &rope.text {
+        bytes = bytes.saturating_add(c.len_utf8());
     }
-    chunks.len() <= bytes.div_ceil(981)
+    rope.ends.len() <= bytes.div_ceil(981)
 }
 
-/// Each rope has its text, and its old chunks, unless the command left them open.
-fn check_ropes(
+/// Whether a rope has its text in these chunks, which are the old ones, unless a command left them open. They are noted.
+fn is_left(
+    alloc: Global,
+    rope: &mut PlainRope,
+    chunks: &[String],
+    is_recut: bool,
+    is_few: bool,
+) -> Result<bool, AllocError> {
+    let mut ends = Vec::new(alloc);
+    let is_cutting = add_ends(&mut ends, chunks, &rope.text)?;
+    let is_same = rope.ends == ends;
+    rope.ends = ends;
+    Ok(is_cutting && (is_recut || is_same) && (!is_recut || !is_few || are_few(rope)))
+}
+
+/// The texts of the one reply.
+fn texts_of(replies: &[Reply]) -> Option<&[String]> {
+    match replies.first() {
+        Some(Reply::Texts(texts)) if replies.len() == 1 => Some(texts),
+        _ => None,
+    }
+}
+
+/// Asks for the chunks of a rope.
+fn ask_chunks(session: &mut Session, number: usize, replies: &mut Vec<Reply>) -> Result<(), Error> {
+    session.run(&[Command::Ask(number, None, Query::Chunks)], replies)
+}
+
+/// Whether a rope of the session is as a command with this effect has to leave it.
+fn is_rope_left(
+    alloc: Global,
+    session: &mut Session,
+    rope: &mut PlainRope,
+    number: usize,
+    effect: Effect,
+) -> Result<bool, Error> {
+    let mut replies = Vec::new(alloc);
+    ask_chunks(session, number, &mut replies)?;
+    let is_recut = effect.recut.contains(&Some(number));
+    match texts_of(&replies) {
+        Some(chunks) => Ok(is_left(alloc, rope, chunks, is_recut, effect.is_few)?),
+        None => Ok(false),
+    }
+}
+
+fn are_left(
     alloc: Global,
     session: &mut Session,
     ropes: &mut [PlainRope],
     effect: Effect,
-) -> Result<(), Fail> {
+) -> Result<bool, Error> {
     for (number, rope) in ropes.iter_mut().enumerate() {
-        let chunks = chunks_of(alloc, session, number)?;
-        if !is_cutting(&chunks, &rope.text) {
-            return Err(Fail::from("chunks that are no rope cutting of the text"));
+        if !is_rope_left(alloc, session, rope, number, effect)? {
+            return Ok(false);
         }
-        let is_recut = effect.recut.iter().any(|recut| *recut == Some(number));
-        if !is_recut && chunks != rope.chunks {
-            return Err(Fail::from("other chunks of a rope that was left alone"));
-        }
-        if is_recut && effect.is_few && !are_few(&chunks) {
-            return Err(Fail::from("too many chunks"));
-        }
-        rope.chunks = chunks;
     }
-    Ok(())
+    Ok(true)
 }
 
-/// Asks a session, and compares the reply with that of the plain ropes.
-fn check_ask(
+/// Whether a query of a rope or of a range of it may be replied so.
+fn is_answer(
     alloc: Global,
     ropes: &[PlainRope],
-    command: &Command,
+    number: usize,
+    range: Option<(usize, usize)>,
+    query: &Query,
     reply: &Reply,
-) -> Result<bool, Fail> {
-    let Command::Ask(number, range, query) = command else {
-        return Err(Fail::from("a command that asks nothing"));
-    };
-    let Some(rope) = ropes.get(*number) else {
+) -> Result<bool, AllocError> {
+    let Some(rope) = ropes.get(number) else {
         return Ok(matches!(reply, Reply::NoRope));
     };
-    match rope.part(alloc, *range)? {
-        None => Ok(matches!(reply, Reply::NoSlice)),
+    match rope.part(range) {
         Some(part) => answers(alloc, ropes, part, query, reply),
+        None => Ok(matches!(reply, Reply::NoSlice)),
+    }
+}
+
+/// Whether a command may be replied so, and leaves the ropes as it has to.
+fn is_right(
+    alloc: Global,
+    session: &mut Session,
+    ropes: &mut Vec<PlainRope>,
+    command: &Command,
+    reply: &Reply,
+) -> Result<bool, Error> {
+    if let Command::Ask(number, range, query) = command {
+        return Ok(is_answer(alloc, ropes, *number, *range, query, reply)?);
+    }
+    let count = ropes.len();
+    match apply(alloc, ropes, command)? {
+        Some(effect) if is_reply(effect.outcome, count, reply) => {
+            are_left(alloc, session, ropes, effect)
+        }
+        _ => Ok(false),
+    }
+}
+
+/// Whether a command has its one reply, and leaves the ropes as it has to.
+fn is_run(
+    alloc: Global,
+    session: &mut Session,
+    ropes: &mut Vec<PlainRope>,
+    commands: &[Command; 1],
+) -> Result<bool, Error> {
+    let mut replies = Vec::new(alloc);
+    session.run(commands, &mut replies)?;
+    let [command] = commands;
+    match replies.first() {
+        Some(reply) => is_right(alloc, session, ropes, command, reply),
+        None => Ok(false),
     }
 }
 
@@ -118,49 +171,37 @@ fn run_one(
     session: &mut Session,
     ropes: &mut Vec<PlainRope>,
     numbers: &mut Numbers,
-) -> Result<(), Fail> {
+) -> Result<bool, Error> {
     let commands = [command(alloc, numbers, ropes)?];
-    let mut replies = Vec::new(alloc);
-    session.run(&commands, &mut replies)?;
-    let Some(reply) = replies.first() else {
-        return Err(Fail::from("no reply"));
-    };
-    let [command] = &commands;
-    check_reply(alloc, session, ropes, command, reply)
+    is_run(alloc, session, ropes, &commands)
 }
 
-/// The reply to a command, and the ropes that it left.
-fn check_reply(
+fn run_many(
     alloc: Global,
     session: &mut Session,
     ropes: &mut Vec<PlainRope>,
-    command: &Command,
-    reply: &Reply,
-) -> Result<(), Fail> {
-    if matches!(command, Command::Ask(_, _, _)) {
-        if !check_ask(alloc, ropes, command, reply)? {
-            return Err(Fail::from("another reply to a question"));
+    numbers: &mut Numbers,
+) -> Result<bool, Error> {
+    for _ in 0..COMMANDS {
+        if !run_one(alloc, session, ropes, numbers)? {
+            return Ok(false);
         }
-        return Ok(());
     }
-    let count = ropes.len();
-    let effect = apply(alloc, ropes, command)?;
-    if !is_reply(effect.outcome, count, reply) {
-        return Err(Fail::from("another reply to an edit"));
-    }
-    check_ropes(alloc, session, ropes, effect)
+    Ok(true)
+}
+
+/// Whether a session of random commands, which begin at a number, is as the plain ropes say.
+fn is_session(alloc: Global, start: u64) -> Result<bool, Error> {
+    let mut numbers = Numbers::new(start.wrapping_mul(0x9E37_79B9_7F4A_7C15));
+    let mut session = Session::new(alloc);
+    let mut ropes = Vec::new(alloc);
+    run_many(alloc, &mut session, &mut ropes, &mut numbers)
 }
 
 #[test]
 fn random_sessions(rt: HostRuntime) -> Result<(), Fail> {
-    let alloc = rt.alloc();
     for start in 1..=SESSIONS {
-        let mut numbers = Numbers::new(start.wrapping_mul(0x9E37_79B9_7F4A_7C15));
-        let mut session = Session::new(alloc);
-        let mut ropes = Vec::new(alloc);
-        for _ in 0..COMMANDS {
-            run_one(alloc, &mut session, &mut ropes, &mut numbers)?;
-        }
+        assert!(rt; is_session(rt.alloc(), start)?);
     }
     assert!(rt; is_text("ab", &['a', 'b']));
     Ok(())

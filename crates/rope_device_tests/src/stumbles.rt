@@ -6,7 +6,6 @@ use ropey::io::{Mark, ReadError, Watched};
 use std::alloc::Global;
 use std::cell::Cell;
 use std::io::{self, ErrorKind};
-use std::process::Abort;
 use std::test::Fail;
 
 /// Failures after which a device may go on.
@@ -53,52 +52,52 @@ fn is_marked(alloc: Global, before: usize, kind: ErrorKind) -> bool {
     answer == Some(kind) && source.failed() && calls.get() == before.saturating_add(1)
 }
 
-fn fail_at_each_byte(rt: &impl Abort, alloc: Global, kind: ErrorKind) {
+fn fails_at_each_byte(alloc: Global, kind: ErrorKind) -> bool {
     for before in 0..13usize {
-        assert!(rt; is_failed(alloc, before, kind));
-        assert!(rt; is_marked(alloc, before, kind));
+        if !is_failed(alloc, before, kind) || !is_marked(alloc, before, kind) {
+            return false;
+        }
     }
+    true
 }
 
 #[test]
 fn a_read_fails_once(rt: HostRuntime) {
-    for kind in KINDS {
-        fail_at_each_byte(&rt, rt.alloc(), kind);
+    for kind in &KINDS {
+        assert!(rt; fails_at_each_byte(rt.alloc(), *kind));
     }
 }
 
 /// Whether a rope has the first bytes of the text.
-fn is_front(alloc: Global, rope: &Rope, len: usize) -> Result<bool, Fail> {
+fn is_front(alloc: Global, rope: &Rope, len: usize) -> bool {
     let mut written = Vec::new(alloc);
-    rope.write_to(&mut written)?;
     let (front, _) = TEXT.as_bytes().split_at(len.min(TEXT.len()));
-    Ok(written.as_slice() == front)
+    rope.write_to(&mut written).is_ok() && written.as_slice() == front
 }
 
 /// Whether a reading answers the text up to an end after so many bytes, or that it is none.
-fn ends_well(alloc: Global, answer: Result<Rope, ReadError>, len: usize) -> Result<bool, Fail> {
+fn ends_well(alloc: Global, answer: Result<Rope, ReadError>, len: usize) -> bool {
     let is_start = [0usize, 1, 3, 4, 5, 8, 12].contains(&len);
     match answer {
-        Ok(rope) => Ok(is_start && is_front(alloc, &rope, len)?),
-        Err(ReadError::InvalidData) => Ok(!is_start),
-        Err(_) => Ok(false),
+        Ok(rope) => is_start && is_front(alloc, &rope, len),
+        Err(ReadError::InvalidData) => !is_start,
+        Err(_) => false,
     }
 }
 
 /// Whether a reading ends well at the one end that is given after so many bytes, and asks no more.
-fn is_ended(alloc: Global, before: usize) -> Result<bool, Fail> {
+fn is_ended(alloc: Global, before: usize) -> bool {
     let calls = Cell::new(0usize);
     let reader = Stumbling::new(TEXT.as_bytes(), before, Stumble::MovesNone, &calls);
-    let ends = ends_well(alloc, Rope::from_reader(alloc, reader), before)?;
-    Ok(ends && calls.get() == before.saturating_add(1))
+    let ends = ends_well(alloc, Rope::from_reader(alloc, reader), before);
+    ends && calls.get() == before.saturating_add(1)
 }
 
 #[test]
-fn an_end_is_given_once(rt: HostRuntime) -> Result<(), Fail> {
+fn an_end_is_given_once(rt: HostRuntime) {
     for before in 0..13usize {
-        assert!(rt; is_ended(rt.alloc(), before)?);
+        assert!(rt; is_ended(rt.alloc(), before));
     }
-    Ok(())
 }
 
 /// What a writing is refused with at such a stumble.
@@ -134,26 +133,37 @@ fn is_halted_and_marked(alloc: Global, rope: &Rope, room: usize, stumble: Stumbl
         && writer.kept.as_slice() == front
 }
 
-fn halt_at_each_byte(rt: &impl Abort, alloc: Global, rope: &Rope, stumble: Stumble) {
+fn halts_at_each_byte(alloc: Global, rope: &Rope, stumble: Stumble) -> bool {
     for room in 0..12usize {
-        assert!(rt; is_halted(alloc, rope, room, stumble));
-        assert!(rt; is_halted_and_marked(alloc, rope, room, stumble));
+        if !is_halted(alloc, rope, room, stumble)
+            || !is_halted_and_marked(alloc, rope, room, stumble)
+        {
+            return false;
+        }
     }
+    true
+}
+
+fn halts_at_each_failure(alloc: Global, rope: &Rope) -> bool {
+    for kind in &KINDS {
+        if !halts_at_each_byte(alloc, rope, Stumble::Fails(*kind)) {
+            return false;
+        }
+    }
+    true
 }
 
 #[test]
 fn a_write_fails_once(rt: HostRuntime) -> Result<(), Fail> {
     let rope = Rope::from_str(rt.alloc(), TEXT)?;
-    for kind in KINDS {
-        halt_at_each_byte(&rt, rt.alloc(), &rope, Stumble::Fails(kind));
-    }
+    assert!(rt; halts_at_each_failure(rt.alloc(), &rope));
     Ok(())
 }
 
 #[test]
 fn a_write_takes_none_once(rt: HostRuntime) -> Result<(), Fail> {
     let rope = Rope::from_str(rt.alloc(), TEXT)?;
-    halt_at_each_byte(&rt, rt.alloc(), &rope, Stumble::MovesNone);
+    assert!(rt; halts_at_each_byte(rt.alloc(), &rope, Stumble::MovesNone));
     Ok(())
 }
 
@@ -166,19 +176,22 @@ fn is_halted_within(alloc: Global, rope: &Rope, text: &str, room: usize, stumble
     answer == Some(kind_of(stumble)) && writer.kept.as_slice() == front
 }
 
-fn halt_within(rt: &impl Abort, alloc: Global, rope: &Rope, text: &str) {
-    for room in [0usize, 1, 977, 984, 985, 1962, 2999] {
+fn halts_within(alloc: Global, rope: &Rope, text: &str) -> bool {
+    for room in &[0usize, 1, 977, 984, 985, 1962, 2999] {
         let fails = Stumble::Fails(ErrorKind::Interrupted);
-        assert!(rt; is_halted_within(alloc, rope, text, room, fails));
-        assert!(rt; is_halted_within(alloc, rope, text, room, Stumble::MovesNone));
+        if !is_halted_within(alloc, rope, text, *room, fails)
+            || !is_halted_within(alloc, rope, text, *room, Stumble::MovesNone)
+        {
+            return false;
+        }
     }
+    text.len() == 3000
 }
 
 #[test]
 fn nothing_follows_in_a_later_chunk(rt: HostRuntime) -> Result<(), Fail> {
     let text = repeated(rt.alloc(), "abc\ndefgh\r", 300)?;
     let rope = Rope::from_str(rt.alloc(), text.as_str())?;
-    assert!(rt; text.as_str().len() == 3000);
-    halt_within(&rt, rt.alloc(), &rope, text.as_str());
+    assert!(rt; halts_within(rt.alloc(), &rope, text.as_str()));
     Ok(())
 }

@@ -42,6 +42,14 @@ impl Narrow {
             fails_to_flush: false,
         }
     }
+
+    /// Whether what was flushed last is this; where the last of what it keeps was not, that is nothing.
+    pub fn has_flushed(&self, text: &str) -> bool {
+        if self.is_flushed {
+            return self.kept.as_slice() == text.as_bytes();
+        }
+        text.is_empty()
+    }
 }
 
 impl Write for Narrow {

@@ -6,7 +6,6 @@ use ropey::Rope;
 use ropey::io::{Mark, Watched};
 use std::alloc::Global;
 use std::io::ErrorKind;
-use std::process::Abort;
 use std::test::Fail;
 
 /// Whether a writing is refused with this kind, or with none, and leaves these bytes.
@@ -33,8 +32,8 @@ fn is_written_and_marked(
 fn a_write_fails(rt: HostRuntime) -> Result<(), Fail> {
     let rope = Rope::from_str(rt.alloc(), "Hello!")?;
     let kind = Some(ErrorKind::Interrupted);
-    assert!(rt; is_written_and_marked(&rope, Narrow::new(&rt, 3, 3), kind, b"Hel"));
-    assert!(rt; is_written(&rope, Narrow::new(&rt, 3, 3), kind, b"Hel"));
+    let is_marked = is_written_and_marked(&rope, Narrow::new(&rt, 3, 3), kind, b"Hel");
+    assert!(rt; is_marked && is_written(&rope, Narrow::new(&rt, 3, 3), kind, b"Hel"));
     Ok(())
 }
 
@@ -42,31 +41,26 @@ fn a_write_fails(rt: HostRuntime) -> Result<(), Fail> {
 fn a_write_takes_none(rt: HostRuntime) -> Result<(), Fail> {
     let rope = Rope::from_str(rt.alloc(), "Hello!")?;
     let kind = Some(ErrorKind::WriteZero);
-    assert!(rt; is_written_and_marked(&rope, Narrow::full(&rt), kind, b""));
-    assert!(rt; is_written(&rope, Narrow::full(&rt), kind, b""));
+    let is_marked = is_written_and_marked(&rope, Narrow::full(&rt), kind, b"");
+    assert!(rt; is_marked && is_written(&rope, Narrow::full(&rt), kind, b""));
     Ok(())
 }
 
-/// The bytes of a rope, from a writing that leaves no mark.
-fn bytes_of(rt: &impl Abort, alloc: Global, rope: &Rope) -> Result<Vec<u8>, Fail> {
+/// Whether a rope is written without a mark, and once more behind its bytes.
+fn is_written_twice(alloc: Global, rope: &Rope) -> bool {
     let mut sink = Watched::new(Vec::new(alloc));
-    rope.write_watched(&mut sink)?;
-    assert!(rt; !sink.failed());
-    Ok(sink.into_inner())
-}
-
-/// They are written once more behind these.
-fn write_twice(rt: &impl Abort, alloc: Global, rope: &Rope) -> Result<(), Fail> {
-    let mut bytes = bytes_of(rt, alloc, rope)?;
-    rope.write_to(&mut bytes)?;
-    assert!(rt; bytes.as_slice() == b"Hello!Hello!".as_slice());
-    Ok(())
+    let is_written = rope.write_watched(&mut sink).is_ok() && !sink.failed();
+    let mut bytes = sink.into_inner();
+    is_written
+        && rope.write_to(&mut bytes).is_ok()
+        && bytes.as_slice() == b"Hello!Hello!".as_slice()
 }
 
 #[test]
 fn to_memory(rt: HostRuntime) -> Result<(), Fail> {
     let rope = Rope::from_str(rt.alloc(), "Hello!")?;
-    write_twice(&rt, rt.alloc(), &rope)
+    assert!(rt; is_written_twice(rt.alloc(), &rope));
+    Ok(())
 }
 
 #[test]
