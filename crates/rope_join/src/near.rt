@@ -6,8 +6,8 @@ ghost use Rattle.rope_text.specs.Breaks.{ends_in_cr};
 ghost use Rattle.rope_tree.specs.Tree.{text};
 
 use rope_text::MIN_PAIR_BYTES;
+use rope_tree::counts;
 use rope_tree::node::{Node, View};
-use rope_tree::short_text::ShortText;
 
 /// The bytes of a tree's last leaf.
 fn last_leaf_len(node: &Node) -> usize
@@ -42,20 +42,12 @@ pub(crate) fn is_near(left: &Node, right: &Node) -> bool
     last_leaf_len(left) + first_leaf_len(right) >= MIN_PAIR_BYTES
 }
 
-/// Whether CR is the last character of a leaf.
-fn is_cr_last(leaf: &ShortText<'_>) -> bool
-    ensures { result ≡ ends_in_cr leaf.now }
-{
-    let bytes = leaf.as_str().as_bytes();
-    !bytes.is_empty() && bytes[bytes.len() - 1] == b'\r'
-}
-
 /// Whether CR is the last character of a tree's text, by its last leaf alone.
 pub(crate) fn ends_in_cr(node: &Node) -> bool
     ensures { result ≡ ends_in_cr (text node.now) }
 {
     match node.view() {
-        View::Leaf(leaf) => is_cr_last(&leaf),
+        View::Leaf(leaf) => counts::ends_in_cr(leaf.as_str()),
         View::Inner(children, _) => ends_in_cr(&children[children.len() - 1]),
     }
 }

@@ -38,7 +38,7 @@ info_inserted breaks text a at more n some sums left =
     omega (arith, ap (λ i. i.break_count) sums, ap (break_count breaks) is, ap (break_count breaks) whole, breaks_inserted breaks (take at text) a (drop at text) some, left) in
     cc
 
-shared_le : (breaks : LineBreaks) (s t : List ℕ) → shared_breaks breaks s t ≤ 1
+pub shared_le : (breaks : LineBreaks) (s t : List ℕ) → shared_breaks breaks s t ≤ 1
 shared_le breaks s t = elim (parts_crlf s t && is_break_char breaks 13) as (λ b. cond {A = ℕ} b 1 0 ≤ 1) [ true ↦ omega arith | false ↦ omega arith ]
 
 pub record Corrects (breaks : LineBreaks) (text a : List ℕ) (at : ℕ) (more : TextInfo) (apart met : ℕ) : Type 0 where

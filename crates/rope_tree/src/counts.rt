@@ -14,7 +14,7 @@ use arrayvec::ArrayString;
 use rope_text::{LineBreaks, MAX_JOINED_BYTES, TextInfo};
 
 /// Whether CR is the last character.
-pub(crate) fn ends_in_cr(text: &str) -> bool
+pub fn ends_in_cr(text: &str) -> bool
     ensures { result ≡ ends_in_cr (chars text.now) }
 {
     let bytes = text.as_bytes();

@@ -277,7 +277,7 @@ fn rest_of(nodes: &[Node], past: usize) -> &[Node]
 impl<'a> Row<'a> {
     /// No node.
     #[inline(always)]
-    pub fn none() -> Row<'a>
+    fn none() -> Row<'a>
         ensures row { IsRow result }
         ensures nodes { result.nodes.now ≡ [] }
     {

@@ -6,4 +6,4 @@ use Rattle.rope_join.proofs.near.+ends_in_cr.Goals as goal
 pub returns-in-Inner : goal.returns-in-Inner
 returns-in-Inner t c =
     let e = ends_in _ _ _ c.in-Inner.ensures.is c.in-Inner.ensures.children c.index-children-children.is in
-    c.ends_in_cr.ensures ∙ cr_of_last _ _ _ _ _ e
+    c.ends_in_cr-in-Inner.ensures ∙ cr_of_last _ _ _ _ _ e
