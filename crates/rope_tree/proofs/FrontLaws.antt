@@ -72,23 +72,18 @@ apart_behind s [] u some apart = absurd (omega (arith, some))
 apart_behind s (c ∷ t) u some apart = parts_crlf-append s c t u ∙ apart
 
 -- a leaf of what stands before a text and the front of that
-module _ (bs : List ℕ) (r : ℕ) (rest leaf front none : List ℕ) (some : 0 < r) (off : IsCutOff bs r) (is_leaf : leaf ≡ rest ++ chars front) (is_front : front ≡ take (r - 0) bs) (is_none : none ≡ []) where
-  front_chars : chars front ≡ chars (take r bs)
-  front_chars = ap chars (is_front ∙ ap (λ k. take k bs) (omega arith))
+module _ (bs : List ℕ) (r : ℕ) (rest leaf front : List ℕ) (some : 0 < r) (off : IsCutOff bs r) (is_leaf : leaf ≡ rest ++ chars front) (is_front : front ≡ take (r - 0) bs) where
+  leaf_chars : leaf ≡ rest ++ chars (take r bs)
+  leaf_chars = is_leaf ∙ ap (λ x. rest ++ chars x) (is_front ∙ ap (λ k. take k bs) (omega arith))
 
-  behind : none ++ chars (drop r bs) ≡ chars (drop r bs)
-  behind = ap (λ n. n ++ chars (drop r bs)) is_none
+  pub longer_whole : leaf ++ chars (drop r bs) ≡ rest ++ chars bs
+  longer_whole = ap (λ x. x ++ chars (drop r bs)) leaf_chars ∙ append_assoc rest (chars (take r bs)) (chars (drop r bs)) ∙ ap (λ x. rest ++ x) off.whole
 
-  pub longer_whole : leaf ++ (none ++ chars (drop r bs)) ≡ rest ++ chars bs
-  longer_whole =
-      ap₂ (λ x y. x ++ y) (is_leaf ∙ ap (λ x. rest ++ x) front_chars) behind
-      ∙ append_assoc rest (chars (take r bs)) (chars (drop r bs)) ∙ ap (λ x. rest ++ x) off.whole
-
-  pub longer_apart : r ≤ length bs → parts_crlf leaf (none ++ chars (drop r bs)) ≡ false
+  pub longer_apart : r ≤ length bs → parts_crlf leaf (chars (drop r bs)) ≡ false
   longer_apart within =
       let bytes : byte_len (chars (take r bs)) ≡ r = byte_len-chars (take r bs) off.front ∙ length-take-le r bs within in
       let taken : 1 ≤ length (chars (take r bs)) = some_chars (chars (take r bs)) (omega (arith, bytes, some)) in
-      ap₂ parts_crlf (is_leaf ∙ ap (λ x. rest ++ x) front_chars) behind ∙ apart_behind rest (chars (take r bs)) (chars (drop r bs)) taken off.apart
+      ap (λ x. parts_crlf x (chars (drop r bs))) leaf_chars ∙ apart_behind rest (chars (take r bs)) (chars (drop r bs)) taken off.apart
 
 -- a text of no bytes
 pub no_bytes : (cs : List ℕ) → byte_len cs ≡ 0 → cs ≡ []

@@ -15,7 +15,6 @@ use rope_text::crlf::prev_break;
 use rope_text::{LineBreaks, MAX_BYTES, MIN_CUT_BYTES};
 use std::alloc::{AllocError, Global};
 use std::marker::Model;
-use std::mem;
 
 // More bytes than a leaf can have, even where the last of them begin a character or are a CR.
 const MAX_AHEAD_BYTES: usize = MAX_BYTES + 4;
@@ -40,13 +39,6 @@ fn ahead_len(text: &str) -> usize
 struct Front {
     leaf: NodeText,
     rest: NodeText,
-    taken: usize,
-}
-
-// The leaf at the front of a text of two parts, and how many bytes of the second part are in it.
-#[derive(Drop)]
-struct First {
-    leaf: NodeText,
     taken: usize,
 }
 
@@ -79,30 +71,25 @@ fn cut_at_seam(rest: &NodeText, text: &str) -> Front
     }
 }
 
-// Cuts the first leaf off a text that begins with `rest` and goes on with `text`, and leaves what of `rest` is behind it.
-// Mostly the leaf ends within `text`, and then that is copied once.
-fn cut_front(rest: &mut NodeText, text: &str) -> First
+// Puts the front of a text behind `rest`, so that it is the first leaf of the two, and answers how many bytes; none where that
+// leaf would be too short, as it may be where it ends near the start of the text.
+fn fill_up(rest: &mut NodeText, text: &str) -> usize
     requires { MAX_BYTES < byte_len rest.old + length text.now }
-    ensures boundary { IsCharBoundary text.now result.taken }
-    ensures whole { result.leaf ++ (rest.new ++ chars (drop result.taken text.now)) ≡ rest.old ++ chars text.now }
-    ensures apart { parts_crlf result.leaf (rest.new ++ chars (drop result.taken text.now)) ≡ false }
-    ensures long { MIN_CUT_BYTES ≤ byte_len result.leaf }
-    ensures short { byte_len result.leaf ≤ MAX_BYTES }
-    ensures left { byte_len result.leaf + (byte_len rest.new + (length text.now - result.taken)) ≡ byte_len rest.old + length text.now }
+    ensures boundary { IsCharBoundary text.now result }
+    ensures kept { result ≡ 0 → rest.new ≡ rest.old }
+    ensures whole { 0 < result → rest.new ++ chars (drop result text.now) ≡ rest.old ++ chars text.now }
+    ensures apart { 0 < result → parts_crlf rest.new (chars (drop result text.now)) ≡ false }
+    ensures long { 0 < result → MIN_CUT_BYTES ≤ byte_len rest.new }
+    ensures short { byte_len rest.new ≤ MAX_BYTES }
+    ensures left { byte_len rest.new + (length text.now - result) ≡ byte_len rest.old + length text.now }
 {
     let room = MAX_BYTES - rest.len();
     let taken = prev_break(room + 1, text.as_bytes());
     if taken < MIN_CUT_BYTES.saturating_sub(rest.len()).max(1) {
-        let front = cut_at_seam(rest, text);
-        *rest = front.rest;
-        return First {
-            leaf: front.leaf,
-            taken: front.taken,
-        };
+        return 0;
     }
     rest.push_str(&text[..taken]);
-    let leaf = mem::replace(rest, NodeText::new());
-    First { leaf, taken }
+    taken
 }
 
 // Cuts leaves off the front of `rest` and the text behind it, until what is left fits into one.
@@ -123,9 +110,17 @@ fn cut_leaves(
 {
     let mut left = text;
     while rest.len() + left.len() > MAX_BYTES {
-        let front = cut_front(rest, left);
-        leaves.push(leaf_of(alloc, breaks, front.leaf.as_str(), &mut 0)?)?;
-        left = &left[front.taken..];
+        let taken = fill_up(rest, left);
+        if taken > 0 {
+            leaves.push(leaf_of(alloc, breaks, rest.as_str(), &mut 0)?)?;
+            rest.set("");
+            left = &left[taken..];
+        } else {
+            let front = cut_at_seam(rest, left);
+            leaves.push(leaf_of(alloc, breaks, front.leaf.as_str(), &mut 0)?)?;
+            *rest = front.rest;
+            left = &left[front.taken..];
+        }
     }
     rest.push_str(left);
     Ok(())
