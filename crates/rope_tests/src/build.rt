@@ -1,29 +1,28 @@
 //! Trees of texts.
 use rope_text::LineBreaks;
 use rope_tree::build::build;
+use std::alloc::{AllocError, Global};
 
-#[test]
-fn levels(rt: HostRuntime) {
-    let text = "Hello!\r\n".repeat(rt.alloc(), 2952).expect(&rt, "memory");
+/// How many nodes a tree of the text took, its height, and its bytes, characters and line breaks.
+fn counts(alloc: Global, text: &str, breaks: LineBreaks) -> Result<(u64, [usize; 4]), AllocError> {
     let mut made = 0;
-    let node = build(rt.alloc(), text.as_str(), LineBreaks::CrLf, &mut made).expect(&rt, "memory");
-    assert!(rt; made == 25);
-    assert!(rt; node.height() == 1);
-    assert!(rt; node.info().bytes == 23_616);
-    assert!(rt; node.info().break_count == 2952);
-    let text = "Hello!\r\n".repeat(rt.alloc(), 2953).expect(&rt, "memory");
-    let mut made = 0;
-    let node = build(rt.alloc(), text.as_str(), LineBreaks::CrLf, &mut made).expect(&rt, "memory");
-    assert!(rt; made == 28);
-    assert!(rt; node.height() == 2);
-    assert!(rt; node.info().chars == 23_624);
+    let node = build(alloc, text, breaks, &mut made)?;
+    let info = node.info();
+    Ok((
+        made,
+        [node.height(), info.bytes, info.chars, info.break_count],
+    ))
+}
+
+/// Those of a tree of so many lines.
+fn counts_of_lines(alloc: Global, lines: usize) -> Result<(u64, [usize; 4]), AllocError> {
+    let text = "Hello!\r\n".repeat(alloc, lines)?;
+    counts(alloc, text.as_str(), LineBreaks::CrLf)
 }
 
 #[test]
-fn empty_text(rt: HostRuntime) {
-    let mut made = 0;
-    let node = build(rt.alloc(), "", LineBreaks::Unicode, &mut made).expect(&rt, "memory");
-    assert!(rt; made == 1);
-    assert!(rt; node.height() == 0);
-    assert!(rt; node.info().bytes == 0);
+fn levels_and_the_empty_text(rt: HostRuntime) {
+    assert!(rt; counts_of_lines(rt.alloc(), 2952) == Ok((25, [1, 23_616, 23_616, 2952])));
+    assert!(rt; counts_of_lines(rt.alloc(), 2953) == Ok((28, [2, 23_624, 23_624, 2953])));
+    assert!(rt; counts(rt.alloc(), "", LineBreaks::Unicode) == Ok((1, [0, 0, 0, 0])));
 }

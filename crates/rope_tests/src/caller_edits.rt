@@ -1,4 +1,5 @@
 //! The callers that make or change a text.
+use crate::ropes::{becomes, holds, is_made};
 use rope_callers::copies::copy_without;
 use rope_callers::edits::titled;
 use rope_callers::history::History;
@@ -8,103 +9,97 @@ use rope_callers::search::insert_before_char;
 use rope_position::Position;
 use ropey::{Error, Rope};
 use std::alloc::Global;
-use std::process::Abort;
-use std::test::Fail;
 
 #[test]
-fn a_titled_text(rt: HostRuntime) -> Result<(), Fail> {
-    let rope = titled(rt.alloc(), "one\ntwo\n", "list\n")?;
-    assert!(rt; rope.eq_str("list\none\ntwo\n"));
-    Ok(())
+fn a_titled_text(rt: HostRuntime) {
+    let made = titled(rt.alloc(), "one\ntwo\n", "list\n");
+    assert!(rt; is_made(made, |rope| rope.eq_str("list\none\ntwo\n")));
 }
 
-fn edit_inside(rt: &impl Abort, rope: &mut Rope) -> Result<(), Fail> {
-    put_at_end(rope, "c\nd")?;
-    assert!(rt; rope.eq_str("ä\nb\nc\nd") && 1 <= rope.len_bytes());
-    insert_at_byte(rope, 1, "x")?;
-    assert!(rt; rope.eq_str("xä\nb\nc\nd"));
-    Ok(())
+fn edits_inside(rope: &mut Rope) -> bool {
+    put_at_end(rope, "c\nd").is_ok()
+        && rope.eq_str("ä\nb\nc\nd")
+        && 1 <= rope.len_bytes()
+        && insert_at_byte(rope, 1, "x").is_ok()
+        && rope.eq_str("xä\nb\nc\nd")
 }
 
-fn remove_lines(rt: &impl Abort, rope: &mut Rope) -> Result<(), Fail> {
-    assert!(rt; 6 <= rope.len_chars());
-    assert!(rt; line_start_of(rope, 6) == 5);
-    assert!(rt; remove_line(rope, 1)? && rope.eq_str("xä\nc\nd"));
-    assert!(rt; !remove_line(rope, 3)?);
-    Ok(())
+fn removes_lines(rope: &mut Rope) -> bool {
+    6 <= rope.len_chars()
+        && line_start_of(rope, 6) == 5
+        && remove_line(rope, 1) == Ok(true)
+        && rope.eq_str("xä\nc\nd")
+        && remove_line(rope, 3) == Ok(false)
 }
 
-#[test]
-fn places_that_are_inside(rt: HostRuntime) -> Result<(), Fail> {
-    let mut rope = Rope::from_str(rt.alloc(), "ä\nb\n")?;
-    edit_inside(&rt, &mut rope)?;
-    remove_lines(&rt, &mut rope)
-}
-
-fn copy_a_part(rt: &impl Abort, rope: &Rope) -> Result<(), Fail> {
-    assert!(rt; rope.len_chars() == 4);
-    let copy = copy_without(rope, 1, 3)?;
-    assert!(rt; [copy.eq_str("ad"), rope.eq_str("abcd")] == [true; 2]);
-    Ok(())
+fn edits_and_removes(rope: &mut Rope) -> bool {
+    edits_inside(rope) && removes_lines(rope)
 }
 
 #[test]
-fn a_copy_without_a_part(rt: HostRuntime) -> Result<(), Fail> {
-    let rope = Rope::from_str(rt.alloc(), "abcd")?;
-    copy_a_part(&rt, &rope)
+fn places_that_are_inside(rt: HostRuntime) {
+    assert!(rt; becomes(rt.alloc(), "ä\nb\n", edits_and_removes));
 }
 
-fn insert_two(rt: &impl Abort, history: &mut History) -> Result<(), Fail> {
-    history.insert(0, "a")?;
-    assert!(rt; history.text.len_chars() == 2);
-    history.insert(2, "c")?;
-    assert!(rt; history.text.eq_str("abc"));
-    Ok(())
+fn has_a_copy(rope: &Rope) -> bool {
+    rope.len_chars() == 4
+        && is_made(copy_without(rope, 1, 3), |copy| copy.eq_str("ad"))
+        && rope.eq_str("abcd")
 }
 
-fn undo_all(rt: &impl Abort, history: &mut History) {
-    for text in ["ab", "b"] {
-        assert!(rt; history.undo() && history.text.eq_str(text));
+#[test]
+fn a_copy_without_a_part(rt: HostRuntime) {
+    assert!(rt; holds(rt.alloc(), "abcd", has_a_copy));
+}
+
+fn inserts_two(history: &mut History) -> bool {
+    history.insert(0, "a").is_ok()
+        && history.text.len_chars() == 2
+        && history.insert(2, "c").is_ok()
+        && history.text.eq_str("abc")
+}
+
+fn undoes_all(history: &mut History) -> bool {
+    history.undo()
+        && history.text.eq_str("ab")
+        && history.undo()
+        && history.text.eq_str("b")
+        && !history.undo()
+        && history.text.eq_str("b")
+}
+
+/// Whether the edits of a text are undone.
+fn is_undone(alloc: Global) -> bool {
+    match Rope::from_str(alloc, "b") {
+        Ok(text) => {
+            let past = Vec::new(alloc);
+            let mut history = History { text, past };
+            inserts_two(&mut history) && undoes_all(&mut history)
+        }
+        Err(_) => false,
     }
-    assert!(rt; !history.undo() && history.text.eq_str("b"));
 }
 
 #[test]
-fn edits_undone(rt: HostRuntime) -> Result<(), Fail> {
-    let mut history = History {
-        text: Rope::from_str(rt.alloc(), "b")?,
-        past: Vec::new(rt.alloc()),
-    };
-    insert_two(&rt, &mut history)?;
-    undo_all(&rt, &mut history);
-    Ok(())
+fn edits_undone(rt: HostRuntime) {
+    assert!(rt; is_undone(rt.alloc()));
 }
 
-fn insert_before(rt: &impl Abort, rope: &mut Rope) -> Result<(), Fail> {
-    let places = [
-        insert_before_char(rope, '=', " ")?,
-        insert_before_char(rope, 'x', " ")?,
-    ];
-    assert!(rt; places == [Some(1), None] && rope.eq_str("ä =b=c"));
-    Ok(())
+fn inserts_before(rope: &mut Rope) -> bool {
+    insert_before_char(rope, '=', " ") == Ok(Some(1))
+        && insert_before_char(rope, 'x', " ") == Ok(None)
+        && rope.eq_str("ä =b=c")
 }
 
-fn insert_at_positions(rt: &impl Abort, rope: &mut Rope) -> Result<(), Fail> {
-    insert_at_position(rope, Position { line: 1, column: 2 }, "x")?;
-    assert!(rt; rope.eq_str("a\n𝔸xb"));
-    let past = insert_at_position(rope, Position { line: 2, column: 0 }, "x");
-    assert!(rt; past == Err(Error::LineIndexOutOfBounds(2, 2)));
-    Ok(())
-}
-
-fn edit_before_chars(rt: &impl Abort, alloc: Global) -> Result<(), Fail> {
-    let mut rope = Rope::from_str(alloc, "ä=b=c")?;
-    insert_before(rt, &mut rope)
+fn inserts_at_positions(rope: &mut Rope) -> bool {
+    let past = Position { line: 2, column: 0 };
+    insert_at_position(rope, Position { line: 1, column: 2 }, "x").is_ok()
+        && rope.eq_str("a\n𝔸xb")
+        && insert_at_position(rope, past, "x") == Err(Error::LineIndexOutOfBounds(2, 2))
 }
 
 #[test]
-fn edits_at_places_that_are_sought(rt: HostRuntime) -> Result<(), Fail> {
-    edit_before_chars(&rt, rt.alloc())?;
-    let mut rope = Rope::from_str(rt.alloc(), "a\n𝔸b")?;
-    insert_at_positions(&rt, &mut rope)
+fn edits_at_places_that_are_sought(rt: HostRuntime) {
+    assert!(rt; becomes(rt.alloc(), "ä=b=c", inserts_before));
+    assert!(rt; becomes(rt.alloc(), "a\n𝔸b", inserts_at_positions));
 }

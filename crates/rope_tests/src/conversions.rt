@@ -2,8 +2,6 @@
 use rope_plain::plain_text;
 use rope_text::{LineBreaks, str_utils};
 use std::alloc::Global;
-use std::process::Abort;
-use std::test::Fail;
 
 const LETTERS: [char; 9] = [
     'a', '\n', '\r', '\u{B}', '\u{85}', '\u{C5}', '\u{2028}', '\u{5028}', '🐸',
@@ -20,37 +18,31 @@ struct Sample {
 }
 
 impl Sample {
-    /// So many letters `a`, and then the text that the number names.
-    fn new(alloc: Global, padding: usize, len: usize, number: usize) -> Result<Sample, Fail> {
-        let mut sample = Sample {
-            text: String::new(alloc),
-            chars: Vec::new(alloc),
-        };
-        sample.add_padding(padding)?;
-        sample.add_text(len, number)?;
-        Ok(sample)
+    /// Adds a character to both, and answers whether there was memory for it.
+    fn add(&mut self, c: char) -> bool {
+        self.text.push(c).is_ok() && self.chars.push(c).is_ok()
     }
 
-    fn add(&mut self, c: char) -> Result<(), Fail> {
-        self.text.push(c)?;
-        self.chars.push(c)?;
-        Ok(())
-    }
-
-    fn add_padding(&mut self, padding: usize) -> Result<(), Fail> {
+    /// Adds so many letters `a`.
+    fn add_padding(&mut self, padding: usize) -> bool {
         for _ in 0..padding {
-            self.add('a')?;
+            if !self.add('a') {
+                return false;
+            }
         }
-        Ok(())
+        true
     }
 
-    fn add_text(&mut self, len: usize, number: usize) -> Result<(), Fail> {
+    /// Adds the text of some characters that the number names.
+    fn add_text(&mut self, len: usize, number: usize) -> bool {
         let mut rest = number;
         for _ in 0..len {
-            self.add(LETTERS[rest % 9])?;
+            if !self.add(LETTERS[rest % 9]) {
+                return false;
+            }
             rest /= 9;
         }
-        Ok(())
+        true
     }
 }
 
@@ -98,14 +90,14 @@ fn is_place(text: &str, chars: &[char], i: usize) -> bool {
         && belong(text, chars, byte.saturating_add(1), unit.saturating_add(1))
 }
 
-/// Compares what does not depend on the set of line breaks, from the character `from` on.
-fn compare_places(rt: &impl Abort, sample: &Sample, from: usize) {
-    let text = sample.text.as_str();
-    let chars = sample.chars.as_slice();
-    assert!(rt; has_counts(text, chars));
+/// Whether what does not depend on the set of line breaks is right, from the character `from` on.
+fn has_places(text: &str, chars: &[char], from: usize) -> bool {
     for i in from..=chars.len() {
-        assert!(rt; is_place(text, chars, i));
+        if !is_place(text, chars, i) {
+            return false;
+        }
     }
+    has_counts(text, chars)
 }
 
 /// Whether a character and its byte lie on their line.
@@ -129,69 +121,84 @@ fn starts_there(text: &str, chars: &[char], line: usize, breaks: LineBreaks) -> 
     answers == [start, plain_text::char_to_byte(chars, start)]
 }
 
-/// Compares lines by a set of line breaks, from the character `from` on.
-fn compare_lines(rt: &impl Abort, sample: &Sample, from: usize, breaks: LineBreaks) {
-    let text = sample.text.as_str();
-    let chars = sample.chars.as_slice();
+/// Whether all characters from `from` on lie on their lines.
+fn lie_on_lines(text: &str, chars: &[char], from: usize, breaks: LineBreaks) -> bool {
     for i in from..=chars.len() {
-        assert!(rt; lies_on_line(text, chars, i, breaks));
+        if !lies_on_line(text, chars, i, breaks) {
+            return false;
+        }
     }
-    compare_starts(rt, text, chars, breaks);
+    true
 }
 
-/// Compares the starts of all lines, and of two past the last.
-fn compare_starts(rt: &impl Abort, text: &str, chars: &[char], breaks: LineBreaks) {
+/// Whether all lines start where they should, and two past the last.
+fn has_starts(text: &str, chars: &[char], breaks: LineBreaks) -> bool {
     let break_count = plain_text::char_to_line(chars, chars.len(), breaks);
-    assert!(rt; str_utils::count_breaks(text, breaks) == break_count);
     for line in 0..=break_count.saturating_add(2) {
-        assert!(rt; starts_there(text, chars, line, breaks));
+        if !starts_there(text, chars, line, breaks) {
+            return false;
+        }
     }
+    str_utils::count_breaks(text, breaks) == break_count
 }
 
-/// Compares one text, by each set of line breaks.
-fn compare_sample(
-    rt: &impl Abort,
-    alloc: Global,
-    padding: usize,
-    len: usize,
-    number: usize,
-) -> Result<(), Fail> {
-    let sample = Sample::new(alloc, padding, len, number)?;
+/// Whether lines are right, by each set of line breaks.
+fn has_lines(text: &str, chars: &[char], from: usize) -> bool {
+    for breaks in [LineBreaks::Lf, LineBreaks::CrLf, LineBreaks::Unicode] {
+        if !lie_on_lines(text, chars, from, breaks) || !has_starts(text, chars, breaks) {
+            return false;
+        }
+    }
+    true
+}
+
+/// Whether the text that the number names is right behind so many letters `a`.
+fn is_right(alloc: Global, padding: usize, len: usize, number: usize) -> bool {
+    let mut sample = Sample {
+        text: String::new(alloc),
+        chars: Vec::new(alloc),
+    };
+    let is_filled = sample.add_padding(padding) && sample.add_text(len, number);
+    let text = sample.text.as_str();
     let from = padding.saturating_sub(1);
-    compare_places(rt, &sample, from);
-    compare_lines(rt, &sample, from, LineBreaks::Lf);
-    compare_lines(rt, &sample, from, LineBreaks::CrLf);
-    compare_lines(rt, &sample, from, LineBreaks::Unicode);
-    Ok(())
+    is_filled && has_places(text, &sample.chars, from) && has_lines(text, &sample.chars, from)
+}
+
+/// Every text of so many of the nine characters, behind so many letters `a`.
+fn are_right(alloc: Global, padding: usize, len: usize, count: usize) -> bool {
+    for number in 0..count {
+        if !is_right(alloc, padding, len, number) {
+            return false;
+        }
+    }
+    true
 }
 
 /// Every text of up to five of the nine characters, behind so many letters `a`.
-fn compare_all(rt: &impl Abort, alloc: Global, padding: usize) -> Result<(), Fail> {
+fn are_all_right(alloc: Global, padding: usize) -> bool {
     for (len, count) in TEXTS.iter().enumerate() {
-        for number in 0..*count {
-            compare_sample(rt, alloc, padding, len, number)?;
+        if !are_right(alloc, padding, len, *count) {
+            return false;
         }
     }
-    Ok(())
+    true
 }
 
 #[test]
-fn short_texts(rt: HostRuntime) -> Result<(), Fail> {
-    compare_all(&rt, rt.alloc(), 0)
+fn short_texts(rt: HostRuntime) {
+    assert!(rt; are_all_right(rt.alloc(), 0));
 }
 
 #[test]
-fn texts_across_a_block(rt: HostRuntime) -> Result<(), Fail> {
+fn texts_across_a_block(rt: HostRuntime) {
     for padding in 28..31 {
-        compare_all(&rt, rt.alloc(), padding)?;
+        assert!(rt; are_all_right(rt.alloc(), padding));
     }
-    Ok(())
 }
 
 #[test]
-fn texts_behind_a_block(rt: HostRuntime) -> Result<(), Fail> {
+fn texts_behind_a_block(rt: HostRuntime) {
     for padding in 31..34 {
-        compare_all(&rt, rt.alloc(), padding)?;
+        assert!(rt; are_all_right(rt.alloc(), padding));
     }
-    Ok(())
 }

@@ -1,10 +1,7 @@
 //! What look-ups count in ropes of known depth.
+use crate::ropes::holds_of_many;
 use rope_plain::compare::lens;
-use rope_plain::texts::repeated;
 use ropey::{Rope, Steps};
-use std::alloc::Global;
-use std::process::Abort;
-use std::test::Fail;
 
 /// A look-up that counts its steps.
 #[derive(Clone, Copy)]
@@ -85,44 +82,36 @@ impl LookUp {
     }
 }
 
-/// A rope of so many times a text.
-fn rope_of(alloc: Global, text: &str, count: usize) -> Result<Rope, Fail> {
-    let text = repeated(alloc, text, count)?;
-    Ok(Rope::from_str(alloc, text.as_str())?)
-}
-
-fn has_two_levels(rt: &impl Abort, rope: &Rope) {
+fn has_two_levels(rope: &Rope) -> bool {
     let counts = [
         rope.len_bytes(),
         rope.chunks().count(),
         rope.depth(),
         rope.capacity(),
     ];
-    assert!(rt; counts == [20_000, 21, 1, 20_664]);
+    counts == [20_000, 21, 1, 20_664]
 }
 
-/// What looking a byte up compares, which goes through two nodes.
-fn compares_for_byte(rt: &impl Abort, rope: &Rope, place: usize) -> u64 {
-    let mut steps = Steps::new();
-    let answer = LookUp::Byte.answer(rope, place, &mut steps);
-    assert!(rt; answer == Some(97) && steps.nodes == 2);
-    steps.compares
-}
-
-fn look_bytes_up(rt: &impl Abort, rope: &Rope) {
+/// Whether each byte is found through two nodes, and by five comparisons at the most.
+fn finds_bytes(rope: &Rope) -> bool {
     let mut most = 0;
     for place in 0..20_000 {
-        most = most.max(compares_for_byte(rt, rope, place));
+        let mut steps = Steps::new();
+        if LookUp::Byte.answer(rope, place, &mut steps) != Some(97) || steps.nodes != 2 {
+            return false;
+        }
+        most = most.max(steps.compares);
     }
-    assert!(rt; most == 5);
+    most == 5
+}
+
+fn finds_bytes_in_two_levels(rope: &Rope) -> bool {
+    has_two_levels(rope) && finds_bytes(rope)
 }
 
 #[test]
-fn a_byte_in_two_levels(rt: HostRuntime) -> Result<(), Fail> {
-    let rope = rope_of(rt.alloc(), "a", 20_000)?;
-    has_two_levels(&rt, &rope);
-    look_bytes_up(&rt, &rope);
-    Ok(())
+fn a_byte_in_two_levels(rt: HostRuntime) {
+    assert!(rt; holds_of_many(rt.alloc(), "a", 20_000, finds_bytes_in_two_levels));
 }
 
 /// Each look-up, and before which place it has an answer.
@@ -139,38 +128,43 @@ const ENDS: [(LookUp, usize); 10] = [
     (LookUp::LineToChar, 10_000),
 ];
 
-fn look_all_up(rt: &impl Abort, rope: &Rope) {
-    assert!(rt; lens(rope) == [20_000, 20_000, 10_001, 20_000]);
-    assert!(rt; [rope.chunks().count(), rope.depth()] == [21, 1]);
+/// Whether each look-up compares five times at the most.
+fn finds_all(rope: &Rope) -> bool {
     for (look_up, end) in &ENDS {
-        assert!(rt; look_up.most_compares(rope, *end) == Some(5));
+        if look_up.most_compares(rope, *end) != Some(5) {
+            return false;
+        }
     }
+    true
+}
+
+fn finds_all_in_two_levels(rope: &Rope) -> bool {
+    lens(rope) == [20_000, 20_000, 10_001, 20_000]
+        && [rope.chunks().count(), rope.depth()] == [21, 1]
+        && finds_all(rope)
 }
 
 #[test]
-fn look_ups_in_two_levels(rt: HostRuntime) -> Result<(), Fail> {
-    let rope = rope_of(rt.alloc(), "a\n", 10_000)?;
-    look_all_up(&rt, &rope);
-    Ok(())
+fn look_ups_in_two_levels(rt: HostRuntime) {
+    assert!(rt; holds_of_many(rt.alloc(), "a\n", 10_000, finds_all_in_two_levels));
 }
 
-/// A look-up in four levels answers this, through four nodes and by few comparisons.
-fn answers_in_four(rt: &impl Abort, rope: &Rope, look_up: LookUp, place: usize, expected: usize) {
+/// Whether a look-up in four levels answers this, through four nodes and by few comparisons.
+fn answers_in_four(rope: &Rope, look_up: LookUp, place: usize, expected: usize) -> bool {
     let mut steps = Steps::new();
     let answer = look_up.answer(rope, place, &mut steps);
-    assert!(rt; answer == Some(expected) && steps.nodes == 4 && steps.compares <= 15);
+    answer == Some(expected) && steps.nodes == 4 && steps.compares <= 15
 }
 
-fn has_four_levels(rt: &impl Abort, rope: &Rope) {
-    assert!(rt; (1_017..=1_020).contains(&rope.chunks().count()) && rope.depth() == 3);
+fn finds_a_char_in_four_levels(rope: &Rope) -> bool {
+    (1_017..=1_020).contains(&rope.chunks().count())
+        && rope.depth() == 3
+        && answers_in_four(rope, LookUp::CharToByte, 500_000, 500_000)
 }
 
 #[test]
-fn a_char_in_four_levels(rt: HostRuntime) -> Result<(), Fail> {
-    let rope = rope_of(rt.alloc(), "a", 1_000_000)?;
-    has_four_levels(&rt, &rope);
-    answers_in_four(&rt, &rope, LookUp::CharToByte, 500_000, 500_000);
-    Ok(())
+fn a_char_in_four_levels(rt: HostRuntime) {
+    assert!(rt; holds_of_many(rt.alloc(), "a", 1_000_000, finds_a_char_in_four_levels));
 }
 
 /// Each conversion, a place in the middle, and what it answers there.
@@ -185,16 +179,16 @@ const IN_THE_MIDDLE: [(LookUp, usize, usize); 8] = [
     (LookUp::LineToChar, 250_000, 500_000),
 ];
 
-fn convert_in_the_middle(rt: &impl Abort, rope: &Rope) {
-    assert!(rt; rope.depth() == 3);
+fn converts_in_four_levels(rope: &Rope) -> bool {
     for (look_up, place, expected) in &IN_THE_MIDDLE {
-        answers_in_four(rt, rope, *look_up, *place, *expected);
+        if !answers_in_four(rope, *look_up, *place, *expected) {
+            return false;
+        }
     }
+    rope.depth() == 3
 }
 
 #[test]
-fn conversions_in_four_levels(rt: HostRuntime) -> Result<(), Fail> {
-    let rope = rope_of(rt.alloc(), "a\n", 500_000)?;
-    convert_in_the_middle(&rt, &rope);
-    Ok(())
+fn conversions_in_four_levels(rt: HostRuntime) {
+    assert!(rt; holds_of_many(rt.alloc(), "a\n", 500_000, converts_in_four_levels));
 }

@@ -2,13 +2,11 @@
 ghost use Rattle.std.specs.Prelude.{◌+◌, ◌*◌, ◌%◌, ◌^◌, length};
 ghost use Rattle.rope_tests.specs.Writes.{first_or};
 
-use rope_plain::given::given;
-use rope_plain::texts::repeated;
+use crate::ropes::{becomes, holds_of_many, is_made};
 use ropey::{Rope, RopeSlice};
 use std::alloc::Global;
+use std::cmp::Ordering;
 use std::hash::{Hash, Hasher};
-use std::process::Abort;
-use std::test::Fail;
 
 /// A hasher that keeps the lengths of its writes, as the digits of a number by the base 1,000, and the first byte of the last.
 #[derive(Drop)]
@@ -44,60 +42,67 @@ fn writes_of<T: Hash>(value: &T) -> (u64, u8) {
     (writes.lens, writes.last)
 }
 
-#[test]
-fn of_the_empty_rope(rt: HostRuntime) -> Result<(), Fail> {
-    let rope = Rope::new(rt.alloc())?;
-    assert!(rt; [writes_of(&rope), writes_of(&RopeSlice::from(""))] == [(1, 0xff); 2]);
-    Ok(())
+fn is_hashed_as_empty(rope: &Rope) -> bool {
+    [writes_of(rope), writes_of(&RopeSlice::from(""))] == [(1, 0xff); 2]
 }
 
-fn type_letters(rope: &mut Rope) -> Result<(), Fail> {
+#[test]
+fn of_the_empty_rope(rt: HostRuntime) {
+    assert!(rt; is_made(Rope::new(rt.alloc()), is_hashed_as_empty));
+}
+
+fn types_letters(rope: &mut Rope) -> bool {
     for i in 0..257 {
-        rope.try_insert_char(i, 'a')?;
+        if rope.try_insert_char(i, 'a').is_err() {
+            return false;
+        }
     }
-    Ok(())
+    true
 }
 
-fn hash_two_alike(rt: &impl Abort, made: &Rope, typed: &Rope) {
-    assert!(rt; *made == *typed && made.cmp(typed) == std::cmp::Ordering::Equal);
-    assert!(rt; [writes_of(made), writes_of(typed)] == [(256_001_001, 0xff); 2]);
+fn are_hashed_alike(made: &Rope, typed: &Rope) -> bool {
+    *made == *typed
+        && made.cmp(typed) == Ordering::Equal
+        && [writes_of(made), writes_of(typed)] == [(256_001_001, 0xff); 2]
 }
 
-fn hash_without_first(rt: &impl Abort, rope: &mut Rope) -> Result<(), Fail> {
-    rope.try_remove(..1)?;
-    assert!(rt; writes_of(rope) == (256_001, 0xff));
-    Ok(())
+/// Whether what is typed is hashed as what was made, and without its first letter as one block.
+fn is_hashed_alike(made: &Rope, typed: &mut Rope) -> bool {
+    types_letters(typed)
+        && are_hashed_alike(made, typed)
+        && typed.try_remove(..1).is_ok()
+        && writes_of(typed) == (256_001, 0xff)
 }
 
-/// A rope of so many letters.
-fn letters(alloc: Global, count: usize) -> Result<Rope, Fail> {
-    let text = repeated(alloc, "a", count)?;
-    Ok(Rope::from_str(alloc, text.as_str())?)
-}
-
-fn hash_typed(rt: &impl Abort, made: &Rope, typed: &mut Rope) -> Result<(), Fail> {
-    type_letters(typed)?;
-    hash_two_alike(rt, made, typed);
-    hash_without_first(rt, typed)
+fn is_hashed_as_typed(alloc: Global, made: &Rope) -> bool {
+    becomes(alloc, "", |typed| is_hashed_alike(made, typed))
 }
 
 #[test]
-fn in_blocks_however_it_is_cut(rt: HostRuntime) -> Result<(), Fail> {
-    let made = letters(rt.alloc(), 257)?;
-    let mut typed = Rope::new(rt.alloc())?;
-    hash_typed(&rt, &made, &mut typed)
+fn in_blocks_however_it_is_cut(rt: HostRuntime) {
+    let alloc = rt.alloc();
+    assert!(rt; holds_of_many(alloc, "a", 257, |made| is_hashed_as_typed(alloc, made)));
 }
 
-fn hash_slices(rt: &impl Abort, rope: &Rope) -> Result<(), Fail> {
-    for start in 0..1_000 {
-        let slice = given(rope.get_slice(start..start + 600))?;
-        assert!(rt; writes_of(&slice) == (256_256_088_001, 0xff));
+/// The writes of a slice, where there is one.
+fn writes_of_slice(slice: Option<RopeSlice<'_>>) -> Option<(u64, u8)> {
+    match slice {
+        Some(slice) => Some(writes_of(&slice)),
+        None => None,
     }
-    Ok(())
+}
+
+fn hashes_slices(rope: &Rope) -> bool {
+    for start in 0..1_000usize {
+        let slice = rope.get_slice(start..start.saturating_add(600));
+        if writes_of_slice(slice) != Some((256_256_088_001, 0xff)) {
+            return false;
+        }
+    }
+    true
 }
 
 #[test]
-fn of_slices_with_seams_anywhere(rt: HostRuntime) -> Result<(), Fail> {
-    let rope = letters(rt.alloc(), 2_600)?;
-    hash_slices(&rt, &rope)
+fn of_slices_with_seams_anywhere(rt: HostRuntime) {
+    assert!(rt; holds_of_many(rt.alloc(), "a", 2_600, hashes_slices));
 }

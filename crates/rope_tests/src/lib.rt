@@ -35,6 +35,8 @@ mod range;
 #[cfg(test)]
 mod removal;
 #[cfg(test)]
+mod ropes;
+#[cfg(test)]
 mod sets;
 #[cfg(test)]
 mod str_utils;

@@ -10,33 +10,45 @@ use rope_tree::conversions::{byte_to_char, char_to_byte};
 use rope_tree::node::Node;
 use rope_tree::node_text::NodeText;
 use std::alloc::{AllocError, Global};
-use std::process::Abort;
 
-/// So many bytes hold the character `idx`.
-fn check_bytes(rt: &impl Abort, text: &str, count: usize, idx: usize, from: usize, to: usize)
+/// Whether these bytes belong to the character `idx`.
+fn belong(text: &str, count: usize, idx: usize, from: usize, to: usize) -> bool
     requires { count ≡ length (chars text.now) }
 {
     for byte in from..to {
-        assert!(rt; byte_to_char_idx_of(text, count, byte) == idx);
+        if byte_to_char_idx_of(text, count, byte) != idx {
+            return false;
+        }
     }
+    true
 }
 
-fn check_text(rt: &impl Abort, text: &str) {
+/// Whether a text ends at a byte, and so do the places past its end.
+fn ends_at(text: &str, count: usize, byte: usize) -> bool
+    requires { count ≡ length (chars text.now) }
+{
+    for past in count..count.saturating_add(3) {
+        if char_to_byte_idx_of(text, count, past) != byte {
+            return false;
+        }
+    }
+    belong(text, count, count, byte, byte.saturating_add(3))
+}
+
+/// Whether each place of a text is found.
+fn has_places(text: &str) -> bool {
     let count = count_chars(text);
     let mut idx: usize = 0;
     let mut byte: usize = 0;
     for c in text.chars() {
         let next = byte.saturating_add(c.len_utf8());
-        assert!(rt; char_to_byte_idx_of(text, count, idx) == byte);
-        check_bytes(rt, text, count, idx, byte, next);
+        if char_to_byte_idx_of(text, count, idx) != byte || !belong(text, count, idx, byte, next) {
+            return false;
+        }
         idx = idx.saturating_add(1);
         byte = next;
     }
-    assert!(rt; idx == count);
-    for past in idx..idx.saturating_add(3) {
-        assert!(rt; char_to_byte_idx_of(text, count, past) == byte);
-    }
-    check_bytes(rt, text, count, idx, byte, byte.saturating_add(3));
+    idx == count && ends_at(text, count, byte)
 }
 
 /// The byte and the character of a place of a tree; the end of what can be asked, where it has none.
@@ -52,7 +64,8 @@ fn places(node: &Node, char_idx: usize, byte_idx: usize) -> (usize, usize) {
     )
 }
 
-fn check_places(rt: &impl Abort, node: &Node, text: &str) {
+/// Whether each place of a tree is found.
+fn has_places_of(node: &Node, text: &str) -> bool {
     let mut idx: usize = 0;
     let mut byte: usize = 0;
     for c in text.chars() {
@@ -61,17 +74,20 @@ fn check_places(rt: &impl Abort, node: &Node, text: &str) {
             places(node, idx, byte),
             places(node, idx, next.saturating_sub(1)),
         ];
-        assert!(rt; found == [(byte, idx); 2]);
+        if found != [(byte, idx); 2] {
+            return false;
+        }
         idx = idx.saturating_add(1);
         byte = next;
     }
-    assert!(rt; places(node, idx, byte) == (byte, idx));
+    places(node, idx, byte) == (byte, idx)
 }
 
-fn check_tree(rt: &impl Abort, alloc: Global, text: &str) -> Result<(), AllocError> {
-    let node = build(alloc, text, LineBreaks::Lf, &mut 0)?;
-    check_places(rt, &node, text);
-    Ok(())
+fn is_right_in_a_tree(alloc: Global, text: &str) -> bool {
+    match build(alloc, text, LineBreaks::Lf, &mut 0) {
+        Ok(node) => has_places_of(&node, text),
+        Err(_) => false,
+    }
 }
 
 /// The bytes of the first characters.
@@ -83,17 +99,28 @@ fn front_len(text: &str, chars: usize) -> usize {
     byte
 }
 
-/// The bytes of some characters of a leaf, from each place on.
-fn check_ranges(rt: &impl Abort, text: &str, len: usize) {
-    assert!(rt; text.len() <= 984);
-    let leaf = NodeText::from_str(text);
+/// Whether so many characters of a leaf have their bytes, from each place on.
+fn has_ranges(leaf: &NodeText, text: &str, len: usize) -> bool {
     let count = leaf.count_chars();
     for start in 0..count.saturating_add(2) {
         let end = start.saturating_add(len);
         let range = leaf.byte_range(start, end, count);
-        let expected = [front_len(text, start), front_len(text, end)];
-        assert!(rt; [range.from, range.to] == expected);
+        if [range.from, range.to] != [front_len(text, start), front_len(text, end)] {
+            return false;
+        }
     }
+    true
+}
+
+fn is_right_in_a_leaf(text: &str) -> bool {
+    if text.len() > 984 {
+        return false;
+    }
+    let leaf = NodeText::from_str(text);
+    has_ranges(&leaf, text, 0)
+        && has_ranges(&leaf, text, 1)
+        && has_ranges(&leaf, text, 5)
+        && has_ranges(&leaf, text, 68)
 }
 
 /// A text with so many bytes before it and behind it.
@@ -106,37 +133,60 @@ fn between(alloc: Global, text: &str, before: usize, behind: usize) -> Result<St
     Ok(whole)
 }
 
-fn check_pattern(rt: &impl Abort, alloc: Global, pattern: &str) -> Result<(), AllocError> {
-    check_text(rt, pattern);
-    for before in 0..67 {
-        let text = between(alloc, pattern, before, 70)?;
-        check_text(rt, text.as_str());
-        let text = between(alloc, pattern, 70, before)?;
-        check_text(rt, text.as_str());
+fn is_right_between(alloc: Global, text: &str, before: usize, behind: usize) -> bool {
+    match between(alloc, text, before, behind) {
+        Ok(whole) => has_places(whole.as_str()),
+        Err(_) => false,
     }
-    Ok(())
 }
 
-#[test]
-fn each_place_of_texts(rt: HostRuntime) -> Result<(), AllocError> {
-    for pattern in [
-        "",
-        "\n",
-        "\u{E9}",
-        "\u{3053}",
-        "\u{1F438}",
-        "a\u{E9}\u{3053}\u{1F438}",
-    ] {
-        for times in [1, 7, 17] {
-            let text = pattern.repeat(rt.alloc(), times)?;
-            check_pattern(&rt, rt.alloc(), text.as_str())?;
+/// Whether each place of a text is found, with letters before it and behind it.
+fn is_right_anywhere(alloc: Global, text: &str) -> bool {
+    for letters in 0..67 {
+        if !is_right_between(alloc, text, letters, 70)
+            || !is_right_between(alloc, text, 70, letters)
+        {
+            return false;
         }
     }
-    Ok(())
+    has_places(text)
+}
+
+fn is_right_repeated(alloc: Global, pattern: &str, times: usize) -> bool {
+    match pattern.repeat(alloc, times) {
+        Ok(text) => is_right_anywhere(alloc, text.as_str()),
+        Err(_) => false,
+    }
+}
+
+/// No character, one of each of one to four bytes, and four of them.
+const PATTERNS: [&str; 6] = [
+    "",
+    "\n",
+    "\u{E9}",
+    "\u{3053}",
+    "\u{1F438}",
+    "a\u{E9}\u{3053}\u{1F438}",
+];
+
+#[test]
+fn each_place_of_texts(rt: HostRuntime) {
+    for pattern in PATTERNS {
+        for times in [1, 7, 17] {
+            assert!(rt; is_right_repeated(rt.alloc(), pattern, times));
+        }
+    }
+}
+
+fn is_right_in_leaves(alloc: Global, pattern: &str) -> bool {
+    match pattern.repeat(alloc, 70) {
+        Ok(text) => is_right_in_a_tree(alloc, text.as_str()) && is_right_in_a_leaf(text.as_str()),
+        Err(_) => false,
+    }
 }
 
 #[test]
-fn each_place_of_leaves(rt: HostRuntime) -> Result<(), AllocError> {
+fn each_place_of_leaves(rt: HostRuntime) {
     for pattern in [
         "a",
         "\u{E9}",
@@ -144,11 +194,6 @@ fn each_place_of_leaves(rt: HostRuntime) -> Result<(), AllocError> {
         "\u{1F438}",
         "a\u{E9}\u{3053}\u{1F438}",
     ] {
-        let text = pattern.repeat(rt.alloc(), 70)?;
-        check_tree(&rt, rt.alloc(), text.as_str())?;
-        for len in [0, 1, 5, 68] {
-            check_ranges(&rt, text.as_str(), len);
-        }
+        assert!(rt; is_right_in_leaves(rt.alloc(), pattern));
     }
-    Ok(())
 }

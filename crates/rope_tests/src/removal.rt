@@ -5,7 +5,7 @@ use rope_tree::node::Node;
 use rope_tree::removal::remove_at;
 use std::alloc::{AllocError, Global};
 
-// Removes where the characters are there.
+/// Removes where the characters are there.
 fn remove(
     alloc: Global,
     root: &mut Node,
@@ -14,58 +14,101 @@ fn remove(
     made: &mut u64,
 ) -> Result<bool, AllocError> {
     if start < end && end <= root.info().chars {
-        return Ok(remove_at(alloc, root, start, end, made)?);
+        return remove_at(alloc, root, start, end, made);
     }
     Ok(false)
 }
 
-#[test]
-fn removes_in_place_or_by_copies(rt: HostRuntime) {
-    let text = "Hello!\r\n".repeat(rt.alloc(), 1000).expect(&rt, "memory");
+/// Whether a tree of the text is made, and becomes what it should.
+fn becomes<F: FnOnce(&mut Node) -> bool>(
+    alloc: Global,
+    text: &str,
+    breaks: LineBreaks,
+    is_right: F,
+) -> bool
+    requires { F.IsAlwaysCallable is_right }
+{
+    match build(alloc, text, breaks, &mut 0) {
+        Ok(mut root) => is_right(&mut root),
+        Err(_) => false,
+    }
+}
+
+/// The same of a text of a thousand lines, in 8,000 characters.
+fn becomes_of_lines<F: FnOnce(&mut Node) -> bool>(
+    alloc: Global,
+    breaks: LineBreaks,
+    is_right: F,
+) -> bool
+    requires { F.IsAlwaysCallable is_right }
+{
+    match "Hello!\r\n".repeat(alloc, 1000) {
+        Ok(text) => becomes(alloc, text.as_str(), breaks, is_right),
+        Err(_) => false,
+    }
+}
+
+fn removes_in_place(alloc: Global, root: &mut Node) -> bool {
     let mut made = 0;
-    let mut root = build(rt.alloc(), text.as_str(), LineBreaks::CrLf, &mut made).expect(
-        &rt, "memory",
-    );
-    made = 0;
-    assert!(rt; remove(rt.alloc(), &mut root, 4000, 4008, &mut made).expect(&rt, "memory"));
-    assert!(rt; made == 0);
-    assert!(rt; root.info().bytes == 7992);
-    assert!(rt; root.info().break_count == 999);
-    let other = root.share().expect(&rt, "memory");
-    assert!(rt; remove(rt.alloc(), &mut root, 4003, 4005, &mut made).expect(&rt, "memory"));
-    assert!(rt; made == 2);
-    assert!(rt; root.info().chars == 7990);
-    assert!(rt; other.info().chars == 7992);
+    remove(alloc, root, 4000, 4008, &mut made) == Ok(true)
+        && made == 0
+        && [root.info().bytes, root.info().break_count] == [7992, 999]
+}
+
+fn removes_by_copies(alloc: Global, root: &mut Node) -> bool {
+    let mut made = 0;
+    match root.share() {
+        Ok(other) => {
+            remove(alloc, root, 4003, 4005, &mut made) == Ok(true)
+                && made == 2
+                && [root.info().chars, other.info().chars] == [7990, 7992]
+        }
+        Err(_) => false,
+    }
 }
 
 #[test]
-fn removes_in_one_leaf_alone(rt: HostRuntime) {
-    let text = "Hello!\r\n".repeat(rt.alloc(), 1000).expect(&rt, "memory");
-    let mut made = 0;
-    let mut root = build(rt.alloc(), text.as_str(), LineBreaks::CrLf, &mut made).expect(
-        &rt, "memory",
+fn removes_in_place_or_by_copies(rt: HostRuntime) {
+    let alloc = rt.alloc();
+    assert!(rt;
+        becomes_of_lines(alloc, LineBreaks::CrLf, |root| {
+            removes_in_place(alloc, root) && removes_by_copies(alloc, root)
+        })
     );
-    assert!(rt; !remove(rt.alloc(), &mut root, 0, 2000, &mut made).expect(&rt, "memory"));
-    assert!(rt; root.info().chars == 8000);
-    let mut leaf = build(rt.alloc(), "Hello!", LineBreaks::Lf, &mut made).expect(&rt, "memory");
-    assert!(rt; !remove(rt.alloc(), &mut leaf, 0, 6, &mut made).expect(&rt, "memory"));
-    assert!(rt; remove(rt.alloc(), &mut leaf, 1, 6, &mut made).expect(&rt, "memory"));
-    assert!(rt; leaf.info().bytes == 1);
+}
+
+fn removes_in_no_two_leaves(alloc: Global, root: &mut Node) -> bool {
+    remove(alloc, root, 0, 2000, &mut 0) == Ok(false) && root.info().chars == 8000
+}
+
+fn removes_no_whole_leaf(alloc: Global, leaf: &mut Node) -> bool {
+    remove(alloc, leaf, 0, 6, &mut 0) == Ok(false)
+        && remove(alloc, leaf, 1, 6, &mut 0) == Ok(true)
+        && leaf.info().bytes == 1
 }
 
 // Leaves of 984 bytes: at a leaf's ends no LF may come first and no CR last; inside they may meet.
+fn bares_no_end(alloc: Global, root: &mut Node) -> bool {
+    remove(alloc, root, 983, 984, &mut 0) == Ok(false)
+        && remove(alloc, root, 984, 991, &mut 0) == Ok(false)
+        && remove(alloc, root, 982, 984, &mut 0) == Ok(true)
+        && root.info().break_count == 999
+        && remove(alloc, root, 7, 15, &mut 0) == Ok(true)
+        && [root.info().break_count, root.info().chars] == [998, 7990]
+}
+
 #[test]
-fn bares_no_end_of_a_leaf(rt: HostRuntime) {
-    let text = "Hello!\r\n".repeat(rt.alloc(), 1000).expect(&rt, "memory");
-    let mut made = 0;
-    let mut root = build(rt.alloc(), text.as_str(), LineBreaks::Unicode, &mut made).expect(
-        &rt, "memory",
+fn removes_in_one_leaf_alone_and_bares_no_end_of_it(rt: HostRuntime) {
+    let alloc = rt.alloc();
+    assert!(rt;
+        becomes_of_lines(alloc, LineBreaks::CrLf, |root| {
+            removes_in_no_two_leaves(alloc, root)
+        })
     );
-    assert!(rt; !remove(rt.alloc(), &mut root, 983, 984, &mut made).expect(&rt, "memory"));
-    assert!(rt; !remove(rt.alloc(), &mut root, 984, 991, &mut made).expect(&rt, "memory"));
-    assert!(rt; remove(rt.alloc(), &mut root, 982, 984, &mut made).expect(&rt, "memory"));
-    assert!(rt; root.info().break_count == 999);
-    assert!(rt; remove(rt.alloc(), &mut root, 7, 15, &mut made).expect(&rt, "memory"));
-    assert!(rt; root.info().break_count == 998);
-    assert!(rt; root.info().chars == 7990);
+    assert!(rt;
+        becomes(alloc, "Hello!", LineBreaks::Lf, |leaf| {
+            removes_no_whole_leaf(alloc, leaf)
+        })
+    );
+    assert!(rt; becomes_of_lines(alloc, LineBreaks::Unicode, |root| bares_no_end(alloc, root)));
 }

@@ -1,60 +1,50 @@
 //! Ropes of each set of line breaks, against rows that were worked by hand and plain lists of characters.
+use crate::lookups::have_lines;
+use crate::ropes::{becomes_by, holds_by, is_made};
 use rope_plain::compare::{compare, has_few_chunks};
 use rope_plain::numbers::Numbers;
 use rope_plain::places::compare_at;
 use rope_plain::texts::{BREAKS, chars_of, random_text};
 use ropey::{Error, LineBreaks, Rope};
 use std::alloc::Global;
-use std::process::Abort;
-use std::test::Fail;
 
-fn lines_of_five(rope: &Rope) -> [ropey::Result<usize>; 5] {
-    [
-        rope.try_char_to_line(0),
-        rope.try_char_to_line(1),
-        rope.try_char_to_line(8),
-        rope.try_char_to_line(9),
-        rope.try_char_to_line(37),
-    ]
+/// Each set of line breaks.
+const SETS: [LineBreaks; 3] = [LineBreaks::Lf, LineBreaks::CrLf, LineBreaks::Unicode];
+
+/// By each set of line breaks how many lines there are, and the lines of five characters.
+const LINES: [(LineBreaks, usize, [(usize, usize); 5]); 3] = [
+    (LineBreaks::Lf, 3, [(0, 0), (1, 1), (8, 2), (9, 2), (37, 2)]),
+    (
+        LineBreaks::CrLf,
+        4,
+        [(0, 0), (1, 1), (8, 2), (9, 3), (37, 3)],
+    ),
+    (
+        LineBreaks::Unicode,
+        9,
+        [(0, 0), (1, 1), (8, 2), (9, 3), (37, 8)],
+    ),
+];
+
+/// Whether a rope has this set of line breaks, so many lines, and characters on these.
+fn has_lines(rope: &Rope, breaks: LineBreaks, count: usize, places: &[(usize, usize)]) -> bool {
+    rope.line_breaks() == breaks && rope.len_lines() == count && have_lines(rope, places)
 }
 
-/// The lines of five characters by a set of line breaks, and how many lines there are.
-fn has_lines(
-    rt: &impl Abort,
-    alloc: Global,
-    breaks: LineBreaks,
-    count: usize,
-    lines: [ropey::Result<usize>; 5],
-) -> Result<(), Fail> {
-    let rope = Rope::from_str_with(alloc, BREAKS, breaks)?;
-    assert!(rt; rope.line_breaks() == breaks && rope.len_lines() == count);
-    assert!(rt; lines_of_five(&rope) == lines);
-    Ok(())
+fn have_lines_by_set(alloc: Global) -> bool {
+    for (breaks, count, places) in &LINES {
+        if !holds_by(alloc, BREAKS, *breaks, |rope| {
+            has_lines(rope, *breaks, *count, places)
+        }) {
+            return false;
+        }
+    }
+    true
 }
 
 #[test]
-fn lines_of_chars_by_set(rt: HostRuntime) -> Result<(), Fail> {
-    has_lines(
-        &rt,
-        rt.alloc(),
-        LineBreaks::Lf,
-        3,
-        [Ok(0), Ok(1), Ok(2), Ok(2), Ok(2)],
-    )?;
-    has_lines(
-        &rt,
-        rt.alloc(),
-        LineBreaks::CrLf,
-        4,
-        [Ok(0), Ok(1), Ok(2), Ok(3), Ok(3)],
-    )?;
-    has_lines(
-        &rt,
-        rt.alloc(),
-        LineBreaks::Unicode,
-        9,
-        [Ok(0), Ok(1), Ok(2), Ok(3), Ok(8)],
-    )
+fn lines_of_chars_by_set(rt: HostRuntime) {
+    assert!(rt; have_lines_by_set(rt.alloc()));
 }
 
 /// Whether the starts of all lines are these, and the end follows them.
@@ -68,91 +58,100 @@ fn starts_are(rope: &Rope, starts: &[usize]) -> bool {
     rope.try_line_to_char(starts.len()) == Err(past)
 }
 
-/// The starts of all lines by a set of line breaks are these.
-fn assert_starts(alloc: Global, breaks: LineBreaks, starts: &[usize]) -> Result<(), Fail> {
-    let rope = Rope::from_str_with(alloc, BREAKS, breaks)?;
-    if !starts_are(&rope, starts) {
-        return Err(Fail::from("a line starts elsewhere"));
-    }
-    Ok(())
+/// Whether the starts of all lines by a set of line breaks are these.
+fn has_starts(alloc: Global, breaks: LineBreaks, starts: &[usize]) -> bool {
+    holds_by(alloc, BREAKS, breaks, |rope| starts_are(rope, starts))
 }
 
 #[test]
-fn starts_of_lines_by_set(rt: HostRuntime) -> Result<(), Fail> {
-    assert_starts(rt.alloc(), LineBreaks::Lf, &[0, 1, 8, 37])?;
-    assert_starts(rt.alloc(), LineBreaks::CrLf, &[0, 1, 8, 9, 37])?;
-    assert_starts(
-        rt.alloc(),
-        LineBreaks::Unicode,
-        &[0, 1, 8, 9, 11, 13, 15, 23, 37, 37],
-    )
+fn starts_of_lines_by_set(rt: HostRuntime) {
+    let every = [0, 1, 8, 9, 11, 13, 15, 23, 37, 37];
+    assert!(rt; has_starts(rt.alloc(), LineBreaks::Lf, &[0, 1, 8, 37]));
+    assert!(rt; has_starts(rt.alloc(), LineBreaks::CrLf, &[0, 1, 8, 9, 37]));
+    assert!(rt; has_starts(rt.alloc(), LineBreaks::Unicode, &every));
 }
 
-fn compare_by_lf(alloc: Global, rope: &Rope, text: &str) -> Result<(), Fail> {
-    let plain = chars_of(alloc, text)?;
-    compare(rope, &plain, LineBreaks::Lf)?;
-    Ok(())
+/// Whether a rope of another set is refused at the end of this one.
+fn refuses_another_set(alloc: Global, rope: &mut Rope, text: &str) -> bool {
+    match Rope::from_str(alloc, text) {
+        Ok(other) => rope.append(other) == Err(Error::LineBreaksDiffer),
+        Err(_) => false,
+    }
 }
 
-/// A rope of another set is refused at the end of this one, which stays.
-fn refuse_another_set(
-    rt: &impl Abort,
-    alloc: Global,
-    rope: &mut Rope,
-    text: &str,
-) -> Result<(), Fail> {
-    let other = Rope::from_str(alloc, text)?;
-    assert!(rt; rope.append(other) == Err(Error::LineBreaksDiffer));
-    compare_by_lf(alloc, rope, text)
+fn has_text_by_lf(alloc: Global, rope: &Rope, text: &str) -> bool {
+    match chars_of(alloc, text) {
+        Ok(plain) => compare(rope, &plain, LineBreaks::Lf).is_ok(),
+        Err(_) => false,
+    }
+}
+
+/// Whether a rope of another set is refused, and this one stays.
+fn keeps_its_set(alloc: Global, text: &str) -> bool {
+    becomes_by(alloc, text, LineBreaks::Lf, |rope| {
+        refuses_another_set(alloc, rope, text) && has_text_by_lf(alloc, rope, text)
+    })
 }
 
 #[test]
-fn ropes_of_two_sets(rt: HostRuntime) -> Result<(), Fail> {
-    for text in ["", "a\r\n"] {
-        let mut rope = Rope::from_str_with(rt.alloc(), text, LineBreaks::Lf)?;
-        refuse_another_set(&rt, rt.alloc(), &mut rope, text)?;
-    }
-    Ok(())
+fn ropes_of_two_sets(rt: HostRuntime) {
+    assert!(rt; keeps_its_set(rt.alloc(), ""));
+    assert!(rt; keeps_its_set(rt.alloc(), "a\r\n"));
+}
+
+fn is_empty_by(alloc: Global, breaks: LineBreaks) -> bool {
+    is_made(Rope::new_with(alloc, breaks), |rope| {
+        compare(rope, &[], breaks).is_ok()
+    })
 }
 
 #[test]
-fn empty_ropes_by_set(rt: HostRuntime) -> Result<(), Fail> {
-    for breaks in [LineBreaks::Lf, LineBreaks::CrLf, LineBreaks::Unicode] {
-        compare(&Rope::new_with(rt.alloc(), breaks)?, &[], breaks)?;
+fn empty_ropes_by_set(rt: HostRuntime) {
+    for breaks in SETS {
+        assert!(rt; is_empty_by(rt.alloc(), breaks));
     }
-    Ok(())
 }
 
-/// The rope is compared in whole and at some places.
-fn compare_both(
-    rope: &Rope,
-    plain: &[char],
-    numbers: &mut Numbers,
-    breaks: LineBreaks,
-) -> Result<(), Fail> {
-    compare(rope, plain, breaks)?;
-    has_few_chunks(rope)?;
+/// Whether look-ups at some places of a rope answer as a plain list does.
+fn has_places(rope: &Rope, plain: &[char], numbers: &mut Numbers) -> bool {
     for _ in 0..20 {
-        compare_at(rope, plain, numbers.up_to(plain.len()))?;
-    }
-    Ok(())
-}
-
-/// A rope of a text of up to 4,000 bytes.
-fn make_and_compare(alloc: Global, numbers: &mut Numbers, breaks: LineBreaks) -> Result<(), Fail> {
-    let text = random_text(alloc, numbers, 4_000)?;
-    let plain = chars_of(alloc, text.as_str())?;
-    let rope = Rope::from_str_with(alloc, text.as_str(), breaks)?;
-    compare_both(&rope, &plain, numbers, breaks)
-}
-
-#[test]
-fn random_texts_by_set(rt: HostRuntime) -> Result<(), Fail> {
-    let mut numbers = Numbers::new(0x9E37_79B9_7F4A_7C15);
-    for _ in 0..50 {
-        for breaks in [LineBreaks::Lf, LineBreaks::CrLf, LineBreaks::Unicode] {
-            make_and_compare(rt.alloc(), &mut numbers, breaks)?;
+        if compare_at(rope, plain, numbers.up_to(plain.len())).is_err() {
+            return false;
         }
     }
-    Ok(())
+    true
+}
+
+/// Whether a rope is a plain list, in whole and at some places.
+fn is_plain(rope: &Rope, plain: &[char], numbers: &mut Numbers) -> bool {
+    compare(rope, plain, rope.line_breaks()).is_ok()
+        && has_few_chunks(rope).is_ok()
+        && has_places(rope, plain, numbers)
+}
+
+fn is_text_by(alloc: Global, text: &str, numbers: &mut Numbers, breaks: LineBreaks) -> bool {
+    match chars_of(alloc, text) {
+        Ok(plain) => holds_by(alloc, text, breaks, |rope| {
+            rope.line_breaks() == breaks && is_plain(rope, &plain, numbers)
+        }),
+        Err(_) => false,
+    }
+}
+
+/// Whether a rope of a text of up to 4,000 bytes is right.
+fn is_random_text(alloc: Global, numbers: &mut Numbers, breaks: LineBreaks) -> bool {
+    match random_text(alloc, numbers, 4_000) {
+        Ok(text) => is_text_by(alloc, text.as_str(), numbers, breaks),
+        Err(_) => false,
+    }
+}
+
+#[test]
+fn random_texts_by_set(rt: HostRuntime) {
+    let mut numbers = Numbers::new(0x9E37_79B9_7F4A_7C15);
+    for _ in 0..50 {
+        for breaks in SETS {
+            assert!(rt; is_random_text(rt.alloc(), &mut numbers, breaks));
+        }
+    }
 }

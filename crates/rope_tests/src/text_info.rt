@@ -5,7 +5,6 @@ use rope_text::str_utils::{
 };
 use rope_text::{LineBreaks, TextInfo};
 use std::alloc::{AllocError, Global};
-use std::process::Abort;
 
 /// What a pattern counts: its characters, its line breaks and its pairs of code units.
 #[derive(Clone, Copy)]
@@ -15,80 +14,98 @@ struct Counts {
     pairs: u8,
 }
 
-/// k letters, the pattern and one letter, and then more letters, so that the pattern comes to stand
-/// at each place of a block and across two.
-fn at_each_place(
-    rt: &impl Abort,
-    alloc: Global,
-    pattern: &str,
-    counts: Counts,
-) -> Result<(), AllocError> {
+impl Counts {
+    /// Whether a text counts so, of the pattern after k letters and before some more.
+    fn are_of(self, text: &str, k: u8, more: u8) -> bool {
+        let chars = usize::from(k) + usize::from(more) + usize::from(self.chars);
+        let pairs = usize::from(self.pairs);
+        let info = TextInfo {
+            bytes: text.len(),
+            chars,
+            utf16_surrogates: pairs,
+            break_count: self.break_count,
+        };
+        TextInfo::from_str(text, LineBreaks::Unicode) == info && count_utf16(text) == chars + pairs
+    }
+
+    /// Whether the letter after k letters and the pattern is found, by each of its indices.
+    fn place(self, text: &str, byte: usize, k: u8) -> bool {
+        let idx = usize::from(k) + usize::from(self.chars);
+        let pairs = usize::from(self.pairs);
+        let unit = idx + pairs;
+        let found = [
+            char_to_byte_idx(text, idx),
+            byte_to_char_idx(text, byte),
+            char_to_utf16_idx(text, idx),
+            utf16_to_char_idx(text, unit),
+            byte_to_surrogates(text, byte),
+            char_to_line_idx(text, idx),
+        ];
+        found == [byte, idx, unit, idx, pairs, self.break_count]
+            && (self.break_count == 0 || line_to_byte_idx(text, self.break_count) == byte)
+    }
+}
+
+/// k letters, the pattern and one letter, and then so many more.
+fn text_of(alloc: Global, k: u8, pattern: &str, more: usize) -> Result<String, AllocError> {
+    let mut text = "a".repeat(alloc, usize::from(k))?;
+    text.push_str(pattern)?;
+    text.push('b')?;
+    for _ in 0..more {
+        text.push('c')?;
+    }
+    Ok(text)
+}
+
+fn is_counted(alloc: Global, pattern: &str, k: u8, counts: Counts) -> bool {
+    match text_of(alloc, k, pattern, 0) {
+        Ok(text) => counts.are_of(text.as_str(), k, 1),
+        Err(_) => false,
+    }
+}
+
+fn is_counted_and_placed(alloc: Global, pattern: &str, k: u8, counts: Counts) -> bool {
+    let byte = usize::from(k).saturating_add(pattern.len());
+    match text_of(alloc, k, pattern, 40) {
+        Ok(text) => { counts.are_of(text.as_str(), k, 41) && counts.place(text.as_str(), byte, k) }
+        Err(_) => false,
+    }
+}
+
+/// Whether the pattern is counted where it comes to stand at each place of a block and across two.
+fn is_counted_at_each_place(alloc: Global, pattern: &str, counts: Counts) -> bool {
     for k in 0..131u8 {
-        let mut text = String::new(alloc);
-        for _ in 0..k {
-            text.push('a')?;
+        if !is_counted(alloc, pattern, k, counts)
+            || !is_counted_and_placed(alloc, pattern, k, counts)
+        {
+            return false;
         }
-        text.push_str(pattern)?;
-        let byte = text.len();
-        text.push('b')?;
-        check_counts(rt, text.as_str(), k, 1, counts);
-        for _ in 0..40 {
-            text.push('c')?;
-        }
-        check_counts(rt, text.as_str(), k, 41, counts);
-        check_places(rt, text.as_str(), byte, k, counts);
     }
-    Ok(())
+    true
 }
 
-/// The pattern after k letters and before some more.
-fn check_counts(rt: &impl Abort, text: &str, k: u8, more: u8, counts: Counts) {
-    let chars = usize::from(k) + usize::from(more) + usize::from(counts.chars);
-    let pairs = usize::from(counts.pairs);
-    let info = TextInfo::from_str(text, LineBreaks::Unicode);
-    assert!(rt; info.bytes == text.len());
-    assert!(rt; info.chars == chars);
-    assert!(rt; info.utf16_surrogates == pairs);
-    assert!(rt; info.break_count == counts.break_count);
-    assert!(rt; count_utf16(text) == chars + pairs);
-}
-
-/// The letter after k letters and the pattern, by each of its indices.
-fn check_places(rt: &impl Abort, text: &str, byte: usize, k: u8, counts: Counts) {
-    let idx = usize::from(k) + usize::from(counts.chars);
-    let pairs = usize::from(counts.pairs);
-    let unit = idx + pairs;
-    assert!(rt; char_to_byte_idx(text, idx) == byte);
-    assert!(rt; byte_to_char_idx(text, byte) == idx);
-    assert!(rt; char_to_utf16_idx(text, idx) == unit);
-    assert!(rt; utf16_to_char_idx(text, unit) == idx);
-    assert!(rt; byte_to_surrogates(text, byte) == pairs);
-    assert!(rt; char_to_line_idx(text, idx) == counts.break_count);
-    if counts.break_count > 0 {
-        assert!(rt; line_to_byte_idx(text, counts.break_count) == byte);
-    }
-}
+/// Patterns, and their characters, line breaks and pairs of code units.
+const PATTERNS: [(&str, u8, usize, u8); 8] = [
+    ("\n", 1, 1, 0),
+    ("\r\n", 2, 1, 0),
+    ("\n\r", 2, 2, 0),
+    ("\u{85}", 1, 1, 0),
+    ("\u{2028}", 1, 1, 0),
+    ("\u{C5}", 1, 0, 0),
+    ("\u{5028}", 1, 0, 0),
+    ("\u{10028}", 1, 0, 1),
+];
 
 #[test]
-fn patterns_at_each_place(rt: HostRuntime) -> Result<(), AllocError> {
-    for (pattern, chars, break_count, pairs) in [
-        ("\n", 1, 1, 0),
-        ("\r\n", 2, 1, 0),
-        ("\n\r", 2, 2, 0),
-        ("\u{85}", 1, 1, 0),
-        ("\u{2028}", 1, 1, 0),
-        ("\u{C5}", 1, 0, 0),
-        ("\u{5028}", 1, 0, 0),
-        ("\u{10028}", 1, 0, 1),
-    ] {
+fn patterns_at_each_place(rt: HostRuntime) {
+    for (pattern, chars, break_count, pairs) in PATTERNS {
         let counts = Counts {
             chars,
             break_count,
             pairs,
         };
-        at_each_place(&rt, rt.alloc(), pattern, counts)?;
+        assert!(rt; is_counted_at_each_place(rt.alloc(), pattern, counts));
     }
-    Ok(())
 }
 
 #[test]
@@ -101,9 +118,12 @@ fn sums(rt: HostRuntime) {
     };
     let back = TextInfo::from_str("こ\u{10028}\n", LineBreaks::CrLf);
     let whole = TextInfo::from_str("a\r\nこ\u{10028}\n", LineBreaks::CrLf);
-    assert!(rt; TextInfo::from_str("a\r\n", LineBreaks::CrLf) == front);
-    assert!(rt; (whole.bytes, whole.chars, whole.break_count) == (11, 6, 2));
-    assert!(rt; (back.bytes, back.chars, back.utf16_surrogates) == (8, 3, 1));
-    assert!(rt; front.plus(front).minus(front) == front);
+    let infos = [
+        TextInfo::from_str("a\r\n", LineBreaks::CrLf),
+        front.plus(front).minus(front),
+    ];
+    assert!(rt; infos == [front; 2]);
+    assert!(rt; [whole.bytes, whole.chars, whole.break_count] == [11, 6, 2]);
+    assert!(rt; [back.bytes, back.chars, back.utf16_surrogates] == [8, 3, 1]);
     assert!(rt; TextInfo::new() == TextInfo::from_str("", LineBreaks::Lf));
 }

@@ -1,146 +1,158 @@
 //! Texts copied, shown and lent by ropes and slices.
-use rope_plain::given::given;
+use crate::ropes::holds;
 use rope_plain::texts::repeated;
-use ropey::{CowStr, Rope, RopeBuilder};
-use std::alloc::Global;
-use std::process::Abort;
+use ropey::{CowStr, Result, Rope, RopeBuilder, RopeSlice};
+use std::alloc::{AllocError, Global};
 use std::test::Fail;
 
-/// The text of a rope or slice, if it is lent.
-fn lent<'a>(cow: &CowStr<'a>) -> Option<&'a str> {
-    match cow {
-        CowStr::Borrowed(text) => Some(*text),
-        CowStr::Owned(_) => None,
+/// Whether this text of a rope or slice was lent.
+fn lends(lent: Result<CowStr<'_>>, text: &str) -> bool {
+    match lent {
+        Ok(CowStr::Borrowed(lent)) => lent == text,
+        Ok(CowStr::Owned(_)) | Err(_) => false,
     }
 }
 
-/// Whether the text is a copy of this one.
-fn is_copy(cow: &CowStr<'_>, text: &str) -> bool {
-    match cow {
-        CowStr::Owned(copy) => copy.as_str() == text,
-        CowStr::Borrowed(_) => false,
+/// Whether this text of a rope or slice was copied, where it might have been lent.
+fn copies(copied: Result<CowStr<'_>>, text: &str) -> bool {
+    match copied {
+        Ok(CowStr::Owned(copy)) => copy.as_str() == text,
+        Ok(CowStr::Borrowed(_)) | Err(_) => false,
     }
 }
 
-fn lend_one_chunk(rt: &impl Abort, alloc: Global, rope: &Rope) -> Result<(), Fail> {
-    let slice = given(rope.get_slice(1..))?;
-    assert!(rt; lent(&rope.try_to_cow(alloc)?) == Some("Hello!"));
-    assert!(rt; lent(&slice.try_to_cow(alloc)?) == Some("ello!"));
-    Ok(())
+/// Whether this text was copied.
+fn is_text(copied: Result<String>, text: &str) -> bool {
+    match copied {
+        Ok(copy) => copy.as_str() == text,
+        Err(_) => false,
+    }
 }
 
-fn lend_no_chunk(rt: &impl Abort, alloc: Global) -> Result<(), Fail> {
-    let rope = Rope::new(alloc)?;
-    assert!(rt; lent(&rope.try_to_cow(alloc)?) == Some(""));
-    Ok(())
+/// Whether this text was shown.
+fn shows(shown: std::result::Result<String, AllocError>, text: &str) -> bool {
+    match shown {
+        Ok(shown) => shown.as_str() == text,
+        Err(_) => false,
+    }
 }
 
-/// The text that a clone of the rope gives away.
-fn give_away(rt: &impl Abort, rope: &Rope) -> Result<(), Fail> {
-    assert!(rt; is_copy(&rope.clone()?.try_into_cow()?, "Hello!"));
-    Ok(())
+fn lends_a_part(alloc: Global, slice: Option<RopeSlice<'_>>) -> bool {
+    match slice {
+        Some(slice) => lends(slice.try_to_cow(alloc), "ello!"),
+        None => false,
+    }
 }
 
-fn copy_one_chunk(rt: &impl Abort, alloc: Global, rope: &Rope) -> Result<(), Fail> {
-    assert!(rt; rope.try_to_string(alloc)?.as_str() == "Hello!");
-    Ok(())
+/// Whether a clone of the rope gives its text away.
+fn gives_away(rope: &Rope) -> bool {
+    match rope.clone() {
+        Ok(clone) => copies(clone.try_into_cow(), "Hello!"),
+        Err(_) => false,
+    }
 }
 
-/// The rope gives its text away.
-fn gives_text(rt: &impl Abort, rope: Rope, text: &str) -> Result<(), Fail> {
-    assert!(rt; rope.try_into_string()?.as_str() == text);
-    Ok(())
+fn lends_one_chunk(alloc: Global, rope: &Rope) -> bool {
+    lends(rope.try_to_cow(alloc), "Hello!")
+        && lends_a_part(alloc, rope.get_slice(1..))
+        && is_text(rope.try_to_string(alloc), "Hello!")
+        && gives_away(rope)
 }
 
 #[test]
-fn of_one_chunk(rt: HostRuntime) -> Result<(), Fail> {
-    lend_no_chunk(&rt, rt.alloc())?;
+fn of_no_chunk_and_of_one(rt: HostRuntime) -> std::result::Result<(), Fail> {
+    let empty = Rope::new(rt.alloc())?;
+    assert!(rt; lends(empty.try_to_cow(rt.alloc()), ""));
     let rope = Rope::from_str(rt.alloc(), "Hello!")?;
-    lend_one_chunk(&rt, rt.alloc(), &rope)?;
-    copy_one_chunk(&rt, rt.alloc(), &rope)?;
-    give_away(&rt, &rope)?;
-    gives_text(&rt, rope, "Hello!")
-}
-
-fn copy_to_cows(rt: &impl Abort, alloc: Global, rope: &Rope, text: &str) -> Result<(), Fail> {
-    assert!(rt; is_copy(&rope.try_to_cow(alloc)?, text));
-    assert!(rt; is_copy(&rope.slice(..).try_to_cow(alloc)?, text));
+    assert!(rt; lends_one_chunk(rt.alloc(), &rope));
+    assert!(rt; is_text(rope.try_into_string(), "Hello!"));
     Ok(())
 }
 
-fn copy_to_strings(rt: &impl Abort, alloc: Global, rope: &Rope, text: &str) -> Result<(), Fail> {
-    assert!(rt; rope.slice(..).try_to_string(alloc)?.as_str() == text);
-    assert!(rt; format!(in alloc; "{rope}")?.as_str() == text);
-    Ok(())
+/// Whether a rope of several chunks is copied in each way.
+fn copies_chunks(alloc: Global, rope: &Rope, text: &str) -> bool {
+    copies(rope.try_to_cow(alloc), text)
+        && copies(rope.slice(..).try_to_cow(alloc), text)
+        && is_text(rope.slice(..).try_to_string(alloc), text)
+        && shows(format!(in alloc; "{rope}"), text)
 }
 
-fn copy_two_chunks(rt: &impl Abort, alloc: Global, text: &str) -> Result<(), Fail> {
-    let rope = Rope::from_str(alloc, text)?;
-    copy_to_cows(rt, alloc, &rope, text)?;
-    copy_to_strings(rt, alloc, &rope, text)?;
-    gives_text(rt, rope, text)
+fn copies_two_chunks(alloc: Global, text: &str) -> bool {
+    match Rope::from_str(alloc, text) {
+        Ok(rope) => { copies_chunks(alloc, &rope, text) && is_text(rope.try_into_string(), text) }
+        Err(_) => false,
+    }
 }
 
 #[test]
-fn of_two_chunks(rt: HostRuntime) -> Result<(), Fail> {
+fn of_two_chunks(rt: HostRuntime) -> std::result::Result<(), Fail> {
     let text = repeated(rt.alloc(), "a", 985)?;
-    copy_two_chunks(&rt, rt.alloc(), text.as_str())
-}
-
-fn show_padded(rt: &impl Abort, alloc: Global, rope: &Rope) -> Result<(), Fail> {
-    assert!(rt; format!(in alloc; "{rope:>10}")?.as_str() == "ab");
-    assert!(rt; format!(in alloc; "{:.1}", rope.slice(..))?.as_str() == "ab");
+    assert!(rt; copies_two_chunks(rt.alloc(), text.as_str()));
     Ok(())
 }
 
-fn show_chunks(rt: &impl Abort, alloc: Global, rope: &Rope) -> Result<(), Fail> {
-    let slice = given(rope.get_slice(2..))?;
-    assert!(rt; format!(in alloc; "{rope:?}")?.as_str() == "[\"ab\"]");
-    assert!(rt; format!(in alloc; "{slice:?}")?.as_str() == "[]");
-    Ok(())
+fn shows_no_chunks(alloc: Global, slice: Option<RopeSlice<'_>>) -> bool {
+    match slice {
+        Some(slice) => shows(format!(in alloc; "{slice:?}"), "[]"),
+        None => false,
+    }
+}
+
+/// Whether a rope is shown without padding, and its chunks one by one.
+fn is_shown(alloc: Global, rope: &Rope) -> bool {
+    shows(format!(in alloc; "{rope:>10}"), "ab")
+        && shows(format!(in alloc; "{:.1}", rope.slice(..)), "ab")
+        && shows(format!(in alloc; "{rope:?}"), "[\"ab\"]")
+        && shows_no_chunks(alloc, rope.get_slice(2..))
 }
 
 #[test]
-fn shown(rt: HostRuntime) -> Result<(), Fail> {
-    let rope = Rope::from_str(rt.alloc(), "ab")?;
-    show_padded(&rt, rt.alloc(), &rope)?;
-    show_chunks(&rt, rt.alloc(), &rope)
+fn shown(rt: HostRuntime) {
+    let alloc = rt.alloc();
+    assert!(rt; holds(alloc, "ab", |rope| is_shown(alloc, rope)));
 }
 
-fn show_builder(rt: &impl Abort, alloc: Global, builder: &mut RopeBuilder) -> Result<(), Fail> {
-    builder.append("abc")?;
-    let shown = format!(in alloc; "{builder:?}")?;
-    assert!(rt; shown.as_str() == "RopeBuilder { len_bytes: 3, failed: None }");
-    Ok(())
+fn is_builder_shown(alloc: Global, builder: &mut RopeBuilder) -> bool {
+    builder.append("abc").is_ok()
+        && shows(
+            format!(in alloc; "{builder:?}"),
+            "RopeBuilder { len_bytes: 3, failed: None }",
+        )
 }
 
 #[test]
-fn shown_builder(rt: HostRuntime) -> Result<(), Fail> {
+fn shown_builder(rt: HostRuntime) -> std::result::Result<(), Fail> {
     let mut builder = RopeBuilder::new(rt.alloc())?;
-    show_builder(&rt, rt.alloc(), &mut builder)
-}
-
-fn show_chars_and_bytes(rt: &impl Abort, alloc: Global, rope: &Rope) -> Result<(), Fail> {
-    let chars = format!(in alloc; "{:?}", rope.chars())?;
-    assert!(rt; chars.as_str() == "Chars { passed: 0, total: 3, is_backward: false }");
-    let bytes = format!(in alloc; "{:?}", rope.bytes())?;
-    assert!(rt; bytes.as_str() == "Bytes { before: 0, at: 0, total: 4, is_backward: false }");
+    assert!(rt; is_builder_shown(rt.alloc(), &mut builder));
     Ok(())
 }
 
-fn show_lines_and_chunks(rt: &impl Abort, alloc: Global, rope: &Rope) -> Result<(), Fail> {
-    let lines = format!(in alloc; "{:?}", rope.lines().reversed())?;
-    assert!(rt; lines.as_str() == "Lines { line: 0, total: 2, is_backward: true }");
-    let chunks = format!(in alloc; "{:?}", rope.chunks())?;
-    assert!(rt;
-        chunks.as_str() == "Chunks { is_empty: false, is_past: false, is_backward: false }"
-    );
-    Ok(())
+fn shows_chars_and_bytes(alloc: Global, rope: &Rope) -> bool {
+    shows(
+        format!(in alloc; "{:?}", rope.chars()),
+        "Chars { passed: 0, total: 3, is_backward: false }",
+    ) && shows(
+        format!(in alloc; "{:?}", rope.bytes()),
+        "Bytes { before: 0, at: 0, total: 4, is_backward: false }",
+    )
+}
+
+fn shows_lines_and_chunks(alloc: Global, rope: &Rope) -> bool {
+    shows(
+        format!(in alloc; "{:?}", rope.lines().reversed()),
+        "Lines { line: 0, total: 2, is_backward: true }",
+    ) && shows(
+        format!(in alloc; "{:?}", rope.chunks()),
+        "Chunks { is_empty: false, is_past: false, is_backward: false }",
+    )
+}
+
+fn shows_cursors(alloc: Global, rope: &Rope) -> bool {
+    shows_chars_and_bytes(alloc, rope) && shows_lines_and_chunks(alloc, rope)
 }
 
 #[test]
-fn shown_cursors(rt: HostRuntime) -> Result<(), Fail> {
-    let rope = Rope::from_str(rt.alloc(), "é\nb")?;
-    show_chars_and_bytes(&rt, rt.alloc(), &rope)?;
-    show_lines_and_chunks(&rt, rt.alloc(), &rope)
+fn shown_cursors(rt: HostRuntime) {
+    let alloc = rt.alloc();
+    assert!(rt; holds(alloc, "é\nb", |rope| shows_cursors(alloc, rope)));
 }

@@ -2,26 +2,47 @@
 use rope_text::LineBreaks;
 use rope_tree::builder::Builder;
 
+const PIECES: [&str; 5] = ["a\r", "\nbä", "", "日本", "𝄞"];
+
+/// Appends the pieces once; not where there is no memory, or as many bytes as all of them have.
+fn appends(builder: &mut Builder) -> bool {
+    for piece in &PIECES {
+        if builder.len_bytes() >= 16_000 || builder.append(piece).is_err() {
+            return false;
+        }
+    }
+    true
+}
+
+fn appends_all(builder: &mut Builder) -> bool {
+    for _ in 0..1000 {
+        if !appends(builder) {
+            return false;
+        }
+    }
+    true
+}
+
+/// Whether the builder ends in a tree of this height, with so many bytes and line breaks.
+fn ends_in(builder: Builder, height: usize, bytes: usize, break_count: usize) -> bool {
+    match builder.finish(&mut 0) {
+        Ok(node) => {
+            let info = node.info();
+            [node.height(), info.bytes, info.break_count] == [height, bytes, break_count]
+        }
+        Err(_) => false,
+    }
+}
+
 #[test]
 fn pieces(rt: HostRuntime) {
     let mut builder = Builder::new(rt.alloc(), LineBreaks::Unicode);
-    for _ in 0..1000 {
-        for piece in ["a\r", "\nbä", "", "日本", "𝄞"] {
-            assert!(rt; builder.len_bytes() < 16_000);
-            builder.append(piece).expect(&rt, "memory");
-        }
-    }
-    let node = builder.finish(&mut 0).expect(&rt, "memory");
-    assert!(rt; node.info().bytes == 16_000);
-    assert!(rt; node.info().break_count == 1000);
-    assert!(rt; node.height() == 1);
+    assert!(rt; appends_all(&mut builder));
+    assert!(rt; ends_in(builder, 1, 16_000, 1000));
 }
 
 #[test]
 fn nothing(rt: HostRuntime) {
-    let node = Builder::new(rt.alloc(), LineBreaks::Unicode)
-        .finish(&mut 0)
-        .expect(&rt, "memory");
-    assert!(rt; node.height() == 0);
-    assert!(rt; node.info().bytes == 0);
+    let builder = Builder::new(rt.alloc(), LineBreaks::Unicode);
+    assert!(rt; ends_in(builder, 0, 0, 0));
 }
