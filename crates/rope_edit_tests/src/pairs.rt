@@ -44,11 +44,34 @@ fn are_clones_edited(whole: &Rope, all: &[char]) -> bool {
         && compare_unicode(whole, plain).is_ok()
 }
 
+/// Adds a text so many times, and then another.
+fn add_both(
+    text: &mut String,
+    first: &str,
+    count: usize,
+    second: &str,
+    more: usize,
+) -> Result<(), AllocError> {
+    add_letters(text, first, count)?;
+    add_letters(text, second, more)
+}
+
+/// A text so many times, and then another.
+fn text_of(
+    alloc: Global,
+    first: &str,
+    count: usize,
+    second: &str,
+    more: usize,
+) -> Result<String, AllocError> {
+    let mut text = String::new(alloc);
+    add_both(&mut text, first, count, second, more)?;
+    Ok(text)
+}
+
 /// A CR, and 2,000 times an LF and a CR.
 fn cr_and_pairs(alloc: Global) -> Result<Vec<char>, AllocError> {
-    let mut text = String::new(alloc);
-    text.push_str("\r")?;
-    add_letters(&mut text, "\n\r", 2_000)?;
+    let text = text_of(alloc, "\r", 1, "\n\r", 2_000)?;
     chars_of(alloc, text.as_str())
 }
 
@@ -62,19 +85,6 @@ fn a_break_at_the_start_of_pairs(rt: HostRuntime) -> Result<(), Fail> {
 
 /// How many edits are done between two comparisons of the whole text.
 const BETWEEN: usize = 40;
-
-/// A text so many times, and then another.
-fn text_of(
-    alloc: Global,
-    first: &str,
-    count: usize,
-    second: &str,
-    more: usize,
-) -> Result<String, AllocError> {
-    let mut text = repeated(alloc, first, count)?;
-    add_letters(&mut text, second, more)?;
-    Ok(text)
-}
 
 fn is_text_of(
     alloc: Global,
