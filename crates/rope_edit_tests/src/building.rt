@@ -1,70 +1,89 @@
 //! Ropes that a builder makes of one character after the other.
-use crate::words::{BREAKS, LONGEST, SHORTEST, WIDE, around, words};
+use crate::words::{LENGTHS, OF_BREAKS, OF_WIDE, SHORTEST, Words, around};
 use rope_plain::compare::{compare, has_few_chunks};
 use rope_plain::texts::chars_of;
 use ropey::{LineBreaks, Rope, RopeBuilder};
 use std::alloc::Global;
-use std::test::Fail;
 
-fn append_all(builder: &mut RopeBuilder, plain: &[char]) -> Result<(), Fail> {
+/// Whether a builder takes each of these characters.
+fn takes_all(builder: &mut RopeBuilder, plain: &[char]) -> bool {
     let mut bytes = [0; 4];
     for c in plain {
-        builder.append(c.encode_utf8(&mut bytes))?;
+        if builder.append(c.encode_utf8(&mut bytes)).is_err() {
+            return false;
+        }
     }
-    Ok(())
+    true
 }
 
-fn compare_few(rope: &Rope, plain: &[char], breaks: LineBreaks) -> Result<(), Fail> {
-    compare(rope, plain, breaks)?;
-    has_few_chunks(rope)?;
-    Ok(())
+fn is_right(rope: &Rope, plain: &[char], breaks: LineBreaks) -> bool {
+    compare(rope, plain, breaks).is_ok() && has_few_chunks(rope).is_ok()
 }
 
-/// A rope of these characters, passed in one by one.
-fn build(alloc: Global, plain: &[char], breaks: LineBreaks) -> Result<(), Fail> {
-    let mut builder = RopeBuilder::new_with(alloc, breaks)?;
-    append_all(&mut builder, plain)?;
-    let rope = builder.finish()?;
-    compare_few(&rope, plain, breaks)
+/// Whether a builder that these characters are passed to one by one makes a rope of them.
+fn is_made(mut builder: RopeBuilder, plain: &[char], breaks: LineBreaks) -> bool {
+    let is_taken = takes_all(&mut builder, plain);
+    match builder.finish() {
+        Ok(rope) => is_taken && is_right(&rope, plain, breaks),
+        Err(_) => false,
+    }
 }
 
-/// A rope of a text in which such a word stands behind so many letters.
-fn build_word(alloc: Global, before: usize, word: &str, breaks: LineBreaks) -> Result<(), Fail> {
-    let text = around(alloc, before, word)?;
-    let plain = chars_of(alloc, text.as_str())?;
-    build(alloc, &plain, breaks)
+fn is_built(alloc: Global, plain: &[char], breaks: LineBreaks) -> bool {
+    match RopeBuilder::new_with(alloc, breaks) {
+        Ok(builder) => is_made(builder, plain, breaks),
+        Err(_) => false,
+    }
 }
 
-/// Ropes of each text with such a word where a leaf is cut.
-fn build_words(
+fn is_text_built(alloc: Global, text: &str, breaks: LineBreaks) -> bool {
+    match chars_of(alloc, text) {
+        Ok(plain) => is_built(alloc, &plain, breaks),
+        Err(_) => false,
+    }
+}
+
+/// Whether a rope is built of a text in which a word stands behind so many letters.
+fn is_word_built(
     alloc: Global,
+    before: usize,
     letters: &[&str],
-    count: usize,
+    number: usize,
     breaks: LineBreaks,
-) -> Result<(), Fail> {
-    let all = words(alloc, letters, count)?;
-    for before in SHORTEST..=LONGEST {
-        for word in &all {
-            build_word(alloc, before, word.as_str(), breaks)?;
+) -> bool {
+    match around(alloc, before, letters, number) {
+        Ok(text) => is_text_built(alloc, text.as_str(), breaks),
+        Err(_) => false,
+    }
+}
+
+fn are_built_behind(alloc: Global, before: usize, words: Words<'_>, breaks: LineBreaks) -> bool {
+    for number in 0..words.count {
+        if !is_word_built(alloc, before, words.letters, number, breaks) {
+            return false;
         }
     }
-    Ok(())
+    true
+}
+
+/// Whether ropes are built of each text with such a word where a leaf is cut.
+fn are_built(alloc: Global, words: Words<'_>, breaks: LineBreaks) -> bool {
+    for more in 0..LENGTHS {
+        if !are_built_behind(alloc, SHORTEST + more, words, breaks) {
+            return false;
+        }
+    }
+    true
 }
 
 #[test]
-fn breaks_one_by_one(rt: HostRuntime) -> Result<(), Fail> {
-    for breaks in [LineBreaks::Lf, LineBreaks::CrLf, LineBreaks::Unicode] {
-        for count in 0..=4usize {
-            build_words(rt.alloc(), &BREAKS, count, breaks)?;
-        }
-    }
-    Ok(())
+fn breaks_one_by_one(rt: HostRuntime) {
+    assert!(rt; are_built(rt.alloc(), OF_BREAKS, LineBreaks::Lf));
+    assert!(rt; are_built(rt.alloc(), OF_BREAKS, LineBreaks::CrLf));
+    assert!(rt; are_built(rt.alloc(), OF_BREAKS, LineBreaks::Unicode));
 }
 
 #[test]
-fn wide_characters_one_by_one(rt: HostRuntime) -> Result<(), Fail> {
-    for count in 0..=2usize {
-        build_words(rt.alloc(), &WIDE, count, LineBreaks::Unicode)?;
-    }
-    Ok(())
+fn wide_characters_one_by_one(rt: HostRuntime) {
+    assert!(rt; are_built(rt.alloc(), OF_WIDE, LineBreaks::Unicode));
 }

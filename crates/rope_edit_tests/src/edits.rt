@@ -1,110 +1,104 @@
-//! Ropes that are edited, against rows that were worked by hand.
-use rope_plain::compare::{compare_unicode, lens, lie_together};
-use rope_plain::texts::{chars_of, repeated};
-use ropey::{Error, Rope};
+//! Ropes that texts are put into, against rows that were worked by hand.
+use crate::texts::rope_of;
+use rope_plain::compare::{lens, lie_together};
+use ropey::Rope;
 use std::alloc::Global;
-use std::process::Abort;
-use std::test::Fail;
 
-/// A rope of so many times a text.
-fn rope_of(alloc: Global, text: &str, count: usize) -> Result<Rope, Fail> {
-    let text = repeated(alloc, text, count)?;
-    Ok(Rope::from_str(alloc, text.as_str())?)
+/// A text so many times, what is put into it, and how it is then.
+#[derive(Clone, Copy)]
+struct Row<'a> {
+    text: &'a str,
+    count: usize,
+    inserts: &'a [(usize, &'a str)],
+    lens: [usize; 4],
+    /// Of how many chunks it is at least, and at most.
+    least: usize,
+    most: usize,
+    /// A character that lies in one chunk with the one behind it.
+    first: usize,
 }
 
-fn insert_a_pair(rt: &impl Abort, rope: &mut Rope) -> Result<(), Fail> {
-    rope.try_insert(984, "\r")?;
-    rope.try_insert(985, "\n")?;
-    let is_together = rope.chunks().count() >= 2 && lie_together(rope, 984);
-    assert!(rt; lens(rope) == [986, 986, 2, 986] && is_together);
-    Ok(())
-}
+const ROWS: [Row<'static>; 5] = [
+    // A pair behind a full leaf.
+    Row {
+        text: "a",
+        count: 984,
+        inserts: &[(984, "\r"), (985, "\n")],
+        lens: [986, 986, 2, 986],
+        least: 2,
+        most: 986,
+        first: 984,
+    },
+    // A full leaf that is cut between letters.
+    Row {
+        text: "a",
+        count: 984,
+        inserts: &[(492, "\r\n")],
+        lens: [986, 986, 2, 986],
+        least: 2,
+        most: 2,
+        first: 492,
+    },
+    // A break that is put in makes a pair with the one behind it, or before it.
+    Row {
+        text: "\n",
+        count: 1_967,
+        inserts: &[(983, "\r")],
+        lens: [1_968, 1_968, 1_968, 1_968],
+        least: 2,
+        most: 1_968,
+        first: 983,
+    },
+    Row {
+        text: "\r",
+        count: 1_967,
+        inserts: &[(984, "\n")],
+        lens: [1_968, 1_968, 1_968, 1_968],
+        least: 2,
+        most: 1_968,
+        first: 983,
+    },
+    // A pair that is parted, before others.
+    Row {
+        text: "\r\n",
+        count: 492,
+        inserts: &[(1, "x")],
+        lens: [985, 985, 494, 985],
+        least: 2,
+        most: 985,
+        first: 3,
+    },
+];
 
-#[test]
-fn a_pair_at_a_full_leaf(rt: HostRuntime) -> Result<(), Fail> {
-    let mut rope = rope_of(rt.alloc(), "a", 984)?;
-    insert_a_pair(&rt, &mut rope)
-}
-
-fn cut_between_letters(rt: &impl Abort, rope: &mut Rope) -> Result<(), Fail> {
-    rope.try_insert(492, "\r\n")?;
-    let is_cut = rope.chunks().count() == 2 && lie_together(rope, 492);
-    assert!(rt; lens(rope) == [986, 986, 2, 986] && is_cut);
-    Ok(())
-}
-
-#[test]
-fn a_full_leaf_that_is_cut(rt: HostRuntime) -> Result<(), Fail> {
-    let mut rope = rope_of(rt.alloc(), "a", 984)?;
-    cut_between_letters(&rt, &mut rope)
-}
-
-/// The break that is put in makes a pair with the one before it or behind it.
-fn pair_up(rt: &impl Abort, rope: &mut Rope, char_idx: usize, more: &str) -> Result<(), Fail> {
-    rope.try_insert(char_idx, more)?;
-    assert!(rt; lens(rope) == [1_968, 1_968, 1_968, 1_968] && lie_together(rope, 983));
-    Ok(())
-}
-
-#[test]
-fn pairs_that_meet_in_long_texts(rt: HostRuntime) -> Result<(), Fail> {
-    for (text, char_idx, more) in [("\n", 983, "\r"), ("\r", 984, "\n")] {
-        let mut rope = rope_of(rt.alloc(), text, 1_967)?;
-        pair_up(&rt, &mut rope, char_idx, more)?;
+fn takes_all(rope: &mut Rope, inserts: &[(usize, &str)]) -> bool {
+    for (char_idx, text) in inserts {
+        if rope.try_insert(*char_idx, text).is_err() {
+            return false;
+        }
     }
-    Ok(())
+    true
 }
 
-fn part_a_pair(rt: &impl Abort, rope: &mut Rope) -> Result<(), Fail> {
-    rope.try_insert(1, "x")?;
-    assert!(rt; lens(rope) == [985, 985, 494, 985]);
-    Ok(())
+fn is_edited(rope: &mut Rope, row: &Row<'_>) -> bool {
+    let is_taken = takes_all(rope, row.inserts);
+    let chunks = rope.chunks().count();
+    is_taken
+        && lens(rope) == row.lens
+        && row.least <= chunks
+        && chunks <= row.most
+        && lie_together(rope, row.first)
 }
 
-#[test]
-fn a_pair_that_is_parted(rt: HostRuntime) -> Result<(), Fail> {
-    let mut rope = rope_of(rt.alloc(), "\r\n", 492)?;
-    part_a_pair(&rt, &mut rope)
-}
-
-/// Inserts of a text, of none and of a character at the end.
-fn insert_at_the_end(rope: &mut Rope) -> Result<(), Fail> {
-    rope.try_insert(6, "x")?;
-    rope.try_insert(7, "")?;
-    rope.try_insert_char(7, 'y')?;
-    Ok(())
-}
-
-fn refuse_and_insert(rt: &impl Abort, rope: &mut Rope) -> Result<(), Fail> {
-    let refused = [rope.try_insert(7, "x"), rope.try_insert(7, "")];
-    assert!(rt; refused == [Err(Error::CharIndexOutOfBounds(7, 6)); 2]);
-    insert_at_the_end(rope)
-}
-
-fn compare_text(alloc: Global, rope: &Rope, text: &str) -> Result<(), Fail> {
-    let plain = chars_of(alloc, text)?;
-    compare_unicode(rope, &plain)?;
-    Ok(())
+fn is_row(alloc: Global, row: &Row<'_>) -> bool {
+    match rope_of(alloc, row.text, row.count) {
+        Ok(mut rope) => is_edited(&mut rope, row),
+        Err(_) => false,
+    }
 }
 
 #[test]
-fn refusals(rt: HostRuntime) -> Result<(), Fail> {
-    let mut rope = Rope::from_str(rt.alloc(), "Hello!")?;
-    refuse_and_insert(&rt, &mut rope)?;
-    compare_text(rt.alloc(), &rope, "Hello!xy")
-}
-
-fn print_a_refusal(rt: &impl Abort, alloc: Global, rope: &mut Rope) -> Result<(), Fail> {
-    let Err(error) = rope.try_insert(7, "x") else {
-        return Err(Fail::from("an index out of bounds was taken"));
-    };
-    let expected = "Char index out of bounds: char index 7, Rope/RopeSlice char length 6";
-    assert!(rt; format!(in alloc; "{error}")?.as_str() == expected);
-    Ok(())
-}
-
-#[test]
-fn how_a_refusal_is_printed(rt: HostRuntime) -> Result<(), Fail> {
-    let mut rope = Rope::from_str(rt.alloc(), "Hello!")?;
-    print_a_refusal(&rt, rt.alloc(), &mut rope)
+fn pairs_that_are_put_in_made_or_parted(rt: HostRuntime) {
+    for row in &ROWS {
+        assert!(rt; is_row(rt.alloc(), row));
+    }
 }

@@ -15,6 +15,8 @@ mod random_edits;
 #[cfg(test)]
 mod random_inserts;
 #[cfg(test)]
+mod refusals;
+#[cfg(test)]
 mod removals;
 #[cfg(test)]
 mod seams;
@@ -22,5 +24,7 @@ mod seams;
 mod short_chunks;
 #[cfg(test)]
 mod shrinking;
+#[cfg(test)]
+mod texts;
 #[cfg(test)]
 mod words;

@@ -2,9 +2,8 @@
 use rope_plain::compare::{compare, has_few_chunks};
 use rope_plain::numbers::Numbers;
 use rope_plain::texts::{inserted, part_from, random_edit_text};
-use ropey::{LineBreaks, Rope};
+use ropey::{Error, LineBreaks, Rope};
 use std::alloc::{AllocError, Global};
-use std::test::Fail;
 
 /// How many edits are done between two comparisons.
 const BETWEEN: usize = 100;
@@ -17,19 +16,38 @@ const LONG: usize = 30_000;
 
 const SHORT: usize = 200;
 
+/// Takes the characters from one on and before another out.
+fn take_out(
+    alloc: Global,
+    text: &mut Vec<char>,
+    first: usize,
+    last: usize,
+) -> Result<(), AllocError> {
+    let back = part_from(alloc, text, last)?;
+    text.truncate(first);
+    text.extend_from_slice(&back)
+}
+
 /// A rope, and the list of characters that it has to have.
 #[derive(Drop)]
-struct Pair {
-    rope: Rope,
-    plain: Vec<char>,
+pub struct Pair {
+    pub rope: Rope,
+    pub plain: Vec<char>,
 }
 
 impl Pair {
-    fn copy(&self) -> Result<Pair, Fail> {
+    /// An empty rope that goes by a set of line breaks.
+    pub fn new(alloc: Global, breaks: LineBreaks) -> Result<Pair, Error> {
         Ok(Pair {
-            rope: self.rope.clone()?,
-            plain: self.plain.clone()?,
+            rope: Rope::new_with(alloc, breaks)?,
+            plain: Vec::new(alloc),
         })
+    }
+
+    fn copy(&self) -> Result<Pair, Error> {
+        let plain = self.plain.clone()?;
+        let rope = self.rope.clone()?;
+        Ok(Pair { rope, plain })
     }
 
     /// A place before a character or at the end.
@@ -37,19 +55,20 @@ impl Pair {
         numbers.up_to(self.plain.len())
     }
 
-    fn insert(&mut self, alloc: Global, numbers: &mut Numbers) -> Result<(), Fail> {
-        let at = self.place(numbers);
-        let text = random_edit_text(alloc, numbers)?;
-        self.put_in(alloc, at, text.as_str())
-    }
-
-    fn put_in(&mut self, alloc: Global, at: usize, text: &str) -> Result<(), Fail> {
+    fn put_in(&mut self, alloc: Global, at: usize, text: &str) -> Result<(), Error> {
         self.rope.try_insert(at, text)?;
         self.plain = inserted(alloc, &self.plain, at, text)?;
         Ok(())
     }
 
-    fn insert_char(&mut self, alloc: Global, numbers: &mut Numbers) -> Result<(), Fail> {
+    /// Puts a random text in at a random place.
+    pub fn insert(&mut self, alloc: Global, numbers: &mut Numbers) -> Result<(), Error> {
+        let at = self.place(numbers);
+        let text = random_edit_text(alloc, numbers)?;
+        self.put_in(alloc, at, text.as_str())
+    }
+
+    fn insert_char(&mut self, alloc: Global, numbers: &mut Numbers) -> Result<(), Error> {
         let at = self.place(numbers);
         let c = ['\r', '\n', 'x', '🐸'][numbers.take() % 4];
         self.rope.try_insert_char(at, c)?;
@@ -59,30 +78,56 @@ impl Pair {
     }
 
     /// Takes up to `most` characters out.
-    fn remove(&mut self, alloc: Global, numbers: &mut Numbers, most: usize) -> Result<(), Fail> {
+    fn remove(&mut self, alloc: Global, numbers: &mut Numbers, most: usize) -> Result<(), Error> {
         let start = self.place(numbers);
         let count = numbers.up_to(most);
         let end = start.saturating_add(count).min(self.plain.len());
         self.rope.try_remove(start..end)?;
-        let back = part_from(alloc, &self.plain, end)?;
-        self.plain.truncate(start);
-        self.plain.extend_from_slice(&back)?;
-        Ok(())
+        Ok(take_out(alloc, &mut self.plain, start, end)?)
     }
 
     /// Leaves the front, and answers the back.
-    fn split_off(&mut self, alloc: Global, numbers: &mut Numbers) -> Result<Pair, Fail> {
+    fn split_off(&mut self, alloc: Global, numbers: &mut Numbers) -> Result<Pair, Error> {
         let at = self.place(numbers);
-        let rope = self.rope.try_split_off(at)?;
         let plain = part_from(alloc, &self.plain, at)?;
         self.plain.truncate(at);
+        let rope = self.rope.try_split_off(at)?;
         Ok(Pair { rope, plain })
     }
 
-    fn append(&mut self, other: Pair) -> Result<(), Fail> {
-        self.rope.append(other.rope)?;
-        self.plain.extend_from_slice(&other.plain)?;
-        Ok(())
+    fn append(&mut self, other: Pair) -> Result<(), Error> {
+        let Pair { rope, plain } = other;
+        let appended = self.rope.append(rope);
+        self.plain.extend_from_slice(&plain)?;
+        appended
+    }
+
+    /// An edit of it alone, which keeps its length within bounds.
+    fn edit(&mut self, alloc: Global, numbers: &mut Numbers) -> Result<(), Error> {
+        let len = self.plain.len();
+        if len > LONG {
+            return self.remove(alloc, numbers, LONG);
+        }
+        if len < SHORT {
+            return self.insert(alloc, numbers);
+        }
+        match numbers.take() % 16 {
+            0..=4 => self.insert(alloc, numbers),
+            5..=9 => self.insert_char(alloc, numbers),
+            10..=14 => self.remove(alloc, numbers, 12),
+            _ => self.remove(alloc, numbers, 1_500),
+        }
+    }
+
+    fn is_right(&self, breaks: LineBreaks) -> bool {
+        compare(&self.rope, &self.plain, breaks).is_ok()
+    }
+
+    /// Whether it is right when it is re-chunked.
+    fn shrinks(&mut self, breaks: LineBreaks) -> bool {
+        self.rope.shrink_to_fit().is_ok()
+            && self.is_right(breaks)
+            && has_few_chunks(&self.rope).is_ok()
     }
 }
 
@@ -93,147 +138,174 @@ fn choose(pairs: &mut [Pair], numbers: &mut Numbers) {
     }
 }
 
-/// An edit of one rope alone, which keeps its length within bounds.
-fn edit_one(pair: &mut Pair, alloc: Global, numbers: &mut Numbers) -> Result<(), Fail> {
-    let len = pair.plain.len();
-    if len > LONG {
-        return pair.remove(alloc, numbers, LONG);
-    }
-    if len < SHORT {
-        return pair.insert(alloc, numbers);
-    }
-    match numbers.take() % 16 {
-        0..=4 => pair.insert(alloc, numbers),
-        5..=9 => pair.insert_char(alloc, numbers),
-        10..=14 => pair.remove(alloc, numbers, 12),
-        _ => pair.remove(alloc, numbers, 1_500),
+/// Has the last two change their places.
+fn swap_last(pairs: &mut [Pair]) {
+    let len = pairs.len();
+    if len >= 2 {
+        pairs.swap(len - 1, len - 2);
     }
 }
 
-/// An edit that makes of the last rope two, or of the last two one.
-fn edit_two(pairs: &mut Vec<Pair>, alloc: Global, numbers: &mut Numbers) -> Result<(), Fail> {
-    let Some(mut last) = pairs.pop() else {
-        return Err(Fail::from("no rope is left"));
-    };
-    let has_room = pairs.len() < MOST - 1;
-    match numbers.take() % 3 {
-        0 if has_room => keep(pairs, last.copy()?)?,
-        1 if has_room => keep(pairs, last.split_off(alloc, numbers)?)?,
-        _ => {
-            if let Some(other) = pairs.pop() {
-                last.append(other)?;
-            }
-        }
-    }
-    keep(pairs, last)
-}
-
-fn keep(pairs: &mut Vec<Pair>, pair: Pair) -> Result<(), Fail> {
+fn keep(pairs: &mut Vec<Pair>, pair: Pair) -> Result<(), Error> {
     pairs.push(pair).map_err(AllocError::from)?;
     Ok(())
 }
 
-/// A clone of each rope.
-fn copies(pairs: &[Pair], alloc: Global) -> Result<Vec<Pair>, Fail> {
-    let mut all = Vec::new(alloc);
-    for pair in pairs {
-        keep(&mut all, pair.copy()?)?;
+/// Adds a clone of the last rope.
+fn add_copy(pairs: &mut Vec<Pair>) -> Result<(), Error> {
+    match pairs.last() {
+        Some(last) => {
+            let copy = last.copy()?;
+            keep(pairs, copy)
+        }
+        None => Ok(()),
     }
-    Ok(all)
 }
 
-/// So many edits, one in eight of them of more than one rope.
-fn edit(
-    pairs: &mut Vec<Pair>,
-    alloc: Global,
-    numbers: &mut Numbers,
-    edits: usize,
-) -> Result<(), Fail> {
-    for _ in 0..edits {
-        choose(pairs, numbers);
-        if numbers.take() % 8 == 0 {
-            edit_two(pairs, alloc, numbers)?;
-        } else if let Some(pair) = pairs.last_mut() {
-            edit_one(pair, alloc, numbers)?;
+/// Makes of the last rope two, and leaves the front last.
+fn split_last(pairs: &mut Vec<Pair>, alloc: Global, numbers: &mut Numbers) -> Result<(), Error> {
+    match pairs.last_mut() {
+        Some(last) => {
+            let back = last.split_off(alloc, numbers)?;
+            keep(pairs, back)?;
+            swap_last(pairs);
+            Ok(())
+        }
+        None => Ok(()),
+    }
+}
+
+/// Puts the last but one behind the last, where there are two.
+fn join_last(pairs: &mut Vec<Pair>) -> Result<(), Error> {
+    if pairs.len() < 2 {
+        return Ok(());
+    }
+    swap_last(pairs);
+    let Some(other) = pairs.pop() else {
+        return Ok(());
+    };
+    match pairs.last_mut() {
+        Some(last) => last.append(other),
+        None => keep(pairs, other),
+    }
+}
+
+/// An edit that makes of the last rope two, or of the last two one.
+fn edit_two(pairs: &mut Vec<Pair>, alloc: Global, numbers: &mut Numbers) -> Result<(), Error> {
+    let has_room = pairs.len() < MOST;
+    match numbers.take() % 3 {
+        0 if has_room => add_copy(pairs),
+        1 if has_room => split_last(pairs, alloc, numbers),
+        _ => join_last(pairs),
+    }
+}
+
+/// An edit, one in eight of them of more than one rope.
+fn edit_once(pairs: &mut Vec<Pair>, alloc: Global, numbers: &mut Numbers) -> Result<(), Error> {
+    choose(pairs, numbers);
+    if numbers.take() % 8 == 0 {
+        return edit_two(pairs, alloc, numbers);
+    }
+    match pairs.last_mut() {
+        Some(pair) => pair.edit(alloc, numbers),
+        None => Ok(()),
+    }
+}
+
+fn edit(pairs: &mut Vec<Pair>, alloc: Global, numbers: &mut Numbers) -> Result<(), Error> {
+    for _ in 0..BETWEEN {
+        edit_once(pairs, alloc, numbers)?;
+    }
+    Ok(())
+}
+
+/// Adds a clone of each rope.
+fn add_copies(all: &mut Vec<Pair>, pairs: &[Pair]) -> Result<(), Error> {
+    for pair in pairs {
+        let copy = pair.copy()?;
+        keep(all, copy)?;
+    }
+    Ok(())
+}
+
+fn are_right(pairs: &[Pair], breaks: LineBreaks) -> bool {
+    for pair in pairs {
+        if !pair.is_right(breaks) {
+            return false;
         }
     }
-    Ok(())
+    true
 }
 
-fn compare_all(pairs: &[Pair], breaks: LineBreaks) -> Result<(), Fail> {
-    for pair in pairs {
-        compare(&pair.rope, &pair.plain, breaks)?;
-    }
-    Ok(())
-}
-
-/// Re-chunks all ropes.
-fn shrink_all(pairs: &mut [Pair], breaks: LineBreaks) -> Result<(), Fail> {
+/// Whether all ropes are right when they are re-chunked.
+fn are_shrunk(pairs: &mut [Pair], breaks: LineBreaks) -> bool {
     for pair in pairs.iter_mut() {
-        pair.rope.shrink_to_fit()?;
-        compare(&pair.rope, &pair.plain, breaks)?;
-        has_few_chunks(&pair.rope)?;
+        if !pair.shrinks(breaks) {
+            return false;
+        }
     }
-    Ok(())
+    true
 }
 
 /// How many rounds of edits are done between two times that all ropes are re-chunked.
 const BETWEEN_SHRINKS: usize = 16;
 
-/// A round of edits, after which the ropes are compared, and the clones made before it too.
-fn edit_a_round(
+/// Whether the ropes are right after a round of edits, and the clones made before it too.
+fn is_round_right(
     pairs: &mut Vec<Pair>,
     alloc: Global,
     numbers: &mut Numbers,
     breaks: LineBreaks,
     round: usize,
-) -> Result<(), Fail> {
-    let clones = copies(pairs, alloc)?;
-    edit(pairs, alloc, numbers, BETWEEN)?;
-    compare_all(pairs, breaks)?;
-    if round % BETWEEN_SHRINKS == 0 {
-        shrink_all(pairs, breaks)?;
-    }
-    compare_all(&clones, breaks)
+) -> bool {
+    let mut clones = Vec::new(alloc);
+    add_copies(&mut clones, pairs).is_ok()
+        && edit(pairs, alloc, numbers).is_ok()
+        && are_right(pairs, breaks)
+        && (round % BETWEEN_SHRINKS != 0 || are_shrunk(pairs, breaks))
+        && are_right(&clones, breaks)
 }
 
-/// Rounds of edits of several ropes of one set of line breaks, of which the first is empty.
-fn edit_in_rounds(
+/// Whether rounds of edits of several ropes go well.
+fn are_rounds_right(
     pairs: &mut Vec<Pair>,
     alloc: Global,
     breaks: LineBreaks,
     rounds: usize,
-) -> Result<(), Fail> {
+) -> bool {
     let mut numbers = Numbers::new(0x9E37_79B9_7F4A_7C15);
-    keep(
-        pairs,
-        Pair {
-            rope: Rope::new_with(alloc, breaks)?,
-            plain: Vec::new(alloc),
-        },
-    )?;
-    for round in 1..=rounds {
-        edit_a_round(pairs, alloc, &mut numbers, breaks, round)?;
+    for round in 0..rounds {
+        if !is_round_right(pairs, alloc, &mut numbers, breaks, round + 1) {
+            return false;
+        }
     }
-    Ok(())
+    true
 }
 
-fn edit_and_compare(alloc: Global, breaks: LineBreaks, rounds: usize) -> Result<(), Fail> {
+/// A row of one empty rope that goes by a set of line breaks.
+fn add_empty(pairs: &mut Vec<Pair>, alloc: Global, breaks: LineBreaks) -> Result<(), Error> {
+    let pair = Pair::new(alloc, breaks)?;
+    keep(pairs, pair)
+}
+
+/// Whether rounds of edits go well of ropes of one set of line breaks, of which the first is empty.
+fn is_edited(alloc: Global, breaks: LineBreaks, rounds: usize) -> bool {
     let mut pairs = Vec::new(alloc);
-    edit_in_rounds(&mut pairs, alloc, breaks, rounds)
+    add_empty(&mut pairs, alloc, breaks).is_ok()
+        && are_rounds_right(&mut pairs, alloc, breaks, rounds)
 }
 
 #[test]
-fn many_edits(rt: HostRuntime) -> Result<(), Fail> {
-    edit_and_compare(rt.alloc(), LineBreaks::Unicode, 200)
+fn many_edits(rt: HostRuntime) {
+    assert!(rt; is_edited(rt.alloc(), LineBreaks::Unicode, 200));
 }
 
 #[test]
-fn edits_by_lf(rt: HostRuntime) -> Result<(), Fail> {
-    edit_and_compare(rt.alloc(), LineBreaks::Lf, 60)
+fn edits_by_lf(rt: HostRuntime) {
+    assert!(rt; is_edited(rt.alloc(), LineBreaks::Lf, 60));
 }
 
 #[test]
-fn edits_by_cr_and_lf(rt: HostRuntime) -> Result<(), Fail> {
-    edit_and_compare(rt.alloc(), LineBreaks::CrLf, 60)
+fn edits_by_cr_and_lf(rt: HostRuntime) {
+    assert!(rt; is_edited(rt.alloc(), LineBreaks::CrLf, 60));
 }

@@ -1,11 +1,10 @@
 //! Each edit at each place around a word that stands where a leaf is cut.
-use crate::words::{BREAKS, LONGEST, SHORTEST, WIDE, around, words};
+use crate::words::{LENGTHS, OF_BREAKS, OF_WIDE, SHORTEST, WIDE, Words, around};
 use rope_plain::compare::{compare, lens};
 use rope_plain::places::compare_at;
-use rope_plain::texts::{chars_of, inserted, part_from};
-use ropey::{LineBreaks, Rope};
-use std::alloc::Global;
-use std::test::Fail;
+use rope_plain::texts::{chars_of, inserted};
+use ropey::{Error, LineBreaks, Rope};
+use std::alloc::{AllocError, Global};
 
 /// What is done at one place.
 #[derive(Clone, Copy)]
@@ -16,79 +15,48 @@ enum Edit<'a> {
 }
 
 /// The list without the character `at`.
-fn without(alloc: Global, plain: &[char], at: usize) -> Result<Vec<char>, Fail> {
-    let mut rest = Vec::new(alloc);
-    add_without(&mut rest, plain, at)?;
+fn without(alloc: Global, plain: &[char], at: usize) -> Result<Vec<char>, AllocError> {
+    let mut rest = Vec::from_slice(alloc, plain)?;
+    if at < rest.len() {
+        rest.remove(at);
+    }
     Ok(rest)
 }
 
-fn add_without(rest: &mut Vec<char>, plain: &[char], at: usize) -> Result<(), Fail> {
-    for (i, c) in plain.iter().enumerate() {
-        if i != at {
-            rest.push(*c)?;
-        }
-    }
-    Ok(())
-}
-
-/// The rope has the first of these characters.
-fn has_front(
+/// The list of characters that a rope has to have after the edit.
+fn expected(
     alloc: Global,
-    rope: &Rope,
-    plain: &[char],
-    len: usize,
-    breaks: LineBreaks,
-) -> Result<(), Fail> {
-    let mut front = inserted(alloc, plain, 0, "")?;
-    front.truncate(len);
-    compare(rope, &front, breaks)?;
-    Ok(())
-}
-
-/// The rope has these characters but the first of them.
-fn has_back(
-    alloc: Global,
-    rope: &Rope,
-    plain: &[char],
-    start: usize,
-    breaks: LineBreaks,
-) -> Result<(), Fail> {
-    let back = part_from(alloc, plain, start)?;
-    compare(rope, &back, breaks)?;
-    Ok(())
-}
-
-/// Splits the rope, compares both parts, and joins them again.
-fn split_and_join(alloc: Global, rope: &mut Rope, plain: &[char], at: usize) -> Result<(), Fail> {
-    let breaks = rope.line_breaks();
-    let back = rope.try_split_off(at)?;
-    has_front(alloc, rope, plain, at, breaks)?;
-    has_back(alloc, &back, plain, at, breaks)?;
-    rope.append(back)?;
-    Ok(())
-}
-
-/// Does the edit, and answers the list of characters that the rope has to have then.
-fn edited(
-    alloc: Global,
-    rope: &mut Rope,
     plain: &[char],
     at: usize,
     edit: Edit<'_>,
-) -> Result<Vec<char>, Fail> {
+) -> Result<Vec<char>, AllocError> {
     match edit {
-        Edit::Insert(text) => {
-            rope.try_insert(at, text)?;
-            Ok(inserted(alloc, plain, at, text)?)
+        Edit::Insert(text) => inserted(alloc, plain, at, text),
+        Edit::Remove => without(alloc, plain, at),
+        Edit::SplitAndJoin => Vec::from_slice(alloc, plain),
+    }
+}
+
+/// Whether the rope is split into these characters before a place and behind it, and joined again.
+fn is_split_and_joined(rope: &mut Rope, plain: &[char], at: usize) -> bool {
+    let breaks = rope.line_breaks();
+    let (front, back) = plain.split_at(at.min(plain.len()));
+    match rope.try_split_off(at) {
+        Ok(rest) => {
+            let is_back = compare(&rest, back, breaks).is_ok();
+            let is_front = compare(rope, front, breaks).is_ok();
+            rope.append(rest).is_ok() && is_front && is_back
         }
-        Edit::Remove => {
-            rope.try_remove(at..at.saturating_add(1))?;
-            without(alloc, plain, at)
-        }
-        Edit::SplitAndJoin => {
-            split_and_join(alloc, rope, plain, at)?;
-            Ok(Vec::from_slice(alloc, plain)?)
-        }
+        Err(_) => false,
+    }
+}
+
+/// Whether the edit is done to a rope of these characters.
+fn is_done(rope: &mut Rope, plain: &[char], at: usize, edit: Edit<'_>) -> bool {
+    match edit {
+        Edit::Insert(text) => rope.try_insert(at, text).is_ok(),
+        Edit::Remove => rope.try_remove(at..at.saturating_add(1)).is_ok(),
+        Edit::SplitAndJoin => is_split_and_joined(rope, plain, at),
     }
 }
 
@@ -102,131 +70,145 @@ struct Given<'a> {
 }
 
 impl Given<'_> {
-    /// One edit of a rope of its own: answers the characters that it has then.
-    fn edit_alone(
+    /// Whether the edit of a rope and of a clone, whose original stays, give these characters and the same lengths.
+    fn are_edited(
         &self,
-        alloc: Global,
         alone: &mut Rope,
+        clone: &mut Rope,
+        left: &[char],
         at: usize,
         edit: Edit<'_>,
-    ) -> Result<Vec<char>, Fail> {
-        let expected = edited(alloc, alone, self.plain, at, edit)?;
-        compare(alone, &expected, self.breaks)?;
-        Ok(expected)
+    ) -> bool {
+        is_done(alone, self.plain, at, edit)
+            && is_done(clone, self.plain, at, edit)
+            && compare(alone, left, self.breaks).is_ok()
+            && *clone == *alone
+            && lens(clone) == lens(alone)
+            && compare_at(clone, left, at.min(left.len())).is_ok()
     }
 
-    /// One edit of a clone, whose original stays, gives the same rope.
-    fn edit_clone(
+    /// Whether the edit leaves these characters, done to a rope of its own and to a clone.
+    fn leaves(
         &self,
         alloc: Global,
-        alone: &Rope,
+        left: &[char],
         at: usize,
         edit: Edit<'_>,
-    ) -> Result<Rope, Fail> {
-        let mut clone = self.rope.clone()?;
-        edited(alloc, &mut clone, self.plain, at, edit)?;
-        if clone != *alone || lens(&clone) != lens(alone) {
-            return Err(Fail::from("an edit of a clone gave another text"));
-        }
-        Ok(clone)
-    }
-
-    /// One edit of a rope of its own, and of a clone.
-    fn edit_both(&self, alloc: Global, at: usize, edit: Edit<'_>) -> Result<(), Fail> {
+    ) -> Result<bool, Error> {
         let mut alone = Rope::from_str_with(alloc, self.text, self.breaks)?;
-        let expected = self.edit_alone(alloc, &mut alone, at, edit)?;
-        let clone = self.edit_clone(alloc, &alone, at, edit)?;
-        compare_at(&clone, &expected, at.min(expected.len()))?;
-        Ok(())
+        let mut clone = self.rope.clone()?;
+        Ok(self.are_edited(&mut alone, &mut clone, left, at, edit))
     }
 
-    /// Each edit at one place, with each of these texts put in.
-    fn edit_at(&self, alloc: Global, at: usize, texts: &[&str]) -> Result<(), Fail> {
+    fn is_edited(&self, alloc: Global, at: usize, edit: Edit<'_>) -> Result<bool, Error> {
+        let left = expected(alloc, self.plain, at, edit)?;
+        self.leaves(alloc, &left, at, edit)
+    }
+
+    /// Whether each edit goes well at one place, with each of these texts put in.
+    fn is_edited_at(&self, alloc: Global, at: usize, texts: &[&str]) -> Result<bool, Error> {
         for text in texts {
-            self.edit_both(alloc, at, Edit::Insert(text))?;
+            if !self.is_edited(alloc, at, Edit::Insert(text))? {
+                return Ok(false);
+            }
         }
-        if at < self.plain.len() {
-            self.edit_both(alloc, at, Edit::Remove)?;
+        if at < self.plain.len() && !self.is_edited(alloc, at, Edit::Remove)? {
+            return Ok(false);
         }
-        self.edit_both(alloc, at, Edit::SplitAndJoin)
+        self.is_edited(alloc, at, Edit::SplitAndJoin)
     }
 }
 
-/// Each edit at each place from the character before the word to the sixth of it and what follows.
-fn edit_places(alloc: Global, given: Given<'_>, before: usize, texts: &[&str]) -> Result<(), Fail> {
-    for at in before.saturating_sub(1)..=before.saturating_add(5) {
-        given.edit_at(alloc, at, texts)?;
-    }
-    compare(given.rope, given.plain, given.breaks)?;
-    Ok(())
-}
-
-fn edit_around(
+/// Whether each edit goes well at each place from the character before the word to the sixth of it and what follows.
+fn is_edited_around(
     alloc: Global,
+    given: Given<'_>,
     before: usize,
-    word: &str,
+    texts: &[&str],
+) -> Result<bool, Error> {
+    for more in 0..7usize {
+        let at = before.saturating_add(more).saturating_sub(1);
+        if !given.is_edited_at(alloc, at, texts)? {
+            return Ok(false);
+        }
+    }
+    Ok(compare(given.rope, given.plain, given.breaks).is_ok())
+}
+
+fn is_text_edited(
+    alloc: Global,
+    text: &str,
+    before: usize,
     breaks: LineBreaks,
     texts: &[&str],
-) -> Result<(), Fail> {
-    let text = around(alloc, before, word)?;
-    let plain = chars_of(alloc, text.as_str())?;
-    let rope = Rope::from_str_with(alloc, text.as_str(), breaks)?;
+) -> Result<bool, Error> {
+    let plain = chars_of(alloc, text)?;
+    let rope = Rope::from_str_with(alloc, text, breaks)?;
     let given = Given {
-        text: text.as_str(),
+        text,
         plain: &plain,
         rope: &rope,
         breaks,
     };
-    edit_places(alloc, given, before, texts)
+    is_edited_around(alloc, given, before, texts)
 }
 
-/// All words of so many letters behind a text of each length.
-fn sweep(
+fn is_word_edited(
     alloc: Global,
+    before: usize,
     letters: &[&str],
-    count: usize,
+    number: usize,
     breaks: LineBreaks,
     texts: &[&str],
-) -> Result<(), Fail> {
-    let all = words(alloc, letters, count)?;
-    for before in SHORTEST..=LONGEST {
-        for word in &all {
-            edit_around(alloc, before, word.as_str(), breaks, texts)?;
+) -> Result<bool, Error> {
+    let text = around(alloc, before, letters, number)?;
+    is_text_edited(alloc, text.as_str(), before, breaks, texts)
+}
+
+fn are_edited_behind(
+    alloc: Global,
+    before: usize,
+    words: Words<'_>,
+    breaks: LineBreaks,
+    texts: &[&str],
+) -> Result<bool, Error> {
+    for number in 0..words.count {
+        if !is_word_edited(alloc, before, words.letters, number, breaks, texts)? {
+            return Ok(false);
         }
     }
-    Ok(())
+    Ok(true)
+}
+
+/// Whether each edit goes well around all words behind a text of each length.
+fn are_edited(alloc: Global, words: Words<'_>, breaks: LineBreaks, texts: &[&str]) -> bool {
+    for more in 0..LENGTHS {
+        if are_edited_behind(alloc, SHORTEST + more, words, breaks, texts) != Ok(true) {
+            return false;
+        }
+    }
+    true
 }
 
 /// What is put in next to breaks.
 const PUT_IN: [&str; 3] = ["\r", "\n", "\r\n"];
 
-/// All words of at most four breaks.
-fn sweep_breaks(alloc: Global, breaks: LineBreaks) -> Result<(), Fail> {
-    for count in 0..=4usize {
-        sweep(alloc, &BREAKS, count, breaks, &PUT_IN)?;
-    }
-    Ok(())
+#[test]
+fn breaks(rt: HostRuntime) {
+    assert!(rt; are_edited(rt.alloc(), OF_BREAKS, LineBreaks::Unicode, &PUT_IN));
 }
 
 #[test]
-fn breaks(rt: HostRuntime) -> Result<(), Fail> {
-    sweep_breaks(rt.alloc(), LineBreaks::Unicode)
+fn breaks_by_cr_and_lf(rt: HostRuntime) {
+    assert!(rt; are_edited(rt.alloc(), OF_BREAKS, LineBreaks::CrLf, &PUT_IN));
 }
 
 #[test]
-fn breaks_by_cr_and_lf(rt: HostRuntime) -> Result<(), Fail> {
-    sweep_breaks(rt.alloc(), LineBreaks::CrLf)
+fn breaks_by_lf(rt: HostRuntime) {
+    assert!(rt; are_edited(rt.alloc(), OF_BREAKS, LineBreaks::Lf, &PUT_IN));
 }
 
 #[test]
-fn breaks_by_lf(rt: HostRuntime) -> Result<(), Fail> {
-    sweep_breaks(rt.alloc(), LineBreaks::Lf)
-}
-
-#[test]
-fn wide_characters(rt: HostRuntime) -> Result<(), Fail> {
-    for count in 0..=2usize {
-        sweep(rt.alloc(), &WIDE, count, LineBreaks::Unicode, &WIDE)?;
-    }
-    Ok(())
+fn wide_characters(rt: HostRuntime) {
+    assert!(rt; are_edited(rt.alloc(), OF_WIDE, LineBreaks::Unicode, &WIDE));
 }

@@ -16,16 +16,20 @@ pub fn fingerprint(rope: &Rope) -> u64 {
     seen
 }
 
+/// Fills an empty string with so many times a text. Only its room takes memory.
+fn fill(all: &mut String, text: &str, count: usize) -> Result<()> {
+    all.reserve(text.len().saturating_mul(count))?;
+    for _ in 0..count {
+        all.push_str(text)?;
+    }
+    Ok(())
+}
+
 /// So many times a text.
 pub fn repeated(alloc: Global, text: &str, count: usize) -> Option<String> {
     for _ in 0..TRIES {
         let mut all = String::new(alloc);
-        if all.reserve(text.len().saturating_mul(count)).is_ok() {
-            for _ in 0..count {
-                if all.push_str(text).is_err() {
-                    return None;
-                }
-            }
+        if fill(&mut all, text, count).is_ok() {
             return Some(all);
         }
     }
@@ -84,36 +88,44 @@ fn apply_once(rope: &mut Rope, edit: Edit<'_>) -> Result<()> {
     }
 }
 
-/// Edits, again where memory was refused, and counts the refusals that changed something.
-pub fn apply(rope: &mut Rope, edit: Edit<'_>) -> Option<usize> {
+/// Edits, again where memory was refused, and counts the refusals that changed something. Answers whether it is done.
+pub fn apply(rope: &mut Rope, edit: Edit<'_>, faults: &mut usize) -> bool {
     let before = fingerprint(rope);
     let bytes = rope.len_bytes();
-    let mut faults: usize = 0;
     for _ in 0..TRIES {
         match apply_once(rope, edit) {
-            Ok(()) => return Some(faults),
+            Ok(()) => return true,
             Err(Error::OutOfMemory) => {
                 if fingerprint(rope) != before || rope.len_bytes() != bytes {
-                    faults = faults.saturating_add(1);
+                    *faults = faults.saturating_add(1);
                 }
             }
-            Err(_) => return None,
+            Err(_) => return false,
         }
     }
-    None
+    false
+}
+
+/// Does edits one after the other.
+pub fn apply_all(rope: &mut Rope, edits: &[Edit<'_>], faults: &mut usize) -> bool {
+    for edit in edits {
+        if !apply(rope, *edit, faults) {
+            return false;
+        }
+    }
+    true
 }
 
 /// Prints how long a rope is.
-pub fn show(rt: &impl Print, rope: &Rope) -> Option<()> {
+pub fn show(rt: &impl Print, rope: &Rope) -> bool {
     let bytes = rope.len_bytes();
     let lines = rope.len_lines();
-    println!(rt; "{bytes} bytes, {lines} lines").ok()
+    println!(rt; "{bytes} bytes, {lines} lines").is_ok()
 }
 
 /// Inserts into a rope, in one chunk and in several.
-fn insert_all(rope: &mut Rope, long: &str) -> Option<usize> {
-    let mut faults: usize = 0;
-    for step in [
+fn insert_all(rope: &mut Rope, long: &str, faults: &mut usize) -> bool {
+    let edits = [
         Edit::Insert(0, "one\r\ntwo\n"),
         Edit::Insert(3, long),
         Edit::Insert(990, "\r"),
@@ -121,28 +133,50 @@ fn insert_all(rope: &mut Rope, long: &str) -> Option<usize> {
         Edit::Insert(1_000, ""),
         Edit::InsertChar(991, 'x'),
         Edit::InsertChar(2_500, 'é'),
-    ] {
-        faults = faults.saturating_add(apply(rope, step)?);
+    ];
+    apply_all(rope, &edits, faults)
+}
+
+/// Prints two ropes, and one of a text.
+fn show_three(rt: &impl Print, alloc: Global, rope: &Rope, typed: &Rope, long: &str) -> bool {
+    match made(alloc, long) {
+        Some(other) => show(rt, rope) && show(rt, typed) && show(rt, &other),
+        None => false,
     }
-    Some(faults)
 }
 
 /// Inserts into an empty rope, and prints it and two others.
-fn type_and_show(rt: &impl Print, alloc: Global, rope: &Rope, long: &str) -> Option<usize> {
-    let mut typed = empty(alloc)?;
-    let faults = apply(&mut typed, Edit::InsertChar(0, '🐸'))?;
-    let other = made(alloc, long)?;
-    for rope in [rope, &typed, &other] {
-        show(rt, rope)?;
+fn type_and_show(
+    rt: &impl Print,
+    alloc: Global,
+    rope: &Rope,
+    long: &str,
+    faults: &mut usize,
+) -> bool {
+    match empty(alloc) {
+        Some(mut typed) => {
+            apply(&mut typed, Edit::InsertChar(0, '🐸'), faults)
+                && show_three(rt, alloc, rope, &typed, long)
+        }
+        None => false,
     }
-    Some(faults)
 }
 
-/// Makes ropes, inserts into them, prints what they are, and answers how many refusals changed something.
-pub fn run(rt: &impl Print, alloc: Global) -> Option<usize> {
-    let mut rope = made(alloc, "")?;
-    let long = repeated(alloc, "a", 5_000)?;
-    let inserted = insert_all(&mut rope, long.as_str())?;
-    let typed = type_and_show(rt, alloc, &rope, long.as_str())?;
-    Some(inserted.saturating_add(typed))
+/// Inserts into an empty rope and another, and prints what they are.
+fn edit_and_show(rt: &impl Print, alloc: Global, rope: &mut Rope, faults: &mut usize) -> bool {
+    match repeated(alloc, "a", 5_000) {
+        Some(long) => {
+            insert_all(rope, long.as_str(), faults)
+                && type_and_show(rt, alloc, rope, long.as_str(), faults)
+        }
+        None => false,
+    }
+}
+
+/// Makes ropes, inserts into them, prints what they are, and counts the refusals that changed something.
+pub fn run(rt: &impl Print, alloc: Global, faults: &mut usize) -> bool {
+    match made(alloc, "") {
+        Some(mut rope) => edit_and_show(rt, alloc, &mut rope, faults),
+        None => false,
+    }
 }

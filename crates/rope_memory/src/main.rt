@@ -16,21 +16,23 @@ use std::process::ExitCode;
 /// How often a call is tried: one allocation is refused, so the next try meets no refusal.
 const TRIES: usize = 3;
 
-/// Does all calls, and answers how many refusals changed or forgot something.
-fn run(rt: &impl Print, alloc: Global) -> Option<usize> {
-    let mut faults = edits::run(rt, alloc)?;
-    faults = faults.saturating_add(parts::run(rt, alloc)?);
-    faults = faults.saturating_add(making::run(rt, alloc)?);
-    faults = faults.saturating_add(texts::run(rt, alloc)?);
-    reading::run(rt, alloc)?;
-    sessions::run(rt, alloc)?;
-    Some(faults)
+/// Does all calls, and counts the refusals that changed or forgot something.
+fn run(rt: &impl Print, alloc: Global, faults: &mut usize) -> bool {
+    edits::run(rt, alloc, faults)
+        && parts::run(rt, alloc, faults)
+        && making::run(rt, alloc, faults)
+        && texts::run(rt, alloc, faults)
+        && reading::run(rt, alloc)
+        && sessions::run(rt, alloc)
 }
 
 fn main(rt: HostRuntime) -> ExitCode {
-    match run(&rt, rt.alloc()) {
-        Some(0) => ExitCode::SUCCESS,
-        Some(_) => ExitCode::from(1),
-        None => ExitCode::from(2),
+    let mut faults = 0;
+    if !run(&rt, rt.alloc(), &mut faults) {
+        return ExitCode::from(2);
     }
+    if faults > 0 {
+        return ExitCode::from(1);
+    }
+    ExitCode::SUCCESS
 }

@@ -1,16 +1,9 @@
 //! Ropes that are made of texts, pieces or what an iterator gives, or re-chunked.
 use crate::TRIES;
-use crate::edits::{Edit, apply, made, repeated, show};
+use crate::edits::{Edit, apply_all, made, repeated, show};
 use ropey::{CowStr, Error, Result, Rope, RopeBuilder};
 use std::alloc::Global;
 use std::io::Print;
-
-/// A rope, and how many refused builders did not keep their error.
-#[derive(Drop)]
-struct Built {
-    rope: Rope,
-    faults: usize,
-}
 
 fn append_all(builder: &mut RopeBuilder, pieces: &[&str]) -> Result<()> {
     for piece in pieces {
@@ -19,27 +12,35 @@ fn append_all(builder: &mut RopeBuilder, pieces: &[&str]) -> Result<()> {
     Ok(())
 }
 
-/// Whether a builder that was refused answers the same error to every call.
-fn keeps_error(mut builder: RopeBuilder) -> bool {
-    for piece in ["", "x", ""] {
-        if builder.append(piece) != Err(Error::OutOfMemory) {
-            return false;
-        }
-    }
-    matches!(builder.finish(), Err(Error::OutOfMemory))
+/// Whether a builder that was refused answers the same error to every text.
+fn keeps_error(builder: &mut RopeBuilder) -> bool {
+    let answers = [builder.append(""), builder.append("x"), builder.append("")];
+    answers == [Err(Error::OutOfMemory); 3]
 }
 
-/// A rope of the pieces by a builder, made again where memory was refused.
-fn build(alloc: Global, pieces: &[&str]) -> Option<Built> {
-    let mut faults: usize = 0;
+/// A rope of the pieces by a builder. One that was refused has to answer the same error to every call, or is counted.
+fn build_once(mut builder: RopeBuilder, pieces: &[&str], faults: &mut usize) -> Option<Rope> {
+    let is_taken = append_all(&mut builder, pieces).is_ok();
+    let is_kept = is_taken || keeps_error(&mut builder);
+    match builder.finish() {
+        Ok(rope) if is_taken => Some(rope),
+        Err(error) if is_taken || (is_kept && error == Error::OutOfMemory) => None,
+        _ => {
+            *faults = faults.saturating_add(1);
+            None
+        }
+    }
+}
+
+/// A rope of the pieces, made again where memory was refused.
+fn build(alloc: Global, pieces: &[&str], faults: &mut usize) -> Option<Rope> {
     for _ in 0..TRIES {
-        let mut builder = RopeBuilder::new(alloc).ok()?;
-        if append_all(&mut builder, pieces).is_ok() {
-            if let Ok(rope) = builder.finish() {
-                return Some(Built { rope, faults });
-            }
-        } else if !keeps_error(builder) {
-            faults = faults.saturating_add(1);
+        let built = match RopeBuilder::new(alloc) {
+            Ok(builder) => build_once(builder, pieces, faults),
+            Err(_) => None,
+        };
+        if built.is_some() {
+            return built;
         }
     }
     None
@@ -71,6 +72,17 @@ fn three_of(alloc: Global, text: &str) -> Result<[String; 3]> {
     Ok([first, second, third])
 }
 
+/// A rope of a text three times, of which the second is owned.
+fn made_of_cows(alloc: Global, text: &str) -> Result<Rope> {
+    let owned = String::from_str(alloc, text)?;
+    let cows = [
+        CowStr::Borrowed(text),
+        CowStr::Owned(owned),
+        CowStr::Borrowed(text),
+    ];
+    Rope::from_cow_iter(alloc, cows)
+}
+
 /// A rope of the text, or of the text three times by a call that takes an iterator.
 fn make_once(alloc: Global, maker: Maker, text: &str) -> Result<Rope> {
     match maker {
@@ -78,14 +90,7 @@ fn make_once(alloc: Global, maker: Maker, text: &str) -> Result<Rope> {
         Maker::OfCow => Rope::from_cow(alloc, CowStr::Owned(String::from_str(alloc, text)?)),
         Maker::OfStrs => Rope::from_str_iter(alloc, [text, text, text]),
         Maker::OfStrings => Rope::from_string_iter(alloc, three_of(alloc, text)?),
-        Maker::OfCows => Rope::from_cow_iter(
-            alloc,
-            [
-                CowStr::Borrowed(text),
-                CowStr::Owned(String::from_str(alloc, text)?),
-                CowStr::Borrowed(text),
-            ],
-        ),
+        Maker::OfCows => made_of_cows(alloc, text),
     }
 }
 
@@ -113,39 +118,69 @@ fn sliced(alloc: Global, rope: &Rope, start: usize, end: usize) -> Option<Rope> 
     None
 }
 
-/// Makes ropes of pieces and by each call, prints what they are, and answers how many refused builders forgot it.
-fn make_all(rt: &impl Print, alloc: Global, long: &str) -> Option<usize> {
-    let built = build(alloc, &["é", long, "\r", "\n", long, "こ\r\n"])?;
-    show(rt, &built.rope)?;
-    for maker in MAKERS {
-        show(rt, &made_by(alloc, maker, long)?)?;
+/// Prints a rope, where there is one.
+fn show_made(rt: &impl Print, rope: Option<Rope>) -> bool {
+    match rope {
+        Some(rope) => show(rt, &rope),
+        None => false,
     }
-    Some(built.faults)
 }
 
-/// Inserts into a rope and re-chunks it, and answers how many refusals changed something.
-fn fill(rope: &mut Rope, long: &str) -> Option<usize> {
-    let mut faults: usize = 0;
-    for place in [0, 0, 2_500, 1_000, 7_000, 3] {
-        faults = faults.saturating_add(apply(rope, Edit::Insert(place, long))?);
+/// Makes ropes by each call, and prints what they are.
+fn make_all(rt: &impl Print, alloc: Global, long: &str) -> bool {
+    for maker in &MAKERS {
+        if !show_made(rt, made_by(alloc, *maker, long)) {
+            return false;
+        }
     }
-    Some(faults.saturating_add(apply(rope, Edit::ShrinkToFit)?))
+    true
+}
+
+/// Makes a rope of pieces, and prints what it is. A builder that forgot that it was refused is counted.
+fn build_and_show(rt: &impl Print, alloc: Global, long: &str, faults: &mut usize) -> bool {
+    let pieces = ["é", long, "\r", "\n", long, "こ\r\n"];
+    show_made(rt, build(alloc, &pieces, faults))
+}
+
+/// Inserts into a rope and re-chunks it.
+fn fill(rope: &mut Rope, long: &str, faults: &mut usize) -> bool {
+    let edits = [
+        Edit::Insert(0, long),
+        Edit::Insert(0, long),
+        Edit::Insert(2_500, long),
+        Edit::Insert(1_000, long),
+        Edit::Insert(7_000, long),
+        Edit::Insert(3, long),
+        Edit::ShrinkToFit,
+    ];
+    apply_all(rope, &edits, faults)
 }
 
 /// Prints what a rope and a part of it are.
-fn show_with_part(rt: &impl Print, alloc: Global, rope: &Rope) -> Option<()> {
-    show(rt, rope)?;
+fn show_with_part(rt: &impl Print, alloc: Global, rope: &Rope) -> bool {
     let chunks = rope.chunks().count();
-    println!(rt; "in {chunks}").ok()?;
-    show(rt, &sliced(alloc, rope, 1_200, 9_000)?)
+    show(rt, rope)
+        && println!(rt; "in {chunks}").is_ok()
+        && show_made(rt, sliced(alloc, rope, 1_200, 9_000))
 }
 
-/// Makes ropes of pieces and re-chunks a rope, prints what they are, and answers how many refusals changed or forgot something.
-pub fn run(rt: &impl Print, alloc: Global) -> Option<usize> {
-    let long = repeated(alloc, "a", 2_500)?;
-    let made_faults = make_all(rt, alloc, long.as_str())?;
-    let mut rope = made(alloc, "")?;
-    let faults = fill(&mut rope, long.as_str())?;
-    show_with_part(rt, alloc, &rope)?;
-    Some(faults.saturating_add(made_faults))
+/// Fills a rope and prints what it is.
+fn fill_and_show(rt: &impl Print, alloc: Global, long: &str, faults: &mut usize) -> bool {
+    match made(alloc, "") {
+        Some(mut rope) => fill(&mut rope, long, faults) && show_with_part(rt, alloc, &rope),
+        None => false,
+    }
+}
+
+/// Makes ropes of pieces and re-chunks a rope, prints what they are, and counts the refusals that changed or forgot
+/// something.
+pub fn run(rt: &impl Print, alloc: Global, faults: &mut usize) -> bool {
+    match repeated(alloc, "a", 2_500) {
+        Some(long) => {
+            build_and_show(rt, alloc, long.as_str(), faults)
+                && make_all(rt, alloc, long.as_str())
+                && fill_and_show(rt, alloc, long.as_str(), faults)
+        }
+        None => false,
+    }
 }

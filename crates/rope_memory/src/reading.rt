@@ -19,8 +19,17 @@ fn read(alloc: Global, bytes: &[u8]) -> Option<Rope> {
     None
 }
 
+fn read_and_show(rt: &impl Print, alloc: Global, text: &str) -> bool {
+    match read(alloc, text.as_bytes()) {
+        Some(rope) => show(rt, &rope),
+        None => false,
+    }
+}
+
 /// Reads a text of some chunks, and prints what it is.
-pub fn run(rt: &impl Print, alloc: Global) -> Option<()> {
-    let text = repeated(alloc, "aé\r\nこ🐸", 700)?;
-    show(rt, &read(alloc, text.as_str().as_bytes())?)
+pub fn run(rt: &impl Print, alloc: Global) -> bool {
+    match repeated(alloc, "aé\r\nこ🐸", 700) {
+        Some(text) => read_and_show(rt, alloc, text.as_str()),
+        None => false,
+    }
 }

@@ -20,70 +20,93 @@ fn owned(alloc: Global, text: &str) -> Option<String> {
     None
 }
 
+/// Whether a command is run and its reply added; not where memory was refused.
+fn is_run(session: &mut Session, commands: &[Command], replies: &mut Vec<Reply>) -> bool {
+    let is_replied = session.run(commands, replies).is_ok();
+    is_replied && !matches!(replies.last(), Some(Reply::Refused(Error::OutOfMemory)))
+}
+
 /// Runs one command, again where memory was refused, and answers its reply.
-fn reply_to(alloc: Global, session: &mut Session, command: Command) -> Option<Reply> {
-    let commands = [command];
+fn reply_to(alloc: Global, session: &mut Session, commands: &[Command]) -> Option<Reply> {
     for _ in 0..TRIES {
         let mut replies = Vec::new(alloc);
-        if session.run(&commands, &mut replies).is_ok() {
-            match replies.pop() {
-                Some(Reply::Refused(Error::OutOfMemory)) => {}
-                reply => return reply,
-            }
+        if is_run(session, commands, &mut replies) {
+            return replies.pop();
         }
     }
     None
 }
 
-/// The lengths of a rope of the session.
-fn lens(alloc: Global, session: &mut Session, rope: usize) -> Option<[usize; 4]> {
-    match reply_to(alloc, session, Command::Ask(rope, None, Query::Lens))? {
-        Reply::Lens(bytes, chars, lines, units) => Some([bytes, chars, lines, units]),
-        _ => None,
+/// Runs one command; none where it has no reply.
+fn run_one(alloc: Global, session: &mut Session, command: Command) -> Option<()> {
+    let commands = [command];
+    match reply_to(alloc, session, &commands) {
+        Some(_) => Some(()),
+        None => None,
     }
 }
 
-/// How many chunks a rope of the session has.
-fn chunks(alloc: Global, session: &mut Session, rope: usize) -> Option<usize> {
-    match reply_to(alloc, session, Command::Ask(rope, None, Query::Chunks))? {
-        Reply::Texts(texts) => Some(texts.len()),
-        _ => None,
-    }
-}
-
-/// Runs commands on three ropes, and prints what they are.
-fn run_each(rt: &impl Print, alloc: Global, session: &mut Session) -> Option<()> {
-    reply_to(alloc, session, Command::Text(owned(alloc, "a\r\nb")?))?;
-    reply_to(alloc, session, Command::Insert(0, 3, owned(alloc, "x")?))?;
-    reply_to(alloc, session, Command::Text(owned(alloc, "")?))?;
-    reply_to(alloc, session, Command::Insert(1, 0, owned(alloc, "y")?))?;
+/// Runs commands that make three ropes and edit them.
+fn make_each(alloc: Global, session: &mut Session) -> Option<()> {
+    run_one(alloc, session, Command::Text(owned(alloc, "a\r\nb")?))?;
+    run_one(alloc, session, Command::Insert(0, 3, owned(alloc, "x")?))?;
+    run_one(alloc, session, Command::Text(owned(alloc, "")?))?;
+    run_one(alloc, session, Command::Insert(1, 0, owned(alloc, "y")?))?;
     let lines = owned(alloc, "a\rb\n")?;
-    reply_to(alloc, session, Command::TextWith(LineBreaks::Lf, lines))?;
-    reply_to(alloc, session, Command::Shrink(0))?;
-    for rope in 0..3 {
-        let [bytes, chars, lines, units] = lens(alloc, session, rope)?;
-        let chunks = chunks(alloc, session, rope)?;
-        println!(rt; "{bytes} {chars} {lines} {units} in {chunks}").ok()?;
-    }
-    Some(())
+    run_one(alloc, session, Command::TextWith(LineBreaks::Lf, lines))?;
+    run_one(alloc, session, Command::Shrink(0))
 }
 
-/// The same, on a session that begins with no rope.
-fn run_commands(rt: &impl Print, alloc: Global) -> Option<()> {
+/// Prints lengths, or how many texts there are.
+fn show_counts(rt: &impl Print, reply: &Reply) -> bool {
+    match reply {
+        Reply::Lens(bytes, chars, lines, units) => {
+            print!(rt; "{bytes} {chars} {lines} {units} in ").is_ok()
+        }
+        Reply::Texts(texts) => println!(rt; "{}", texts.len()).is_ok(),
+        _ => false,
+    }
+}
+
+/// Asks a rope of the session for its lengths or its chunks, and prints them or how many they are.
+fn ask(rt: &impl Print, alloc: Global, session: &mut Session, rope: usize, query: Query) -> bool {
+    let commands = [Command::Ask(rope, None, query)];
+    match reply_to(alloc, session, &commands) {
+        Some(reply) => show_counts(rt, &reply),
+        None => false,
+    }
+}
+
+/// Prints what the three ropes are.
+fn show_each(rt: &impl Print, alloc: Global, session: &mut Session) -> bool {
+    for rope in 0..3usize {
+        if !ask(rt, alloc, session, rope, Query::Lens)
+            || !ask(rt, alloc, session, rope, Query::Chunks)
+        {
+            return false;
+        }
+    }
+    true
+}
+
+/// Runs commands on three ropes of a session that begins with none, and prints what they are.
+fn run_commands(rt: &impl Print, alloc: Global) -> bool {
     let mut session = Session::new(alloc);
-    run_each(rt, alloc, &mut session)
+    make_each(alloc, &mut session).is_some() && show_each(rt, alloc, &mut session)
+}
+
+const STEPS: [Move; 4] = [Move::Next, Move::Next, Move::Reverse, Move::Next];
+
+/// Fills an empty list with the steps of a walk. Only its room takes memory.
+fn fill(moves: &mut Vec<Move>) -> bool {
+    moves.reserve(STEPS.len()).is_ok() && moves.extend_from_slice(&STEPS).is_ok()
 }
 
 /// Steps of a walk, made again where memory was refused.
 fn moves(alloc: Global) -> Option<Vec<Move>> {
     for _ in 0..TRIES {
         let mut moves = Vec::new(alloc);
-        if moves.reserve(4).is_ok() {
-            for step in [Move::Next, Move::Next, Move::Reverse, Move::Next] {
-                if moves.push(step).is_err() {
-                    return None;
-                }
-            }
+        if fill(&mut moves) {
             return Some(moves);
         }
     }
@@ -114,89 +137,118 @@ fn commands_with(text: String, line: String, moves: Vec<Move>) -> [Command; 14] 
 fn many_commands(alloc: Global) -> Option<[Command; 14]> {
     let text = owned(alloc, "a\r\nbこ🐸")?;
     let line = owned(alloc, "x\n")?;
-    Some(commands_with(text, line, moves(alloc)?))
+    match moves(alloc) {
+        Some(moves) => Some(commands_with(text, line, moves)),
+        None => None,
+    }
 }
 
 /// Runs the commands, and where memory was refused those that have no reply yet, on the ropes that the others left.
-fn run_all(session: &mut Session, commands: &[Command], replies: &mut Vec<Reply>) -> Option<()> {
+fn run_all(session: &mut Session, commands: &[Command], replies: &mut Vec<Reply>) -> bool {
     for _ in 0..TRIES {
-        let left = commands.get(replies.len()..)?;
+        let Some(left) = commands.get(replies.len()..) else {
+            return false;
+        };
         if session.run(left, replies).is_ok() {
-            return if replies.len() == commands.len() {
-                Some(())
-            } else {
-                None
-            };
+            return replies.len() == commands.len();
         }
     }
-    None
+    false
+}
+
+/// The same, on a session that begins with no rope.
+fn run_anew(alloc: Global, commands: &[Command], replies: &mut Vec<Reply>) -> bool {
+    let mut session = Session::new(alloc);
+    run_all(&mut session, commands, replies)
 }
 
 /// Prints what a reply says, in a line.
-fn show_reply(rt: &impl Print, reply: &Reply) -> Option<()> {
+fn show_reply(rt: &impl Print, reply: &Reply) -> bool {
     match reply {
-        Reply::Done => println!(rt; "ok").ok(),
-        Reply::Made(rope) => println!(rt; "rope {rope}").ok(),
+        Reply::Done => println!(rt; "ok").is_ok(),
+        Reply::Made(rope) => println!(rt; "rope {rope}").is_ok(),
         Reply::Lens(bytes, chars, lines, units) => {
-            println!(rt; "{bytes} {chars} {lines} {units}").ok()
+            println!(rt; "{bytes} {chars} {lines} {units}").is_ok()
         }
-        Reply::Text(text) => println!(rt; "a text of {}", text.len()).ok(),
-        Reply::Texts(texts) => println!(rt; "{} texts", texts.len()).ok(),
+        Reply::Text(text) => println!(rt; "a text of {}", text.len()).is_ok(),
+        Reply::Texts(texts) => println!(rt; "{} texts", texts.len()).is_ok(),
         Reply::Chunk(text, bytes, chars, break_count) => {
             println!(rt;
                 "a chunk of {} at {bytes} {chars} {break_count}",
                 text.len()
             )
-            .ok()
+            .is_ok()
         }
-        Reply::Walk(items) => println!(rt; "{} items", items.len()).ok(),
-        Reply::Order(Ordering::Less) => println!(rt; "less").ok(),
-        _ => println!(rt; "another reply").ok(),
+        Reply::Walk(items) => println!(rt; "{} items", items.len()).is_ok(),
+        Reply::Order(Ordering::Less) => println!(rt; "less").is_ok(),
+        _ => println!(rt; "another reply").is_ok(),
     }
 }
 
-/// Runs many commands at once, and prints their replies.
-fn run_at_once(rt: &impl Print, alloc: Global) -> Option<()> {
-    let commands = many_commands(alloc)?;
-    for _ in 0..TRIES {
-        let mut session = Session::new(alloc);
-        let mut replies = Vec::new(alloc);
-        run_all(&mut session, &commands, &mut replies)?;
-        // A command whose rope refused is replied so, and what follows goes on without it.
-        let is_refused = |reply: &Reply| matches!(reply, Reply::Refused(Error::OutOfMemory));
-        if !replies.iter().any(is_refused) {
-            for reply in replies.iter() {
-                show_reply(rt, reply)?;
-            }
-            return Some(());
+/// Whether a command's rope refused memory: that is replied, and what follows goes on without it.
+fn is_refused(replies: &[Reply]) -> bool {
+    for reply in replies {
+        if matches!(reply, Reply::Refused(Error::OutOfMemory)) {
+            return true;
         }
     }
-    None
+    false
+}
+
+fn show_all(rt: &impl Print, replies: &[Reply]) -> bool {
+    for reply in replies {
+        if !show_reply(rt, reply) {
+            return false;
+        }
+    }
+    true
+}
+
+/// Runs commands at once, again where memory was refused, and prints their replies.
+fn run_and_show(rt: &impl Print, alloc: Global, commands: &[Command]) -> bool {
+    for _ in 0..TRIES {
+        let mut replies = Vec::new(alloc);
+        if !run_anew(alloc, commands, &mut replies) {
+            return false;
+        }
+        if !is_refused(&replies) {
+            return show_all(rt, &replies);
+        }
+    }
+    false
+}
+
+fn run_at_once(rt: &impl Print, alloc: Global) -> bool {
+    match many_commands(alloc) {
+        Some(commands) => run_and_show(rt, alloc, &commands),
+        None => false,
+    }
+}
+
+/// What was written, where memory was refused for none of it: a command for which it was is given as a reply, and what
+/// follows goes on without it.
+fn complete(written: &[u8]) -> Option<&str> {
+    match str::from_utf8(written) {
+        Ok(text) if !text.contains("error: Out of memory\n") => Some(text),
+        _ => None,
+    }
 }
 
 /// Serves the lines, again where memory was refused, and prints what was written.
-fn serve_lines(rt: &impl Print, alloc: Global) -> Option<()> {
+fn serve_lines(rt: &impl Print, alloc: Global) -> bool {
     for _ in 0..TRIES {
-        let mut reader = INPUT.as_bytes();
         let mut written = Vec::new(alloc);
-        match serve(alloc, &mut reader, &mut written) {
-            Ended::Done => {
-                let text = str::from_utf8(&written).ok()?;
-                // A command that memory was refused for is given as a reply, and what follows goes on without it.
-                if !text.contains("error: Out of memory\n") {
-                    return print!(rt; "{text}").ok();
-                }
+        let mut reader = INPUT.as_bytes();
+        if serve(alloc, &mut reader, &mut written) == Ended::Done {
+            if let Some(text) = complete(&written) {
+                return print!(rt; "{text}").is_ok();
             }
-            Ended::OutOfMemory | Ended::Failed => {}
-            Ended::BadLine(_) => return None,
         }
     }
-    None
+    false
 }
 
 /// Runs commands and serves lines, and prints what they gave.
-pub fn run(rt: &impl Print, alloc: Global) -> Option<()> {
-    run_commands(rt, alloc)?;
-    run_at_once(rt, alloc)?;
-    serve_lines(rt, alloc)
+pub fn run(rt: &impl Print, alloc: Global) -> bool {
+    run_commands(rt, alloc) && run_at_once(rt, alloc) && serve_lines(rt, alloc)
 }

@@ -1,7 +1,7 @@
 //! Texts that are copied out of ropes and slices.
 use crate::TRIES;
 use crate::edits::{fingerprint, made, repeated};
-use ropey::{Error, Result, Rope};
+use ropey::{CowStr, Error, Result, Rope};
 use std::alloc::Global;
 use std::convert::AsStr;
 use std::io::Print;
@@ -26,52 +26,90 @@ const COPIERS: [Copier; 6] = [
     Copier::SliceToCow,
 ];
 
-/// Whether a call gives the text. A call that takes the rope is handed a clone.
-fn copies_once(alloc: Global, copier: Copier, rope: &Rope, text: &str) -> Result<bool> {
-    match copier {
-        Copier::ToString => Ok(rope.try_to_string(alloc)?.as_str() == text),
-        Copier::ToCow => Ok(rope.try_to_cow(alloc)?.as_str() == text),
-        Copier::IntoString => Ok(rope.clone()?.try_into_string()?.as_str() == text),
-        Copier::IntoCow => Ok(rope.clone()?.try_into_cow()?.as_str() == text),
-        Copier::SliceToString => Ok(rope.slice(..).try_to_string(alloc)?.as_str() == text),
-        Copier::SliceToCow => Ok(rope.slice(..).try_to_cow(alloc)?.as_str() == text),
+fn is_string(copy: Result<String>, text: &str) -> Result<bool> {
+    match copy {
+        Ok(copy) => Ok(copy.as_str() == text),
+        Err(error) => Err(error),
     }
 }
 
-/// Copies, again where memory was refused. Answers whether the text was given, and no refusal changed the rope.
-fn copies(alloc: Global, copier: Copier, rope: &Rope, text: &str) -> Option<bool> {
+fn is_cow(copy: Result<CowStr<'_>>, text: &str) -> Result<bool> {
+    match copy {
+        Ok(copy) => Ok(copy.as_str() == text),
+        Err(error) => Err(error),
+    }
+}
+
+/// Whether a call gives the text. A call that takes the rope is handed a clone.
+fn copies_once(alloc: Global, copier: Copier, rope: &Rope, text: &str) -> Result<bool> {
+    match copier {
+        Copier::ToString => is_string(rope.try_to_string(alloc), text),
+        Copier::ToCow => is_cow(rope.try_to_cow(alloc), text),
+        Copier::IntoString => is_string(rope.clone()?.try_into_string(), text),
+        Copier::IntoCow => is_cow(rope.clone()?.try_into_cow(), text),
+        Copier::SliceToString => is_string(rope.slice(..).try_to_string(alloc), text),
+        Copier::SliceToCow => is_cow(rope.slice(..).try_to_cow(alloc), text),
+    }
+}
+
+/// Copies, again where memory was refused, and counts another text or a refusal that changed the rope. Answers whether
+/// it is done.
+fn copies(alloc: Global, copier: Copier, rope: &Rope, text: &str, faults: &mut usize) -> bool {
     let before = fingerprint(rope);
     let mut is_kept = true;
     for _ in 0..TRIES {
         match copies_once(alloc, copier, rope, text) {
-            Ok(is_text) => return Some(is_text && is_kept),
+            Ok(is_text) => {
+                if !is_text || !is_kept {
+                    *faults = faults.saturating_add(1);
+                }
+                return true;
+            }
             Err(Error::OutOfMemory) => is_kept = is_kept && fingerprint(rope) == before,
-            Err(_) => return None,
+            Err(_) => return false,
         }
     }
-    None
+    false
 }
 
-/// Copies the text of a rope by each call, and answers how often it was another or a refusal changed the rope.
-fn count_faults(alloc: Global, rope: &Rope, text: &str) -> Option<usize> {
-    let mut faults: usize = 0;
-    for copier in COPIERS {
-        if !copies(alloc, copier, rope, text)? {
-            faults = faults.saturating_add(1);
+/// Copies the text of a rope by each call.
+fn copy_all(alloc: Global, rope: &Rope, text: &str, faults: &mut usize) -> bool {
+    for copier in &COPIERS {
+        if !copies(alloc, *copier, rope, text, faults) {
+            return false;
         }
     }
-    Some(faults)
+    true
 }
 
-/// Copies the texts of a long and of a short rope, and answers how often a text was another or a refusal changed a rope.
-pub fn run(rt: &impl Print, alloc: Global) -> Option<usize> {
-    let long = repeated(alloc, "é\r\n", 1_000)?;
-    let mut faults: usize = 0;
-    for text in [long.as_str(), "Hello!"] {
-        let rope = made(alloc, text)?;
-        let more = count_faults(alloc, &rope, text)?;
-        println!(rt; "copied, {more} faults").ok()?;
-        faults = faults.saturating_add(more);
+/// Copies the text of a rope by each call, and prints how often it was another or a refusal changed the rope.
+fn show_copied(
+    rt: &impl Print,
+    alloc: Global,
+    rope: &Rope,
+    text: &str,
+    faults: &mut usize,
+) -> bool {
+    let mut more = 0;
+    let is_done = copy_all(alloc, rope, text, &mut more);
+    *faults = faults.saturating_add(more);
+    is_done && println!(rt; "copied, {more} faults").is_ok()
+}
+
+fn copy_out(rt: &impl Print, alloc: Global, text: &str, faults: &mut usize) -> bool {
+    match made(alloc, text) {
+        Some(rope) => show_copied(rt, alloc, &rope, text, faults),
+        None => false,
     }
-    Some(faults)
+}
+
+/// Copies the texts of a long and of a short rope, and counts the texts that were others and the refusals that
+/// changed a rope.
+pub fn run(rt: &impl Print, alloc: Global, faults: &mut usize) -> bool {
+    match repeated(alloc, "é\r\n", 1_000) {
+        Some(long) => {
+            copy_out(rt, alloc, long.as_str(), faults) && copy_out(rt, alloc, "Hello!", faults)
+        }
+        None => false,
+    }
 }
