@@ -11,7 +11,7 @@ use std::hash::{FoldHasher, Hash, Hasher};
 fn types(rope: &mut Rope, text: &str) -> bool {
     for c in text.chars() {
         let end = rope.len_chars();
-        if rope.try_insert_char(end, c).is_err() {
+        if rope.insert_char(end, c).is_err() {
             return false;
         }
     }
