@@ -5,7 +5,7 @@ ghost use Rattle.std.specs.List.{flat_map};
 ghost use Rattle.std.specs.Str.{chars};
 ghost use Rattle.std.specs.String.{string_bytes};
 ghost use Rattle.rope_language.specs.ReplyLine as words;
-ghost use Rattle.rope_language.specs.ReplyLine.{quoted_char, quoted, item_words, reply_line, reply_lines};
+ghost use Rattle.rope_language.specs.ReplyLine.{quoted_char, quoted, item_words, reply_words, reply_line, reply_lines};
 
 use rope_script::{Item, Reply};
 use ropey::LineBreaks;
@@ -28,31 +28,36 @@ pub(crate) fn lines_of(alloc: Global, replies: &[Reply]) -> Result<String, Alloc
 fn write_reply(out: &mut String, reply: &Reply) -> Result<(), AllocError>
     ensures { OnOk result (string_bytes out.new ≡ string_bytes out.old ++ reply_line reply.now) }
 {
+    write_words(out, reply)?;
+    out.push('\n')
+}
+
+/// Adds the words of a reply.
+fn write_words(out: &mut String, reply: &Reply) -> Result<(), AllocError>
+    ensures { OnOk result (string_bytes out.new ≡ string_bytes out.old ++ reply_words reply.now) }
+{
     match reply {
-        Reply::Done => out.push_str("ok")?,
-        Reply::Made(rope) => write!(out, "rope {rope}")?,
-        Reply::NoRope => out.push_str("no rope")?,
-        Reply::NoSlice => out.push_str("no slice")?,
-        Reply::Absent => out.push_str("none")?,
-        Reply::Refused(error) => write!(out, "error: {error}")?,
-        Reply::Lens(bytes, chars, lines, units) => {
-            write!(out, "{bytes} {chars} {lines} {units}")?;
-        }
-        Reply::Number(number) => write!(out, "{number}")?,
-        Reply::Byte(byte) => write!(out, "{byte}")?,
-        Reply::Char(c) => quote_alone(out, *c)?,
-        Reply::Text(text) => quote(out, text.as_str())?,
-        Reply::Texts(texts) => write_texts(out, texts)?,
-        Reply::Breaks(breaks) => out.push_str(breaks_word(*breaks))?,
+        Reply::Done => out.push_str("ok"),
+        Reply::Made(rope) => write!(out, "rope {rope}"),
+        Reply::NoRope => out.push_str("no rope"),
+        Reply::NoSlice => out.push_str("no slice"),
+        Reply::Absent => out.push_str("none"),
+        Reply::Refused(error) => write!(out, "error: {error}"),
+        Reply::Lens(bytes, chars, lines, units) => write!(out, "{bytes} {chars} {lines} {units}"),
+        Reply::Number(number) => write!(out, "{number}"),
+        Reply::Byte(byte) => write!(out, "{byte}"),
+        Reply::Char(c) => quote_alone(out, *c),
+        Reply::Text(text) => quote(out, text.as_str()),
+        Reply::Texts(texts) => write_texts(out, texts),
+        Reply::Breaks(breaks) => out.push_str(breaks_word(*breaks)),
         Reply::Chunk(text, bytes, chars, break_count) => {
             quote(out, text.as_str())?;
-            write!(out, " {bytes} {chars} {break_count}")?;
+            write!(out, " {bytes} {chars} {break_count}")
         }
-        Reply::Walk(items) => write_items(out, items)?,
-        Reply::Order(order) => out.push_str(order_word(*order))?,
-        Reply::Position(line, column) => write!(out, "{line} {column}")?,
+        Reply::Walk(items) => write_items(out, items),
+        Reply::Order(order) => out.push_str(order_word(*order)),
+        Reply::Position(line, column) => write!(out, "{line} {column}"),
     }
-    out.push('\n')
 }
 
 /// The word that names a set of line breaks.

@@ -118,17 +118,42 @@ fn answer_lines<R: Read, W: Write>(
     let mut session = Session::new(alloc);
     let mut input = Input::new();
     let mut line = Vec::new(alloc);
+    answer_with(
+        alloc,
+        &mut session,
+        &mut input,
+        &mut line,
+        reader,
+        writer,
+        output,
+    )
+}
+
+/// Answers each line on this session. `line` is room for one.
+fn answer_with<R: Read, W: Write>(
+    alloc: Global,
+    session: &mut Session,
+    input: &mut Input,
+    line: &mut Vec<u8>,
+    reader: &mut R,
+    writer: &mut W,
+    output: &mut Output,
+) -> Ended
+    ensures done { result ≡ Ended.Done → IsAtEnd (R.remaining reader.new) }
+    ensures put { result ≢ Ended.Failed → (left : List Content) × PutsRun session.old left
+        (W.contents writer.old) (W.contents writer.new) output.old output.new }
+{
     for earlier in 0..u64::MAX {
-        match input.next_line(reader, &mut line, writer, output) {
+        match input.next_line(reader, line, writer, output) {
             Ok(true) => {}
             Ok(false) => return Ended::Done,
             Err(fault) => return end_of(fault, earlier + 1),
         }
-        if let Err(fault) = answer(alloc, &mut session, &line, writer, output) {
+        if let Err(fault) = answer(alloc, session, line, writer, output) {
             return end_of(fault, earlier + 1);
         }
     }
-    match input.next_line(reader, &mut line, writer, output) {
+    match input.next_line(reader, line, writer, output) {
         Ok(true) => Ended::BadLine(u64::MAX),
         Ok(false) => Ended::Done,
         Err(fault) => end_of(fault, u64::MAX),

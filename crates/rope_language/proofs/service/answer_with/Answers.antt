@@ -1,17 +1,17 @@
-use Rattle.std.proofs.Common.{[], ap}
+use Rattle.std.proofs.Common.{ap}
 use Rattle.rope_language.proofs.Serving.{PutsRun-nothing, PutsRun-both, PutsRun-on, PutsRun-kept}
-use Rattle.rope_language.proofs.service.answer_lines.Goals as goal
+use Rattle.rope_language.proofs.service.answer_with.Goals as goal
 
 pub loop-earlier-init : goal.loop-earlier-init
-loop-earlier-init g c = rw c.new-session.ensures (PutsRun-nothing [] (g.W.Write.contents c.args.writer.now) c.args.output.now)
+loop-earlier-init g c = PutsRun-nothing c.args.session.now (g.W.Write.contents c.args.writer.now) c.args.output.now
 
 pub loop-earlier-preserved : goal.loop-earlier-preserved
 loop-earlier-preserved g c =
     let held = g.W.Write.contents in
-    PutsRun-both [] c.loop-earlier.session c.answer.new.session
+    PutsRun-both c.args.session.now c.loop-earlier.session c.answer.new.session
     (held c.args.writer.now) (held c.next_line.new.writer) (held c.answer.new.writer)
     c.args.output.now c.next_line.new.output c.answer.new.output
-    (PutsRun-on [] c.loop-earlier.session
+    (PutsRun-on c.args.session.now c.loop-earlier.session
     (held c.args.writer.now) (held c.loop-earlier.writer) (held c.next_line.new.writer)
     c.args.output.now c.loop-earlier.output c.next_line.new.output c.loop-earlier.invariant c.in-Ok-true.ensures.put)
     c.in_default.ensures.put
@@ -20,7 +20,7 @@ pub returns-in-Ok-false-clause-put : goal.returns-in-Ok-false-clause-put
 returns-in-Ok-false-clause-put g c = λ _.
     let held = g.W.Write.contents in (
       c.loop-earlier.session,
-      PutsRun-on [] c.loop-earlier.session
+      PutsRun-on c.args.session.now c.loop-earlier.session
           (held c.args.writer.now) (held c.loop-earlier.writer) (held c.next_line.new.writer)
           c.args.output.now c.loop-earlier.output c.next_line.new.output c.loop-earlier.invariant c.in-Ok-false.ensures.put,
     )
@@ -29,7 +29,7 @@ pub returns-in-Err-clause-put : goal.returns-in-Err-clause-put
 returns-in-Err-clause-put g c = λ other.
     let held = g.W.Write.contents in (
       c.loop-earlier.session,
-      PutsRun-on [] c.loop-earlier.session
+      PutsRun-on c.args.session.now c.loop-earlier.session
           (held c.args.writer.now) (held c.loop-earlier.writer) (held c.next_line.new.writer)
           c.args.output.now c.loop-earlier.output c.next_line.new.output c.loop-earlier.invariant
           (c.in-Err.ensures.kept (c.end_of.ensures.failed other)),
@@ -40,10 +40,10 @@ returns-in-Err-answer-clause-put g c = λ other.
     let held = g.W.Write.contents in
     let kept = c.in-Err-answer.ensures.kept (c.end_of-in-Err-answer.ensures.failed other) in (
       c.loop-earlier.session,
-      PutsRun-kept [] c.loop-earlier.session
+      PutsRun-kept c.args.session.now c.loop-earlier.session
           (held c.args.writer.now) (held c.next_line.new.writer) (held c.answer.new.writer)
           c.args.output.now c.next_line.new.output c.answer.new.output
-          (PutsRun-on [] c.loop-earlier.session
+          (PutsRun-on c.args.session.now c.loop-earlier.session
           (held c.args.writer.now) (held c.loop-earlier.writer) (held c.next_line.new.writer)
           c.args.output.now c.loop-earlier.output c.next_line.new.output c.loop-earlier.invariant c.in-Ok-true.ensures.put)
           (ap held kept.0) kept.1,
@@ -53,7 +53,7 @@ pub returns-in-Ok-true-next_line-clause-put : goal.returns-in-Ok-true-next_line-
 returns-in-Ok-true-next_line-clause-put g c = λ _.
     let held = g.W.Write.contents in (
       c.loop-earlier.session,
-      PutsRun-on [] c.loop-earlier.session
+      PutsRun-on c.args.session.now c.loop-earlier.session
           (held c.args.writer.now) (held c.loop-earlier.writer) (held c.next_line-2.new.writer)
           c.args.output.now c.loop-earlier.output c.next_line-2.new.output c.loop-earlier.invariant c.in-Ok-true-next_line.ensures.put,
     )
@@ -62,16 +62,16 @@ pub returns-in-Ok-false-next_line-clause-put : goal.returns-in-Ok-false-next_lin
 returns-in-Ok-false-next_line-clause-put g c = λ _.
     let held = g.W.Write.contents in (
       c.loop-earlier.session,
-      PutsRun-on [] c.loop-earlier.session
+      PutsRun-on c.args.session.now c.loop-earlier.session
           (held c.args.writer.now) (held c.loop-earlier.writer) (held c.next_line-2.new.writer)
           c.args.output.now c.loop-earlier.output c.next_line-2.new.output c.loop-earlier.invariant c.in-Ok-false-next_line.ensures.put,
     )
 
-pub returns-clause-put : goal.returns-clause-put
-returns-clause-put g c = λ other.
+pub returns-in-Err-next_line-clause-put : goal.returns-in-Err-next_line-clause-put
+returns-in-Err-next_line-clause-put g c = λ other.
     let held = g.W.Write.contents in (
       c.loop-earlier.session,
-      PutsRun-on [] c.loop-earlier.session
+      PutsRun-on c.args.session.now c.loop-earlier.session
           (held c.args.writer.now) (held c.loop-earlier.writer) (held c.next_line-2.new.writer)
           c.args.output.now c.loop-earlier.output c.next_line-2.new.output c.loop-earlier.invariant
           (c.in-Err-next_line.ensures.kept (c.end_of-in-Err-next_line.ensures.failed other)),

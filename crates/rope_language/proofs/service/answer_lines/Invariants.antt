@@ -1,6 +1,0 @@
-use Rattle.std.proofs.Common.{[]}
-use Rattle.rope_language.specs.Serving.{PutsRun}
-use Rattle.rope_language.proofs.service.answer_lines.Given as goal
-
-abbrev pub invariant-loop-earlier : goal.invariant-loop-earlier
-invariant-loop-earlier g l = PutsRun [] l.session (g.W.Write.contents l.fn.writer) (g.W.Write.contents l.writer) l.fn.output l.output
