@@ -12,6 +12,7 @@ use crate::rope::Rope;
 use rope_join::edit::{Parts, append, remove, split};
 use rope_text::range::{IndexRange, char_bounds};
 use rope_text::{Error, MAX_TEXT_BYTES, Result, Steps};
+use std::mem;
 
 impl Rope {
     /// As `split_off`, for any index.
@@ -212,7 +213,7 @@ impl Rope {
     ///
     /// First `LineBreaksDiffer`, then `TooLong`, then `OutOfMemory`, as for `append`. A refused call leaves the
     /// rope as it was.
-    pub fn append_counted(&mut self, other: Rope, steps: &mut Steps) -> Result<()>
+    pub fn append_counted(&mut self, mut other: Rope, steps: &mut Steps) -> Result<()>
         ensures ok { OnOk result ((append_error self.old.breaks other.breaks self.old.text other.text ≡ None) × (self.new.text ≡ self.old.text ++ other.text)) }
         ensures refused { IfErr result (IsRefusal (append_error self.old.breaks other.breaks self.old.text other.text)) }
         ensures err { OnErr result (self.new ≡ self.old) }
@@ -235,7 +236,7 @@ impl Rope {
             return Ok(());
         }
         if bytes == 0 {
-            self.root = other.root;
+            mem::swap(&mut self.root, &mut other.root);
             return Ok(());
         }
         let root = append(self.alloc, &self.root, &other.root, &mut steps.made)?;

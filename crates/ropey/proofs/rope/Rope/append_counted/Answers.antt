@@ -3,6 +3,7 @@ use Rattle.std.proofs.Common.{rules, ◌≡◌, ◌++◌, Bool, true, false, not
 use Rattle.std.proofs.lemmas.List.{append-nil}
 use denote.Enum.Bare.{same_true}
 use Rattle.rope_text.specs.contracts.line_breaks.LineBreaks.{the_type}
+use Rattle.rope_tree.specs.Tree.{text}
 use Rattle.ropey.proofs.Ropes.{rope_of}
 use Rattle.ropey.proofs.Refusals.{append_error-none, no_text}
 use Rattle.ropey.proofs.rope.Rope.append_counted.Goals.{Else-ne}
@@ -34,7 +35,7 @@ pub returns-then-bytes-eq0-clause-ok : goal.returns-then-bytes-eq0-clause-ok
 returns-then-bytes-eq0-clause-ok c =
     let none = no_text c.args.self.now.text (sym c.len_bytes-bytes.ensures.value ∙ c.if-bytes-eq0.true) in (
       append_error-none c.args.self.now.breaks c.args.other.breaks c.args.self.now.text c.args.other.text (same (goal.at.returns-then-bytes-eq0-clause-ok c).Else-ne) (omega (arith, c.len_bytes-more.ensures.value, c.len_bytes-bytes.ensures.value, c.if-bytes-eq0.true, c.len_bytes-more.ensures.kept.content.fits)),
-      ap (λ r. r.text) c.other.view_is ∙ sym (ap (λ t. t ++ c.args.other.text) none),
+      ap text c.swap.ensures.x_after ∙ ap (λ r. r.text) c.other.view_is ∙ sym (ap (λ t. t ++ c.args.other.text) none),
     )
 
 pub returns-clause-kept : goal.returns-clause-kept
