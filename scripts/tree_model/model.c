@@ -15,6 +15,7 @@
 //   TWOCOUNT  both parts of a leaf that is split are counted
 //   TWOWAYS   a split goes down twice, once for each part
 //   FROMSTART a look-up of a line counts the leaf from its start, not its shorter side
+//   LAST      an insert first tries the child that the last one went to, and then searches
 //   BYVALUE   a list is made in a place of its own, and copied to where it stays, twice
 #define _GNU_SOURCE
 #include <stdint.h>
@@ -37,7 +38,7 @@ typedef struct { u64 n[4]; } Info;                      // by BYTE, CHAR, PAIR, 
 typedef struct { u64 tag; void *p; } Node;
 typedef struct { u64 strong, weak; u16 chars, breaks, bytes; u8 pairs, set; u8 text[MAXB]; u64 len; } Leaf;
 typedef struct { u64 len; u64 row[4][MAXC]; } Wide;
-typedef struct { u64 strong, weak; u8 height, set; u64 wide; union { struct { u64 len; u16 row[4][MAXC]; } n; Wide *w; }; Node nodes[MAXC]; } Inner;
+typedef struct { u64 strong, weak; u8 height, set, last; u64 wide; union { struct { u64 len; u16 row[4][MAXC]; } n; Wide *w; }; Node nodes[MAXC]; } Inner;
 _Static_assert(sizeof(Leaf) == 1016, "leaf"); _Static_assert(sizeof(Inner) == 616, "inner");
 static const Info ZERO;
 INL Info plus(Info a, Info b) { for (int r = 0; r < 4; r++) a.n[r] += b.n[r]; return a; }
@@ -633,7 +634,13 @@ INL void insert_at(Node *root, u64 at, const u8 *s, u64 n) {
     while (cur->tag == INNER) {
         own(cur); p = cur->p;
         if (unlikely(!p->wide && p->n.row[BYTE][p->n.len - 1] + n >= WIDE)) widen(p);
-        k = place_of(p, CHAR, at ? at - 1 : 0); at -= before1(p, k, CHAR); way[h].p = p; way[h++].k = k; cur = &p->nodes[k]; touch(p, k, at);
+#ifdef LAST
+        u64 held = at ? at - 1 : 0; k = p->last;
+        if (!(k < len_of(p) && held < total(p, k, CHAR) && before1(p, k, CHAR) <= held)) { k = place_of(p, CHAR, held); p->last = (u8)k; }
+#else
+        k = place_of(p, CHAR, at ? at - 1 : 0);
+#endif
+        at -= before1(p, k, CHAR); way[h].p = p; way[h++].k = k; cur = &p->nodes[k]; touch(p, k, at);
 #ifdef DOWN
         if (p->height > 1) retotal(p, k, d);
         else {

@@ -3,7 +3,6 @@
 #![tactic(auto)]
 
 pub mod compare;
-pub mod given;
 pub mod items;
 pub mod numbers;
 pub mod places;

@@ -101,7 +101,7 @@ fn front_len(text: &str, chars: usize) -> usize {
 
 /// Whether so many characters of a leaf have their bytes, from each place on.
 fn has_ranges(leaf: &NodeText, text: &str, len: usize) -> bool {
-    let count = leaf.count_chars();
+    let count = count_chars(leaf.as_str());
     for start in 0..count.saturating_add(2) {
         let end = start.saturating_add(len);
         let range = leaf.byte_range(start, end, count);

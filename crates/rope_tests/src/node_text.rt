@@ -2,6 +2,7 @@
 ghost use Rattle.std.specs.Prelude.{◌≡◌};
 ghost use Rattle.rope_text.specs.Text.{byte_len};
 
+use rope_text::str_utils::count_chars;
 use rope_tree::node_text::NodeText;
 
 fn hello() -> NodeText
@@ -13,7 +14,7 @@ fn hello() -> NodeText
 #[test]
 fn inserts(rt: HostRuntime) {
     let mut inner = hello();
-    let place = inner.byte_range(3, 3, inner.count_chars()).from;
+    let place = inner.byte_range(3, 3, count_chars(inner.as_str())).from;
     inner.insert_bytes(place, "oz");
     let mut last = hello();
     last.push_str("oz");
@@ -24,7 +25,7 @@ fn inserts(rt: HostRuntime) {
 #[test]
 fn removals(rt: HostRuntime) {
     let mut text = hello();
-    let range = text.byte_range(2, 4, text.count_chars());
+    let range = text.byte_range(2, 4, count_chars(text.as_str()));
     text.remove_bytes(range);
     assert!(rt; text.as_str() == "Heo!");
 }
@@ -32,7 +33,7 @@ fn removals(rt: HostRuntime) {
 #[test]
 fn removals_of_a_wide_character(rt: HostRuntime) {
     let mut text = NodeText::from_str("H\u{e9}llo!");
-    let range = text.byte_range(1, 3, text.count_chars());
+    let range = text.byte_range(1, 3, count_chars(text.as_str()));
     text.remove_bytes(range);
     assert!(rt; text.as_str() == "Hlo!");
 }

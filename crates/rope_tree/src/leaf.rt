@@ -102,6 +102,12 @@ impl Leaf {
         self.info().bytes > MAX_BYTES.saturating_sub(bytes)
     }
 
+    /// Whether it has no text, which none has: to ask it reads the leaf ahead.
+    #[inline(always)]
+    pub(crate) fn is_no_text(&self) -> bool {
+        self.text.is_no_text()
+    }
+
     /// Puts a text before the character `at`, if there is room for it; returns whether it did. It takes no memory.
     pub(crate) fn insert_in_place(&mut self, at: usize, added: &ShortText<'_>) -> bool
         requires within { at ≤ length (text self.old) }
@@ -109,7 +115,7 @@ impl Leaf {
         ensures done { result ≡ true → IsInserted self.old (self.new ∷ []) (inserted (text self.old) at added.now) }
         ensures kept { result ≡ false → self.new ≡ self.old }
     {
-        if self.text.len() + added.len() > MAX_BYTES || self.text.is_no_text() {
+        if self.text.len() + added.len() > MAX_BYTES {
             return false;
         }
         let old = self.summary;
@@ -159,9 +165,6 @@ impl Leaf {
         ensures done { result ≡ true → IsRemoved least.first least.last self.old self.new start end }
         ensures kept { result ≡ false → self.new ≡ self.old }
     {
-        if self.text.is_no_text() {
-            return false;
-        }
         let old = self.summary;
         let breaks = old.line_breaks();
         let least = least.first.max(least.last);

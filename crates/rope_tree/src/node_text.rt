@@ -1,17 +1,16 @@
 //! The text of a leaf.
-ghost use Rattle.std.specs.Prelude.{◌≡◌, ℕ, ◌+◌, ◌<◌, ◌≤◌, ◌++◌, [], true, false, length, take, drop, IsTrue, IfNone, IfSome};
+ghost use Rattle.std.specs.Prelude.{◌≡◌, ℕ, ◌+◌, ◌<◌, ◌≤◌, ◌++◌, [], true, false, length, take, drop, IsTrue};
 ghost use Rattle.std.specs.List.{insert_slice, remove_range};
 ghost use Rattle.std.specs.Str.{chars, all_scalars, IsUtf8, IsCharBoundary, encode_utf8_all};
-ghost use Rattle.rope_text.specs.declared.TheConstants.{MAX_BYTES, MAX_JOINED_BYTES, MAX_SHORT_BYTES, MIN_CUT_BYTES, MIN_HALF_BYTES};
+ghost use Rattle.rope_text.specs.declared.TheConstants.{MAX_BYTES, MAX_JOINED_BYTES, MIN_CUT_BYTES, MIN_HALF_BYTES};
 ghost use Rattle.rope_text.specs.Text.{byte_len};
 ghost use Rattle.rope_text.specs.Cutting.{parts_crlf};
 ghost use Rattle.rope_text.specs.Cuts.{is_cut};
-ghost use Rattle.rope_text.specs.Edit.{inserted};
 
 use crate::leaf_bytes::{LeafBytes, append_bytes, put_bytes, take_bytes};
 use arrayvec::{ArrayString, ArrayVec};
 use rope_text::crlf::{next_break, prev_break};
-use rope_text::str_utils::{char_to_byte_idx, char_to_byte_idx_of, count_chars};
+use rope_text::str_utils::char_to_byte_idx_of;
 use rope_text::{MAX_BYTES, MAX_JOINED_BYTES};
 use std::marker::Model;
 use std::str;
@@ -140,13 +139,6 @@ impl NodeText {
         ensures fits { result ≤ MAX_BYTES }
     {
         self.as_str().len()
-    }
-
-    /// The number of characters.
-    pub fn count_chars(&self) -> usize
-        ensures { result ≡ length self.now }
-    {
-        count_chars(self.as_str())
     }
 
     /// Whether one of some bytes, one in each 64, is 255, which no text has: so it never is. It is asked before an edit, for then

@@ -3,6 +3,7 @@ ghost use Rattle.std.specs.Prelude.{◌≡◌, ℕ, ◌+◌, ◌-◌, ◌<◌, �
 ghost use Rattle.rope_text.specs.declared.TheConstants.{MAX_CHILDREN};
 ghost use Rattle.rope_text.specs.declared.text_info.TextInfo.{TextInfo};
 ghost use Rattle.rope_text.specs.TextInfo.{info_sum};
+ghost use Rattle.rope_tree.specs.declared.search.Unit.TheVariants.{Char};
 ghost use Rattle.rope_tree.specs.Search.{count_of, IsSmall, HasPart};
 ghost use Rattle.rope_tree.specs.Narrow.{IsNarrow, AreNarrow, FitsWith};
 
@@ -99,13 +100,14 @@ impl Totals {
         }
     }
 
-    /// The same totals once more. Wide ones take memory of their own.
-    pub(crate) fn copied(&self, alloc: Global) -> Result<Totals, AllocError>
-        ensures { IfOk result (λ copy. copy ≡ self.now) }
+    /// The totals of the first children, so many of them. Wide ones take memory of their own.
+    pub(crate) fn first(&self, alloc: Global, count: usize) -> Result<Totals, AllocError>
+        requires { count ≤ length self.now }
+        ensures { IfOk result (λ totals. totals ≡ take count self.now) }
     {
         let width = match &self.width {
-            Width::Narrow(totals) => Width::Narrow(totals.copied()),
-            Width::Wide(totals) => Width::Wide(Box::new(alloc, totals.copied())?),
+            Width::Narrow(totals) => Width::Narrow(totals.first(count)),
+            Width::Wide(totals) => Width::Wide(Box::new(alloc, totals.first(count))?),
         };
         Ok(Totals { width })
     }
@@ -215,6 +217,10 @@ impl Totals {
         ensures behind { IfOk result (λ did. did ≡ true → (j : ℕ) (d : TextInfo) → j < count → info_sum (slice_index_or self.new (length self.old + j) d) old ≡ info_sum (slice_index_or others.now (from + j) d) new) }
         ensures kept { IfOk result (λ did. did ≡ false → self.new ≡ self.old) }
     {
+        if from == 0 && self.len() == 0 && old == new {
+            *self = others.first(alloc, count)?;
+            return Ok(true);
+        }
         let last = others.get(from + count - 1);
         let is_wide = last.bytes - old.bytes + new.bytes >= TOO_WIDE;
         if is_wide {
@@ -296,6 +302,27 @@ pub fn place_of(totals: &Totals, unit: Unit, at: usize, steps: &mut Steps) -> us
         room = half;
     }
     base
+}
+
+/// The same for a character, where it is often held by the same child as the one before: that is tried first, by two comparisons
+/// that a processor guesses, and then nothing waits for a search.
+#[inline(always)]
+pub(crate) fn place_near(totals: &Totals, at: usize, last: usize) -> usize
+    requires some { 0 < length totals.now }
+    requires few { length totals.now ≤ MAX_CHILDREN }
+    requires small { (j : ℕ) (d : TextInfo) → j < length totals.now → IsSmall (slice_index_or totals.now j d) }
+    requires last { (d : TextInfo) → at < count_of Char (slice_index_or totals.now (length totals.now - 1) d) }
+    ensures within { result < length totals.now }
+    ensures before { (d : TextInfo) → 0 < result → count_of Char (slice_index_or totals.now (result - 1) d) ≤ at }
+    ensures past { (d : TextInfo) → at < count_of Char (slice_index_or totals.now result d) }
+{
+    if last < totals.len()
+        && at < totals.count(last, Unit::Char)
+        && (last == 0 || totals.count(last - 1, Unit::Char) <= at)
+    {
+        return last;
+    }
+    place_of(totals, Unit::Char, at, &mut Steps::new())
 }
 
 /// The character that the child which takes a text has to hold: at a seam the one before it, or the one after it.

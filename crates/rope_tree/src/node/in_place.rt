@@ -9,9 +9,8 @@ ghost use Rattle.rope_tree.specs.Insert.{MayInsert, GoesIn, IsInserted, AreGrown
 use super::own::own;
 use super::{Children, Form, Node};
 use crate::lookup::total_before;
-use crate::search::{Unit, char_to_hold, place_of};
+use crate::search::{char_to_hold, place_near};
 use crate::short_text::ShortText;
-use rope_text::Steps;
 use std::alloc::{AllocError, Global};
 use std::rc::Rc;
 
@@ -34,7 +33,7 @@ impl Children {
         ensures goes { (child : Tree) → GoesIn at result.at (length (text (slice_index_or self.now result.place child))) to_right }
     {
         let held = char_to_hold(at, to_right);
-        let place = place_of(&self.totals, Unit::Char, held, &mut Steps::new());
+        let place = place_near(&self.totals, held, usize::from(self.last));
         let before = total_before(&self.totals, place).chars;
         WayIn {
             place,
@@ -68,7 +67,8 @@ impl Children {
             return Ok(false);
         }
         let way = self.way_in(at, to_right);
-        if self.nodes[way.place].lacks_room_for(added.len()) {
+        let is_far = way.place != usize::from(self.last);
+        if self.nodes[way.place].lacks_room_for(added.len(), is_far) {
             return self.cut_leaf(alloc, at, added, to_right, made);
         }
         let node = &mut self.nodes[way.place];
@@ -78,16 +78,26 @@ impl Children {
         }
         let new = node.info();
         self.totals.retotal(way.place, old, new);
+        self.last = way.place as u8;
         Ok(true)
     }
 }
 
 impl Node {
-    /// Whether it is a leaf in which so many bytes more have no room.
+    /// Whether it is a leaf in which so many bytes more have no room. A leaf that wasn't the last to be changed is read ahead.
     #[inline(always)]
-    fn lacks_room_for(&self, bytes: usize) -> bool {
+    fn lacks_room_for(&self, bytes: usize, is_far: bool) -> bool {
         match &self.form {
-            Form::Leaf(leaf) => leaf.lacks_room_for(bytes),
+            Form::Leaf(leaf) => leaf.lacks_room_for(bytes) || is_far && leaf.is_no_text(),
+            _ => false,
+        }
+    }
+
+    /// Whether it is a leaf that has no text, which none is: it is asked before an edit, so that the leaf is read ahead.
+    #[inline(always)]
+    pub(super) fn is_no_text(&self) -> bool {
+        match &self.form {
+            Form::Leaf(leaf) => leaf.is_no_text(),
             _ => false,
         }
     }

@@ -7,8 +7,7 @@ use super::own::own;
 use super::{Children, Form, Node};
 use crate::beside::{Least, least_at};
 use crate::lookup::total_before;
-use crate::search::{Unit, place_of};
-use rope_text::Steps;
+use crate::search::place_near;
 use std::alloc::{AllocError, Global};
 use std::rc::Rc;
 
@@ -32,19 +31,24 @@ impl Children {
         ensures err { OnErr result (self.new ≡ self.old) }
         ensures made { made.new ≤ made.old + height_of self.old + 1 }
     {
-        let place = place_of(&self.totals, Unit::Char, start, &mut Steps::new());
+        let place = place_near(&self.totals, start, usize::from(self.last));
         if self.totals.get(place).chars < end {
             return Ok(false);
         }
         let before = total_before(&self.totals, place).chars;
         let least = least_at(usize::from(self.height), &self.totals, place, least);
+        let is_far = place != usize::from(self.last);
         let node = &mut self.nodes[place];
+        if is_far && node.is_no_text() {
+            return Ok(false);
+        }
         let old = node.info();
         if !node.remove_in_place(alloc, start - before, end - before, least, made)? {
             return Ok(false);
         }
         let new = node.info();
         self.totals.retotal(place, old, new);
+        self.last = place as u8;
         Ok(true)
     }
 }

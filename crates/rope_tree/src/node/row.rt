@@ -30,8 +30,9 @@ pub(super) fn share_all(places: &mut [Node], from: usize, nodes: &[Node]) -> Res
     requires { from + length nodes.now ≤ length places.old }
     ensures { OnOk result (places.new ≡ take from places.old ++ (nodes.now ++ drop (from + length nodes.now) places.old)) }
 {
+    let places = &mut places[from..from + nodes.len()];
     for k in 0..nodes.len() {
-        places[from + k] = nodes[k].share()?;
+        places[k] = nodes[k].share()?;
     }
     Ok(())
 }
@@ -182,6 +183,7 @@ pub(super) fn empty_list(alloc: Global) -> Result<Rc<Children>, AllocError>
     let none = Children {
         height: 1,
         breaks: LineBreaks::Unicode,
+        last: 0,
         totals: Totals::new(),
         nodes: Default::default(),
     };

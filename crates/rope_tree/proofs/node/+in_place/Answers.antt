@@ -73,7 +73,7 @@ pub Children::insert_in_place-returns-clause-done :
     goal.Children::insert_in_place-returns-clause-done
 Children::insert_in_place-returns-clause-done t c = λ yes.
     all_grown _ _ _ _ _ _ _ (found t (goal.at.Children::insert_in_place-returns-clause-done t c).After-index-self-way-2) c.args.added.now c.requires.some c.requires.side c.requires.fits
-    c.insert_in_place.new.self (c.in_ok-insert_in_place.ensures.done c.if-not-branch.false) _ refl refl refl
+    c.insert_in_place.new.self (c.in_ok-insert_in_place.ensures.done c.if-not-branch.false) (record { height = _; breaks = _; last = c.self.inside.last; totals = _; nodes = _ }) refl refl refl
     c.self.inside.totals c.retotal.new.self c.info-old.result c.info-new.result refl c.info-old.ensures c.info-new.ensures
     c.retotal.ensures.len c.retotal.ensures.before c.retotal.ensures.after refl
 

@@ -240,6 +240,6 @@ returns-clause-done c = λ yes.
     let right = retotaled f c.plus-total.result c.info.result c.plus.result c.retotal.new.self c.insert.new.self first both c.retotal.ensures.len c.retotal.ensures.before c.retotal.ensures.after
     c.insert.ensures.len c.insert.ensures.before c.insert.ensures.here c.insert.ensures.behind in
     let now : HasTotals (breaks_of c.put_behind.new.nodes) c.insert.new.self c.put_behind.new.nodes = rw (placed e) right in
-    let seen = more_seen c.self.inside _ c.args.self.now c.put_behind.new.nodes c.way_in-way.result.place c.cut.new.self c.len-count.result c.self.invariant c.self.view_is c.way_in-way.ensures.child (rw (placed e) (children f)) refl refl
+    let seen = more_seen c.self.inside (record { height = _; breaks = _; last = c.self.inside.last; totals = _; nodes = _ }) c.args.self.now c.put_behind.new.nodes c.way_in-way.result.place c.cut.new.self c.len-count.result c.self.invariant c.self.view_is c.way_in-way.ensures.child (rw (placed e) (children f)) refl refl
     (as_many e) c.len-count.ensures refl now in
     rw (seen, placed e) (parted f)
