@@ -630,13 +630,14 @@ INL void touch(const Inner *p, u64 k, u64 at) {
 INL void insert_at(Node *root, u64 at, const u8 *s, u64 n) {
     if (unlikely(root->tag == EMPTY)) { *root = make_leaf(s, n); return; }
     Way way[20]; int h = 0; Node *cur = root; Info d = count_all(s, n); u64 at0 = at; (void)at0;
-    Inner *p = 0; u64 k = 0;
+    Inner *p = 0; u64 k = 0; int follows = 1; (void)follows;
     while (cur->tag == INNER) {
         own(cur); p = cur->p;
         if (unlikely(!p->wide && p->n.row[BYTE][p->n.len - 1] + n >= WIDE)) widen(p);
 #ifdef LAST
-        u64 held = at ? at - 1 : 0; k = p->last;
-        if (!(k < len_of(p) && held < total(p, k, CHAR) && before1(p, k, CHAR) <= held)) { k = place_of(p, CHAR, held); p->last = (u8)k; }
+        u64 held = at ? at - 1 : 0, g = follows && p->last < len_of(p) ? p->last : 0;
+        if (follows && (follows = (held < total(p, g, CHAR)) & (before1(p, g, CHAR) <= held))) k = g;
+        else { k = place_of(p, CHAR, held); p->last = (u8)k; }
 #else
         k = place_of(p, CHAR, at ? at - 1 : 0);
 #endif

@@ -56,7 +56,7 @@ fn insert_in_place(
     ensures made { made.new ≤ made.old + root.old.height + 2 }
 {
     let to_right = goes_right(root, at, added);
-    root.insert_in_place(alloc, at, added, to_right, made)
+    root.insert_in_place(alloc, at, added, to_right, true, made)
 }
 
 /// One tree over the nodes that an insert into `old` made.

@@ -30,5 +30,5 @@ pub fn remove_at(
     ensures made { made.new ≤ made.old + root.old.height + 1 }
 {
     let _ = root.height();
-    root.remove_in_place(alloc, start, end, ANY, made)
+    root.remove_in_place(alloc, start, end, ANY, true, made)
 }

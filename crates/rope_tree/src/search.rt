@@ -304,8 +304,8 @@ pub fn place_of(totals: &Totals, unit: Unit, at: usize, steps: &mut Steps) -> us
     base
 }
 
-/// The same for a character, where it is often held by the same child as the one before: that is tried first, by two comparisons
-/// that a processor guesses, and then nothing waits for a search.
+/// The same for a character, where the child at `last` is tried first, by two comparisons of which a processor guesses what they
+/// give: so nothing waits for a search where it is that child time and again.
 #[inline(always)]
 pub(crate) fn place_near(totals: &Totals, at: usize, last: usize) -> usize
     requires some { 0 < length totals.now }
@@ -316,11 +316,12 @@ pub(crate) fn place_near(totals: &Totals, at: usize, last: usize) -> usize
     ensures before { (d : TextInfo) → 0 < result → count_of Char (slice_index_or totals.now (result - 1) d) ≤ at }
     ensures past { (d : TextInfo) → at < count_of Char (slice_index_or totals.now result d) }
 {
-    if last < totals.len()
-        && at < totals.count(last, Unit::Char)
-        && (last == 0 || totals.count(last - 1, Unit::Char) <= at)
-    {
-        return last;
+    if last < totals.len() {
+        let is_before = at < totals.count(last, Unit::Char);
+        let is_behind = last == 0 || totals.count(last - 1, Unit::Char) <= at;
+        if is_before & is_behind {
+            return last;
+        }
     }
     place_of(totals, Unit::Char, at, &mut Steps::new())
 }

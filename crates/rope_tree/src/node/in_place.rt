@@ -11,6 +11,7 @@ use super::{Children, Form, Node};
 use crate::lookup::total_before;
 use crate::search::{char_to_hold, place_near};
 use crate::short_text::ShortText;
+use rope_text::MAX_CHILDREN;
 use std::alloc::{AllocError, Global};
 use std::rc::Rc;
 
@@ -22,9 +23,15 @@ pub(super) struct WayIn {
 }
 
 impl Children {
-    /// The child that takes a text before the character `at`.
+    /// The child that is tried first: where the way so far is that of the edit before, the one to which it went on, and else none.
     #[inline(always)]
-    pub(super) fn way_in(&self, at: usize, to_right: bool) -> WayIn
+    pub(super) fn likely(&self, follows: bool) -> usize {
+        if follows { usize::from(self.last) } else { MAX_CHILDREN }
+    }
+
+    /// The child that takes a text before the character `at`. Where the way follows that of the edit before, its child is tried first.
+    #[inline(always)]
+    pub(super) fn way_in(&self, at: usize, to_right: bool, follows: bool) -> WayIn
         requires children { AreChildren (breaks_of self.now) (height_of self.now) self.now }
         requires within { at ≤ length (joined self.now) }
         requires right { to_right ≡ true → at < length (joined self.now) }
@@ -33,7 +40,7 @@ impl Children {
         ensures goes { (child : Tree) → GoesIn at result.at (length (text (slice_index_or self.now result.place child))) to_right }
     {
         let held = char_to_hold(at, to_right);
-        let place = place_near(&self.totals, held, usize::from(self.last));
+        let place = place_near(&self.totals, held, self.likely(follows));
         let before = total_before(&self.totals, place).chars;
         WayIn {
             place,
@@ -50,6 +57,7 @@ impl Children {
         at: usize,
         added: &ShortText<'_>,
         to_right: bool,
+        follows: bool,
         made: &mut u64,
     ) -> Result<bool, AllocError>
         requires children { AreChildren (breaks_of self.old) (height_of self.old) self.old }
@@ -66,14 +74,14 @@ impl Children {
         if !self.totals.has_room_for(added.len()) {
             return Ok(false);
         }
-        let way = self.way_in(at, to_right);
-        let is_far = way.place != usize::from(self.last);
-        if self.nodes[way.place].lacks_room_for(added.len(), is_far) {
+        let way = self.way_in(at, to_right, follows);
+        let follows = way.place == self.likely(follows);
+        if self.nodes[way.place].lacks_room_for(added.len(), follows) {
             return self.cut_leaf(alloc, at, added, to_right, made);
         }
         let node = &mut self.nodes[way.place];
         let old = node.info();
-        if !node.insert_in_place(alloc, way.at, added, to_right, made)? {
+        if !node.insert_in_place(alloc, way.at, added, to_right, follows, made)? {
             return Ok(false);
         }
         let new = node.info();
@@ -86,9 +94,9 @@ impl Children {
 impl Node {
     /// Whether it is a leaf in which so many bytes more have no room. A leaf that wasn't the last to be changed is read ahead.
     #[inline(always)]
-    fn lacks_room_for(&self, bytes: usize, is_far: bool) -> bool {
+    fn lacks_room_for(&self, bytes: usize, is_last: bool) -> bool {
         match &self.form {
-            Form::Leaf(leaf) => leaf.lacks_room_for(bytes) || is_far && leaf.is_no_text(),
+            Form::Leaf(leaf) => leaf.lacks_room_for(bytes) || !is_last && leaf.is_no_text(),
             _ => false,
         }
     }
@@ -112,6 +120,7 @@ impl Node {
         at: usize,
         added: &ShortText<'_>,
         to_right: bool,
+        follows: bool,
         made: &mut u64,
     ) -> Result<bool, AllocError>
         requires within { at ≤ length (text self.old) }
@@ -132,7 +141,9 @@ impl Node {
                 None => Ok(false),
             },
             Form::Inner(children) => match Rc::get_mut(children) {
-                Some(children) => children.insert_in_place(alloc, at, added, to_right, made),
+                Some(children) => {
+                    children.insert_in_place(alloc, at, added, to_right, follows, made)
+                }
                 None => Ok(false),
             },
         }

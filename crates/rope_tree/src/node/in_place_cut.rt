@@ -42,7 +42,7 @@ impl Children {
         if count >= MAX_CHILDREN || !self.totals.has_room_for(added.len()) {
             return Ok(false);
         }
-        let way = self.way_in(at, to_right);
+        let way = self.way_in(at, to_right, false);
         let node = &mut self.nodes[way.place];
         let old = node.info();
         let Some(back) = node.cut(alloc, way.at, added, made)? else {

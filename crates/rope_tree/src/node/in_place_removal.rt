@@ -21,6 +21,7 @@ impl Children {
         start: usize,
         end: usize,
         least: Least,
+        follows: bool,
         made: &mut u64,
     ) -> Result<bool, AllocError>
         requires children { AreChildren (breaks_of self.old) (height_of self.old) self.old }
@@ -31,19 +32,19 @@ impl Children {
         ensures err { OnErr result (self.new ≡ self.old) }
         ensures made { made.new ≤ made.old + height_of self.old + 1 }
     {
-        let place = place_near(&self.totals, start, usize::from(self.last));
+        let place = place_near(&self.totals, start, self.likely(follows));
         if self.totals.get(place).chars < end {
             return Ok(false);
         }
         let before = total_before(&self.totals, place).chars;
         let least = least_at(usize::from(self.height), &self.totals, place, least);
-        let is_far = place != usize::from(self.last);
+        let follows = place == self.likely(follows);
         let node = &mut self.nodes[place];
-        if is_far && node.is_no_text() {
+        if !follows && node.is_no_text() {
             return Ok(false);
         }
         let old = node.info();
-        if !node.remove_in_place(alloc, start - before, end - before, least, made)? {
+        if !node.remove_in_place(alloc, start - before, end - before, least, follows, made)? {
             return Ok(false);
         }
         let new = node.info();
@@ -64,6 +65,7 @@ impl Node {
         start: usize,
         end: usize,
         least: Least,
+        follows: bool,
         made: &mut u64,
     ) -> Result<bool, AllocError>
         requires ordered { start < end }
@@ -81,7 +83,9 @@ impl Node {
                 None => Ok(false),
             },
             Form::Inner(children) => match Rc::get_mut(children) {
-                Some(children) => children.remove_in_place(alloc, start, end, least, made),
+                Some(children) => {
+                    children.remove_in_place(alloc, start, end, least, follows, made)
+                }
                 None => Ok(false),
             },
         }

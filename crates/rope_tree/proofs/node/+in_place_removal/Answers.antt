@@ -111,7 +111,7 @@ left t c u done =
     let ts = c.args.self.now in
     let d = down t c in
     let totals = totals_seen (listed c.self.inside) ts c.self.inside.totals c.self.inside.totals c.self.view_is refl c.self.invariant.totals_right in
-    let below : AreBelow c.from-2.result c.self.inside.totals ts = record { above = omega (arith, c.from-2.ensures, c.self.invariant.above, ap height_of c.self.view_is); children = d.children; totals_right = totals } in
+    let below : AreBelow c.from.result c.self.inside.totals ts = record { above = omega (arith, c.from.ensures, c.self.invariant.above, ap height_of c.self.view_is); children = d.children; totals_right = totals } in
     children_removed (breaks_of ts) (height_of ts) ts c.place_near-place.result (get_or c.self.inside.nodes c.place_near-place.result c.index-self-place.result)
     d.children d.within d.child_is _ _ c.args.start c.args.end (held t c).1 c.args.least.first c.args.least.last c.least_at-least.result.first c.least_at-least.result.last u done (c.least_at-least.ensures.behind ts below) (c.least_at-least.ensures.ahead ts below) refl refl
 
