@@ -199,8 +199,8 @@ pub(crate) fn is_break_begin(bytes: &[u8], at: usize, breaks: LineBreaks) -> boo
     ensures { result ≡ break_at breaks (slice_index bytes.now at) (slice_index bytes.now (at + 1)) (slice_index bytes.now (at + 2)) }
 {
     let byte = bytes[at];
-    // Letters and the bytes after a character's first begin none.
-    if (0x0E..0xC2).contains(&byte) {
+    // No other byte begins one.
+    if byte >= 0x0E && byte != 0xC2 && byte != 0xE2 {
         return false;
     }
     let next = byte_or_zero(bytes, at + 1);
@@ -304,7 +304,7 @@ pub(crate) fn pairs_between(bytes: &[u8], from: usize, to: usize) -> usize
 }
 
 // A text of fewer bytes is counted byte by byte.
-const FEW_BYTES: usize = 16;
+const FEW_BYTES: usize = 34;
 
 // A text of so many bytes or more is counted at four places side by side. It comes from far memory: so the waits for the four
 // are one, where a single pass would wait for each in turn.
@@ -609,13 +609,8 @@ fn count_few(bytes: &[u8], breaks: LineBreaks) -> (usize, usize, usize)
     let mut pairs = 0;
     let mut break_count = 0;
     for at in 0..bytes.len() {
-        let byte = bytes[at];
-        chars += chars_begun(byte);
-        // Letters are asked for nothing else.
-        if (0x0E..0xC2).contains(&byte) {
-            continue;
-        }
-        pairs += pairs_begun(byte);
+        chars += chars_begun(bytes[at]);
+        pairs += pairs_begun(bytes[at]);
         break_count += breaks_begun(bytes, at, breaks);
     }
     (chars, pairs, break_count)

@@ -2,7 +2,7 @@
 use Rattle.std.proofs.Common.{◌≡◌, ℕ, ◌+◌, ◌-◌, ◌%◌, ◌<◌, ◌≤◌, List, [], ◌∷◌, ◌++◌, length, get_or, set, take, drop, map, inl, inr, subst, refl, sym, ap, ◌∙◌, arith, get_or-set_other, get_or-set_same}
 use Rattle.std.specs.List.{range_with_len}
 use Rattle.std.proofs.lemmas.Bool.{cases_lt}
-use Rattle.std.proofs.lemmas.List.FromFn.{length-map-range_with_len, get_or-map-range_with_len, map-range_with_len_more, take-map-range_with_len, fill_by_all}
+use Rattle.std.proofs.lemmas.List.FromFn.{length-map-range_with_len, get_or-map-range_with_len, map-range_with_len_more, fill_by_all}
 use Rattle.rope_text.specs.declared.text_info.TextInfo.{TextInfo}
 use Rattle.rope_text.specs.TextInfo.{info_sum}
 use Rattle.rope_tree.specs.declared.search.narrow.NarrowTotals.TheInside.{Inside}
@@ -17,10 +17,6 @@ many a ts view = sym (length-map-range_with_len (counts_at a) 0 a.len) ∙ ap le
 -- a total by its place
 pub total_seen : (a : Inside) (ts : List TextInfo) (k : ℕ) (d : TextInfo) → all_totals a ≡ ts → k < length ts → get_or ts k d ≡ counts_at a k
 total_seen a ts k d view lt = ap (λ l. get_or l k d) (sym view) ∙ get_or-map-range_with_len (counts_at a) 0 a.len k k d (omega (arith, many a ts view)) (omega arith)
-
--- those of the first children
-pub front_of : (a : Inside) (ts : List TextInfo) (n : ℕ) → all_totals a ≡ ts → n ≤ length ts → map (counts_at a) (range_with_len 0 n) ≡ take n ts
-front_of a ts n view le = sym (take-map-range_with_len (counts_at a) 0 a.len n (omega (arith, le, many a ts view))) ∙ ap (take n) view
 
 -- totals that are read alike
 pub all_alike : (a b : Inside) (d : TextInfo) → ((k : ℕ) → k < a.len → counts_at a k ≡ counts_at b k) → map (counts_at a) (range_with_len 0 a.len) ≡ map (counts_at b) (range_with_len 0 a.len)

@@ -100,14 +100,13 @@ impl Totals {
         }
     }
 
-    /// The totals of the first children, so many of them. Wide ones take memory of their own.
-    pub(crate) fn first(&self, alloc: Global, count: usize) -> Result<Totals, AllocError>
-        requires { count ≤ length self.now }
-        ensures { IfOk result (λ totals. totals ≡ take count self.now) }
+    /// The same totals once more. Wide ones take memory of their own.
+    pub(crate) fn copied(&self, alloc: Global) -> Result<Totals, AllocError>
+        ensures { IfOk result (λ copy. copy ≡ self.now) }
     {
         let width = match &self.width {
-            Width::Narrow(totals) => Width::Narrow(totals.first(count)),
-            Width::Wide(totals) => Width::Wide(Box::new(alloc, totals.first(count))?),
+            Width::Narrow(totals) => Width::Narrow(totals.copied()),
+            Width::Wide(totals) => Width::Wide(Box::new(alloc, totals.copied())?),
         };
         Ok(Totals { width })
     }
@@ -217,10 +216,6 @@ impl Totals {
         ensures behind { IfOk result (λ did. did ≡ true → (j : ℕ) (d : TextInfo) → j < count → info_sum (slice_index_or self.new (length self.old + j) d) old ≡ info_sum (slice_index_or others.now (from + j) d) new) }
         ensures kept { IfOk result (λ did. did ≡ false → self.new ≡ self.old) }
     {
-        if from == 0 && self.len() == 0 && old == new {
-            *self = others.first(alloc, count)?;
-            return Ok(true);
-        }
         let last = others.get(from + count - 1);
         let is_wide = last.bytes - old.bytes + new.bytes >= TOO_WIDE;
         if is_wide {
@@ -304,26 +299,48 @@ pub fn place_of(totals: &Totals, unit: Unit, at: usize, steps: &mut Steps) -> us
     base
 }
 
-/// The same for a character, where the child at `last` is tried first, by two comparisons of which a processor guesses what they
-/// give: so nothing waits for a search where it is that child time and again.
+/// Whether the child at a place holds a character: two comparisons of which a processor guesses what they give.
 #[inline(always)]
-pub(crate) fn place_near(totals: &Totals, at: usize, last: usize) -> usize
+pub(crate) fn holds_char(totals: &Totals, place: usize, at: usize) -> bool
+    requires small { (j : ℕ) (d : TextInfo) → j < length totals.now → IsSmall (slice_index_or totals.now j d) }
+    ensures within { result ≡ true → place < length totals.now }
+    ensures before { result ≡ true → (d : TextInfo) → 0 < place → count_of Char (slice_index_or totals.now (place - 1) d) ≤ at }
+    ensures past { result ≡ true → (d : TextInfo) → at < count_of Char (slice_index_or totals.now place d) }
+{
+    if place >= totals.len() {
+        return false;
+    }
+    let is_before = at < totals.count(place, Unit::Char);
+    let is_behind = place == 0 || totals.count(place - 1, Unit::Char) <= at;
+    is_before & is_behind
+}
+
+/// A child that holds a character, and whether it is the one at `likely`, which is tried first where that is wanted.
+#[derive(Clone, Copy)]
+pub(crate) struct Tried {
+    pub(crate) place: usize,
+    pub(crate) is_likely: bool,
+}
+
+/// The child that holds a character. Where `follows`, the one at `likely` is tried first: so nothing waits for a search where it is
+/// that child time and again.
+#[inline(always)]
+pub(crate) fn try_place(totals: &Totals, at: usize, likely: usize, follows: bool) -> Tried
     requires some { 0 < length totals.now }
     requires few { length totals.now ≤ MAX_CHILDREN }
     requires small { (j : ℕ) (d : TextInfo) → j < length totals.now → IsSmall (slice_index_or totals.now j d) }
     requires last { (d : TextInfo) → at < count_of Char (slice_index_or totals.now (length totals.now - 1) d) }
-    ensures within { result < length totals.now }
-    ensures before { (d : TextInfo) → 0 < result → count_of Char (slice_index_or totals.now (result - 1) d) ≤ at }
-    ensures past { (d : TextInfo) → at < count_of Char (slice_index_or totals.now result d) }
+    ensures within { result.place < length totals.now }
+    ensures before { (d : TextInfo) → 0 < result.place → count_of Char (slice_index_or totals.now (result.place - 1) d) ≤ at }
+    ensures past { (d : TextInfo) → at < count_of Char (slice_index_or totals.now result.place d) }
 {
-    if last < totals.len() {
-        let is_before = at < totals.count(last, Unit::Char);
-        let is_behind = last == 0 || totals.count(last - 1, Unit::Char) <= at;
-        if is_before & is_behind {
-            return last;
-        }
-    }
-    place_of(totals, Unit::Char, at, &mut Steps::new())
+    let is_likely = follows && holds_char(totals, likely, at);
+    let place = if is_likely {
+        likely
+    } else {
+        place_of(totals, Unit::Char, at, &mut Steps::new())
+    };
+    Tried { place, is_likely }
 }
 
 /// The character that the child which takes a text has to hold: at a seam the one before it, or the one after it.

@@ -9,26 +9,21 @@ ghost use Rattle.rope_tree.specs.Insert.{MayInsert, GoesIn, IsInserted, AreGrown
 use super::own::own;
 use super::{Children, Form, Node};
 use crate::lookup::total_before;
-use crate::search::{char_to_hold, place_near};
+use crate::search::{char_to_hold, try_place};
 use crate::short_text::ShortText;
-use rope_text::MAX_CHILDREN;
 use std::alloc::{AllocError, Global};
 use std::rc::Rc;
 
-/// Where a text goes in a list of children: in which of them, and before which character of it.
+/// Where a text goes in a list of children: in which of them, before which character of it, and whether the way follows that of
+/// the edit before so far.
 #[derive(Clone, Copy)]
 pub(super) struct WayIn {
     pub(super) place: usize,
     pub(super) at: usize,
+    pub(super) follows: bool,
 }
 
 impl Children {
-    /// The child that is tried first: where the way so far is that of the edit before, the one to which it went on, and else none.
-    #[inline(always)]
-    pub(super) fn likely(&self, follows: bool) -> usize {
-        if follows { usize::from(self.last) } else { MAX_CHILDREN }
-    }
-
     /// The child that takes a text before the character `at`. Where the way follows that of the edit before, its child is tried first.
     #[inline(always)]
     pub(super) fn way_in(&self, at: usize, to_right: bool, follows: bool) -> WayIn
@@ -40,11 +35,12 @@ impl Children {
         ensures goes { (child : Tree) → GoesIn at result.at (length (text (slice_index_or self.now result.place child))) to_right }
     {
         let held = char_to_hold(at, to_right);
-        let place = place_near(&self.totals, held, self.likely(follows));
-        let before = total_before(&self.totals, place).chars;
+        let child = try_place(&self.totals, held, usize::from(self.last), follows);
+        let before = total_before(&self.totals, child.place).chars;
         WayIn {
-            place,
+            place: child.place,
             at: at - before,
+            follows: child.is_likely,
         }
     }
 
@@ -75,13 +71,12 @@ impl Children {
             return Ok(false);
         }
         let way = self.way_in(at, to_right, follows);
-        let follows = way.place == self.likely(follows);
-        if self.nodes[way.place].lacks_room_for(added.len(), follows) {
+        if self.nodes[way.place].lacks_room_for(added.len(), way.follows) {
             return self.cut_leaf(alloc, at, added, to_right, made);
         }
         let node = &mut self.nodes[way.place];
         let old = node.info();
-        if !node.insert_in_place(alloc, way.at, added, to_right, follows, made)? {
+        if !node.insert_in_place(alloc, way.at, added, to_right, way.follows, made)? {
             return Ok(false);
         }
         let new = node.info();

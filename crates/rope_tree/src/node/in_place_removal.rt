@@ -7,7 +7,7 @@ use super::own::own;
 use super::{Children, Form, Node};
 use crate::beside::{Least, least_at};
 use crate::lookup::total_before;
-use crate::search::place_near;
+use crate::search::try_place;
 use std::alloc::{AllocError, Global};
 use std::rc::Rc;
 
@@ -32,19 +32,26 @@ impl Children {
         ensures err { OnErr result (self.new ≡ self.old) }
         ensures made { made.new ≤ made.old + height_of self.old + 1 }
     {
-        let place = place_near(&self.totals, start, self.likely(follows));
+        let child = try_place(&self.totals, start, usize::from(self.last), follows);
+        let place = child.place;
         if self.totals.get(place).chars < end {
             return Ok(false);
         }
         let before = total_before(&self.totals, place).chars;
         let least = least_at(usize::from(self.height), &self.totals, place, least);
-        let follows = place == self.likely(follows);
         let node = &mut self.nodes[place];
-        if !follows && node.is_no_text() {
+        if !child.is_likely && node.is_no_text() {
             return Ok(false);
         }
         let old = node.info();
-        if !node.remove_in_place(alloc, start - before, end - before, least, follows, made)? {
+        if !node.remove_in_place(
+            alloc,
+            start - before,
+            end - before,
+            least,
+            child.is_likely,
+            made,
+        )? {
             return Ok(false);
         }
         let new = node.info();

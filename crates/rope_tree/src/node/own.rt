@@ -29,7 +29,7 @@ fn share_list(
     ensures list { OnOk result (IsNewList (new_list totals.new places.new)) }
     ensures nodes { OnOk result (nodes_in (new_list totals.new places.new) ≡ nodes.now) }
 {
-    *totals = known.first(alloc, nodes.len())?;
+    *totals = known.copied(alloc)?;
     share_all(places, 0, nodes)?;
     Ok(())
 }

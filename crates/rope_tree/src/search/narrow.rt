@@ -1,5 +1,5 @@
 //! Running totals of which each count fits in 16 bits, as those over leaves do.
-ghost use Rattle.std.specs.Prelude.{◌≡◌, ℕ, ◌+◌, ◌-◌, ◌%◌, ◌<◌, ◌≤◌, ◌^◌, [], ◌∷◌, ◌++◌, true, false, length, take, slice_index, slice_index_or};
+ghost use Rattle.std.specs.Prelude.{◌≡◌, ℕ, ◌+◌, ◌-◌, ◌%◌, ◌<◌, ◌≤◌, ◌^◌, [], ◌∷◌, ◌++◌, true, false, length, slice_index, slice_index_or};
 ghost use Rattle.rope_text.specs.declared.TheConstants.{MAX_CHILDREN};
 ghost use Rattle.rope_text.specs.declared.text_info.TextInfo.{TextInfo};
 ghost use Rattle.rope_text.specs.TextInfo.{info_sum};
@@ -111,14 +111,13 @@ impl NarrowTotals {
         }
     }
 
-    /// The totals of the first children, so many of them.
+    /// The same totals once more.
     #[inline(always)]
-    pub(super) fn first(&self, count: usize) -> NarrowTotals
-        requires { count ≤ length self.now }
-        ensures { result ≡ take count self.now }
+    pub(super) fn copied(&self) -> NarrowTotals
+        ensures { result ≡ self.now }
     {
         NarrowTotals {
-            len: count,
+            len: self.len,
             bytes: self.bytes,
             chars: self.chars,
             pairs: self.pairs,

@@ -1,5 +1,5 @@
 //! Running totals of any size, kept by kind of count.
-ghost use Rattle.std.specs.Prelude.{◌≡◌, ℕ, ◌+◌, ◌-◌, ◌%◌, ◌<◌, ◌≤◌, ◌^◌, [], ◌∷◌, ◌++◌, true, false, length, take, slice_index, slice_index_or};
+ghost use Rattle.std.specs.Prelude.{◌≡◌, ℕ, ◌+◌, ◌-◌, ◌%◌, ◌<◌, ◌≤◌, ◌^◌, [], ◌∷◌, ◌++◌, true, false, length, slice_index, slice_index_or};
 ghost use Rattle.rope_text.specs.declared.TheConstants.{MAX_CHILDREN};
 ghost use Rattle.rope_text.specs.declared.text_info.TextInfo.{TextInfo};
 ghost use Rattle.rope_text.specs.TextInfo.{info_sum};
@@ -35,32 +35,6 @@ impl Model for WideTotals {
     ghost invariant = { IsTotals };
 }
 
-/// Adds numbers, modulo 2^64, to the counts of two rows, from one place on and before another. Where both are 0, as for the pairs
-/// and breaks of most edits, nothing is read.
-#[inline(always)]
-fn shift_two(
-    first: &mut [usize],
-    second: &mut [usize],
-    from: usize,
-    to: usize,
-    more_first: usize,
-    more_second: usize,
-)
-    requires ordered { from ≤ to }
-    requires first { to ≤ length first.old }
-    requires second { to ≤ length second.old }
-    ensures first { IsShifted first.old first.new from to more_first }
-    ensures second { IsShifted second.old second.new from to more_second }
-{
-    if more_first == 0 && more_second == 0 {
-        return;
-    }
-    for j in from..to {
-        first[j] = first[j].wrapping_add(more_first);
-        second[j] = second[j].wrapping_add(more_second);
-    }
-}
-
 /// Adds numbers, modulo 2^64, to the counts of four rows, from one place on and before another. The rows are gone over side by
 /// side, so that only one loop's end must be guessed.
 #[inline(always)]
@@ -83,10 +57,6 @@ fn shift_rows(
     ensures pairs { IsShifted pairs.old pairs.new from to more.utf16_surrogates }
     ensures breaks { IsShifted breaks.old breaks.new from to more.break_count }
 {
-    if more.utf16_surrogates == 0 && more.break_count == 0 {
-        shift_two(bytes, chars, from, to, more.bytes, more.chars);
-        return;
-    }
     for j in from..to {
         bytes[j] = bytes[j].wrapping_add(more.bytes);
         chars[j] = chars[j].wrapping_add(more.chars);
@@ -136,14 +106,13 @@ impl WideTotals {
         }
     }
 
-    /// The totals of the first children, so many of them.
+    /// The same totals once more.
     #[inline(always)]
-    pub(super) fn first(&self, count: usize) -> WideTotals
-        requires { count ≤ length self.now }
-        ensures { result ≡ take count self.now }
+    pub(super) fn copied(&self) -> WideTotals
+        ensures { result ≡ self.now }
     {
         WideTotals {
-            len: count,
+            len: self.len,
             bytes: self.bytes,
             chars: self.chars,
             pairs: self.pairs,

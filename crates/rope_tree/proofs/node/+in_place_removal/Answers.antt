@@ -29,33 +29,33 @@ none = record { chars = 0; utf16_surrogates = 0; break_count = 0; bytes = 0 }
 
 -- the way down to the child that holds the characters
 down : (t : ℕ) (c : Children::remove_in_place-After-index-self-place t)
-    → Descends (breaks_of c.args.self.now) Char c.args.start c.args.self.now c.place_near-place.result (get_or c.self.inside.nodes c.place_near-place.result c.index-self-place.result) c.total_before-before.result
+    → Descends (breaks_of c.args.self.now) Char c.args.start c.args.self.now c.try_place-child.result.place (get_or c.self.inside.nodes c.try_place-child.result.place c.index-self-place.result) c.total_before-before.result
 down t c =
     let ts = c.args.self.now in
     let totals = totals_seen (listed c.self.inside) ts c.self.inside.totals c.self.inside.totals c.self.view_is refl c.self.invariant.totals_right in
-    let within : c.place_near-place.result < length ts = omega (arith, c.place_near-place.ensures.within, totals.as_many) in
-    descends Char c.args.start ts c.self.inside.totals c.place_near-place.result (get_or c.self.inside.nodes c.place_near-place.result c.index-self-place.result) c.total_before-before.result
-    c.requires.children totals c.place_near-place.ensures.within (seen_at c.self.inside ts c.place_near-place.result c.index-self-place.result c.self.view_is within)
-    c.total_before-before.ensures.first c.total_before-before.ensures.later c.place_near-place.ensures.before c.place_near-place.ensures.past
+    let within : c.try_place-child.result.place < length ts = omega (arith, c.try_place-child.ensures.within, totals.as_many) in
+    descends Char c.args.start ts c.self.inside.totals c.try_place-child.result.place (get_or c.self.inside.nodes c.try_place-child.result.place c.index-self-place.result) c.total_before-before.result
+    c.requires.children totals c.try_place-child.ensures.within (seen_at c.self.inside ts c.try_place-child.result.place c.index-self-place.result c.self.view_is within)
+    c.total_before-before.ensures.first c.total_before-before.ensures.later c.try_place-child.ensures.before c.try_place-child.ensures.past
 
 held : (t : ℕ) (c : Children::remove_in_place-After-index-self-place t) → (c.total_before-before.result.chars ≤ c.args.start)
-    × Holds c.args.self.now c.place_near-place.result (get_or c.self.inside.nodes c.place_near-place.result c.index-self-place.result)
+    × Holds c.args.self.now c.try_place-child.result.place (get_or c.self.inside.nodes c.try_place-child.result.place c.index-self-place.result)
     (c.args.start - c.total_before-before.result.chars) (c.args.end - c.total_before-before.result.chars) c.args.start c.args.end
 held t c =
     let ts = c.args.self.now in
     let totals = totals_seen (listed c.self.inside) ts c.self.inside.totals c.self.inside.totals c.self.view_is refl c.self.invariant.totals_right in
-    holds (breaks_of ts) ts c.place_near-place.result (get_or c.self.inside.nodes c.place_near-place.result c.index-self-place.result) c.total_before-before.result c.args.start c.args.end c.self.inside.totals none
+    holds (breaks_of ts) ts c.try_place-child.result.place (get_or c.self.inside.nodes c.try_place-child.result.place c.index-self-place.result) c.total_before-before.result c.args.start c.args.end c.self.inside.totals none
     (down t c) totals c.requires.ordered (rw (c.get.ensures none) at c.if-get-end.false)
 
-pub Children::remove_in_place-place_near-place-requires-clause-small :
-    goal.Children::remove_in_place-place_near-place-requires-clause-small
-Children::remove_in_place-place_near-place-requires-clause-small t c =
+pub Children::remove_in_place-try_place-child-requires-clause-small :
+    goal.Children::remove_in_place-try_place-child-requires-clause-small
+Children::remove_in_place-try_place-child-requires-clause-small t c =
     small_totals (breaks_of c.args.self.now) c.self.inside.totals c.args.self.now
     (totals_seen (listed c.self.inside) c.args.self.now c.self.inside.totals c.self.inside.totals c.self.view_is refl c.self.invariant.totals_right) c.requires.children.fits
 
-pub Children::remove_in_place-place_near-place-requires-clause-last :
-    goal.Children::remove_in_place-place_near-place-requires-clause-last
-Children::remove_in_place-place_near-place-requires-clause-last t c =
+pub Children::remove_in_place-try_place-child-requires-clause-last :
+    goal.Children::remove_in_place-try_place-child-requires-clause-last
+Children::remove_in_place-try_place-child-requires-clause-last t c =
     let ts = c.args.self.now in
     let totals = totals_seen (listed c.self.inside) ts c.self.inside.totals c.self.inside.totals c.self.view_is refl c.self.invariant.totals_right in
     λ d. rw (last_total (breaks_of ts) c.self.inside.totals ts totals (omega (arith, c.requires.children.at_least_two)) d) (omega (arith, c.requires.ordered, c.requires.within))
@@ -72,7 +72,7 @@ Children::remove_in_place-remove_in_place-requires t c =
     let e = (goal.at.Children::remove_in_place-remove_in_place-requires t c).After-index-self-place in
     let d = down t e in
     let g = (held t e).1 in
-    let low = rw d.child_is at (tallest_above c.args.self.now c.place_near-place.result (get_or c.self.inside.nodes c.place_near-place.result c.index-self-place.result) d.within) in
+    let low = rw d.child_is at (tallest_above c.args.self.now c.try_place-child.result.place (get_or c.self.inside.nodes c.try_place-child.result.place c.index-self-place.result) d.within) in
     (omega (arith, c.decreases, low), (g.order, g.within))
 
 pub Children::remove_in_place-retotal-requires-clause-small :
@@ -85,19 +85,19 @@ pub Children::remove_in_place-retotal-requires-clause-part :
     goal.Children::remove_in_place-retotal-requires-clause-part
 Children::remove_in_place-retotal-requires-clause-part t c = λ j e from within.
     let ts = c.args.self.now in
-    let child = get_or c.self.inside.nodes c.place_near-place.result c.index-self-place.result in
+    let child = get_or c.self.inside.nodes c.try_place-child.result.place c.index-self-place.result in
     let d = down t (goal.at.Children::remove_in_place-retotal-requires-clause-part t c).After-index-self-place in
     let totals = totals_seen (listed c.self.inside) ts c.self.inside.totals c.self.inside.totals c.self.view_is refl c.self.invariant.totals_right in
     let inside : j < length ts = omega (arith, totals.as_many) in
     let own = c.info-old.ensures ∙ ap (λ b. info_of b (text child)) d.own.same_breaks in
-    rw (totals.total_at j e inside, own) (has_part (breaks_of ts) (height_of ts) ts ts c.place_near-place.result child child d.children d.within d.child_is j from inside)
+    rw (totals.total_at j e inside, own) (has_part (breaks_of ts) (height_of ts) ts ts c.try_place-child.result.place child child d.children d.within d.child_is j from inside)
 
 pub Children::remove_in_place-retotal-requires-clause-new :
     goal.Children::remove_in_place-retotal-requires-clause-new
 Children::remove_in_place-retotal-requires-clause-new t c =
     let ts = c.args.self.now in
     let e = (goal.at.Children::remove_in_place-retotal-requires-clause-new t c).After-index-self-place in
-    let child = get_or c.self.inside.nodes c.place_near-place.result c.index-self-place.result in
+    let child = get_or c.self.inside.nodes c.try_place-child.result.place c.index-self-place.result in
     let u = c.remove_in_place.new.self in
     let order = (held t e).1.order in
     let wide = child_removed _ _ (breaks_of ts) (height_of ts) child u _ _ (omega (arith, order)) (down t e).own (c.in_ok-remove_in_place.ensures.done c.if-not-branch.false) in
@@ -105,14 +105,14 @@ Children::remove_in_place-retotal-requires-clause-new t c =
 
 -- the children where something was taken out
 left : (t : ℕ) (c : Children::remove_in_place-After-index-self-place t) (u : Tree)
-    → IsRemoved c.least_at-least.result.first c.least_at-least.result.last (get_or c.self.inside.nodes c.place_near-place.result c.index-self-place.result) u (c.args.start - c.total_before-before.result.chars) (c.args.end - c.total_before-before.result.chars)
-    → AreRemoved c.args.least.first c.args.least.last c.args.self.now (set c.args.self.now c.place_near-place.result u) c.args.start c.args.end
+    → IsRemoved c.least_at-least.result.first c.least_at-least.result.last (get_or c.self.inside.nodes c.try_place-child.result.place c.index-self-place.result) u (c.args.start - c.total_before-before.result.chars) (c.args.end - c.total_before-before.result.chars)
+    → AreRemoved c.args.least.first c.args.least.last c.args.self.now (set c.args.self.now c.try_place-child.result.place u) c.args.start c.args.end
 left t c u done =
     let ts = c.args.self.now in
     let d = down t c in
     let totals = totals_seen (listed c.self.inside) ts c.self.inside.totals c.self.inside.totals c.self.view_is refl c.self.invariant.totals_right in
-    let below : AreBelow c.from.result c.self.inside.totals ts = record { above = omega (arith, c.from.ensures, c.self.invariant.above, ap height_of c.self.view_is); children = d.children; totals_right = totals } in
-    children_removed (breaks_of ts) (height_of ts) ts c.place_near-place.result (get_or c.self.inside.nodes c.place_near-place.result c.index-self-place.result)
+    let below : AreBelow c.from-2.result c.self.inside.totals ts = record { above = omega (arith, c.from-2.ensures, c.self.invariant.above, ap height_of c.self.view_is); children = d.children; totals_right = totals } in
+    children_removed (breaks_of ts) (height_of ts) ts c.try_place-child.result.place (get_or c.self.inside.nodes c.try_place-child.result.place c.index-self-place.result)
     d.children d.within d.child_is _ _ c.args.start c.args.end (held t c).1 c.args.least.first c.args.least.last c.least_at-least.result.first c.least_at-least.result.last u done (c.least_at-least.ensures.behind ts below) (c.least_at-least.ensures.ahead ts below) refl refl
 
 pub Children::remove_in_place-retotal-requires-clause-fits :
@@ -120,19 +120,19 @@ pub Children::remove_in_place-retotal-requires-clause-fits :
 Children::remove_in_place-retotal-requires-clause-fits t c = λ narrow j e from within.
     let i = (goal.at.Children::remove_in_place-retotal-requires-clause-fits t c).After-index-self-place in
     let ts = c.args.self.now in
-    let child = get_or c.self.inside.nodes c.place_near-place.result c.index-self-place.result in
+    let child = get_or c.self.inside.nodes c.try_place-child.result.place c.index-self-place.result in
     let u = c.remove_in_place.new.self in
     let d = down t i in
     let totals = totals_seen (listed c.self.inside) ts c.self.inside.totals c.self.inside.totals c.self.view_is refl c.self.invariant.totals_right in
     let inside : j < length ts = omega (arith, totals.as_many, within) in
     let r = left t i u (c.in_ok-remove_in_place.ensures.done c.if-not-branch.false) in
     let last = last_total (breaks_of ts) c.self.inside.totals ts totals (omega (arith, c.requires.children.at_least_two)) e in
-    let few : byte_len (joined (set ts c.place_near-place.result u)) < 2 ^ 16 =
+    let few : byte_len (joined (set ts c.try_place-child.result.place u)) < 2 ^ 16 =
     omega (arith, (narrow (length c.self.inside.totals - 1) e (omega (arith, within))).bytes, ap (λ x. x.bytes) last, ap byte_len r.text_is, byte_len-removed (joined ts) c.args.start c.args.end (omega (arith, c.requires.ordered))) in
     let own = c.info-old.ensures ∙ ap (λ b. info_of b (text child)) d.own.same_breaks in
     let now = c.info-new.ensures ∙ ap (λ b. info_of b (text u)) ((c.in_ok-remove_in_place.ensures.done c.if-not-branch.false).same_breaks ∙ d.own.same_breaks) in
     rw (totals.total_at j e inside, own, now)
-    (fits_after (breaks_of ts) (height_of ts) ts (set ts c.place_near-place.result u) c.place_near-place.result child u d.children d.within d.child_is r.children refl few j from inside)
+    (fits_after (breaks_of ts) (height_of ts) ts (set ts c.try_place-child.result.place u) c.try_place-child.result.place child u d.children d.within d.child_is r.children refl few j from inside)
 
 pub Children::remove_in_place-invariant_of-self-2 :
     goal.Children::remove_in_place-invariant_of-self-2
@@ -145,7 +145,7 @@ Children::remove_in_place-invariant_of-self-2 t c =
     let seen = totals_seen (listed c.self.inside) ts c.self.inside.totals c.self.inside.totals c.self.view_is refl c.self.invariant.totals_right in
     let totals = set_totals _ _ _ _ _ _ _ _ _ d.children d.within d.child_is d.own.same_breaks b (done.same_breaks ∙ d.own.same_breaks) seen refl c.info-old.ensures c.info-new.ensures
     c.retotal.ensures.len c.retotal.ensures.before c.retotal.ensures.after in
-    set_listed c.self.inside _ ts c.place_near-place.result c.remove_in_place.new.self c.self.invariant c.self.view_is d.within b refl refl refl totals
+    set_listed c.self.inside _ ts c.try_place-child.result.place c.remove_in_place.new.self c.self.invariant c.self.view_is d.within b refl refl refl totals
 
 pub Children::remove_in_place-returns-clause-done :
     goal.Children::remove_in_place-returns-clause-done
@@ -158,7 +158,7 @@ Children::remove_in_place-returns-clause-done t c = λ yes.
     let seen = totals_seen (listed c.self.inside) ts c.self.inside.totals c.self.inside.totals c.self.view_is refl c.self.invariant.totals_right in
     let totals = set_totals _ _ _ _ _ _ _ _ _ d.children d.within d.child_is d.own.same_breaks r.children (done.same_breaks ∙ d.own.same_breaks) seen refl c.info-old.ensures c.info-new.ensures
     c.retotal.ensures.len c.retotal.ensures.before c.retotal.ensures.after in
-    rw (set_seen c.self.inside (record { height = _; breaks = _; last = c.self.inside.last; totals = _; nodes = _ }) ts c.place_near-place.result c.remove_in_place.new.self c.self.invariant c.self.view_is d.within r.children refl refl refl totals) r
+    rw (set_seen c.self.inside (record { height = _; breaks = _; last = c.self.inside.last; totals = _; nodes = _ }) ts c.try_place-child.result.place c.remove_in_place.new.self c.self.invariant c.self.view_is d.within r.children refl refl refl totals) r
 
 pub Children::remove_in_place-returns-in_err-remove_in_place-clause-made :
     goal.Children::remove_in_place-returns-in_err-remove_in_place-clause-made

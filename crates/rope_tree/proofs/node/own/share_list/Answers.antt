@@ -1,5 +1,3 @@
-use Rattle.std.proofs.Common.{length, ◌∙◌, arith}
-use Rattle.std.proofs.lemmas.List.{take_all}
 use Rattle.rope_tree.specs.NewList.{new_list}
 use Rattle.rope_tree.proofs.RowLaws.{shared_list}
 use Rattle.rope_tree.proofs.node.own.share_list.Goals as goal
@@ -7,4 +5,4 @@ use Rattle.rope_tree.proofs.node.own.share_list.Goals as goal
 pub returns-clause-list : goal.returns-clause-list
 returns-clause-list c =
     shared_list (new_list c.args.totals.now c.args.places.now) (new_list c.in_ok-totals.field-0 c.share_all.new.places) c.args.known.now c.args.nodes.now c.requires.list c.requires.none c.requires.known c.requires.room
-    (c.in_ok-totals.ensures ∙ take_all (length c.args.nodes.now) c.args.known.now (omega (arith, c.requires.known.as_many))) c.in_ok-share_all.ensures
+    c.in_ok-totals.ensures c.in_ok-share_all.ensures
