@@ -600,6 +600,7 @@ fn count_known(bytes: &[u8], breaks: LineBreaks) -> (usize, usize, usize)
 }
 
 // The same byte by byte, which takes less where they are few.
+#[inline(always)]
 fn count_few(bytes: &[u8], breaks: LineBreaks) -> (usize, usize, usize)
     ensures chars { result.0 ≡ count_by begins_char bytes.now }
     ensures pairs { result.1 ≡ count_by begins_pair bytes.now }
@@ -616,18 +617,30 @@ fn count_few(bytes: &[u8], breaks: LineBreaks) -> (usize, usize, usize)
     (chars, pairs, break_count)
 }
 
+// The same in blocks. It stands by itself, since where it is expanded the few would wait for what it answers through memory.
+#[inline(never)]
+fn count_many(bytes: &[u8], breaks: LineBreaks) -> (usize, usize, usize)
+    ensures chars { result.0 ≡ count_by begins_char bytes.now }
+    ensures pairs { result.1 ≡ count_by begins_pair bytes.now }
+    ensures break_count { byte_break_count breaks bytes.now ≡ result.2 + byte_break_count breaks (drop (length bytes.now) bytes.now) }
+{
+    match breaks {
+        LineBreaks::Lf => count_known(bytes, LineBreaks::Lf),
+        LineBreaks::CrLf => count_known(bytes, LineBreaks::CrLf),
+        LineBreaks::Unicode => count_known(bytes, LineBreaks::Unicode),
+    }
+}
+
 /// How many characters the bytes begin, how many of two code units, and how many breaks, by one pass.
+#[inline(always)]
 pub(crate) fn count_all(bytes: &[u8], breaks: LineBreaks) -> (usize, usize, usize)
     ensures chars { result.0 ≡ count_by begins_char bytes.now }
     ensures pairs { result.1 ≡ count_by begins_pair bytes.now }
     ensures break_count { byte_break_count breaks bytes.now ≡ result.2 + byte_break_count breaks (drop (length bytes.now) bytes.now) }
 {
     if bytes.len() < FEW_BYTES {
-        return count_few(bytes, breaks);
-    }
-    match breaks {
-        LineBreaks::Lf => count_known(bytes, LineBreaks::Lf),
-        LineBreaks::CrLf => count_known(bytes, LineBreaks::CrLf),
-        LineBreaks::Unicode => count_known(bytes, LineBreaks::Unicode),
+        count_few(bytes, breaks)
+    } else {
+        count_many(bytes, breaks)
     }
 }

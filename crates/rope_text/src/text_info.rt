@@ -44,6 +44,8 @@ impl TextInfo {
     }
 
     /// The counts of a text, its line breaks by the set. Reads the text once; takes no memory.
+    // Inlined, since what a call answers through memory has to be waited for.
+    #[inline(always)]
     pub fn from_str(text: &str, breaks: LineBreaks) -> TextInfo
         ensures { result ≡ info_of breaks (chars text.now) }
     {

@@ -41,6 +41,7 @@ pub fn shared_breaks(first: &str, second: &str, breaks: LineBreaks) -> usize
 
 /// The counts of a text with another between its front and its back, by the counts of the whole: only the new text is gone
 /// over, and the ends.
+#[inline(always)]
 fn info_between(
     info: TextInfo,
     front: &str,
@@ -123,6 +124,7 @@ pub fn put_in(
 
 /// The counts of a text without the part between its front and its back, by the counts of the whole: only the part is gone
 /// over, and the ends.
+#[inline(always)]
 fn info_without(info: TextInfo, front: &str, part: &str, back: &str, breaks: LineBreaks) -> TextInfo
     requires info { info ≡ info_of breaks (chars front.now ++ (chars part.now ++ chars back.now)) }
     requires fits { info.bytes ≤ MAX_BYTES }

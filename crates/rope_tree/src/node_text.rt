@@ -141,18 +141,18 @@ impl NodeText {
         self.as_str().len()
     }
 
-    /// Whether one of some bytes, one in each 64, is 255, which no text has: so it never is. It is asked before an edit, for then
-    /// the leaf's places in memory are read side by side, where the edit would wait for each.
+    /// Whether some bytes of it, one in each 64, have a sum that none have: so it never is. It is asked before an edit, for then the
+    /// leaf's places in memory are read side by side, where the edit would wait for each.
     #[inline(always)]
     pub(crate) fn is_no_text(&self) -> bool {
         let bytes = self.bytes.as_slice();
-        let mut most = 0;
+        let mut sum: usize = 0;
         let mut at = 0;
         while at < bytes.len() {
-            most = most.max(bytes[at]);
+            sum = sum.wrapping_add(usize::from(bytes[at]));
             at += 64;
         }
-        most == u8::MAX
+        sum == usize::MAX
     }
 
     /// Puts `added` where a character starts, or at the end. What follows it moves down, and what stands before it stays.

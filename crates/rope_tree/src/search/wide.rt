@@ -218,6 +218,7 @@ impl WideTotals {
     }
 
     /// Puts other counts for those of one part of a text, in all totals from a place on.
+    #[inline(always)]
     pub(super) fn retotal(&mut self, place: usize, old: TextInfo, new: TextInfo)
         requires within { place ≤ length self.old }
         requires small { (j : ℕ) (d : TextInfo) → j < length self.old → IsSmall (slice_index_or self.old j d) }
