@@ -81,7 +81,10 @@ fn widened(alloc: Global, totals: &NarrowTotals) -> Result<Box<WideTotals>, Allo
     requires { length totals.now ≤ MAX_CHILDREN }
     ensures { IfOk result (λ wide. wide.value ≡ totals.now) }
 {
-    let mut wide = Box::new(alloc, WideTotals::new())?;
+    // Matched by hand: through `?` the totals that a refusal gives back would be moved where none is refused, too.
+    let Ok(mut wide) = Box::new(alloc, WideTotals::new()) else {
+        return Err(AllocError);
+    };
     wide.push_all(totals);
     Ok(wide)
 }
