@@ -14,6 +14,11 @@ pub(crate) fn append_bytes(bytes: &mut LeafBytes, added: &[u8])
     requires { length bytes.old.items + length added.now ≤ MAX_BYTES }
     ensures { bytes.new.items ≡ bytes.old.items ++ added.now }
 {
+    // One byte, as of a key that was pressed, takes no call.
+    if added.len() == 1 {
+        bytes.push(added[0]);
+        return;
+    }
     match bytes.try_extend_from_slice(added) {
         Ok(()) => {}
         Err(_) => unreachable!(),

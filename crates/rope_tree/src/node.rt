@@ -225,18 +225,6 @@ pub enum Nodes {
     Two(Node, Node),
 }
 
-/// A value on the heap that may be shared.
-// Matched by hand: through `?` the value that a refusal gives back would be moved where none is refused, too.
-#[inline(always)]
-fn shared<T: Drop>(alloc: Global, value: T) -> Result<Rc<T>, AllocError>
-    ensures { IfOk result (λ rc. rc.value ≡ value) }
-{
-    match Rc::new(alloc, value) {
-        Ok(rc) => Ok(rc),
-        Err(_) => Err(AllocError),
-    }
-}
-
 /// Counts a node that is made.
 fn add_made(made: &mut u64)
     ensures most { made.new ≤ made.old + 1 }
@@ -266,7 +254,7 @@ pub fn make_leaf(
     let form = if info.bytes == 0 {
         Form::Empty(breaks)
     } else {
-        Form::Leaf(shared(alloc, Leaf::of(breaks, text, info))?)
+        Form::Leaf(Rc::new(alloc, Leaf::of(breaks, text, info))?)
     };
     let node = Node { form };
     let _ = node.height();

@@ -7,7 +7,7 @@ ghost use Rattle.rope_tree.specs.declared.search.Unit.TheVariants.{Char};
 ghost use Rattle.rope_tree.specs.Search.{count_of, IsSmall, HasPart};
 ghost use Rattle.rope_tree.specs.Narrow.{IsNarrow, AreNarrow, FitsWith};
 
-use rope_text::{Steps, TextInfo};
+use rope_text::{MIN_CHILDREN, Steps, TextInfo};
 use std::alloc::{AllocError, Global};
 use std::marker::Model;
 
@@ -318,15 +318,15 @@ pub(crate) fn holds_char(totals: &Totals, place: usize, at: usize) -> bool
     is_before & is_behind
 }
 
-/// A child that holds a character, and whether it is the one at `likely`, which is tried first where that is wanted.
+/// A child that holds a character, and whether the way there still follows another.
 #[derive(Clone, Copy)]
 pub(crate) struct Tried {
     pub(crate) place: usize,
-    pub(crate) is_likely: bool,
+    pub(crate) follows: bool,
 }
 
-/// The child that holds a character. Where `follows`, the one at `likely` is tried first: so nothing waits for a search where it is
-/// that child time and again.
+/// The child that holds a character. Where the way follows another, that one's child is tried first: so nothing waits for a search
+/// where it is that child time and again. Of few children none is tried, since a processor would guess wrongly too often.
 #[inline(always)]
 pub(crate) fn try_place(totals: &Totals, at: usize, likely: usize, follows: bool) -> Tried
     requires some { 0 < length totals.now }
@@ -337,13 +337,17 @@ pub(crate) fn try_place(totals: &Totals, at: usize, likely: usize, follows: bool
     ensures before { (d : TextInfo) → 0 < result.place → count_of Char (slice_index_or totals.now (result.place - 1) d) ≤ at }
     ensures past { (d : TextInfo) → at < count_of Char (slice_index_or totals.now result.place d) }
 {
-    let is_likely = follows && holds_char(totals, likely, at);
-    let place = if is_likely {
-        likely
-    } else {
-        place_of(totals, Unit::Char, at, &mut Steps::new())
-    };
-    Tried { place, is_likely }
+    let are_few = totals.len() < MIN_CHILDREN;
+    if follows && !are_few && holds_char(totals, likely, at) {
+        return Tried {
+            place: likely,
+            follows,
+        };
+    }
+    Tried {
+        place: place_of(totals, Unit::Char, at, &mut Steps::new()),
+        follows: follows && are_few,
+    }
 }
 
 /// The character that the child which takes a text has to hold: at a seam the one before it, or the one after it.

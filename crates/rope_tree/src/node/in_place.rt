@@ -40,7 +40,7 @@ impl Children {
         WayIn {
             place: child.place,
             at: at - before,
-            follows: child.is_likely,
+            follows: child.follows,
         }
     }
 

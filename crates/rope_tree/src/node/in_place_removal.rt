@@ -40,7 +40,7 @@ impl Children {
         let before = total_before(&self.totals, place).chars;
         let least = least_at(usize::from(self.height), &self.totals, place, least);
         let node = &mut self.nodes[place];
-        if !child.is_likely && node.is_no_text() {
+        if !child.follows && node.is_no_text() {
             return Ok(false);
         }
         let old = node.info();
@@ -49,7 +49,7 @@ impl Children {
             start - before,
             end - before,
             least,
-            child.is_likely,
+            child.follows,
             made,
         )? {
             return Ok(false);

@@ -7,7 +7,7 @@ ghost use Rattle.rope_tree.specs.NewList.{new_list, nodes_in, IsNewList};
 ghost use Rattle.rope_tree.specs.Shape.{form_tree, IsForm};
 
 use super::row::{clear, empty_list, share_all};
-use super::{Children, Form, ListParts, Node, add_made, shared};
+use super::{Children, Form, ListParts, Node, add_made};
 use crate::leaf::Leaf;
 use crate::search::Totals;
 use std::alloc::{AllocError, Global};
@@ -59,7 +59,7 @@ fn copy_leaf(leaf: &mut Rc<Leaf>, alloc: Global, made: &mut u64) -> Result<(), A
     ensures made { made.new ≤ made.old + 1 }
 {
     add_made(made);
-    *leaf = shared(alloc, leaf.copied())?;
+    *leaf = Rc::new(alloc, leaf.copied())?;
     Ok(())
 }
 

@@ -8,7 +8,7 @@ ghost use Rattle.rope_tree.specs.Siblings.{AreSiblings, AreParts};
 ghost use Rattle.rope_tree.specs.Rows.{IsPart, IsRow};
 ghost use Rattle.rope_tree.specs.NewList.{new_list, nodes_in, IsNewList};
 
-use super::{Children, Form, Node, Nodes, add_made, shared};
+use super::{Children, Form, Node, Nodes, add_made};
 use crate::lookup::total_before;
 use crate::search::Totals;
 use rope_text::{LineBreaks, MAX_CHILDREN, TextInfo};
@@ -187,7 +187,11 @@ pub(super) fn empty_list(alloc: Global) -> Result<Rc<Children>, AllocError>
         totals: Totals::new(),
         nodes: Default::default(),
     };
-    shared(alloc, none)
+    // Matched by hand: through `?` the list that a refusal gives back would be moved where none is refused, too.
+    match Rc::new(alloc, none) {
+        Ok(list) => Ok(list),
+        Err(_) => Err(AllocError),
+    }
 }
 
 impl Children {
