@@ -25,6 +25,19 @@ pub(crate) fn append_bytes(bytes: &mut LeafBytes, added: &[u8])
     }
 }
 
+// Puts bytes over as many others; one takes no call.
+#[inline(always)]
+fn put_over(bytes: &mut [u8], added: &[u8])
+    requires { length added.now ≡ length bytes.old }
+    ensures { bytes.new ≡ added.now }
+{
+    if added.len() == 1 {
+        bytes[0] = added[0];
+        return;
+    }
+    bytes.copy_from_slice(added);
+}
+
 // Puts bytes before the one at `place` of the first `old_len`. What follows it moves up, over as many bytes as are put in.
 fn put_in_gap(bytes: &mut [u8], place: usize, old_len: usize, added: &[u8])
     requires place { place ≤ old_len }
@@ -33,7 +46,7 @@ fn put_in_gap(bytes: &mut [u8], place: usize, old_len: usize, added: &[u8])
 {
     let end = place + added.len();
     bytes.copy_within(place..old_len, end);
-    bytes[place..end].copy_from_slice(added);
+    put_over(&mut bytes[place..end], added);
 }
 
 /// Puts bytes before the one at `place`. What follows it moves up once, and what stands before it stays.

@@ -43,6 +43,6 @@ shifted bs zs added place old_len end k order len is gap after =
 
 pub returns : goal.returns
 returns c =
-    ap (put_mid c.args.place _ c.copy_within.new.self) c.copy_from_slice.ensures.after
+    ap (put_mid c.args.place _ c.copy_within.new.self) c.put_over.ensures
     ∙ shifted c.args.bytes.now c.copy_within.new.self c.args.added.now c.args.place c.args.old_len (c.args.place + length c.args.added.now) (c.args.place + length c.args.added.now - c.args.place)
     c.requires.place c.requires.len refl refl c.copy_within.ensures.after
