@@ -44,9 +44,16 @@ impl TextInfo {
     }
 
     /// The counts of a text, its line breaks by the set. Reads the text once; takes no memory.
+    pub fn from_str(text: &str, breaks: LineBreaks) -> TextInfo
+        ensures { result ≡ info_of breaks (chars text.now) }
+    {
+        TextInfo::of_short(text, breaks)
+    }
+
+    /// The same, for a text that mostly has few bytes, as one that is put in or taken out.
     // Inlined, since what a call answers through memory has to be waited for.
     #[inline(always)]
-    pub fn from_str(text: &str, breaks: LineBreaks) -> TextInfo
+    pub fn of_short(text: &str, breaks: LineBreaks) -> TextInfo
         ensures { result ≡ info_of breaks (chars text.now) }
     {
         let (chars, pairs, break_count) = counts(text, breaks);

@@ -55,7 +55,7 @@ fn info_between(
     requires some { 1 ≤ length (chars added.now) }
     ensures { result ≡ info_of breaks (chars front.now ++ (chars added.now ++ chars back.now)) }
 {
-    let more = info.plus(TextInfo::from_str(added, breaks));
+    let more = info.plus(TextInfo::of_short(added, breaks));
     let apart = shared_breaks(front, back, breaks);
     let met = shared_breaks(front, added, breaks) + shared_breaks(added, back, breaks);
     TextInfo {
@@ -131,7 +131,7 @@ fn info_without(info: TextInfo, front: &str, part: &str, back: &str, breaks: Lin
     requires some { 1 ≤ length (chars part.now) }
     ensures { result ≡ info_of breaks (chars front.now ++ chars back.now) }
 {
-    let less = TextInfo::from_str(part, breaks);
+    let less = TextInfo::of_short(part, breaks);
     let met = shared_breaks(front, part, breaks) + shared_breaks(part, back, breaks);
     let meeting = shared_breaks(front, back, breaks);
     TextInfo {

@@ -8,14 +8,14 @@ use Rattle.rope_tree.specs.Search.{IsSmall}
 use Rattle.rope_tree.proofs.Infos.{small_info}
 use Rattle.rope_tree.proofs.InsertTrees.{inserted_is}
 use Rattle.rope_tree.proofs.CountLaws.{Corrects, corrects}
-use Rattle.rope_tree.proofs.counts.info_between.Goals.{After-from_str, After-shared_breaks-2}
+use Rattle.rope_tree.proofs.counts.info_between.Goals.{After-of_short, After-shared_breaks-2}
 use Rattle.rope_tree.proofs.counts.info_between.Goals as goal
 
-old : (c : After-from_str) → IsSmall c.args.info
+old : (c : After-of_short) → IsSmall c.args.info
 old c = rw c.requires.info (small_info c.args.breaks (chars c.args.front.now ++ chars c.args.back.now) (omega (arith, ap (λ i. i.bytes) c.requires.info, c.requires.fits)))
 
-new : (c : After-from_str) → IsSmall c.from_str.result
-new c = rw c.from_str.ensures (small_info c.args.breaks (chars c.args.added.now) (omega (arith, byte_len-chars c.args.added.now c.utf8.added, c.requires.short)))
+new : (c : After-of_short) → IsSmall c.of_short.result
+new c = rw c.of_short.ensures (small_info c.args.breaks (chars c.args.added.now) (omega (arith, byte_len-chars c.args.added.now c.utf8.added, c.requires.short)))
 
 pub plus-more-requires-clause-chars : goal.plus-more-requires-clause-chars
 plus-more-requires-clause-chars c = let o = old c in let n = new c in omega (arith, o.chars, o.bytes, n.chars, n.bytes)
@@ -37,12 +37,12 @@ met c =
     corrects c.args.breaks (front ++ back) (chars c.args.added.now) front back (length front) c.plus-more.result c.shared_breaks-apart.result c.shared_breaks.result c.shared_breaks-2.result c.requires.some
     (sym (take_at front back _ refl))
     (sym (drop_at front back _ refl))
-    (c.plus-more.ensures.sum ∙ ap₂ info_sum c.requires.info c.from_str.ensures)
+    (c.plus-more.ensures.sum ∙ ap₂ info_sum c.requires.info c.of_short.ensures)
     c.shared_breaks-apart.ensures c.shared_breaks.ensures c.shared_breaks-2.ensures
 
 pub overflow_add-result : goal.overflow_add-result
 overflow_add-result c =
-    let e = (goal.at.overflow_add-result c).After-from_str in
+    let e = (goal.at.overflow_add-result c).After-of_short in
     let o = old e in
     let n = new e in
     let m = met (goal.at.overflow_add-result c).After-shared_breaks-2 in

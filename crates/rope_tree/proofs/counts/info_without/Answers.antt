@@ -5,10 +5,10 @@ use Rattle.rope_tree.proofs.CountLaws.{Uncounts, uncounts}
 use Rattle.rope_tree.proofs.counts.info_without.Goals.{After-shared_breaks-meeting}
 use Rattle.rope_tree.proofs.counts.info_without.Goals as goal
 
-less : (c : After-shared_breaks-meeting) → Uncounts c.args.breaks (chars c.args.front.now) (chars c.args.back.now) c.args.info c.from_str-less.result (c.shared_breaks.result + c.shared_breaks-2.result) c.shared_breaks-meeting.result
+less : (c : After-shared_breaks-meeting) → Uncounts c.args.breaks (chars c.args.front.now) (chars c.args.back.now) c.args.info c.of_short-less.result (c.shared_breaks.result + c.shared_breaks-2.result) c.shared_breaks-meeting.result
 less c =
-    uncounts c.args.breaks (chars c.args.front.now) (chars c.args.part.now) (chars c.args.back.now) c.args.info c.from_str-less.result c.shared_breaks.result c.shared_breaks-2.result c.shared_breaks-meeting.result
-    c.requires.some c.requires.info c.from_str-less.ensures c.shared_breaks.ensures c.shared_breaks-2.ensures c.shared_breaks-meeting.ensures
+    uncounts c.args.breaks (chars c.args.front.now) (chars c.args.part.now) (chars c.args.back.now) c.args.info c.of_short-less.result c.shared_breaks.result c.shared_breaks-2.result c.shared_breaks-meeting.result
+    c.requires.some c.requires.info c.of_short-less.ensures c.shared_breaks.ensures c.shared_breaks-2.ensures c.shared_breaks-meeting.ensures
 
 pub overflow_sub-result : goal.overflow_sub-result
 overflow_sub-result c = (less (goal.at.overflow_sub-result c).After-shared_breaks-meeting).bytes_le

@@ -1,5 +1,5 @@
 use Rattle.rope_text.proofs.Walks.{byte_len-chars}
-use Rattle.rope_text.proofs.text_info.TextInfo.from_str.Goals as goal
+use Rattle.rope_text.proofs.text_info.TextInfo.of_short.Goals as goal
 
 pub returns : goal.returns
 returns c =
