@@ -1,5 +1,6 @@
 -- A way from the root of a tree to a leaf, seen as a place among the leaves.
-use Rattle.std.specs.Prelude.{◌≡◌, ℕ, ◌+◌, ◌-◌, ◌<◌, ◌≤◌, List, [], ◌∷◌, ◌++◌, length, take, drop, get_or, All}
+use Rattle.std.specs.Prelude.{◌≡◌, ℕ, ◌+◌, ◌-◌, ◌<◌, ◌≤◌, List, [], ◌∷◌, ◌++◌, length, take, drop, get_or, All, Bool, if◌then◌else◌}
+use Rattle.std.specs.Bool.{MatchBool}
 use Rattle.std.specs.List.{concat, flat_map}
 use Rattle.rope_text.specs.declared.TheConstants.{MAX_CHILDREN, MAX_HEIGHT}
 use Rattle.rope_text.specs.declared.line_breaks.LineBreaks.{LineBreaks}
@@ -25,6 +26,14 @@ pub record IsNext (old new : Place) : Type 0 where
   pub before : new.before ≡ old.before ++ old.here ∷ []
   pub after : old.after ≡ new.here ∷ new.after
 
+-- the next place, or backward the one before
+abbrev pub IsBeside : Bool → Place → Place → Type 0
+IsBeside is_backward old new = MatchBool is_backward (IsNext new old) (IsNext old new)
+
+-- there is none
+abbrev pub IsLast : Bool → Place → Type 0
+IsLast is_backward p = (if is_backward then p.before else p.after) ≡ []
+
 -- the leaf here holds a place of the text of all the leaves, counted in a unit; `info` are the counts of the text before it
 pub record HoldsPlace (unit : Unit) (breaks : LineBreaks) (at : ℕ) (before : List (List ℕ)) (here : List ℕ) (info : TextInfo) : Type 0 where
   pub info_is : info ≡ info_of breaks (concat before)
@@ -43,6 +52,10 @@ before_of (f ∷ fs) = leaves_below (take f.at f.children.now) ++ before_of fs
 abbrev pub after_of : List Frame → List (List ℕ)
 after_of [] = []
 after_of (f ∷ fs) = after_of fs ++ leaves_below (drop (f.at + 1) f.children.now)
+
+-- those after a path, or backward before it
+abbrev pub beyond : Bool → List Frame → List (List ℕ)
+beyond is_backward frames = if is_backward then before_of frames else after_of frames
 
 -- the place of a path
 abbrev pub place_of : List Frame → ℕ → List ℕ → Place
@@ -92,3 +105,7 @@ pub record HasPrevAt (frames : List Frame) (depth i : ℕ) : Type 0 where
   pub below : i < depth
   pub more : (f : Frame) → f ≡ get_or frames i f → 0 < f.at
   pub same : before_of (take depth frames) ≡ before_of (take (i + 1) frames)
+
+-- the deepest frame that has a child after its own, or backward before it
+abbrev pub HasBesideAt : Bool → List Frame → ℕ → ℕ → Type 0
+HasBesideAt is_backward frames depth i = MatchBool is_backward (HasPrevAt frames depth i) (HasNextAt frames depth i)

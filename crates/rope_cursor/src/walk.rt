@@ -37,7 +37,7 @@ fn leave_node<'a>(path: &mut Path<'a>, is_far: bool) -> Option<(&'a str, &'a [No
     ensures some { IfSome result (λ found. path.old.after ≡ chars found.0.now ∷ (leaves_below found.1.now ++ path.new.after)) }
     ensures none { IfNone result ((path.old.after ≡ []) × (path.new ≡ path.old)) }
 {
-    if !path.advance() {
+    if !path.step(false) {
         return None;
     }
     let leaf = path.leaf();
