@@ -120,13 +120,11 @@ impl<'a> Bytes<'a> {
     }
 
     /// The same cursor turned round.
-    pub fn reversed(self) -> Bytes<'a>
+    pub fn reversed(mut self) -> Bytes<'a>
         ensures { result ≡ turned self.entry }
     {
-        Bytes {
-            is_backward: !self.is_backward,
-            ..self
-        }
+        self.reverse();
+        self
     }
 }
 
@@ -181,10 +179,8 @@ impl<'a> Clone for Bytes<'a> {
     ghost is_infallible = { λ _. ⊤ };
 
     fn clone(&self) -> Result<Bytes<'a>, AllocError> {
-        Ok(Bytes {
-            span: self.span.copy(),
-            ..*self
-        })
+        let span = self.span.copy();
+        Ok(Bytes { span, ..*self })
     }
 }
 

@@ -124,13 +124,11 @@ impl<'a> Chars<'a> {
     }
 
     /// The same cursor turned round.
-    pub fn reversed(self) -> Chars<'a>
+    pub fn reversed(mut self) -> Chars<'a>
         ensures { result ≡ turned self.entry }
     {
-        Chars {
-            is_backward: !self.is_backward,
-            ..self
-        }
+        self.reverse();
+        self
     }
 }
 
@@ -183,10 +181,8 @@ impl<'a> Clone for Chars<'a> {
     ghost is_infallible = { λ _. ⊤ };
 
     fn clone(&self) -> Result<Chars<'a>, AllocError> {
-        Ok(Chars {
-            span: self.span.copy(),
-            ..*self
-        })
+        let span = self.span.copy();
+        Ok(Chars { span, ..*self })
     }
 }
 

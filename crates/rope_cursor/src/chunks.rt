@@ -167,13 +167,11 @@ impl<'a> Chunks<'a> {
     }
 
     /// The same cursor turned round.
-    pub fn reversed(self) -> Chunks<'a>
+    pub fn reversed(mut self) -> Chunks<'a>
         ensures { result ≡ turned self.entry }
     {
-        Chunks {
-            is_backward: !self.is_backward,
-            ..self
-        }
+        self.reverse();
+        self
     }
 }
 
@@ -199,10 +197,8 @@ impl<'a> Clone for Chunks<'a> {
     ghost is_infallible = { λ _. ⊤ };
 
     fn clone(&self) -> Result<Chunks<'a>, AllocError> {
-        Ok(Chunks {
-            span: self.span.copy(),
-            ..*self
-        })
+        let span = self.span.copy();
+        Ok(Chunks { span, ..*self })
     }
 }
 

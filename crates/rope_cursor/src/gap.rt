@@ -4,7 +4,6 @@ ghost use Rattle.rope_text.specs.Cutting.{parts_crlf};
 ghost use Rattle.std.specs.List.{concat};
 ghost use Rattle.std.specs.Str.{chars};
 ghost use Rattle.rope_text.specs.Breaks.{break_count};
-ghost use Rattle.rope_text.specs.Conversions.{line_to_byte};
 ghost use Rattle.rope_text.specs.LineParts.{first_line, last_start};
 ghost use Rattle.rope_text.specs.Text.{byte_len};
 ghost use Rattle.rope_text.specs.TextInfo.{info_of};
@@ -83,16 +82,6 @@ fn count_last_of_all(text: &str, skip: usize, breaks: LineBreaks) -> (usize, Tex
     (start, info)
 }
 
-// The byte at which a line of a text starts. Mostly it is the second line, since so little text is looked at.
-fn start_of_line(text: &str, line_idx: usize, breaks: LineBreaks) -> usize
-    ensures { result ≡ line_to_byte breaks (chars text.now) line_idx }
-{
-    if line_idx == 1 {
-        return TextInfo::of_first_line(text, breaks).bytes;
-    }
-    line_to_byte_with(text, line_idx, breaks)
-}
-
 // What `count_last_of_all` answers of a text's front, where it is found in the bytes near the front's end. What follows the front
 // helps to count, since whole blocks are counted at once.
 fn find_last(
@@ -118,7 +107,13 @@ fn find_last(
     if break_count <= skip {
         return None;
     }
-    let start = start_of_line(near, break_count - skip, breaks);
+    // mostly it is the second line, since so little text is looked at
+    let line_idx = break_count - skip;
+    let start = if line_idx == 1 {
+        TextInfo::of_first_line(near, breaks).bytes
+    } else {
+        line_to_byte_with(near, line_idx, breaks)
+    };
     let rest = text_after(near, start);
     let bytes = len - start;
     let info = TextInfo {
@@ -206,10 +201,8 @@ impl<'a> Gap<'a> {
     pub fn copy(&self) -> Gap<'a>
         ensures { result ≡ self.now }
     {
-        Gap {
-            span: self.span.copy(),
-            ..*self
-        }
+        let span = self.span.copy();
+        Gap { span, ..*self }
     }
 
     /// Goes on past the next line break, or to the end. Answers the counts of what it passed.

@@ -118,10 +118,9 @@ impl<'a> Span<'a> {
     {
         match part {
             Part::InTree(stretch) => {
-                let node = stretch.node;
-                let _ = node.height();
+                let _ = stretch.node.height();
                 let place = (stretch.start.chars + char_idx).min(stretch.end.chars - 1);
-                let (path, before) = Path::at(node, Unit::Char, place);
+                let (path, before) = Path::at(stretch.node, Unit::Char, place);
                 Span::in_leaf(stretch, path, before)
             }
             Part::Alone(plain) => (Span::of_text(plain), 0, 0, 0),
@@ -141,10 +140,9 @@ impl<'a> Span<'a> {
     {
         match part {
             Part::InTree(stretch) => {
-                let node = stretch.node;
-                let _ = node.height();
+                let _ = stretch.node.height();
                 let place = (stretch.start.bytes + byte_idx).min(stretch.end.bytes - 1);
-                let (path, before) = Path::at(node, Unit::Byte, place);
+                let (path, before) = Path::at(stretch.node, Unit::Byte, place);
                 Span::in_leaf(stretch, path, before)
             }
             Part::Alone(plain) => {
@@ -184,10 +182,8 @@ impl<'a> Span<'a> {
     pub fn copy(&self) -> Span<'a>
         ensures { result ≡ self.now }
     {
-        Span {
-            path: self.path.copy(),
-            ..*self
-        }
+        let path = self.path.copy();
+        Span { path, ..*self }
     }
 
     /// The chunk.

@@ -41,10 +41,8 @@ fn leave_node<'a>(path: &mut Path<'a>, is_far: bool) -> Option<(&'a str, &'a [No
         return None;
     }
     let leaf = path.leaf();
-    if !is_far {
-        return Some((leaf, &[]));
-    }
-    Some((leaf, path.pass_siblings()))
+    let siblings = if is_far { path.pass_siblings() } else { &[] };
+    Some((leaf, siblings))
 }
 
 impl<'a> Walk<'a> {
