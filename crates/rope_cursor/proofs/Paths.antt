@@ -5,6 +5,7 @@ use Rattle.std.proofs.lemmas.List.Elements.{All-get_or, All-nil, All-cons, All-h
 use Rattle.std.proofs.lemmas.List.Concat.{flat_map-append}
 use Rattle.std.proofs.lemmas.Bool.{cases_eq}
 use Rattle.std.specs.Prelude.{if◌then◌else◌}
+use Rattle.std.specs.Bool.{MatchBool}
 use Rattle.std.specs.Borrow.{Bor}
 use Rattle.std.specs.List.{concat}
 use Rattle.rope_text.specs.declared.line_breaks.LineBreaks.{LineBreaks}
@@ -25,7 +26,7 @@ use Rattle.rope_tree.specs.Tree.{Tree, text, joined, leaves_of, breaks_of, leaf_
 use Rattle.rope_tree.proofs.NodeLaws.{joined_parts, leaf_text}
 use Rattle.rope_tree.specs.View.{IsInnerOf}
 use Rattle.rope_cursor.specs.declared.path.Frame.{Frame}
-use Rattle.rope_cursor.specs.Path.{Place, IsNext, HoldsPlace, leaves_below, before_of, after_of, place_of, beyond, IsLow, IsFrame, IsBeside, AreFrames, AreFramesOf, around, HasNextAt, HasPrevAt, HasBesideAt}
+use Rattle.rope_cursor.specs.Path.{Place, IsNext, HoldsPlace, leaves_below, before_of, after_of, place_of, beyond, IsLow, IsFrame, IsBeside, AreFrames, around}
 
 -- the leaves below nodes, by the trees that they are seen as
 pub leaves_below_is : (rcs : List Tree) → leaves_below rcs ≡ leaves_of rcs
@@ -161,6 +162,26 @@ nearest_behind true frames level b at child whole d some e =
 nearest_behind false frames level b at child whole d some e =
     d.before ∙ ap (λ k. before_of (take level frames) ++ leaves_below (take k b.now)) e ∙ append-nil (before_of (take level frames))
 
+-- frames of some whole
+abbrev pub AreFramesOf : List Frame → ℕ → Type 0
+AreFramesOf frames level = (whole : List (List ℕ)) × AreFrames frames level whole
+
+-- the deepest frame that has a child after its own
+pub record HasNextAt (frames : List Frame) (depth i : ℕ) : Type 0 where
+  pub below : i < depth
+  pub more : (f : Frame) → f ≡ get_or frames i f → f.at + 1 < length f.children.now
+  pub same : after_of (take depth frames) ≡ after_of (take (i + 1) frames)
+
+-- the deepest frame that has a child before its own
+pub record HasPrevAt (frames : List Frame) (depth i : ℕ) : Type 0 where
+  pub below : i < depth
+  pub more : (f : Frame) → f ≡ get_or frames i f → 0 < f.at
+  pub same : before_of (take depth frames) ≡ before_of (take (i + 1) frames)
+
+-- the deepest frame that has a child after its own, or backward before it
+abbrev pub HasBesideAt : Bool → List Frame → ℕ → ℕ → Type 0
+HasBesideAt is_backward frames depth i = MatchBool is_backward (HasPrevAt frames depth i) (HasNextAt frames depth i)
+
 -- a search upward for a frame with a child after its own, which has come to a level
 after_of_none : (frames : List Frame) (i : ℕ) (f : Frame) → i < length frames → f ≡ get_or frames i f → length f.children.now ≤ f.at + 1 → after_of (take (i + 1) frames) ≡ after_of (take i frames)
 after_of_none frames i f l e h = rw (take_more frames i f l, ← e, after_of-append, drop_all (f.at + 1) f.children.now h) refl
@@ -192,10 +213,21 @@ module _ (frames : List Frame) (depth level : ℕ) (f : Frame) (h : AreFramesOf 
 
 -- the same, whichever way the search looks
 pub none_beside : (is_backward : Bool) (frames : List Frame) (depth level : ℕ) (f : Frame) → AreFramesOf frames depth → 0 < level → level ≤ depth → f ≡ get_or frames (level - 1) f
-    → beyond is_backward (take depth frames) ≡ beyond is_backward (take level frames) → (if is_backward then f.at else length f.children.now - f.at - 1) ≡ 0
+    → beyond is_backward (take depth frames) ≡ beyond is_backward (take level frames) → f.at ≡ (if is_backward then 0 else length f.children.now - 1)
     → beyond is_backward (take depth frames) ≡ beyond is_backward (take (level - 1) frames)
 none_beside true frames depth level f h p l e same none = no_prev frames depth level f h p l e same (omega (arith, none))
 none_beside false frames depth level f h p l e same none = no_next frames depth level f h p l e same (omega (arith, none))
+
+pub has_beside : (is_backward : Bool) (frames : List Frame) (depth level : ℕ) (f : Frame) → AreFramesOf frames depth → 0 < level → level ≤ depth → f ≡ get_or frames (level - 1) f
+    → beyond is_backward (take depth frames) ≡ beyond is_backward (take level frames) → (f.at ≡ (if is_backward then 0 else length f.children.now - 1) → ⊥)
+    → HasBesideAt is_backward frames depth (level - 1)
+has_beside true frames depth level f h p l e same more =
+    let on : level - 1 + 1 ≡ level = omega arith in
+    record { below = omega arith; more = λ g q. rw (same_frame frames depth level f h p l e g q) (omega (arith, more)); same = rw on same }
+has_beside false frames depth level f h p l e same more =
+    let on : level - 1 + 1 ≡ level = omega arith in
+    let within = frame_within frames depth level f h p l e in
+    record { below = omega arith; more = λ g q. rw (same_frame frames depth level f h p l e g q) (omega (arith, more, within)); same = rw on same }
 
 -- the step to the next leaf: frame i stands at f, and rc is the child after its own
 module _ (frames : List Frame) (depth i : ℕ) (f : Frame) (rc : Tree) (child : Tree) (leaf : List ℕ) (h : AreFrames frames depth (around frames depth (leaf ∷ [])))

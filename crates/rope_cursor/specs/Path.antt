@@ -81,10 +81,6 @@ pub record AreFrames (frames : List Frame) (level : ℕ) (whole : List (List ℕ
   pub parts : (i : ℕ) (d : Frame) → i < level →
       before_of (take i frames) ++ (leaves_below (get_or frames i d).children.now ++ after_of (take i frames)) ≡ whole
 
--- the same, whatever the whole is
-abbrev pub AreFramesOf : List Frame → ℕ → Type 0
-AreFramesOf frames level = (whole : List (List ℕ)) × AreFrames frames level whole
-
 -- leaves in the place of a frame that is not there yet
 abbrev pub around : List Frame → ℕ → List (List ℕ) → List (List ℕ)
 around frames level middle = before_of (take level frames) ++ (middle ++ after_of (take level frames))
@@ -93,19 +89,3 @@ around frames level middle = before_of (take level frames) ++ (middle ++ after_o
 pub record LeadsTo (frames : List Frame) (depth : ℕ) (leaf : List ℕ) (whole : List (List ℕ)) : Type 0 where
   pub frames_are : AreFrames frames depth whole
   pub whole_is : around frames depth (leaf ∷ []) ≡ whole
-
--- the deepest frame that has a child after its own
-pub record HasNextAt (frames : List Frame) (depth i : ℕ) : Type 0 where
-  pub below : i < depth
-  pub more : (f : Frame) → f ≡ get_or frames i f → f.at + 1 < length f.children.now
-  pub same : after_of (take depth frames) ≡ after_of (take (i + 1) frames)
-
--- the deepest frame that has a child before its own
-pub record HasPrevAt (frames : List Frame) (depth i : ℕ) : Type 0 where
-  pub below : i < depth
-  pub more : (f : Frame) → f ≡ get_or frames i f → 0 < f.at
-  pub same : before_of (take depth frames) ≡ before_of (take (i + 1) frames)
-
--- the deepest frame that has a child after its own, or backward before it
-abbrev pub HasBesideAt : Bool → List Frame → ℕ → ℕ → Type 0
-HasBesideAt is_backward frames depth i = MatchBool is_backward (HasPrevAt frames depth i) (HasNextAt frames depth i)

@@ -9,7 +9,7 @@ ghost use Rattle.rope_text.specs.TextInfo.{info_of};
 ghost use Rattle.rope_tree.specs.Search.{count_of};
 ghost use Rattle.rope_tree.specs.Leaves.{AreLeaves};
 ghost use Rattle.rope_tree.specs.Tree.{text};
-ghost use Rattle.rope_cursor.specs.Path.{before_of, after_of, beyond, around, place_of, AreFrames, AreFramesOf, LeadsTo, HasBesideAt, IsLow, IsBeside, IsLast, HoldsPlace, leaves, leaves_below};
+ghost use Rattle.rope_cursor.specs.Path.{before_of, after_of, beyond, around, place_of, AreFrames, LeadsTo, IsLow, IsBeside, IsLast, HoldsPlace, leaves, leaves_below};
 
 use rope_text::{MAX_HEIGHT, Steps, TextInfo};
 use rope_tree::lookup::total_before;
@@ -160,30 +160,6 @@ fn enter_at<'a>(
     }
 }
 
-// The deepest frame that has a child after its own, or backward before it.
-#[inline(always)]
-fn level_beside(frames: &[Frame<'_>; MAX_HEIGHT], depth: usize, is_backward: bool) -> Option<usize>
-    requires { AreFramesOf frames.now depth }
-    ensures found { IfSome result (HasBesideAt is_backward frames.now depth) }
-    ensures none { IfNone result (beyond is_backward (take depth frames.now) ≡ []) }
-{
-    let slots = &frames[..];
-    let mut level = depth;
-    while level > 0 {
-        level -= 1;
-        let frame = slots[level];
-        let more = if is_backward {
-            frame.at
-        } else {
-            frame.children.len() - frame.at - 1
-        };
-        if more > 0 {
-            return Some(level);
-        }
-    }
-    None
-}
-
 impl<'a> Path<'a> {
     /// The way to the leaf that holds a place of a tree's text, and the counts of the text before the leaf. It enters each
     /// node on the way once.
@@ -238,24 +214,26 @@ impl<'a> Path<'a> {
         ensures stays { OnFalse result (self.new ≡ self.old) }
         ensures ended { OnFalse result (IsLast is_backward self.old) }
     {
-        let depth = self.depth;
+        let mut level = self.depth;
         let frames = &mut self.frames;
-        let Some(level) = level_beside(frames, depth, is_backward) else {
-            return false;
-        };
         let slots = &frames[..];
-        let frame = slots[level];
-        let children = frame.children;
-        let at = if is_backward {
-            frame.at - 1
-        } else {
-            frame.at + 1
-        };
-        frames[level] = Frame { children, at };
-        let (depth, leaf) = reach(frames, level + 1, &children[at], is_backward);
-        self.depth = depth;
-        self.leaf = leaf;
-        true
+        // the deepest frame that has a child beside its own, on the side to which it goes
+        while level > 0 {
+            level -= 1;
+            let frame = slots[level];
+            let children = frame.children;
+            let at = frame.at;
+            let end = if is_backward { 0 } else { children.len() - 1 };
+            if at != end {
+                let at = if is_backward { at - 1 } else { at + 1 };
+                frames[level] = Frame { children, at };
+                let (depth, leaf) = reach(frames, level + 1, &children[at], is_backward);
+                self.depth = depth;
+                self.leaf = leaf;
+                return true;
+            }
+        }
+        false
     }
 
     /// Goes to the last leaf under the node right over its own, and answers the leaves that it passes and that one: so that who
