@@ -44,15 +44,15 @@ impl<'a> Chars<'a> {
         requires { char_idx ≤ length (text_of part.now) }
         ensures { result ≡ at_place (text_of part.now) char_idx }
     {
-        let total = part.info().chars;
-        let (span, at) = Span::at(part, char_idx);
+        let info = part.info();
+        let (span, at) = Span::at(part, info, char_idx);
         let chunk = span.chunk();
         Chars {
             span,
             chunk,
             at,
             passed: char_idx,
-            total,
+            total: info.chars,
             is_backward: false,
         }
     }

@@ -188,8 +188,7 @@ impl<'a> Gap<'a> {
         ensures front { result.front ≡ take char_idx (text_of part.now) }
         ensures back { result.back ≡ drop char_idx (text_of part.now) }
     {
-        let _ = part.info();
-        let (span, inside) = Span::at(part, char_idx);
+        let (span, inside) = Span::at(part, part.info(), char_idx);
         Gap {
             span,
             inside,

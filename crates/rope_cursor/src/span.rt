@@ -6,6 +6,7 @@ ghost use Rattle.std.specs.Str.{chars};
 ghost use Rattle.rope_text.specs.Conversions.{char_to_byte};
 ghost use Rattle.rope_text.specs.Text.{byte_len};
 ghost use Rattle.rope_text.specs.Cutting.{clip};
+ghost use Rattle.rope_text.specs.TextInfo.{info_of};
 ghost use Rattle.rope_tree.specs.Tree.{text};
 ghost use Rattle.rope_cursor.specs.Path.{IsBeside, IsLast, leaves};
 ghost use Rattle.rope_cursor.specs.Starts.{AreBefore, MeetsLeaf};
@@ -153,19 +154,20 @@ impl<'a> Span<'a> {
     }
 
     /// The chunk of a part that holds a character, and the byte of the chunk at which that character starts. At the end of the
-    /// text it is the last chunk, and its end. An empty part has no chunk: then it is the empty text.
+    /// text it is the last chunk, and its end. An empty part has no chunk: then it is the empty text. The part's counts are handed
+    /// in by who has them.
     // Expanded where it is called: a way is half a kilobyte, and is then moved once less. Of a narrow text, which has as many
     // bytes as characters, nothing is read: no byte of it has to be waited for.
     #[inline(always)]
-    pub fn at(part: &Part<'a>, char_idx: usize) -> (Span<'a>, usize)
-        requires { char_idx ≤ length (text_of part.now) }
+    pub fn at(part: &Part<'a>, info: TextInfo, char_idx: usize) -> (Span<'a>, usize)
+        requires info { info ≡ info_of (breaks_of part.now) (text_of part.now) }
+        requires within { char_idx ≤ length (text_of part.now) }
         ensures text { concat (leaves result.0) ≡ text_of part.now }
         ensures chunks { 0 < length (text_of part.now) → leaves result.0 ≡ chunks_of part.now }
         ensures starts { length (concat result.0.before) ≤ char_idx }
         ensures within { char_idx ≤ length (concat result.0.before) + length result.0.here }
         ensures byte { result.1 ≡ char_to_byte result.0.here (char_idx - length (concat result.0.before)) }
     {
-        let info = part.info();
         let (span, _, chars, _) = Span::with_char(part, char_idx);
         let within = char_idx - chars;
         let byte = if info.bytes == info.chars {

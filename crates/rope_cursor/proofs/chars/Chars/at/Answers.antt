@@ -21,8 +21,8 @@ invariant_of-result c =
     let e = c.at-span.ensures in
     let t = text_of c.args.part.now in
     let p = c.at-span.result.0 in
-    step.cursor_at t p e.text c.chunk-chunk.result.now (chunk_is d) c.at-span.result.1 (c.args.char_idx - length (concat p.before)) (byte_is d) c.args.char_idx c.info-total.result.chars (omega (arith, e.starts)) (omega (arith, e.within)) (ap (λ i. i.chars) c.info-total.ensures.value)
-    (λ (some : 0 < length t). subst (λ (xs : List (List ℕ)). All (λ leaf. 0 < length leaf) xs) (sym (e.chunks some)) c.info-total.ensures.kept.cut.nonempty)
+    step.cursor_at t p e.text c.chunk-chunk.result.now (chunk_is d) c.at-span.result.1 (c.args.char_idx - length (concat p.before)) (byte_is d) c.args.char_idx c.info-info.result.chars (omega (arith, e.starts)) (omega (arith, e.within)) (ap (λ i. i.chars) c.info-info.ensures.value)
+    (λ (some : 0 < length t). subst (λ (xs : List (List ℕ)). All (λ leaf. 0 < length leaf) xs) (sym (e.chunks some)) c.info-info.ensures.kept.cut.nonempty)
 
 pub returns : goal.returns
 returns c =
