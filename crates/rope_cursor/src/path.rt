@@ -208,6 +208,7 @@ impl<'a> Path<'a> {
     }
 
     /// Goes to the next leaf, or backward to the one before. Answers whether there is one; else it stays.
+    // Expanded where it is called, where it is known which way it goes: so no step asks for it at each frame.
     #[inline(always)]
     pub fn step(&mut self, is_backward: bool) -> bool
         ensures moved { OnTrue result (IsBeside is_backward self.old self.new) }
