@@ -53,7 +53,7 @@ module _ (p q : Place) (chunk next : List ℕ) (n : IsNext p q) (h : IsChunkAt p
   before_some at before total c = omega (arith, c.before_is, length_before)
 
   -- the chunk there is not empty, where it is not at the end of the bytes; nor the one before, where it is not at their start
-  pub next_some : (at before total : ℕ) → IsByteCursor p chunk at before total → length chunk ≤ at → (before + at ≡ total → ⊥) → 0 < length next
+  pub next_some : (at before total : ℕ) → IsByteCursor p chunk at before total → length chunk ≤ at → (total ≡ before + at → ⊥) → 0 < length next
   next_some at before total c past more =
       let some : 0 < total = omega (arith, c.total_is, c.within, more) in
       chunk_some q next k (here_solid q total (AreSolid_same p q total (leaves_next p q n) c.solid) some)

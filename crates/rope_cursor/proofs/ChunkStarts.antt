@@ -1,5 +1,5 @@
 -- Where a cursor over chunks starts.
-use Rattle.std.proofs.Common.{◌≡◌, ℕ, suc, ◌+◌, ◌-◌, ◌<◌, ◌≤◌, ◌==◌, Bool, true, false, List, [], ◌∷◌, ◌++◌, length, get_or, refl, sym, ap, ◌∙◌, arith, inl, inr, All}
+use Rattle.std.proofs.Common.{◌≡◌, ℕ, suc, ◌+◌, ◌-◌, ◌<◌, ◌≤◌, ◌==◌, Bool, true, false, List, [], ◌∷◌, ◌++◌, length, get_or, refl, sym, ap, ◌∙◌, arith, inl, inr, All, append_assoc}
 use Rattle.std.specs.Prelude.{if◌then◌else◌}
 use Rattle.std.specs.List.{concat}
 use Rattle.std.proofs.lemmas.Bool.Decides.{nat_tests}
@@ -118,6 +118,16 @@ module _ (p : Place) (text : List ℕ) (chunks : List (List ℕ)) (cut : IsCutti
     | inr some ↦
         let other : (chars == 0) ≡ false = grind (arith, nat_tests) in
         rw other (same (omega arith))
+  ]
+
+  pub items_past : all_items (at_chunk p (chars == 0) true false) ≡ chunks
+  items_past = elim (cases_eq chars 0) [
+    | inl none ↦
+        let empty : (chars == 0) ≡ true = grind (arith, nat_tests) in
+        rw empty (sym (nil_from_length chunks (no_chunks chunks cut.nonempty (omega (arith, ap length cut.joined)))))
+    | inr some ↦
+        let other : (chars == 0) ≡ false = grind (arith, nat_tests) in
+        rw other (append_assoc p.before (p.here ∷ []) p.after ∙ same (omega arith))
   ]
 
   -- it is the first one, where nothing lies before it

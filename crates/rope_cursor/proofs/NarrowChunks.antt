@@ -2,13 +2,12 @@
 use Rattle.std.proofs.Common.{◌≡◌, ℕ, ◌∷◌, List, length, ap, arith, length-append}
 use Rattle.std.proofs.lemmas.Str.{length-le-encodes}
 use Rattle.std.specs.List.{concat}
-use Rattle.std.specs.Str.{chars}
 use Rattle.rope_text.specs.Text.{byte_len}
 use Rattle.rope_text.proofs.CuttingLaws.{concat-append}
 use Rattle.rope_text.proofs.Measures.{IsMeasure-byte_len}
 use Rattle.rope_cursor.specs.Path.{Place, leaves}
 
-narrow_here : (p : Place) (text : List ℕ) → concat (leaves p) ≡ text → byte_len text ≡ length text → byte_len p.here ≡ length p.here
+pub narrow_here : (p : Place) (text : List ℕ) → concat (leaves p) ≡ text → byte_len text ≡ length text → byte_len p.here ≡ length p.here
 narrow_here p text whole narrow =
     omega (
       arith,
@@ -25,7 +24,3 @@ narrow_here p text whole narrow =
       length-le-encodes p.here,
       length-le-encodes (concat p.after),
     )
-
--- the same of the bytes of the chunk
-pub narrow_chunk : (p : Place) (text bytes : List ℕ) → concat (leaves p) ≡ text → chars bytes ≡ p.here → byte_len text ≡ length text → byte_len (chars bytes) ≡ length (chars bytes)
-narrow_chunk p text bytes whole here narrow = omega (arith, narrow_here p text whole narrow, ap byte_len here, ap length here)

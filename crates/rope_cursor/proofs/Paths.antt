@@ -1,9 +1,11 @@
 -- Frames of a path: one more of them, and the steps to the next leaf and to the one before.
-use Rattle.std.proofs.Common.{◌≡◌, ℕ, ◌+◌, ◌-◌, ◌<◌, ◌≤◌, ◌^◌, false, List, [], ◌∷◌, ◌++◌, length, take, drop, get_or, set, refl, ap, sym, subst, ◌∙◌, arith, inl, inr, All, append_assoc}
+use Rattle.std.proofs.Common.{◌≡◌, ℕ, ◌+◌, ◌-◌, ◌<◌, ◌≤◌, ◌^◌, Bool, true, false, not, List, [], ◌∷◌, ◌++◌, length, take, drop, get_or, set, refl, ap, sym, subst, ◌∙◌, arith, inl, inr, All, append_assoc}
 use Rattle.std.proofs.lemmas.List.{take-append-drop, drop_more, take_more_set, append-nil, length-set, get_or-set_same, get_or-set_other, take-set, take-set-le, take_more, append_cancel_right, append_cancel_left, get_or_default, drop_all}
 use Rattle.std.proofs.lemmas.List.Elements.{All-get_or, All-nil, All-cons, All-head, All-tail}
 use Rattle.std.proofs.lemmas.List.Concat.{flat_map-append}
 use Rattle.std.proofs.lemmas.Bool.{cases_eq}
+use Rattle.std.specs.Prelude.{if◌then◌else◌}
+use Rattle.std.specs.Bool.{MatchBool}
 use Rattle.std.specs.Borrow.{Bor}
 use Rattle.std.specs.List.{concat}
 use Rattle.rope_text.specs.declared.line_breaks.LineBreaks.{LineBreaks}
@@ -24,7 +26,7 @@ use Rattle.rope_tree.specs.Tree.{Tree, text, joined, leaves_of, breaks_of, leaf_
 use Rattle.rope_tree.proofs.NodeLaws.{joined_parts, leaf_text}
 use Rattle.rope_tree.specs.View.{IsInnerOf}
 use Rattle.rope_cursor.specs.declared.path.Frame.{Frame}
-use Rattle.rope_cursor.specs.Path.{Place, IsNext, HoldsPlace, leaves_below, before_of, after_of, place_of, IsLow, IsFrame, AreFrames, AreFramesOf, around, HasNextAt, HasPrevAt}
+use Rattle.rope_cursor.specs.Path.{Place, IsNext, HoldsPlace, leaves_below, before_of, after_of, place_of, beyond, IsLow, IsFrame, IsBeside, AreFrames, around}
 
 -- the leaves below nodes, by the trees that they are seen as
 pub leaves_below_is : (rcs : List Tree) → leaves_below rcs ≡ leaves_of rcs
@@ -151,6 +153,35 @@ opened frames level t b totals i low =
       parts = ap (around frames level) (leaves_below_is b.now ∙ ap (λ u. u.leaves) (sym i.is));
     }
 
+-- the first of the children, or backward the last: nothing comes between what is behind and it
+pub nearest_behind : (is_backward : Bool) (frames : List Frame) (level : ℕ) (b : Bor (List Tree)) (at : ℕ) (child : Tree) (whole : List (List ℕ)) → GoesDown frames level b at child whole → 0 < length b.now
+    → at ≡ (if is_backward then length b.now - 1 else 0)
+    → beyond (not is_backward) (take (level + 1) (set frames level record { children = b; at = at })) ≡ beyond (not is_backward) (take level frames)
+nearest_behind true frames level b at child whole d some e =
+    d.after ∙ ap (λ xs. leaves_below xs ++ after_of (take level frames)) (drop_all (at + 1) b.now (omega (arith, e)))
+nearest_behind false frames level b at child whole d some e =
+    d.before ∙ ap (λ k. before_of (take level frames) ++ leaves_below (take k b.now)) e ∙ append-nil (before_of (take level frames))
+
+-- frames of some whole
+abbrev pub AreFramesOf : List Frame → ℕ → Type 0
+AreFramesOf frames level = (whole : List (List ℕ)) × AreFrames frames level whole
+
+-- the deepest frame that has a child after its own
+pub record HasNextAt (frames : List Frame) (depth i : ℕ) : Type 0 where
+  pub below : i < depth
+  pub more : (f : Frame) → f ≡ get_or frames i f → f.at + 1 < length f.children.now
+  pub same : after_of (take depth frames) ≡ after_of (take (i + 1) frames)
+
+-- the deepest frame that has a child before its own
+pub record HasPrevAt (frames : List Frame) (depth i : ℕ) : Type 0 where
+  pub below : i < depth
+  pub more : (f : Frame) → f ≡ get_or frames i f → 0 < f.at
+  pub same : before_of (take depth frames) ≡ before_of (take (i + 1) frames)
+
+-- the deepest frame that has a child after its own, or backward before it
+abbrev pub HasBesideAt : Bool → List Frame → ℕ → ℕ → Type 0
+HasBesideAt is_backward frames depth i = MatchBool is_backward (HasPrevAt frames depth i) (HasNextAt frames depth i)
+
 -- a search upward for a frame with a child after its own, which has come to a level
 after_of_none : (frames : List Frame) (i : ℕ) (f : Frame) → i < length frames → f ≡ get_or frames i f → length f.children.now ≤ f.at + 1 → after_of (take (i + 1) frames) ≡ after_of (take i frames)
 after_of_none frames i f l e h = rw (take_more frames i f l, ← e, after_of-append, drop_all (f.at + 1) f.children.now h) refl
@@ -179,6 +210,24 @@ module _ (frames : List Frame) (depth level : ℕ) (f : Frame) (h : AreFramesOf 
       let on : level - 1 + 1 ≡ level = omega arith in
       let t = before_of_none frames (level - 1) f (omega (arith, h.1.len, h.1.room)) e (omega arith) in
       same ∙ (rw on at t)
+
+-- the same, whichever way the search looks
+pub none_beside : (is_backward : Bool) (frames : List Frame) (depth level : ℕ) (f : Frame) → AreFramesOf frames depth → 0 < level → level ≤ depth → f ≡ get_or frames (level - 1) f
+    → beyond is_backward (take depth frames) ≡ beyond is_backward (take level frames) → f.at ≡ (if is_backward then 0 else length f.children.now - 1)
+    → beyond is_backward (take depth frames) ≡ beyond is_backward (take (level - 1) frames)
+none_beside true frames depth level f h p l e same none = no_prev frames depth level f h p l e same (omega (arith, none))
+none_beside false frames depth level f h p l e same none = no_next frames depth level f h p l e same (omega (arith, none))
+
+pub has_beside : (is_backward : Bool) (frames : List Frame) (depth level : ℕ) (f : Frame) → AreFramesOf frames depth → 0 < level → level ≤ depth → f ≡ get_or frames (level - 1) f
+    → beyond is_backward (take depth frames) ≡ beyond is_backward (take level frames) → (f.at ≡ (if is_backward then 0 else length f.children.now - 1) → ⊥)
+    → HasBesideAt is_backward frames depth (level - 1)
+has_beside true frames depth level f h p l e same more =
+    let on : level - 1 + 1 ≡ level = omega arith in
+    record { below = omega arith; more = λ g q. rw (same_frame frames depth level f h p l e g q) (omega (arith, more)); same = rw on same }
+has_beside false frames depth level f h p l e same more =
+    let on : level - 1 + 1 ≡ level = omega arith in
+    let within = frame_within frames depth level f h p l e in
+    record { below = omega arith; more = λ g q. rw (same_frame frames depth level f h p l e g q) (omega (arith, more, within)); same = rw on same }
 
 -- the step to the next leaf: frame i stands at f, and rc is the child after its own
 module _ (frames : List Frame) (depth i : ℕ) (f : Frame) (rc : Tree) (child : Tree) (leaf : List ℕ) (h : AreFrames frames depth (around frames depth (leaf ∷ [])))
@@ -262,6 +311,22 @@ module _ (frames : List Frame) (depth i : ℕ) (f : Frame) (rc : Tree) (child : 
         before = k;
         after = append_cancel_left (before_of (take depth frames)) q.after (leaf ∷ after_of (take depth frames)) (ap (λ x. x ++ q.after) k ∙ whole);
       }
+
+-- the same steps, whichever way they go
+pub beside_goes : (is_backward : Bool) (frames : List Frame) (depth i : ℕ) (f : Frame) (at : ℕ) (child : Tree) (leaf : List ℕ) → AreFrames frames depth (around frames depth (leaf ∷ []))
+    → HasBesideAt is_backward frames depth i → f ≡ get_or frames i f → at ≡ (if is_backward then f.at - 1 else f.at + 1) → child ≡ get_or f.children.now at child
+    → GoesDown frames i f.children at child (around frames depth (leaf ∷ []))
+beside_goes true frames depth i f at child leaf h n e at_is w = rw at_is (prev_goes frames depth i f child child leaf h n e (rw at_is at w) refl)
+beside_goes false frames depth i f at child leaf h n e at_is w = rw at_is (next_goes frames depth i f child child leaf h n e (rw at_is at w) refl)
+
+pub beside_is : (is_backward : Bool) (frames : List Frame) (depth i : ℕ) (f : Frame) (at : ℕ) (child : Tree) (leaf : List ℕ) → AreFrames frames depth (around frames depth (leaf ∷ []))
+    → HasBesideAt is_backward frames depth i → f ≡ get_or frames i f → at ≡ (if is_backward then f.at - 1 else f.at + 1) → child ≡ get_or f.children.now at child
+    → (new : List Frame) (size : ℕ) (here : List ℕ) → beyond (not is_backward) (take size new) ≡ beyond (not is_backward) (take (i + 1) (set frames i record { children = f.children; at = at }))
+    → around new size (here ∷ []) ≡ around (set frames i record { children = f.children; at = at }) (i + 1) child.leaves → IsBeside is_backward (place_of frames depth leaf) (place_of new size here)
+beside_is true frames depth i f at child leaf h n e at_is w new size here b a =
+    prev_is frames depth i f child child leaf h n e (rw at_is at w) refl (place_of new size here) (rw at_is at b) (rw at_is at a)
+beside_is false frames depth i f at child leaf h n e at_is w new size here b a =
+    next_is frames depth i f child child leaf h n e (rw at_is at w) refl (place_of new size here) (rw at_is at b) (rw at_is at a)
 
 -- leaves among others: no CR LF is parted where their text begins
 seam_at : (before own after : List (List ℕ)) (front rest : List ℕ) → AreLeaves (before ++ (own ++ after)) → concat own ≡ front ++ rest → parts_crlf (concat before) front ≡ false

@@ -1,5 +1,6 @@
 -- A way from the root of a tree to a leaf, seen as a place among the leaves.
-use Rattle.std.specs.Prelude.{◌≡◌, ℕ, ◌+◌, ◌-◌, ◌<◌, ◌≤◌, List, [], ◌∷◌, ◌++◌, length, take, drop, get_or, All}
+use Rattle.std.specs.Prelude.{◌≡◌, ℕ, ◌+◌, ◌-◌, ◌<◌, ◌≤◌, List, [], ◌∷◌, ◌++◌, length, take, drop, get_or, All, Bool, if◌then◌else◌}
+use Rattle.std.specs.Bool.{MatchBool}
 use Rattle.std.specs.List.{concat, flat_map}
 use Rattle.rope_text.specs.declared.TheConstants.{MAX_CHILDREN, MAX_HEIGHT}
 use Rattle.rope_text.specs.declared.line_breaks.LineBreaks.{LineBreaks}
@@ -25,6 +26,14 @@ pub record IsNext (old new : Place) : Type 0 where
   pub before : new.before ≡ old.before ++ old.here ∷ []
   pub after : old.after ≡ new.here ∷ new.after
 
+-- the next place, or backward the one before
+abbrev pub IsBeside : Bool → Place → Place → Type 0
+IsBeside is_backward old new = MatchBool is_backward (IsNext new old) (IsNext old new)
+
+-- there is none
+abbrev pub IsLast : Bool → Place → Type 0
+IsLast is_backward p = (if is_backward then p.before else p.after) ≡ []
+
 -- the leaf here holds a place of the text of all the leaves, counted in a unit; `info` are the counts of the text before it
 pub record HoldsPlace (unit : Unit) (breaks : LineBreaks) (at : ℕ) (before : List (List ℕ)) (here : List ℕ) (info : TextInfo) : Type 0 where
   pub info_is : info ≡ info_of breaks (concat before)
@@ -43,6 +52,10 @@ before_of (f ∷ fs) = leaves_below (take f.at f.children.now) ++ before_of fs
 abbrev pub after_of : List Frame → List (List ℕ)
 after_of [] = []
 after_of (f ∷ fs) = after_of fs ++ leaves_below (drop (f.at + 1) f.children.now)
+
+-- those after a path, or backward before it
+abbrev pub beyond : Bool → List Frame → List (List ℕ)
+beyond is_backward frames = if is_backward then before_of frames else after_of frames
 
 -- the place of a path
 abbrev pub place_of : List Frame → ℕ → List ℕ → Place
@@ -68,10 +81,6 @@ pub record AreFrames (frames : List Frame) (level : ℕ) (whole : List (List ℕ
   pub parts : (i : ℕ) (d : Frame) → i < level →
       before_of (take i frames) ++ (leaves_below (get_or frames i d).children.now ++ after_of (take i frames)) ≡ whole
 
--- the same, whatever the whole is
-abbrev pub AreFramesOf : List Frame → ℕ → Type 0
-AreFramesOf frames level = (whole : List (List ℕ)) × AreFrames frames level whole
-
 -- leaves in the place of a frame that is not there yet
 abbrev pub around : List Frame → ℕ → List (List ℕ) → List (List ℕ)
 around frames level middle = before_of (take level frames) ++ (middle ++ after_of (take level frames))
@@ -80,15 +89,3 @@ around frames level middle = before_of (take level frames) ++ (middle ++ after_o
 pub record LeadsTo (frames : List Frame) (depth : ℕ) (leaf : List ℕ) (whole : List (List ℕ)) : Type 0 where
   pub frames_are : AreFrames frames depth whole
   pub whole_is : around frames depth (leaf ∷ []) ≡ whole
-
--- the deepest frame that has a child after its own
-pub record HasNextAt (frames : List Frame) (depth i : ℕ) : Type 0 where
-  pub below : i < depth
-  pub more : (f : Frame) → f ≡ get_or frames i f → f.at + 1 < length f.children.now
-  pub same : after_of (take depth frames) ≡ after_of (take (i + 1) frames)
-
--- the deepest frame that has a child before its own
-pub record HasPrevAt (frames : List Frame) (depth i : ℕ) : Type 0 where
-  pub below : i < depth
-  pub more : (f : Frame) → f ≡ get_or frames i f → 0 < f.at
-  pub same : before_of (take depth frames) ≡ before_of (take (i + 1) frames)

@@ -12,26 +12,6 @@ use crate::cuts::{text_after, text_before};
 use rope_part::{Part, Plain, Stretch};
 use rope_text::TextInfo;
 
-// The characters of a stretch between two places.
-#[inline(always)]
-fn in_stretch<'a>(stretch: &Stretch<'a>, from: TextInfo, to: TextInfo) -> Stretch<'a>
-    requires from_is { from ≡ info_of (of_stretch.breaks_of stretch.now) (take from.chars (of_stretch.text_of stretch.now)) }
-    requires to_is { to ≡ info_of (of_stretch.breaks_of stretch.now) (take to.chars (of_stretch.text_of stretch.now)) }
-    requires some { from.chars < to.chars }
-    requires within { to.chars ≤ length (of_stretch.text_of stretch.now) }
-    requires apart { parts_crlf (take from.chars (of_stretch.text_of stretch.now)) (drop from.chars (of_stretch.text_of stretch.now)) ≡ false }
-    ensures text { of_stretch.text_of result ≡ slice_range (of_stretch.text_of stretch.now) from.chars to.chars }
-    ensures chunks { of_stretch.chunks_of result ≡ clip (of_stretch.chunks_of stretch.now) from.chars to.chars }
-    ensures breaks { of_stretch.breaks_of result ≡ of_stretch.breaks_of stretch.now }
-{
-    let _ = stretch.node.height();
-    Stretch {
-        node: stretch.node,
-        start: stretch.start.plus(from),
-        end: stretch.start.plus(to),
-    }
-}
-
 // The plain text between two places.
 fn in_text<'a>(plain: &Plain<'a>, from: TextInfo, to: TextInfo) -> Plain<'a>
     requires from_is { from ≡ info_of plain.now.breaks (take from.chars (of_plain.text_of plain.now)) }
@@ -65,7 +45,13 @@ pub(crate) fn between<'a>(part: &Part<'a>, from: TextInfo, to: TextInfo) -> Part
         return Part::from_str_with("", part.line_breaks());
     }
     match part {
-        Part::InTree(stretch) => Part::InTree(in_stretch(stretch, from, to)),
+        Part::InTree(stretch) => {
+            let node = stretch.node;
+            let _ = node.height();
+            let start = stretch.start.plus(from);
+            let end = stretch.start.plus(to);
+            Part::InTree(Stretch { node, start, end })
+        }
         Part::Alone(plain) => Part::Alone(in_text(plain, from, to)),
     }
 }

@@ -7,7 +7,7 @@ ghost use Rattle.rope_text.specs.Text.{byte_len};
 ghost use Rattle.rope_text.specs.Sides.{ahead, at_place, turned, GoesRight, GoesLeft, GoesAhead, StepsBack};
 ghost use Rattle.rope_part.specs.Part.{text_of};
 
-use crate::point::{next_chunk, prev_chunk};
+use crate::point::step_chunk;
 use crate::span::Span;
 use rope_part::Part;
 use std::alloc::AllocError;
@@ -69,20 +69,14 @@ impl<'a> Bytes<'a> {
             self.at = at + 1;
             return Some(self.chunk.as_bytes()[at]);
         }
-        let total = self.total;
-        let passed = self.before + at;
-        if passed == total {
+        if self.total == self.before + at {
             return None;
         }
-        match next_chunk(&mut self.span) {
-            Some(chunk) => {
-                self.before = passed;
-                self.chunk = chunk;
-                self.at = 1;
-                Some(chunk.as_bytes()[0])
-            }
-            None => None,
-        }
+        let chunk = step_chunk(&mut self.span, false)?;
+        self.before += at;
+        self.chunk = chunk;
+        self.at = 1;
+        Some(chunk.as_bytes()[0])
     }
 
     // One byte to the left.
@@ -98,16 +92,12 @@ impl<'a> Bytes<'a> {
         if self.before == 0 {
             return None;
         }
-        match prev_chunk(&mut self.span) {
-            Some(chunk) => {
-                let last = chunk.len() - 1;
-                self.before -= chunk.len();
-                self.chunk = chunk;
-                self.at = last;
-                Some(chunk.as_bytes()[last])
-            }
-            None => None,
-        }
+        let chunk = step_chunk(&mut self.span, true)?;
+        let last = chunk.len() - 1;
+        self.before -= chunk.len();
+        self.chunk = chunk;
+        self.at = last;
+        Some(chunk.as_bytes()[last])
     }
 
     /// The byte behind, to which it steps back; or none at that end, where it stays.
@@ -130,13 +120,11 @@ impl<'a> Bytes<'a> {
     }
 
     /// The same cursor turned round.
-    pub fn reversed(self) -> Bytes<'a>
+    pub fn reversed(mut self) -> Bytes<'a>
         ensures { result ≡ turned self.entry }
     {
-        Bytes {
-            is_backward: !self.is_backward,
-            ..self
-        }
+        self.reverse();
+        self
     }
 }
 
@@ -191,10 +179,8 @@ impl<'a> Clone for Bytes<'a> {
     ghost is_infallible = { λ _. ⊤ };
 
     fn clone(&self) -> Result<Bytes<'a>, AllocError> {
-        Ok(Bytes {
-            span: self.span.copy(),
-            ..*self
-        })
+        let span = self.span.copy();
+        Ok(Bytes { span, ..*self })
     }
 }
 

@@ -5,7 +5,7 @@ ghost use Rattle.std.specs.Iterator.SizeHint.{IsWithinCount};
 ghost use Rattle.rope_text.specs.Sides.{ahead, at_place, turned, GoesRight, GoesLeft, GoesAhead, StepsBack};
 ghost use Rattle.rope_part.specs.Part.{text_of};
 
-use crate::point::{byte_of_char, char_after, char_before, next_chunk, prev_chunk};
+use crate::point::{char_after, char_before, step_chunk};
 use crate::span::Span;
 use rope_part::Part;
 use std::alloc::AllocError;
@@ -45,13 +45,12 @@ impl<'a> Chars<'a> {
         ensures { result ≡ at_place (text_of part.now) char_idx }
     {
         let info = part.info();
-        let (span, within) = Span::at(part, char_idx);
+        let (span, at) = Span::at(part, info, char_idx);
         let chunk = span.chunk();
-        let is_narrow = info.bytes == info.chars;
         Chars {
             span,
             chunk,
-            at: byte_of_char(chunk, within, is_narrow),
+            at,
             passed: char_idx,
             total: info.chars,
             is_backward: false,
@@ -74,16 +73,12 @@ impl<'a> Chars<'a> {
         if self.passed == total {
             return None;
         }
-        match next_chunk(&mut self.span) {
-            Some(chunk) => {
-                let (c, end) = char_after(chunk, 0);
-                self.chunk = chunk;
-                self.at = end;
-                self.passed += 1;
-                Some(c)
-            }
-            None => None,
-        }
+        let chunk = step_chunk(&mut self.span, false)?;
+        let (c, end) = char_after(chunk, 0);
+        self.chunk = chunk;
+        self.at = end;
+        self.passed += 1;
+        Some(c)
     }
 
     // One character to the left.
@@ -101,16 +96,12 @@ impl<'a> Chars<'a> {
         if self.passed == 0 {
             return None;
         }
-        match prev_chunk(&mut self.span) {
-            Some(chunk) => {
-                let (c, start) = char_before(chunk, chunk.len());
-                self.chunk = chunk;
-                self.at = start;
-                self.passed -= 1;
-                Some(c)
-            }
-            None => None,
-        }
+        let chunk = step_chunk(&mut self.span, true)?;
+        let (c, start) = char_before(chunk, chunk.len());
+        self.chunk = chunk;
+        self.at = start;
+        self.passed -= 1;
+        Some(c)
     }
 
     /// The character behind, to which it steps back; or none at that end, where it stays.
@@ -133,13 +124,11 @@ impl<'a> Chars<'a> {
     }
 
     /// The same cursor turned round.
-    pub fn reversed(self) -> Chars<'a>
+    pub fn reversed(mut self) -> Chars<'a>
         ensures { result ≡ turned self.entry }
     {
-        Chars {
-            is_backward: !self.is_backward,
-            ..self
-        }
+        self.reverse();
+        self
     }
 }
 
@@ -192,10 +181,8 @@ impl<'a> Clone for Chars<'a> {
     ghost is_infallible = { λ _. ⊤ };
 
     fn clone(&self) -> Result<Chars<'a>, AllocError> {
-        Ok(Chars {
-            span: self.span.copy(),
-            ..*self
-        })
+        let span = self.span.copy();
+        Ok(Chars { span, ..*self })
     }
 }
 

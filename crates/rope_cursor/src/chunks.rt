@@ -1,5 +1,6 @@
 //! A cursor over the chunks of a part.
-ghost use Rattle.std.specs.Prelude.{◌≡◌, ◌≤◌, List, ⊤, false, length};
+ghost use Rattle.std.specs.Prelude.{◌≡◌, ◌≤◌, ◌==◌, List, ⊤, false, length};
+ghost use Rattle.std.specs.Bool.{MatchBool};
 ghost use Rattle.std.specs.Str.{chars};
 ghost use Rattle.std.specs.Iterator.{YieldsFirstBy, item_count};
 ghost use Rattle.rope_text.specs.Text.{byte_len};
@@ -7,9 +8,11 @@ ghost use Rattle.rope_text.specs.Lines.{line_count};
 ghost use Rattle.rope_text.specs.Lookup.{LieBefore, found_chunk, chunk_place_at_byte, chunk_place_at_char, chunk_place_at_line_break};
 ghost use Rattle.rope_text.specs.Sides.{Sides, ahead, all_items, at_start, place, turned, GoesRight, GoesLeft, GoesAhead, StepsBack};
 ghost use Rattle.rope_part.specs.Part.{text_of, chunks_of, breaks_of};
+ghost use Rattle.rope_cursor.specs.Chunks.{at_chunk};
 
 use crate::span::Span;
 use rope_part::Part;
+use rope_text::TextInfo;
 use std::alloc::AllocError;
 use std::fmt;
 use std::marker::Model;
@@ -36,6 +39,30 @@ impl<'a> Model for Chunks<'a> {
 }
 
 impl<'a> Chunks<'a> {
+    // A cursor before the chunk of a span, or past it, facing forward, and the bytes, the characters and the line breaks of the
+    // text before the chunk.
+    // Expanded where it is called: a way is half a kilobyte, and is then moved once less.
+    #[inline(always)]
+    fn found(
+        info: TextInfo,
+        span: (Span<'a>, usize, usize, usize),
+        is_past: bool,
+    ) -> (Chunks<'a>, usize, usize, usize)
+        ensures chunk { result.0 ≡ at_chunk span.entry.0 (info.chars == 0) is_past false }
+        ensures bytes { result.1 ≡ span.entry.1 }
+        ensures chars { result.2 ≡ span.entry.2 }
+        ensures breaks { result.3 ≡ span.entry.3 }
+    {
+        let (span, bytes, chars, break_count) = span;
+        let chunks = Chunks {
+            span,
+            is_empty: info.chars == 0,
+            is_past,
+            is_backward: false,
+        };
+        (chunks, bytes, chars, break_count)
+    }
+
     // A cursor past the last chunk, facing forward, and the bytes, the characters and the line breaks of the text.
     fn at_end(part: &Part<'a>) -> (Chunks<'a>, usize, usize, usize)
         ensures items { all_items result.0 ≡ chunks_of part.now }
@@ -45,13 +72,7 @@ impl<'a> Chunks<'a> {
             result.1 result.2 result.3 }
     {
         let info = part.info();
-        let (span, _) = Span::at(part, info.chars);
-        let chunks = Chunks {
-            span,
-            is_empty: info.chars == 0,
-            is_past: true,
-            is_backward: false,
-        };
+        let (chunks, _, _, _) = Chunks::found(info, Span::with_char(part, info.chars), true);
         (chunks, info.bytes, info.chars, info.break_count)
     }
 
@@ -59,14 +80,8 @@ impl<'a> Chunks<'a> {
     pub fn new(part: &Part<'a>) -> Chunks<'a>
         ensures { result ≡ at_start (chunks_of part.now) }
     {
-        let is_empty = part.info().chars == 0;
-        let (span, _) = Span::at(part, 0);
-        Chunks {
-            span,
-            is_empty,
-            is_past: false,
-            is_backward: false,
-        }
+        let (chunks, _, _, _) = Chunks::found(part.info(), Span::with_char(part, 0), false);
+        chunks
     }
 
     /// A cursor before the chunk that holds a byte, facing forward; at the end of the text past the last chunk. With it the
@@ -81,17 +96,9 @@ impl<'a> Chunks<'a> {
     {
         let info = part.info();
         if byte_idx == info.bytes {
-            Chunks::at_end(part)
-        } else {
-            let (span, bytes, chars, break_count) = Span::with_byte(part, byte_idx);
-            let chunks = Chunks {
-                span,
-                is_empty: info.chars == 0,
-                is_past: false,
-                is_backward: false,
-            };
-            (chunks, bytes, chars, break_count)
+            return Chunks::at_end(part);
         }
+        Chunks::found(info, Span::with_byte(part, byte_idx), false)
     }
 
     /// A cursor before the chunk that holds a character, facing forward; at the end of the text past the last chunk. With it
@@ -106,17 +113,9 @@ impl<'a> Chunks<'a> {
     {
         let info = part.info();
         if char_idx == info.chars {
-            Chunks::at_end(part)
-        } else {
-            let (span, bytes, chars, break_count) = Span::with_char(part, char_idx);
-            let chunks = Chunks {
-                span,
-                is_empty: info.chars == 0,
-                is_past: false,
-                is_backward: false,
-            };
-            (chunks, bytes, chars, break_count)
+            return Chunks::at_end(part);
         }
+        Chunks::found(info, Span::with_char(part, char_idx), false)
     }
 
     /// A cursor before the first chunk by whose end so many line breaks have ended, facing forward; one more than there are
@@ -134,63 +133,31 @@ impl<'a> Chunks<'a> {
     {
         let info = part.info();
         if line_break_idx == part.len_lines() {
-            Chunks::at_end(part)
-        } else {
-            let end = part.line_to_char(line_break_idx);
-            let (span, bytes, chars, break_count) = Span::with_char(part, end.saturating_sub(1));
-            let chunks = Chunks {
-                span,
-                is_empty: info.chars == 0,
-                is_past: false,
-                is_backward: false,
-            };
-            (chunks, bytes, chars, break_count)
+            return Chunks::at_end(part);
         }
+        let end = part.line_to_char(line_break_idx);
+        Chunks::found(info, Span::with_char(part, end.saturating_sub(1)), false)
     }
 
-    fn right(&mut self) -> Option<&'a str>
-        ensures { GoesRight (λ x. chars x.now) self.old result self.new }
+    // One chunk to the right, or to the left.
+    fn step(&mut self, is_left: bool) -> Option<&'a str>
+        ensures { MatchBool is_left (GoesLeft (λ x. chars x.now) self.old result self.new) (GoesRight (λ x. chars x.now) self.old result self.new) }
     {
         if self.is_empty {
             return None;
         }
-        if !self.is_past {
-            self.is_past = true;
-            return Some(self.span.chunk());
-        }
-        if self.span.advance() {
-            Some(self.span.chunk())
-        } else {
-            None
-        }
-    }
-
-    fn left(&mut self) -> Option<&'a str>
-        ensures { GoesLeft (λ x. chars x.now) self.old result self.new }
-    {
-        if self.is_empty {
+        if self.is_past != is_left && !self.span.step(is_left) {
             return None;
         }
-        if self.is_past {
-            self.is_past = false;
-            return Some(self.span.chunk());
-        }
-        if self.span.retreat() {
-            Some(self.span.chunk())
-        } else {
-            None
-        }
+        self.is_past = !is_left;
+        Some(self.span.chunk())
     }
 
     /// The item behind, to which it steps back; or none at that end, where it stays.
     pub fn prev(&mut self) -> Option<&'a str>
         ensures { StepsBack (λ x. chars x.now) self.old result self.new }
     {
-        if self.is_backward {
-            self.right()
-        } else {
-            self.left()
-        }
+        self.step(!self.is_backward)
     }
 
     /// Turns it round where it stands: `next` and `prev` change places.
@@ -201,13 +168,11 @@ impl<'a> Chunks<'a> {
     }
 
     /// The same cursor turned round.
-    pub fn reversed(self) -> Chunks<'a>
+    pub fn reversed(mut self) -> Chunks<'a>
         ensures { result ≡ turned self.entry }
     {
-        Chunks {
-            is_backward: !self.is_backward,
-            ..self
-        }
+        self.reverse();
+        self
     }
 }
 
@@ -223,11 +188,7 @@ impl<'a> Iterator for Chunks<'a> {
         ensures steps { YieldsFirstBy (λ x. chars x.now) ahead self.old result self.new }
         ensures goes { GoesAhead (λ x. chars x.now) self.old result self.new }
     {
-        if self.is_backward {
-            self.left()
-        } else {
-            self.right()
-        }
+        self.step(self.is_backward)
     }
 }
 
@@ -237,10 +198,8 @@ impl<'a> Clone for Chunks<'a> {
     ghost is_infallible = { λ _. ⊤ };
 
     fn clone(&self) -> Result<Chunks<'a>, AllocError> {
-        Ok(Chunks {
-            span: self.span.copy(),
-            ..*self
-        })
+        let span = self.span.copy();
+        Ok(Chunks { span, ..*self })
     }
 }
 

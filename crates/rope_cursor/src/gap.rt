@@ -4,7 +4,6 @@ ghost use Rattle.rope_text.specs.Cutting.{parts_crlf};
 ghost use Rattle.std.specs.List.{concat};
 ghost use Rattle.std.specs.Str.{chars};
 ghost use Rattle.rope_text.specs.Breaks.{break_count};
-ghost use Rattle.rope_text.specs.Conversions.{line_to_byte};
 ghost use Rattle.rope_text.specs.LineParts.{first_line, last_start};
 ghost use Rattle.rope_text.specs.Text.{byte_len};
 ghost use Rattle.rope_text.specs.TextInfo.{info_of};
@@ -12,7 +11,6 @@ ghost use Rattle.rope_part.specs.Part.{text_of};
 ghost use Rattle.rope_cursor.specs.Gap.{before_byte, after_byte, AreChunks, IsBetween, PassesLine, PassesBack};
 
 use crate::cuts::{text_after, text_before};
-use crate::point::byte_of_char;
 use crate::span::Span;
 use rope_part::Part;
 use rope_text::crlf::prev_break;
@@ -50,7 +48,7 @@ fn pass_chunks(span: &mut Span<'_>, breaks: LineBreaks) -> (usize, TextInfo)
     ensures { PassesLine breaks (concat span.old.before ++ span.old.here) (concat span.old.after) span.new result.0 result.1 }
 {
     let mut passed = TextInfo::new();
-    while span.advance() {
+    while span.step(false) {
         let more = TextInfo::of_first_line(span.chunk(), breaks);
         passed = passed.plus(more);
         if more.break_count > 0 {
@@ -65,23 +63,6 @@ const NEAR_BYTES: usize = 64;
 
 // And so many at the most, however long the line was that was found last.
 const FAR_BYTES: usize = 256;
-
-// Where the next line backward is looked for first, behind one of so many bytes: lines mostly are of much the same length, so
-// a quarter more, and a break before it.
-fn near_for(bytes: usize) -> usize {
-    let most = bytes.min(FAR_BYTES);
-    (most + most / 4 + 8).min(FAR_BYTES)
-}
-
-// A place of a text at or before a byte, so many bytes before it or more, in no CR LF.
-fn cut_before(text: &str, end: usize, near: usize) -> usize
-    requires { end ≤ length text.now }
-    ensures between { IsBetween (chars text.now) result }
-    ensures apart { parts_crlf (before_byte (chars text.now) result) (after_byte (chars text.now) result) ≡ false }
-    ensures before { result ≤ end }
-{
-    prev_break(end.saturating_sub(near), text.as_bytes())
-}
 
 // The byte at which the last line of a text starts, or the one so many line breaks before it, and the counts from there on.
 // All of the text is read.
@@ -101,31 +82,6 @@ fn count_last_of_all(text: &str, skip: usize, breaks: LineBreaks) -> (usize, Tex
     (start, info)
 }
 
-// The counts of the first bytes of a text, which have so many line breaks.
-fn count_front(text: &str, bytes: usize, count: usize, breaks: LineBreaks) -> TextInfo
-    requires between { IsBetween (chars text.now) bytes }
-    requires count { count ≡ break_count breaks (before_byte (chars text.now) bytes) }
-    ensures { result ≡ info_of breaks (before_byte (chars text.now) bytes) }
-{
-    TextInfo {
-        bytes,
-        chars: byte_to_char_idx(text, bytes),
-        utf16_surrogates: byte_to_surrogates(text, bytes),
-        break_count: count,
-    }
-}
-
-// The byte at which a line of a text starts. Mostly it is the second line, since so little text is looked at.
-fn start_of_line(text: &str, line_idx: usize, breaks: LineBreaks) -> usize
-    ensures { result ≡ line_to_byte breaks (chars text.now) line_idx }
-{
-    if line_idx == 1 {
-        let first = TextInfo::of_first_line(text, breaks);
-        return first.bytes;
-    }
-    line_to_byte_with(text, line_idx, breaks)
-}
-
 // What `count_last_of_all` answers of a text's front, where it is found in the bytes near the front's end. What follows the front
 // helps to count, since whole blocks are counted at once.
 fn find_last(
@@ -143,16 +99,30 @@ fn find_last(
         ≡ info_of breaks (drop (last_start breaks (before_byte (chars text.now) end) skip) (before_byte (chars text.now) end))) }
 {
     let _ = byte_len_of(text);
-    let cut = cut_before(text, end, near);
+    // so many bytes before the end or more, in no CR LF
+    let cut = prev_break(end.saturating_sub(near), text.as_bytes());
     let near = text_after(text, cut);
     let len = end - cut;
     let break_count = byte_to_line_with(near, len, breaks);
-    if break_count > skip {
-        let start = start_of_line(near, break_count - skip, breaks);
-        let info = count_front(text_after(near, start), len - start, skip, breaks);
-        return Some((cut + start, info));
+    if break_count <= skip {
+        return None;
     }
-    None
+    // mostly it is the second line, since so little text is looked at
+    let line_idx = break_count - skip;
+    let start = if line_idx == 1 {
+        TextInfo::of_first_line(near, breaks).bytes
+    } else {
+        line_to_byte_with(near, line_idx, breaks)
+    };
+    let rest = text_after(near, start);
+    let bytes = len - start;
+    let info = TextInfo {
+        bytes,
+        chars: byte_to_char_idx(rest, bytes),
+        utf16_surrogates: byte_to_surrogates(rest, bytes),
+        break_count: skip,
+    };
+    Some((cut + start, info))
 }
 
 // What `count_last_of_all` answers, found near the end of the text where it is there.
@@ -200,7 +170,7 @@ fn pass_chunks_back(span: &mut Span<'_>, skip: usize, breaks: LineBreaks) -> (us
 {
     let mut passed = TextInfo::new();
     let mut left = skip;
-    while span.retreat() {
+    while span.step(true) {
         let (start, more) = count_last(span.chunk(), left, breaks);
         passed = more.plus(passed);
         if start > 0 {
@@ -218,10 +188,7 @@ impl<'a> Gap<'a> {
         ensures front { result.front ≡ take char_idx (text_of part.now) }
         ensures back { result.back ≡ drop char_idx (text_of part.now) }
     {
-        let info = part.info();
-        let (span, within) = Span::at(part, char_idx);
-        let is_narrow = info.bytes == info.chars;
-        let inside = byte_of_char(span.chunk(), within, is_narrow);
+        let (span, inside) = Span::at(part, part.info(), char_idx);
         Gap {
             span,
             inside,
@@ -233,10 +200,8 @@ impl<'a> Gap<'a> {
     pub fn copy(&self) -> Gap<'a>
         ensures { result ≡ self.now }
     {
-        Gap {
-            span: self.span.copy(),
-            ..*self
-        }
+        let span = self.span.copy();
+        Gap { span, ..*self }
     }
 
     /// Goes on past the next line break, or to the end. Answers the counts of what it passed.
@@ -269,7 +234,9 @@ impl<'a> Gap<'a> {
         let (start, last) = count_last_before(self.span.chunk(), self.inside, near, skip, breaks);
         if start > 0 {
             self.inside = start;
-            self.near = near_for(last.bytes);
+            // lines mostly are of much the same length: so the next is looked for a quarter more behind, and a break before it
+            let most = last.bytes.min(FAR_BYTES);
+            self.near = (most + most / 4 + 8).min(FAR_BYTES);
             return last;
         }
         let (inside, more) = pass_chunks_back(&mut self.span, skip - last.break_count, breaks);

@@ -125,13 +125,11 @@ impl<'a> Lines<'a> {
     }
 
     /// The same cursor turned round.
-    pub fn reversed(self) -> Lines<'a>
+    pub fn reversed(mut self) -> Lines<'a>
         ensures { result ≡ turned self.entry }
     {
-        Lines {
-            is_backward: !self.is_backward,
-            ..self
-        }
+        self.reverse();
+        self
     }
 }
 
@@ -184,10 +182,8 @@ impl<'a> Clone for Lines<'a> {
     ghost is_infallible = { λ _. ⊤ };
 
     fn clone(&self) -> Result<Lines<'a>, AllocError> {
-        Ok(Lines {
-            gap: self.gap.copy(),
-            ..*self
-        })
+        let gap = self.gap.copy();
+        Ok(Lines { gap, ..*self })
     }
 }
 

@@ -2,11 +2,10 @@
 ghost use Rattle.std.specs.Prelude.{◌≡◌, ◌++◌, [], length};
 ghost use Rattle.std.specs.Str.{chars, encode_utf8_all};
 ghost use Rattle.rope_part.specs.Part.{text_of};
-ghost use Rattle.rope_part.specs.Stretch as of_stretch;
 
 use crate::path::Path;
 use crate::walk::Walk;
-use rope_part::{Part, Stretch};
+use rope_part::Part;
 use rope_text::MAX_BYTES;
 use rope_tree::search::Unit;
 use std::marker::Model;
@@ -48,34 +47,23 @@ impl<'a> Pieces<'a> {
         ensures some { length result.0.now ≡ 0 → result.1 ≡ [] }
     {
         match part {
-            Part::InTree(stretch) => Pieces::in_stretch(stretch),
+            Part::InTree(stretch) => {
+                let _ = stretch.node.height();
+                let start = stretch.start.bytes;
+                let size = stretch.end.bytes - start;
+                let (path, before) = Path::at(stretch.node, Unit::Byte, start);
+                let (_, front) = bytes_of(path.leaf()).split_at(start - before.bytes);
+                let count = front.len().min(size);
+                let (piece, _) = front.split_at(count);
+                let walk = Walk::after(path);
+                let left = size - count;
+                (piece, Pieces { walk, left })
+            }
             Part::Alone(plain) => {
-                let pieces = Pieces {
-                    walk: Walk::after(Path::text(plain.text)),
-                    left: 0,
-                };
-                (bytes_of(plain.text), pieces)
+                let walk = Walk::after(Path::text(plain.text));
+                (bytes_of(plain.text), Pieces { walk, left: 0 })
             }
         }
-    }
-
-    // The first piece of a stretch of a tree, and the pieces after it.
-    fn in_stretch(stretch: &Stretch<'a>) -> (&'a [u8], Pieces<'a>)
-        ensures bytes { result.0.now ++ result.1 ≡ encode_utf8_all (of_stretch.text_of stretch.now) }
-        ensures some { length result.0.now ≡ 0 → result.1 ≡ [] }
-    {
-        let _ = stretch.node.height();
-        let start = stretch.start.bytes;
-        let size = stretch.end.bytes - start;
-        let (path, before) = Path::at(stretch.node, Unit::Byte, start);
-        let (_, front) = bytes_of(path.leaf()).split_at(start - before.bytes);
-        let count = front.len().min(size);
-        let (piece, _) = front.split_at(count);
-        let pieces = Pieces {
-            walk: Walk::after(path),
-            left: size - count,
-        };
-        (piece, pieces)
     }
 
     /// The next piece; an empty one only at the end, where it stays.

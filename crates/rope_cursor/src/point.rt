@@ -1,88 +1,38 @@
 //! Steps from a point of a chunk: over a character, or to the chunk beside it.
 ghost use Rattle.std.specs.Prelude.{◌≡◌, ◌<◌, ◌≤◌, [], length, IfSome, IfNone};
-ghost use Rattle.std.specs.Bool.{OnTrue};
 ghost use Rattle.std.specs.Str.{chars, IsCharBoundary};
 ghost use Rattle.rope_text.specs.Text.{byte_len};
 ghost use Rattle.rope_text.specs.Conversions.{char_to_byte};
-ghost use Rattle.rope_cursor.specs.Path.{IsNext};
+ghost use Rattle.rope_cursor.specs.Path.{IsBeside, IsLast};
 ghost use Rattle.rope_cursor.specs.Point.{IsChunkAt, IsCharBetween};
 
 use crate::span::Span;
-use rope_text::str_utils::char_to_byte_idx;
 
-// The byte of a chunk at which a character of it starts, or its end. Of a narrow chunk, which has as many bytes as characters,
-// nothing is read: no byte of it has to be waited for.
-#[inline(always)]
-pub(crate) fn byte_of_char(chunk: &str, char_idx: usize, is_narrow: bool) -> usize
-    requires within { char_idx ≤ length (chars chunk.now) }
-    requires narrow { OnTrue is_narrow (byte_len (chars chunk.now) ≡ length (chars chunk.now)) }
-    ensures { result ≡ char_to_byte (chars chunk.now) char_idx }
-{
-    if is_narrow {
-        char_idx
-    } else {
-        char_to_byte_idx(chunk, char_idx)
-    }
-}
-
-// The next chunk of a span that is moved in and moved out: no call is told where the span lies.
+// Goes to the chunk beside a span's, of a span that is moved in and moved out: no call is told where the span lies.
 #[inline(never)]
-fn chunk_after<'a>(span: Span<'a>) -> (Span<'a>, Option<&'a str>)
-    ensures moved { IfSome result.1 (λ chunk. IsNext span.entry result.0) }
+fn chunk_beside<'a>(span: Span<'a>, is_backward: bool) -> (Span<'a>, Option<&'a str>)
+    ensures moved { IfSome result.1 (λ chunk. IsBeside is_backward span.entry result.0) }
     ensures chunk { IfSome result.1 (λ chunk. IsChunkAt result.0 chunk.now) }
     ensures stays { IfNone result.1 (result.0 ≡ span.entry) }
-    ensures ended { IfNone result.1 (span.entry.after ≡ []) }
+    ensures ended { IfNone result.1 (IsLast is_backward span.entry) }
 {
     let mut span = span;
-    if span.advance() {
-        let chunk = span.chunk();
-        (span, Some(chunk))
-    } else {
-        (span, None)
-    }
+    let has_moved = span.step(is_backward);
+    let chunk = span.chunk();
+    (span, has_moved.then_some(chunk))
 }
 
-// The chunk before.
-#[inline(never)]
-fn chunk_before<'a>(span: Span<'a>) -> (Span<'a>, Option<&'a str>)
-    ensures moved { IfSome result.1 (λ chunk. IsNext result.0 span.entry) }
-    ensures chunk { IfSome result.1 (λ chunk. IsChunkAt result.0 chunk.now) }
-    ensures stays { IfNone result.1 (result.0 ≡ span.entry) }
-    ensures ended { IfNone result.1 (span.entry.before ≡ []) }
-{
-    let mut span = span;
-    if span.retreat() {
-        let chunk = span.chunk();
-        (span, Some(chunk))
-    } else {
-        (span, None)
-    }
-}
-
-// Goes to the next chunk, if there is one. The work is kept out of the callers, whose steps within a chunk are to stay short.
-// It is given a copy of the span: were it told where the span lies, it could reach the cursor round it too, and a loop over a
-// cursor would read and write the cursor's place in memory at each step.
+// Goes to the next chunk, or backward to the one before, if there is one. The work is kept out of the callers, whose steps within
+// a chunk are to stay short. It is given a copy of the span: were it told where the span lies, it could reach the cursor round it
+// too, and a loop over a cursor would read and write the cursor's place in memory at each step.
 #[inline(always)]
-pub(crate) fn next_chunk<'a>(span: &mut Span<'a>) -> Option<&'a str>
-    ensures moved { IfSome result (λ chunk. IsNext span.old span.new) }
+pub(crate) fn step_chunk<'a>(span: &mut Span<'a>, is_backward: bool) -> Option<&'a str>
+    ensures moved { IfSome result (λ chunk. IsBeside is_backward span.old span.new) }
     ensures chunk { IfSome result (λ chunk. IsChunkAt span.new chunk.now) }
     ensures stays { IfNone result (span.new ≡ span.old) }
-    ensures ended { IfNone result (span.old.after ≡ []) }
+    ensures ended { IfNone result (IsLast is_backward span.old) }
 {
-    let (moved, chunk) = chunk_after(span.copy());
-    *span = moved;
-    chunk
-}
-
-// Goes to the chunk before, if there is one.
-#[inline(always)]
-pub(crate) fn prev_chunk<'a>(span: &mut Span<'a>) -> Option<&'a str>
-    ensures moved { IfSome result (λ chunk. IsNext span.new span.old) }
-    ensures chunk { IfSome result (λ chunk. IsChunkAt span.new chunk.now) }
-    ensures stays { IfNone result (span.new ≡ span.old) }
-    ensures ended { IfNone result (span.old.before ≡ []) }
-{
-    let (moved, chunk) = chunk_before(span.copy());
+    let (moved, chunk) = chunk_beside(span.copy(), is_backward);
     *span = moved;
     chunk
 }

@@ -3,16 +3,19 @@ ghost use Rattle.std.specs.Prelude.{◌≡◌, ◌+◌, ◌-◌, ◌<◌, ◌≤
 ghost use Rattle.std.specs.Bool.{OnTrue, OnFalse};
 ghost use Rattle.std.specs.List.{concat, slice_range};
 ghost use Rattle.std.specs.Str.{chars};
+ghost use Rattle.rope_text.specs.Conversions.{char_to_byte};
 ghost use Rattle.rope_text.specs.Text.{byte_len};
 ghost use Rattle.rope_text.specs.Cutting.{clip};
+ghost use Rattle.rope_text.specs.TextInfo.{info_of};
 ghost use Rattle.rope_tree.specs.Tree.{text};
-ghost use Rattle.rope_cursor.specs.Path.{IsNext, leaves};
+ghost use Rattle.rope_cursor.specs.Path.{IsBeside, IsLast, leaves};
 ghost use Rattle.rope_cursor.specs.Starts.{AreBefore, MeetsLeaf};
 ghost use Rattle.rope_part.specs.Part.{text_of, chunks_of, breaks_of};
 
 use crate::path::Path;
 use rope_part::{Part, Plain, Stretch};
 use rope_text::TextInfo;
+use rope_text::str_utils::char_to_byte_idx;
 use rope_tree::search::Unit;
 use std::marker::Model;
 
@@ -116,10 +119,9 @@ impl<'a> Span<'a> {
     {
         match part {
             Part::InTree(stretch) => {
-                let node = stretch.node;
-                let _ = node.height();
+                let _ = stretch.node.height();
                 let place = (stretch.start.chars + char_idx).min(stretch.end.chars - 1);
-                let (path, before) = Path::at(node, Unit::Char, place);
+                let (path, before) = Path::at(stretch.node, Unit::Char, place);
                 Span::in_leaf(stretch, path, before)
             }
             Part::Alone(plain) => (Span::of_text(plain), 0, 0, 0),
@@ -139,10 +141,9 @@ impl<'a> Span<'a> {
     {
         match part {
             Part::InTree(stretch) => {
-                let node = stretch.node;
-                let _ = node.height();
+                let _ = stretch.node.height();
                 let place = (stretch.start.bytes + byte_idx).min(stretch.end.bytes - 1);
-                let (path, before) = Path::at(node, Unit::Byte, place);
+                let (path, before) = Path::at(stretch.node, Unit::Byte, place);
                 Span::in_leaf(stretch, path, before)
             }
             Part::Alone(plain) => {
@@ -152,20 +153,29 @@ impl<'a> Span<'a> {
         }
     }
 
-    /// The chunk of a part that holds a character, and the place of that character within the chunk. At the end of the
-    /// text it is the last chunk, and its end. An empty part has no chunk: then it is the empty text.
-    // Expanded where it is called: a way is half a kilobyte, and is then moved once less.
+    /// The chunk of a part that holds a character, and the byte of the chunk at which that character starts. At the end of the
+    /// text it is the last chunk, and its end. An empty part has no chunk: then it is the empty text. The part's counts are handed
+    /// in by who has them.
+    // Expanded where it is called: a way is half a kilobyte, and is then moved once less. Of a narrow text, which has as many
+    // bytes as characters, nothing is read: no byte of it has to be waited for.
     #[inline(always)]
-    pub fn at(part: &Part<'a>, char_idx: usize) -> (Span<'a>, usize)
-        requires { char_idx ≤ length (text_of part.now) }
+    pub fn at(part: &Part<'a>, info: TextInfo, char_idx: usize) -> (Span<'a>, usize)
+        requires info { info ≡ info_of (breaks_of part.now) (text_of part.now) }
+        requires within { char_idx ≤ length (text_of part.now) }
         ensures text { concat (leaves result.0) ≡ text_of part.now }
         ensures chunks { 0 < length (text_of part.now) → leaves result.0 ≡ chunks_of part.now }
-        ensures place { length (concat result.0.before) + result.1 ≡ char_idx }
-        ensures within { result.1 ≤ length result.0.here }
-        ensures inside { char_idx < length (text_of part.now) → result.1 < length result.0.here }
+        ensures starts { length (concat result.0.before) ≤ char_idx }
+        ensures within { char_idx ≤ length (concat result.0.before) + length result.0.here }
+        ensures byte { result.1 ≡ char_to_byte result.0.here (char_idx - length (concat result.0.before)) }
     {
         let (span, _, chars, _) = Span::with_char(part, char_idx);
-        (span, char_idx - chars)
+        let within = char_idx - chars;
+        let byte = if info.bytes == info.chars {
+            within
+        } else {
+            char_to_byte_idx(span.chunk(), within)
+        };
+        (span, byte)
     }
 
     /// The same way.
@@ -174,10 +184,8 @@ impl<'a> Span<'a> {
     pub fn copy(&self) -> Span<'a>
         ensures { result ≡ self.now }
     {
-        Span {
-            path: self.path.copy(),
-            ..*self
-        }
+        let path = self.path.copy();
+        Span { path, ..*self }
     }
 
     /// The chunk.
@@ -190,36 +198,24 @@ impl<'a> Span<'a> {
         &leaf[low..high]
     }
 
-    /// Goes to the next chunk. Answers whether there is one; else it stays.
-    pub fn advance(&mut self) -> bool
-        ensures moved { OnTrue result (IsNext self.old self.new) }
+    /// Goes to the next chunk, or backward to the one before. Answers whether there is one; else it stays.
+    pub fn step(&mut self, is_backward: bool) -> bool
+        ensures moved { OnTrue result (IsBeside is_backward self.old self.new) }
         ensures stays { OnFalse result (self.new ≡ self.old) }
-        ensures ended { OnFalse result (self.old.after ≡ []) }
+        ensures ended { OnFalse result (IsLast is_backward self.old) }
     {
-        let len = self.path.leaf().len();
-        if self.to.bytes - self.start <= len {
-            return false;
+        if is_backward {
+            if self.start <= self.from.bytes || !self.path.step(true) {
+                return false;
+            }
+            self.start -= self.path.leaf().len();
+            return true;
         }
-        if !self.path.advance() {
+        let len = self.path.leaf().len();
+        if self.to.bytes - self.start <= len || !self.path.step(false) {
             return false;
         }
         self.start += len;
-        true
-    }
-
-    /// Goes to the chunk before. Answers whether there is one; else it stays.
-    pub fn retreat(&mut self) -> bool
-        ensures moved { OnTrue result (IsNext self.new self.old) }
-        ensures stays { OnFalse result (self.new ≡ self.old) }
-        ensures ended { OnFalse result (self.old.before ≡ []) }
-    {
-        if self.start <= self.from.bytes {
-            return false;
-        }
-        if !self.path.retreat() {
-            return false;
-        }
-        self.start -= self.path.leaf().len();
         true
     }
 }

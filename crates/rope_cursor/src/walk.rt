@@ -37,14 +37,12 @@ fn leave_node<'a>(path: &mut Path<'a>, is_far: bool) -> Option<(&'a str, &'a [No
     ensures some { IfSome result (λ found. path.old.after ≡ chars found.0.now ∷ (leaves_below found.1.now ++ path.new.after)) }
     ensures none { IfNone result ((path.old.after ≡ []) × (path.new ≡ path.old)) }
 {
-    if !path.advance() {
+    if !path.step(false) {
         return None;
     }
     let leaf = path.leaf();
-    if !is_far {
-        return Some((leaf, &[]));
-    }
-    Some((leaf, path.pass_siblings()))
+    let siblings = if is_far { path.pass_siblings() } else { &[] };
+    Some((leaf, siblings))
 }
 
 impl<'a> Walk<'a> {

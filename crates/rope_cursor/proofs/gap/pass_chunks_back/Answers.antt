@@ -12,7 +12,7 @@ loop-breaks-init c = none_back c.args.breaks c.args.skip c.args.span.now c.new-p
 
 pub plus-passed-requires-clause-bytes : goal.plus-passed-requires-clause-bytes
 plus-passed-requires-clause-bytes c =
-    let half = chunk_half c.args.breaks c.args.skip c.loop-breaks.left (concat c.args.span.now.before) (c.args.span.now.here ++ concat c.args.span.now.after) c.loop-breaks.invariant.0 c.loop-breaks.span c.retreat.new.self
+    let half = chunk_half c.args.breaks c.args.skip c.loop-breaks.left (concat c.args.span.now.before) (c.args.span.now.here ++ concat c.args.span.now.after) c.loop-breaks.invariant.0 c.loop-breaks.span c.step.new.self
     c.count_last-start.result.0 c.count_last-start.result.1 c.loop-breaks.passed c.loop-breaks.invariant.1 c.loop-breaks-test.ensures.moved
     (c.count_last-start.ensures.start ∙ ap (λ t. byte_len (take (last_start c.args.breaks t c.loop-breaks.left) t)) c.chunk.ensures)
     (c.count_last-start.ensures.counts ∙ ap (λ t. info_of c.args.breaks (drop (last_start c.args.breaks t c.loop-breaks.left) t)) c.chunk.ensures) in
@@ -20,7 +20,7 @@ plus-passed-requires-clause-bytes c =
 
 pub plus-passed-requires-clause-chars : goal.plus-passed-requires-clause-chars
 plus-passed-requires-clause-chars c =
-    let half = chunk_half c.args.breaks c.args.skip c.loop-breaks.left (concat c.args.span.now.before) (c.args.span.now.here ++ concat c.args.span.now.after) c.loop-breaks.invariant.0 c.loop-breaks.span c.retreat.new.self
+    let half = chunk_half c.args.breaks c.args.skip c.loop-breaks.left (concat c.args.span.now.before) (c.args.span.now.here ++ concat c.args.span.now.after) c.loop-breaks.invariant.0 c.loop-breaks.span c.step.new.self
     c.count_last-start.result.0 c.count_last-start.result.1 c.loop-breaks.passed c.loop-breaks.invariant.1 c.loop-breaks-test.ensures.moved
     (c.count_last-start.ensures.start ∙ ap (λ t. byte_len (take (last_start c.args.breaks t c.loop-breaks.left) t)) c.chunk.ensures)
     (c.count_last-start.ensures.counts ∙ ap (λ t. info_of c.args.breaks (drop (last_start c.args.breaks t c.loop-breaks.left) t)) c.chunk.ensures) in
@@ -28,7 +28,7 @@ plus-passed-requires-clause-chars c =
 
 pub plus-passed-requires-clause-utf16_surrogates : goal.plus-passed-requires-clause-utf16_surrogates
 plus-passed-requires-clause-utf16_surrogates c =
-    let half = chunk_half c.args.breaks c.args.skip c.loop-breaks.left (concat c.args.span.now.before) (c.args.span.now.here ++ concat c.args.span.now.after) c.loop-breaks.invariant.0 c.loop-breaks.span c.retreat.new.self
+    let half = chunk_half c.args.breaks c.args.skip c.loop-breaks.left (concat c.args.span.now.before) (c.args.span.now.here ++ concat c.args.span.now.after) c.loop-breaks.invariant.0 c.loop-breaks.span c.step.new.self
     c.count_last-start.result.0 c.count_last-start.result.1 c.loop-breaks.passed c.loop-breaks.invariant.1 c.loop-breaks-test.ensures.moved
     (c.count_last-start.ensures.start ∙ ap (λ t. byte_len (take (last_start c.args.breaks t c.loop-breaks.left) t)) c.chunk.ensures)
     (c.count_last-start.ensures.counts ∙ ap (λ t. info_of c.args.breaks (drop (last_start c.args.breaks t c.loop-breaks.left) t)) c.chunk.ensures) in
@@ -36,7 +36,7 @@ plus-passed-requires-clause-utf16_surrogates c =
 
 pub plus-passed-requires-clause-break_count : goal.plus-passed-requires-clause-break_count
 plus-passed-requires-clause-break_count c =
-    let half = chunk_half c.args.breaks c.args.skip c.loop-breaks.left (concat c.args.span.now.before) (c.args.span.now.here ++ concat c.args.span.now.after) c.loop-breaks.invariant.0 c.loop-breaks.span c.retreat.new.self
+    let half = chunk_half c.args.breaks c.args.skip c.loop-breaks.left (concat c.args.span.now.before) (c.args.span.now.here ++ concat c.args.span.now.after) c.loop-breaks.invariant.0 c.loop-breaks.span c.step.new.self
     c.count_last-start.result.0 c.count_last-start.result.1 c.loop-breaks.passed c.loop-breaks.invariant.1 c.loop-breaks-test.ensures.moved
     (c.count_last-start.ensures.start ∙ ap (λ t. byte_len (take (last_start c.args.breaks t c.loop-breaks.left) t)) c.chunk.ensures)
     (c.count_last-start.ensures.counts ∙ ap (λ t. info_of c.args.breaks (drop (last_start c.args.breaks t c.loop-breaks.left) t)) c.chunk.ensures) in
@@ -44,7 +44,7 @@ plus-passed-requires-clause-break_count c =
 
 pub returns-then-start-gt0 : goal.returns-then-start-gt0
 returns-then-start-gt0 c =
-    chunk_found c.args.breaks c.args.skip c.loop-breaks.left (concat c.args.span.now.before) (c.args.span.now.here ++ concat c.args.span.now.after) c.loop-breaks.invariant.0 c.loop-breaks.span c.retreat.new.self
+    chunk_found c.args.breaks c.args.skip c.loop-breaks.left (concat c.args.span.now.before) (c.args.span.now.here ++ concat c.args.span.now.after) c.loop-breaks.invariant.0 c.loop-breaks.span c.step.new.self
     c.count_last-start.result.0 c.count_last-start.result.1 c.loop-breaks.passed c.loop-breaks.invariant.1 c.loop-breaks-test.ensures.moved
     (c.count_last-start.ensures.start ∙ ap (λ t. byte_len (take (last_start c.args.breaks t c.loop-breaks.left) t)) c.chunk.ensures)
     (c.count_last-start.ensures.counts ∙ ap (λ t. info_of c.args.breaks (drop (last_start c.args.breaks t c.loop-breaks.left) t)) c.chunk.ensures)
@@ -52,19 +52,19 @@ returns-then-start-gt0 c =
 
 pub overflow_sub-left : goal.overflow_sub-left
 overflow_sub-left c =
-    chunk_left c.args.breaks c.args.skip c.loop-breaks.left (concat c.args.span.now.before) (c.args.span.now.here ++ concat c.args.span.now.after) c.loop-breaks.invariant.0 c.loop-breaks.span c.retreat.new.self
+    chunk_left c.args.breaks c.args.skip c.loop-breaks.left (concat c.args.span.now.before) (c.args.span.now.here ++ concat c.args.span.now.after) c.loop-breaks.invariant.0 c.loop-breaks.span c.step.new.self
     c.count_last-start.result.0 c.count_last-start.result.1 c.loop-breaks.passed c.loop-breaks.invariant.1 c.loop-breaks-test.ensures.moved
     (c.count_last-start.ensures.start ∙ ap (λ t. byte_len (take (last_start c.args.breaks t c.loop-breaks.left) t)) c.chunk.ensures)
     (c.count_last-start.ensures.counts ∙ ap (λ t. info_of c.args.breaks (drop (last_start c.args.breaks t c.loop-breaks.left) t)) c.chunk.ensures)
     c.if-start-gt0.false
 
 pub loop-breaks-smaller : goal.loop-breaks-smaller
-loop-breaks-smaller c = omega (arith, ap length c.loop-breaks-test.ensures.moved.before, length-append c.retreat.new.self.before (c.retreat.new.self.here ∷ []))
+loop-breaks-smaller c = omega (arith, ap length c.loop-breaks-test.ensures.moved.before, length-append c.step.new.self.before (c.step.new.self.here ∷ []))
 
 pub loop-breaks-preserved : goal.loop-breaks-preserved
 loop-breaks-preserved c = (
-  c.retreat.new.self.here ++ c.loop-breaks.invariant.0,
-  chunk_over c.args.breaks c.args.skip c.loop-breaks.left (concat c.args.span.now.before) (c.args.span.now.here ++ concat c.args.span.now.after) c.loop-breaks.invariant.0 c.loop-breaks.span c.retreat.new.self
+  c.step.new.self.here ++ c.loop-breaks.invariant.0,
+  chunk_over c.args.breaks c.args.skip c.loop-breaks.left (concat c.args.span.now.before) (c.args.span.now.here ++ concat c.args.span.now.after) c.loop-breaks.invariant.0 c.loop-breaks.span c.step.new.self
       c.count_last-start.result.0 c.count_last-start.result.1 c.loop-breaks.passed c.loop-breaks.invariant.1 c.loop-breaks-test.ensures.moved
       (c.count_last-start.ensures.start ∙ ap (λ t. byte_len (take (last_start c.args.breaks t c.loop-breaks.left) t)) c.chunk.ensures)
       (c.count_last-start.ensures.counts ∙ ap (λ t. info_of c.args.breaks (drop (last_start c.args.breaks t c.loop-breaks.left) t)) c.chunk.ensures)
@@ -73,5 +73,5 @@ loop-breaks-preserved c = (
 
 pub returns : goal.returns
 returns c =
-    end_back c.args.breaks c.args.skip c.loop-breaks.left (concat c.args.span.now.before) (c.args.span.now.here ++ concat c.args.span.now.after) c.loop-breaks.invariant.0 c.loop-breaks.span c.retreat.new.self c.loop-breaks.passed
+    end_back c.args.breaks c.args.skip c.loop-breaks.left (concat c.args.span.now.before) (c.args.span.now.here ++ concat c.args.span.now.after) c.loop-breaks.invariant.0 c.loop-breaks.span c.step.new.self c.loop-breaks.passed
     c.loop-breaks.invariant.1 c.loop-breaks-test.ensures.stays c.loop-breaks-test.ensures.ended

@@ -86,9 +86,9 @@ returns-in-Inner-clause-holds t c =
     let h = c.enter_at.ensures.holds in
     let same : c.index-children-place.result.breaks ≡ c.args.node.now.breaks = (found t e).own.same_breaks ∙ sym (ap (λ u. u.breaks) c.in-Inner.ensures.is) in
     let sum = ap (count_of c.args.unit) c.plus.ensures.sum in
-    let more = before_of (take c.enter_at.result.depth c.enter_at.new.frames) in
+    let more = before_of (take c.enter_at.result.0 c.enter_at.new.frames) in
     record {
       info_is = h.info_is ∙ ap (λ b. info_of b (concat more)) same;
       not_past = omega (arith, n.place_is, h.not_past, sum, c.count.ensures);
-      past = omega (arith, n.place_is, h.past, sum, c.count.ensures, ap (λ b. count_of c.args.unit (info_of b (concat more ++ chars c.enter_at.result.leaf.now))) same);
+      past = omega (arith, n.place_is, h.past, sum, c.count.ensures, ap (λ b. count_of c.args.unit (info_of b (concat more ++ chars c.enter_at.result.1.now))) same);
     }

@@ -5,28 +5,28 @@ use Rattle.rope_cursor.proofs.bytes.Bytes.left.Goals as goal
 pub overflow_sub-last : goal.overflow_sub-last
 overflow_sub-last c =
     let s = c.self.inside in
-    prev_some c.prev_chunk.new.span s.span c.in-Some.chunk.now s.chunk.now c.in-Some.ensures.moved c.in-Some.ensures.chunk c.self.invariant.chunk_is s.at s.before s.total c.self.invariant c.if-self-eq0.false
+    prev_some c.step_chunk.new.span s.span c.in_ok-chunk.chunk.now s.chunk.now c.in_ok-chunk.ensures.moved c.in_ok-chunk.ensures.chunk c.self.invariant.chunk_is s.at s.before s.total c.self.invariant c.if-self-eq0.false
 
-pub overflow_sub-self-in-Some : goal.overflow_sub-self-in-Some
-overflow_sub-self-in-Some c =
+pub overflow_sub-self-2 : goal.overflow_sub-self-2
+overflow_sub-self-2 c =
     let s = c.self.inside in
-    before_some c.prev_chunk.new.span s.span c.in-Some.chunk.now s.chunk.now c.in-Some.ensures.moved c.in-Some.ensures.chunk c.self.invariant.chunk_is s.at s.before s.total c.self.invariant
+    before_some c.step_chunk.new.span s.span c.in_ok-chunk.chunk.now s.chunk.now c.in_ok-chunk.ensures.moved c.in_ok-chunk.ensures.chunk c.self.invariant.chunk_is s.at s.before s.total c.self.invariant
 
 pub bounds-as_bytes-last : goal.bounds-as_bytes-last
 bounds-as_bytes-last c =
     let s = c.self.inside in
-    let some = prev_some c.prev_chunk.new.span s.span c.in-Some.chunk.now s.chunk.now c.in-Some.ensures.moved c.in-Some.ensures.chunk c.self.invariant.chunk_is s.at s.before s.total c.self.invariant c.if-self-eq0.false in
-    rw c.as_bytes-in-Some.ensures.value (omega arith)
+    let some = prev_some c.step_chunk.new.span s.span c.in_ok-chunk.chunk.now s.chunk.now c.in_ok-chunk.ensures.moved c.in_ok-chunk.ensures.chunk c.self.invariant.chunk_is s.at s.before s.total c.self.invariant c.if-self-eq0.false in
+    rw c.as_bytes-2.ensures.value (omega arith)
 
-pub invariant_of-self-in-Some : goal.invariant_of-self-in-Some
-invariant_of-self-in-Some c =
+pub invariant_of-self-2 : goal.invariant_of-self-2
+invariant_of-self-2 c =
     let s = c.self.inside in
-    cursor_prev c.prev_chunk.new.span s.span c.in-Some.chunk.now s.chunk.now c.in-Some.ensures.moved c.in-Some.ensures.chunk c.self.invariant.chunk_is s.at _ s.before s.total c.self.invariant (omega arith)
+    cursor_prev c.step_chunk.new.span s.span c.in_ok-chunk.chunk.now s.chunk.now c.in_ok-chunk.ensures.moved c.in_ok-chunk.ensures.chunk c.self.invariant.chunk_is s.at _ s.before s.total c.self.invariant (omega arith)
 
-pub returns-in-Some : goal.returns-in-Some
-returns-in-Some c =
+pub returns : goal.returns
+returns c =
     let s = c.self.inside in
-    let some = prev_some c.prev_chunk.new.span s.span c.in-Some.chunk.now s.chunk.now c.in-Some.ensures.moved c.in-Some.ensures.chunk c.self.invariant.chunk_is s.at s.before s.total c.self.invariant c.if-self-eq0.false in
-    let e = passes_last c.prev_chunk.new.span s.span c.in-Some.chunk.now s.chunk.now c.in-Some.ensures.moved c.in-Some.ensures.chunk c.self.invariant.chunk_is some in
+    let some = prev_some c.step_chunk.new.span s.span c.in_ok-chunk.chunk.now s.chunk.now c.in_ok-chunk.ensures.moved c.in_ok-chunk.ensures.chunk c.self.invariant.chunk_is s.at s.before s.total c.self.invariant c.if-self-eq0.false in
+    let e = passes_last c.step_chunk.new.span s.span c.in_ok-chunk.chunk.now s.chunk.now c.in_ok-chunk.ensures.moved c.in_ok-chunk.ensures.chunk c.self.invariant.chunk_is some in
     let start : s.at ≡ 0 = omega (arith, c.if-at-gt0.false) in
-    rw (← c.self.view_is, c.as_bytes-in-Some.ensures.value, start) (e.0, e.1, refl)
+    rw (← c.self.view_is, c.as_bytes-2.ensures.value, start) (e.0, e.1, refl)
