@@ -7,12 +7,8 @@ use Rattle.std.proofs.lemmas.List.Sums.{sum_by-cons, sum_by-append, count_by-le-
 use Rattle.std.proofs.lemmas.Simd.{chunk-drop}
 use Rattle.rope_text.specs.declared.line_breaks.LineBreaks.{LineBreaks}
 use Rattle.rope_text.specs.Bytes.{begins_char, begins_pair}
-use Rattle.rope_text.specs.ByteBreaks.{break_at, byte_break_count}
+use Rattle.rope_text.specs.ByteBreaks.{break_at, breaks_at, byte_break_count}
 use Rattle.rope_text.proofs.BitLaws.{one_at_most}
-
--- whether a break begins at the byte k
-abbrev pub breaks_at : LineBreaks → List ℕ → ℕ → Bool
-breaks_at b xs k = break_at b (get_or xs k 0) (get_or xs (k + 1) 0) (get_or xs (k + 2) 0)
 
 pub byte_break_count-drop : (b : LineBreaks) (xs : List ℕ) (i : ℕ) → i < length xs →
     byte_break_count b (drop i xs) ≡ cond (breaks_at b xs i) 1 0 + byte_break_count b (drop (i + 1) xs)

@@ -3,7 +3,7 @@
 //! A place that isn't there is the end.
 ghost use Rattle.std.specs.Prelude.{◌≡◌, ◌+◌, ◌<◌, ◌≤◌, length, count_by, drop, slice_index, IsTrue};
 ghost use Rattle.rope_text.specs.Bytes.{begins_char, begins_pair};
-ghost use Rattle.rope_text.specs.ByteBreaks.{break_at, byte_break_count, unit_count};
+ghost use Rattle.rope_text.specs.ByteBreaks.{byte_break_count, unit_count, IsBreak, IsChar};
 
 use crate::bits::{ones_before, place_of_mark};
 use crate::lanes::{
@@ -16,9 +16,7 @@ fn find_char(bytes: &[u8], from: usize, n: usize) -> usize
     requires { from ≤ length bytes.now }
     ensures from { from ≤ result }
     ensures bound { result ≤ length bytes.now }
-    ensures inside { result < length bytes.now
-        → (count_by begins_char (drop from bytes.now) ≡ n + count_by begins_char (drop result bytes.now))
-        × IsTrue (begins_char (slice_index bytes.now result)) }
+    ensures inside { result < length bytes.now → IsChar bytes.now from n result }
     ensures end { result ≡ length bytes.now → count_by begins_char (drop from bytes.now) ≤ n }
 {
     let mut left = n;
@@ -80,10 +78,9 @@ fn skip_chars_back(bytes: &[u8], n: usize, chars: usize) -> (usize, usize)
 #[inline(always)]
 fn find_char_from(bytes: &[u8], from: usize, n: usize) -> usize
     requires { from ≤ length bytes.now }
+    ensures from { from ≤ result }
     ensures bound { result ≤ length bytes.now }
-    ensures inside { result < length bytes.now
-        → (count_by begins_char (drop from bytes.now) ≡ n + count_by begins_char (drop result bytes.now))
-        × IsTrue (begins_char (slice_index bytes.now result)) }
+    ensures inside { result < length bytes.now → IsChar bytes.now from n result }
     ensures end { result ≡ length bytes.now → count_by begins_char (drop from bytes.now) ≤ n }
 {
     let mut at = from;
@@ -103,9 +100,7 @@ fn find_char_from(bytes: &[u8], from: usize, n: usize) -> usize
 /// The byte at which the character `n` begins.
 pub(crate) fn place_of_char(bytes: &[u8], n: usize) -> usize
     ensures bound { result ≤ length bytes.now }
-    ensures inside { result < length bytes.now
-        → (count_by begins_char bytes.now ≡ n + count_by begins_char (drop result bytes.now))
-        × IsTrue (begins_char (slice_index bytes.now result)) }
+    ensures inside { result < length bytes.now → IsChar bytes.now 0 n result }
     ensures end { result ≡ length bytes.now → count_by begins_char bytes.now ≤ n }
 {
     let (from, left) = skip_chars(bytes, n);
@@ -116,9 +111,7 @@ pub(crate) fn place_of_char(bytes: &[u8], n: usize) -> usize
 pub(crate) fn place_of_char_of(bytes: &[u8], n: usize, chars: usize) -> usize
     requires { chars ≡ count_by begins_char bytes.now }
     ensures bound { result ≤ length bytes.now }
-    ensures inside { result < length bytes.now
-        → (count_by begins_char bytes.now ≡ n + count_by begins_char (drop result bytes.now))
-        × IsTrue (begins_char (slice_index bytes.now result)) }
+    ensures inside { result < length bytes.now → IsChar bytes.now 0 n result }
     ensures end { result ≡ length bytes.now → count_by begins_char bytes.now ≤ n }
 {
     if n >= chars {
@@ -155,38 +148,17 @@ fn skip_chars_with_breaks(bytes: &[u8], n: usize, breaks: LineBreaks) -> (usize,
     (at, left, break_count)
 }
 
-#[inline(always)]
-fn find_char_near(bytes: &[u8], from: usize, n: usize) -> usize
-    requires { from ≤ length bytes.now }
-    ensures from { from ≤ result }
-    ensures bound { result ≤ length bytes.now }
-    ensures inside { result < length bytes.now
-        → (count_by begins_char (drop from bytes.now) ≡ n + count_by begins_char (drop result bytes.now))
-        × IsTrue (begins_char (slice_index bytes.now result)) }
-    ensures end { result ≡ length bytes.now → count_by begins_char (drop from bytes.now) ≤ n }
-{
-    if bytes.len() - from >= 32 {
-        let mask = char_mask(bytes, from);
-        if n < ones_before(mask, 32) {
-            return from + place_of_mark(mask, 0, n);
-        }
-    }
-    find_char(bytes, from, n)
-}
-
 /// The byte at which the character `n` begins, and how many breaks begin before it.
 #[tactic(auto, using(crate::proofs::Blocks::byte_break_count_le))]
 #[inline(always)]
 pub(crate) fn line_of_char(bytes: &[u8], n: usize, breaks: LineBreaks) -> (usize, usize)
     ensures bound { result.0 ≤ length bytes.now }
-    ensures inside { result.0 < length bytes.now
-        → (count_by begins_char bytes.now ≡ n + count_by begins_char (drop result.0 bytes.now))
-        × IsTrue (begins_char (slice_index bytes.now result.0)) }
+    ensures inside { result.0 < length bytes.now → IsChar bytes.now 0 n result.0 }
     ensures end { result.0 ≡ length bytes.now → count_by begins_char bytes.now ≤ n }
     ensures break_count { byte_break_count breaks bytes.now ≡ result.1 + byte_break_count breaks (drop result.0 bytes.now) }
 {
     let (from, left, before) = skip_chars_with_breaks(bytes, n, breaks);
-    let to = find_char_near(bytes, from, left);
+    let to = find_char_from(bytes, from, left);
     (to, before + breaks_between(bytes, from, to, breaks))
 }
 
@@ -241,123 +213,11 @@ pub(crate) fn place_of_unit(bytes: &[u8], n: usize) -> (usize, usize)
     (to, chars + begins_between(bytes, at, to))
 }
 
-// The blocks before the break `n`: their end, and which break it is from there on.
-fn skip_breaks(bytes: &[u8], n: usize, breaks: LineBreaks) -> (usize, usize)
-    ensures bound { result.0 ≤ length bytes.now }
-    ensures counted { byte_break_count breaks bytes.now + result.1 ≡ n + byte_break_count breaks (drop result.0 bytes.now) }
-{
-    let mut at = 0;
-    let mut left = n;
-    while bytes.len() - at >= 34 {
-        let passed = breaks_in(bytes, at, breaks);
-        if left < passed {
-            return (at, left);
-        }
-        left -= passed;
-        at += 32;
-    }
-    (at, left)
-}
-
-// A byte at a time.
-fn find_break_byte_by_byte(bytes: &[u8], from: usize, n: usize, breaks: LineBreaks) -> usize
-    requires { from ≤ length bytes.now }
-    ensures from { from ≤ result }
-    ensures bound { result ≤ length bytes.now }
-    ensures inside { result < length bytes.now
-        → (byte_break_count breaks (drop from bytes.now) ≡ n + byte_break_count breaks (drop result bytes.now))
-        × IsTrue (break_at breaks (slice_index bytes.now result) (slice_index bytes.now (result + 1)) (slice_index bytes.now (result + 2))) }
-    ensures end { result ≡ length bytes.now → byte_break_count breaks (drop from bytes.now) ≤ n }
-{
-    let mut left = n;
-    for at in from..bytes.len() {
-        if is_break_begin(bytes, at, breaks) {
-            if left == 0 {
-                return at;
-            }
-            left -= 1;
-        }
-    }
-    bytes.len()
-}
-
-#[inline(always)]
-fn find_break(bytes: &[u8], from: usize, n: usize, breaks: LineBreaks) -> usize
-    requires { from ≤ length bytes.now }
-    ensures from { from ≤ result }
-    ensures bound { result ≤ length bytes.now }
-    ensures inside { result < length bytes.now
-        → (byte_break_count breaks (drop from bytes.now) ≡ n + byte_break_count breaks (drop result bytes.now))
-        × IsTrue (break_at breaks (slice_index bytes.now result) (slice_index bytes.now (result + 1)) (slice_index bytes.now (result + 2))) }
-    ensures end { result ≡ length bytes.now → byte_break_count breaks (drop from bytes.now) ≤ n }
-{
-    if bytes.len() - from >= 34 {
-        let mask = break_mask(bytes, from, breaks);
-        if n < ones_before(mask, 32) {
-            return from + place_of_mark(mask, 0, n);
-        }
-    }
-    find_break_byte_by_byte(bytes, from, n, breaks)
-}
-
-/// The byte at which the last character of the break `n` begins, the breaks counted from 0.
-pub(crate) fn place_of_break(bytes: &[u8], n: usize, breaks: LineBreaks) -> usize
-    ensures bound { result ≤ length bytes.now }
-    ensures inside { result < length bytes.now
-        → (byte_break_count breaks bytes.now ≡ n + byte_break_count breaks (drop result bytes.now))
-        × IsTrue (break_at breaks (slice_index bytes.now result) (slice_index bytes.now (result + 1)) (slice_index bytes.now (result + 2))) }
-    ensures end { result ≡ length bytes.now → byte_break_count breaks bytes.now ≤ n }
-{
-    let (at, left) = skip_breaks(bytes, n, breaks);
-    find_break(bytes, at, left, breaks)
-}
-
-// The blocks before the break `n`: their end, which break it is from there on, and the characters in them.
-#[tactic(auto, using(crate::proofs::Blocks::begins_le))]
-fn skip_breaks_with_chars(bytes: &[u8], n: usize, breaks: LineBreaks) -> (usize, usize, usize)
-    ensures bound { result.0 ≤ length bytes.now }
-    ensures counted { byte_break_count breaks bytes.now + result.1 ≡ n + byte_break_count breaks (drop result.0 bytes.now) }
-    ensures chars { count_by begins_char bytes.now ≡ result.2 + count_by begins_char (drop result.0 bytes.now) }
-{
-    let mut at = 0;
-    let mut left = n;
-    let mut chars = 0;
-    while bytes.len() - at >= 34 {
-        let passed = breaks_in(bytes, at, breaks);
-        if left < passed {
-            return (at, left, chars);
-        }
-        left -= passed;
-        chars += chars_in(bytes, at);
-        at += 32;
-    }
-    (at, left, chars)
-}
-
-/// The byte at which the last character of the break `n` begins, and how many characters begin before it.
-#[tactic(auto, using(crate::proofs::Blocks::begins_le))]
-pub(crate) fn char_of_break(bytes: &[u8], n: usize, breaks: LineBreaks) -> (usize, usize)
-    ensures bound { result.0 ≤ length bytes.now }
-    ensures inside { result.0 < length bytes.now
-        → (byte_break_count breaks bytes.now ≡ n + byte_break_count breaks (drop result.0 bytes.now))
-        × IsTrue (break_at breaks (slice_index bytes.now result.0) (slice_index bytes.now (result.0 + 1)) (slice_index bytes.now (result.0 + 2))) }
-    ensures end { result.0 ≡ length bytes.now → byte_break_count breaks bytes.now ≤ n }
-    ensures chars { count_by begins_char bytes.now ≡ result.1 + count_by begins_char (drop result.0 bytes.now) }
-{
-    let (from, left, before) = skip_breaks_with_chars(bytes, n, breaks);
-    let to = find_break(bytes, from, left, breaks);
-    (to, before + begins_between(bytes, from, to))
-}
-
 // The blocks before the break `n`: their end, which break it is from there on, the characters in them, and those of two
-// code units.
+// code units. What a caller takes no count of isn't counted, since this is expanded there.
 #[tactic(auto, using(crate::proofs::Blocks::begins_le, crate::proofs::Blocks::pairs_le))]
 #[inline(always)]
-fn skip_breaks_with_counts(
-    bytes: &[u8],
-    n: usize,
-    breaks: LineBreaks,
-) -> (usize, usize, usize, usize)
+fn skip_breaks(bytes: &[u8], n: usize, breaks: LineBreaks) -> (usize, usize, usize, usize)
     ensures bound { result.0 ≤ length bytes.now }
     ensures counted { byte_break_count breaks bytes.now + result.1 ≡ n + byte_break_count breaks (drop result.0 bytes.now) }
     ensures chars { count_by begins_char bytes.now ≡ result.2 + count_by begins_char (drop result.0 bytes.now) }
@@ -380,19 +240,66 @@ fn skip_breaks_with_counts(
     (at, left, chars, pairs)
 }
 
-/// The byte at which the last character of the break `n` begins, and how many characters begin before it, and how many of
-/// those of two code units.
+// The byte at which the break `n` begins, the breaks counted from the byte `from` on.
+#[inline(always)]
+fn find_break(bytes: &[u8], from: usize, n: usize, breaks: LineBreaks) -> usize
+    requires { from ≤ length bytes.now }
+    ensures from { from ≤ result }
+    ensures bound { result ≤ length bytes.now }
+    ensures inside { result < length bytes.now → IsBreak breaks bytes.now from n result }
+    ensures end { result ≡ length bytes.now → byte_break_count breaks (drop from bytes.now) ≤ n }
+{
+    if bytes.len() - from >= 34 {
+        let mask = break_mask(bytes, from, breaks);
+        if n < ones_before(mask, 32) {
+            return from + place_of_mark(mask, 0, n);
+        }
+    }
+    let mut left = n;
+    for at in from..bytes.len() {
+        if is_break_begin(bytes, at, breaks) {
+            if left == 0 {
+                return at;
+            }
+            left -= 1;
+        }
+    }
+    bytes.len()
+}
+
+/// The byte at which the last character of the break `n` begins, the breaks counted from 0.
+pub(crate) fn place_of_break(bytes: &[u8], n: usize, breaks: LineBreaks) -> usize
+    ensures bound { result ≤ length bytes.now }
+    ensures inside { result < length bytes.now → IsBreak breaks bytes.now 0 n result }
+    ensures end { result ≡ length bytes.now → byte_break_count breaks bytes.now ≤ n }
+{
+    let (from, left, _, _) = skip_breaks(bytes, n, breaks);
+    find_break(bytes, from, left, breaks)
+}
+
+/// The same, and how many characters begin before it.
+#[tactic(auto, using(crate::proofs::Blocks::begins_le))]
+pub(crate) fn char_of_break(bytes: &[u8], n: usize, breaks: LineBreaks) -> (usize, usize)
+    ensures bound { result.0 ≤ length bytes.now }
+    ensures inside { result.0 < length bytes.now → IsBreak breaks bytes.now 0 n result.0 }
+    ensures end { result.0 ≡ length bytes.now → byte_break_count breaks bytes.now ≤ n }
+    ensures chars { count_by begins_char bytes.now ≡ result.1 + count_by begins_char (drop result.0 bytes.now) }
+{
+    let (from, left, before, _) = skip_breaks(bytes, n, breaks);
+    let to = find_break(bytes, from, left, breaks);
+    (to, before + begins_between(bytes, from, to))
+}
+
+/// The same, and how many of those characters take two code units.
 #[tactic(auto, using(crate::proofs::Blocks::begins_le, crate::proofs::Blocks::pairs_le))]
 pub(crate) fn counts_to_break(bytes: &[u8], n: usize, breaks: LineBreaks) -> (usize, usize, usize)
     ensures bound { result.0 ≤ length bytes.now }
-    ensures inside { result.0 < length bytes.now
-        → (byte_break_count breaks bytes.now ≡ n + byte_break_count breaks (drop result.0 bytes.now))
-        × IsTrue (break_at breaks (slice_index bytes.now result.0) (slice_index bytes.now (result.0 + 1)) (slice_index bytes.now (result.0 + 2))) }
+    ensures inside { result.0 < length bytes.now → IsBreak breaks bytes.now 0 n result.0 }
     ensures end { result.0 ≡ length bytes.now → byte_break_count breaks bytes.now ≤ n }
     ensures chars { count_by begins_char bytes.now ≡ result.1 + count_by begins_char (drop result.0 bytes.now) }
     ensures pairs { count_by begins_pair bytes.now ≡ result.2 + count_by begins_pair (drop result.0 bytes.now) }
 {
-    let (from, left, chars, pairs) = skip_breaks_with_counts(bytes, n, breaks);
+    let (from, left, chars, pairs) = skip_breaks(bytes, n, breaks);
     let to = find_break(bytes, from, left, breaks);
     (
         to,

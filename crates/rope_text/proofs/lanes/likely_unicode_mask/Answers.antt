@@ -2,8 +2,8 @@ use Rattle.std.proofs.Common.{◌+◌, ◌-◌, ◌%◌, ◌^◌, ◌&&◌, ◌|
 use Rattle.std.specs.List.{range_with_len}
 use Rattle.std.proofs.lemmas.List.FromFn.{length-range_with_len}
 use Rattle.rope_text.specs.declared.line_breaks.LineBreaks.TheVariants.{Unicode}
-use Rattle.rope_text.specs.ByteBreaks.{byte_break_count}
-use Rattle.rope_text.proofs.Blocks.{byte_break_count-block, breaks_at, count_by-unless, wide_off}
+use Rattle.rope_text.specs.ByteBreaks.{byte_break_count, breaks_at}
+use Rattle.rope_text.proofs.Blocks.{byte_break_count-block, count_by-unless, wide_off}
 use Rattle.rope_text.proofs.LaneSums.{none_in_front}
 use Rattle.rope_text.proofs.Marks.{compared, compared_both, computed, chosen, retested, counted_from, none_set, loaded, loaded_from}
 use Rattle.rope_text.proofs.UnicodeLanes.{low_break, no_wide_begin}

@@ -17,4 +17,4 @@ returns-then-left-passed-clause-inside c = λ inside.
     let found =
     found_mark mask.result c.loop-at.left r _ _ _ (begins_char (get_or s (i + r) 0)) (mask.ensures r (omega (arith, mark.ensures.bound))) more
     (count_by-drop begins_char s (i + r) inside) mark.ensures.before mark.ensures.after in
-    (omega (arith, found.0, c.loop-at.invariant.1), found.1)
+    (omega (arith, found.0, c.loop-at.invariant.counted), found.1)
