@@ -157,7 +157,7 @@ fn wide_begins(bytes: &[u8], at: usize) -> u64
 }
 
 #[inline(always)]
-fn is_wide_break(x: u8, y: u8, z: u8) -> bool
+pub(crate) fn is_wide_break(x: u8, y: u8, z: u8) -> bool
     ensures { result ≡ wide_at LineBreaks.Unicode x y z }
 {
     (x == 0xC2 && y == 0x85) || (x == 0xE2 && y == 0x80 && (z == 0xA8 || z == 0xA9))

@@ -7,8 +7,8 @@ ghost use Rattle.rope_text.specs.ByteBreaks.{byte_break_count, unit_count, IsBre
 
 use crate::bits::{ones_before, place_of_mark};
 use crate::lanes::{
-    begins_between, break_mask, breaks_between, breaks_in, char_mask, chars_in, chars_in_two,
-    is_break_begin, pair_mask, pairs_between, pairs_in,
+    Counted, begin_mask, begun_between, begun_in, break_mask, breaks_between, breaks_in,
+    chars_in_two, is_begin, is_break_begin,
 };
 use crate::line_breaks::LineBreaks;
 
@@ -21,8 +21,7 @@ fn find_char(bytes: &[u8], from: usize, n: usize) -> usize
 {
     let mut left = n;
     for at in from..bytes.len() {
-        let byte = bytes[at];
-        if byte < 0x80 || byte >= 0xC0 {
+        if is_begin(bytes[at], Counted::Chars) {
             if left == 0 {
                 return at;
             }
@@ -86,7 +85,7 @@ fn find_char_from(bytes: &[u8], from: usize, n: usize) -> usize
     let mut at = from;
     let mut left = n;
     while bytes.len() - at >= 32 {
-        let mask = char_mask(bytes, at);
+        let mask = begin_mask(bytes, at, Counted::Chars);
         let passed = ones_before(mask, 32);
         if left < passed {
             return at + place_of_mark(mask, 0, left);
@@ -137,7 +136,7 @@ fn skip_chars_with_breaks(bytes: &[u8], n: usize, breaks: LineBreaks) -> (usize,
     let mut left = n;
     let mut break_count = 0;
     while bytes.len() - at >= 34 {
-        let passed = chars_in(bytes, at);
+        let passed = begun_in(bytes, at, Counted::Chars);
         if left < passed {
             return (at, left, break_count);
         }
@@ -172,9 +171,8 @@ fn find_unit(bytes: &[u8], from: usize, n: usize) -> usize
 {
     let mut left = n;
     for at in from..bytes.len() {
-        let byte = bytes[at];
-        if byte < 0x80 || byte >= 0xC0 {
-            let width = if byte >= 0xF0 { 2 } else { 1 };
+        if is_begin(bytes[at], Counted::Chars) {
+            let width = 1 + is_begin(bytes[at], Counted::Pairs) as usize;
             if left < width {
                 return at;
             }
@@ -197,8 +195,8 @@ pub(crate) fn place_of_unit(bytes: &[u8], n: usize) -> (usize, usize)
     let mut left = n;
     let mut chars = 0;
     while bytes.len() - at >= 32 {
-        let begins = char_mask(bytes, at);
-        let pairs = pair_mask(bytes, at);
+        let begins = begin_mask(bytes, at, Counted::Chars);
+        let pairs = begin_mask(bytes, at, Counted::Pairs);
         let begun = ones_before(begins, 32);
         let passed = begun + ones_before(pairs, 32);
         if left < passed {
@@ -210,7 +208,7 @@ pub(crate) fn place_of_unit(bytes: &[u8], n: usize) -> (usize, usize)
         at += 32;
     }
     let to = find_unit(bytes, at, left);
-    (to, chars + begins_between(bytes, at, to))
+    (to, chars + begun_between(bytes, at, to, Counted::Chars))
 }
 
 // The blocks before the break `n`: their end, which break it is from there on, the characters in them, and those of two
@@ -233,8 +231,8 @@ fn skip_breaks(bytes: &[u8], n: usize, breaks: LineBreaks) -> (usize, usize, usi
             return (at, left, chars, pairs);
         }
         left -= passed;
-        chars += chars_in(bytes, at);
-        pairs += pairs_in(bytes, at);
+        chars += begun_in(bytes, at, Counted::Chars);
+        pairs += begun_in(bytes, at, Counted::Pairs);
         at += 32;
     }
     (at, left, chars, pairs)
@@ -287,7 +285,7 @@ pub(crate) fn char_of_break(bytes: &[u8], n: usize, breaks: LineBreaks) -> (usiz
 {
     let (from, left, before, _) = skip_breaks(bytes, n, breaks);
     let to = find_break(bytes, from, left, breaks);
-    (to, before + begins_between(bytes, from, to))
+    (to, before + begun_between(bytes, from, to, Counted::Chars))
 }
 
 /// The same, and how many of those characters take two code units.
@@ -303,7 +301,7 @@ pub(crate) fn counts_to_break(bytes: &[u8], n: usize, breaks: LineBreaks) -> (us
     let to = find_break(bytes, from, left, breaks);
     (
         to,
-        chars + begins_between(bytes, from, to),
-        pairs + pairs_between(bytes, from, to),
+        chars + begun_between(bytes, from, to, Counted::Chars),
+        pairs + begun_between(bytes, from, to, Counted::Pairs),
     )
 }

@@ -9,7 +9,7 @@ pub returns-then-left-passed-clause-inside : goal.returns-then-left-passed-claus
 returns-then-left-passed-clause-inside c = λ inside.
     let s = c.args.bytes.now in
     let i : ℕ = c.loop-at.at in
-    let mask = c.char_mask-mask in
+    let mask = c.begin_mask-mask in
     let mark = c.place_of_mark in
     let r : ℕ = mark.result in
     let next : i + (r + 1) ≡ (i + r) + 1 = omega arith in

@@ -1,10 +1,10 @@
 use Rattle.std.proofs.Common.{◌≡◌, ◌+◌, ◌-◌, ℕ, arith}
-use Rattle.rope_text.specs.Bytes.{begins_char}
+use Rattle.rope_text.specs.Bytes.{begins}
 use Rattle.rope_text.proofs.Blocks.{count_by-block}
-use Rattle.rope_text.proofs.lanes.begins_between.Goals as goal
+use Rattle.rope_text.proofs.lanes.begun_between.Goals as goal
 
 pub returns : goal.returns
 returns c =
     let size : ℕ = c.args.to - c.args.from in
     let end : c.args.from + size ≡ c.args.to = omega (arith, c.requires.from) in
-    omega (arith, c.begins_byte_by_byte.ensures, rw end at (count_by-block begins_char c.args.bytes.now c.args.from size))
+    omega (arith, c.begun_byte_by_byte.ensures, rw end at (count_by-block (begins c.args.counted) c.args.bytes.now c.args.from size))

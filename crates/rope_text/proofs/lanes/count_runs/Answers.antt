@@ -1,10 +1,10 @@
 use Rattle.std.proofs.Common.{drop, arith}
 use Rattle.std.proofs.lemmas.List.{length-drop}
 use Rattle.rope_text.proofs.Blocks.{byte_break_count_le}
-use Rattle.rope_text.proofs.lanes.breaks_in_runs.Goals as goal
+use Rattle.rope_text.proofs.lanes.count_runs.Goals as goal
 
-pub overflow_add-total : goal.overflow_add-total
-overflow_add-total c =
+pub overflow_add-break_count : goal.overflow_add-break_count
+overflow_add-break_count c =
     omega (
       arith,
       c.loop-i.invariant,
