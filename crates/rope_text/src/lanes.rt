@@ -456,15 +456,6 @@ pub(crate) fn count_breaks_before(bytes: &[u8], to: usize, breaks: LineBreaks) -
     }
 }
 
-/// How many breaks begin at the byte `from` or behind it.
-pub(crate) fn count_breaks_from(bytes: &[u8], from: usize, breaks: LineBreaks) -> usize
-    requires { from ≤ length bytes.now }
-    ensures { result ≡ byte_break_count breaks (drop from bytes.now) }
-{
-    let rest = &bytes[from..];
-    count_breaks_before(rest, rest.len(), breaks)
-}
-
 // The set is known where this is expanded.
 #[tactic(auto, using(crate::proofs::Blocks::begins_le, crate::proofs::Blocks::pairs_le, crate::proofs::Blocks::byte_break_count_le))]
 #[inline(always)]
