@@ -213,13 +213,6 @@ pub(crate) fn breaks_between(bytes: &[u8], from: usize, to: usize, breaks: LineB
     breaks_byte_by_byte(bytes, from, to, breaks)
 }
 
-#[inline(always)]
-fn begun_byte_by_byte(bytes: &[u8], counted: Counted) -> usize
-    ensures { result ≡ count_by (begins counted) bytes.now }
-{
-    bytes.iter().filter(|b| is_begin(**b, counted)).count()
-}
-
 /// How many begin from the byte `from` on and before `to`, at once where they are few.
 #[inline(always)]
 pub(crate) fn begun_between(bytes: &[u8], from: usize, to: usize, counted: Counted) -> usize
@@ -231,7 +224,10 @@ pub(crate) fn begun_between(bytes: &[u8], from: usize, to: usize, counted: Count
         let at = from.min(bytes.len() - 32);
         return ones_between(begin_mask(bytes, at, counted), from - at, to - at);
     }
-    begun_byte_by_byte(&bytes[from..to], counted)
+    bytes[from..to]
+        .iter()
+        .filter(|b| is_begin(**b, counted))
+        .count()
 }
 
 // A text of fewer bytes is counted byte by byte.
@@ -272,10 +268,10 @@ fn begun_in_quarters(bytes: &[u8], quarter: usize, counted: Counted) -> usize
     first + second + third + fourth
 }
 
-// How many begin from the byte `from` on and before `to`.
+/// How many begin from the byte `from` on and before `to`.
 #[tactic(auto, using(crate::proofs::Blocks::begun_le))]
 #[inline(always)]
-fn count_begun(bytes: &[u8], from: usize, to: usize, counted: Counted) -> usize
+pub(crate) fn count_begun(bytes: &[u8], from: usize, to: usize, counted: Counted) -> usize
     requires from { from ≤ to }
     requires to { to ≤ length bytes.now }
     ensures { count_by (begins counted) (drop from bytes.now) ≡ result + count_by (begins counted) (drop to bytes.now) }
@@ -298,14 +294,6 @@ pub(crate) fn count_begins_before(bytes: &[u8], to: usize) -> usize
     let quarter = quarter_of(to);
     let before = begun_in_quarters(bytes, quarter, Counted::Chars);
     before + count_begun(bytes, 4 * quarter, to, Counted::Chars)
-}
-
-/// How many characters begin at the byte `from` or behind it.
-pub(crate) fn count_begins_from(bytes: &[u8], from: usize) -> usize
-    requires { from ≤ length bytes.now }
-    ensures { result ≡ count_by begins_char (drop from bytes.now) }
-{
-    count_begun(bytes, from, bytes.len(), Counted::Chars)
 }
 
 /// How many characters of two code units begin before the byte `to`.

@@ -124,29 +124,6 @@ pub(crate) fn place_of_char_of(bytes: &[u8], n: usize, chars: usize) -> usize
     find_char_from(bytes, from, left)
 }
 
-// The blocks before the character `n`: their end, which character it is from there on, and the breaks in them.
-#[tactic(auto, using(crate::proofs::Blocks::byte_break_count_le))]
-#[inline(always)]
-fn skip_chars_with_breaks(bytes: &[u8], n: usize, breaks: LineBreaks) -> (usize, usize, usize)
-    ensures bound { result.0 ≤ length bytes.now }
-    ensures counted { count_by begins_char bytes.now + result.1 ≡ n + count_by begins_char (drop result.0 bytes.now) }
-    ensures break_count { byte_break_count breaks bytes.now ≡ result.2 + byte_break_count breaks (drop result.0 bytes.now) }
-{
-    let mut at = 0;
-    let mut left = n;
-    let mut break_count = 0;
-    while bytes.len() - at >= 34 {
-        let passed = begun_in(bytes, at, Counted::Chars);
-        if left < passed {
-            return (at, left, break_count);
-        }
-        left -= passed;
-        break_count += breaks_in(bytes, at, breaks);
-        at += 32;
-    }
-    (at, left, break_count)
-}
-
 /// The byte at which the character `n` begins, and how many breaks begin before it.
 #[tactic(auto, using(crate::proofs::Blocks::byte_break_count_le))]
 #[inline(always)]
@@ -156,9 +133,20 @@ pub(crate) fn line_of_char(bytes: &[u8], n: usize, breaks: LineBreaks) -> (usize
     ensures end { result.0 ≡ length bytes.now → count_by begins_char bytes.now ≤ n }
     ensures break_count { byte_break_count breaks bytes.now ≡ result.1 + byte_break_count breaks (drop result.0 bytes.now) }
 {
-    let (from, left, before) = skip_chars_with_breaks(bytes, n, breaks);
-    let to = find_char_from(bytes, from, left);
-    (to, before + breaks_between(bytes, from, to, breaks))
+    let mut at = 0;
+    let mut left = n;
+    let mut break_count = 0;
+    while bytes.len() - at >= 34 {
+        let passed = begun_in(bytes, at, Counted::Chars);
+        if left < passed {
+            break;
+        }
+        left -= passed;
+        break_count += breaks_in(bytes, at, breaks);
+        at += 32;
+    }
+    let to = find_char_from(bytes, at, left);
+    (to, break_count + breaks_between(bytes, at, to, breaks))
 }
 
 fn find_unit(bytes: &[u8], from: usize, n: usize) -> usize

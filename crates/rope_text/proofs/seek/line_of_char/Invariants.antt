@@ -1,7 +1,7 @@
 use Rattle.std.proofs.Common.{◌≡◌, ◌≤◌, ◌+◌, ◌-◌, length, drop, count_by}
 use Rattle.rope_text.specs.Bytes.{begins_char}
 use Rattle.rope_text.specs.ByteBreaks.{byte_break_count}
-use Rattle.rope_text.proofs.seek.skip_chars_with_breaks.Given as goal
+use Rattle.rope_text.proofs.seek.line_of_char.Given as goal
 
 abbrev pub invariant-loop-at : goal.invariant-loop-at
 invariant-loop-at l =
