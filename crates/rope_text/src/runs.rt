@@ -6,7 +6,7 @@ ghost use Rattle.rope_text.specs.Bytes.{begins_char, begins_pair};
 ghost use Rattle.rope_text.specs.ByteBreaks.{byte_break_count};
 ghost use Rattle.rope_text.specs.Runs.{IsSum, IsRun, count_of, wide_of, wide_at, high_of, wide_begin, places};
 
-use crate::bits::lowest_mark;
+use crate::bits::first_mark;
 use crate::lanes::Counted;
 use crate::line_breaks::LineBreaks;
 use std::simd::prelude::*;
@@ -120,7 +120,7 @@ fn unicode_wide_in(bytes: &[u8], at: usize) -> usize
     let mut i = at;
     let mut total = 0;
     while begins.count_ones() > 0 {
-        let skip = lowest_mark(begins);
+        let skip = first_mark(begins);
         i += skip;
         if is_wide_break(bytes[i], bytes[i + 1], bytes[i + 2]) {
             total += 1;

@@ -7,22 +7,22 @@ use Rattle.rope_text.proofs.runs.unicode_wide_in.Goals.{then-is_wide_break, else
 
 pub bounds-bytes-i : goal.bounds-bytes-i
 bounds-bytes-i c =
-    let low = lowest c.loop-begins.begins c.lowest_mark-skip.result (wide_begin c.args.bytes.now) c.loop-begins.i ((c.args.at + 64) - c.loop-begins.i) c.loop-begins.invariant.marked c.lowest_mark-skip.ensures.before c.lowest_mark-skip.ensures.after in
+    let low = lowest c.loop-begins.begins c.first_mark-skip.result (wide_begin c.args.bytes.now) c.loop-begins.i ((c.args.at + 64) - c.loop-begins.i) c.loop-begins.invariant.marked c.first_mark-skip.ensures.before c.first_mark-skip.ensures.after in
     omega (arith, low.inside, c.loop-begins.invariant.within, c.requires)
 
 pub bounds-bytes-i-in-loop-begins : goal.bounds-bytes-i-in-loop-begins
 bounds-bytes-i-in-loop-begins c =
-    let low = lowest c.loop-begins.begins c.lowest_mark-skip.result (wide_begin c.args.bytes.now) c.loop-begins.i ((c.args.at + 64) - c.loop-begins.i) c.loop-begins.invariant.marked c.lowest_mark-skip.ensures.before c.lowest_mark-skip.ensures.after in
+    let low = lowest c.loop-begins.begins c.first_mark-skip.result (wide_begin c.args.bytes.now) c.loop-begins.i ((c.args.at + 64) - c.loop-begins.i) c.loop-begins.invariant.marked c.first_mark-skip.ensures.before c.first_mark-skip.ensures.after in
     omega (arith, low.inside, c.loop-begins.invariant.within, c.requires)
 
 pub bounds-bytes-i-in-loop-begins-2 : goal.bounds-bytes-i-in-loop-begins-2
 bounds-bytes-i-in-loop-begins-2 c =
-    let low = lowest c.loop-begins.begins c.lowest_mark-skip.result (wide_begin c.args.bytes.now) c.loop-begins.i ((c.args.at + 64) - c.loop-begins.i) c.loop-begins.invariant.marked c.lowest_mark-skip.ensures.before c.lowest_mark-skip.ensures.after in
+    let low = lowest c.loop-begins.begins c.first_mark-skip.result (wide_begin c.args.bytes.now) c.loop-begins.i ((c.args.at + 64) - c.loop-begins.i) c.loop-begins.invariant.marked c.first_mark-skip.ensures.before c.first_mark-skip.ensures.after in
     omega (arith, low.inside, c.loop-begins.invariant.within, c.requires)
 
 pub loop-begins-smaller : goal.loop-begins-smaller
 loop-begins-smaller c =
-    let low = lowest c.loop-begins.begins c.lowest_mark-skip.result (wide_begin c.args.bytes.now) c.loop-begins.i ((c.args.at + 64) - c.loop-begins.i) c.loop-begins.invariant.marked c.lowest_mark-skip.ensures.before c.lowest_mark-skip.ensures.after in
+    let low = lowest c.loop-begins.begins c.first_mark-skip.result (wide_begin c.args.bytes.now) c.loop-begins.i ((c.args.at + 64) - c.loop-begins.i) c.loop-begins.invariant.marked c.first_mark-skip.ensures.before c.first_mark-skip.ensures.after in
     omega (arith, low.inside, c.loop-begins.invariant.within, c.requires)
 
 pub overflow_add-total : goal.overflow_add-total
@@ -32,9 +32,9 @@ pub loop-begins-preserved : goal.loop-begins-preserved
 loop-begins-preserved c =
     let s = c.args.bytes.now in
     let l = c.loop-begins in
-    let k = c.lowest_mark-skip.result in
+    let k = c.first_mark-skip.result in
     let n : ℕ = (c.args.at + 64) - l.i in
-    let low = lowest c.loop-begins.begins c.lowest_mark-skip.result (wide_begin c.args.bytes.now) c.loop-begins.i ((c.args.at + 64) - c.loop-begins.i) c.loop-begins.invariant.marked c.lowest_mark-skip.ensures.before c.lowest_mark-skip.ensures.after in
+    let low = lowest c.loop-begins.begins c.first_mark-skip.result (wide_begin c.args.bytes.now) c.loop-begins.i ((c.args.at + 64) - c.loop-begins.i) c.loop-begins.invariant.marked c.first_mark-skip.ensures.before c.first_mark-skip.ensures.after in
     let next : l.i + (k + 1) ≡ (l.i + k) + 1 = omega arith in
     let left : n - (k + 1) ≡ (c.args.at + 64) - ((l.i + k) + 1) = omega arith in
     let step = wide_step s l.begins k l.i n low in
