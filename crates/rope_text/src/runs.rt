@@ -110,12 +110,18 @@ pub(crate) fn is_wide_break(x: u8, y: u8, z: u8) -> bool
     (x == 0xC2 && y == 0x85) || (x == 0xE2 && y == 0x80 && (z == 0xA8 || z == 0xA9))
 }
 
-// How many NEL, LS and PS begin in the 64 bytes from `at` on: their first bytes are rare, and each is looked at by itself.
+// How many NEL, LS and PS begin in the 64 bytes from `at` on, where they are breaks: their first bytes are rare, and each is
+// looked at by itself.
 #[inline(always)]
-fn unicode_wide_in(bytes: &[u8], at: usize) -> usize
+fn wide_in(bytes: &[u8], at: usize, breaks: LineBreaks) -> usize
     requires { at + 66 ≤ length bytes.now }
-    ensures { result ≡ wide_of LineBreaks.Unicode bytes.now at 64 }
+    ensures { result ≡ wide_of breaks bytes.now at 64 }
 {
+    match breaks {
+        LineBreaks::Lf => return 0,
+        LineBreaks::CrLf => return 0,
+        LineBreaks::Unicode => {}
+    }
     let mut begins = wide_begins(bytes, at);
     let mut i = at;
     let mut total = 0;
@@ -129,18 +135,6 @@ fn unicode_wide_in(bytes: &[u8], at: usize) -> usize
         begins = (begins >> skip) >> 1;
     }
     total
-}
-
-#[inline(always)]
-fn wide_in(bytes: &[u8], at: usize, breaks: LineBreaks) -> usize
-    requires { at + 66 ≤ length bytes.now }
-    ensures { result ≡ wide_of breaks bytes.now at 64 }
-{
-    match breaks {
-        LineBreaks::Lf => 0,
-        LineBreaks::CrLf => 0,
-        LineBreaks::Unicode => unicode_wide_in(bytes, at),
-    }
 }
 
 // The 64 bytes from `at` on more.
