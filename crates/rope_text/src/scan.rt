@@ -63,27 +63,29 @@ fn go_by_blocks(bytes: &[u8], breaks: LineBreaks) -> Front
     ensures front { IsFront breaks bytes.now result }
     ensures inside { result.bytes < length bytes.now → IsTrue (breaks_at breaks bytes.now result.bytes) }
 {
-    let mut front = Front {
-        chars: 0,
-        bytes: 0,
-        pairs: 0,
-    };
-    while bytes.len() - front.bytes >= 34 {
-        let breaks = known_break_mask(bytes, front.bytes, breaks);
-        let begins = begin_mask(bytes, front.bytes, Counted::Chars);
-        let doubles = begin_mask(bytes, front.bytes, Counted::Pairs);
+    let (mut at, mut chars, mut pairs) = (0, 0, 0);
+    while bytes.len() - at >= 34 {
+        let breaks = known_break_mask(bytes, at, breaks);
+        let begins = begin_mask(bytes, at, Counted::Chars);
+        let doubles = begin_mask(bytes, at, Counted::Pairs);
         if ones_before(breaks, 32) > 0 {
-            let more = first_mark(breaks);
-            front.chars += ones_before(begins, more);
-            front.bytes += more;
-            front.pairs += ones_before(doubles, more);
-            return front;
+            let front = first_mark(breaks);
+            return Front {
+                chars: chars + ones_before(begins, front),
+                bytes: at + front,
+                pairs: pairs + ones_before(doubles, front),
+            };
         }
-        front.chars += ones_before(begins, 32);
-        front.bytes += 32;
-        front.pairs += ones_before(doubles, 32);
+        at += 32;
+        chars += ones_before(begins, 32);
+        pairs += ones_before(doubles, 32);
     }
-    go_to_end(bytes, front, breaks)
+    let from = Front {
+        chars,
+        bytes: at,
+        pairs,
+    };
+    go_to_end(bytes, from, breaks)
 }
 
 /// The bytes before the one at which the last character of the first line break begins, or all. Each set has a loop of its
