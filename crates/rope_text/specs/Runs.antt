@@ -6,7 +6,6 @@ use lib.Lanes.{Each1, sum_l}
 use lib.Dec.{leb}
 use Rattle.rope_text.specs.declared.line_breaks.LineBreaks.{LineBreaks}
 use Rattle.rope_text.specs.declared.line_breaks.LineBreaks.TheVariants.{Lf, CrLf, Unicode}
-use Rattle.rope_text.specs.declared.lanes.Counted.TheVariants.{Chars, Pairs}
 use Rattle.rope_text.specs.declared.runs.Sums.{Sums}
 use Rattle.rope_text.specs.declared.runs.Added.{Added}
 use Rattle.rope_text.specs.declared.runs.Added.TheVariants.{Begun, Narrow}
