@@ -102,3 +102,9 @@ unfolding count_trailing_zeros
 first_one zero w m few some = absurd (omega (arith, some, ones_zero m))
 first_one (suc k) zero m few some = absurd (omega arith)
 first_one (suc k) (suc w) m few some = first_step k w m (m % 2) refl some (λ more. first_one k w (m / 2) (omega arith) more)
+
+-- it lies among the first n, where one of these is set
+pub first_within : (m k t n : ℕ) → IsFirst m k t → 0 < ones_below m n → t < n
+first_within m k t n first some =
+    let past : n ≤ t → ⊥ = λ above. omega (arith, ones_more m n (t - n) t (omega (arith, above)), first.before, some) in
+    omega (arith, past)

@@ -6,13 +6,11 @@ use Rattle.std.proofs.lemmas.List.{at_drop_more, get_or-drop}
 use Rattle.std.proofs.lemmas.List.Sums.{sum_by-cons, sum_by-append, count_by-le-length}
 use Rattle.std.proofs.lemmas.Simd.{chunk-drop}
 use Rattle.rope_text.specs.declared.line_breaks.LineBreaks.{LineBreaks}
-use Rattle.rope_text.specs.Bytes.{begins_char, begins_pair}
-use Rattle.rope_text.specs.ByteBreaks.{break_at, byte_break_count}
+use Rattle.rope_text.specs.Bytes.{begins_char, begins_pair, begins}
+use Rattle.rope_text.specs.declared.lanes.Counted.{Counted}
+use Rattle.rope_text.specs.ByteBreaks.{break_at, breaks_at, byte_break_count}
 use Rattle.rope_text.proofs.BitLaws.{one_at_most}
-
--- whether a break begins at the byte k
-abbrev pub breaks_at : LineBreaks → List ℕ → ℕ → Bool
-breaks_at b xs k = break_at b (get_or xs k 0) (get_or xs (k + 1) 0) (get_or xs (k + 2) 0)
+use mir.Val.{bool_byte}
 
 pub byte_break_count-drop : (b : LineBreaks) (xs : List ℕ) (i : ℕ) → i < length xs →
     byte_break_count b (drop i xs) ≡ cond (breaks_at b xs i) 1 0 + byte_break_count b (drop (i + 1) xs)
@@ -39,6 +37,9 @@ byte_break_count_le b (x ∷ xs) = omega (arith, byte_break_count_le b xs, one_a
 pub begins_le : (xs : List ℕ) → count_by begins_char xs ≤ length xs
 begins_le xs = count_by-le-length begins_char xs
 
+pub begun_le : (counted : Counted) (xs : List ℕ) → count_by (begins counted) xs ≤ length xs
+begun_le counted xs = count_by-le-length (begins counted) xs
+
 pub pairs_le : (xs : List ℕ) → count_by begins_pair xs ≤ length xs
 pairs_le xs = count_by-le-length begins_pair xs
 
@@ -50,6 +51,11 @@ count_by-front p xs n = ap (count_by p) (sym (take-append-drop n xs)) ∙ sum_by
 
 pub count_by-drop : (p : ℕ → Bool) (xs : List ℕ) (i : ℕ) → i < length xs → count_by p (drop i xs) ≡ cond (p (get_or xs i 0)) 1 0 + count_by p (drop (i + 1) xs)
 count_by-drop p xs i h = at_drop_more (count_by p) xs i 0 h ∙ sum_by-cons (λ x. cond (p x) 1 0) (get_or xs i 0) (drop (i + 1) xs)
+
+-- a test as a number
+pub one_where : (a b : Bool) → a ≡ b → bool_byte a ≡ cond b 1 0
+one_where a true same = ap bool_byte same
+one_where a false same = ap bool_byte same
 
 -- tests that agree where a third one, which holds nowhere, doesn't
 pub count_by-unless : (p q r : ℕ → Bool) (ks : List ℕ) → ((k : ℕ) → p k ≡ false → q k ≡ r k) → count_by p ks ≡ 0 → count_by q ks ≡ count_by r ks

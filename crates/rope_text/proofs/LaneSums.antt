@@ -15,10 +15,10 @@ use Rattle.rope_text.specs.declared.line_breaks.LineBreaks.TheVariants.{Lf, CrLf
 use Rattle.rope_text.specs.declared.runs.Sums.{Sums}
 use Rattle.rope_text.specs.Bits.{ones_below}
 use Rattle.rope_text.specs.Bytes.{begins_char, begins_pair}
-use Rattle.rope_text.specs.ByteBreaks.{break_at, byte_break_count}
+use Rattle.rope_text.specs.ByteBreaks.{break_at, byte_break_count, breaks_at}
 use Rattle.rope_text.specs.Runs.{IsSum, IsRun, narrow_at, wide_at, narrow_here, wide_here, wide_begin, places, chars_of, pairs_of, narrow_of, wide_of, high_of}
 use Rattle.rope_text.proofs.BitLaws.{ones_more, shift_more, no_marks}
-use Rattle.rope_text.proofs.Blocks.{breaks_at, byte_break_count-block, count_by-drop}
+use Rattle.rope_text.proofs.Blocks.{byte_break_count-block, count_by-drop}
 use Rattle.rope_text.proofs.Marks.{IsMask, chosen}
 use Rattle.rope_text.proofs.UnicodeLanes.{no_wide_begin}
 use Rattle.std.proofs.lemmas.Nat.{zero_from_ones}

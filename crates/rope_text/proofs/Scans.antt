@@ -5,7 +5,7 @@ use Rattle.rope_text.specs.declared.line_breaks.LineBreaks.{LineBreaks}
 use Rattle.rope_text.specs.declared.line_breaks.LineBreaks.TheVariants.{Lf, CrLf, Unicode}
 use Rattle.rope_text.specs.declared.text_info.TextInfo.{TextInfo}
 use Rattle.rope_text.specs.Breaks.{break_count}
-use Rattle.rope_text.specs.ByteBreaks.{break_at, byte_break_count, char_width}
+use Rattle.rope_text.specs.ByteBreaks.{break_at, byte_break_count, char_width, breaks_at}
 use Rattle.rope_text.specs.LineParts.{first_line}
 use Rattle.rope_text.specs.Lines.{line_start}
 use Rattle.rope_text.specs.Text.{byte_len, surrogate_count}
@@ -22,7 +22,7 @@ use Rattle.std.proofs.Math.ListN.{drop_of_length-le}
 use Rattle.std.proofs.lemmas.Bool.{cases_lt}
 use Rattle.std.proofs.lemmas.List.{take_all, length-take-le}
 use Rattle.rope_text.specs.Bytes.{begins_char, begins_pair}
-use Rattle.rope_text.proofs.Blocks.{count_by-drop, count_by-front, byte_break_count-drop, breaks_at}
+use Rattle.rope_text.proofs.Blocks.{count_by-drop, count_by-front, byte_break_count-drop}
 use Rattle.rope_text.specs.declared.scan.Front.{Front}
 use Rattle.rope_text.specs.Scan.{IsFront}
 

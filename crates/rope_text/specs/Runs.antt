@@ -7,7 +7,9 @@ use lib.Dec.{leb}
 use Rattle.rope_text.specs.declared.line_breaks.LineBreaks.{LineBreaks}
 use Rattle.rope_text.specs.declared.line_breaks.LineBreaks.TheVariants.{Lf, CrLf, Unicode}
 use Rattle.rope_text.specs.declared.runs.Sums.{Sums}
-use Rattle.rope_text.specs.Bytes.{begins_char, begins_pair}
+use Rattle.rope_text.specs.declared.runs.Added.{Added}
+use Rattle.rope_text.specs.declared.runs.Added.TheVariants.{Begun, Narrow}
+use Rattle.rope_text.specs.Bytes.{begins_char, begins_pair, begins}
 use Rattle.rope_text.specs.ByteBreaks.{lone_cr}
 
 -- 16 lanes, none of which is above `most`, that add up to the total
@@ -57,6 +59,14 @@ wide_of breaks xs i n = count_by (wide_here breaks xs) (places i n)
 
 abbrev pub high_of : List ℕ → ℕ → ℕ → ℕ
 high_of xs i n = count_by (λ k. leb 128 (get_or xs k 0)) (places i n)
+
+-- whether the byte k is added up, and of the n bytes from i on those that are
+abbrev pub is_added : Added → List ℕ → ℕ → Bool
+is_added (Begun counted) xs k = begins counted (get_or xs k 0)
+is_added (Narrow breaks) xs k = narrow_here breaks xs k
+
+abbrev pub count_of : Added → List ℕ → ℕ → ℕ → ℕ
+count_of added xs i n = count_by (is_added added xs) (places i n)
 
 -- the sums of the n bytes from i on
 pub record IsRun (breaks : LineBreaks) (bytes : List ℕ) (i n most : ℕ) (sums : Sums) : Type 0 where

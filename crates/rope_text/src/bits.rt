@@ -1,5 +1,5 @@
 //! Masks of blocks of 32 bytes: the bit `k` is the mark of the byte `k`.
-ghost use Rattle.std.specs.Prelude.{◌≡◌, ◌+◌, ◌<◌, ◌≤◌, ◌%◌, ◌^◌, count_ones};
+ghost use Rattle.std.specs.Prelude.{◌≡◌, ◌+◌, ◌<◌, ◌≤◌};
 ghost use Rattle.rope_text.specs.Bits.{ones_below, marks_below};
 
 /// How many of the first `n` bytes have a mark.
@@ -21,11 +21,12 @@ pub(crate) fn ones_between(mask: u64, from: usize, to: usize) -> usize
     ones_before(mask >> from, to - from)
 }
 
-/// The first byte of a block that has a mark.
+/// The first place that has a mark.
 #[inline(always)]
 pub(crate) fn first_mark(mask: u64) -> usize
-    requires { 0 < ones_below mask 32 }
-    ensures bound { result < 32 }
+    requires { 0 < ones_below mask 64 }
+    ensures bound { result < 64 }
+    ensures block { 0 < ones_below mask 32 → result < 32 }
     ensures before { ones_below mask result ≡ 0 }
     ensures after { 0 < ones_below mask (result + 1) }
 {
@@ -45,17 +46,6 @@ pub(crate) fn first_mark_before(mask: u64, to: usize) -> usize
     } else {
         to
     }
-}
-
-/// The lowest place that has a mark.
-#[inline(always)]
-pub(crate) fn lowest_mark(mask: u64) -> usize
-    requires { 0 < count_ones mask }
-    ensures bound { result < 64 }
-    ensures before { ones_below mask result ≡ 0 }
-    ensures after { 0 < ones_below mask (result + 1) }
-{
-    mask.trailing_zeros() as usize
 }
 
 /// The byte with the mark `n` of two masks, counted from 0: it has at most `n` marks before it.

@@ -82,14 +82,10 @@ fn break_up_to(at: usize, text: &[u8]) -> usize
     ensures inside { 0 < length text.now → result < length text.now }
     ensures nearest { (k : ℕ) → k ≤ at → k < length text.now → IsTrue (is_cut text.now k) → k ≤ result }
 {
-    if at == text.len() {
-        return prev_break(at, text);
+    if at < text.len() && is_break(at, text) {
+        return at;
     }
-    if is_break(at, text) {
-        at
-    } else {
-        prev_break(at, text)
-    }
+    prev_break(at, text)
 }
 
 /// The place inside the text, nearest to the byte `at`, where it may be cut, the later one of two that are as near;

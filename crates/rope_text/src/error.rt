@@ -93,33 +93,27 @@ impl fmt::Display for Error {
                 f,
                 "Byte index is not a valid char boundary: byte index {index}"
             ),
-            Error::ByteRangeNotCharBoundary(start, end) => {
-                let range = Bounds(start, end);
-                write!(
-                    f,
-                    "Byte range does not align with char boundaries: range {range}"
-                )
-            }
+            Error::ByteRangeNotCharBoundary(start, end) => write!(
+                f,
+                "Byte range does not align with char boundaries: range {}",
+                Bounds(start, end)
+            ),
             Error::ByteRangeInvalid(start, end) => {
                 write!(f, "Invalid byte range {start}..{end}: start must be <= end")
             }
             Error::CharRangeInvalid(start, end) => {
                 write!(f, "Invalid char range {start}..{end}: start must be <= end")
             }
-            Error::ByteRangeOutOfBounds(start, end, len) => {
-                let range = Bounds(start, end);
-                write!(
-                    f,
-                    "Byte range out of bounds: byte range {range}, Rope/RopeSlice byte length {len}"
-                )
-            }
-            Error::CharRangeOutOfBounds(start, end, len) => {
-                let range = Bounds(start, end);
-                write!(
-                    f,
-                    "Char range out of bounds: char range {range}, Rope/RopeSlice char length {len}"
-                )
-            }
+            Error::ByteRangeOutOfBounds(start, end, len) => write!(
+                f,
+                "Byte range out of bounds: byte range {}, Rope/RopeSlice byte length {len}",
+                Bounds(start, end)
+            ),
+            Error::CharRangeOutOfBounds(start, end, len) => write!(
+                f,
+                "Char range out of bounds: char range {}, Rope/RopeSlice char length {len}",
+                Bounds(start, end)
+            ),
             Error::TooLong => write!(f, "Text would be longer than isize::MAX bytes"),
             Error::OutOfMemory => write!(f, "Out of memory"),
             Error::LineBreaksDiffer => write!(f, "Ropes have different line breaks"),

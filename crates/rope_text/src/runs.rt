@@ -4,9 +4,10 @@ ghost use lib.Lanes.{sum_l};
 ghost use Rattle.rope_text.specs.Bits.{ones_below};
 ghost use Rattle.rope_text.specs.Bytes.{begins_char, begins_pair};
 ghost use Rattle.rope_text.specs.ByteBreaks.{byte_break_count};
-ghost use Rattle.rope_text.specs.Runs.{IsSum, IsRun, chars_of, pairs_of, narrow_of, wide_of, wide_at, high_of, wide_begin, places};
+ghost use Rattle.rope_text.specs.Runs.{IsSum, IsRun, count_of, wide_of, wide_at, high_of, wide_begin, places};
 
-use crate::bits::lowest_mark;
+use crate::bits::first_mark;
+use crate::lanes::Counted;
 use crate::line_breaks::LineBreaks;
 use std::simd::prelude::*;
 
@@ -23,74 +24,41 @@ pub(crate) struct Sums {
     pub wide: usize,
 }
 
-#[inline(always)]
-fn char_ones(bytes: &[u8], at: usize) -> u8x16
-    requires { at + 16 ≤ length bytes.now }
-    ensures { IsSum 1 (chars_of bytes.now at 16) result }
-{
-    let lanes = u8x16::from_slice(&bytes[at..]);
-    let begins = lanes.simd_lt(u8x16::splat(0x80)) | lanes.simd_ge(u8x16::splat(0xC0));
-    begins.select(u8x16::splat(1), u8x16::splat(0))
+/// What the lanes add up.
+#[derive(Clone, Copy)]
+pub(crate) enum Added {
+    /// The bytes that begin what is counted.
+    Begun(Counted),
+    /// The bytes below 128 at which a break of the set begins.
+    Narrow(LineBreaks),
 }
 
+// For each of the 16 bytes from `at` on, 1 where it is added up, else 0. What is added up is known where this is expanded.
 #[inline(always)]
-fn pair_ones(bytes: &[u8], at: usize) -> u8x16
-    requires { at + 16 ≤ length bytes.now }
-    ensures { IsSum 1 (pairs_of bytes.now at 16) result }
-{
-    let lanes = u8x16::from_slice(&bytes[at..]);
-    let begins = lanes.simd_ge(u8x16::splat(0xF0));
-    begins.select(u8x16::splat(1), u8x16::splat(0))
-}
-
-#[inline(always)]
-fn lf_ones(bytes: &[u8], at: usize) -> u8x16
+fn ones(bytes: &[u8], at: usize, added: Added) -> u8x16
     requires { at + 17 ≤ length bytes.now }
-    ensures { IsSum 1 (narrow_of LineBreaks.Lf bytes.now at 16) result }
-{
-    let x = u8x16::from_slice(&bytes[at..]);
-    x.simd_eq(u8x16::splat(b'\n'))
-        .select(u8x16::splat(1), u8x16::splat(0))
-}
-
-#[inline(always)]
-fn cr_lf_ones(bytes: &[u8], at: usize) -> u8x16
-    requires { at + 17 ≤ length bytes.now }
-    ensures { IsSum 1 (narrow_of LineBreaks.CrLf bytes.now at 16) result }
+    ensures { IsSum 1 (count_of added bytes.now at 16) result }
 {
     let x = u8x16::from_slice(&bytes[at..]);
     let y = u8x16::from_slice(&bytes[at + 1..]);
-    let lone_cr = x.simd_eq(u8x16::splat(b'\r')) & y.simd_ne(u8x16::splat(b'\n'));
-    let breaks = x.simd_eq(u8x16::splat(b'\n')) | lone_cr;
-    breaks.select(u8x16::splat(1), u8x16::splat(0))
-}
-
-#[inline(always)]
-fn unicode_ones(bytes: &[u8], at: usize) -> u8x16
-    requires { at + 17 ≤ length bytes.now }
-    ensures { IsSum 1 (narrow_of LineBreaks.Unicode bytes.now at 16) result }
-{
-    let x = u8x16::from_slice(&bytes[at..]);
-    let y = u8x16::from_slice(&bytes[at + 1..]);
-    // From 10 to 13, but only to 12 before LF.
-    let most = y
-        .simd_eq(u8x16::splat(b'\n'))
-        .select(u8x16::splat(2), u8x16::splat(3));
-    let low = (x - u8x16::splat(10)).simd_le(most);
-    low.select(u8x16::splat(1), u8x16::splat(0))
-}
-
-// For each of the 16 bytes from `at` on, 1 where a break begins there and the byte is below 128, else 0.
-#[inline(always)]
-fn narrow_ones(bytes: &[u8], at: usize, breaks: LineBreaks) -> u8x16
-    requires { at + 17 ≤ length bytes.now }
-    ensures { IsSum 1 (narrow_of breaks bytes.now at 16) result }
-{
-    match breaks {
-        LineBreaks::Lf => lf_ones(bytes, at),
-        LineBreaks::CrLf => cr_lf_ones(bytes, at),
-        LineBreaks::Unicode => unicode_ones(bytes, at),
-    }
+    let marks = match added {
+        Added::Begun(Counted::Chars) => x.simd_lt(u8x16::splat(0x80))
+            | x.simd_ge(u8x16::splat(0xC0)),
+        Added::Begun(Counted::Pairs) => x.simd_ge(u8x16::splat(0xF0)),
+        Added::Narrow(LineBreaks::Lf) => x.simd_eq(u8x16::splat(b'\n')),
+        Added::Narrow(LineBreaks::CrLf) => {
+            let lone_cr = x.simd_eq(u8x16::splat(b'\r')) & y.simd_ne(u8x16::splat(b'\n'));
+            x.simd_eq(u8x16::splat(b'\n')) | lone_cr
+        }
+        Added::Narrow(LineBreaks::Unicode) => {
+            // From 10 to 13, but only to 12 before LF.
+            let most = y
+                .simd_eq(u8x16::splat(b'\n'))
+                .select(u8x16::splat(2), u8x16::splat(3));
+            (x - u8x16::splat(10)).simd_le(most)
+        }
+    };
+    marks.select(u8x16::splat(1), u8x16::splat(0))
 }
 
 // Lane by lane.
@@ -101,37 +69,16 @@ fn add(a: u8x16, b: u8x16) -> u8x16
     a + b
 }
 
+// The 64 bytes from `at` on more.
 #[inline(always)]
-fn add_chars(sums: u8x16, bytes: &[u8], at: usize) -> u8x16
-    requires { at + 64 ≤ length bytes.now }
-    ensures { (most total : ℕ) → most + 4 < 256 → IsSum most total sums → IsSum (most + 4) (total + chars_of bytes.now at 64) result }
-{
-    let first = add(sums, char_ones(bytes, at));
-    let second = add(first, char_ones(bytes, at + 16));
-    let third = add(second, char_ones(bytes, at + 32));
-    add(third, char_ones(bytes, at + 48))
-}
-
-#[inline(always)]
-fn add_pairs(sums: u8x16, bytes: &[u8], at: usize) -> u8x16
-    requires { at + 64 ≤ length bytes.now }
-    ensures { (most total : ℕ) → most + 4 < 256 → IsSum most total sums → IsSum (most + 4) (total + pairs_of bytes.now at 64) result }
-{
-    let first = add(sums, pair_ones(bytes, at));
-    let second = add(first, pair_ones(bytes, at + 16));
-    let third = add(second, pair_ones(bytes, at + 32));
-    add(third, pair_ones(bytes, at + 48))
-}
-
-#[inline(always)]
-fn add_narrow(sums: u8x16, bytes: &[u8], at: usize, breaks: LineBreaks) -> u8x16
+fn add_ones(sums: u8x16, bytes: &[u8], at: usize, added: Added) -> u8x16
     requires { at + 65 ≤ length bytes.now }
-    ensures { (most total : ℕ) → most + 4 < 256 → IsSum most total sums → IsSum (most + 4) (total + narrow_of breaks bytes.now at 64) result }
+    ensures { (most total : ℕ) → most + 4 < 256 → IsSum most total sums → IsSum (most + 4) (total + count_of added bytes.now at 64) result }
 {
-    let first = add(sums, narrow_ones(bytes, at, breaks));
-    let second = add(first, narrow_ones(bytes, at + 16, breaks));
-    let third = add(second, narrow_ones(bytes, at + 32, breaks));
-    add(third, narrow_ones(bytes, at + 48, breaks))
+    let first = add(sums, ones(bytes, at, added));
+    let second = add(first, ones(bytes, at + 16, added));
+    let third = add(second, ones(bytes, at + 32, added));
+    add(third, ones(bytes, at + 48, added))
 }
 
 // Whether each of the 64 bytes from `at` on is below 128.
@@ -157,23 +104,29 @@ fn wide_begins(bytes: &[u8], at: usize) -> u64
 }
 
 #[inline(always)]
-fn is_wide_break(x: u8, y: u8, z: u8) -> bool
+pub(crate) fn is_wide_break(x: u8, y: u8, z: u8) -> bool
     ensures { result ≡ wide_at LineBreaks.Unicode x y z }
 {
     (x == 0xC2 && y == 0x85) || (x == 0xE2 && y == 0x80 && (z == 0xA8 || z == 0xA9))
 }
 
-// How many NEL, LS and PS begin in the 64 bytes from `at` on: their first bytes are rare, and each is looked at by itself.
+// How many NEL, LS and PS begin in the 64 bytes from `at` on, where they are breaks: their first bytes are rare, and each is
+// looked at by itself.
 #[inline(always)]
-fn unicode_wide_in(bytes: &[u8], at: usize) -> usize
+fn wide_in(bytes: &[u8], at: usize, breaks: LineBreaks) -> usize
     requires { at + 66 ≤ length bytes.now }
-    ensures { result ≡ wide_of LineBreaks.Unicode bytes.now at 64 }
+    ensures { result ≡ wide_of breaks bytes.now at 64 }
 {
+    match breaks {
+        LineBreaks::Lf => return 0,
+        LineBreaks::CrLf => return 0,
+        LineBreaks::Unicode => {}
+    }
     let mut begins = wide_begins(bytes, at);
     let mut i = at;
     let mut total = 0;
     while begins.count_ones() > 0 {
-        let skip = lowest_mark(begins);
+        let skip = first_mark(begins);
         i += skip;
         if is_wide_break(bytes[i], bytes[i + 1], bytes[i + 2]) {
             total += 1;
@@ -184,18 +137,6 @@ fn unicode_wide_in(bytes: &[u8], at: usize) -> usize
     total
 }
 
-#[inline(always)]
-fn wide_in(bytes: &[u8], at: usize, breaks: LineBreaks) -> usize
-    requires { at + 66 ≤ length bytes.now }
-    ensures { result ≡ wide_of breaks bytes.now at 64 }
-{
-    match breaks {
-        LineBreaks::Lf => 0,
-        LineBreaks::CrLf => 0,
-        LineBreaks::Unicode => unicode_wide_in(bytes, at),
-    }
-}
-
 // The 64 bytes from `at` on more.
 #[inline(always)]
 fn add_block(sums: Sums, bytes: &[u8], at: usize, breaks: LineBreaks) -> Sums
@@ -203,7 +144,7 @@ fn add_block(sums: Sums, bytes: &[u8], at: usize, breaks: LineBreaks) -> Sums
     requires wide { sums.wide ≤ at }
     ensures { (from n most : ℕ) → at ≡ from + n → most + 4 < 256 → IsRun breaks bytes.now from n most sums → IsRun breaks bytes.now from (n + 64) (most + 4) result }
 {
-    let narrow = add_narrow(sums.narrow, bytes, at, breaks);
+    let narrow = add_ones(sums.narrow, bytes, at, Added::Narrow(breaks));
     // ASCII begins a character at each byte, and no pair and none of the other breaks.
     if is_ascii(bytes, at) {
         return Sums {
@@ -214,8 +155,8 @@ fn add_block(sums: Sums, bytes: &[u8], at: usize, breaks: LineBreaks) -> Sums
         };
     }
     Sums {
-        chars: add_chars(sums.chars, bytes, at),
-        pairs: add_pairs(sums.pairs, bytes, at),
+        chars: add_ones(sums.chars, bytes, at, Added::Begun(Counted::Chars)),
+        pairs: add_ones(sums.pairs, bytes, at, Added::Begun(Counted::Pairs)),
         narrow,
         wide: sums.wide + wide_in(bytes, at, breaks),
     }

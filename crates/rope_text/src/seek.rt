@@ -3,12 +3,12 @@
 //! A place that isn't there is the end.
 ghost use Rattle.std.specs.Prelude.{◌≡◌, ◌+◌, ◌<◌, ◌≤◌, length, count_by, drop, slice_index, IsTrue};
 ghost use Rattle.rope_text.specs.Bytes.{begins_char, begins_pair};
-ghost use Rattle.rope_text.specs.ByteBreaks.{break_at, byte_break_count, unit_count};
+ghost use Rattle.rope_text.specs.ByteBreaks.{byte_break_count, unit_count, IsBreak, IsChar};
 
 use crate::bits::{ones_before, place_of_mark};
 use crate::lanes::{
-    begins_between, break_mask, breaks_between, breaks_in, char_mask, chars_in, chars_in_two,
-    is_break_begin, pair_mask, pairs_between, pairs_in,
+    Counted, begin_mask, begun_between, begun_in, break_mask, breaks_between, breaks_in,
+    chars_in_two, is_begin, is_break_begin,
 };
 use crate::line_breaks::LineBreaks;
 
@@ -16,15 +16,12 @@ fn find_char(bytes: &[u8], from: usize, n: usize) -> usize
     requires { from ≤ length bytes.now }
     ensures from { from ≤ result }
     ensures bound { result ≤ length bytes.now }
-    ensures inside { result < length bytes.now
-        → (count_by begins_char (drop from bytes.now) ≡ n + count_by begins_char (drop result bytes.now))
-        × IsTrue (begins_char (slice_index bytes.now result)) }
+    ensures inside { result < length bytes.now → IsChar bytes.now from n result }
     ensures end { result ≡ length bytes.now → count_by begins_char (drop from bytes.now) ≤ n }
 {
     let mut left = n;
     for at in from..bytes.len() {
-        let byte = bytes[at];
-        if byte < 0x80 || byte >= 0xC0 {
+        if is_begin(bytes[at], Counted::Chars) {
             if left == 0 {
                 return at;
             }
@@ -80,16 +77,15 @@ fn skip_chars_back(bytes: &[u8], n: usize, chars: usize) -> (usize, usize)
 #[inline(always)]
 fn find_char_from(bytes: &[u8], from: usize, n: usize) -> usize
     requires { from ≤ length bytes.now }
+    ensures from { from ≤ result }
     ensures bound { result ≤ length bytes.now }
-    ensures inside { result < length bytes.now
-        → (count_by begins_char (drop from bytes.now) ≡ n + count_by begins_char (drop result bytes.now))
-        × IsTrue (begins_char (slice_index bytes.now result)) }
+    ensures inside { result < length bytes.now → IsChar bytes.now from n result }
     ensures end { result ≡ length bytes.now → count_by begins_char (drop from bytes.now) ≤ n }
 {
     let mut at = from;
     let mut left = n;
     while bytes.len() - at >= 32 {
-        let mask = char_mask(bytes, at);
+        let mask = begin_mask(bytes, at, Counted::Chars);
         let passed = ones_before(mask, 32);
         if left < passed {
             return at + place_of_mark(mask, 0, left);
@@ -103,9 +99,7 @@ fn find_char_from(bytes: &[u8], from: usize, n: usize) -> usize
 /// The byte at which the character `n` begins.
 pub(crate) fn place_of_char(bytes: &[u8], n: usize) -> usize
     ensures bound { result ≤ length bytes.now }
-    ensures inside { result < length bytes.now
-        → (count_by begins_char bytes.now ≡ n + count_by begins_char (drop result bytes.now))
-        × IsTrue (begins_char (slice_index bytes.now result)) }
+    ensures inside { result < length bytes.now → IsChar bytes.now 0 n result }
     ensures end { result ≡ length bytes.now → count_by begins_char bytes.now ≤ n }
 {
     let (from, left) = skip_chars(bytes, n);
@@ -116,9 +110,7 @@ pub(crate) fn place_of_char(bytes: &[u8], n: usize) -> usize
 pub(crate) fn place_of_char_of(bytes: &[u8], n: usize, chars: usize) -> usize
     requires { chars ≡ count_by begins_char bytes.now }
     ensures bound { result ≤ length bytes.now }
-    ensures inside { result < length bytes.now
-        → (count_by begins_char bytes.now ≡ n + count_by begins_char (drop result bytes.now))
-        × IsTrue (begins_char (slice_index bytes.now result)) }
+    ensures inside { result < length bytes.now → IsChar bytes.now 0 n result }
     ensures end { result ≡ length bytes.now → count_by begins_char bytes.now ≤ n }
 {
     if n >= chars {
@@ -132,62 +124,29 @@ pub(crate) fn place_of_char_of(bytes: &[u8], n: usize, chars: usize) -> usize
     find_char_from(bytes, from, left)
 }
 
-// The blocks before the character `n`: their end, which character it is from there on, and the breaks in them.
-#[tactic(auto, using(crate::proofs::Blocks::byte_break_count_le))]
-#[inline(always)]
-fn skip_chars_with_breaks(bytes: &[u8], n: usize, breaks: LineBreaks) -> (usize, usize, usize)
-    ensures bound { result.0 ≤ length bytes.now }
-    ensures counted { count_by begins_char bytes.now + result.1 ≡ n + count_by begins_char (drop result.0 bytes.now) }
-    ensures break_count { byte_break_count breaks bytes.now ≡ result.2 + byte_break_count breaks (drop result.0 bytes.now) }
-{
-    let mut at = 0;
-    let mut left = n;
-    let mut break_count = 0;
-    while bytes.len() - at >= 34 {
-        let passed = chars_in(bytes, at);
-        if left < passed {
-            return (at, left, break_count);
-        }
-        left -= passed;
-        break_count += breaks_in(bytes, at, breaks);
-        at += 32;
-    }
-    (at, left, break_count)
-}
-
-#[inline(always)]
-fn find_char_near(bytes: &[u8], from: usize, n: usize) -> usize
-    requires { from ≤ length bytes.now }
-    ensures from { from ≤ result }
-    ensures bound { result ≤ length bytes.now }
-    ensures inside { result < length bytes.now
-        → (count_by begins_char (drop from bytes.now) ≡ n + count_by begins_char (drop result bytes.now))
-        × IsTrue (begins_char (slice_index bytes.now result)) }
-    ensures end { result ≡ length bytes.now → count_by begins_char (drop from bytes.now) ≤ n }
-{
-    if bytes.len() - from >= 32 {
-        let mask = char_mask(bytes, from);
-        if n < ones_before(mask, 32) {
-            return from + place_of_mark(mask, 0, n);
-        }
-    }
-    find_char(bytes, from, n)
-}
-
 /// The byte at which the character `n` begins, and how many breaks begin before it.
 #[tactic(auto, using(crate::proofs::Blocks::byte_break_count_le))]
 #[inline(always)]
 pub(crate) fn line_of_char(bytes: &[u8], n: usize, breaks: LineBreaks) -> (usize, usize)
     ensures bound { result.0 ≤ length bytes.now }
-    ensures inside { result.0 < length bytes.now
-        → (count_by begins_char bytes.now ≡ n + count_by begins_char (drop result.0 bytes.now))
-        × IsTrue (begins_char (slice_index bytes.now result.0)) }
+    ensures inside { result.0 < length bytes.now → IsChar bytes.now 0 n result.0 }
     ensures end { result.0 ≡ length bytes.now → count_by begins_char bytes.now ≤ n }
     ensures break_count { byte_break_count breaks bytes.now ≡ result.1 + byte_break_count breaks (drop result.0 bytes.now) }
 {
-    let (from, left, before) = skip_chars_with_breaks(bytes, n, breaks);
-    let to = find_char_near(bytes, from, left);
-    (to, before + breaks_between(bytes, from, to, breaks))
+    let mut at = 0;
+    let mut left = n;
+    let mut break_count = 0;
+    while bytes.len() - at >= 34 {
+        let passed = begun_in(bytes, at, Counted::Chars);
+        if left < passed {
+            break;
+        }
+        left -= passed;
+        break_count += breaks_in(bytes, at, breaks);
+        at += 32;
+    }
+    let to = find_char_from(bytes, at, left);
+    (to, break_count + breaks_between(bytes, at, to, breaks))
 }
 
 fn find_unit(bytes: &[u8], from: usize, n: usize) -> usize
@@ -200,9 +159,8 @@ fn find_unit(bytes: &[u8], from: usize, n: usize) -> usize
 {
     let mut left = n;
     for at in from..bytes.len() {
-        let byte = bytes[at];
-        if byte < 0x80 || byte >= 0xC0 {
-            let width = if byte >= 0xF0 { 2 } else { 1 };
+        if is_begin(bytes[at], Counted::Chars) {
+            let width = 1 + is_begin(bytes[at], Counted::Pairs) as usize;
             if left < width {
                 return at;
             }
@@ -225,8 +183,8 @@ pub(crate) fn place_of_unit(bytes: &[u8], n: usize) -> (usize, usize)
     let mut left = n;
     let mut chars = 0;
     while bytes.len() - at >= 32 {
-        let begins = char_mask(bytes, at);
-        let pairs = pair_mask(bytes, at);
+        let begins = begin_mask(bytes, at, Counted::Chars);
+        let pairs = begin_mask(bytes, at, Counted::Pairs);
         let begun = ones_before(begins, 32);
         let passed = begun + ones_before(pairs, 32);
         if left < passed {
@@ -238,126 +196,14 @@ pub(crate) fn place_of_unit(bytes: &[u8], n: usize) -> (usize, usize)
         at += 32;
     }
     let to = find_unit(bytes, at, left);
-    (to, chars + begins_between(bytes, at, to))
-}
-
-// The blocks before the break `n`: their end, and which break it is from there on.
-fn skip_breaks(bytes: &[u8], n: usize, breaks: LineBreaks) -> (usize, usize)
-    ensures bound { result.0 ≤ length bytes.now }
-    ensures counted { byte_break_count breaks bytes.now + result.1 ≡ n + byte_break_count breaks (drop result.0 bytes.now) }
-{
-    let mut at = 0;
-    let mut left = n;
-    while bytes.len() - at >= 34 {
-        let passed = breaks_in(bytes, at, breaks);
-        if left < passed {
-            return (at, left);
-        }
-        left -= passed;
-        at += 32;
-    }
-    (at, left)
-}
-
-// A byte at a time.
-fn find_break_byte_by_byte(bytes: &[u8], from: usize, n: usize, breaks: LineBreaks) -> usize
-    requires { from ≤ length bytes.now }
-    ensures from { from ≤ result }
-    ensures bound { result ≤ length bytes.now }
-    ensures inside { result < length bytes.now
-        → (byte_break_count breaks (drop from bytes.now) ≡ n + byte_break_count breaks (drop result bytes.now))
-        × IsTrue (break_at breaks (slice_index bytes.now result) (slice_index bytes.now (result + 1)) (slice_index bytes.now (result + 2))) }
-    ensures end { result ≡ length bytes.now → byte_break_count breaks (drop from bytes.now) ≤ n }
-{
-    let mut left = n;
-    for at in from..bytes.len() {
-        if is_break_begin(bytes, at, breaks) {
-            if left == 0 {
-                return at;
-            }
-            left -= 1;
-        }
-    }
-    bytes.len()
-}
-
-#[inline(always)]
-fn find_break(bytes: &[u8], from: usize, n: usize, breaks: LineBreaks) -> usize
-    requires { from ≤ length bytes.now }
-    ensures from { from ≤ result }
-    ensures bound { result ≤ length bytes.now }
-    ensures inside { result < length bytes.now
-        → (byte_break_count breaks (drop from bytes.now) ≡ n + byte_break_count breaks (drop result bytes.now))
-        × IsTrue (break_at breaks (slice_index bytes.now result) (slice_index bytes.now (result + 1)) (slice_index bytes.now (result + 2))) }
-    ensures end { result ≡ length bytes.now → byte_break_count breaks (drop from bytes.now) ≤ n }
-{
-    if bytes.len() - from >= 34 {
-        let mask = break_mask(bytes, from, breaks);
-        if n < ones_before(mask, 32) {
-            return from + place_of_mark(mask, 0, n);
-        }
-    }
-    find_break_byte_by_byte(bytes, from, n, breaks)
-}
-
-/// The byte at which the last character of the break `n` begins, the breaks counted from 0.
-pub(crate) fn place_of_break(bytes: &[u8], n: usize, breaks: LineBreaks) -> usize
-    ensures bound { result ≤ length bytes.now }
-    ensures inside { result < length bytes.now
-        → (byte_break_count breaks bytes.now ≡ n + byte_break_count breaks (drop result bytes.now))
-        × IsTrue (break_at breaks (slice_index bytes.now result) (slice_index bytes.now (result + 1)) (slice_index bytes.now (result + 2))) }
-    ensures end { result ≡ length bytes.now → byte_break_count breaks bytes.now ≤ n }
-{
-    let (at, left) = skip_breaks(bytes, n, breaks);
-    find_break(bytes, at, left, breaks)
-}
-
-// The blocks before the break `n`: their end, which break it is from there on, and the characters in them.
-#[tactic(auto, using(crate::proofs::Blocks::begins_le))]
-fn skip_breaks_with_chars(bytes: &[u8], n: usize, breaks: LineBreaks) -> (usize, usize, usize)
-    ensures bound { result.0 ≤ length bytes.now }
-    ensures counted { byte_break_count breaks bytes.now + result.1 ≡ n + byte_break_count breaks (drop result.0 bytes.now) }
-    ensures chars { count_by begins_char bytes.now ≡ result.2 + count_by begins_char (drop result.0 bytes.now) }
-{
-    let mut at = 0;
-    let mut left = n;
-    let mut chars = 0;
-    while bytes.len() - at >= 34 {
-        let passed = breaks_in(bytes, at, breaks);
-        if left < passed {
-            return (at, left, chars);
-        }
-        left -= passed;
-        chars += chars_in(bytes, at);
-        at += 32;
-    }
-    (at, left, chars)
-}
-
-/// The byte at which the last character of the break `n` begins, and how many characters begin before it.
-#[tactic(auto, using(crate::proofs::Blocks::begins_le))]
-pub(crate) fn char_of_break(bytes: &[u8], n: usize, breaks: LineBreaks) -> (usize, usize)
-    ensures bound { result.0 ≤ length bytes.now }
-    ensures inside { result.0 < length bytes.now
-        → (byte_break_count breaks bytes.now ≡ n + byte_break_count breaks (drop result.0 bytes.now))
-        × IsTrue (break_at breaks (slice_index bytes.now result.0) (slice_index bytes.now (result.0 + 1)) (slice_index bytes.now (result.0 + 2))) }
-    ensures end { result.0 ≡ length bytes.now → byte_break_count breaks bytes.now ≤ n }
-    ensures chars { count_by begins_char bytes.now ≡ result.1 + count_by begins_char (drop result.0 bytes.now) }
-{
-    let (from, left, before) = skip_breaks_with_chars(bytes, n, breaks);
-    let to = find_break(bytes, from, left, breaks);
-    (to, before + begins_between(bytes, from, to))
+    (to, chars + begun_between(bytes, at, to, Counted::Chars))
 }
 
 // The blocks before the break `n`: their end, which break it is from there on, the characters in them, and those of two
-// code units.
+// code units. What a caller takes no count of isn't counted, since this is expanded there.
 #[tactic(auto, using(crate::proofs::Blocks::begins_le, crate::proofs::Blocks::pairs_le))]
 #[inline(always)]
-fn skip_breaks_with_counts(
-    bytes: &[u8],
-    n: usize,
-    breaks: LineBreaks,
-) -> (usize, usize, usize, usize)
+fn skip_breaks(bytes: &[u8], n: usize, breaks: LineBreaks) -> (usize, usize, usize, usize)
     ensures bound { result.0 ≤ length bytes.now }
     ensures counted { byte_break_count breaks bytes.now + result.1 ≡ n + byte_break_count breaks (drop result.0 bytes.now) }
     ensures chars { count_by begins_char bytes.now ≡ result.2 + count_by begins_char (drop result.0 bytes.now) }
@@ -373,30 +219,77 @@ fn skip_breaks_with_counts(
             return (at, left, chars, pairs);
         }
         left -= passed;
-        chars += chars_in(bytes, at);
-        pairs += pairs_in(bytes, at);
+        chars += begun_in(bytes, at, Counted::Chars);
+        pairs += begun_in(bytes, at, Counted::Pairs);
         at += 32;
     }
     (at, left, chars, pairs)
 }
 
-/// The byte at which the last character of the break `n` begins, and how many characters begin before it, and how many of
-/// those of two code units.
+// The byte at which the break `n` begins, the breaks counted from the byte `from` on.
+#[inline(always)]
+fn find_break(bytes: &[u8], from: usize, n: usize, breaks: LineBreaks) -> usize
+    requires { from ≤ length bytes.now }
+    ensures from { from ≤ result }
+    ensures bound { result ≤ length bytes.now }
+    ensures inside { result < length bytes.now → IsBreak breaks bytes.now from n result }
+    ensures end { result ≡ length bytes.now → byte_break_count breaks (drop from bytes.now) ≤ n }
+{
+    if bytes.len() - from >= 34 {
+        let mask = break_mask(bytes, from, breaks);
+        if n < ones_before(mask, 32) {
+            return from + place_of_mark(mask, 0, n);
+        }
+    }
+    let mut left = n;
+    for at in from..bytes.len() {
+        if is_break_begin(bytes, at, breaks) {
+            if left == 0 {
+                return at;
+            }
+            left -= 1;
+        }
+    }
+    bytes.len()
+}
+
+/// The byte at which the last character of the break `n` begins, the breaks counted from 0.
+pub(crate) fn place_of_break(bytes: &[u8], n: usize, breaks: LineBreaks) -> usize
+    ensures bound { result ≤ length bytes.now }
+    ensures inside { result < length bytes.now → IsBreak breaks bytes.now 0 n result }
+    ensures end { result ≡ length bytes.now → byte_break_count breaks bytes.now ≤ n }
+{
+    let (from, left, _, _) = skip_breaks(bytes, n, breaks);
+    find_break(bytes, from, left, breaks)
+}
+
+/// The same, and how many characters begin before it.
+#[tactic(auto, using(crate::proofs::Blocks::begins_le))]
+pub(crate) fn char_of_break(bytes: &[u8], n: usize, breaks: LineBreaks) -> (usize, usize)
+    ensures bound { result.0 ≤ length bytes.now }
+    ensures inside { result.0 < length bytes.now → IsBreak breaks bytes.now 0 n result.0 }
+    ensures end { result.0 ≡ length bytes.now → byte_break_count breaks bytes.now ≤ n }
+    ensures chars { count_by begins_char bytes.now ≡ result.1 + count_by begins_char (drop result.0 bytes.now) }
+{
+    let (from, left, before, _) = skip_breaks(bytes, n, breaks);
+    let to = find_break(bytes, from, left, breaks);
+    (to, before + begun_between(bytes, from, to, Counted::Chars))
+}
+
+/// The same, and how many of those characters take two code units.
 #[tactic(auto, using(crate::proofs::Blocks::begins_le, crate::proofs::Blocks::pairs_le))]
 pub(crate) fn counts_to_break(bytes: &[u8], n: usize, breaks: LineBreaks) -> (usize, usize, usize)
     ensures bound { result.0 ≤ length bytes.now }
-    ensures inside { result.0 < length bytes.now
-        → (byte_break_count breaks bytes.now ≡ n + byte_break_count breaks (drop result.0 bytes.now))
-        × IsTrue (break_at breaks (slice_index bytes.now result.0) (slice_index bytes.now (result.0 + 1)) (slice_index bytes.now (result.0 + 2))) }
+    ensures inside { result.0 < length bytes.now → IsBreak breaks bytes.now 0 n result.0 }
     ensures end { result.0 ≡ length bytes.now → byte_break_count breaks bytes.now ≤ n }
     ensures chars { count_by begins_char bytes.now ≡ result.1 + count_by begins_char (drop result.0 bytes.now) }
     ensures pairs { count_by begins_pair bytes.now ≡ result.2 + count_by begins_pair (drop result.0 bytes.now) }
 {
-    let (from, left, chars, pairs) = skip_breaks_with_counts(bytes, n, breaks);
+    let (from, left, chars, pairs) = skip_breaks(bytes, n, breaks);
     let to = find_break(bytes, from, left, breaks);
     (
         to,
-        chars + begins_between(bytes, from, to),
-        pairs + pairs_between(bytes, from, to),
+        chars + begun_between(bytes, from, to, Counted::Chars),
+        pairs + begun_between(bytes, from, to, Counted::Pairs),
     )
 }

@@ -8,10 +8,11 @@ ghost use Rattle.rope_text.specs.LineParts.{first_line};
 ghost use Rattle.rope_text.specs.Lines.{line_start};
 ghost use Rattle.rope_text.specs.TextInfo.{info_of, info_sum};
 
+use crate::lanes::count_all;
 use crate::line_breaks::LineBreaks;
 use crate::scan::to_first_break;
 use crate::seek::counts_to_break;
-use crate::str_utils::{counts, width_of};
+use crate::str_utils::width_of;
 
 /// What a text counts.
 // The bytes stand last: in a leaf they then lie beside the text, and a walk over leaves reads both at once.
@@ -44,6 +45,8 @@ impl TextInfo {
     }
 
     /// The counts of a text, its line breaks by the set. Reads the text once; takes no memory.
+    // Never inlined: where a leaf is made, what is expanded there would be copied once more.
+    #[inline(never)]
     pub fn from_str(text: &str, breaks: LineBreaks) -> TextInfo
         ensures { result ≡ info_of breaks (chars text.now) }
     {
@@ -56,7 +59,7 @@ impl TextInfo {
     pub fn of_short(text: &str, breaks: LineBreaks) -> TextInfo
         ensures { result ≡ info_of breaks (chars text.now) }
     {
-        let (chars, pairs, break_count) = counts(text, breaks);
+        let (chars, pairs, break_count) = count_all(text.as_bytes(), breaks);
         TextInfo {
             bytes: text.len(),
             chars,

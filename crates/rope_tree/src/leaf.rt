@@ -13,7 +13,7 @@ ghost use Rattle.rope_tree.specs.Removal.{IsRemoved};
 use crate::beside::Least;
 use crate::counts::{leaf_with, put_in, take_out};
 use crate::node::{Node, make_leaf};
-use crate::node_text::{NodeText, halves_of, is_no_text};
+use crate::node_text::{NodeText, halves_of};
 use crate::short_text::ShortText;
 use crate::summary::Summary;
 use rope_text::{LineBreaks, MAX_BYTES, TextInfo};
@@ -102,10 +102,10 @@ impl Leaf {
         self.info().bytes > MAX_BYTES.saturating_sub(bytes)
     }
 
-    /// Whether it has no text, which none has: to ask it reads the leaf ahead, by the length in its counts.
+    /// Whether it has no text, which none has: to ask it reads the leaf ahead.
     #[inline(always)]
     pub(crate) fn is_no_text(&self) -> bool {
-        is_no_text(self.text.as_str_of_len(self.info().bytes))
+        self.text.is_no_text()
     }
 
     /// Puts a text before the character `at`, if there is room for it; returns whether it did. It takes no memory.

@@ -141,6 +141,20 @@ impl NodeText {
         self.as_str().len()
     }
 
+    /// Whether some bytes of it, one in each 64, have a sum that none have: so it never is. It is asked before an edit, for then the
+    /// leaf's places in memory are read side by side, where the edit would wait for each.
+    #[inline(always)]
+    pub(crate) fn is_no_text(&self) -> bool {
+        let bytes = self.bytes.as_slice();
+        let mut sum: usize = 0;
+        let mut at = 0;
+        while at < bytes.len() {
+            sum = sum.wrapping_add(usize::from(bytes[at]));
+            at += 64;
+        }
+        sum == usize::MAX
+    }
+
     /// Puts `added` where a character starts, or at the end. What follows it moves down, and what stands before it stays.
     pub fn insert_bytes(&mut self, place: usize, added: &str)
         requires boundary { IsCharBoundary (encode_utf8_all self.old) place }
@@ -232,23 +246,6 @@ impl NodeText {
     {
         take_bytes(&mut self.bytes, range.from, range.to);
     }
-}
-
-/// Whether some bytes of a leaf's text, one in each 64, have a sum that none have: so it never is. It is asked before an edit, for
-/// then the leaf's places in memory are read side by side, where the edit would wait for each. As many are read of each text, so
-/// that a processor has no end to guess.
-#[inline(always)]
-pub(crate) fn is_no_text(text: &str) -> bool {
-    let bytes = text.as_bytes();
-    if bytes.is_empty() {
-        return false;
-    }
-    let last = bytes.len() - 1;
-    let mut sum: usize = 0;
-    for line in 0..MAX_BYTES.div_ceil(64) {
-        sum = sum.wrapping_add(usize::from(bytes[last.min(64 * line)]));
-    }
-    sum == usize::MAX
 }
 
 /// The byte at which the first leaf of a longer text ends: the last cut by which it has `MAX_BYTES` bytes at the most.

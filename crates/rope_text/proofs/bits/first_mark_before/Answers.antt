@@ -5,7 +5,7 @@ use Rattle.rope_text.proofs.bits.first_mark_before.Goals as goal
 
 pub first_mark-requires : goal.first_mark-requires
 first_mark-requires c =
-    omega (arith, ones_more c.args.mask c.args.to (32 - c.args.to) 32 (omega arith), c.ones_before.ensures, c.if-ones_before-gt0.true)
+    omega (arith, ones_more c.args.mask c.args.to (64 - c.args.to) 64 (omega arith), c.ones_before.ensures, c.if-ones_before-gt0.true)
 
 pub returns-then-ones_before-gt0-clause-bound : goal.returns-then-ones_before-gt0-clause-bound
 returns-then-ones_before-gt0-clause-bound c =

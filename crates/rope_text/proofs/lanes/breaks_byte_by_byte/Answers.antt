@@ -1,5 +1,6 @@
 use Rattle.std.proofs.Common.{◌≡◌, ℕ, Bool, cond, arith, sym, ◌∙◌, ap}
-use Rattle.rope_text.proofs.Blocks.{byte_break_count-drop, breaks_at}
+use Rattle.rope_text.specs.ByteBreaks.{breaks_at}
+use Rattle.rope_text.proofs.Blocks.{byte_break_count-drop}
 use Rattle.rope_text.proofs.lanes.breaks_byte_by_byte.Goals as goal
 use Rattle.rope_text.proofs.lanes.breaks_byte_by_byte.Goals.{then-is_break_begin, else-is_break_begin}
 

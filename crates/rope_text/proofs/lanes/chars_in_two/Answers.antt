@@ -6,4 +6,4 @@ pub returns : goal.returns
 returns c =
     let i : ℕ = c.args.at in
     let next : (i + 32) + 32 ≡ i + 64 = omega arith in
-    omega (arith, c.chars_in.ensures, c.chars_in-2.ensures, ap (λ j. count_by begins_char (drop j c.args.bytes.now)) next)
+    omega (arith, c.begun_in.ensures, c.begun_in-2.ensures, ap (λ j. count_by begins_char (drop j c.args.bytes.now)) next)

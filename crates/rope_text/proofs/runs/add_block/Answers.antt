@@ -13,7 +13,7 @@ returns-then-is_ascii c = λ from n most next fit run.
     record {
       chars = more_sum (λ k. begins_char (get_or s k 0)) from n at most 64 next (sym (ascii_chars s at 64 low)) (c.add.ensures most 4 _ 64 fit run.chars fours);
       pairs = same_more (λ k. begins_pair (get_or s k 0)) from n at most next (ascii_pairs s at 64 low) run.pairs;
-      narrow = more_sum (narrow_here b s) from n at most _ next refl (c.add_narrow-narrow.ensures most _ fit run.narrow);
+      narrow = more_sum (narrow_here b s) from n at most _ next refl (c.add_ones-narrow.ensures most _ fit run.narrow);
       wide = same_wide b s from n at _ next (ascii_wide b s at 64 low) run.wide;
     }
 
@@ -26,8 +26,8 @@ returns c = λ from n most next fit run.
     let b = c.args.breaks in
     let at = c.args.at in
     record {
-      chars = more_sum (λ k. begins_char (get_or s k 0)) from n at most _ next refl (c.add_chars.ensures most _ fit run.chars);
-      pairs = more_sum (λ k. begins_pair (get_or s k 0)) from n at most _ next refl (c.add_pairs.ensures most _ fit run.pairs);
-      narrow = more_sum (narrow_here b s) from n at most _ next refl (c.add_narrow-narrow.ensures most _ fit run.narrow);
+      chars = more_sum (λ k. begins_char (get_or s k 0)) from n at most _ next refl (c.add_ones.ensures most _ fit run.chars);
+      pairs = more_sum (λ k. begins_pair (get_or s k 0)) from n at most _ next refl (c.add_ones-2.ensures most _ fit run.pairs);
+      narrow = more_sum (narrow_here b s) from n at most _ next refl (c.add_ones-narrow.ensures most _ fit run.narrow);
       wide = wide_more b s from n at _ _ next c.wide_in.ensures run.wide;
     }

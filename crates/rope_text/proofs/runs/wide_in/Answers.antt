@@ -1,7 +1,62 @@
-use Rattle.std.proofs.Common.{sym, ap, ◌∙◌}
-use Rattle.rope_text.specs.Runs.{wide_of}
-use Rattle.rope_text.proofs.LaneSums.{wide_lf, wide_cr_lf}
+use Rattle.std.proofs.Common.{◌≡◌, ℕ, ◌+◌, ◌-◌, Bool, cond, count_by, take, sym, ap, ap₂, ◌∙◌, arith}
+use Rattle.rope_text.specs.declared.line_breaks.LineBreaks.TheVariants.{Unicode}
+use Rattle.rope_text.specs.Runs.{wide_begin, wide_here, wide_of, places}
+use Rattle.rope_text.proofs.LaneSums.{lowest, wide_step, wide_end, wide_few, wide_lf, wide_cr_lf}
 use Rattle.rope_text.proofs.runs.wide_in.Goals as goal
+use Rattle.rope_text.proofs.runs.wide_in.Goals.{then-is_wide_break, else-is_wide_break}
+
+pub bounds-bytes-i : goal.bounds-bytes-i
+bounds-bytes-i c =
+    let low = lowest c.loop-begins.begins c.first_mark-skip.result (wide_begin c.args.bytes.now) c.loop-begins.i ((c.args.at + 64) - c.loop-begins.i) c.loop-begins.invariant.marked c.first_mark-skip.ensures.before c.first_mark-skip.ensures.after in
+    omega (arith, low.inside, c.loop-begins.invariant.within, c.requires)
+
+pub bounds-bytes-i-in-loop-begins : goal.bounds-bytes-i-in-loop-begins
+bounds-bytes-i-in-loop-begins c =
+    let low = lowest c.loop-begins.begins c.first_mark-skip.result (wide_begin c.args.bytes.now) c.loop-begins.i ((c.args.at + 64) - c.loop-begins.i) c.loop-begins.invariant.marked c.first_mark-skip.ensures.before c.first_mark-skip.ensures.after in
+    omega (arith, low.inside, c.loop-begins.invariant.within, c.requires)
+
+pub bounds-bytes-i-in-loop-begins-2 : goal.bounds-bytes-i-in-loop-begins-2
+bounds-bytes-i-in-loop-begins-2 c =
+    let low = lowest c.loop-begins.begins c.first_mark-skip.result (wide_begin c.args.bytes.now) c.loop-begins.i ((c.args.at + 64) - c.loop-begins.i) c.loop-begins.invariant.marked c.first_mark-skip.ensures.before c.first_mark-skip.ensures.after in
+    omega (arith, low.inside, c.loop-begins.invariant.within, c.requires)
+
+pub loop-begins-smaller : goal.loop-begins-smaller
+loop-begins-smaller c =
+    let low = lowest c.loop-begins.begins c.first_mark-skip.result (wide_begin c.args.bytes.now) c.loop-begins.i ((c.args.at + 64) - c.loop-begins.i) c.loop-begins.invariant.marked c.first_mark-skip.ensures.before c.first_mark-skip.ensures.after in
+    omega (arith, low.inside, c.loop-begins.invariant.within, c.requires)
+
+pub overflow_add-total : goal.overflow_add-total
+overflow_add-total c = omega (arith, c.loop-begins.invariant.counted, wide_few Unicode c.args.bytes.now c.args.at 64)
+
+pub loop-begins-preserved : goal.loop-begins-preserved
+loop-begins-preserved c =
+    let s = c.args.bytes.now in
+    let l = c.loop-begins in
+    let k = c.first_mark-skip.result in
+    let n : ℕ = (c.args.at + 64) - l.i in
+    let low = lowest c.loop-begins.begins c.first_mark-skip.result (wide_begin c.args.bytes.now) c.loop-begins.i ((c.args.at + 64) - c.loop-begins.i) c.loop-begins.invariant.marked c.first_mark-skip.ensures.before c.first_mark-skip.ensures.after in
+    let next : l.i + (k + 1) ≡ (l.i + k) + 1 = omega arith in
+    let left : n - (k + 1) ≡ (c.args.at + 64) - ((l.i + k) + 1) = omega arith in
+    let step = wide_step s l.begins k l.i n low in
+    let rest : wide_of Unicode s (l.i + (k + 1)) (n - (k + 1)) ≡ wide_of Unicode s ((l.i + k) + 1) ((c.args.at + 64) - ((l.i + k) + 1)) = ap₂ (wide_of Unicode s) next left in
+    let test : c.is_wide_break.result ≡ wide_here Unicode s (l.i + k) = c.is_wide_break.ensures in
+    record {
+      within = omega (arith, low.inside);
+      marked = λ m. low.rest m ∙ ap₂ (λ a b. count_by (wide_begin s) (take m (places a b))) next left;
+      counted = elim c.if-is_wide_break.branch [
+        | then-is_wide_break w ↦
+            let yes : cond {A = ℕ} (wide_here Unicode s (l.i + k)) 1 0 ≡ 1 = ap (λ (t : Bool). cond {A = ℕ} t 1 0) (sym test ∙ w.if-is_wide_break.true) in
+            omega (arith, yes, step, rest, l.invariant.counted, w.total-is)
+        | else-is_wide_break w ↦
+            let no : cond {A = ℕ} (wide_here Unicode s (l.i + k)) 1 0 ≡ 0 = ap (λ (t : Bool). cond {A = ℕ} t 1 0) (sym test ∙ w.if-is_wide_break.false) in
+            omega (arith, no, step, rest, l.invariant.counted, w.total-is)
+      ];
+    }
+
+pub returns : goal.returns
+returns c =
+    let l = c.loop-begins in
+    omega (arith, ap (λ b. wide_of b c.args.bytes.now c.args.at 64) c.in-Unicode.is, l.invariant.counted, wide_end c.args.bytes.now l.begins l.i ((c.args.at + 64) - l.i) l.invariant.marked (omega (arith, c.loop-begins-test.false)))
 
 pub returns-in-Lf : goal.returns-in-Lf
 returns-in-Lf c = sym (ap (λ b. wide_of b c.args.bytes.now c.args.at 64) c.in-Lf.is ∙ wide_lf c.args.bytes.now c.args.at 64)

@@ -16,9 +16,9 @@ returns c =
     let bound = c.first_mark_before-more.ensures.bound in
     let start : at + skip ≡ f.bytes = omega (arith, c.requires.near) in
     let end : at + (skip + more) ≡ f.bytes + more = omega (arith, start) in
-    let few : skip ≤ 32 = omega (arith, c.requires.within) in
+    let few : skip ≤ 32 = omega arith in
     let all : skip + more ≤ 32 = omega (arith, few, bound) in
-    front_block b s f _ more c.ones_between.result c.ones_between-2.result c.requires.front refl (omega (arith, c.requires.within, c.requires.long, all, end)) refl refl
+    front_block b s f _ more c.ones_between.result c.ones_between-2.result c.requires.front refl (omega (arith, all, end)) refl refl
     (omega (
       arith,
       c.break_mask.ensures skip few,
@@ -30,16 +30,16 @@ returns c =
     ))
     (omega (
       arith,
-      c.char_mask-begins.ensures skip few,
-      c.char_mask-begins.ensures (skip + more) all,
+      c.begin_mask-begins.ensures skip few,
+      c.begin_mask-begins.ensures (skip + more) all,
       c.ones_between.ensures,
       ap (λ k. count_by begins_char (drop k s)) start,
       ap (λ k. count_by begins_char (drop k s)) end,
     ))
     (omega (
       arith,
-      c.pair_mask-doubles.ensures skip few,
-      c.pair_mask-doubles.ensures (skip + more) all,
+      c.begin_mask-doubles.ensures skip few,
+      c.begin_mask-doubles.ensures (skip + more) all,
       c.ones_between-2.ensures,
       ap (λ k. count_by begins_pair (drop k s)) start,
       ap (λ k. count_by begins_pair (drop k s)) end,

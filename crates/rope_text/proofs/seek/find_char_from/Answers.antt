@@ -9,7 +9,7 @@ pub returns-then-left-passed-clause-inside : goal.returns-then-left-passed-claus
 returns-then-left-passed-clause-inside c = λ inside.
     let s = c.args.bytes.now in
     let i : ℕ = c.loop-at.at in
-    let mask = c.char_mask-mask in
+    let mask = c.begin_mask-mask in
     let mark = c.place_of_mark in
     let r : ℕ = mark.result in
     let next : i + (r + 1) ≡ (i + r) + 1 = omega arith in
@@ -17,4 +17,4 @@ returns-then-left-passed-clause-inside c = λ inside.
     let found =
     found_mark mask.result c.loop-at.left r _ _ _ (begins_char (get_or s (i + r) 0)) (mask.ensures r (omega (arith, mark.ensures.bound))) more
     (count_by-drop begins_char s (i + r) inside) mark.ensures.before mark.ensures.after in
-    (omega (arith, found.0, c.loop-at.invariant.1), found.1)
+    (omega (arith, found.0, c.loop-at.invariant.counted), found.1)

@@ -1,9 +1,0 @@
-use Rattle.std.proofs.Common.{◌≡◌, ◌≤◌, count_by, drop, ◌+◌, ◌-◌}
-use Rattle.rope_text.specs.Bytes.{begins_pair}
-use Rattle.rope_text.proofs.lanes.count_pairs_before.Given as goal
-
-abbrev pub invariant-loop-i : goal.invariant-loop-i
-invariant-loop-i l = (l.i ≤ l.to) × (count_by begins_pair l.bytes ≡ l.total + count_by begins_pair (drop l.i l.bytes))
-
-abbrev pub decreases-loop-i : goal.decreases-loop-i
-decreases-loop-i l = l.to - l.i
