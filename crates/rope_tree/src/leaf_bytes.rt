@@ -14,15 +14,23 @@ pub(crate) fn append_bytes(bytes: &mut LeafBytes, added: &[u8])
     requires { length bytes.old.items + length added.now ≤ MAX_BYTES }
     ensures { bytes.new.items ≡ bytes.old.items ++ added.now }
 {
-    // One byte, as of a key that was pressed, takes no call.
-    if added.len() == 1 {
-        bytes.push(added[0]);
-        return;
-    }
     match bytes.try_extend_from_slice(added) {
         Ok(()) => {}
         Err(_) => unreachable!(),
     }
+}
+
+// The same where they may be few: one, as of a key that was pressed, takes no call.
+#[inline(always)]
+fn append_few(bytes: &mut LeafBytes, added: &[u8])
+    requires { length bytes.old.items + length added.now ≤ MAX_BYTES }
+    ensures { bytes.new.items ≡ bytes.old.items ++ added.now }
+{
+    if added.len() == 1 {
+        bytes.push(added[0]);
+        return;
+    }
+    append_bytes(bytes, added);
 }
 
 // Puts bytes over as many others; one takes no call.
@@ -56,7 +64,7 @@ pub(crate) fn put_bytes(bytes: &mut LeafBytes, place: usize, added: &[u8])
     ensures { bytes.new.items ≡ insert_slice bytes.old.items place added.now }
 {
     let old_len = bytes.len();
-    append_bytes(bytes, added);
+    append_few(bytes, added);
     put_in_gap(bytes.as_mut_slice(), place, old_len, added);
 }
 
