@@ -163,6 +163,8 @@ fn enter_at<'a>(
 impl<'a> Path<'a> {
     /// The way to the leaf that holds a place of a tree's text, and the counts of the text before the leaf. It enters each
     /// node on the way once.
+    // Expanded where it is called, since a call would answer the way through memory.
+    #[inline(always)]
     pub fn at(node: &'a Node, unit: Unit, at: usize) -> (Path<'a>, TextInfo)
         requires { at < count_of unit (info_of node.now.breaks (text node.now)) }
         ensures leaves { leaves result.0 ≡ node.now.leaves }

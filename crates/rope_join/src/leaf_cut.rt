@@ -32,13 +32,13 @@ fn part_infos(info: TextInfo, front: &str, back: &str, breaks: LineBreaks) -> Pa
         ..info
     };
     if front.len() < back.len() {
-        let counted = TextInfo::from_str(front, breaks);
+        let counted = TextInfo::of_short(front, breaks);
         return PartInfos {
             front: counted,
             back: both.minus(counted),
         };
     }
-    let counted = TextInfo::from_str(back, breaks);
+    let counted = TextInfo::of_short(back, breaks);
     PartInfos {
         front: both.minus(counted),
         back: counted,
