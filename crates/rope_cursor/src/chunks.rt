@@ -13,6 +13,7 @@ ghost use Rattle.rope_cursor.specs.Chunks.{at_chunk};
 use crate::span::Span;
 use rope_part::Part;
 use rope_text::TextInfo;
+use rope_tree::search::Unit;
 use std::alloc::AllocError;
 use std::fmt;
 use std::marker::Model;
@@ -135,7 +136,7 @@ impl<'a> Chunks<'a> {
         if line_break_idx == part.len_lines() {
             return Chunks::at_end(part);
         }
-        let end = part.line_to_char(line_break_idx);
+        let end = part.convert(Unit::LineBreak, Unit::Char, line_break_idx);
         Chunks::found(info, Span::with_char(part, end.saturating_sub(1)), false)
     }
 

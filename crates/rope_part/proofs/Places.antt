@@ -32,6 +32,9 @@ module _ (breaks : LineBreaks) (text : List ℕ) (start end : TextInfo) (s : IsS
         count = omega (arith, m.start_breaks, char_to_line_upto breaks text start.chars (omega arith), length-upto_le (is_break_end breaks text) start.chars);
       }
 
+  pub small_end : IsSmall end
+  small_end = rw s.end_is (small_info breaks (take end.chars text) (omega (arith, size_le_all byte_len IsMeasure-byte_len text end.chars)))
+
   pub place_fits : (unit : Unit) (idx : ℕ) → idx ≤ count_of unit (info_of breaks (slice_range text start.chars end.chars)) + 1 → count_of unit start + idx < 2 ^ 64
   place_fits Byte idx within = let m = measured breaks text start end s in omega arith
   place_fits Char idx within = let m = measured breaks text start end s in omega arith

@@ -1,5 +1,5 @@
 -- The conversions of a stretch are those of the text, from its start on.
-use Rattle.std.proofs.Common.{◌≡◌, ℕ, ◌+◌, ◌<◌, ◌≤◌, min, List, ◌++◌, length, take, drop, sym, ap, ◌∙◌, arith, inl, inr, slice_get, Some}
+use Rattle.std.proofs.Common.{◌≡◌, ℕ, ◌+◌, ◌<◌, ◌≤◌, min, List, ◌++◌, length, take, drop, sym, ap, ◌∙◌, arith, inl, inr, slice_get, Some, true}
 use Rattle.std.specs.List.{slice_range}
 use Rattle.std.specs.Str.{encode_utf8_all}
 use Rattle.std.proofs.lemmas.Bool.{cases_lt}
@@ -11,10 +11,16 @@ use Rattle.rope_text.specs.declared.text_info.TextInfo.{TextInfo}
 use Rattle.rope_text.specs.Text.{byte_len, utf16_len}
 use Rattle.rope_text.specs.Lines.{line_start}
 use Rattle.rope_text.specs.Conversions.{byte_to_char, utf16_to_char, char_to_byte, char_to_utf16, char_to_line, byte_to_line, line_to_byte, line_to_char}
-use Rattle.rope_text.proofs.Measures.{IsMeasure-byte_len, IsMeasure-utf16_len, size_le}
-use Rattle.rope_text.proofs.ConversionLaws.{char_to_line_past}
+use Rattle.rope_text.specs.TextInfo.{info_of}
+use Rattle.rope_text.proofs.Measures.{IsMeasure-byte_len, IsMeasure-utf16_len, size_le, size_le_all}
+use Rattle.rope_text.proofs.ConversionLaws.{byte_to_char-le-length, byte_to_line-byte_to_char, char_to_line-less}
 use Rattle.rope_text.proofs.LineLaws.{line_start-le-length}
-use Rattle.rope_tree.proofs.FoundLaws.{byte_to_line_end}
+use Rattle.rope_tree.specs.declared.search.Unit.{Unit}
+use Rattle.rope_tree.specs.declared.search.Unit.TheVariants.{Byte, Char, CodeUnit, LineBreak}
+use Rattle.rope_tree.specs.Search.{count_of}
+use Rattle.rope_tree.specs.Conversions.{end_index, first_sought, are_converted, converted}
+use Rattle.rope_tree.proofs.FoundLaws.{utf16_to_char-le}
+use Rattle.rope_tree.proofs.ConvertedLaws.{converted_end}
 use Rattle.rope_part.specs.Edge.{IsStretch}
 use Rattle.rope_part.proofs.Measured.{measured}
 use Rattle.rope_part.proofs.Stretches.{around_part, byte_to_char_part, utf16_to_char_part, size_of_front, char_to_line_part, byte_to_line_part, line_start_part}
@@ -61,22 +67,11 @@ module _ (breaks : LineBreaks) (text : List ℕ) (start end : TextInfo) (s : IsS
       let m = measured breaks text start end s in
       char_to_line_part breaks text start.chars end.chars m.some m.within i (omega arith) ∙ ap (λ k. k + char_to_line breaks (slice_range text start.chars end.chars) i) (sym m.start_breaks)
 
-  pub stretch_char_to_line_end : (i : ℕ) → start.chars + i ≡ end.chars → end.break_count ≡ start.break_count + char_to_line breaks (slice_range text start.chars end.chars) i
-  stretch_char_to_line_end i e =
-      let m = measured breaks text start end s in
-      omega (arith, char_to_line_past breaks (slice_range text start.chars end.chars) i (omega arith))
-
   pub stretch_byte_to_line : (n : ℕ) → start.bytes + n < end.bytes → byte_to_line breaks text (start.bytes + n) ≡ start.break_count + byte_to_line breaks (slice_range text start.chars end.chars) n
   stretch_byte_to_line n less =
       let m = measured breaks text start end s in
       ap (λ k. byte_to_line breaks text (k + n)) m.start_bytes ∙ byte_to_line_part breaks text start.chars end.chars m.some m.within n (omega arith)
       ∙ ap (λ k. k + byte_to_line breaks (slice_range text start.chars end.chars) n) (sym m.start_breaks)
-
-  pub stretch_byte_to_line_end : (n : ℕ) → start.bytes + n ≡ end.bytes → end.break_count ≡ start.break_count + byte_to_line breaks (slice_range text start.chars end.chars) n
-  stretch_byte_to_line_end n e =
-      let m = measured breaks text start end s in
-      let whole : n ≡ byte_len (slice_range text start.chars end.chars) = omega arith in
-      omega (arith, ap (byte_to_line breaks (slice_range text start.chars end.chars)) whole, byte_to_line_end breaks (slice_range text start.chars end.chars))
 
   pub stretch_line_to_char : (l : ℕ) → 0 < l → min (line_to_char breaks text (start.break_count + l)) end.chars ≡ start.chars + line_to_char breaks (slice_range text start.chars end.chars) l
   stretch_line_to_char l later =
@@ -91,6 +86,46 @@ module _ (breaks : LineBreaks) (text : List ℕ) (start end : TextInfo) (s : IsS
       let short = line_start-le-length breaks (slice_range text start.chars end.chars) l in
       ap (min (byte_len (take place text))) m.end_bytes ∙ sym (bytes_of_min text place end.chars)
       ∙ ap (λ k. byte_len (take k text)) (stretch_line_to_char l later) ∙ stretch_char_to_byte here short
+
+  -- each count before the end is that before the start, and that of the part
+  pub stretch_count : (unit : Unit) → count_of unit end ≡ count_of unit start + count_of unit (info_of breaks (slice_range text start.chars end.chars))
+  stretch_count Byte = (measured breaks text start end s).bytes
+  stretch_count Char = (measured breaks text start end s).chars
+  stretch_count CodeUnit = let m = measured breaks text start end s in omega arith
+  stretch_count LineBreak = (measured breaks text start end s).count
+
+  -- no place of the part is past the end of the text, and none before its end is past the end of the part
+  pub place_within : (unit : Unit) (idx : ℕ) → idx ≤ end_index unit breaks (slice_range text start.chars end.chars) → count_of unit start + idx ≤ end_index unit breaks text
+  place_within Byte idx within = let m = measured breaks text start end s in omega arith
+  place_within Char idx within = let m = measured breaks text start end s in omega arith
+  place_within CodeUnit idx within = let m = measured breaks text start end s in omega arith
+  place_within LineBreak idx within = let m = measured breaks text start end s in omega arith
+
+  pub place_before_end : (unit : Unit) (idx : ℕ) → idx ≤ end_index unit breaks (slice_range text start.chars end.chars) → count_of unit start + idx ≤ count_of unit end + first_sought unit
+  place_before_end Byte idx within = let m = measured breaks text start end s in omega arith
+  place_before_end Char idx within = let m = measured breaks text start end s in omega arith
+  place_before_end CodeUnit idx within = let m = measured breaks text start end s in omega arith
+  place_before_end LineBreak idx within = let m = measured breaks text start end s in omega arith
+
+  pub stretch_converted_end : (from to : Unit) (idx : ℕ) → are_converted from to ≡ true → count_of from start + idx ≡ count_of from end + first_sought from
+      → count_of to end ≡ count_of to start + converted from to breaks (slice_range text start.chars end.chars) idx
+  stretch_converted_end from to idx pair e =
+      omega (arith, stretch_count to, converted_end from to breaks (slice_range text start.chars end.chars) idx pair (omega (arith, stretch_count from)))
+
+  pub stretch_converted : (from to : Unit) (idx : ℕ) → are_converted from to ≡ true → first_sought from ≤ idx → count_of from start + idx < count_of from end + first_sought from
+      → min (converted from to breaks text (count_of from start + idx)) (count_of to end) ≡ count_of to start + converted from to breaks (slice_range text start.chars end.chars) idx
+  stretch_converted Byte Char idx pair first less = let m = measured breaks text start end s in omega (arith, stretch_byte_to_char idx (omega arith), byte_to_char-le-length (slice_range text start.chars end.chars) idx)
+  stretch_converted Byte LineBreak idx pair first less =
+      let m = measured breaks text start end s in
+      let part : List ℕ = slice_range text start.chars end.chars in
+      omega (arith, stretch_byte_to_line idx (omega arith), byte_to_line-byte_to_char breaks part idx, char_to_line-less breaks part (byte_to_char part idx))
+  stretch_converted Char Byte idx pair first less = let m = measured breaks text start end s in omega (arith, stretch_char_to_byte idx (omega arith), size_le_all byte_len IsMeasure-byte_len (slice_range text start.chars end.chars) idx)
+  stretch_converted Char CodeUnit idx pair first less = let m = measured breaks text start end s in omega (arith, stretch_char_to_utf16 idx (omega arith), size_le_all utf16_len IsMeasure-utf16_len (slice_range text start.chars end.chars) idx)
+  stretch_converted Char LineBreak idx pair first less = let m = measured breaks text start end s in omega (arith, stretch_char_to_line idx (omega arith), char_to_line-less breaks (slice_range text start.chars end.chars) idx)
+  stretch_converted CodeUnit Char idx pair first less = let m = measured breaks text start end s in omega (arith, stretch_utf16_to_char idx (omega arith), utf16_to_char-le (slice_range text start.chars end.chars) idx)
+  stretch_converted LineBreak Byte idx pair first less = stretch_line_to_byte idx first
+  stretch_converted LineBreak Char idx pair first less = stretch_line_to_char idx first
+  stretch_converted _ _ idx pair first less = absurd (cc)
 
   pub stretch_byte : (n : ℕ) → n < byte_len (slice_range text start.chars end.chars) → slice_get (encode_utf8_all text) (start.bytes + n) ≡ slice_get (encode_utf8_all (slice_range text start.chars end.chars)) n
   stretch_byte n less =

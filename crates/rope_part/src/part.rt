@@ -13,6 +13,7 @@ use crate::plain::Plain;
 use crate::stretch::Stretch;
 use rope_text::{LineBreaks, TextInfo};
 use rope_tree::node::Node;
+use rope_tree::search::Unit;
 
 /// A part of a rope's text, or of a plain text. It counts its own text: one that ends after the CR of a CR LF has that CR
 /// as a line break, and one that starts at the LF has that LF, where they are breaks of its set.
@@ -142,7 +143,9 @@ impl<'a> Part<'a> {
             (byte_to_char (text_of self.now) start) (byte_to_char (text_of self.now) end) }
         ensures breaks { breaks_of result ≡ breaks_of self.now }
     {
-        self.char_range(self.byte_to_char(start), self.byte_to_char(end))
+        let start = self.convert(Unit::Byte, Unit::Char, start);
+        let end = self.convert(Unit::Byte, Unit::Char, end);
+        self.char_range(start, end)
     }
 
     /// The counts of its text before a line; past the last line those of all of it. One look-up in a rope's text.

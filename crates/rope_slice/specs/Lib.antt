@@ -1,2 +1,3 @@
 pub mod Sliced
 pub mod Slice
+pub mod Refusals

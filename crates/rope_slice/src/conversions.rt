@@ -3,19 +3,41 @@
 //!
 //! For the slice `3..` of `"one\ntwo"`, `char_to_line(1)` is 1 and `line_to_char(1)` is 1: the slice starts with
 //! the line break.
-ghost use Rattle.std.specs.Prelude.{◌≡◌, ◌≤◌, length};
+ghost use Rattle.std.specs.Prelude.{◌≡◌, ◌≤◌, length, true};
 ghost use Rattle.rope_text.specs.Text.{byte_len, utf16_len};
 ghost use Rattle.rope_text.specs.Lines.{line_count};
 ghost use Rattle.rope_text.specs.Conversions.{byte_to_char, byte_to_line, char_to_byte, char_to_line, char_to_utf16, line_to_byte, line_to_char, utf16_to_char};
 ghost use Rattle.rope_text.specs.Edit.{byte_index_error, char_index_error, line_index_error, utf16_index_error};
 ghost use Rattle.rope_text.specs.Answer.{checked};
+ghost use Rattle.rope_tree.specs.Conversions.{end_index, are_converted, converted};
 ghost use Rattle.rope_slice.specs.Slice.{text_of, breaks_of};
+ghost use Rattle.rope_slice.specs.Refusals.{index_error};
 
 use crate::bounds::check;
 use crate::slice::RopeSlice;
 use rope_text::{Error, Result};
+use rope_tree::conversions::first_sought;
+use rope_tree::search::{Unit, count};
 
 impl<'a> RopeSlice<'a> {
+    // The index in the unit `to` of the place that any index in the unit `from` names, or the refusal of the index.
+    #[inline(always)]
+    fn try_convert(&self, from: Unit, to: Unit, idx: usize) -> Result<usize>
+        requires { are_converted from to ≡ true }
+        ensures { result ≡ checked (index_error from idx (end_index from (breaks_of self.now) (text_of self.now)))
+            (converted from to (breaks_of self.now) (text_of self.now) idx) }
+    {
+        let len = count(self.part.info(), from) + first_sought(from);
+        let error = match from {
+            Unit::Byte => Error::ByteIndexOutOfBounds(idx, len),
+            Unit::Char => Error::CharIndexOutOfBounds(idx, len),
+            Unit::CodeUnit => Error::Utf16IndexOutOfBounds(idx, len),
+            Unit::LineBreak => Error::LineIndexOutOfBounds(idx, len),
+        };
+        check(idx, len, error)?;
+        Ok(self.part.convert(from, to, idx))
+    }
+
     /// The character, counted from 0, that holds the byte `byte_idx`, also where the byte is inside the character;
     /// at the end of the text, the number of characters.
     ///
@@ -24,7 +46,7 @@ impl<'a> RopeSlice<'a> {
         requires { byte_idx ≤ byte_len (text_of self.now) }
         ensures { result ≡ byte_to_char (text_of self.now) byte_idx }
     {
-        self.part.byte_to_char(byte_idx)
+        self.part.convert(Unit::Byte, Unit::Char, byte_idx)
     }
 
     /// As `byte_to_char`, for any index. Costs one or two look-ups; takes no memory.
@@ -37,9 +59,7 @@ impl<'a> RopeSlice<'a> {
         ensures { result ≡ checked (byte_index_error byte_idx (byte_len (text_of self.now)))
             (byte_to_char (text_of self.now) byte_idx) }
     {
-        let len = self.len_bytes();
-        check(byte_idx, len, Error::ByteIndexOutOfBounds(byte_idx, len))?;
-        Ok(self.byte_to_char(byte_idx))
+        self.try_convert(Unit::Byte, Unit::Char, byte_idx)
     }
 
     /// The line, counted from 0, on which the byte `byte_idx` lies: how many line breaks end at or before it. A
@@ -50,7 +70,7 @@ impl<'a> RopeSlice<'a> {
         requires { byte_idx ≤ byte_len (text_of self.now) }
         ensures { result ≡ byte_to_line (breaks_of self.now) (text_of self.now) byte_idx }
     {
-        self.part.byte_to_line(byte_idx)
+        self.part.convert(Unit::Byte, Unit::LineBreak, byte_idx)
     }
 
     /// As `byte_to_line`, for any index. Costs one or two look-ups; takes no memory.
@@ -63,9 +83,7 @@ impl<'a> RopeSlice<'a> {
         ensures { result ≡ checked (byte_index_error byte_idx (byte_len (text_of self.now)))
             (byte_to_line (breaks_of self.now) (text_of self.now) byte_idx) }
     {
-        let len = self.len_bytes();
-        check(byte_idx, len, Error::ByteIndexOutOfBounds(byte_idx, len))?;
-        Ok(self.byte_to_line(byte_idx))
+        self.try_convert(Unit::Byte, Unit::LineBreak, byte_idx)
     }
 
     /// The byte, counted from 0, at which the character `char_idx` starts; at the end of the text, the number of
@@ -76,7 +94,7 @@ impl<'a> RopeSlice<'a> {
         requires { char_idx ≤ length (text_of self.now) }
         ensures { result ≡ char_to_byte (text_of self.now) char_idx }
     {
-        self.part.char_to_byte(char_idx)
+        self.part.convert(Unit::Char, Unit::Byte, char_idx)
     }
 
     /// As `char_to_byte`, for any index. Costs one or two look-ups; takes no memory.
@@ -89,9 +107,7 @@ impl<'a> RopeSlice<'a> {
         ensures { result ≡ checked (char_index_error char_idx (length (text_of self.now)))
             (char_to_byte (text_of self.now) char_idx) }
     {
-        let len = self.len_chars();
-        check(char_idx, len, Error::CharIndexOutOfBounds(char_idx, len))?;
-        Ok(self.char_to_byte(char_idx))
+        self.try_convert(Unit::Char, Unit::Byte, char_idx)
     }
 
     /// The line, counted from 0, on which the character `char_idx` lies: how many line breaks end at or before it.
@@ -102,7 +118,7 @@ impl<'a> RopeSlice<'a> {
         requires { char_idx ≤ length (text_of self.now) }
         ensures { result ≡ char_to_line (breaks_of self.now) (text_of self.now) char_idx }
     {
-        self.part.char_to_line(char_idx)
+        self.part.convert(Unit::Char, Unit::LineBreak, char_idx)
     }
 
     /// As `char_to_line`, for any index. Costs one or two look-ups; takes no memory.
@@ -115,9 +131,7 @@ impl<'a> RopeSlice<'a> {
         ensures { result ≡ checked (char_index_error char_idx (length (text_of self.now)))
             (char_to_line (breaks_of self.now) (text_of self.now) char_idx) }
     {
-        let len = self.len_chars();
-        check(char_idx, len, Error::CharIndexOutOfBounds(char_idx, len))?;
-        Ok(self.char_to_line(char_idx))
+        self.try_convert(Unit::Char, Unit::LineBreak, char_idx)
     }
 
     /// The UTF-16 code unit, counted from 0, at which the character `char_idx` starts; at the end of the text, the
@@ -128,7 +142,7 @@ impl<'a> RopeSlice<'a> {
         requires { char_idx ≤ length (text_of self.now) }
         ensures { result ≡ char_to_utf16 (text_of self.now) char_idx }
     {
-        self.part.char_to_utf16(char_idx)
+        self.part.convert(Unit::Char, Unit::CodeUnit, char_idx)
     }
 
     /// As `char_to_utf16_cu`, for any index. Costs one or two look-ups; takes no memory.
@@ -141,9 +155,7 @@ impl<'a> RopeSlice<'a> {
         ensures { result ≡ checked (char_index_error char_idx (length (text_of self.now)))
             (char_to_utf16 (text_of self.now) char_idx) }
     {
-        let len = self.len_chars();
-        check(char_idx, len, Error::CharIndexOutOfBounds(char_idx, len))?;
-        Ok(self.char_to_utf16_cu(char_idx))
+        self.try_convert(Unit::Char, Unit::CodeUnit, char_idx)
     }
 
     /// The character, counted from 0, that holds the UTF-16 code unit `utf16_cu_idx`, also where that is the second
@@ -154,7 +166,7 @@ impl<'a> RopeSlice<'a> {
         requires { utf16_cu_idx ≤ utf16_len (text_of self.now) }
         ensures { result ≡ utf16_to_char (text_of self.now) utf16_cu_idx }
     {
-        self.part.utf16_to_char(utf16_cu_idx)
+        self.part.convert(Unit::CodeUnit, Unit::Char, utf16_cu_idx)
     }
 
     /// As `utf16_cu_to_char`, for any index. Costs one or two look-ups; takes no memory.
@@ -167,13 +179,7 @@ impl<'a> RopeSlice<'a> {
         ensures { result ≡ checked (utf16_index_error utf16_cu_idx (utf16_len (text_of self.now)))
             (utf16_to_char (text_of self.now) utf16_cu_idx) }
     {
-        let len = self.len_utf16_cu();
-        check(
-            utf16_cu_idx,
-            len,
-            Error::Utf16IndexOutOfBounds(utf16_cu_idx, len),
-        )?;
-        Ok(self.utf16_cu_to_char(utf16_cu_idx))
+        self.try_convert(Unit::CodeUnit, Unit::Char, utf16_cu_idx)
     }
 
     /// The byte, counted from 0, at which the line `line_idx` starts; for `len_lines()`, the end of the text.
@@ -183,7 +189,7 @@ impl<'a> RopeSlice<'a> {
         requires { line_idx ≤ line_count (breaks_of self.now) (text_of self.now) }
         ensures { result ≡ line_to_byte (breaks_of self.now) (text_of self.now) line_idx }
     {
-        self.part.line_to_byte(line_idx)
+        self.part.convert(Unit::LineBreak, Unit::Byte, line_idx)
     }
 
     /// As `line_to_byte`, for any index. Costs one or two look-ups; takes no memory.
@@ -196,9 +202,7 @@ impl<'a> RopeSlice<'a> {
         ensures { result ≡ checked (line_index_error line_idx (line_count (breaks_of self.now) (text_of self.now)))
             (line_to_byte (breaks_of self.now) (text_of self.now) line_idx) }
     {
-        let len = self.len_lines();
-        check(line_idx, len, Error::LineIndexOutOfBounds(line_idx, len))?;
-        Ok(self.line_to_byte(line_idx))
+        self.try_convert(Unit::LineBreak, Unit::Byte, line_idx)
     }
 
     /// The character, counted from 0, at which the line `line_idx` starts; for `len_lines()`, the end of the text.
@@ -208,7 +212,7 @@ impl<'a> RopeSlice<'a> {
         requires { line_idx ≤ line_count (breaks_of self.now) (text_of self.now) }
         ensures { result ≡ line_to_char (breaks_of self.now) (text_of self.now) line_idx }
     {
-        self.part.line_to_char(line_idx)
+        self.part.convert(Unit::LineBreak, Unit::Char, line_idx)
     }
 
     /// As `line_to_char`, for any index. Costs one or two look-ups; takes no memory.
@@ -221,8 +225,6 @@ impl<'a> RopeSlice<'a> {
         ensures { result ≡ checked (line_index_error line_idx (line_count (breaks_of self.now) (text_of self.now)))
             (line_to_char (breaks_of self.now) (text_of self.now) line_idx) }
     {
-        let len = self.len_lines();
-        check(line_idx, len, Error::LineIndexOutOfBounds(line_idx, len))?;
-        Ok(self.line_to_char(line_idx))
+        self.try_convert(Unit::LineBreak, Unit::Char, line_idx)
     }
 }

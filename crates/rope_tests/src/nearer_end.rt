@@ -6,9 +6,10 @@ ghost use Rattle.std.specs.Str.{chars};
 use rope_text::str_utils::{byte_to_char_idx_of, char_to_byte_idx_of, count_chars};
 use rope_text::{LineBreaks, Steps};
 use rope_tree::build::build;
-use rope_tree::conversions::{byte_to_char, char_to_byte};
+use rope_tree::conversions::convert;
 use rope_tree::node::Node;
 use rope_tree::node_text::NodeText;
+use rope_tree::search::Unit;
 use std::alloc::{AllocError, Global};
 
 /// Whether these bytes belong to the character `idx`.
@@ -59,8 +60,8 @@ fn places(node: &Node, char_idx: usize, byte_idx: usize) -> (usize, usize) {
         return (usize::MAX, usize::MAX);
     }
     (
-        char_to_byte(node, char_idx, &mut Steps::new()),
-        byte_to_char(node, byte_idx, &mut Steps::new()),
+        convert(node, Unit::Char, Unit::Byte, char_idx, &mut Steps::new()),
+        convert(node, Unit::Byte, Unit::Char, byte_idx, &mut Steps::new()),
     )
 }
 

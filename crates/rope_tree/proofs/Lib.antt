@@ -27,6 +27,7 @@ pub mod SiblingLaws
 pub mod Descents
 pub mod OnTheWay
 pub mod FoundLaws
+pub mod ConvertedLaws
 pub mod InsertLaws
 pub mod InsertTrees
 pub mod InsertLeaves

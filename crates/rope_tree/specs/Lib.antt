@@ -22,5 +22,6 @@ pub mod NewList
 pub mod Fronts
 pub mod Found
 pub mod StepBounds
+pub mod Conversions
 pub mod Insert
 pub mod Removal

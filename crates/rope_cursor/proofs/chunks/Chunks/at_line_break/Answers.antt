@@ -25,15 +25,15 @@ placed c =
     c.with_char.result.3 e.before (chunk_index_at_line_break-le (breaks_of part) (chunks_of part) c.args.line_break_idx)
     (λ some.
     (let end = line_start-le-length (breaks_of part) (text_of part) c.args.line_break_idx in
-    let less = e.inside (omega (arith, some, end, c.line_to_char-end.ensures, c.saturating_sub.ensures)) in
+    let less = e.inside (omega (arith, some, end, c.convert-end.ensures, c.saturating_sub.ensures)) in
     let i : ℕ = c.saturating_sub.result in
     let place : i ≡ line_start (breaks_of part) (concat (chunks_of part)) c.args.line_break_idx - 1 =
-    c.saturating_sub.ensures ∙ ap (λ n. n - 1) (c.line_to_char-end.ensures ∙ ap (λ t. line_start (breaks_of part) t c.args.line_break_idx) (sym cut.joined)) in
+    c.saturating_sub.ensures ∙ ap (λ n. n - 1) (c.convert-end.ensures ∙ ap (λ t. line_start (breaks_of part) t c.args.line_break_idx) (sym cut.joined)) in
     line_break_index (breaks_of part) (chunks_of part) c.args.line_break_idx cut.nonempty ∙ ap (chunk_index_at_char (chunks_of part)) (sym place)
     ∙ index_of_char c.with_char.result.0 (chunks_of part) (e.chunks some) cut.nonempty i (omega (arith, e.starts, e.before.chars_are)) (omega (arith, less, e.before.chars_are)))))
 
 pub with_char-requires : goal.with_char-requires
-with_char-requires c = omega (arith, c.line_to_char-end.ensures, c.saturating_sub.ensures, line_start-le-length (breaks_of c.args.part.now) (text_of c.args.part.now) c.args.line_break_idx)
+with_char-requires c = omega (arith, c.convert-end.ensures, c.saturating_sub.ensures, line_start-le-length (breaks_of c.args.part.now) (text_of c.args.part.now) c.args.line_break_idx)
 
 pub returns-clause-items : goal.returns-clause-items
 returns-clause-items c =

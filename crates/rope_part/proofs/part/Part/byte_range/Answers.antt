@@ -6,7 +6,7 @@ use Rattle.rope_part.proofs.part.Part.byte_range.Goals as goal
 
 pub char_range-requires-clause-ordered : goal.char_range-requires-clause-ordered
 char_range-requires-clause-ordered c =
-    omega (arith, c.byte_to_char.ensures, c.byte_to_char-2.ensures, byte_to_char-mono (text_of c.args.self.now) c.args.start c.args.end c.requires.ordered)
+    omega (arith, c.convert-start.ensures, c.convert-end.ensures, byte_to_char-mono (text_of c.args.self.now) c.args.start c.args.end c.requires.ordered)
 
 pub char_range-requires-clause-within : goal.char_range-requires-clause-within
-char_range-requires-clause-within c = omega (arith, c.byte_to_char-2.ensures, byte_to_char-le-length (text_of c.args.self.now) c.args.end)
+char_range-requires-clause-within c = omega (arith, c.convert-end.ensures, byte_to_char-le-length (text_of c.args.self.now) c.args.end)
