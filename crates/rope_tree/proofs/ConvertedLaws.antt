@@ -1,11 +1,10 @@
 -- A conversion of a tree's text, by the leaf that holds the place, at the ends and by its size.
-use Rattle.std.proofs.Common.{◌≡◌, ℕ, ◌+◌, ◌-◌, ◌*◌, ◌≤◌, ◌<◌, List, length, true, sym, ap, ◌∙◌, arith}
+use Rattle.std.proofs.Common.{◌≡◌, ℕ, ◌+◌, ◌-◌, ◌*◌, ◌≤◌, ◌<◌, List, length, true, ap, ◌∙◌, arith}
 use Rattle.std.proofs.lemmas.Str.{length-le-encodes}
 use Rattle.rope_text.specs.declared.line_breaks.LineBreaks.{LineBreaks}
 use Rattle.rope_text.specs.declared.text_info.TextInfo.{TextInfo}
 use Rattle.rope_text.specs.Text.{byte_len, utf16_len}
 use Rattle.rope_text.specs.TextInfo.{info_of}
-use Rattle.rope_text.specs.Breaks.{break_count}
 use Rattle.rope_text.specs.Lines.{line_start}
 use Rattle.rope_text.specs.Conversions.{char_to_byte}
 use Rattle.rope_text.proofs.Measures.{IsMeasure-byte_len, IsMeasure-utf16_len, size_le_all}
@@ -14,7 +13,7 @@ use Rattle.rope_text.proofs.LineLaws.{line_start-le-length}
 use Rattle.rope_tree.specs.declared.search.Unit.{Unit}
 use Rattle.rope_tree.specs.declared.search.Unit.TheVariants.{Byte, Char, CodeUnit, LineBreak}
 use Rattle.rope_tree.specs.Search.{count_of}
-use Rattle.rope_tree.specs.Conversions.{end_index, first_sought, are_converted, converted}
+use Rattle.rope_tree.specs.Conversions.{first_sought, are_converted, converted}
 use Rattle.rope_tree.specs.Tree.{Tree, text, IsTree}
 use Rattle.rope_tree.specs.Found.{IsFound}
 use Rattle.rope_tree.proofs.FoundLaws.{byte_to_char_end, utf16_to_char_end, char_to_byte_end, char_to_utf16_end, byte_to_line_end, line_start_first, line_start_past, found_byte_to_char, found_utf16_to_char, found_char_to_line, found_byte_to_line, found_char_to_byte, found_char_to_utf16, found_line_start, found_line_to_byte, utf16_to_char-le, char_to_line-le, byte_to_line-le}

@@ -16,7 +16,7 @@ use rope_text::Steps;
 use rope_tree::conversions::convert;
 use rope_tree::lookup::{byte_at, char_at};
 use rope_tree::node::Node;
-use rope_tree::search::Unit;
+use rope_tree::search::Unit::{Byte, Char, CodeUnit, LineBreak};
 
 impl Rope {
     // The root of the tree, where the counts begin with 0.
@@ -40,7 +40,7 @@ impl Rope {
         ensures inside { byte_idx < byte_len self.now.text → WentDown self.now.depth steps.new }
         ensures at_end { byte_idx ≡ byte_len self.now.text → StayedOut steps.new }
     {
-        convert(self.begin(steps), Unit::Byte, Unit::Char, byte_idx, steps)
+        convert(self.begin(steps), Byte, Char, byte_idx, steps)
     }
 
     /// As `byte_to_line`, under the same condition, and sets `steps` to what it did: at most one node a level
@@ -52,7 +52,7 @@ impl Rope {
         ensures inside { byte_idx < byte_len self.now.text → WentDown self.now.depth steps.new }
         ensures at_end { byte_idx ≡ byte_len self.now.text → StayedOut steps.new }
     {
-        convert(self.begin(steps), Unit::Byte, Unit::LineBreak, byte_idx, steps)
+        convert(self.begin(steps), Byte, LineBreak, byte_idx, steps)
     }
 
     /// As `char_to_byte`, under the same condition, and sets `steps` to what it did: at most one node a level
@@ -64,7 +64,7 @@ impl Rope {
         ensures inside { char_idx < length self.now.text → WentDown self.now.depth steps.new }
         ensures at_end { char_idx ≡ length self.now.text → StayedOut steps.new }
     {
-        convert(self.begin(steps), Unit::Char, Unit::Byte, char_idx, steps)
+        convert(self.begin(steps), Char, Byte, char_idx, steps)
     }
 
     /// As `char_to_line`, under the same condition, and sets `steps` to what it did: at most one node a level
@@ -76,7 +76,7 @@ impl Rope {
         ensures inside { char_idx < length self.now.text → WentDown self.now.depth steps.new }
         ensures at_end { char_idx ≡ length self.now.text → StayedOut steps.new }
     {
-        convert(self.begin(steps), Unit::Char, Unit::LineBreak, char_idx, steps)
+        convert(self.begin(steps), Char, LineBreak, char_idx, steps)
     }
 
     /// As `char_to_utf16_cu`, under the same condition, and sets `steps` to what it did: at most one node a level
@@ -88,7 +88,7 @@ impl Rope {
         ensures inside { char_idx < length self.now.text → WentDown self.now.depth steps.new }
         ensures at_end { char_idx ≡ length self.now.text → StayedOut steps.new }
     {
-        convert(self.begin(steps), Unit::Char, Unit::CodeUnit, char_idx, steps)
+        convert(self.begin(steps), Char, CodeUnit, char_idx, steps)
     }
 
     /// As `utf16_cu_to_char`, under the same condition, and sets `steps` to what it did: at most one node a level
@@ -100,7 +100,7 @@ impl Rope {
         ensures inside { utf16_cu_idx < utf16_len self.now.text → WentDown self.now.depth steps.new }
         ensures at_end { utf16_cu_idx ≡ utf16_len self.now.text → StayedOut steps.new }
     {
-        convert(self.begin(steps), Unit::CodeUnit, Unit::Char, utf16_cu_idx, steps)
+        convert(self.begin(steps), CodeUnit, Char, utf16_cu_idx, steps)
     }
 
     /// As `line_to_byte`, under the same condition, and sets `steps` to what it did: at most one node a level
@@ -113,7 +113,7 @@ impl Rope {
         ensures at_start { line_idx ≡ 0 → StayedOut steps.new }
         ensures at_end { line_idx ≡ line_count self.now.breaks self.now.text → StayedOut steps.new }
     {
-        convert(self.begin(steps), Unit::LineBreak, Unit::Byte, line_idx, steps)
+        convert(self.begin(steps), LineBreak, Byte, line_idx, steps)
     }
 
     /// As `line_to_char`, under the same condition, and sets `steps` to what it did: at most one node a level
@@ -126,7 +126,7 @@ impl Rope {
         ensures at_start { line_idx ≡ 0 → StayedOut steps.new }
         ensures at_end { line_idx ≡ line_count self.now.breaks self.now.text → StayedOut steps.new }
     {
-        convert(self.begin(steps), Unit::LineBreak, Unit::Char, line_idx, steps)
+        convert(self.begin(steps), LineBreak, Char, line_idx, steps)
     }
 
     /// As `byte`, under the same condition, and sets `steps` to what it did: exactly one node a level entered, one

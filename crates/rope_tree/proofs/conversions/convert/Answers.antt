@@ -1,6 +1,5 @@
-use Rattle.std.proofs.Common.{◌≡◌, ◌≤◌, ◌<◌, ◌+◌, ◌-◌, sym, ap, ◌∙◌, arith}
-use Rattle.rope_text.specs.TextInfo.{info_of}
-use Rattle.rope_tree.specs.Search.{count_of, IsSmall}
+use Rattle.std.proofs.Common.{◌≡◌, ◌+◌, ◌-◌, sym, ap, ◌∙◌, arith}
+use Rattle.rope_tree.specs.Search.{count_of}
 use Rattle.rope_tree.specs.Conversions.{converted, first_sought}
 use Rattle.rope_tree.specs.Tree.{text}
 use Rattle.rope_tree.proofs.Infos.{small_info}

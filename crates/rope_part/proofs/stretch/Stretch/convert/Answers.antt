@@ -1,4 +1,4 @@
-use Rattle.std.proofs.Common.{◌≡◌, ◌+◌, ◌-◌, ◌<◌, min, sym, ap, ◌∙◌, arith}
+use Rattle.std.proofs.Common.{◌≡◌, ◌+◌, ◌<◌, min, sym, ap, ◌∙◌, arith}
 use Rattle.rope_tree.specs.Search.{count_of}
 use Rattle.rope_tree.specs.Conversions.{first_sought, converted}
 use Rattle.rope_tree.specs.Tree.{text}
