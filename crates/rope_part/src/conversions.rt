@@ -5,17 +5,16 @@ ghost use Rattle.rope_text.specs.Edit.{is_char_boundary};
 ghost use Rattle.rope_tree.specs.Conversions.{end_index, are_converted, converted};
 
 use crate::part::Part;
-use crate::plain::Plain;
 use crate::stretch::Stretch;
-use rope_text::{Steps, str_utils};
-use rope_tree::conversions::{convert, first_sought};
+use rope_text::Steps;
+use rope_tree::conversions::{convert, convert_in, first_sought};
 use rope_tree::search::{Unit, count};
 
 impl<'a> Stretch<'a> {
     ghost use Rattle.rope_part.specs.Stretch.{text_of, breaks_of};
 
     // The index in the unit `to` of the place that an index in the unit `from` names: the tree's, less what lies before the
-    // start. A line that starts with the LF of a CR LF that the end parts starts at the end.
+    // start. The last line of a part that ends between a CR and its LF starts at that end, and the tree's behind the LF.
     #[inline(always)]
     fn convert(&self, from: Unit, to: Unit, idx: usize) -> usize
         requires pair { are_converted from to ≡ true }
@@ -36,30 +35,6 @@ impl<'a> Stretch<'a> {
     }
 }
 
-impl<'a> Plain<'a> {
-    ghost use Rattle.rope_part.specs.Plain.{text_of};
-
-    // The index in the unit `to` of the place that an index in the unit `from` names.
-    #[inline(always)]
-    fn convert(&self, from: Unit, to: Unit, idx: usize) -> usize
-        requires { are_converted from to ≡ true }
-        ensures { result ≡ converted from to self.now.breaks (text_of self.now) idx }
-    {
-        let text = self.as_str();
-        match (from, to) {
-            (Unit::Byte, Unit::Char) => str_utils::byte_to_char_idx(text, idx),
-            (Unit::Byte, Unit::LineBreak) => str_utils::byte_to_line_with(text, idx, self.breaks),
-            (Unit::Char, Unit::Byte) => str_utils::char_to_byte_idx(text, idx),
-            (Unit::Char, Unit::CodeUnit) => str_utils::char_to_utf16_idx(text, idx),
-            (Unit::Char, Unit::LineBreak) => str_utils::char_to_line_with(text, idx, self.breaks),
-            (Unit::CodeUnit, Unit::Char) => str_utils::utf16_to_char_idx(text, idx),
-            (Unit::LineBreak, Unit::Byte) => str_utils::line_to_byte_with(text, idx, self.breaks),
-            (Unit::LineBreak, Unit::Char) => str_utils::line_to_char_with(text, idx, self.breaks),
-            _ => unreachable!(),
-        }
-    }
-}
-
 impl<'a> Part<'a> {
     ghost use Rattle.rope_part.specs.Part.{text_of, breaks_of};
 
@@ -74,7 +49,9 @@ impl<'a> Part<'a> {
     {
         match self {
             Part::InTree(stretch) => stretch.convert(from, to, idx),
-            Part::Alone(plain) => plain.convert(from, to, idx),
+            Part::Alone(plain) => {
+                convert_in(plain.as_str(), plain.info, plain.breaks, from, to, idx)
+            }
         }
     }
 

@@ -1,14 +1,15 @@
 //! Conversions between the indices of a tree's text: each goes down to the leaf that holds the place, and takes no memory.
 ghost use Rattle.std.specs.Prelude.{◌≡◌, ◌≤◌, ◌<◌, true};
+ghost use Rattle.std.specs.Str.{chars};
 ghost use Rattle.rope_text.specs.TextInfo.{info_of};
 ghost use Rattle.rope_tree.specs.Conversions.{end_index, first_sought, are_converted, converted};
 ghost use Rattle.rope_tree.specs.Tree.{text};
 ghost use Rattle.rope_tree.specs.StepBounds.{HaveRoom, LooksUp, WentDown};
 
-use crate::lookup::{Found, leaf_at};
+use crate::lookup::leaf_at;
 use crate::node::Node;
 use crate::search::{Unit, count};
-use rope_text::{LineBreaks, Steps, str_utils};
+use rope_text::{LineBreaks, Steps, TextInfo, str_utils};
 
 /// The first index for which a tree is entered: where the first line starts is known.
 #[inline(always)]
@@ -21,32 +22,44 @@ pub fn first_sought(unit: Unit) -> usize
     }
 }
 
-/// The index in the unit `to` of the place in a leaf that an index in the unit `from` names.
+/// The index in the unit `to` of the place of a text that an index in the unit `from` names, by the counts of the text. Of
+/// bytes and characters it reads the shorter side of the place, and nothing where there are as many of them.
 #[inline(always)]
-fn convert_in(found: &Found<'_>, breaks: LineBreaks, from: Unit, to: Unit, idx: usize) -> usize
+pub fn convert_in(
+    text: &str,
+    info: TextInfo,
+    breaks: LineBreaks,
+    from: Unit,
+    to: Unit,
+    idx: usize,
+) -> usize
     requires pair { are_converted from to ≡ true }
-    requires inside { found.now.inside ≡ info_of breaks found.now.leaf }
-    ensures { result ≡ converted from to breaks found.now.leaf idx }
+    requires info { info ≡ info_of breaks (chars text.now) }
+    ensures { result ≡ converted from to breaks (chars text.now) idx }
 {
-    let leaf = &found.leaf;
-    let text = leaf.as_str();
-    let count = found.inside.break_count;
+    let is_narrow = info.chars == info.bytes;
     match (from, to) {
-        (Unit::Byte, Unit::Char) => leaf.byte_to_char_idx(idx),
-        (Unit::Byte, Unit::LineBreak) => str_utils::byte_to_line_of(text, count, idx, breaks),
-        (Unit::Char, Unit::Byte) => leaf.char_to_byte_idx(idx),
-        (Unit::Char, Unit::CodeUnit) => leaf.char_to_utf16_idx(idx),
-        (Unit::Char, Unit::LineBreak) => leaf.char_to_line_with(idx, breaks),
-        (Unit::CodeUnit, Unit::Char) => leaf.utf16_to_char_idx(idx),
         (Unit::LineBreak, Unit::Byte) => str_utils::line_to_byte_with(text, idx, breaks),
         (Unit::LineBreak, Unit::Char) => str_utils::line_to_char_with(text, idx, breaks),
+        (Unit::Byte, Unit::LineBreak) => {
+            str_utils::byte_to_line_of(text, info.break_count, idx, breaks)
+        }
+        (Unit::Char, Unit::LineBreak) if is_narrow => {
+            str_utils::byte_to_line_with(text, idx, breaks)
+        }
+        (Unit::Char, Unit::LineBreak) => str_utils::char_to_line_with(text, idx, breaks),
+        _ if is_narrow => idx.min(info.bytes),
+        (Unit::Byte, Unit::Char) => str_utils::byte_to_char_idx_of(text, info.chars, idx),
+        (Unit::Char, Unit::Byte) => str_utils::char_to_byte_idx_of(text, info.chars, idx),
+        (Unit::Char, Unit::CodeUnit) => str_utils::char_to_utf16_idx(text, idx),
+        (Unit::CodeUnit, Unit::Char) => str_utils::utf16_to_char_idx(text, idx),
         _ => unreachable!(),
     }
 }
 
-/// The index in the unit `to` of the place that an index in the unit `from` names: a character that holds the byte or the
-/// code unit, the line on which the place lies, or where the line starts. The end of the text is an index, too, and so is
-/// the line past the last one.
+/// The index in the unit `to` of the place that an index in the unit `from` names: the character that holds the byte or the
+/// code unit, the line on which the place lies, or the place at which the line starts. The index may be that of the text's
+/// end, which of lines is the one past the last. It is expanded where it is called, since the units are constants there.
 #[inline(always)]
 pub fn convert(node: &Node, from: Unit, to: Unit, idx: usize, steps: &mut Steps) -> usize
     requires pair { are_converted from to ≡ true }
@@ -69,7 +82,8 @@ pub fn convert(node: &Node, from: Unit, to: Unit, idx: usize, steps: &mut Steps)
         return count(info, to);
     }
     let found = leaf_at(node, from, at, steps);
-    let before = found.before;
-    let rest = idx - count(before, from);
-    count(before, to) + convert_in(&found, node.line_breaks(), from, to, rest)
+    let leaf = found.leaf.as_str();
+    let rest = idx - count(found.before, from);
+    let inside = convert_in(leaf, found.inside, node.line_breaks(), from, to, rest);
+    count(found.before, to) + inside
 }

@@ -3,16 +3,15 @@ ghost use Rattle.std.specs.Prelude.{◌≡◌, ◌≤◌, true, length};
 ghost use Rattle.std.specs.Str.{chars, all_scalars, encode_utf8_all, IsCharBoundary};
 ghost use Rattle.rope_text.specs.declared.TheConstants.{MAX_BYTES};
 ghost use Rattle.rope_text.specs.Text.{byte_len};
-ghost use Rattle.rope_text.specs.Conversions.{byte_to_char, char_to_byte, char_to_line, char_to_utf16, utf16_to_char};
+ghost use Rattle.rope_text.specs.Conversions.{char_to_byte, char_to_line};
 
 use rope_text::{LineBreaks, str_utils};
 use std::marker::Model;
 
 /// A text of at most `MAX_BYTES` bytes that lies elsewhere, seen as the list of its characters.
 ///
-/// Where it is known to have as many bytes as characters, the indices of a place are the same number, and nothing is read
-/// to convert them. Where it is known to have another number of characters, the shorter side of a place is read to convert
-/// bytes and characters.
+/// Where it is known to have as many bytes as characters, the byte of a character is its index, and nothing is read to find
+/// it. Where it is known to have another number of characters, the shorter side of the character is read.
 #[derive(Drop)]
 pub struct ShortText<'a> {
     text: &'a str,
@@ -86,41 +85,6 @@ impl<'a> ShortText<'a> {
             str_utils::char_to_byte_idx_of(self.text, self.count, char_idx)
         } else {
             str_utils::char_to_byte_idx(self.text, char_idx)
-        }
-    }
-
-    /// The character that holds a byte; past the end, the number of characters.
-    pub fn byte_to_char_idx(&self, byte_idx: usize) -> usize
-        ensures { result ≡ byte_to_char self.now byte_idx }
-    {
-        if self.count == self.text.len() {
-            byte_idx.min(self.text.len())
-        } else if self.count < self.text.len() {
-            str_utils::byte_to_char_idx_of(self.text, self.count, byte_idx)
-        } else {
-            str_utils::byte_to_char_idx(self.text, byte_idx)
-        }
-    }
-
-    /// The code unit at which a character starts; past the end, the number of code units.
-    pub fn char_to_utf16_idx(&self, char_idx: usize) -> usize
-        ensures { result ≡ char_to_utf16 self.now char_idx }
-    {
-        if self.count == self.text.len() {
-            char_idx.min(self.text.len())
-        } else {
-            str_utils::char_to_utf16_idx(self.text, char_idx)
-        }
-    }
-
-    /// The character that holds a code unit; past the end, the number of characters.
-    pub fn utf16_to_char_idx(&self, utf16_idx: usize) -> usize
-        ensures { result ≡ utf16_to_char self.now utf16_idx }
-    {
-        if self.count == self.text.len() {
-            utf16_idx.min(self.text.len())
-        } else {
-            str_utils::utf16_to_char_idx(self.text, utf16_idx)
         }
     }
 

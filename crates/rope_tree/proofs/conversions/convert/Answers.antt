@@ -1,11 +1,13 @@
-use Rattle.std.proofs.Common.{◌≡◌, ◌+◌, ◌-◌, sym, ap, ◌∙◌, arith}
+use Rattle.std.proofs.Common.{◌≡◌, ◌+◌, ◌-◌, sym, ap, ap₂, ◌∙◌, arith}
+use Rattle.std.specs.Str.{chars}
+use Rattle.rope_text.specs.TextInfo.{info_of}
 use Rattle.rope_tree.specs.Search.{count_of}
 use Rattle.rope_tree.specs.Conversions.{converted, first_sought}
 use Rattle.rope_tree.specs.Tree.{text}
 use Rattle.rope_tree.proofs.Infos.{small_info}
 use Rattle.rope_tree.proofs.Descents.{small_found}
 use Rattle.rope_tree.proofs.ConvertedLaws.{found_converted, converted_end, converted_first, converted-le}
-use Rattle.rope_tree.proofs.conversions.convert.Goals.{After-convert_in}
+use Rattle.rope_tree.proofs.conversions.convert.Goals.{After-count-3}
 use Rattle.rope_tree.proofs.conversions.convert.Goals as goal
 
 pub returns-then-idx-first-clause-value : goal.returns-then-idx-first-clause-value
@@ -31,14 +33,20 @@ count-requires-2 c = small_found _ _ _ _ _ c.height.ensures.tree c.leaf_at-found
 pub count-requires-3 : goal.count-requires-3
 count-requires-3 c = small_found _ _ _ _ _ c.height.ensures.tree c.leaf_at-found.ensures.found
 
-value : (c : After-convert_in) → c.count-3.result + c.convert_in.result ≡ converted c.args.from c.args.to c.args.node.now.breaks (text c.args.node.now) c.args.idx
+pub convert_in-inside-requires-clause-info : goal.convert_in-inside-requires-clause-info
+convert_in-inside-requires-clause-info c = c.leaf_at-found.ensures.inside ∙ ap₂ info_of (sym c.line_breaks.ensures) (sym c.as_str-leaf.ensures.chars)
+
+value : (c : After-count-3) → c.count-3.result + c.convert_in-inside.result ≡ converted c.args.from c.args.to c.args.node.now.breaks (text c.args.node.now) c.args.idx
 value c =
     let found = c.leaf_at-found.result in
-    let within = converted c.args.from c.args.to c.args.node.now.breaks found.leaf in
-    let e : c.args.idx ≡ (c.args.idx - c.first_sought-first.result) + first_sought c.args.from = omega arith in
-    ap (λ n. n + c.convert_in.result) c.count-3.ensures
-    ∙ ap (λ n. count_of c.args.to found.before + n) (c.convert_in.ensures ∙ ap (λ b. converted c.args.from c.args.to b found.leaf (c.args.idx - c.count-2.result)) c.line_breaks.ensures ∙ ap (λ n. within (c.args.idx - n)) c.count-2.ensures)
-    ∙ sym (found_converted c.args.from c.args.to c.args.idx _ c.args.node.now found.leaf found.before c.requires.pair e c.height.ensures.tree c.leaf_at-found.ensures.found)
+    let from = c.args.from in
+    let to = c.args.to in
+    let e : c.args.idx ≡ (c.args.idx - c.first_sought-first.result) + first_sought from = omega arith in
+    let inside : c.convert_in-inside.result ≡ converted from to c.args.node.now.breaks found.leaf (c.args.idx - count_of from found.before) =
+    c.convert_in-inside.ensures ∙ ap (λ b. converted from to b (chars c.as_str-leaf.result.now) (c.args.idx - c.count-2.result)) c.line_breaks.ensures
+    ∙ ap₂ (converted from to c.args.node.now.breaks) c.as_str-leaf.ensures.chars (ap (λ n. c.args.idx - n) c.count-2.ensures) in
+    ap₂ (λ x y. x + y) c.count-3.ensures inside
+    ∙ sym (found_converted from to c.args.idx _ c.args.node.now found.leaf found.before c.requires.pair e c.height.ensures.tree c.leaf_at-found.ensures.found)
 
 pub overflow_add-result : goal.overflow_add-result
 overflow_add-result c = omega (arith, value c, converted-le c.args.from c.args.to c.args.node.now.breaks (text c.args.node.now) c.args.idx c.requires.pair, c.height.ensures.tree.fits)
