@@ -32,11 +32,7 @@ fn begins_with_lf(text: &str) -> bool
 pub fn shared_breaks(first: &str, second: &str, breaks: LineBreaks) -> usize
     ensures { result ≡ shared_breaks breaks (chars first.now) (chars second.now) }
 {
-    if ends_in_cr(first) && begins_with_lf(second) && breaks.is_break('\r') {
-        1
-    } else {
-        0
-    }
+    usize::from(ends_in_cr(first) && begins_with_lf(second) && breaks.is_break('\r'))
 }
 
 /// The counts of a text with another between its front and its back, by the counts of the whole: only the new text is gone
@@ -64,14 +60,8 @@ fn info_between(
     }
 }
 
-/// A leaf's text with another one put into it, which may be too long for one leaf, and its counts.
-#[derive(Drop)]
-pub(crate) struct Grown {
-    pub(crate) text: ArrayString<MAX_JOINED_BYTES>,
-    pub(crate) info: TextInfo,
-}
-
-/// The text of a leaf with another before its character `at`. Its counts come from those of the leaf.
+/// The text of a leaf with another before its character `at`, which may be too long for one leaf, and its counts, which come
+/// from those of the leaf.
 #[inline(always)]
 pub(crate) fn leaf_with(
     info: TextInfo,
@@ -79,23 +69,21 @@ pub(crate) fn leaf_with(
     at: usize,
     added: &ShortText<'_>,
     breaks: LineBreaks,
-) -> Grown
+) -> (ArrayString<MAX_JOINED_BYTES>, TextInfo)
     requires info { info ≡ info_of breaks leaf.now }
     requires some { 1 ≤ length added.now }
     requires short { byte_len added.now ≤ MAX_SHORT_BYTES }
-    ensures text { chars result.text.bytes ≡ inserted leaf.now at added.now }
-    ensures len { length result.text.bytes ≡ byte_len leaf.now + byte_len added.now }
-    ensures info { result.info ≡ info_of breaks (inserted leaf.now at added.now) }
+    ensures text { chars result.0.bytes ≡ inserted leaf.now at added.now }
+    ensures len { length result.0.bytes ≡ byte_len leaf.now + byte_len added.now }
+    ensures info { result.1 ≡ info_of breaks (inserted leaf.now at added.now) }
 {
     let text = leaf.as_str();
     let place = leaf.char_to_byte_idx(at);
     let front = &text[..place];
     let back = &text[place..];
     let added = added.as_str();
-    Grown {
-        text: join_parts(front, added, back),
-        info: info_between(info, front, added, back, breaks),
-    }
+    let info = info_between(info, front, added, back, breaks);
+    (join_parts(front, added, back), info)
 }
 
 /// Puts a text before the character `at` of a leaf that has room for it, and gives the counts of the whole, by those of what

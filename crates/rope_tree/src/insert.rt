@@ -57,15 +57,15 @@ fn insert_into_leaf(
     ensures rises { made.old ≤ made.new }
 {
     let breaks = node.line_breaks();
-    let grown = leaf_with(node.info(), leaf, at, added, breaks);
-    let text = grown.text.as_str();
+    let (grown, info) = leaf_with(node.info(), leaf, at, added, breaks);
+    let text = grown.as_str();
     if text.len() <= MAX_BYTES {
-        let node = make_leaf(alloc, breaks, text, grown.info, made)?;
+        let node = make_leaf(alloc, breaks, text, info, made)?;
         return Ok(Nodes::One(node));
     }
     let halves = halves_of(text);
     let front_info = TextInfo::from_str(halves.front, breaks);
-    let back_info = grown.info.minus(front_info);
+    let back_info = info.minus(front_info);
     let first = make_leaf(alloc, breaks, halves.front, front_info, made)?;
     let second = make_leaf(alloc, breaks, halves.back, back_info, made)?;
     Ok(Nodes::Two(first, second))

@@ -148,10 +148,10 @@ impl Leaf {
             return Ok(None);
         }
         let breaks = self.line_breaks();
-        let grown = leaf_with(self.info(), &old, at, added, breaks);
-        let halves = halves_of(grown.text.as_str());
+        let (grown, info) = leaf_with(self.info(), &old, at, added, breaks);
+        let halves = halves_of(grown.as_str());
         let front_info = TextInfo::from_str(halves.front, breaks);
-        let back_info = grown.info.minus(front_info);
+        let back_info = info.minus(front_info);
         let behind = make_leaf(alloc, breaks, halves.back, back_info, made)?;
         self.set(halves.front, front_info);
         Ok(Some(behind))

@@ -23,15 +23,15 @@ whole : (c : After-range_from-back) (s : List ℕ) → s ≡ c.args.added.now �
 whole c s e =
     ap₂ (λ x y. x ++ (s ++ y)) (front c) (back c) ∙ ap (λ x. take c.args.at c.args.leaf.now ++ (x ++ drop c.args.at c.args.leaf.now)) e ∙ sym (inserted_is c.args.leaf.now c.args.at c.args.added.now)
 
-pub info_between-requires-clause-info : goal.info_between-requires-clause-info
-info_between-requires-clause-info c =
-    let e = (goal.at.info_between-requires-clause-info c).After-range_from-back in
+pub info_between-info-requires-clause-info : goal.info_between-info-requires-clause-info
+info_between-info-requires-clause-info c =
+    let e = (goal.at.info_between-info-requires-clause-info c).After-range_from-back in
     c.requires.info ∙ ap (info_of c.args.breaks) (sym (ap₂ (λ x y. x ++ y) (front e) (back e) ∙ take-append-drop c.args.at c.args.leaf.now))
 
 pub returns-clause-info : goal.returns-clause-info
 returns-clause-info c =
     let e = (goal.at.returns-clause-info c).After-range_from-back in
-    c.info_between.ensures ∙ ap (info_of c.args.breaks) (whole e (chars c.as_str-added.result.now) c.as_str-added.ensures.chars)
+    c.info_between-info.ensures ∙ ap (info_of c.args.breaks) (whole e (chars c.as_str-added.result.now) c.as_str-added.ensures.chars)
 
 pub returns-clause-text : goal.returns-clause-text
 returns-clause-text c =

@@ -16,7 +16,7 @@ use Rattle.rope_tree.proofs.leaf.Leaf.cut.Goals as goal
 whole : (c : After-from_str-front_info) → chars c.halves_of-halves.result.front.now ++ chars c.halves_of-halves.result.back.now ≡ inserted c.text-old.result c.args.at c.args.added.now
 whole c = c.halves_of-halves.ensures.joined ∙ ap chars c.as_str.ensures.value ∙ c.leaf_with-grown.ensures.text
 
-parted : (c : After-from_str-front_info) → c.leaf_with-grown.result.info ≡ info_sum c.from_str-front_info.result (info_of c.line_breaks-breaks.result (chars c.halves_of-halves.result.back.now))
+parted : (c : After-from_str-front_info) → c.leaf_with-grown.result.1 ≡ info_sum c.from_str-front_info.result (info_of c.line_breaks-breaks.result (chars c.halves_of-halves.result.back.now))
 parted c =
     let breaks = c.line_breaks-breaks.result in
     let halves = c.halves_of-halves in
