@@ -8,6 +8,7 @@ ghost use Rattle.rope_tree.specs.StepBounds.{HaveRoom, LooksUp, WentDown};
 
 use crate::lookup::leaf_at;
 use crate::node::Node;
+use crate::search::Unit::{Byte, Char, CodeUnit, LineBreak};
 use crate::search::{Unit, count};
 use rope_text::{LineBreaks, Steps, TextInfo, str_utils};
 
@@ -16,10 +17,7 @@ use rope_text::{LineBreaks, Steps, TextInfo, str_utils};
 pub fn first_sought(unit: Unit) -> usize
     ensures { result ≡ first_sought unit }
 {
-    match unit {
-        Unit::LineBreak => 1,
-        _ => 0,
-    }
+    usize::from(matches!(unit, LineBreak))
 }
 
 /// The index in the unit `to` of the place of a text that an index in the unit `from` names, by the counts of the text. Of
@@ -39,20 +37,16 @@ pub fn convert_in(
 {
     let is_narrow = info.chars == info.bytes;
     match (from, to) {
-        (Unit::LineBreak, Unit::Byte) => str_utils::line_to_byte_with(text, idx, breaks),
-        (Unit::LineBreak, Unit::Char) => str_utils::line_to_char_with(text, idx, breaks),
-        (Unit::Byte, Unit::LineBreak) => {
-            str_utils::byte_to_line_of(text, info.break_count, idx, breaks)
-        }
-        (Unit::Char, Unit::LineBreak) if is_narrow => {
-            str_utils::byte_to_line_with(text, idx, breaks)
-        }
-        (Unit::Char, Unit::LineBreak) => str_utils::char_to_line_with(text, idx, breaks),
+        (LineBreak, Byte) => str_utils::line_to_byte_with(text, idx, breaks),
+        (LineBreak, Char) => str_utils::line_to_char_with(text, idx, breaks),
+        (Byte, LineBreak) => str_utils::byte_to_line_of(text, info.break_count, idx, breaks),
+        (Char, LineBreak) if is_narrow => str_utils::byte_to_line_with(text, idx, breaks),
+        (Char, LineBreak) => str_utils::char_to_line_with(text, idx, breaks),
         _ if is_narrow => idx.min(info.bytes),
-        (Unit::Byte, Unit::Char) => str_utils::byte_to_char_idx_of(text, info.chars, idx),
-        (Unit::Char, Unit::Byte) => str_utils::char_to_byte_idx_of(text, info.chars, idx),
-        (Unit::Char, Unit::CodeUnit) => str_utils::char_to_utf16_idx(text, idx),
-        (Unit::CodeUnit, Unit::Char) => str_utils::utf16_to_char_idx(text, idx),
+        (Byte, Char) => str_utils::byte_to_char_idx_of(text, info.chars, idx),
+        (Char, Byte) => str_utils::char_to_byte_idx_of(text, info.chars, idx),
+        (Char, CodeUnit) => str_utils::char_to_utf16_idx(text, idx),
+        (CodeUnit, Char) => str_utils::utf16_to_char_idx(text, idx),
         _ => unreachable!(),
     }
 }
