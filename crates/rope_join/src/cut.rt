@@ -1,6 +1,7 @@
-//! The front and the back of a tree, as trees no higher than it.
+//! The front and the back of a tree, as trees no higher than it, and what lies between two places.
 ghost use Rattle.std.specs.Prelude.{◌≡◌, ◌+◌, ◌-◌, ◌*◌, ◌<◌, ◌≤◌, length, take, drop, IfOk};
-ghost use Rattle.rope_tree.specs.Tree.{text};
+ghost use Rattle.std.specs.List.{slice_range};
+ghost use Rattle.rope_tree.specs.Tree.{text, IsTree};
 ghost use Rattle.rope_join.specs.Cut.{IsFront, IsBack};
 
 use crate::join::{join_before, join_behind};
@@ -69,4 +70,25 @@ pub fn back(alloc: Global, node: &Node, at: usize, made: &mut u64) -> Result<Nod
             join_before(alloc, &part, after, made)
         }
     }
+}
+
+/// The characters from `start` up to `end`, one at least. What lies within whole is shared.
+pub fn between(
+    alloc: Global,
+    node: &Node,
+    start: usize,
+    end: usize,
+    made: &mut u64,
+) -> Result<Node, AllocError>
+    requires ordered { start < end }
+    requires within { end ≤ length (text node.now) }
+    ensures text { IfOk result (λ part. text part ≡ slice_range (text node.now) start end) }
+    ensures breaks { IfOk result (λ part. part.breaks ≡ node.now.breaks) }
+    ensures tree { IfOk result (λ part. IsTree part) }
+    ensures made { made.new ≤ made.old + 12 * node.now.height + 3 }
+{
+    let front = front(alloc, node, end, made)?;
+    let part = back(alloc, &front, start, made)?;
+    let _ = part.height();
+    Ok(part)
 }

@@ -1,7 +1,6 @@
 //! Two trees as one.
 ghost use Rattle.std.specs.Prelude.{◌≡◌, ◌+◌, ◌-◌, ◌*◌, ◌<◌, ◌≤◌, [], ◌∷◌, ◌++◌, true, false, length, max, IfOk};
 ghost use Rattle.rope_text.specs.declared.TheConstants.{MAX_BYTES, MAX_CHILDREN, MIN_PAIR_BYTES};
-ghost use Rattle.rope_text.specs.Text.{byte_len};
 ghost use Rattle.rope_tree.specs.Tree.{height_of, breaks_of, AreChildren};
 ghost use Rattle.rope_tree.specs.View.{trees_in};
 ghost use Rattle.rope_tree.specs.Siblings.{AreSiblings};
@@ -13,18 +12,7 @@ use rope_text::{MAX_BYTES, MAX_CHILDREN, MIN_BYTES, MIN_CHILDREN};
 use rope_tree::node::row::{Row, node_over, pack, pack_over};
 use rope_tree::node::{Node, Nodes, View, make_leaf};
 use rope_tree::node_text::NodeText;
-use rope_tree::short_text::ShortText;
 use std::alloc::{AllocError, Global};
-
-/// One text of two that fit in one leaf.
-fn joined_text(first: &ShortText<'_>, second: &ShortText<'_>) -> NodeText
-    requires { byte_len first.now + byte_len second.now ≤ MAX_BYTES }
-    ensures value { result ≡ first.now ++ second.now }
-{
-    let mut text = NodeText::from_str(first.as_str());
-    text.push_str(second.as_str());
-    text
-}
 
 /// Whether two leaves of so many bytes become one: they fit in it, and one of them is short.
 fn become_one(first: usize, second: usize) -> bool
@@ -55,7 +43,8 @@ fn merge(alloc: Global, left: &Node, right: &Node, made: &mut u64) -> Result<Nod
             };
             if become_one(first.len(), second.len()) {
                 let info = left.info().plus(right.info());
-                let text = joined_text(&first, &second);
+                let mut text = NodeText::from_str(first.as_str());
+                text.push_str(second.as_str());
                 let node = make_leaf(alloc, left.line_breaks(), text.as_str(), info, made)?;
                 return Ok(Nodes::One(node));
             }

@@ -1,12 +1,14 @@
-use Rattle.std.proofs.Common.{ap, ap₂, ◌∙◌, ◌++◌, arith}
+use Rattle.std.proofs.Common.{ap, ap₂, ◌∙◌, ◌++◌, arith, sym, ◌≡◌}
+use Rattle.rope_text.specs.TextInfo.{info_of}
 use Rattle.rope_tree.specs.Search.{IsSmall}
 use Rattle.rope_tree.proofs.Infos.{small_info}
-use Rattle.rope_tree.specs.Tree.{leaf_tree, height_of, breaks_of}
+use Rattle.rope_tree.proofs.InsertLeaves.{text_of_leaf}
+use Rattle.rope_tree.specs.Tree.{text, leaf_tree, height_of, breaks_of}
 use Rattle.rope_tree.specs.Siblings.{AreSiblings}
 use Rattle.rope_tree.specs.View.{trees_in}
 use Rattle.rope_join.specs.Join.{IsUnion}
 use Rattle.rope_join.proofs.Unions.{merged_leaves, kept, leaves_near, inner_siblings, inner_union, both_ok}
-use Rattle.rope_join.proofs.join.merge.Goals.{After-info-then-become_one, In-Inner-view}
+use Rattle.rope_join.proofs.join.merge.Goals.{After-info-then-become_one, After-push_str, In-Inner-view}
 use Rattle.rope_join.proofs.join.merge.Goals as goal
 
 both : (c : After-info-then-become_one) → IsSmall c.info.result × IsSmall c.info-then-become_one.result
@@ -37,11 +39,23 @@ returns-else-first-ge-MIN_CHILDREN-clause-union c =
     inner_union _ _ _ _ c.in-Inner.ensures.is c.in-Inner-view.ensures.is c.in-Inner.ensures.children c.in-Inner-view.ensures.children c.requires.join c.requires.merge.level near _
     (rw (c.of-before.ensures.nodes, c.of-after.ensures.nodes) at leaves) (rw (c.of-before.ensures.nodes, c.of-after.ensures.nodes) at shape)) c.pack_over.ensures.leaves c.pack_over.ensures.shape
 
+new_text : (c : After-push_str) → c.push_str.new.self ≡ c.in-Leaf.first ++ c.in-Leaf-view.second
+new_text c = c.push_str.ensures.value ∙ ap₂ (λ s t. s ++ t) (c.from_str-text.ensures.value ∙ c.as_str.ensures.chars) c.as_str-then-become_one.ensures.chars
+
+pub make_leaf-requires-clause-info : goal.make_leaf-requires-clause-info
+make_leaf-requires-clause-info c =
+    let left = c.args.left.now in
+    let right = c.args.right.now in
+    let e = (goal.at.make_leaf-requires-clause-info c).After-push_str in
+    let parts = ap₂ (λ s t. s ++ t) (text_of_leaf _ left c.in-Leaf.first c.in-Leaf.ensures.is) (text_of_leaf _ right c.in-Leaf-view.second c.in-Leaf-view.ensures.is) in
+    c.plus-info.ensures.joined left.breaks (text left) (text right) c.info.ensures (c.info-then-become_one.ensures ∙ ap (λ b. info_of b (text right)) c.requires.join.same_breaks) c.requires.join.seam.apart
+    ∙ ap₂ info_of (sym c.line_breaks.ensures) (parts ∙ sym (new_text e) ∙ sym c.as_str-then-become_one-2.ensures.chars)
+
 pub returns-then-become_one-clause-union : goal.returns-then-become_one-clause-union
 returns-then-become_one-clause-union c =
     let right = c.in-Leaf-view.ensures.is ∙ ap (λ b. leaf_tree b c.in-Leaf-view.second) c.requires.join.same_breaks in
-    let one = c.in_ok-node-in-Leaf.ensures.ok ∙ ap₂ leaf_tree c.line_breaks.ensures c.as_str.ensures.chars in
-    merged_leaves c.args.left.now.breaks _ _ _ _ _ _ c.in-Leaf.ensures.is right c.joined_text-text.ensures.value one c.in_ok-node-in-Leaf.ensures.tree c.requires.left_some c.requires.right_some
+    let one = c.in_ok-node-in-Leaf.ensures.ok ∙ ap₂ leaf_tree c.line_breaks.ensures c.as_str-then-become_one-2.ensures.chars in
+    merged_leaves c.args.left.now.breaks _ _ _ _ _ _ c.in-Leaf.ensures.is right (new_text (goal.at.returns-then-become_one-clause-union c).After-push_str) one c.in_ok-node-in-Leaf.ensures.tree c.requires.left_some c.requires.right_some
 
 pub returns-then-first-second-gt-MAX_CHILDREN-clause-union : goal.returns-then-first-second-gt-MAX_CHILDREN-clause-union
 returns-then-first-second-gt-MAX_CHILDREN-clause-union c =
