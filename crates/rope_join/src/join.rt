@@ -5,7 +5,7 @@ ghost use Rattle.rope_tree.specs.Tree.{height_of, breaks_of, AreChildren};
 ghost use Rattle.rope_tree.specs.View.{trees_in};
 ghost use Rattle.rope_tree.specs.Siblings.{AreSiblings};
 ghost use Rattle.rope_tree.specs.Rows.{IsRow};
-ghost use Rattle.rope_join.specs.Join.{CanJoin, CanMerge, EndsIn, BeginsIn, IsNear, IsUnion, IsJoin, gathered};
+ghost use Rattle.rope_join.specs.Join.{CanGather, CanJoin, CanMerge, EndsIn, BeginsIn, IsNear, IsUnion, IsJoin, gathered};
 
 use crate::near::can_merge;
 use rope_text::{MAX_BYTES, MAX_CHILDREN, MIN_BYTES, MIN_CHILDREN};
@@ -160,9 +160,7 @@ pub fn join_behind(
     made: &mut u64,
 ) -> Result<Node, AllocError>
     requires row { IsRow row }
-    requires siblings { AreSiblings (breaks_of row.nodes.now) (height_of row.nodes.now) row.nodes.now }
-    requires some { 1 ≤ length row.nodes.now }
-    requires at_most_24 { length row.nodes.now ≤ MAX_CHILDREN }
+    requires gather { CanGather row.nodes.now }
     requires right_some { 1 ≤ length right.now.leaves }
     requires no_higher { right.now.height ≤ height_of row.nodes.now }
     requires join { CanJoin (gathered row.nodes.now) right.now }
@@ -189,9 +187,7 @@ pub fn join_before(
     made: &mut u64,
 ) -> Result<Node, AllocError>
     requires row { IsRow row }
-    requires siblings { AreSiblings (breaks_of row.nodes.now) (height_of row.nodes.now) row.nodes.now }
-    requires some { 1 ≤ length row.nodes.now }
-    requires at_most_24 { length row.nodes.now ≤ MAX_CHILDREN }
+    requires gather { CanGather row.nodes.now }
     requires left_some { 1 ≤ length left.now.leaves }
     requires no_higher { left.now.height ≤ height_of row.nodes.now }
     requires join { CanJoin left.now (gathered row.nodes.now) }

@@ -88,15 +88,11 @@ height : (t : ℕ) (c : After-index-children-place t) → (c.place_of-place.resu
     → height_of (drop (c.place_of-place.result + 1) c.in-Inner.children.now) ≡ c.index-children-place.result.height
 height t c past = after_height _ _ _ _ (parts t c) (some t c past)
 
-pub join_before-requires-clause-siblings : goal.join_before-requires-clause-siblings
-join_before-requires-clause-siblings t c =
-    let e = (goal.at.join_before-requires-clause-siblings t c).After-index-children-place in
-    rw (c.rest-after.ensures.nodes, c.of.ensures.nodes) (after_siblings _ _ _ _ (parts t e) (some t e c.if-place-children.false))
-
-pub join_before-requires-clause-some : goal.join_before-requires-clause-some
-join_before-requires-clause-some t c =
-    let e = (goal.at.join_before-requires-clause-some t c).After-index-children-place in
-    rw (c.rest-after.ensures.nodes, c.of.ensures.nodes) (some t e c.if-place-children.false)
+pub join_before-requires-clause-gather : goal.join_before-requires-clause-gather
+join_before-requires-clause-gather t c =
+    let e = (goal.at.join_before-requires-clause-gather t c).After-index-children-place in
+    let past = c.if-place-children.false in
+    rw (c.rest-after.ensures.nodes, c.of.ensures.nodes) (record { siblings = after_siblings _ _ _ _ (parts t e) (some t e past); some = some t e past; at_most_24 = omega (arith, (parts t e).few) })
 
 pub join_before-requires-clause-left_some : goal.join_before-requires-clause-left_some
 join_before-requires-clause-left_some t c =

@@ -73,13 +73,11 @@ before t c past = is_gathered _ (some t c past)
 height : (t : ℕ) (c : After-index-children-place t) → (c.place_of-place.result ≡ 0 → ⊥) → height_of (take c.place_of-place.result c.in-Inner.children.now) ≡ c.index-children-place.result.height
 height t c past = before_height _ _ _ _ (parts t c) (some t c past)
 
-pub join_behind-requires-clause-siblings : goal.join_behind-requires-clause-siblings
-join_behind-requires-clause-siblings t c =
-    let e = (goal.at.join_behind-requires-clause-siblings t c).After-index-children-place in
-    rw (c.first-before.ensures.nodes, c.of.ensures.nodes) (before_siblings _ _ _ _ (parts t e) (some t e c.if-place-eq0.false))
-
-pub join_behind-requires-clause-some : goal.join_behind-requires-clause-some
-join_behind-requires-clause-some t c = rw (c.first-before.ensures.nodes, c.of.ensures.nodes) (some t (goal.at.join_behind-requires-clause-some t c).After-index-children-place c.if-place-eq0.false)
+pub join_behind-requires-clause-gather : goal.join_behind-requires-clause-gather
+join_behind-requires-clause-gather t c =
+    let e = (goal.at.join_behind-requires-clause-gather t c).After-index-children-place in
+    let past = c.if-place-eq0.false in
+    rw (c.first-before.ensures.nodes, c.of.ensures.nodes) (record { siblings = before_siblings _ _ _ _ (parts t e) (some t e past); some = some t e past; at_most_24 = omega (arith, (parts t e).few) })
 
 pub join_behind-requires-clause-right_some : goal.join_behind-requires-clause-right_some
 join_behind-requires-clause-right_some t c =

@@ -10,22 +10,22 @@ use Rattle.rope_join.proofs.join.join_before.Goals.{After-index-nodes-0-2, In_ok
 use Rattle.rope_join.proofs.join.join_before.Goals as goal
 
 many : (c : After-index-nodes-0-2) → 2 ≤ length c.args.row.nodes.now
-many c = omega (arith, c.if-nodes-eq1.false, c.requires.some)
+many c = omega (arith, c.if-nodes-eq1.false, c.requires.gather.some)
 
 pub unite-requires-clause-join : goal.unite-requires-clause-join
 unite-requires-clause-join c =
     let e = (goal.at.unite-requires-clause-join c).After-index-nodes-0-2 in
-    before_can_join c.args.row.nodes.now c.args.left.now c.index-nodes-0-2.result c.requires.siblings (many e) c.requires.at_most_24 c.requires.no_higher c.index-nodes-0-2.is c.requires.join
+    before_can_join c.args.row.nodes.now c.args.left.now c.index-nodes-0-2.result c.requires.gather.siblings (many e) c.requires.gather.at_most_24 c.requires.no_higher c.index-nodes-0-2.is c.requires.join
 
 pub pack-requires-clause-siblings : goal.pack-requires-clause-siblings
 pack-requires-clause-siblings c =
     let e = (goal.at.pack-requires-clause-siblings c).After-index-nodes-0-2 in
-    rw (c.none.ensures.nodes, c.rest.ensures.nodes) (before_siblings c.args.row.nodes.now c.args.left.now c.index-nodes-0-2.result c.requires.siblings (many e) c.requires.at_most_24 c.requires.no_higher c.index-nodes-0-2.is c.requires.join (trees_in c.in_ok-middle.middle) c.in_ok-middle.ensures.union)
+    rw (c.none.ensures.nodes, c.rest.ensures.nodes) (before_siblings c.args.row.nodes.now c.args.left.now c.index-nodes-0-2.result c.requires.gather.siblings (many e) c.requires.gather.at_most_24 c.requires.no_higher c.index-nodes-0-2.is c.requires.join (trees_in c.in_ok-middle.middle) c.in_ok-middle.ensures.union)
 
 union : (c : In_ok-parts) → IsUnion c.args.left.now (gathered c.args.row.nodes.now) (trees_in c.in_ok-parts.parts)
 union c =
     let e = (goal.at.In_ok-parts c).After-index-nodes-0-2 in
-    before_union c.args.row.nodes.now c.args.left.now c.index-nodes-0-2.result c.requires.siblings (many e) c.requires.at_most_24 c.requires.no_higher c.index-nodes-0-2.is c.requires.join (trees_in c.in_ok-middle.middle) c.in_ok-middle.ensures.union
+    before_union c.args.row.nodes.now c.args.left.now c.index-nodes-0-2.result c.requires.gather.siblings (many e) c.requires.gather.at_most_24 c.requires.no_higher c.index-nodes-0-2.is c.requires.join (trees_in c.in_ok-middle.middle) c.in_ok-middle.ensures.union
     (trees_in c.in_ok-parts.parts) (rw (c.none.ensures.nodes, c.rest.ensures.nodes) at c.in_ok-parts.ensures.leaves) (rw (c.none.ensures.nodes, c.rest.ensures.nodes) at c.in_ok-parts.ensures.shape)
 
 pub root_of-requires : goal.root_of-requires
@@ -37,10 +37,10 @@ returns-clause-join c =
     IfOk-weaker c.root_of.result _ (IsJoin c.args.left.now (gathered c.args.row.nodes.now)) (λ node e. join_root c.args.left.now (gathered c.args.row.nodes.now) node c.in_ok-parts.parts u c.requires.join e) c.root_of.ensures.ok
 
 level : (c : After-index-nodes-0-2) → c.index-nodes-0-2.result.height ≡ height_of c.args.row.nodes.now
-level c = before_level c.args.row.nodes.now c.args.left.now c.index-nodes-0-2.result c.requires.siblings (many c) c.requires.at_most_24 c.requires.no_higher c.index-nodes-0-2.is c.requires.join
+level c = before_level c.args.row.nodes.now c.args.left.now c.index-nodes-0-2.result c.requires.gather.siblings (many c) c.requires.gather.at_most_24 c.requires.no_higher c.index-nodes-0-2.is c.requires.join
 
 near : (c : After-index-nodes-0-2) → IsNear c.args.left.now c.index-nodes-0-2.result
-near c = before_near c.args.row.nodes.now c.args.left.now c.index-nodes-0-2.result c.requires.siblings (many c) c.requires.at_most_24 c.requires.no_higher c.index-nodes-0-2.is c.requires.join c.requires.near
+near c = before_near c.args.row.nodes.now c.args.left.now c.index-nodes-0-2.result c.requires.gather.siblings (many c) c.requires.gather.at_most_24 c.requires.no_higher c.index-nodes-0-2.is c.requires.join c.requires.near
 
 pub returns-clause-made_ok : goal.returns-clause-made_ok
 returns-clause-made_ok c =

@@ -16,17 +16,17 @@ many c = omega (arith, c.if-last-eq0.false)
 pub unite-requires-clause-join : goal.unite-requires-clause-join
 unite-requires-clause-join c =
     let e = (goal.at.unite-requires-clause-join c).After-index-nodes-last in
-    behind_can_join c.args.row.nodes.now c.args.right.now c.index-nodes-last.result c.requires.siblings (many e) c.requires.at_most_24 c.requires.no_higher c.index-nodes-last.is c.requires.join
+    behind_can_join c.args.row.nodes.now c.args.right.now c.index-nodes-last.result c.requires.gather.siblings (many e) c.requires.gather.at_most_24 c.requires.no_higher c.index-nodes-last.is c.requires.join
 
 pub pack-requires-clause-siblings : goal.pack-requires-clause-siblings
 pack-requires-clause-siblings c =
     let e = (goal.at.pack-requires-clause-siblings c).After-index-nodes-last in
-    rw (c.first.ensures.nodes, c.none.ensures.nodes, append-nil) (behind_siblings c.args.row.nodes.now c.args.right.now c.index-nodes-last.result c.requires.siblings (many e) c.requires.at_most_24 c.requires.no_higher c.index-nodes-last.is c.requires.join (trees_in c.in_ok-middle.middle) c.in_ok-middle.ensures.union)
+    rw (c.first.ensures.nodes, c.none.ensures.nodes, append-nil) (behind_siblings c.args.row.nodes.now c.args.right.now c.index-nodes-last.result c.requires.gather.siblings (many e) c.requires.gather.at_most_24 c.requires.no_higher c.index-nodes-last.is c.requires.join (trees_in c.in_ok-middle.middle) c.in_ok-middle.ensures.union)
 
 union : (c : In_ok-parts) → IsUnion (gathered c.args.row.nodes.now) c.args.right.now (trees_in c.in_ok-parts.parts)
 union c =
     let e = (goal.at.In_ok-parts c).After-index-nodes-last in
-    behind_union c.args.row.nodes.now c.args.right.now c.index-nodes-last.result c.requires.siblings (many e) c.requires.at_most_24 c.requires.no_higher c.index-nodes-last.is c.requires.join (trees_in c.in_ok-middle.middle) c.in_ok-middle.ensures.union
+    behind_union c.args.row.nodes.now c.args.right.now c.index-nodes-last.result c.requires.gather.siblings (many e) c.requires.gather.at_most_24 c.requires.no_higher c.index-nodes-last.is c.requires.join (trees_in c.in_ok-middle.middle) c.in_ok-middle.ensures.union
     (trees_in c.in_ok-parts.parts) (rw (c.first.ensures.nodes, c.none.ensures.nodes, append-nil) at c.in_ok-parts.ensures.leaves) (rw (c.first.ensures.nodes, c.none.ensures.nodes, append-nil) at c.in_ok-parts.ensures.shape)
 
 pub root_of-requires : goal.root_of-requires
@@ -38,10 +38,10 @@ returns-clause-join c =
     IfOk-weaker c.root_of.result _ (IsJoin (gathered c.args.row.nodes.now) c.args.right.now) (λ node e. join_root (gathered c.args.row.nodes.now) c.args.right.now node c.in_ok-parts.parts u c.requires.join e) c.root_of.ensures.ok
 
 level : (c : After-index-nodes-last) → c.index-nodes-last.result.height ≡ height_of c.args.row.nodes.now
-level c = behind_level c.args.row.nodes.now c.args.right.now c.index-nodes-last.result c.requires.siblings (many c) c.requires.at_most_24 c.requires.no_higher c.index-nodes-last.is c.requires.join
+level c = behind_level c.args.row.nodes.now c.args.right.now c.index-nodes-last.result c.requires.gather.siblings (many c) c.requires.gather.at_most_24 c.requires.no_higher c.index-nodes-last.is c.requires.join
 
 near : (c : After-index-nodes-last) → IsNear c.index-nodes-last.result c.args.right.now
-near c = behind_near c.args.row.nodes.now c.args.right.now c.index-nodes-last.result c.requires.siblings (many c) c.requires.at_most_24 c.requires.no_higher c.index-nodes-last.is c.requires.join c.requires.near
+near c = behind_near c.args.row.nodes.now c.args.right.now c.index-nodes-last.result c.requires.gather.siblings (many c) c.requires.gather.at_most_24 c.requires.no_higher c.index-nodes-last.is c.requires.join c.requires.near
 
 pub returns-clause-made_ok : goal.returns-clause-made_ok
 returns-clause-made_ok c =
