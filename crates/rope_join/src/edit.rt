@@ -1,4 +1,4 @@
-//! Trees split, with a part taken out or put in, and put one behind the other. Where a CR and an LF would meet at a seam, the two
+//! Trees with a part taken out or put in, and put one behind the other. Where a CR and an LF would meet at a seam, the two
 //! become a leaf of their own between what stands before and what follows, so that no CR LF lies across two leaves.
 ghost use Rattle.std.specs.Prelude.{◌≡◌, ◌+◌, ◌*◌, ◌<◌, ◌≤◌, ◌^◌, ◌++◌, length, take, drop, max, IfOk, OnOk, OnErr};
 ghost use Rattle.std.specs.Str.{chars};
