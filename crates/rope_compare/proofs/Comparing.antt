@@ -56,6 +56,12 @@ tested_equal xs ys e = (bytes_decides xs ys).0 (of_not_false (pointwise nat_eq x
 pub tested_unequal : (xs ys : List ℕ) → true ≡ not (pointwise nat_eq xs ys) → xs ≡ ys → ⊥
 tested_unequal xs ys e f = let g = (bytes_decides xs ys).1 f in let h : true ≡ false = e ∙ ap not g in cc
 
+-- pieces that are not the same don't tie
+pub untied : (o : Ordering) → (o ≡ Equal → ⊥) → not (ordering_index o == 1) ≡ true
+untied Less other = refl
+untied Equal other = absurd (other refl)
+untied Greater other = refl
+
 pub tested_tie : (o : Ordering) → (ordering_index o == 1) ≡ true → o ≡ Equal
 tested_tie Less e = cc
 tested_tie Equal e = refl

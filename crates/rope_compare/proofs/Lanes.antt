@@ -1,6 +1,6 @@
 -- Lanes compared, and the mask of those that differ.
-use Rattle.std.proofs.Common.{◌≡◌, ℕ, ◌+◌, ◌-◌, ◌*◌, ◌^◌, ◌%◌, ◌≤◌, Bool, true, false, not, cond, eqb, List, [], ◌∷◌, map, length, get_or, zero, suc, inl, inr, refl, sym, ap, ap₂, ◌∙◌, arith}
-use Rattle.std.proofs.lemmas.Bool.{eqb-true, eq-eqb, cases_lt}
+use Rattle.std.proofs.Common.{◌≡◌, ℕ, ◌+◌, ◌-◌, ◌*◌, ◌^◌, ◌%◌, ◌≤◌, Bool, true, false, not, cond, eqb, List, [], ◌∷◌, map, length, get_or, zero, suc, refl, sym, ap, ap₂, ◌∙◌, arith}
+use Rattle.std.proofs.lemmas.Bool.{eqb-true, eq-eqb}
 use Rattle.std.proofs.lemmas.List.{length-map}
 use Rattle.std.proofs.lemmas.Simd.{mask_l-mod, length-zip2, length-chunk, get_or-chunk}
 use lib.Bits.{bit_or}
@@ -14,10 +14,6 @@ count b = cond b 1 0
 abbrev pub other : ℕ → ℕ → ℕ
 other a b = cond (not (eqb a b)) 255 0
 
-one_lane : (s : Bool) → count (top 7 (cond (not s) 255 0)) ≡ 0 → s ≡ true
-one_lane true e = refl
-one_lane false e = cc
-
 two_lanes : (s t : Bool) → count (top 7 (bit_or (cond (not s) 255 0) (cond (not t) 255 0))) ≡ 0 → (s ≡ true) × (t ≡ true)
 two_lanes true true e = (refl, refl)
 two_lanes true false e = cc
@@ -29,20 +25,6 @@ head_none a b e = omega (arith, e)
 
 tail_none : (a b : ℕ) → a + 2 * b ≡ 0 → b ≡ 0
 tail_none a b e = omega (arith, e)
-
-none_other : (xs ys : List ℕ) → length xs ≡ length ys → mask_l (map (top 7) (zip2 other xs ys)) ≡ 0 → xs ≡ ys
-none_other [] [] long e = refl
-none_other [] (y ∷ ys) long e = absurd (omega (arith, long))
-none_other (x ∷ xs) [] long e = absurd (omega (arith, long))
-none_other (x ∷ xs) (y ∷ ys) long e =
-    ap₂ (λ a b. a ∷ b) (eqb-true x y (one_lane (eqb x y) (head_none _ _ e))) (none_other xs ys (omega (arith, long)) (tail_none _ _ e))
-
-same_lane : (x : ℕ) → count (top 7 (other x x)) ≡ 0
-same_lane x = ap (λ s. count (top 7 (cond (not s) 255 0))) (eq-eqb x x refl)
-
-all_same : (xs : List ℕ) → mask_l (map (top 7) (zip2 other xs xs)) ≡ 0
-all_same [] = refl
-all_same (x ∷ xs) = let e = same_lane x in let f = all_same xs in omega (arith, e, f)
 
 same_lanes : (x z : ℕ) → count (top 7 (bit_or (other x x) (other z z))) ≡ 0
 same_lanes x z = ap (λ s. count (top 7 (bit_or (cond (not s) 255 0) (other z z)))) (eq-eqb x x refl) ∙ ap (λ s. count (top 7 (bit_or 0 (cond (not s) 255 0)))) (eq-eqb z z refl)
@@ -72,9 +54,6 @@ none_of_both (x ∷ xs) [] c d n e f g h m = absurd (omega (arith, e, f))
 none_of_both (x ∷ xs) (y ∷ ys) [] d n e f g h m = absurd (omega (arith, e, g))
 none_of_both (x ∷ xs) (y ∷ ys) (z ∷ zs) [] n e f g h m = absurd (omega (arith, e, h))
 
-length-other : (xs ys : List ℕ) (n : ℕ) → length xs ≡ n → length ys ≡ n → length (map (top 7) (zip2 other xs ys)) ≡ n
-length-other xs ys n e f = length-map (zip2 other xs ys) (top 7) ∙ length-zip2 other xs ys (e ∙ sym f) ∙ e
-
 length-both : (a b c d : List ℕ) (n : ℕ) → length a ≡ n → length b ≡ n → length c ≡ n → length d ≡ n → length (map (top 7) (zip2 bit_or (zip2 other a b) (zip2 other c d))) ≡ n
 length-both a b c d n e f g h =
     let left = length-zip2 other a b (e ∙ sym f) ∙ e in
@@ -92,37 +71,27 @@ from_chunks xs ys at n e = record {
       ∙ get_or-chunk at n ys (k - at) 0 (omega (arith, from, to)) ∙ ap (λ j. get_or ys j 0) place;
 }
 
-module _ (xs ys : List ℕ) (at n : ℕ) (few : n ≤ 64) where
-  -- where no lane differs, so many bytes are the same
-  pub block_same : at + n ≤ length xs → at + n ≤ length ys → mask_l (map (top 7) (zip2 other (chunk at n xs) (chunk at n ys))) % 2 ^ 64 ≡ 0 → IsSameFrom xs ys at n
-  block_same x y none =
-      let e = length-chunk at n xs x in
-      let f = length-chunk at n ys y in
-      from_chunks xs ys at n (none_other (chunk at n xs) (chunk at n ys) (e ∙ sym f) (no_mask _ n (length-other _ _ n e f) few none))
+-- where no lane differs in either block, both are the same
+module _ (xs ys : List ℕ) (at next n : ℕ) (few : n ≤ 64) where
+  abbrev others : List ℕ
+  others = zip2 bit_or (zip2 other (chunk at n xs) (chunk at n ys)) (zip2 other (chunk next n xs) (chunk next n ys))
 
-  pub pair_same : (at + n) + n ≤ length xs → (at + n) + n ≤ length ys
-      → mask_l (map (top 7) (zip2 bit_or (zip2 other (chunk at n xs) (chunk at n ys)) (zip2 other (chunk (at + n) n xs) (chunk (at + n) n ys)))) % 2 ^ 64 ≡ 0 → IsSameFrom xs ys at (n + n)
-  pair_same x y none =
-      let a = length-chunk at n xs (omega (arith, x)) in
-      let b = length-chunk at n ys (omega (arith, y)) in
-      let c = length-chunk (at + n) n xs x in
-      let d = length-chunk (at + n) n ys y in
-      let both = none_of_both _ _ _ _ n a b c d (no_mask _ n (length-both _ _ _ _ n a b c d) few none) in
-      let first = from_chunks xs ys at n both.first in
-      let second = from_chunks xs ys (at + n) n both.second in
-      record {
-        same = λ k from to. elim (cases_lt k (at + n)) [
-          | inl near ↦ first.same k from near
-          | inr far ↦ second.same k far (omega (arith, to))
-        ];
-      }
+  both_same : length xs ≡ length ys → at + n ≤ length xs → next + n ≤ length xs → mask_l (map (top 7) others) % 2 ^ 64 ≡ 0 → AreSame (chunk at n xs) (chunk at n ys) (chunk next n xs) (chunk next n ys)
+  both_same size x z none =
+      let a = length-chunk at n xs x in
+      let b = length-chunk at n ys (omega (arith, size, x)) in
+      let c = length-chunk next n xs z in
+      let d = length-chunk next n ys (omega (arith, size, z)) in
+      none_of_both _ _ _ _ n a b c d (no_mask _ n (length-both _ _ _ _ n a b c d) few none)
+
+  pub first_same : length xs ≡ length ys → at + n ≤ length xs → next + n ≤ length xs → mask_l (map (top 7) others) % 2 ^ 64 ≡ 0 → IsSameFrom xs ys at n
+  first_same size x z none = from_chunks xs ys at n (both_same size x z none).first
+
+  pub second_same : length xs ≡ length ys → at + n ≤ length xs → next + n ≤ length xs → mask_l (map (top 7) others) % 2 ^ 64 ≡ 0 → IsSameFrom xs ys next n
+  second_same size x z none = from_chunks xs ys next n (both_same size x z none).second
 
   -- and the other way round
-  pub same_block : xs ≡ ys → mask_l (map (top 7) (zip2 other (chunk at n xs) (chunk at n ys))) % 2 ^ 64 ≡ 0
-  same_block e = ap (λ l. mask_l (map (top 7) (zip2 other (chunk at n xs) (chunk at n l))) % 2 ^ 64) (sym e) ∙ ap (λ m. m % 2 ^ 64) (all_same (chunk at n xs))
-
-  pub same_pair : xs ≡ ys
-      → mask_l (map (top 7) (zip2 bit_or (zip2 other (chunk at n xs) (chunk at n ys)) (zip2 other (chunk (at + n) n xs) (chunk (at + n) n ys)))) % 2 ^ 64 ≡ 0
-  same_pair e =
-      ap (λ l. mask_l (map (top 7) (zip2 bit_or (zip2 other (chunk at n xs) (chunk at n l)) (zip2 other (chunk (at + n) n xs) (chunk (at + n) n l)))) % 2 ^ 64) (sym e)
-      ∙ ap (λ m. m % 2 ^ 64) (all_same_both (chunk at n xs) (chunk (at + n) n xs))
+  pub same_blocks : xs ≡ ys → mask_l (map (top 7) others) % 2 ^ 64 ≡ 0
+  same_blocks e =
+      ap (λ l. mask_l (map (top 7) (zip2 bit_or (zip2 other (chunk at n xs) (chunk at n l)) (zip2 other (chunk next n xs) (chunk next n l)))) % 2 ^ 64) (sym e)
+      ∙ ap (λ m. m % 2 ^ 64) (all_same_both (chunk at n xs) (chunk next n xs))

@@ -28,24 +28,13 @@ pub fn order(left: &Part<'_>, right: &Part<'_>) -> Ordering
         }
         let (front, rest) = x.split_at(n);
         let (other_front, other_rest) = y.split_at(n);
-        let found = order_of_pieces(front, other_front);
-        if found != Ordering::Equal {
-            return found;
+        // Mostly they are the same, and that is found faster than where they differ.
+        if !are_same(front, other_front) {
+            return front.cmp(other_front);
         }
         x = filled(rest, &mut lefts);
         y = filled(other_rest, &mut rights);
     }
-}
-
-// The order of two pieces. Mostly they are the same, and that is found faster than where they differ.
-fn order_of_pieces(left: &[u8], right: &[u8]) -> Ordering
-    requires { length left.now ≡ length right.now }
-    ensures { result ≡ slice_cmp nat_cmp left.now right.now }
-{
-    if are_same(left, right) {
-        return Ordering::Equal;
-    }
-    left.cmp(right)
 }
 
 /// Whether two texts are the same, however each is cut. No memory is taken, and no text is read where the lengths differ.
@@ -55,8 +44,7 @@ pub fn is_same(left: &Part<'_>, right: &Part<'_>) -> bool
     if left.len_bytes() != right.len_bytes() {
         return false;
     }
-    let mut pair = Pair::of(left, right);
-    pair.is_same()
+    Pair::of(left, right).is_same()
 }
 
 /// Whether the text is this one. No memory is taken, and no text is read where the lengths differ.

@@ -48,16 +48,6 @@ impl<'a> Pair<'a> {
         }
     }
 
-    // Whether any bytes are left.
-    #[inline(always)]
-    fn is_open(&self) -> bool
-        ensures open { OnTrue result (0 < length self.now.left) }
-        ensures left { OnFalse result (self.now.left ≡ []) }
-        ensures right { OnFalse result (self.now.right ≡ []) }
-    {
-        !self.x.is_empty()
-    }
-
     // Compares the fronts, up to the end of the shorter, and passes them where they are the same. Answers whether they are.
     #[inline(always)]
     fn pass(&mut self) -> bool
@@ -80,7 +70,7 @@ impl<'a> Pair<'a> {
     pub(crate) fn is_same(&mut self) -> bool
         ensures { IsTrue result ↔ (self.old.left ≡ self.old.right) }
     {
-        while self.is_open() {
+        while !self.x.is_empty() {
             if !self.pass() {
                 return false;
             }

@@ -4,31 +4,20 @@ ghost use Rattle.rope_compare.specs.Same.{IsSameFrom};
 
 use std::simd::prelude::*;
 
-// Whether the 64 bytes of each from `at` on are the same. Where the texts are, no block differs.
+// Whether the 64 bytes from `at` on, and those from `next` on, are the same in both, by one test.
 #[inline(always)]
-fn is_same_block(left: &[u8], right: &[u8], at: usize) -> bool
-    requires left { at + 64 ≤ length left.now }
-    requires right { at + 64 ≤ length right.now }
-    ensures same { IsTrue result → IsSameFrom left.now right.now at 64 }
+fn are_same_blocks(left: &[u8], right: &[u8], at: usize, next: usize) -> bool
+    requires size { length left.now ≡ length right.now }
+    requires first { at + 64 ≤ length left.now }
+    requires second { next + 64 ≤ length left.now }
+    ensures first { IsTrue result → IsSameFrom left.now right.now at 64 }
+    ensures second { IsTrue result → IsSameFrom left.now right.now next 64 }
     ensures other { left.now ≡ right.now → IsTrue result }
 {
     let x = u8x64::from_slice(&left[at..]);
     let y = u8x64::from_slice(&right[at..]);
-    x.simd_ne(y).to_bitmask() == 0
-}
-
-// The same for 128 bytes, by one test.
-#[inline(always)]
-fn is_same_pair(left: &[u8], right: &[u8], at: usize) -> bool
-    requires left { at + 128 ≤ length left.now }
-    requires right { at + 128 ≤ length right.now }
-    ensures same { IsTrue result → IsSameFrom left.now right.now at 128 }
-    ensures other { left.now ≡ right.now → IsTrue result }
-{
-    let x = u8x64::from_slice(&left[at..]);
-    let y = u8x64::from_slice(&right[at..]);
-    let z = u8x64::from_slice(&left[at + 64..]);
-    let w = u8x64::from_slice(&right[at + 64..]);
+    let z = u8x64::from_slice(&left[next..]);
+    let w = u8x64::from_slice(&right[next..]);
     (x.simd_ne(y) | z.simd_ne(w)).to_bitmask() == 0
 }
 
@@ -44,11 +33,11 @@ pub(crate) fn are_same(left: &[u8], right: &[u8]) -> bool
     }
     let mut at = 0;
     while size - at >= 128 {
-        if !is_same_pair(left, right, at) {
+        if !are_same_blocks(left, right, at, at + 64) {
             return false;
         }
         at += 128;
     }
     let last = size - 64;
-    is_same_block(left, right, at.min(last)) && is_same_block(left, right, last)
+    are_same_blocks(left, right, at.min(last), last)
 }

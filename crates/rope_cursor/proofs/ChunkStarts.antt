@@ -5,8 +5,11 @@ use Rattle.std.specs.List.{concat}
 use Rattle.std.proofs.lemmas.Bool.Decides.{nat_tests}
 use Rattle.std.proofs.lemmas.Bool.{cases_eq, cases_lt}
 use Rattle.std.proofs.lemmas.List.{length-append, nil_from_length, take_at, take_all}
+use Rattle.std.proofs.lemmas.Str.{length-le-encodes}
 use Rattle.std.proofs.Math.Seq.{get_or-append_seam}
 use Rattle.rope_text.specs.declared.line_breaks.LineBreaks.{LineBreaks}
+use Rattle.rope_text.specs.declared.text_info.TextInfo.{TextInfo}
+use Rattle.rope_text.specs.TextInfo.{info_of}
 use Rattle.rope_text.specs.Text.{byte_len}
 use Rattle.rope_text.specs.Breaks.{break_count}
 use Rattle.rope_text.specs.Cutting.{IsCutting}
@@ -130,6 +133,10 @@ module _ (p : Place) (text : List ℕ) (chunks : List (List ℕ)) (cut : IsCutti
         rw other (append_assoc p.before (p.here ∷ []) p.after ∙ same (omega arith))
   ]
 
+  pub items_by : (past : Bool) → all_items (at_chunk p (chars == 0) past false) ≡ chunks
+  items_by true = items_past
+  items_by false = items_here
+
   -- it is the first one, where nothing lies before it
   pub first_here : length (concat p.before) ≡ 0 → at_chunk p (chars == 0) false false ≡ at_start chunks
   first_here nothing = elim (cases_eq chars 0) [
@@ -155,13 +162,6 @@ module _ (p : Place) (text : List ℕ) (chunks : List (List ℕ)) (cut : IsCutti
         rw other (last_place p chunks (same (omega arith)) cut.nonempty at within (at_is ∙ ap length (sym cut.joined)))
   ]
 
--- the place is past the last chunk at the end of the text, and else that of the chunk that is found
-pub placed_inside : (breaks : LineBreaks) (chunks : List (List ℕ)) (i n k : ℕ) (s : Sides (List ℕ)) (bytes chars count : ℕ) → (i ≡ n → ⊥) → IsPlaced breaks chunks k s bytes chars count
-    → IsPlaced breaks chunks (if i == n then length chunks else k) s bytes chars count
-placed_inside breaks chunks i n k s bytes chars count other placed =
-    let e : (i == n) ≡ false = grind (arith, nat_tests) in
-    rw e placed
-
 -- the counts of the whole text lie before its end
 pub all_before : (breaks : LineBreaks) (chunks : List (List ℕ)) (bytes chars count : ℕ) → bytes ≡ byte_len (concat chunks) → chars ≡ length (concat chunks) → count ≡ break_count breaks (concat chunks)
     → LieBefore (found_chunk breaks chunks (length chunks)) bytes chars count
@@ -169,3 +169,59 @@ unfolding found_chunk
 all_before breaks chunks bytes chars count b c l =
     let all : front_chunks chunks (length chunks) ≡ concat chunks = ap concat (take_all (length chunks) chunks (omega arith)) in
     rw all (record { bytes_are = b; chars_are = c; count_is = l ∙ sym (char_to_line_end breaks (concat chunks)) })
+
+-- before the end of the text the place is that of the chunk that is found
+pub placed_inside : (breaks : LineBreaks) (chunks : List (List ℕ)) (i n k : ℕ) (s : Sides (List ℕ)) (bytes chars count : ℕ) → (i ≡ n → ⊥) → IsPlaced breaks chunks k s bytes chars count
+    → IsPlaced breaks chunks (if i == n then length chunks else k) s bytes chars count
+placed_inside breaks chunks i n k s bytes chars count other placed =
+    let e : (i == n) ≡ false = grind (arith, nat_tests) in
+    rw e placed
+
+-- and at the end it is past the last chunk
+pub place_at_end : (chunks : List (List ℕ)) (i n k : ℕ) → i ≡ n → (if i == n then length chunks else k) ≡ length chunks
+place_at_end chunks i n k at_end =
+    let e : (i == n) ≡ true = grind (arith, nat_tests) in
+    rw e refl
+
+module _ (breaks : LineBreaks) (p : Place) (text : List ℕ) (chunks : List (List ℕ)) (cut : IsCutting text chunks) (whole : concat (leaves p) ≡ text) (same : 0 < length text → leaves p ≡ chunks) (info : TextInfo) (info_is : info ≡ info_of breaks text)
+    (i m n k : ℕ) (end_is : m ≡ n) (bytes chars count b c l : ℕ)
+    (past : (i == m) ≡ true → (bytes ≡ info.bytes) × (chars ≡ info.chars) × (count ≡ info.break_count)) (here : (i == m) ≡ false → (bytes ≡ b) × (chars ≡ c) × (count ≡ l))
+    (ends : i ≡ n → length text ≤ length (concat p.before) + length p.here) (found : (i ≡ n → ⊥) → IsPlaced breaks chunks k (at_chunk p (info.chars == 0) false false) b c l) where
+  all_chars : info.chars ≡ length text
+  all_chars = ap (λ i. i.chars) info_is
+
+  pub placed_by : IsPlaced breaks chunks (if i == n then length chunks else k) (at_chunk p (info.chars == 0) (i == m) false) bytes chars count
+  placed_by = elim (cases_eq i n) [
+    | inl at_end ↦
+        let e : (i == n) ≡ true = grind (arith, nat_tests) in
+        let f : (i == m) ≡ true = grind (arith, nat_tests) in
+        let parts = ap length (sym whole ∙ concat-append p.before (p.here ∷ p.after)) ∙ length-append (concat p.before) (p.here ++ concat p.after) in
+        let at = past f in
+        let joined = sym cut.joined in
+        rw (e, f) (record {
+          place_is = ends_here p text chunks cut whole same info.chars all_chars (length p.here) (omega (arith, parts, ends at_end, length-append p.here (concat p.after))) (omega arith);
+          before = all_before breaks chunks bytes chars count
+              (at.0 ∙ ap (λ i. i.bytes) info_is ∙ ap byte_len joined) (at.1 ∙ all_chars ∙ ap length joined) (at.2 ∙ ap (λ i. i.break_count) info_is ∙ ap (break_count breaks) joined);
+        })
+    | inr inside ↦
+        let e : (i == n) ≡ false = grind (arith, nat_tests) in
+        let f : (i == m) ≡ false = grind (arith, nat_tests) in
+        let at = here f in
+        let q = found inside in
+        rw (e, f, at.0, at.1, at.2) q
+  ]
+
+-- a chunk that has the last byte has the last character
+pub ends_by_bytes : (p : Place) (text : List ℕ) → concat (leaves p) ≡ text → byte_len text ≤ byte_len (concat p.before) + byte_len p.here → length text ≤ length (concat p.before) + length p.here
+ends_by_bytes p text whole le =
+    let parts : text ≡ concat p.before ++ (p.here ++ concat p.after) = sym whole ∙ concat-append p.before (p.here ∷ p.after) in
+    omega (
+      arith,
+      ap byte_len parts,
+      IsMeasure-byte_len.joined (concat p.before) (p.here ++ concat p.after),
+      IsMeasure-byte_len.joined p.here (concat p.after),
+      length-le-encodes (concat p.after),
+      ap length parts,
+      length-append (concat p.before) (p.here ++ concat p.after),
+      length-append p.here (concat p.after),
+    )

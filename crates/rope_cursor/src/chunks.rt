@@ -1,5 +1,5 @@
 //! A cursor over the chunks of a part.
-ghost use Rattle.std.specs.Prelude.{◌≡◌, ◌≤◌, ◌==◌, List, ⊤, false, length};
+ghost use Rattle.std.specs.Prelude.{◌≡◌, ◌≤◌, ◌==◌, List, ⊤, true, false, length};
 ghost use Rattle.std.specs.Bool.{MatchBool};
 ghost use Rattle.std.specs.Str.{chars};
 ghost use Rattle.std.specs.Iterator.{YieldsFirstBy, item_count};
@@ -40,8 +40,8 @@ impl<'a> Model for Chunks<'a> {
 }
 
 impl<'a> Chunks<'a> {
-    // A cursor before the chunk of a span, or past it, facing forward, and the bytes, the characters and the line breaks of the
-    // text before the chunk.
+    // A cursor before the chunk of a span, or past it where that is the last, facing forward, and the bytes, the characters and
+    // the line breaks of the text before its place.
     // Expanded where it is called: a way is half a kilobyte, and is then moved once less.
     #[inline(always)]
     fn found(
@@ -50,9 +50,8 @@ impl<'a> Chunks<'a> {
         is_past: bool,
     ) -> (Chunks<'a>, usize, usize, usize)
         ensures chunk { result.0 ≡ at_chunk span.entry.0 (info.chars == 0) is_past false }
-        ensures bytes { result.1 ≡ span.entry.1 }
-        ensures chars { result.2 ≡ span.entry.2 }
-        ensures breaks { result.3 ≡ span.entry.3 }
+        ensures here { is_past ≡ false → (result.1 ≡ span.entry.1) × (result.2 ≡ span.entry.2) × (result.3 ≡ span.entry.3) }
+        ensures past { is_past ≡ true → (result.1 ≡ info.bytes) × (result.2 ≡ info.chars) × (result.3 ≡ info.break_count) }
     {
         let (span, bytes, chars, break_count) = span;
         let chunks = Chunks {
@@ -61,20 +60,10 @@ impl<'a> Chunks<'a> {
             is_past,
             is_backward: false,
         };
+        if is_past {
+            return (chunks, info.bytes, info.chars, info.break_count);
+        }
         (chunks, bytes, chars, break_count)
-    }
-
-    // A cursor past the last chunk, facing forward, and the bytes, the characters and the line breaks of the text.
-    fn at_end(part: &Part<'a>) -> (Chunks<'a>, usize, usize, usize)
-        ensures items { all_items result.0 ≡ chunks_of part.now }
-        ensures place { place result.0 ≡ length (chunks_of part.now) }
-        ensures forward { result.0.is_backward ≡ false }
-        ensures before { LieBefore (found_chunk (breaks_of part.now) (chunks_of part.now) (length (chunks_of part.now)))
-            result.1 result.2 result.3 }
-    {
-        let info = part.info();
-        let (chunks, _, _, _) = Chunks::found(info, Span::with_char(part, info.chars), true);
-        (chunks, info.bytes, info.chars, info.break_count)
     }
 
     /// A cursor before the first chunk, facing forward.
@@ -96,10 +85,8 @@ impl<'a> Chunks<'a> {
             (chunk_place_at_byte (chunks_of part.now) byte_idx)) result.1 result.2 result.3 }
     {
         let info = part.info();
-        if byte_idx == info.bytes {
-            return Chunks::at_end(part);
-        }
-        Chunks::found(info, Span::with_byte(part, byte_idx), false)
+        let span = Span::with_byte(part, byte_idx);
+        Chunks::found(info, span, byte_idx == info.bytes)
     }
 
     /// A cursor before the chunk that holds a character, facing forward; at the end of the text past the last chunk. With it
@@ -113,10 +100,8 @@ impl<'a> Chunks<'a> {
             (chunk_place_at_char (chunks_of part.now) char_idx)) result.1 result.2 result.3 }
     {
         let info = part.info();
-        if char_idx == info.chars {
-            return Chunks::at_end(part);
-        }
-        Chunks::found(info, Span::with_char(part, char_idx), false)
+        let span = Span::with_char(part, char_idx);
+        Chunks::found(info, span, char_idx == info.chars)
     }
 
     /// A cursor before the first chunk by whose end so many line breaks have ended, facing forward; one more than there are
@@ -134,7 +119,7 @@ impl<'a> Chunks<'a> {
     {
         let info = part.info();
         if line_break_idx == part.len_lines() {
-            return Chunks::at_end(part);
+            return Chunks::at_char(part, info.chars);
         }
         let end = part.convert(Unit::LineBreak, Unit::Char, line_break_idx);
         Chunks::found(info, Span::with_char(part, end.saturating_sub(1)), false)

@@ -1,14 +1,14 @@
 -- A node cut at one of its children.
-use Rattle.std.proofs.Common.{◌≡◌, ℕ, ◌+◌, ◌-◌, ◌^◌, ◌<◌, ◌≤◌, List, [], ◌∷◌, ◌++◌, length, take, drop, get_or, refl, sym, ap, subst, ◌∙◌, arith, inl, inr}
+use Rattle.std.proofs.Common.{◌≡◌, ℕ, ◌+◌, ◌^◌, ◌<◌, ◌≤◌, List, [], ◌∷◌, ◌++◌, length, take, drop, get_or, refl, sym, ap, subst, ◌∙◌, arith, inl, inr}
 use Rattle.std.specs.List.{concat, All}
 use Rattle.std.proofs.lemmas.Bool.{cases_lt}
-use Rattle.std.proofs.lemmas.List.{append-nil, length-drop, length-take-le, take_all, take-append-drop, nil_from_length}
+use Rattle.std.proofs.lemmas.List.{append-nil, length-drop, length-take-le, take-append-drop, nil_from_length}
 use Rattle.rope_text.specs.declared.line_breaks.LineBreaks.{LineBreaks}
 use Rattle.rope_text.specs.Text.{byte_len}
 use Rattle.rope_text.proofs.Measures.{IsMeasure-byte_len}
 use Rattle.rope_text.proofs.CuttingLaws.{concat-append}
 use Rattle.rope_tree.specs.Leaves.{AreLeaves, IsSeam}
-use Rattle.rope_tree.specs.Tree.{Tree, text, joined, leaves_of, height_of, breaks_of, tree_over, leaf_tree, IsTree, IsChild, AreChildren}
+use Rattle.rope_tree.specs.Tree.{Tree, text, joined, leaves_of, height_of, breaks_of, tree_over, IsTree, IsChild, AreChildren}
 use Rattle.rope_tree.specs.Siblings.{AreSiblings}
 use Rattle.rope_text.specs.Dense.{IsDenseBehind, last_bytes}
 use Rattle.rope_text.proofs.DenseLaws.{last_bytes-append, last_bytes-some, dense_left, dense_right, dense_more}
@@ -19,7 +19,6 @@ use Rattle.rope_tree.proofs.NodeLaws.{child_at}
 use Rattle.rope_tree.proofs.Descents.{leaves_at}
 use Rattle.rope_tree.proofs.InsertTrees.{text_around}
 use Rattle.rope_tree.proofs.InsertLaws.{front_of, rest_of}
-use Rattle.rope_tree.proofs.InsertLeaves.{text_of_leaf}
 use Rattle.rope_join.specs.Join.{CanJoin, IsNear, IsJoin}
 use Rattle.rope_join.proofs.Gathered.{IsGathered}
 use Rattle.rope_join.specs.Cut.{IsFront, IsBack}
@@ -211,39 +210,13 @@ module _ (n : Tree) (xs : List Tree) (t : Tree) (ys : List Tree) (s : CutsAt n x
                 rw (s.leaves_is, last_bytes-append a (leaves_of xs) (t.leaves ++ leaves_of ys), last_bytes-append front t.leaves (leaves_of ys)) (rw gi.leaves at last);
           }
 
--- a leaf's parts
-pub leaf_front : (n r : Tree) (l new : List ℕ) (k : ℕ) → n ≡ leaf_tree n.breaks l → new ≡ take k l → r ≡ leaf_tree n.breaks new → IsTree r → IsFront k n r
-leaf_front n r l new k e is f i = record {
-  text_is = text_of_leaf n.breaks r new f ∙ is ∙ ap (take k) (sym (text_of_leaf n.breaks n l e));
-  same_breaks = ap (λ z. z.breaks) f;
-  leaves = i.leaves;
-  not_higher = omega (arith, ap (λ z. z.height) f);
-  near = λ high. absurd (omega (arith, ap (λ z. z.height) f));
-}
-
-pub leaf_back : (n r : Tree) (l new : List ℕ) (k : ℕ) → n ≡ leaf_tree n.breaks l → new ≡ drop k l → r ≡ leaf_tree n.breaks new → IsTree r → IsBack k n r
-leaf_back n r l new k e is f i = record {
-  text_is = text_of_leaf n.breaks r new f ∙ is ∙ ap (drop k) (sym (text_of_leaf n.breaks n l e));
-  same_breaks = ap (λ z. z.breaks) f;
-  leaves = i.leaves;
-  not_higher = omega (arith, ap (λ z. z.height) f);
-  near = λ high. absurd (omega (arith, ap (λ z. z.height) f));
-}
-
 -- all of a tree
-pub whole_front : (n r : Tree) (at : ℕ) → IsTree n → at ≡ length (text n) → r ≡ n → IsFront at n r
-whole_front n r at i z e = rw e (record { text_is = sym (take_all at (text n) (omega arith)); same_breaks = refl; leaves = i.leaves; not_higher = omega arith; near = λ _ k dense. dense })
-
 some_list : (ls : List (List ℕ)) → 1 ≤ length (concat ls) → 1 ≤ length ls
 some_list [] some = absurd (omega arith)
 some_list (l ∷ ls) some = omega arith
 
 pub whole_back : (n r : Tree) (at : ℕ) → IsTree n → at ≡ 0 → 1 ≤ length (text n) → r ≡ n → IsBack at n r
 whole_back n r at i z some e = rw (e, z) (record { text_is = refl; same_breaks = refl; leaves = i.leaves; not_higher = omega arith; near = λ _ a b. omega (arith, last_bytes-some a b n.leaves (some_list n.leaves some)) })
-
--- what the slices around a child have
-pub back_trees : (ts : List Tree) (k : ℕ) → take (length ts - k) (drop k ts) ≡ drop k ts
-back_trees ts k = take_all (length ts - k) (drop k ts) (omega (arith, length-drop k ts))
 
 -- a part that has a character has a leaf
 some_leaf : (p : Tree) → 1 ≤ length (text p) → 1 ≤ length p.leaves

@@ -1,5 +1,5 @@
 -- Trees side by side as one.
-use Rattle.std.proofs.Common.{◌≡◌, ◌+◌, ◌≤◌, List, [], ◌∷◌, length, get_or, refl, sym, arith}
+use Rattle.std.proofs.Common.{◌≡◌, ◌+◌, ◌≤◌, List, [], ◌∷◌, length, refl, sym, arith}
 use Rattle.std.proofs.lemmas.List.{append-nil}
 use Rattle.rope_tree.specs.Tree.{Tree, leaves_of, height_of, breaks_of, tree_over}
 use Rattle.rope_join.specs.Join.{gathered}
@@ -28,11 +28,6 @@ is_gathered (t ∷ u ∷ ts) some = record {
   more = λ _. refl;
   width = λ _. refl;
 }
-
-pub gathered_alone : (ts : List Tree) (t : Tree) → length ts ≡ 1 → t ≡ get_or ts 0 t → gathered ts ≡ t
-gathered_alone [] t one is = absurd (omega arith)
-gathered_alone (u ∷ []) t one is = sym is
-gathered_alone (u ∷ v ∷ ts) t one is = absurd (omega arith)
 
 pub gathered_over : (ts : List Tree) → 2 ≤ length ts → gathered ts ≡ tree_over ts
 gathered_over [] many = absurd (omega arith)

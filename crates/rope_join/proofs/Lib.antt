@@ -1,9 +1,11 @@
 pub mod Unions
 pub mod NearLaws
+pub mod Sides
 pub mod Gathered
 pub mod Rows
 pub mod Whole
 pub mod Cuts
+pub mod Empty
 pub mod Seams
 pub mod PartCounts
 pub mod PartTexts

@@ -1,40 +1,26 @@
 -- The leaves next to where two trees meet, by those of a child.
-use Rattle.std.proofs.Common.{◌≡◌, ℕ, ◌≤◌, List, [], ◌∷◌, ◌++◌, length, sym, ap, subst, ◌∙◌, arith}
-use Rattle.std.specs.List.{concat}
+use Rattle.std.proofs.Common.{◌≡◌, ℕ, ◌≤◌, List, [], ◌∷◌, ◌++◌, length, sym, ap, subst, ◌∙◌}
 use Rattle.std.proofs.lemmas.List.{append-nil}
 use Rattle.std.proofs.lemmas.List.Elements.{All-head}
-use Rattle.rope_text.specs.declared.line_breaks.LineBreaks.{LineBreaks}
 use Rattle.rope_text.specs.Dense.{IsDenseBehind, last_bytes}
 use Rattle.rope_text.proofs.DenseLaws.{last_bytes-append, last_bytes-some, dense-append, dense_left, dense_right}
-use Rattle.rope_text.specs.Breaks.{ends_in_cr}
-use Rattle.rope_text.proofs.CuttingLaws.{concat-append, ends_in_cr-append}
-use Rattle.rope_tree.specs.Tree.{Tree, text, joined, leaves_of, IsChild}
-use Rattle.rope_tree.proofs.LeafLaws.{all_right, leaves_le}
+use Rattle.rope_tree.specs.Tree.{Tree, leaves_of, IsChild}
+use Rattle.rope_tree.proofs.LeafLaws.{all_right}
 use Rattle.rope_tree.proofs.NodeLaws.{leaves_of-append}
-use Rattle.rope_join.proofs.Unions.{EndsIn, BeginsIn}
+use Rattle.rope_join.specs.Join.{EndsIn, BeginsIn}
 
-cr_behind : (s t : List ℕ) → 1 ≤ length t → ends_in_cr (s ++ t) ≡ ends_in_cr t
-cr_behind s [] some = absurd (omega arith)
-cr_behind s (c ∷ t) some = ends_in_cr-append s c t
-
-module _ (a last : Tree) (init : List Tree) (br : LineBreaks) (h : ℕ) (e : EndsIn a init last br h) where
+module _ (a last : Tree) (init : List Tree) (e : EndsIn a init last) where
   pub last_some : 1 ≤ length last.leaves
-  last_some = (All-head (IsChild br h) last [] (all_right (IsChild br h) init (last ∷ []) e.children.each)).some
+  last_some = (All-head (IsChild a.breaks last.height) last [] (all_right (IsChild a.breaks last.height) init (last ∷ []) e.children.each)).some
 
   pub last_of_last : (m n : ℕ) → last_bytes m last.leaves ≡ last_bytes n a.leaves
   last_of_last m n =
       let parts : a.leaves ≡ leaves_of init ++ last.leaves = ap (λ t. t.leaves) e.is ∙ leaves_of-append init (last ∷ []) ∙ ap (λ xs. leaves_of init ++ xs) (append-nil last.leaves) in
       last_bytes-some m (last_bytes n (leaves_of init)) last.leaves last_some ∙ sym (last_bytes-append n (leaves_of init) last.leaves) ∙ ap (last_bytes n) (sym parts)
 
-  pub cr_of_last : ends_in_cr (text last) ≡ ends_in_cr (text a)
-  cr_of_last =
-      let parts : a.leaves ≡ leaves_of init ++ last.leaves = ap (λ t. t.leaves) e.is ∙ leaves_of-append init (last ∷ []) ∙ ap (λ xs. leaves_of init ++ xs) (append-nil last.leaves) in
-      let own = All-head (IsChild br h) last [] (all_right (IsChild br h) init (last ∷ []) e.children.each) in
-      sym (cr_behind (joined init) (text last) (omega (arith, last_some, leaves_le last.leaves own.tree.leaves.each))) ∙ ap ends_in_cr (sym (ap concat parts ∙ concat-append (leaves_of init) last.leaves))
-
-module _ (b first : Tree) (rest : List Tree) (br : LineBreaks) (h : ℕ) (e : BeginsIn b first rest br h) where
+module _ (b first : Tree) (rest : List Tree) (e : BeginsIn b first rest) where
   pub first_some : 1 ≤ length first.leaves
-  first_some = (All-head (IsChild br h) first rest e.children.each).some
+  first_some = (All-head (IsChild b.breaks first.height) first rest e.children.each).some
 
   begins : b.leaves ≡ first.leaves ++ leaves_of rest
   begins = ap (λ t. t.leaves) e.is

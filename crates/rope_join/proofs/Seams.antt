@@ -2,7 +2,7 @@
 use Rattle.std.proofs.Common.{◌≡◌, ℕ, ◌+◌, ◌-◌, ◌^◌, ◌<◌, ◌≤◌, true, false, eqb, Some, slice_get, List, [], ◌∷◌, ◌++◌, length, take, drop, refl, sym, ap, ◌∙◌, arith, append_assoc}
 use Rattle.std.proofs.lemmas.Bool.{and_parts, and_right}
 use Rattle.std.proofs.lemmas.Option.{slice_get_within, get_or_from_slice_get}
-use Rattle.std.proofs.lemmas.List.{length-take-le, length-drop, drop_all, take_more, take-take, drop-drop}
+use Rattle.std.proofs.lemmas.List.{length-take-le, length-drop, take_more, take-take, drop-drop}
 use Rattle.std.specs.Str.{chars}
 use Rattle.rope_text.specs.Text.{byte_len}
 use Rattle.rope_text.specs.Breaks.{begins_with_lf, ends_in_cr}
@@ -11,13 +11,11 @@ use Rattle.rope_text.proofs.Measures.{IsMeasure-byte_len}
 use Rattle.rope_text.proofs.CuttingLaws.{concat-append, ends_in_cr-append}
 use Rattle.rope_text.proofs.TextParts.{lf_first, cr_last, some_cr}
 use Rattle.rope_tree.specs.Leaves.{IsSeam}
-use Rattle.rope_tree.specs.Tree.{Tree, text, leaf_tree, IsTree}
-use Rattle.rope_tree.proofs.LeafLaws.{no_leaves}
+use Rattle.rope_tree.specs.Tree.{Tree, text, leaf_tree}
 use Rattle.rope_tree.proofs.InsertLaws.{begins_some}
 use Rattle.rope_tree.proofs.InsertLeaves.{text_of_leaf}
 use Rattle.rope_join.proofs.Cuts.{byte_len-parts}
 use Rattle.rope_join.specs.Join.{CanJoin, IsJoin}
-use Rattle.rope_join.specs.Cut.{IsFront, IsBack}
 
 -- the last of the first characters
 pub ends_at : (xs : List ℕ) (i x : ℕ) → slice_get xs i ≡ Some x → ends_in_cr (take (i + 1) xs) ≡ eqb x 13
@@ -36,7 +34,7 @@ pub byte_len-pair : byte_len (13 ∷ 10 ∷ []) ≡ 2
 unfolding lib.Utf8.encode
 byte_len-pair = refl
 
-module _ (a p b : Tree) (ia : IsTree a) (ip : IsTree p) (ib : IsTree b) (breaks : b.breaks ≡ a.breaks) (e : p ≡ leaf_tree a.breaks (13 ∷ 10 ∷ [])) (fits : byte_len (text a) + byte_len (text b) + 2 < 2 ^ 63) where
+module _ (a p b : Tree) (breaks : b.breaks ≡ a.breaks) (e : p ≡ leaf_tree a.breaks (13 ∷ 10 ∷ [])) (fits : byte_len (text a) + byte_len (text b) + 2 < 2 ^ 63) where
   pair_is : text p ≡ 13 ∷ 10 ∷ []
   pair_is = text_of_leaf a.breaks p (13 ∷ 10 ∷ []) e
 
@@ -56,12 +54,6 @@ module _ (a p b : Tree) (ia : IsTree a) (ip : IsTree p) (ib : IsTree b) (breaks 
 
     pub pair_joined : (r : Tree) → IsJoin f b r → text r ≡ text a ++ 13 ∷ 10 ∷ text b
     pair_joined r k = join_text f b r k ∙ ap (λ z. z ++ text b) front_is ∙ append_assoc (text a) (13 ∷ 10 ∷ []) (text b)
-
-pub empty_front : (n r : Tree) (l : List ℕ) (at : ℕ) → r ≡ leaf_tree n.breaks l → l ≡ [] → at ≡ 0 → IsFront at n r
-empty_front n r l at e f z = rw (e, f, z) (record { text_is = refl; same_breaks = refl; leaves = no_leaves; not_higher = omega arith; near = λ high. absurd (omega arith) })
-
-pub empty_back : (n r : Tree) (l : List ℕ) (at : ℕ) → r ≡ leaf_tree n.breaks l → l ≡ [] → at ≡ length (text n) → IsBack at n r
-empty_back n r l at e f z = rw (e, f) (record { text_is = sym (drop_all at (text n) (omega arith)); same_breaks = refl; leaves = no_leaves; not_higher = omega arith; near = λ high. absurd (omega arith) })
 
 pub chars_crlf : chars (13 ∷ 10 ∷ []) ≡ 13 ∷ 10 ∷ []
 unfolding chars
@@ -97,9 +89,3 @@ left_le t i j le =
     let part = byte_len-parts i (take j t) in
     let same = ap byte_len (take-take i j t le) in
     omega arith
-
--- the parts of one tree, where no CR LF meets
-pub parts_can_join : (n f b : Tree) (i j : ℕ) → IsTree n → i ≤ j → IsFront i n f → IsBack j n b → parts_crlf (take i (text n)) (drop j (text n)) ≡ false → CanJoin f b
-parts_can_join n f b i j t le p q apart =
-    let s : IsSeam (text f) (text b) = record { apart = rw (p.text_is, q.text_is) apart } in
-    can_join f b (q.same_breaks ∙ sym p.same_breaks) s (omega (arith, t.fits, left_le (text n) i j le, ap byte_len p.text_is, ap byte_len q.text_is))

@@ -1,7 +1,8 @@
 -- Two trees as one tree or two of the greater height.
-use Rattle.std.proofs.Common.{◌≡◌, ℕ, ◌+◌, ◌-◌, ◌^◌, ◌<◌, ◌≤◌, min, max, List, [], ◌∷◌, ◌++◌, length, take, drop, get_or, refl, sym, ap, subst, ◌∙◌, arith, inl, inr}
+use Rattle.std.proofs.Common.{◌≡◌, ℕ, ◌+◌, ◌-◌, ◌^◌, ◌<◌, ◌≤◌, min, max, List, [], ◌∷◌, ◌++◌, length, take, drop, get_or, refl, sym, ap, subst, ◌∙◌, arith, inl, inr, Result, Ok, Err}
 use Rattle.std.specs.List.{concat, All}
-use Rattle.std.proofs.lemmas.List.{append-nil, length-append, length-drop, take_more, take_all}
+use Rattle.std.specs.Result.{IfOk}
+use Rattle.std.proofs.lemmas.List.{append-nil, length-append, take_more, take_all}
 use Rattle.std.proofs.lemmas.Bool.{cases_lt}
 use Rattle.std.proofs.lemmas.List.Elements.{All-nil, All-cons, All-head, All-tail, All-append, All-weaker}
 use Rattle.rope_text.specs.declared.line_breaks.LineBreaks.{LineBreaks}
@@ -19,7 +20,7 @@ use Rattle.rope_tree.proofs.TreeLaws.{height_of_is, breaks_of_is, wide_weaker, w
 use Rattle.rope_tree.proofs.NodeLaws.{leaves_of-append}
 use Rattle.rope_tree.proofs.SiblingLaws.{byte_len-append}
 use Rattle.rope_tree.proofs.InsertLeaves.{wide_leaf, text_of_leaf}
-use Rattle.rope_join.specs.Join.{CanJoin, IsNear, IsUnion}
+use Rattle.rope_join.specs.Join.{CanJoin, EndsIn, BeginsIn, IsNear, IsUnion}
 
 -- a union by its one case
 equal_union : (a b : Tree) (ts : List Tree) → Recuts a.leaves b.leaves (leaves_of ts) → a.height ≡ b.height → AreParts a.breaks (max a.width b.width) (a.width + b.width) a.height ts → IsUnion a b ts
@@ -112,6 +113,11 @@ leaves_near br a b l m ea eb some more near =
     let left : a.leaves ≡ l ∷ [] = ap (λ x. x.leaves) ea ∙ one_leaf_is l (some_leaf l (rw ea at some)) in
     let right : b.leaves ≡ m ∷ [] = ap (λ x. x.leaves) eb ∙ one_leaf_is m (some_leaf m (rw eb at more)) in
     rw (left, right) (near, tt)
+
+-- two facts on what a last call answers, as one
+pub both_ok : {X E : Type 0} (r : Result X E) (P Q R : X → Type 0) → ((x : X) → P x → Q x → R x) → IfOk r P → IfOk r Q → IfOk r R
+both_ok (Ok x) P Q R f p q = f x p q
+both_ok (Err e) P Q R f p q = tt
 
 -- the children of two nodes of one height, whose leaves next to each other stay
 module _ (a b : Tree) (xs ys : List Tree) (ea : a ≡ tree_over xs) (eb : b ≡ tree_over ys) (ca : AreChildren (breaks_of xs) (height_of xs) xs) (cb : AreChildren (breaks_of ys) (height_of ys) ys) (j : CanJoin a b) (same : a.height ≡ b.height)
@@ -315,15 +321,7 @@ trees_first : (rcs : List Tree) (d : Tree) → 1 ≤ length rcs → rcs ≡ (get
 trees_first [] d some = absurd (omega arith)
 trees_first (rc ∷ rcs) d some = refl
 
--- an inner node by its last child
-pub record EndsIn (a : Tree) (init : List Tree) (last : Tree) (br : LineBreaks) (h : ℕ) : Type 0 where
-  pub is : a ≡ tree_over (init ++ last ∷ [])
-  pub children : AreChildren br h (init ++ last ∷ [])
-  pub same_breaks : a.breaks ≡ br
-  pub height : a.height ≡ h + 1
-  pub above : last.height + 1 ≡ a.height
-
-pub ends_in : (a : Tree) (rcs : List Tree) (d : Tree) → a ≡ tree_over rcs → AreChildren (breaks_of rcs) (height_of rcs) rcs → d ≡ get_or rcs (length rcs - 1) d → EndsIn a ((take (length rcs - 1) rcs)) d (breaks_of rcs) (height_of rcs)
+pub ends_in : (a : Tree) (rcs : List Tree) (d : Tree) → a ≡ tree_over rcs → AreChildren (breaks_of rcs) (height_of rcs) rcs → d ≡ get_or rcs (length rcs - 1) d → EndsIn a (take (length rcs - 1) rcs) d
 ends_in a rcs d e c r =
     let k = length rcs - 1 in
     let br = breaks_of rcs in
@@ -333,17 +331,11 @@ ends_in a rcs d e c r =
     let q : rcs ≡ (take k rcs) ++ d ∷ [] = s ∙ ap (λ x. (take k rcs) ++ x ∷ []) v in
     let ch : AreChildren br h ((take k rcs) ++ d ∷ []) = subst (AreChildren br h) q c in
     let child = All-head (IsChild br h) d [] (all_right (IsChild br h) ((take k rcs)) (d ∷ []) ch.each) in
-    record { is = e ∙ ap tree_over q; children = ch; same_breaks = ap (λ t. t.breaks) e; height = ap (λ t. t.height) e; above = omega (arith, child.at_height, ap (λ t. t.height) e) }
+    let row = take k rcs ++ d ∷ [] in
+    let ch' = subst (λ n. AreChildren br n row) (sym child.at_height) ch in
+    record { is = e ∙ ap tree_over q; children = subst (λ b. AreChildren b d.height row) (sym (ap (λ t. t.breaks) e)) ch'; above = omega (arith, child.at_height, ap (λ t. t.height) e) }
 
--- an inner node by its first child
-pub record BeginsIn (b first : Tree) (rest : List Tree) (br : LineBreaks) (h : ℕ) : Type 0 where
-  pub is : b ≡ tree_over (first ∷ rest)
-  pub children : AreChildren br h (first ∷ rest)
-  pub same_breaks : b.breaks ≡ br
-  pub height : b.height ≡ h + 1
-  pub above : first.height + 1 ≡ b.height
-
-pub begins_in : (b : Tree) (rcs : List Tree) (d : Tree) → b ≡ tree_over rcs → AreChildren (breaks_of rcs) (height_of rcs) rcs → d ≡ get_or rcs 0 d → BeginsIn b d ((drop 1 rcs)) (breaks_of rcs) (height_of rcs)
+pub begins_in : (b : Tree) (rcs : List Tree) (d : Tree) → b ≡ tree_over rcs → AreChildren (breaks_of rcs) (height_of rcs) rcs → d ≡ get_or rcs 0 d → BeginsIn b d (drop 1 rcs)
 begins_in b rcs d e c r =
     let br = breaks_of rcs in
     let h = height_of rcs in
@@ -352,7 +344,9 @@ begins_in b rcs d e c r =
     let q : rcs ≡ d ∷ (drop 1 rcs) = s ∙ ap (λ x. x ∷ (drop 1 rcs)) v in
     let ch : AreChildren br h (d ∷ (drop 1 rcs)) = subst (AreChildren br h) q c in
     let child = All-head (IsChild br h) d ((drop 1 rcs)) ch.each in
-    record { is = e ∙ ap tree_over q; children = ch; same_breaks = ap (λ t. t.breaks) e; height = ap (λ t. t.height) e; above = omega (arith, child.at_height, ap (λ t. t.height) e) }
+    let row = d ∷ drop 1 rcs in
+    let ch' = subst (λ n. AreChildren br n row) (sym child.at_height) ch in
+    record { is = e ∙ ap tree_over q; children = subst (λ b. AreChildren b d.height row) (sym (ap (λ t. t.breaks) e)) ch'; above = omega (arith, child.at_height, ap (λ t. t.height) e) }
 
 -- two inner nodes of one height, by the children at which they meet
 pub record AreMeeting (a b last first : Tree) (init rest : List Tree) (br : LineBreaks) (h : ℕ) : Type 0 where
@@ -365,18 +359,17 @@ pub record AreMeeting (a b last first : Tree) (init rest : List Tree) (br : Line
   pub level : b.height ≡ h + 1
   pub join : CanJoin a b
 
-pub meeting_at : (a b last first : Tree) (init rest : List Tree) (br br' : LineBreaks) (h h' : ℕ) → EndsIn a init last br h → BeginsIn b first rest br' h' → CanJoin a b → a.height ≡ b.height → AreMeeting a b last first init rest br h
-meeting_at a b last first init rest br br' h h' e f j same =
-    let sets : br' ≡ br = sym f.same_breaks ∙ j.same_breaks ∙ e.same_breaks in
-    let heights : h' ≡ h = omega (arith, e.height, f.height, same) in
+pub meeting_at : (a b last first : Tree) (init rest : List Tree) → EndsIn a init last → BeginsIn b first rest → CanJoin a b → a.height ≡ b.height → AreMeeting a b last first init rest a.breaks last.height
+meeting_at a b last first init rest e f j same =
+    let level : first.height ≡ last.height = omega (arith, e.above, f.above, same) in
     record {
       left_is = e.is;
       right_is = f.is;
       left = e.children;
-      right = rw (sets, heights) at f.children;
-      same_breaks = e.same_breaks;
-      above = e.height;
-      level = sym same ∙ e.height;
+      right = subst (λ n. AreChildren a.breaks n (first ∷ rest)) level (subst (λ b. AreChildren b first.height (first ∷ rest)) j.same_breaks f.children);
+      same_breaks = refl;
+      above = sym e.above;
+      level = sym same ∙ sym e.above;
       join = j;
     }
 
@@ -415,9 +408,6 @@ module _ (a b last first : Tree) (init rest : List Tree) (br : LineBreaks) (h : 
       IsMeasure-byte_len.joined (text first) (joined rest),
     );
   }
-
-  pub meet_at_height : (last.height ≡ h) × (first.height ≡ h)
-  meet_at_height = (meet_last.at_height, meet_first.at_height)
 
   pub meet_some : (1 ≤ length last.leaves) × (1 ≤ length first.leaves)
   meet_some = (meet_last.some, meet_first.some)
@@ -473,13 +463,3 @@ module _ (a b last first : Tree) (init rest : List Tree) (br : LineBreaks) (h : 
         let es : breaks_of row ≡ a.breaks = breaks_of_is br h row (omega (arith, meet_count.0)) meet_each ∙ sym m.same_breaks in
         let r : Recuts a.leaves b.leaves (leaves_of us) = subst (Recuts a.leaves b.leaves) (sym el) meet_recuts in
         equal_union a b us r (omega (arith, m.above, m.level)) (weaker_parts a.breaks (max a.width b.width) n n (a.width + b.width) a.height us (omega (arith, meet_count.2)) (omega (arith, meet_count.3)) (rw (eh, es) at p))
-
--- what `&children[1..]` adds behind the parts
-pub slice_rest : (vs ts : List Tree) (rcs : List Tree) → vs ≡ ts ++ (take (length rcs - 1) (drop 1 rcs)) → vs ≡ ts ++ (drop 1 rcs)
-slice_rest vs ts rcs e =
-    let f : take (length rcs - 1) (drop 1 rcs) ≡ drop 1 rcs = take_all (length rcs - 1) (drop 1 rcs) (omega (arith, length-drop 1 rcs)) in
-    e ∙ ap (λ xs. ts ++ xs) f
-
--- and both: what lies before the last of the one, and behind the first of the other
-pub slice_row : (vs init ts : List Tree) (rcs : List Tree) → vs ≡ init ++ (ts ++ (take (length rcs - 1) (drop 1 rcs))) → vs ≡ init ++ (ts ++ drop 1 rcs)
-slice_row vs init ts rcs e = e ∙ ap (λ xs. init ++ xs) (slice_rest (ts ++ (take (length rcs - 1) (drop 1 rcs))) ts rcs refl)

@@ -15,7 +15,10 @@ use Rattle.rope_tree.specs.Siblings.{AreParts}
 use Rattle.rope_tree.proofs.TreeLaws.{height_of_is, breaks_of_is}
 use Rattle.rope_tree.proofs.NodeLaws.{children_of_first}
 use Rattle.rope_tree.proofs.EmptyTrees.{no_leaves_of, lone_of_none}
-use Rattle.rope_join.specs.Join.{CanJoin, IsUnion, IsJoin}
+use Rattle.rope_tree.specs.declared.node.Nodes.{Nodes}
+use Rattle.rope_tree.specs.declared.node.Nodes.TheVariants.{One, Two}
+use Rattle.rope_tree.specs.View.{trees_in}
+use Rattle.rope_join.specs.Join.{CanJoin, IsUnion, IsJoin, gathered}
 
 pub join_empty_right : (a b t : Tree) → IsTree a → IsTree b → byte_len (text b) ≡ 0 → CanJoin a b → t ≡ a → IsJoin a b t
 join_empty_right a b t own i empty j e =
@@ -71,7 +74,7 @@ union_height a b t u = elim (cases_lt a.height b.height) [
   ]
 ]
 
-pub join_one : (a b t : Tree) → IsUnion a b (t ∷ []) → IsJoin a b t
+join_one : (a b t : Tree) → IsUnion a b (t ∷ []) → IsJoin a b t
 join_one a b t u =
     let o = union_height a b t u in
     let h = o.0 in
@@ -98,7 +101,7 @@ module _ (a b x y : Tree) (u : IsUnion a b (x ∷ y ∷ [])) (j : CanJoin a b) w
   new_text : byte_len (joined (x ∷ y ∷ [])) ≡ byte_len (text a) + byte_len (text b)
   new_text = ap byte_len (u.recuts.same_text ∙ concat-append a.leaves b.leaves) ∙ IsMeasure-byte_len.joined (text a) (text b)
 
-  pub root_children : AreChildren (breaks_of (x ∷ y ∷ [])) (height_of (x ∷ y ∷ [])) (x ∷ y ∷ [])
+  root_children : AreChildren (breaks_of (x ∷ y ∷ [])) (height_of (x ∷ y ∷ [])) (x ∷ y ∷ [])
   root_children = children_of_first a.breaks (max a.height b.height) (x ∷ y ∷ []) (record {
     at_least_two = omega arith;
     at_most_24 = omega arith;
@@ -107,7 +110,7 @@ module _ (a b x y : Tree) (u : IsUnion a b (x ∷ y ∷ [])) (j : CanJoin a b) w
     fits = omega (arith, new_text, j.fits);
   })
 
-  pub join_two : (t : Tree) → t ≡ tree_over (x ∷ y ∷ []) → IsJoin a b t
+  join_two : (t : Tree) → t ≡ tree_over (x ∷ y ∷ []) → IsJoin a b t
   join_two t e =
       let each = two_children a b x y u in
       let h : t.height ≡ max a.height b.height + 1 = ap (λ s. s.height) e ∙ ap (λ n. n + 1) (height_of_is a.breaks (max a.height b.height) (x ∷ y ∷ []) (omega arith) each) in
@@ -120,3 +123,12 @@ module _ (a b x y : Tree) (u : IsUnion a b (x ∷ y ∷ [])) (j : CanJoin a b) w
         below_left = λ l few. absurd (omega (arith, (u.higher l).full refl (omega arith)));
         below_right = λ l few. absurd (omega (arith, (u.lower l).full refl (omega arith)));
       }
+
+-- one or two of them as one
+pub root_siblings : (a b : Tree) (p : Nodes) → IsUnion a b (trees_in p) → CanJoin a b → length (trees_in p) ≡ 2 → AreChildren (breaks_of (trees_in p)) (height_of (trees_in p)) (trees_in p)
+root_siblings a b (One x) u j two = absurd (omega (arith, two))
+root_siblings a b (Two x y) u j two = root_children a b x y u j
+
+pub join_root : (a b t : Tree) (p : Nodes) → IsUnion a b (trees_in p) → CanJoin a b → t ≡ gathered (trees_in p) → IsJoin a b t
+join_root a b t (One x) u j e = rw e (join_one a b x u)
+join_root a b t (Two x y) u j e = join_two a b x y u j t e

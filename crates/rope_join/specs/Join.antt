@@ -1,11 +1,11 @@
 -- What trees joined and gathered are.
-use Rattle.std.specs.Prelude.{◌≡◌, ◌+◌, ◌^◌, ◌≤◌, ◌<◌, max, List, [], ◌∷◌}
+use Rattle.std.specs.Prelude.{◌≡◌, ◌+◌, ◌^◌, ◌≤◌, ◌<◌, max, List, [], ◌∷◌, ◌++◌, length}
 use Rattle.rope_text.specs.declared.TheConstants.{MAX_CHILDREN, MIN_PAIR_BYTES}
 use Rattle.rope_text.specs.Text.{byte_len}
 use Rattle.rope_text.specs.Dense.{IsDenseBehind, last_bytes}
 use Rattle.rope_tree.specs.Leaves.{IsSeam, Recuts}
-use Rattle.rope_tree.specs.Tree.{Tree, text, leaves_of, breaks_of, leaf_tree, tree_over}
-use Rattle.rope_tree.specs.Siblings.{AreParts}
+use Rattle.rope_tree.specs.Tree.{Tree, text, leaves_of, height_of, breaks_of, leaf_tree, tree_over, AreChildren}
+use Rattle.rope_tree.specs.Siblings.{AreSiblings, AreParts}
 
 -- two trees that may stand side by side: of one set of line breaks, no CR at the end of the one before an LF of the other
 pub record CanJoin (left right : Tree) : Type 0 where
@@ -16,6 +16,23 @@ pub record CanJoin (left right : Tree) : Type 0 where
 -- where the two meet, one of them is a leaf, or the last leaf of the one and the first of the other have 492 bytes or more together
 pub record IsNear (left right : Tree) : Type 0 where
   pub near : 1 ≤ left.height → 1 ≤ right.height → IsDenseBehind (last_bytes MIN_PAIR_BYTES left.leaves) right.leaves
+
+-- two trees of one height, of which none goes further down: leaves, or trees whose last leaf and first leaf have 492 bytes or more together
+pub record CanMerge (left right : Tree) : Type 0 where
+  pub level : left.height ≡ right.height
+  pub near : 1 ≤ left.height → IsDenseBehind (last_bytes MIN_PAIR_BYTES left.leaves) right.leaves
+
+-- a tree by its last child and those before it
+pub record EndsIn (t : Tree) (before : List Tree) (last : Tree) : Type 0 where
+  pub is : t ≡ tree_over (before ++ last ∷ [])
+  pub children : AreChildren t.breaks last.height (before ++ last ∷ [])
+  pub above : last.height + 1 ≡ t.height
+
+-- and by its first and those behind it
+pub record BeginsIn (t first : Tree) (after : List Tree) : Type 0 where
+  pub is : t ≡ tree_over (first ∷ after)
+  pub children : AreChildren t.breaks first.height (first ∷ after)
+  pub above : first.height + 1 ≡ t.height
 
 -- the two trees as one tree or two of the greater height
 pub record IsUnion (left right : Tree) (ts : List Tree) : Type 0 where
@@ -32,6 +49,12 @@ pub record IsJoin (left right t : Tree) : Type 0 where
   pub most : t.height ≤ max left.height right.height + 1
   pub below_left : right.height < left.height → left.width < MAX_CHILDREN → t.height ≡ left.height
   pub below_right : left.height < right.height → right.width < MAX_CHILDREN → t.height ≡ right.height
+
+-- trees of one height, one at least, that may be gathered
+pub record CanGather (ts : List Tree) : Type 0 where
+  pub siblings : AreSiblings (breaks_of ts) (height_of ts) ts
+  pub some : 1 ≤ length ts
+  pub at_most_24 : length ts ≤ MAX_CHILDREN
 
 -- trees side by side as one: the only one, or a node over them
 abbrev pub gathered : List Tree → Tree

@@ -1,31 +1,18 @@
 //! Two trees as one.
 ghost use Rattle.std.specs.Prelude.{◌≡◌, ◌+◌, ◌-◌, ◌*◌, ◌<◌, ◌≤◌, [], ◌∷◌, ◌++◌, true, false, length, max, IfOk};
 ghost use Rattle.rope_text.specs.declared.TheConstants.{MAX_BYTES, MAX_CHILDREN, MIN_PAIR_BYTES};
-ghost use Rattle.rope_text.specs.Text.{byte_len};
-ghost use Rattle.rope_text.specs.Dense.{IsDenseBehind, last_bytes};
-ghost use Rattle.rope_tree.specs.Tree.{height_of, breaks_of};
+ghost use Rattle.rope_tree.specs.Tree.{height_of, breaks_of, AreChildren};
 ghost use Rattle.rope_tree.specs.View.{trees_in};
 ghost use Rattle.rope_tree.specs.Siblings.{AreSiblings};
 ghost use Rattle.rope_tree.specs.Rows.{IsRow};
-ghost use Rattle.rope_join.specs.Join.{CanJoin, IsNear, IsUnion, IsJoin, gathered};
+ghost use Rattle.rope_join.specs.Join.{CanGather, CanJoin, CanMerge, EndsIn, BeginsIn, IsNear, IsUnion, IsJoin, gathered};
 
-use crate::near::is_near;
+use crate::near::can_merge;
 use rope_text::{MAX_BYTES, MAX_CHILDREN, MIN_BYTES, MIN_CHILDREN};
 use rope_tree::node::row::{Row, node_over, pack, pack_over};
 use rope_tree::node::{Node, Nodes, View, make_leaf};
 use rope_tree::node_text::NodeText;
-use rope_tree::short_text::ShortText;
 use std::alloc::{AllocError, Global};
-
-/// One text of two that fit in one leaf.
-fn joined_text(first: &ShortText<'_>, second: &ShortText<'_>) -> NodeText
-    requires { byte_len first.now + byte_len second.now ≤ MAX_BYTES }
-    ensures value { result ≡ first.now ++ second.now }
-{
-    let mut text = NodeText::from_str(first.as_str());
-    text.push_str(second.as_str());
-    text
-}
 
 /// Whether two leaves of so many bytes become one: they fit in it, and one of them is short.
 fn become_one(first: usize, second: usize) -> bool
@@ -37,22 +24,13 @@ fn become_one(first: usize, second: usize) -> bool
     first + second <= MAX_BYTES && (first < MIN_BYTES || second < MIN_BYTES)
 }
 
-/// Both nodes as they are.
-fn keep(left: &Node, right: &Node) -> Result<Nodes, AllocError>
-    ensures { IfOk result (λ nodes. trees_in nodes ≡ left.now ∷ right.now ∷ []) }
-{
-    Ok(Nodes::Two(left.share()?, right.share()?))
-}
-
-/// Two trees of one height as one tree or two. Leaves become one where they fit in it and one of them is short; other
-/// nodes, whose leaves next to each other stay, where one can have all children, and where one of them has few they share the
-/// children evenly.
+/// Two trees that can be merged as one tree or two of their height. Leaves become one where they fit in it and one of them is
+/// short; other nodes where one can have all children, and where one of them has few they share the children evenly.
 fn merge(alloc: Global, left: &Node, right: &Node, made: &mut u64) -> Result<Nodes, AllocError>
     requires left_some { 1 ≤ length left.now.leaves }
     requires right_some { 1 ≤ length right.now.leaves }
     requires join { CanJoin left.now right.now }
-    requires height { left.now.height ≡ right.now.height }
-    requires near { 1 ≤ left.now.height → IsDenseBehind (last_bytes MIN_PAIR_BYTES left.now.leaves) right.now.leaves }
+    requires merge { CanMerge left.now right.now }
     ensures union { IfOk result (λ nodes. IsUnion left.now right.now (trees_in nodes)) }
     ensures made { made.new ≤ made.old + 2 }
 {
@@ -65,11 +43,12 @@ fn merge(alloc: Global, left: &Node, right: &Node, made: &mut u64) -> Result<Nod
             };
             if become_one(first.len(), second.len()) {
                 let info = left.info().plus(right.info());
-                let text = joined_text(&first, &second);
+                let mut text = NodeText::from_str(first.as_str());
+                text.push_str(second.as_str());
                 let node = make_leaf(alloc, left.line_breaks(), text.as_str(), info, made)?;
                 return Ok(Nodes::One(node));
             }
-            Ok(keep(left, right)?)
+            Ok(Nodes::Two(left.share()?, right.share()?))
         }
         View::Inner(first, first_totals) => {
             let View::Inner(second, second_totals) = right.view() else {
@@ -79,21 +58,46 @@ fn merge(alloc: Global, left: &Node, right: &Node, made: &mut u64) -> Result<Nod
                 && second.len() >= MIN_CHILDREN
                 && first.len() + second.len() > MAX_CHILDREN
             {
-                return Ok(keep(left, right)?);
+                return Ok(Nodes::Two(left.share()?, right.share()?));
             }
-            let before = Row {
-                nodes: first,
-                totals: Some(first_totals),
-                from: 0,
-            };
-            let after = Row {
-                nodes: second,
-                totals: Some(second_totals),
-                from: 0,
-            };
-            Ok(pack_over(alloc, before, &[], after, made)?)
+            let before = Row::of(first, first_totals);
+            let after = Row::of(second, second_totals);
+            pack_over(alloc, before, &[], after, made)
         }
     }
+}
+
+/// A tree's last child and the children before it, where the tree is so high at least; else the tree itself, and none.
+fn last_of(node: &Node, least: usize) -> (Row<'_>, &Node)
+    requires { least ≤ node.now.height → 1 ≤ node.now.height }
+    ensures row { IsRow result.0 }
+    ensures child { least ≤ node.now.height → EndsIn node.now result.0.nodes.now result.1.now }
+    ensures whole { node.now.height < least → (result.0.nodes.now ≡ []) × (result.1.now ≡ node.now) }
+{
+    if node.height() < least {
+        return (Row::none(), node);
+    }
+    let View::Inner(children, totals) = node.view() else {
+        unreachable!()
+    };
+    let last = children.len() - 1;
+    (Row::of(children, totals).first(last), &children[last])
+}
+
+/// A tree's first child and the children behind it, where the tree is so high at least; else the tree itself, and none.
+fn first_of(node: &Node, least: usize) -> (&Node, Row<'_>)
+    requires { least ≤ node.now.height → 1 ≤ node.now.height }
+    ensures child { least ≤ node.now.height → BeginsIn node.now result.0.now result.1.nodes.now }
+    ensures whole { node.now.height < least → (result.0.now ≡ node.now) × (result.1.nodes.now ≡ []) }
+    ensures row { IsRow result.1 }
+{
+    if node.height() < least {
+        return (node, Row::none());
+    }
+    let View::Inner(children, totals) = node.view() else {
+        unreachable!()
+    };
+    (&children[0], Row::of(children, totals).rest(1))
 }
 
 /// Two trees that aren't empty as one tree or two of the greater height. It goes down the sides on which they meet to nodes of
@@ -106,65 +110,25 @@ fn unite(alloc: Global, left: &Node, right: &Node, made: &mut u64) -> Result<Nod
     ensures made { made.new ≤ made.old + 2 * max left.now.height right.now.height + 2 }
     ensures made_near { IsNear left.now right.now → made.new ≤ made.old + 2 * ((left.now.height - right.now.height) + (right.now.height - left.now.height)) + 2 }
 {
-    let left_height = left.height();
-    let right_height = right.height();
-    if right_height < left_height {
-        let View::Inner(children, totals) = left.view() else {
-            unreachable!()
-        };
-        let last = children.len() - 1;
-        let middle = unite(alloc, &children[last], right, made)?;
-        let before = Row {
-            nodes: &children[..last],
-            totals: Some(totals),
-            from: 0,
-        };
-        let none = Row {
-            nodes: &[],
-            totals: None,
-            from: 0,
-        };
-        return Ok(pack(alloc, before, middle, none, made)?);
+    if can_merge(left, right) {
+        return merge(alloc, left, right, made);
     }
-    if left_height < right_height {
-        let View::Inner(children, totals) = right.view() else {
-            unreachable!()
-        };
-        let middle = unite(alloc, left, &children[0], made)?;
-        let after = Row {
-            nodes: &children[1..],
-            totals: Some(totals),
-            from: 1,
-        };
-        let none = Row {
-            nodes: &[],
-            totals: None,
-            from: 0,
-        };
-        return Ok(pack(alloc, none, middle, after, made)?);
+    let (before, last) = last_of(left, right.height());
+    let (first, after) = first_of(right, left.height());
+    let middle = unite(alloc, last, first, made)?;
+    pack(alloc, before, middle, after, made)
+}
+
+/// One tree or two side by side as one: the only one, or a node over them.
+fn root_of(alloc: Global, nodes: Nodes, made: &mut u64) -> Result<Node, AllocError>
+    requires { let ts = trees_in nodes in length ts ≡ 2 → AreChildren (breaks_of ts) (height_of ts) ts }
+    ensures ok { IfOk result (λ node. node ≡ gathered (trees_in nodes)) }
+    ensures made { made.new ≤ made.old + 1 }
+{
+    match nodes {
+        Nodes::One(node) => Ok(node),
+        Nodes::Two(first, second) => node_over(alloc, &[first, second], made),
     }
-    if left_height == 0 || is_near(left, right) {
-        return Ok(merge(alloc, left, right, made)?);
-    }
-    let View::Inner(before, before_totals) = left.view() else {
-        unreachable!()
-    };
-    let View::Inner(after, after_totals) = right.view() else {
-        unreachable!()
-    };
-    let end = before.len() - 1;
-    let meeting = unite(alloc, &before[end], &after[0], made)?;
-    let front = Row {
-        nodes: &before[..end],
-        totals: Some(before_totals),
-        from: 0,
-    };
-    let back = Row {
-        nodes: &after[1..],
-        totals: Some(after_totals),
-        from: 1,
-    };
-    Ok(pack(alloc, front, meeting, back, made)?)
 }
 
 /// The text of the one tree and then that of the other as one tree, at most one level higher than the higher of them. No
@@ -178,15 +142,13 @@ pub fn join(alloc: Global, left: &Node, right: &Node, made: &mut u64) -> Result<
     let _ = left.height();
     let _ = right.height();
     if right.info().bytes == 0 {
-        return Ok(left.share()?);
+        return left.share();
     }
     if left.info().bytes == 0 {
-        return Ok(right.share()?);
+        return right.share();
     }
-    match unite(alloc, left, right, made)? {
-        Nodes::One(node) => Ok(node),
-        Nodes::Two(first, second) => { Ok(node_over(alloc, &[first, second], made)?) }
-    }
+    let nodes = unite(alloc, left, right, made)?;
+    root_of(alloc, nodes, made)
 }
 
 /// Nodes side by side and behind them a tree that is no higher, as one tree: as `join` makes it of the only one of them, or of a
@@ -198,9 +160,7 @@ pub fn join_behind(
     made: &mut u64,
 ) -> Result<Node, AllocError>
     requires row { IsRow row }
-    requires siblings { AreSiblings (breaks_of row.nodes.now) (height_of row.nodes.now) row.nodes.now }
-    requires some { 1 ≤ length row.nodes.now }
-    requires at_most_24 { length row.nodes.now ≤ MAX_CHILDREN }
+    requires gather { CanGather row.nodes.now }
     requires right_some { 1 ≤ length right.now.leaves }
     requires no_higher { right.now.height ≤ height_of row.nodes.now }
     requires join { CanJoin (gathered row.nodes.now) right.now }
@@ -212,22 +172,11 @@ pub fn join_behind(
     let nodes = row.nodes;
     let last = nodes.len() - 1;
     if last == 0 {
-        return Ok(join(alloc, &nodes[0], right, made)?);
+        return join(alloc, &nodes[0], right, made);
     }
     let middle = unite(alloc, &nodes[last], right, made)?;
-    let before = Row {
-        nodes: &nodes[..last],
-        ..row
-    };
-    let none = Row {
-        nodes: &[],
-        totals: None,
-        from: 0,
-    };
-    match pack(alloc, before, middle, none, made)? {
-        Nodes::One(node) => Ok(node),
-        Nodes::Two(first, second) => Ok(node_over(alloc, &[first, second], made)?),
-    }
+    let parts = pack(alloc, row.first(last), middle, Row::none(), made)?;
+    root_of(alloc, parts, made)
 }
 
 /// The same with the tree before the nodes.
@@ -238,9 +187,7 @@ pub fn join_before(
     made: &mut u64,
 ) -> Result<Node, AllocError>
     requires row { IsRow row }
-    requires siblings { AreSiblings (breaks_of row.nodes.now) (height_of row.nodes.now) row.nodes.now }
-    requires some { 1 ≤ length row.nodes.now }
-    requires at_most_24 { length row.nodes.now ≤ MAX_CHILDREN }
+    requires gather { CanGather row.nodes.now }
     requires left_some { 1 ≤ length left.now.leaves }
     requires no_higher { left.now.height ≤ height_of row.nodes.now }
     requires join { CanJoin left.now (gathered row.nodes.now) }
@@ -251,21 +198,9 @@ pub fn join_before(
 {
     let nodes = row.nodes;
     if nodes.len() == 1 {
-        return Ok(join(alloc, left, &nodes[0], made)?);
+        return join(alloc, left, &nodes[0], made);
     }
     let middle = unite(alloc, left, &nodes[0], made)?;
-    let after = Row {
-        nodes: &nodes[1..],
-        from: row.from.saturating_add(1),
-        ..row
-    };
-    let none = Row {
-        nodes: &[],
-        totals: None,
-        from: 0,
-    };
-    match pack(alloc, none, middle, after, made)? {
-        Nodes::One(node) => Ok(node),
-        Nodes::Two(first, second) => Ok(node_over(alloc, &[first, second], made)?),
-    }
+    let parts = pack(alloc, Row::none(), middle, row.rest(1), made)?;
+    root_of(alloc, parts, made)
 }

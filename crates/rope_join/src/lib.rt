@@ -6,4 +6,3 @@ pub mod edit;
 pub mod join;
 mod leaf_cut;
 mod near;
-pub mod part;

@@ -2,11 +2,9 @@
 ghost use Rattle.std.specs.Prelude.{◌≡◌, ℕ, ◌+◌, ◌≤◌, ◌↔◌, length, IsTrue};
 ghost use Rattle.rope_text.specs.declared.TheConstants.{MAX_BYTES, MIN_PAIR_BYTES};
 ghost use Rattle.rope_text.specs.Dense.{IsDenseBehind, last_bytes};
-ghost use Rattle.rope_text.specs.Breaks.{ends_in_cr};
-ghost use Rattle.rope_tree.specs.Tree.{text};
+ghost use Rattle.rope_join.specs.Join.{CanMerge};
 
 use rope_text::MIN_PAIR_BYTES;
-use rope_tree::counts;
 use rope_tree::node::{Node, View};
 
 /// The bytes of a tree's last leaf.
@@ -33,21 +31,13 @@ fn first_leaf_len(node: &Node) -> usize
     }
 }
 
-/// Whether the last leaf of the one tree and the first of the other have as many bytes together as neighbours need.
-pub(crate) fn is_near(left: &Node, right: &Node) -> bool
+/// Whether two trees can be merged at their roots.
+pub(crate) fn can_merge(left: &Node, right: &Node) -> bool
     requires left_some { 1 ≤ length left.now.leaves }
     requires right_some { 1 ≤ length right.now.leaves }
-    ensures { IsTrue result ↔ IsDenseBehind (last_bytes MIN_PAIR_BYTES left.now.leaves) right.now.leaves }
+    ensures { IsTrue result ↔ CanMerge left.now right.now }
 {
-    last_leaf_len(left) + first_leaf_len(right) >= MIN_PAIR_BYTES
-}
-
-/// Whether CR is the last character of a tree's text, by its last leaf alone.
-pub(crate) fn ends_in_cr(node: &Node) -> bool
-    ensures { result ≡ ends_in_cr (text node.now) }
-{
-    match node.view() {
-        View::Leaf(leaf) => counts::ends_in_cr(leaf.as_str()),
-        View::Inner(children, _) => ends_in_cr(&children[children.len() - 1]),
-    }
+    let height = left.height();
+    height == right.height()
+        && (height == 0 || last_leaf_len(left) + first_leaf_len(right) >= MIN_PAIR_BYTES)
 }

@@ -64,21 +64,12 @@ pub fn end_at(node: &Node, char_idx: usize) -> TextInfo
     found.before.plus(front)
 }
 
-// A line's start, in the leaf where the break before it ends.
-#[derive(Drop)]
-struct LineStart<'a> {
-    // the counts of the text before it
-    before: TextInfo,
-    // the leaf from there on
-    rest: &'a str,
-}
-
-// The start of a line that is not the first.
-fn line_start_at<'a>(node: &'a Node, line_idx: usize) -> LineStart<'a>
+// The counts of the text before a line that is not the first, and from there on the leaf in which the break before it ends.
+fn line_start_at(node: &Node, line_idx: usize) -> (TextInfo, &str)
     requires later { 0 < line_idx }
     requires within { line_idx < line_count node.now.breaks (text node.now) }
-    ensures before { result.before ≡ info_of node.now.breaks (take (line_start node.now.breaks (text node.now) line_idx) (text node.now)) }
-    ensures rest { IsLeafFrom node.now (line_start node.now.breaks (text node.now) line_idx) (chars result.rest.now) }
+    ensures before { result.0 ≡ info_of node.now.breaks (take (line_start node.now.breaks (text node.now) line_idx) (text node.now)) }
+    ensures rest { IsLeafFrom node.now (line_start node.now.breaks (text node.now) line_idx) (chars result.1.now) }
 {
     let _ = node.height();
     let _ = node.info();
@@ -92,10 +83,7 @@ fn line_start_at<'a>(node: &'a Node, line_idx: usize) -> LineStart<'a>
         utf16_surrogates: found.before.utf16_surrogates + front.utf16_surrogates,
         break_count: line_idx,
     };
-    LineStart {
-        before,
-        rest: &leaf[front.bytes..],
-    }
+    (before, &leaf[front.bytes..])
 }
 
 /// The counts of the text before a line that is not the first; past the last line those of all the text.
@@ -108,7 +96,7 @@ pub fn before_line(node: &Node, line_idx: usize) -> TextInfo
     if line_idx > info.break_count {
         return info;
     }
-    line_start_at(node, line_idx).before
+    line_start_at(node, line_idx).0
 }
 
 /// The counts of the text before a line that is not the first, and before the next one. It is one look-up where the line
@@ -121,10 +109,10 @@ pub fn around_line(node: &Node, line_idx: usize) -> (TextInfo, TextInfo)
 {
     let _ = node.height();
     let _ = node.info();
-    let start = line_start_at(node, line_idx);
-    let line = TextInfo::of_first_line(start.rest, node.line_breaks());
+    let (start, rest) = line_start_at(node, line_idx);
+    let line = TextInfo::of_first_line(rest, node.line_breaks());
     if line.break_count == 0 {
-        return (start.before, before_line(node, line_idx + 1));
+        return (start, before_line(node, line_idx + 1));
     }
-    (start.before, start.before.plus(line))
+    (start, start.plus(line))
 }

@@ -9,7 +9,7 @@ ghost use Rattle.rope_part.specs.Part.{text_of, chunks_of, breaks_of};
 
 use crate::part::Part;
 use rope_text::Steps;
-use rope_text::str_utils::byte_len_of;
+use rope_text::str_utils::{byte_len_of, char_to_byte_idx, first_char};
 use rope_tree::lookup::{byte_at, char_at, leaf_at};
 use rope_tree::search::Unit;
 
@@ -24,7 +24,10 @@ impl<'a> Part<'a> {
                 let place = stretch.place(Unit::Byte, byte_idx);
                 byte_at(stretch.node, place, &mut Steps::new())
             }
-            Part::Alone(plain) => plain.byte(byte_idx),
+            Part::Alone(plain) => {
+                let bytes = plain.as_str().as_bytes();
+                bytes[byte_idx]
+            }
         }
     }
 
@@ -38,7 +41,10 @@ impl<'a> Part<'a> {
                 let place = stretch.place(Unit::Char, char_idx);
                 char_at(stretch.node, place, &mut Steps::new())
             }
-            Part::Alone(plain) => plain.char(char_idx),
+            Part::Alone(plain) => {
+                let text = plain.as_str();
+                first_char(&text[char_to_byte_idx(text, char_idx)..])
+            }
         }
     }
 
@@ -114,10 +120,6 @@ impl<'a> Part<'a> {
     {
         let len = self.info().bytes;
         let (chunk, _, _, _) = self.chunk_at_char(0);
-        if byte_len_of(chunk) == len {
-            Some(chunk)
-        } else {
-            None
-        }
+        (byte_len_of(chunk) == len).then_some(chunk)
     }
 }

@@ -1,5 +1,5 @@
 //! A part of a text.
-ghost use Rattle.std.specs.Prelude.{◌≡◌, ◌≤◌, ◌<◌, ◌+◌, [], length, take};
+ghost use Rattle.std.specs.Prelude.{◌≡◌, ◌≤◌, ◌<◌, ◌+◌, length, take};
 ghost use Rattle.std.specs.List.{slice_range};
 ghost use Rattle.std.specs.Str.{chars};
 ghost use Rattle.rope_text.specs.Text.{byte_len, utf16_len};
@@ -40,15 +40,6 @@ impl<'a> Part<'a> {
         Part::Alone(Plain::new(text, breaks))
     }
 
-    // The empty text.
-    fn empty(breaks: LineBreaks) -> Part<'a>
-        ensures text { text_of result ≡ [] }
-        ensures chunks { chunks_of result ≡ [] }
-        ensures breaks { breaks_of result ≡ breaks }
-    {
-        Part::from_str_with("", breaks)
-    }
-
     /// The whole text of a tree.
     pub fn of_node(node: &'a Node) -> Part<'a>
         ensures text { text_of result ≡ text node.now }
@@ -59,7 +50,7 @@ impl<'a> Part<'a> {
         let _ = node.height();
         let end = node.info();
         if end.chars == 0 {
-            return Part::empty(node.line_breaks());
+            return Part::from_str_with("", node.line_breaks());
         }
         let start = TextInfo::new();
         Part::InTree(Stretch { node, start, end })
@@ -124,7 +115,7 @@ impl<'a> Part<'a> {
         ensures breaks { breaks_of result ≡ breaks_of self.now }
     {
         if start == end {
-            return Part::empty(self.line_breaks());
+            return Part::from_str_with("", self.line_breaks());
         }
         match self {
             Part::InTree(stretch) => Part::InTree(stretch.range(start, end)),

@@ -7,7 +7,7 @@ ghost use Rattle.rope_text.specs.Text.{byte_len};
 ghost use Rattle.rope_text.specs.Lines.{line_start};
 ghost use Rattle.rope_part.specs.Edge.{IsInfo-prop};
 
-use rope_text::str_utils::{char_to_byte_idx, first_char, line_to_byte_with};
+use rope_text::str_utils::{char_to_byte_idx, line_to_byte_with};
 use rope_text::{LineBreaks, TextInfo};
 
 /// A plain text, with its counts by a set of line breaks.
@@ -71,25 +71,5 @@ impl<'a> Plain<'a> {
         let text = self.as_str();
         let bytes = line_to_byte_with(text, line_idx, self.breaks);
         TextInfo::from_str(&text[..bytes], self.breaks)
-    }
-
-    /// The byte at a place.
-    pub fn byte(&self, byte_idx: usize) -> u8
-        requires { byte_idx < byte_len (text_of self.now) }
-        ensures { slice_get (encode_utf8_all (text_of self.now)) byte_idx ≡ Some result }
-    {
-        let text = self.as_str();
-        let bytes = text.as_bytes();
-        bytes[byte_idx]
-    }
-
-    /// The character at a place.
-    pub fn char(&self, char_idx: usize) -> char
-        requires { char_idx < length (text_of self.now) }
-        ensures { slice_get (text_of self.now) char_idx ≡ Some result }
-    {
-        let text = self.as_str();
-        let at = char_to_byte_idx(text, char_idx);
-        first_char(&text[at..])
     }
 }

@@ -9,7 +9,8 @@ ghost use Rattle.rope_text.specs.Edit.{char_index_error, char_range_error, range
 ghost use Rattle.ropey.specs.View.{IsRope};
 
 use crate::rope::Rope;
-use rope_join::edit::{Parts, append, remove, split};
+use rope_join::cut::{back, front};
+use rope_join::edit::{append, remove};
 use rope_text::range::{IndexRange, char_bounds};
 use rope_text::{Error, MAX_TEXT_BYTES, Result, Steps};
 use std::mem;
@@ -84,7 +85,8 @@ impl Rope {
         ensures made { steps.new.made ≤ 16 * self.old.depth + 32 }
     {
         *steps = Steps::new();
-        let Parts { front, back } = split(self.alloc, &self.root, char_idx, &mut steps.made)?;
+        let front = front(self.alloc, &self.root, char_idx, &mut steps.made)?;
+        let back = back(self.alloc, &self.root, char_idx, &mut steps.made)?;
         let _ = front.height();
         let _ = back.height();
         self.root = front;

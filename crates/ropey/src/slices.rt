@@ -11,7 +11,7 @@ ghost use Rattle.rope_slice.specs.Slice.{content_of, text_of, breaks_of};
 ghost use Rattle.ropey.specs.View.{content, IsRope};
 
 use crate::rope::Rope;
-use rope_join::part::between;
+use rope_join::cut::between;
 use rope_part::Origin;
 use rope_slice::RopeSlice;
 use rope_text::{IndexRange, Result};

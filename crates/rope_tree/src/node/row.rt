@@ -2,7 +2,7 @@
 ghost use Rattle.std.specs.Prelude.{◌≡◌, ◌+◌, ◌*◌, ◌<◌, ◌≤◌, ◌++◌, [], ◌∷◌, length, take, drop, IfOk, OnOk};
 ghost use Rattle.rope_text.specs.declared.TheConstants.{MAX_CHILDREN};
 ghost use Rattle.rope_tree.specs.Tree.{height_of, breaks_of, leaves_of, tree_over, AreChildren};
-ghost use Rattle.rope_tree.specs.Totals.{IsTotalOf};
+ghost use Rattle.rope_tree.specs.Totals.{HasTotals, IsTotalOf};
 ghost use Rattle.rope_tree.specs.View.{trees_in};
 ghost use Rattle.rope_tree.specs.Siblings.{AreSiblings, AreParts};
 ghost use Rattle.rope_tree.specs.Rows.{IsPart, IsRow};
@@ -283,7 +283,7 @@ fn rest_of(nodes: &[Node], past: usize) -> &[Node]
 impl<'a> Row<'a> {
     /// No node.
     #[inline(always)]
-    fn none() -> Row<'a>
+    pub fn none() -> Row<'a>
         ensures row { IsRow result }
         ensures nodes { result.nodes.now ≡ [] }
     {
@@ -294,8 +294,24 @@ impl<'a> Row<'a> {
         }
     }
 
+    /// All children of a node, with their running totals.
+    #[inline(always)]
+    pub fn of(nodes: &'a [Node], totals: &'a Totals) -> Row<'a>
+        requires children { AreChildren (breaks_of nodes.now) (height_of nodes.now) nodes.now }
+        requires totals { HasTotals (breaks_of nodes.now) totals.now nodes.now }
+        ensures row { IsRow result }
+        ensures nodes { result.nodes.now ≡ nodes.now }
+    {
+        Row {
+            nodes,
+            totals: Some(totals),
+            from: 0,
+        }
+    }
+
     /// The first nodes, so many, or all.
-    fn first(self, most: usize) -> Row<'a>
+    #[inline(always)]
+    pub fn first(self, most: usize) -> Row<'a>
         requires { IsRow self }
         ensures row { IsRow result }
         ensures nodes { result.nodes.now ≡ take most self.entry.nodes.now }
@@ -307,7 +323,8 @@ impl<'a> Row<'a> {
     }
 
     /// The nodes behind the first so many, or none.
-    fn rest(self, past: usize) -> Row<'a>
+    #[inline(always)]
+    pub fn rest(self, past: usize) -> Row<'a>
         requires { IsRow self }
         ensures row { IsRow result }
         ensures nodes { result.nodes.now ≡ drop past self.entry.nodes.now }

@@ -1,10 +1,15 @@
-use Rattle.std.proofs.Common.{◌≡◌, ℕ, ◌+◌, ◌-◌, ◌≤◌, length, take, drop, ap, arith}
+use Rattle.std.proofs.Common.{◌≡◌, ℕ, ◌+◌, ◌-◌, ◌≤◌, [], length, take, drop, ap, ◌∙◌, arith}
+use Rattle.std.specs.Str.{chars}
+use Rattle.std.proofs.lemmas.Str.{chars-nil}
+use Rattle.std.proofs.lemmas.Result.{IfOk-weaker}
 use Rattle.std.proofs.lemmas.List.{length-take-le}
 use Rattle.rope_tree.specs.declared.search.Unit.TheVariants.{Char}
-use Rattle.rope_tree.specs.Tree.{text, joined, height_of, breaks_of}
+use Rattle.rope_tree.specs.Tree.{text, joined, height_of, breaks_of, leaf_tree}
 use Rattle.rope_tree.proofs.NodeLaws.{small_totals}
 use Rattle.rope_tree.proofs.Descents.{Descends, descends}
+use Rattle.rope_join.specs.Cut.{IsFront}
 use Rattle.rope_join.specs.Join.{gathered}
+use Rattle.rope_join.proofs.Empty.{empty_front}
 use Rattle.rope_join.proofs.Cuts.{CutsAt, cuts_at, front_alone, before_siblings, some_front, front_can_join, front_near, front_joined, before_height}
 use Rattle.rope_join.proofs.Gathered.{IsGathered, is_gathered}
 use Rattle.rope_join.proofs.cut.+front.Goals.{After-index-children-place}
@@ -30,7 +35,7 @@ place t c =
 inside : (t : ℕ) (c : After-index-children-place t) → c.args.at - c.total_before-before.result.chars ≤ length (text c.index-children-place.result)
 inside t c =
     let d = down t c in
-    omega (arith, d.past, d.not_past, c.requires.some)
+    omega (arith, d.past, d.not_past, c.if-at-eq0.false)
 
 many : (t : ℕ) (c : After-index-children-place t) → length (take c.place_of-place.result c.in-Inner.children.now) ≡ c.place_of-place.result
 many t c = let d = down t c in length-take-le c.place_of-place.result c.in-Inner.children.now (omega (arith, d.within))
@@ -47,8 +52,7 @@ overflow_sub-at-in-Inner t c =
 pub front-requires : goal.front-requires
 front-requires t c =
     let e = (goal.at.front-requires t c).After-index-children-place in
-    let d = down t e in
-    (omega (arith, c.decreases, (parts t e).above), (omega (arith, d.not_past, c.requires.some), inside t e))
+    (omega (arith, c.decreases, (parts t e).above), inside t e)
 
 pub returns-in_err-part-in-Inner-clause-made : goal.returns-in_err-part-in-Inner-clause-made
 returns-in_err-part-in-Inner-clause-made t c =
@@ -69,53 +73,52 @@ before t c past = is_gathered _ (some t c past)
 height : (t : ℕ) (c : After-index-children-place t) → (c.place_of-place.result ≡ 0 → ⊥) → height_of (take c.place_of-place.result c.in-Inner.children.now) ≡ c.index-children-place.result.height
 height t c past = before_height _ _ _ _ (parts t c) (some t c past)
 
-pub join_behind-requires-clause-siblings : goal.join_behind-requires-clause-siblings
-join_behind-requires-clause-siblings t c =
-    let e = (goal.at.join_behind-requires-clause-siblings t c).After-index-children-place in
-    before_siblings _ _ _ _ (parts t e) (some t e c.if-place-eq0.false)
-
-pub join_behind-requires-clause-some : goal.join_behind-requires-clause-some
-join_behind-requires-clause-some t c = some t (goal.at.join_behind-requires-clause-some t c).After-index-children-place c.if-place-eq0.false
+pub join_behind-requires-clause-gather : goal.join_behind-requires-clause-gather
+join_behind-requires-clause-gather t c =
+    let e = (goal.at.join_behind-requires-clause-gather t c).After-index-children-place in
+    let past = c.if-place-eq0.false in
+    rw (c.first-before.ensures.nodes, c.of.ensures.nodes) (record { siblings = before_siblings _ _ _ _ (parts t e) (some t e past); some = some t e past; at_most_24 = omega (arith, (parts t e).few) })
 
 pub join_behind-requires-clause-right_some : goal.join_behind-requires-clause-right_some
 join_behind-requires-clause-right_some t c =
     let e = (goal.at.join_behind-requires-clause-right_some t c).After-index-children-place in
     let d = down t e in
-    some_front _ c.index-children-place.result c.in_ok-part-in-Inner.part (omega (arith, d.not_past, c.requires.some)) (inside t e) c.in_ok-part-in-Inner.ensures.front
+    some_front _ c.index-children-place.result c.in_ok-part-in-Inner.part (omega (arith, d.not_past, c.if-at-eq0.false)) (inside t e) c.in_ok-part-in-Inner.ensures.front
 
 pub join_behind-requires-clause-no_higher : goal.join_behind-requires-clause-no_higher
 join_behind-requires-clause-no_higher t c =
     let e = (goal.at.join_behind-requires-clause-no_higher t c).After-index-children-place in
-    omega (arith, height t e c.if-place-eq0.false, c.in_ok-part-in-Inner.ensures.front.not_higher)
+    rw (c.first-before.ensures.nodes, c.of.ensures.nodes) (omega (arith, height t e c.if-place-eq0.false, c.in_ok-part-in-Inner.ensures.front.not_higher))
 
 pub join_behind-requires-clause-join : goal.join_behind-requires-clause-join
 join_behind-requires-clause-join t c =
     let e = (goal.at.join_behind-requires-clause-join t c).After-index-children-place in
-    front_can_join _ _ _ _ (parts t e) c.args.at _ _ (place t e) (inside t e) _ (some t e c.if-place-eq0.false) (before t e c.if-place-eq0.false) c.in_ok-part-in-Inner.ensures.front
+    rw (c.first-before.ensures.nodes, c.of.ensures.nodes) (front_can_join _ _ _ _ (parts t e) c.args.at _ _ (place t e) (inside t e) _ (some t e c.if-place-eq0.false) (before t e c.if-place-eq0.false) c.in_ok-part-in-Inner.ensures.front)
 
-pub returns-in_err-join_behind-in-Inner-clause-made : goal.returns-in_err-join_behind-in-Inner-clause-made
-returns-in_err-join_behind-in-Inner-clause-made t c =
-    let e = (goal.at.returns-in_err-join_behind-in-Inner-clause-made t c).After-index-children-place in
+pub returns-else-place-eq0-clause-front : goal.returns-else-place-eq0-clause-front
+returns-else-place-eq0-clause-front t c =
+    let e = (goal.at.returns-else-place-eq0-clause-front t c).After-index-children-place in
+    let past = c.if-place-eq0.false in
+    IfOk-weaker c.join_behind.result _ (IsFront c.args.at c.args.node.now) (λ part joined.
+    front_joined _ _ _ _ (parts t e) c.args.at _ _ (place t e) (inside t e) _ (some t e past) (before t e past) c.in_ok-part-in-Inner.ensures.front part (rw (c.first-before.ensures.nodes, c.of.ensures.nodes) at joined)) c.join_behind.ensures.join
+
+pub returns-else-place-eq0-clause-made_ok : goal.returns-else-place-eq0-clause-made_ok
+returns-else-place-eq0-clause-made_ok t c =
+    let e = (goal.at.returns-else-place-eq0-clause-made_ok t c).After-index-children-place in
+    IfOk-weaker c.join_behind.result _ _ (λ part made. omega (arith, (parts t e).above, c.in_ok-part-in-Inner.ensures.made_ok, made)) c.join_behind.ensures.made_ok
+
+pub returns-else-place-eq0-clause-made : goal.returns-else-place-eq0-clause-made
+returns-else-place-eq0-clause-made t c =
+    let e = (goal.at.returns-else-place-eq0-clause-made t c).After-index-children-place in
     let part = c.in_ok-part-in-Inner.ensures.front.not_higher in
-    omega (arith, (parts t e).above, height t e c.if-place-eq0.false, c.in_ok-part-in-Inner.ensures.made_ok, c.join_behind.ensures.made)
+    omega (arith, (parts t e).above, height t e c.if-place-eq0.false, c.in_ok-part-in-Inner.ensures.made_ok, rw (c.first-before.ensures.nodes, c.of.ensures.nodes) at c.join_behind.ensures.made)
 
-pub returns-in_ok-join_behind-in-Inner-clause-front : goal.returns-in_ok-join_behind-in-Inner-clause-front
-returns-in_ok-join_behind-in-Inner-clause-front t c =
-    let e = (goal.at.returns-in_ok-join_behind-in-Inner-clause-front t c).After-index-children-place in
-    front_joined _ _ _ _ (parts t e) c.args.at _ _ (place t e) (inside t e) _ (some t e c.if-place-eq0.false) (before t e c.if-place-eq0.false) c.in_ok-part-in-Inner.ensures.front _ c.in_ok-join_behind-in-Inner.ensures.join
-
-pub returns-in_ok-join_behind-in-Inner-clause-made_ok : goal.returns-in_ok-join_behind-in-Inner-clause-made_ok
-returns-in_ok-join_behind-in-Inner-clause-made_ok t c =
-    let e = (goal.at.returns-in_ok-join_behind-in-Inner-clause-made_ok t c).After-index-children-place in
-    omega (arith, (parts t e).above, c.in_ok-part-in-Inner.ensures.made_ok, c.in_ok-join_behind-in-Inner.ensures.made_ok)
-
-pub returns-in_ok-join_behind-in-Inner-clause-made : goal.returns-in_ok-join_behind-in-Inner-clause-made
-returns-in_ok-join_behind-in-Inner-clause-made t c =
-    let e = (goal.at.returns-in_ok-join_behind-in-Inner-clause-made t c).After-index-children-place in
-    let part = c.in_ok-part-in-Inner.ensures.front.not_higher in
-    omega (arith, (parts t e).above, height t e c.if-place-eq0.false, c.in_ok-part-in-Inner.ensures.made_ok, c.in_ok-join_behind-in-Inner.ensures.made)
+pub returns-then-at-eq0-clause-front : goal.returns-then-at-eq0-clause-front
+returns-then-at-eq0-clause-front t c =
+    let n = c.args.node.now in
+    IfOk-weaker c.leaf_of.result _ (IsFront c.args.at n) (λ part is. empty_front n part (chars []) c.args.at (is ∙ ap (λ b. leaf_tree b (chars [])) c.line_breaks.ensures) chars-nil c.if-at-eq0.true) c.leaf_of.ensures.ok
 
 pub join_behind-requires-clause-near : goal.join_behind-requires-clause-near
 join_behind-requires-clause-near t c =
     let e = (goal.at.join_behind-requires-clause-near t c).After-index-children-place in
-    front_near _ _ _ _ (parts t e) c.args.at _ _ (place t e) (inside t e) _ (some t e c.if-place-eq0.false) (before t e c.if-place-eq0.false) c.in_ok-part-in-Inner.ensures.front
+    rw (c.first-before.ensures.nodes, c.of.ensures.nodes) (front_near _ _ _ _ (parts t e) c.args.at _ _ (place t e) (inside t e) _ (some t e c.if-place-eq0.false) (before t e c.if-place-eq0.false) c.in_ok-part-in-Inner.ensures.front)

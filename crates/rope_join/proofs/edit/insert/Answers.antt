@@ -18,9 +18,9 @@ append-requires-2-clause-fits c =
       c.requires.fits,
       byte_len-parts c.args.at (text c.args.node.now),
       ap byte_len c.in_ok-front.ensures.front.text_is,
-      ap byte_len c.in_ok-front.ensures.back.text_is,
+      ap byte_len c.in_ok-back.ensures.back.text_is,
       ap byte_len c.in_ok-middle.ensures.text,
       byte_len-chars c.args.added.now c.utf8.added,
       ap byte_len c.in_ok-first.ensures.text,
-      IsMeasure-byte_len.joined (text c.in_ok-front.field-0.front) (text c.in_ok-middle.middle),
+      IsMeasure-byte_len.joined (text c.in_ok-front.front) (text c.in_ok-middle.middle),
     )

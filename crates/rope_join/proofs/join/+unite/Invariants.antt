@@ -1,5 +1,5 @@
-use Rattle.std.proofs.Common.{◌+◌}
+use Rattle.std.proofs.Common.{max}
 use Rattle.rope_join.proofs.join.+unite.Given as goal
 
 abbrev pub decreases-unite : goal.decreases-unite
-decreases-unite l = l.left.now.height + l.right.now.height
+decreases-unite l = max l.left.now.height l.right.now.height

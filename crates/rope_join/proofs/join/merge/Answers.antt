@@ -1,9 +1,14 @@
-use Rattle.std.proofs.Common.{ap, ap₂, ◌∙◌, arith}
+use Rattle.std.proofs.Common.{ap, ap₂, ◌∙◌, ◌++◌, arith, sym, ◌≡◌}
+use Rattle.rope_text.specs.TextInfo.{info_of}
 use Rattle.rope_tree.specs.Search.{IsSmall}
 use Rattle.rope_tree.proofs.Infos.{small_info}
-use Rattle.rope_tree.specs.Tree.{leaf_tree}
-use Rattle.rope_join.proofs.Unions.{merged_leaves, kept, leaves_near, inner_siblings, inner_union}
-use Rattle.rope_join.proofs.join.merge.Goals.{After-info-then-become_one}
+use Rattle.rope_tree.proofs.InsertLeaves.{text_of_leaf}
+use Rattle.rope_tree.specs.Tree.{text, leaf_tree, height_of, breaks_of}
+use Rattle.rope_tree.specs.Siblings.{AreSiblings}
+use Rattle.rope_tree.specs.View.{trees_in}
+use Rattle.rope_join.specs.Join.{IsUnion}
+use Rattle.rope_join.proofs.Unions.{merged_leaves, kept, leaves_near, inner_siblings, inner_union, both_ok}
+use Rattle.rope_join.proofs.join.merge.Goals.{After-info-then-become_one, After-push_str, In-Inner-view}
 use Rattle.rope_join.proofs.join.merge.Goals as goal
 
 both : (c : After-info-then-become_one) → IsSmall c.info.result × IsSmall c.info-then-become_one.result
@@ -21,37 +26,52 @@ plus-info-requires-clause-utf16_surrogates c = let b = both c in omega (arith, b
 pub plus-info-requires-clause-break_count : goal.plus-info-requires-clause-break_count
 plus-info-requires-clause-break_count c = let b = both c in omega (arith, b.0.chars, b.0.bytes, b.1.chars, b.1.bytes, b.0.count, b.1.count)
 
-pub pack_over-requires-clause-siblings : goal.pack_over-requires-clause-siblings
-pack_over-requires-clause-siblings c =
-    let ea = c.in-Inner.ensures.is in
-    let eb = c.in-Inner-view.ensures.is in
-    inner_siblings _ _ _ _ ea eb c.in-Inner.ensures.children c.in-Inner-view.ensures.children c.requires.join c.requires.height (c.requires.near (omega (arith, ap (λ u. u.height) ea)))
+siblings : (c : In-Inner-view) → AreSiblings (breaks_of (c.in-Inner.first.now ++ c.in-Inner-view.second.now)) (height_of (c.in-Inner.first.now ++ c.in-Inner-view.second.now)) (c.in-Inner.first.now ++ c.in-Inner-view.second.now)
+siblings c = inner_siblings _ _ _ _ c.in-Inner.ensures.is c.in-Inner-view.ensures.is c.in-Inner.ensures.children c.in-Inner-view.ensures.children c.requires.join c.requires.merge.level (c.requires.merge.near (omega (arith, ap (λ u. u.height) c.in-Inner.ensures.is)))
 
-pub returns-in_ok-pack_over-in-Inner-clause-union : goal.returns-in_ok-pack_over-in-Inner-clause-union
-returns-in_ok-pack_over-in-Inner-clause-union c =
-    let ea = c.in-Inner.ensures.is in
-    let eb = c.in-Inner-view.ensures.is in
-    inner_union _ _ _ _ ea eb c.in-Inner.ensures.children c.in-Inner-view.ensures.children c.requires.join c.requires.height (c.requires.near (omega (arith, ap (λ u. u.height) ea))) _ c.in_ok-pack_over-in-Inner.ensures.leaves c.in_ok-pack_over-in-Inner.ensures.shape
+pub pack_over-requires-clause-siblings : goal.pack_over-requires-clause-siblings
+pack_over-requires-clause-siblings c = rw (c.of-before.ensures.nodes, c.of-after.ensures.nodes) (siblings (goal.at.pack_over-requires-clause-siblings c).In-Inner-view)
+
+pub returns-else-first-ge-MIN_CHILDREN-clause-union : goal.returns-else-first-ge-MIN_CHILDREN-clause-union
+returns-else-first-ge-MIN_CHILDREN-clause-union c =
+    let near = c.requires.merge.near (omega (arith, ap (λ u. u.height) c.in-Inner.ensures.is)) in
+    both_ok c.pack_over.result _ _ (λ nodes. IsUnion c.args.left.now c.args.right.now (trees_in nodes)) (λ nodes leaves shape.
+    inner_union _ _ _ _ c.in-Inner.ensures.is c.in-Inner-view.ensures.is c.in-Inner.ensures.children c.in-Inner-view.ensures.children c.requires.join c.requires.merge.level near _
+    (rw (c.of-before.ensures.nodes, c.of-after.ensures.nodes) at leaves) (rw (c.of-before.ensures.nodes, c.of-after.ensures.nodes) at shape)) c.pack_over.ensures.leaves c.pack_over.ensures.shape
+
+new_text : (c : After-push_str) → c.push_str.new.self ≡ c.in-Leaf.first ++ c.in-Leaf-view.second
+new_text c = c.push_str.ensures.value ∙ ap₂ (λ s t. s ++ t) (c.from_str-text.ensures.value ∙ c.as_str.ensures.chars) c.as_str-then-become_one.ensures.chars
+
+pub make_leaf-requires-clause-info : goal.make_leaf-requires-clause-info
+make_leaf-requires-clause-info c =
+    let left = c.args.left.now in
+    let right = c.args.right.now in
+    let e = (goal.at.make_leaf-requires-clause-info c).After-push_str in
+    let parts = ap₂ (λ s t. s ++ t) (text_of_leaf _ left c.in-Leaf.first c.in-Leaf.ensures.is) (text_of_leaf _ right c.in-Leaf-view.second c.in-Leaf-view.ensures.is) in
+    c.plus-info.ensures.joined left.breaks (text left) (text right) c.info.ensures (c.info-then-become_one.ensures ∙ ap (λ b. info_of b (text right)) c.requires.join.same_breaks) c.requires.join.seam.apart
+    ∙ ap₂ info_of (sym c.line_breaks.ensures) (parts ∙ sym (new_text e) ∙ sym c.as_str-then-become_one-2.ensures.chars)
 
 pub returns-then-become_one-clause-union : goal.returns-then-become_one-clause-union
 returns-then-become_one-clause-union c =
     let right = c.in-Leaf-view.ensures.is ∙ ap (λ b. leaf_tree b c.in-Leaf-view.second) c.requires.join.same_breaks in
-    let one = c.in_ok-node-in-Leaf.ensures.ok ∙ ap₂ leaf_tree c.line_breaks.ensures c.as_str.ensures.chars in
-    merged_leaves c.args.left.now.breaks _ _ _ _ _ _ c.in-Leaf.ensures.is right c.joined_text-text.ensures.value one c.in_ok-node-in-Leaf.ensures.tree c.requires.left_some c.requires.right_some
+    let one = c.in_ok-node-in-Leaf.ensures.ok ∙ ap₂ leaf_tree c.line_breaks.ensures c.as_str-then-become_one-2.ensures.chars in
+    merged_leaves c.args.left.now.breaks _ _ _ _ _ _ c.in-Leaf.ensures.is right (new_text (goal.at.returns-then-become_one-clause-union c).After-push_str) one c.in_ok-node-in-Leaf.ensures.tree c.requires.left_some c.requires.right_some
 
 pub returns-then-first-second-gt-MAX_CHILDREN-clause-union : goal.returns-then-first-second-gt-MAX_CHILDREN-clause-union
 returns-then-first-second-gt-MAX_CHILDREN-clause-union c =
     let first = ap (λ u. u.width) c.in-Inner.ensures.is in
     let second = ap (λ u. u.width) c.in-Inner-view.ensures.is in
-    let near = c.requires.near (omega (arith, ap (λ u. u.height) c.in-Inner.ensures.is)) in
-    rw c.in_ok-keep-in-Inner.ensures (kept _ _ c.height.ensures.tree c.height-2.ensures.tree c.requires.left_some c.requires.right_some c.requires.join c.requires.height
+    let near = c.requires.merge.near (omega (arith, ap (λ u. u.height) c.in-Inner.ensures.is)) in
+    rw (c.in_ok-share-in-Inner.ensures, c.in_ok-share-in-Inner-2.ensures)
+    (kept _ _ c.height.ensures.tree c.height-2.ensures.tree c.requires.left_some c.requires.right_some c.requires.join c.requires.merge.level
     (λ _. omega (arith, first, c.if-first-ge-MIN_CHILDREN.true)) (λ _. omega (arith, second, c.if-second-ge-MIN_CHILDREN.true)) (λ _. omega (arith, first, second, c.if-first-second-gt-MAX_CHILDREN.true)) near)
 
-pub returns-in_ok-keep-in-Leaf-clause-union : goal.returns-in_ok-keep-in-Leaf-clause-union
-returns-in_ok-keep-in-Leaf-clause-union c =
+pub returns-in_ok-share-in-Leaf-2-clause-union : goal.returns-in_ok-share-in-Leaf-2-clause-union
+returns-in_ok-share-in-Leaf-2-clause-union c =
     let right = c.in-Leaf-view.ensures.is ∙ ap (λ b. leaf_tree b c.in-Leaf-view.second) c.requires.join.same_breaks in
     let low = ap (λ u. u.height) c.in-Leaf.ensures.is in
     let enough = c.become_one.ensures.near c.if-become_one.false in
     let near = leaves_near c.args.left.now.breaks _ _ _ _ c.in-Leaf.ensures.is right c.requires.left_some c.requires.right_some (omega (arith, enough, c.len.ensures.value, c.len-in-Leaf.ensures.value)) in
-    rw c.in_ok-keep-in-Leaf.ensures (kept _ _ c.height.ensures.tree c.height-2.ensures.tree c.requires.left_some c.requires.right_some c.requires.join c.requires.height
+    rw (c.in_ok-share-in-Leaf.ensures, c.in_ok-share-in-Leaf-2.ensures)
+    (kept _ _ c.height.ensures.tree c.height-2.ensures.tree c.requires.left_some c.requires.right_some c.requires.join c.requires.merge.level
     (λ high. absurd (omega (arith, high, low))) (λ high. absurd (omega (arith, high, low))) (λ high. absurd (omega (arith, high, low))) near)

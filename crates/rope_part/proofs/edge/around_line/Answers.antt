@@ -15,13 +15,13 @@ use Rattle.rope_part.proofs.LeafLines.{line_in_leaf}
 use Rattle.rope_part.proofs.edge.around_line.Goals.{Else-line-eq0}
 use Rattle.rope_part.proofs.edge.around_line.Goals as goal
 
-sum_is : (c : Else-line-eq0) → info_sum c.line_start_at-start.result.before c.of_first_line-line.result ≡ info_of c.args.node.now.breaks (take (line_start c.args.node.now.breaks (text c.args.node.now) (c.args.line_idx + 1)) (text c.args.node.now))
+sum_is : (c : Else-line-eq0) → info_sum c.line_start_at.result.0 c.of_first_line-line.result ≡ info_of c.args.node.now.breaks (take (line_start c.args.node.now.breaks (text c.args.node.now) (c.args.line_idx + 1)) (text c.args.node.now))
 sum_is c =
-    let rest = chars c.line_start_at-start.result.rest.now in
+    let rest = chars c.line_start_at.result.1.now in
     let breaks = c.line_breaks.result in
     let some : 0 < break_count breaks rest = omega (arith, ap (λ x. x.break_count) c.of_first_line-line.ensures, c.if-line-eq0.false, break_count-front breaks rest 1 (omega arith)) in
-    line_in_leaf c.args.node.now c.args.line_idx rest c.line_start_at-start.result.before c.of_first_line-line.result breaks c.line_breaks.ensures c.requires.within
-    c.line_start_at-start.ensures.rest some c.line_start_at-start.ensures.before c.of_first_line-line.ensures
+    line_in_leaf c.args.node.now c.args.line_idx rest c.line_start_at.result.0 c.of_first_line-line.result breaks c.line_breaks.ensures c.requires.within
+    c.line_start_at.ensures.rest some c.line_start_at.ensures.before c.of_first_line-line.ensures
 
 small : (c : Else-line-eq0) → IsSmall (info_of c.args.node.now.breaks (take (line_start c.args.node.now.breaks (text c.args.node.now) (c.args.line_idx + 1)) (text c.args.node.now)))
 small c =

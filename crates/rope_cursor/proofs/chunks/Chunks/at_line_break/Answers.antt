@@ -1,14 +1,14 @@
-use Rattle.std.proofs.Common.{◌≡◌, ◌-◌, ap, sym, ◌∙◌, ◌==◌, ℕ, false, arith}
+use Rattle.std.proofs.Common.{◌≡◌, ◌-◌, ap, sym, ◌∙◌, ◌==◌, ℕ, false, length, refl, arith}
 use Rattle.std.specs.List.{concat}
 use Rattle.rope_text.specs.Lines.{line_count, line_start}
-use Rattle.rope_text.specs.Lookup.{chunk_place_at_line_break, chunk_index_at_char, chunk_index_at_line_break}
+use Rattle.rope_text.specs.Lookup.{chunk_place_at_line_break, chunk_place_at_char, chunk_index_at_char, chunk_index_at_line_break}
 use Rattle.rope_text.proofs.LineLaws.{line_start-le-length}
 use Rattle.rope_part.proofs.Lookups.{line_break_index}
-use Rattle.rope_cursor.proofs.ChunkStarts.{IsPlaced, is_placed, items_here, index_of_char, placed_inside}
+use Rattle.rope_cursor.proofs.ChunkStarts.{IsPlaced, is_placed, items_here, index_of_char, placed_inside, place_at_end}
 use Rattle.rope_text.proofs.LookupLaws.{chunk_index_at_line_break-le}
 use Rattle.rope_part.specs.Part.{text_of, chunks_of, breaks_of}
 use Rattle.rope_cursor.specs.Chunks.{at_chunk}
-use Rattle.rope_cursor.proofs.chunks.Chunks.at_line_break.Goals.{After-found}
+use Rattle.rope_cursor.proofs.chunks.Chunks.at_line_break.Goals.{After-found, After-at_char}
 use Rattle.rope_cursor.proofs.chunks.Chunks.at_line_break.Goals as goal
 
 placed : (c : After-found)
@@ -47,4 +47,21 @@ returns-clause-place c =
 
 pub returns-clause-before : goal.returns-clause-before
 returns-clause-before c =
-    rw (c.found.ensures.bytes, c.found.ensures.chars, c.found.ensures.breaks) (placed (goal.at.returns-clause-before c).After-found).before
+    let at = c.found.ensures.here refl in
+    rw (at.0, at.1, at.2) (placed (goal.at.returns-clause-before c).After-found).before
+
+-- past the last chunk
+end_place : (c : After-at_char) → chunk_place_at_char (chunks_of c.args.part.now) c.info-info.result.chars ≡ chunk_place_at_line_break (breaks_of c.args.part.now) (chunks_of c.args.part.now) c.args.line_break_idx
+end_place c =
+    let part = c.args.part.now in
+    let cut = c.info-info.ensures.kept.cut in
+    let all : c.info-info.result.chars ≡ length (concat (chunks_of part)) = ap (λ x. x.chars) c.info-info.ensures.value ∙ sym (ap length cut.joined) in
+    let lines : c.args.line_break_idx ≡ line_count (breaks_of part) (concat (chunks_of part)) = c.if-line_break_idx-len_lines.true ∙ c.len_lines.ensures ∙ sym (ap (line_count (breaks_of part)) cut.joined) in
+    place_at_end (chunks_of part) c.info-info.result.chars (length (concat (chunks_of part))) _ all ∙ sym (place_at_end (chunks_of part) c.args.line_break_idx (line_count (breaks_of part) (concat (chunks_of part))) _ lines)
+
+pub returns-then-line_break_idx-len_lines-clause-place : goal.returns-then-line_break_idx-len_lines-clause-place
+returns-then-line_break_idx-len_lines-clause-place c = c.at_char.ensures.place ∙ end_place (goal.at.returns-then-line_break_idx-len_lines-clause-place c).After-at_char
+
+pub returns-then-line_break_idx-len_lines-clause-before : goal.returns-then-line_break_idx-len_lines-clause-before
+returns-then-line_break_idx-len_lines-clause-before c =
+    rw (← end_place (goal.at.returns-then-line_break_idx-len_lines-clause-before c).After-at_char) c.at_char.ensures.before

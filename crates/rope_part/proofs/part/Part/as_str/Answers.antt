@@ -1,6 +1,7 @@
-use Rattle.std.proofs.Common.{◌≡◌, ◌≤◌, [], length, get_or, ap, sym, ◌∙◌, inl, inr}
+use Rattle.std.proofs.Common.{◌≡◌, ◌≤◌, [], length, get_or, ap, sym, ◌∙◌, ◌==◌, true, false, inl, inr, arith}
 use Rattle.std.specs.Str.{chars}
-use Rattle.std.proofs.lemmas.Bool.{cases_lt}
+use Rattle.std.proofs.lemmas.Bool.{cases_lt, cases_eq}
+use Rattle.std.proofs.lemmas.Bool.Decides.{nat_tests}
 use Rattle.rope_text.specs.Text.{byte_len}
 use Rattle.rope_text.specs.Lookup.{chunk_index_at_char}
 use Rattle.rope_part.specs.Part.{text_of, chunks_of, breaks_of}
@@ -21,16 +22,41 @@ value c few =
     let cut = c.info-len.ensures.kept.cut in
     only_chunk (chunks_of c.args.self.now) (chars c.chunk_at_char.result.0.now) cut.nonempty (first c) few ∙ cut.joined
 
-pub returns-then-byte_len_of-len-clause-one : goal.returns-then-byte_len_of-len-clause-one
-returns-then-byte_len_of-len-clause-one c = one (goal.at.returns-then-byte_len_of-len-clause-one c).After-chunk_at_char (sym c.byte_len_of.ensures ∙ c.if-byte_len_of-len.true)
+pub returns-clause-one : goal.returns-clause-one
+returns-clause-one c =
+    let at = (goal.at.returns-clause-one c).After-chunk_at_char in
+    elim (cases_eq c.byte_len_of.result c.info-len.result.bytes) [
+      | inl same ↦
+          let is : (c.byte_len_of.result == c.info-len.result.bytes) ≡ true = grind (arith, nat_tests) in
+          rw (c.then_some.ensures, is) (one at (sym c.byte_len_of.ensures ∙ same))
+      | inr other ↦
+          let is : (c.byte_len_of.result == c.info-len.result.bytes) ≡ false = grind (arith, nat_tests) in
+          rw (c.then_some.ensures, is) tt
+    ]
 
-pub returns-then-byte_len_of-len-clause-value : goal.returns-then-byte_len_of-len-clause-value
-returns-then-byte_len_of-len-clause-value c =
-    let at = (goal.at.returns-then-byte_len_of-len-clause-value c).After-chunk_at_char in
-    value at (one at (sym c.byte_len_of.ensures ∙ c.if-byte_len_of-len.true))
+pub returns-clause-value : goal.returns-clause-value
+returns-clause-value c =
+    let at = (goal.at.returns-clause-value c).After-chunk_at_char in
+    elim (cases_eq c.byte_len_of.result c.info-len.result.bytes) [
+      | inl same ↦
+          let is : (c.byte_len_of.result == c.info-len.result.bytes) ≡ true = grind (arith, nat_tests) in
+          rw (c.then_some.ensures, is) (value at (one at (sym c.byte_len_of.ensures ∙ same)))
+      | inr other ↦
+          let is : (c.byte_len_of.result == c.info-len.result.bytes) ≡ false = grind (arith, nat_tests) in
+          rw (c.then_some.ensures, is) tt
+    ]
 
-pub returns-else-byte_len_of-len-clause-more : goal.returns-else-byte_len_of-len-clause-more
-returns-else-byte_len_of-len-clause-more c = elim (cases_lt 1 (length (chunks_of c.args.self.now))) [
-  | inl more ↦ more
-  | inr few ↦ absurd (c.if-byte_len_of-len.false (c.byte_len_of.ensures ∙ ap byte_len (value (goal.at.returns-else-byte_len_of-len-clause-more c).After-chunk_at_char few) ∙ sym (ap (λ x. x.bytes) c.info-len.ensures.value)))
-]
+pub returns-clause-more : goal.returns-clause-more
+returns-clause-more c =
+    let at = (goal.at.returns-clause-more c).After-chunk_at_char in
+    elim (cases_eq c.byte_len_of.result c.info-len.result.bytes) [
+      | inl same ↦
+          let is : (c.byte_len_of.result == c.info-len.result.bytes) ≡ true = grind (arith, nat_tests) in
+          rw (c.then_some.ensures, is) tt
+      | inr other ↦
+          let is : (c.byte_len_of.result == c.info-len.result.bytes) ≡ false = grind (arith, nat_tests) in
+          rw (c.then_some.ensures, is) (elim (cases_lt 1 (length (chunks_of c.args.self.now))) [
+            | inl more ↦ more
+            | inr few ↦ absurd (other (c.byte_len_of.ensures ∙ ap byte_len (value at few) ∙ sym (ap (λ x. x.bytes) c.info-len.ensures.value)))
+          ])
+    ]

@@ -1,4 +1,6 @@
 use Rattle.std.proofs.Common.{◌∙◌, ap, sym, arith}
+use Rattle.std.proofs.lemmas.Str.{chars-nil}
+use Rattle.rope_text.specs.Cutting.{single_chunk}
 use Rattle.rope_text.specs.Text.{byte_len}
 use Rattle.rope_tree.specs.Tree.{text}
 use Rattle.rope_tree.proofs.EmptyTrees.{no_leaves_of}
@@ -8,12 +10,12 @@ use Rattle.rope_part.proofs.Measured.{whole_stretch}
 use Rattle.rope_part.proofs.part.Part.of_node.Goals as goal
 
 pub returns-then-end-eq0-clause-text : goal.returns-then-end-eq0-clause-text
-returns-then-end-eq0-clause-text c = c.empty.ensures.text ∙ sym (no_chars (text c.args.node.now) (sym (ap (λ x. x.chars) c.info-end.ensures) ∙ c.if-end-eq0.true))
+returns-then-end-eq0-clause-text c = c.from_str_with.ensures.text ∙ chars-nil ∙ sym (no_chars (text c.args.node.now) (sym (ap (λ x. x.chars) c.info-end.ensures) ∙ c.if-end-eq0.true))
 
 pub returns-then-end-eq0-clause-chunks : goal.returns-then-end-eq0-clause-chunks
 returns-then-end-eq0-clause-chunks c =
     let none = no_chars (text c.args.node.now) (sym (ap (λ x. x.chars) c.info-end.ensures) ∙ c.if-end-eq0.true) in
-    c.empty.ensures.chunks ∙ sym (no_leaves_of c.args.node.now c.height.ensures.tree (ap byte_len none))
+    c.from_str_with.ensures.chunks ∙ ap single_chunk chars-nil ∙ sym (no_leaves_of c.args.node.now c.height.ensures.tree (ap byte_len none))
 
 pub invariant_of-result : goal.invariant_of-result
 invariant_of-result c = record {

@@ -1,0 +1,12 @@
+-- The empty part of a tree.
+use Rattle.std.proofs.Common.{◌≡◌, ℕ, List, [], length, refl, sym, arith}
+use Rattle.std.proofs.lemmas.List.{drop_all}
+use Rattle.rope_tree.specs.Tree.{Tree, text, leaf_tree}
+use Rattle.rope_tree.proofs.LeafLaws.{no_leaves}
+use Rattle.rope_join.specs.Cut.{IsFront, IsBack}
+
+pub empty_front : (n r : Tree) (l : List ℕ) (at : ℕ) → r ≡ leaf_tree n.breaks l → l ≡ [] → at ≡ 0 → IsFront at n r
+empty_front n r l at e f z = rw (e, f, z) (record { text_is = refl; same_breaks = refl; leaves = no_leaves; not_higher = omega arith; near = λ high. absurd (omega arith) })
+
+pub empty_back : (n r : Tree) (l : List ℕ) (at : ℕ) → r ≡ leaf_tree n.breaks l → l ≡ [] → at ≡ length (text n) → IsBack at n r
+empty_back n r l at e f z = rw (e, f) (record { text_is = sym (drop_all at (text n) (omega arith)); same_breaks = refl; leaves = no_leaves; not_higher = omega arith; near = λ high. absurd (omega arith) })
