@@ -15,6 +15,13 @@ pub(crate) fn check(idx: usize, len: usize, error: Error) -> Result<()>
     if idx > len { Err(error) } else { Ok(()) }
 }
 
+/// The index, or none where it is past the end.
+pub(crate) fn within(idx: usize, len: usize) -> Option<usize>
+    ensures { MatchOption result (len < idx) (λ same. (idx ≤ len) × (same ≡ idx)) }
+{
+    (idx <= len).then_some(idx)
+}
+
 // What is wrong with a range whose bounds are both given.
 fn invalid(start: Option<usize>, end: Option<usize>) -> Option<Error>
     ensures { result ≡ invalid_range start end }
