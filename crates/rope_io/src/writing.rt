@@ -24,10 +24,7 @@ fn write_bytes<S: Sink>(sink: &mut S, bytes: &[u8]) -> io::Result<()>
 {
     let mut rest = bytes;
     while !rest.is_empty() {
-        let count = match sink.give(rest) {
-            Ok(count) => count,
-            Err(error) => return Err(error),
-        };
+        let count = sink.give(rest)?;
         if count == 0 {
             return Err(io::Error::from(ErrorKind::WriteZero));
         }
@@ -53,10 +50,7 @@ pub fn write_part<S: Sink>(part: &Part<'_>, sink: &mut S) -> io::Result<()>
     // This opens what every part keeps: its chunks join to its text.
     let _ = part.info();
     for chunk in Chunks::new(part) {
-        match write_bytes(sink, chunk.as_bytes()) {
-            Ok(()) => {}
-            Err(error) => return Err(error),
-        }
+        write_bytes(sink, chunk.as_bytes())?;
     }
     Ok(())
 }
