@@ -94,26 +94,6 @@ impl Rope {
         })
     }
 
-    // Takes the characters of a range out, and counts the nodes that are made.
-    fn remove_range<R: IndexRange + Drop>(&mut self, range: R, made: &mut u64) -> Result<()>
-        ensures ok { OnOk result ((char_range_error (R.given_start range) (R.given_end range) (length self.old.text) ≡ None)
-            × (self.new.text ≡ removed self.old.text (range_start (R.given_start range)) (range_end (R.given_end range) (length self.old.text)))) }
-        ensures refused { IfErr result (IsRefusal (char_range_error (R.given_start range) (R.given_end range) (length self.old.text))) }
-        ensures err { OnErr result (self.new ≡ self.old) }
-        ensures empty { char_range_error (R.given_start range) (R.given_end range) (length self.old.text) ≡ None
-            → range_start (R.given_start range) ≡ range_end (R.given_end range) (length self.old.text) → IsOk result × (self.new ≡ self.old) }
-        ensures breaks { self.new.breaks ≡ self.old.breaks }
-        ensures kept { IsRope self.new }
-        ensures made { made.new ≤ made.old + 16 * self.old.depth + 32 }
-    {
-        let _ = self.len_bytes();
-        let (start, end) = char_bounds(&range, self.len_chars())?;
-        if start == end {
-            return Ok(());
-        }
-        Ok(remove(self.alloc, &mut self.root, start, end, made)?)
-    }
-
     /// As `remove`, for any range.
     ///
     /// # Errors
@@ -131,7 +111,9 @@ impl Rope {
         ensures breaks { self.new.breaks ≡ self.old.breaks }
         ensures kept { IsRope self.new }
     {
-        self.remove_range(range, &mut 0)
+        let _ = self.len_bytes();
+        let (start, end) = char_bounds(&range, self.len_chars())?;
+        self.remove(start..end)
     }
 
     /// Takes the characters of a range out of the text.
@@ -153,7 +135,7 @@ impl Rope {
         ensures breaks { self.new.breaks ≡ self.old.breaks }
         ensures kept { IsRope self.new }
     {
-        self.try_remove(range)
+        self.remove_counted(range, &mut Steps::new())
     }
 
     /// As `remove`, and sets `steps` to what it did: `made` counts the nodes that were made, at most 16 d + 32 for
@@ -180,7 +162,12 @@ impl Rope {
         ensures made { steps.new.made ≤ 16 * self.old.depth + 32 }
     {
         *steps = Steps::new();
-        self.remove_range(range, &mut steps.made)
+        let _ = self.len_bytes();
+        let (start, end) = char_bounds(&range, self.len_chars()).unwrap();
+        if start == end {
+            return Ok(());
+        }
+        Ok(remove(self.alloc, &mut self.root, start, end, &mut steps.made)?)
     }
 
     /// Puts the text of another rope behind this one's. The rope shares what it can of the other's tree.
@@ -239,9 +226,8 @@ impl Rope {
             mem::swap(&mut self.root, &mut other.root);
             return Ok(());
         }
-        let root = append(self.alloc, &self.root, &other.root, &mut steps.made)?;
-        let _ = root.height();
-        self.root = root;
+        self.root = append(self.alloc, &self.root, &other.root, &mut steps.made)?;
+        let _ = self.root.height();
         Ok(())
     }
 }

@@ -15,27 +15,6 @@ use rope_text::{Error, MAX_SHORT_BYTES, MAX_TEXT_BYTES, Result, Steps};
 use rope_tree::edit::insert_at;
 
 impl Rope {
-    // Puts a text that isn't empty where only running out of memory refuses it, and counts the nodes that are made.
-    fn insert_some(&mut self, char_idx: usize, text: &str, made: &mut u64) -> Result<()>
-        requires within { char_idx ≤ length self.old.text }
-        requires fits { byte_len self.old.text + length text.now < 2 ^ 63 }
-        requires some { 0 < length text.now }
-        ensures ok { OnOk result (self.new.text ≡ inserted self.old.text char_idx (chars text.now)) }
-        ensures refused { IfErr result (λ e. e ≡ OutOfMemory) }
-        ensures err { OnErr result (self.new ≡ self.old) }
-        ensures breaks { self.new.breaks ≡ self.old.breaks }
-        ensures kept { IsRope self.new }
-        ensures made { length text.now ≤ MAX_SHORT_BYTES → made.new ≤ made.old + 3 * self.old.depth + 5 }
-    {
-        if text.len() > MAX_SHORT_BYTES {
-            let root = insert(self.alloc, &self.root, char_idx, text, made)?;
-            let _ = root.height();
-            self.root = root;
-            return Ok(());
-        }
-        Ok(insert_at(self.alloc, &mut self.root, char_idx, text, made)?)
-    }
-
     // Puts a text before a character, and counts the nodes that are made.
     fn insert_made(&mut self, char_idx: usize, text: &str, made: &mut u64) -> Result<()>
         ensures ok { OnOk result ((insert_error self.old.text char_idx (chars text.now) ≡ None)
@@ -59,7 +38,12 @@ impl Rope {
         if text.is_empty() {
             return Ok(());
         }
-        self.insert_some(char_idx, text, made)
+        if text.len() <= MAX_SHORT_BYTES {
+            return Ok(insert_at(self.alloc, &mut self.root, char_idx, text, made)?);
+        }
+        self.root = insert(self.alloc, &self.root, char_idx, text, made)?;
+        let _ = self.root.height();
+        Ok(())
     }
 
     /// As `insert`, for any index.

@@ -62,17 +62,6 @@ impl Clone for Rope {
     }
 }
 
-// Hands a chunk in, whose bytes are counted by its characters.
-fn append_chunk(builder: &mut Builder, chunk: &str) -> Result<()>
-    requires { byte_len builder.old.text + byte_len (chars chunk.now) < 2 ^ 63 }
-    ensures ok { OnOk result (builder.new.text ≡ builder.old.text ++ chars chunk.now) }
-    ensures breaks { builder.new.breaks ≡ builder.old.breaks }
-    ensures refused { IfErr result (λ e. e ≡ OutOfMemory) }
-{
-    builder.append(chunk)?;
-    Ok(())
-}
-
 impl Rope {
     /// A rope of the empty text, with Unicode's line breaks, in no chunk. Takes memory for one node.
     ///
@@ -219,10 +208,11 @@ impl Rope {
     {
         let mut builder = Builder::new(self.alloc, self.line_breaks());
         for chunk in self.chunks() {
-            append_chunk(&mut builder, chunk)?;
+            // This opens that the chunk is UTF-8, so it has the bytes of its characters.
+            let _ = chunk.as_bytes();
+            builder.append(chunk)?;
         }
-        let root = builder.finish(&mut 0)?;
-        self.root = root;
+        self.root = builder.finish(&mut 0)?;
         Ok(())
     }
 

@@ -15,7 +15,7 @@ ghost use Rattle.ropey.specs.Texts.{IsAllOf, IsBeginningOf};
 
 use crate::rope::Rope;
 use crate::rope_builder::RopeBuilder;
-use rope_text::{LineBreaks, Result};
+use rope_text::Result;
 use std::alloc::Global;
 use std::borrow::CowStr;
 use std::convert::AsStr;
@@ -127,7 +127,7 @@ fn from_texts<T: AsStr + Drop, I: IntoIterator<Item = T>>(alloc: Global, iter: I
     ensures few { IfOk result HasFewChunks }
     ensures refused { IfErr result (λ e. (text : List ℕ) × IsBeginningOf I.into_iter_gives I.IntoIter.next_gives T.text iter text × IsRefusal (size_error (byte_len text)) e) }
 {
-    let mut builder = RopeBuilder::empty(alloc, LineBreaks::Unicode);
+    let mut builder = RopeBuilder::new(alloc).unwrap();
     for text in iter {
         builder.append(text.as_str())?;
     }

@@ -1,6 +1,6 @@
 -- Each tree is a rope.
 use Rattle.ropey.proofs.Ropes.{rope_of}
-use Rattle.ropey.proofs.rope.Rope.remove_range.Goals as goal
+use Rattle.ropey.proofs.rope.Rope.remove_counted.Goals as goal
 
 pub returns-in_err-remove-clause-kept : goal.returns-in_err-remove-clause-kept
 returns-in_err-remove-clause-kept g c = rope_of c.remove.new.root c.remove.ensures.tree
