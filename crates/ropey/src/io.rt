@@ -12,7 +12,7 @@ ghost use Rattle.rope_text.specs.declared.line_breaks.LineBreaks.TheVariants.{Un
 ghost use Rattle.rope_io.specs.Failing.{failure_of, reader_failure, count_failure};
 ghost use Rattle.rope_io.specs.Reading.{Reads, IsReadFailure};
 ghost use Rattle.rope_io.specs.Writing.{AppendsFront};
-ghost use Rattle.ropey.specs.View.{IsRope, HasFewChunks, text_of};
+ghost use Rattle.ropey.specs.View.{IsBuilt, text_of};
 
 use crate::rope::Rope;
 use rope_io::reading::read_tree;
@@ -39,9 +39,7 @@ impl Rope {
         ensures answer { (left : Option (List ℕ)) × (failed : Bool)
             × Reads text_of (T.remaining reader) left failed result }
         ensures ok { IfOk result (λ rope. IfSome (T.remaining reader) (λ bytes. encode_utf8_all rope.text ≡ bytes)) }
-        ensures breaks { IfOk result (λ rope. rope.breaks ≡ Unicode) }
-        ensures kept { IfOk result IsRope }
-        ensures few { IfOk result HasFewChunks }
+        ensures kept { IfOk result (IsBuilt Unicode) }
     {
         Rope::from_reader_with(alloc, reader, LineBreaks::Unicode)
     }
@@ -64,9 +62,7 @@ impl Rope {
         // so an `Ok` has the text of the whole input, and the mark says a failed device.
         ensures ok { IfOk result (λ rope. IfSome (S.remaining source.old) (λ bytes. encode_utf8_all rope.text ≡ bytes)) }
         ensures failed { IsReadFailure result ↔ (S.marked source.new ≡ true) }
-        ensures breaks { IfOk result (λ rope. rope.breaks ≡ Unicode) }
-        ensures kept { IfOk result IsRope }
-        ensures few { IfOk result HasFewChunks }
+        ensures kept { IfOk result (IsBuilt Unicode) }
     {
         Rope::from_watched_with(alloc, source, LineBreaks::Unicode)
     }
@@ -84,9 +80,7 @@ impl Rope {
         ensures answer { (left : Option (List ℕ)) × (failed : Bool)
             × Reads text_of (T.remaining reader) left failed result }
         ensures ok { IfOk result (λ rope. IfSome (T.remaining reader) (λ bytes. encode_utf8_all rope.text ≡ bytes)) }
-        ensures breaks { IfOk result (λ rope. rope.breaks ≡ breaks) }
-        ensures kept { IfOk result IsRope }
-        ensures few { IfOk result HasFewChunks }
+        ensures kept { IfOk result (IsBuilt breaks) }
     {
         Rope::from_watched_with(alloc, &mut Watched::new(reader), breaks)
     }
@@ -107,9 +101,7 @@ impl Rope {
         ensures once { S.failures source.new ≡ count_failure (reader_failure result) (S.failures source.old) }
         ensures ok { IfOk result (λ rope. IfSome (S.remaining source.old) (λ bytes. encode_utf8_all rope.text ≡ bytes)) }
         ensures failed { IsReadFailure result ↔ (S.marked source.new ≡ true) }
-        ensures breaks { IfOk result (λ rope. rope.breaks ≡ breaks) }
-        ensures kept { IfOk result IsRope }
-        ensures few { IfOk result HasFewChunks }
+        ensures kept { IfOk result (IsBuilt breaks) }
     {
         let root = read_tree(alloc, source, breaks)?;
         Ok(Rope { root, alloc })

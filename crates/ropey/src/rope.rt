@@ -11,7 +11,7 @@ ghost use Rattle.rope_text.specs.Lines.{line_count};
 ghost use Rattle.rope_text.specs.Edit.{inserted, insert_error, IsRefusal};
 ghost use Rattle.rope_text.specs.Sides.{at_start};
 ghost use Rattle.rope_tree.specs.Tree.{text};
-ghost use Rattle.ropey.specs.View.{IsRope, HasFewChunks};
+ghost use Rattle.ropey.specs.View.{IsRope, HasFewChunks, IsBuilt};
 
 use crate::iter::Chunks;
 use rope_text::{LineBreaks, MAX_BYTES, Result};
@@ -71,8 +71,7 @@ impl Rope {
     pub fn new(alloc: Global) -> Result<Rope>
         ensures text { IfOk result (λ rope. rope.text ≡ []) }
         ensures chunks { IfOk result (λ rope. rope.chunks ≡ []) }
-        ensures breaks { IfOk result (λ rope. rope.breaks ≡ Unicode) }
-        ensures kept { IfOk result IsRope }
+        ensures kept { IfOk result (IsBuilt Unicode) }
         ensures err { IfErr result (λ e. e ≡ OutOfMemory) }
     {
         Rope::new_with(alloc, LineBreaks::Unicode)
@@ -86,9 +85,7 @@ impl Rope {
     /// `OutOfMemory`.
     pub fn from_str(alloc: Global, text: &str) -> Result<Rope>
         ensures text { IfOk result (λ rope. rope.text ≡ chars text.now) }
-        ensures breaks { IfOk result (λ rope. rope.breaks ≡ Unicode) }
-        ensures kept { IfOk result IsRope }
-        ensures few { IfOk result HasFewChunks }
+        ensures kept { IfOk result (IsBuilt Unicode) }
         ensures err { IfErr result (λ e. e ≡ OutOfMemory) }
     {
         Rope::from_str_with(alloc, text, LineBreaks::Unicode)
@@ -102,8 +99,7 @@ impl Rope {
     pub fn new_with(alloc: Global, breaks: LineBreaks) -> Result<Rope>
         ensures text { IfOk result (λ rope. rope.text ≡ []) }
         ensures chunks { IfOk result (λ rope. rope.chunks ≡ []) }
-        ensures breaks { IfOk result (λ rope. rope.breaks ≡ breaks) }
-        ensures kept { IfOk result IsRope }
+        ensures kept { IfOk result (IsBuilt breaks) }
         ensures err { IfErr result (λ e. e ≡ OutOfMemory) }
     {
         Rope::from_str_with(alloc, "", breaks)
@@ -117,9 +113,7 @@ impl Rope {
     /// `OutOfMemory`.
     pub fn from_str_with(alloc: Global, text: &str, breaks: LineBreaks) -> Result<Rope>
         ensures text { IfOk result (λ rope. rope.text ≡ chars text.now) }
-        ensures breaks { IfOk result (λ rope. rope.breaks ≡ breaks) }
-        ensures kept { IfOk result IsRope }
-        ensures few { IfOk result HasFewChunks }
+        ensures kept { IfOk result (IsBuilt breaks) }
         ensures err { IfErr result (λ e. e ≡ OutOfMemory) }
     {
         let root = build(alloc, text, breaks, &mut 0)?;

@@ -6,7 +6,7 @@ ghost use Rattle.std.specs.Str.{chars};
 ghost use Rattle.rope_text.specs.declared.line_breaks.LineBreaks.TheVariants.{Unicode};
 ghost use Rattle.rope_text.specs.Text.{byte_len};
 ghost use Rattle.rope_text.specs.Edit.{or_else, size_error, IsRefusal};
-ghost use Rattle.ropey.specs.View.{IsRope, HasFewChunks};
+ghost use Rattle.ropey.specs.View.{IsBuilt};
 
 use crate::rope::Rope;
 use rope_io::reading::append;
@@ -103,9 +103,7 @@ impl RopeBuilder {
     /// First the error of an earlier refusal, then `OutOfMemory`.
     pub fn finish(self) -> Result<Rope>
         ensures text { IfOk result (λ rope. rope.text ≡ self.text) }
-        ensures breaks { IfOk result (λ rope. rope.breaks ≡ self.breaks) }
-        ensures kept { IfOk result IsRope }
-        ensures few { IfOk result HasFewChunks }
+        ensures kept { IfOk result (IsBuilt self.breaks) }
         ensures whole { IfOk result (λ _. self.failed ≡ None) }
         ensures refused { IfErr result (IsRefusal self.failed) }
     {

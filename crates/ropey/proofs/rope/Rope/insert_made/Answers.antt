@@ -1,5 +1,5 @@
 -- The tests come in the order of the errors, and past them only memory refuses.
-use Rattle.std.proofs.Common.{◌≡◌, ◌<◌, ◌∙◌, ℕ, List, length, sym, refl, arith, subst, ap, Some, true, false}
+use Rattle.std.proofs.Common.{rules, ◌≡◌, ◌<◌, ◌∙◌, ℕ, List, length, sym, refl, arith, subst, ap, Some, true, false}
 use Rattle.std.proofs.lemmas.Bool.Decides.{nat_tests}
 use Rattle.std.specs.Prelude.{◌==◌}
 use Rattle.std.specs.Str.{IsUtf8, chars}
@@ -87,10 +87,10 @@ pub returns-in_err-self-inside-clause-empty : goal.returns-in_err-self-inside-cl
 returns-in_err-self-inside-clause-empty c = λ none _. some_chars c.args.text.now c.utf8.text (sym c.is_empty.ensures ∙ c.if-is_empty.false) none
 
 pub returns-then-text-le-MAX_SHORT_BYTES-clause-kept : goal.returns-then-text-le-MAX_SHORT_BYTES-clause-kept
-returns-then-text-le-MAX_SHORT_BYTES-clause-kept c = rope_of c.insert_at.new.root c.insert_at.ensures.tree
+returns-then-text-le-MAX_SHORT_BYTES-clause-kept c = (search rules, search rules, rope_of c.insert_at.new.root c.insert_at.ensures.tree)
 
 pub returns-in_err-insert_at-clause-kept : goal.returns-in_err-insert_at-clause-kept
-returns-in_err-insert_at-clause-kept c = rope_of c.insert_at.new.root c.insert_at.ensures.tree
+returns-in_err-insert_at-clause-kept c = (search rules, search rules, rope_of c.insert_at.new.root c.insert_at.ensures.tree)
 
 pub returns-clause-kept : goal.returns-clause-kept
-returns-clause-kept c = rope_of _ c.height.ensures.tree
+returns-clause-kept c = (search rules, search rules, rope_of _ c.height.ensures.tree)
