@@ -6,7 +6,7 @@ ghost use Rattle.rope_text.specs.Text.{byte_len};
 ghost use Rattle.rope_text.specs.Edit.{size_error, IsRefusal};
 ghost use Rattle.rope_text.specs.Read.{text_front, text_rest};
 ghost use Rattle.rope_tree.specs.Tree.{text, IsTree};
-ghost use Rattle.rope_io.specs.Failing.{reader_failure, count_failure};
+ghost use Rattle.rope_io.specs.Failing.{reader_failure, IsCounted};
 ghost use Rattle.rope_io.specs.Reading.{Reads};
 
 use crate::device::Source;
@@ -75,8 +75,7 @@ fn read_texts<S: Source>(
     requires clear { S.marked source.old ≡ false }
     ensures answer { Reads (λ _. builder.new.text) (S.remaining source.old) (S.remaining source.new)
         (S.marked source.new) result }
-    ensures failure { S.failure source.new ≡ reader_failure result }
-    ensures once { S.failures source.new ≡ count_failure (reader_failure result) (S.failures source.old) }
+    ensures failure { IsCounted (reader_failure result) (S.failure source.new) (S.failures source.old) (S.failures source.new) }
     ensures utf8 { OnOk result (IsUtf8 (encode_utf8_all builder.new.text)) }
     ensures fits { OnOk result (byte_len builder.new.text < 2 ^ 63) }
     ensures breaks { builder.new.breaks ≡ builder.old.breaks }
@@ -117,8 +116,7 @@ pub fn read_tree<S: Source>(
 ) -> std::result::Result<Node, ReadError>
     ensures answer { Reads (λ node. text node) (S.remaining source.old) (S.remaining source.new)
         (S.marked source.new) result }
-    ensures failure { S.failure source.new ≡ reader_failure result }
-    ensures once { S.failures source.new ≡ count_failure (reader_failure result) (S.failures source.old) }
+    ensures failure { IsCounted (reader_failure result) (S.failure source.new) (S.failures source.old) (S.failures source.new) }
     ensures breaks { IfOk result (λ node. node.breaks ≡ breaks) }
     ensures tree { IfOk result (λ node. IsTree node) }
     ensures few { IfOk result (λ node. length node.leaves ≤ (byte_len (text node) + (MIN_CUT_BYTES - 1)) / MIN_CUT_BYTES) }

@@ -9,7 +9,7 @@ ghost use Rattle.std.specs.Prelude.{◌≡◌, ℕ, List, Bool, Option, true, �
 ghost use Rattle.std.specs.Io.KnownBytes.{Appends};
 ghost use Rattle.std.specs.Str.{encode_utf8_all};
 ghost use Rattle.rope_text.specs.declared.line_breaks.LineBreaks.TheVariants.{Unicode};
-ghost use Rattle.rope_io.specs.Failing.{failure_of, reader_failure, count_failure};
+ghost use Rattle.rope_io.specs.Failing.{failure_of, reader_failure, IsCounted};
 ghost use Rattle.rope_io.specs.Reading.{Reads, IsReadFailure};
 ghost use Rattle.rope_io.specs.Writing.{AppendsFront};
 ghost use Rattle.ropey.specs.View.{IsBuilt, text_of};
@@ -56,8 +56,7 @@ impl Rope {
     ) -> std::result::Result<Rope, ReadError>
         // The bytes that were given decide the answer,
         ensures answer { Reads text_of (S.remaining source.old) (S.remaining source.new) (S.marked source.new) result }
-        ensures failure { S.failure source.new ≡ reader_failure result }
-        ensures once { S.failures source.new ≡ count_failure (reader_failure result) (S.failures source.old) }
+        ensures failure { IsCounted (reader_failure result) (S.failure source.new) (S.failures source.old) (S.failures source.new) }
 
         // so an `Ok` has the text of the whole input, and the mark says a failed device.
         ensures ok { IfOk result (λ rope. IfSome (S.remaining source.old) (λ bytes. encode_utf8_all rope.text ≡ bytes)) }
@@ -97,8 +96,7 @@ impl Rope {
         breaks: LineBreaks,
     ) -> std::result::Result<Rope, ReadError>
         ensures answer { Reads text_of (S.remaining source.old) (S.remaining source.new) (S.marked source.new) result }
-        ensures failure { S.failure source.new ≡ reader_failure result }
-        ensures once { S.failures source.new ≡ count_failure (reader_failure result) (S.failures source.old) }
+        ensures failure { IsCounted (reader_failure result) (S.failure source.new) (S.failures source.old) (S.failures source.new) }
         ensures ok { IfOk result (λ rope. IfSome (S.remaining source.old) (λ bytes. encode_utf8_all rope.text ≡ bytes)) }
         ensures failed { IsReadFailure result ↔ (S.marked source.new ≡ true) }
         ensures kept { IfOk result (IsBuilt breaks) }
@@ -128,8 +126,7 @@ impl Rope {
         ensures ok { OnOk result (Appends (S.contents sink.old) (S.contents sink.new) (encode_utf8_all self.now.text)) }
         ensures front { AppendsFront (S.contents sink.old) (S.contents sink.new) (encode_utf8_all self.now.text) }
         ensures failed { IsErr result ↔ (S.marked sink.new ≡ true) }
-        ensures failure { S.failure sink.new ≡ failure_of result }
-        ensures once { S.failures sink.new ≡ count_failure (failure_of result) (S.failures sink.old) }
+        ensures failure { IsCounted (failure_of result) (S.failure sink.new) (S.failures sink.old) (S.failures sink.new) }
     {
         write_part(&Part::of_node(self.root()), sink)
     }

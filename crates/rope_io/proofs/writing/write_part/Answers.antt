@@ -35,8 +35,8 @@ loop-chunk-preserved g c =
       };
       none_failed = record {
         clear = c.in_ok-write_bytes.ensures.clear;
-        none = c.in_ok-write_bytes.ensures.failure;
-        same = c.in_ok-write_bytes.ensures.once ∙ c.loop-chunk.invariant.none_failed.same;
+        none = c.in_ok-write_bytes.ensures.failure.0;
+        same = c.in_ok-write_bytes.ensures.failure.1 ∙ c.loop-chunk.invariant.none_failed.same;
       };
     }
 
