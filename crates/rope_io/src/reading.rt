@@ -10,7 +10,7 @@ ghost use Rattle.rope_io.specs.Failing.{reader_failure, IsCounted};
 ghost use Rattle.rope_io.specs.Reading.{Reads};
 
 use crate::device::Source;
-use crate::error::ReadError;
+use crate::error::{ReadError, ReadResult};
 use rope_text::{BUFFER_BYTES, Error, LineBreaks, MAX_TEXT_BYTES, Result};
 use rope_tree::builder::Builder;
 use rope_tree::node::Node;
@@ -67,10 +67,7 @@ fn settle(builder: &mut Builder, buffer: &mut [u8], filled: usize) -> Result<usi
 }
 
 // Reads to the end, and puts what is text behind what was read. An unfinished character is kept for the next read.
-fn read_texts<S: Source>(
-    source: &mut S,
-    builder: &mut Builder,
-) -> std::result::Result<(), ReadError>
+fn read_texts<S: Source>(source: &mut S, builder: &mut Builder) -> ReadResult<()>
     requires empty { builder.old.text ≡ [] }
     requires clear { S.marked source.old ≡ false }
     ensures answer { Reads (λ _. builder.new.text) (S.remaining source.old) (S.remaining source.new)
@@ -109,11 +106,7 @@ fn read_texts<S: Source>(
 /// are no UTF-8 are answered as `InvalidData`, at the end of the source or once 1,968 bytes have been read from the
 /// first on that is not. A text of more than `isize::MAX` bytes so far, and a refusal of memory, are returned as
 /// `Rope`.
-pub fn read_tree<S: Source>(
-    alloc: Global,
-    source: &mut S,
-    breaks: LineBreaks,
-) -> std::result::Result<Node, ReadError>
+pub fn read_tree<S: Source>(alloc: Global, source: &mut S, breaks: LineBreaks) -> ReadResult<Node>
     ensures answer { Reads (λ node. text node) (S.remaining source.old) (S.remaining source.new)
         (S.marked source.new) result }
     ensures failure { IsCounted (reader_failure result) (S.failure source.new) (S.failures source.old) (S.failures source.new) }

@@ -15,6 +15,7 @@ ghost use Rattle.rope_io.specs.Writing.{AppendsFront};
 ghost use Rattle.ropey.specs.View.{IsBuilt, text_of};
 
 use crate::rope::Rope;
+use rope_io::ReadResult;
 use rope_io::reading::read_tree;
 use rope_io::writing::write_part;
 pub use rope_io::{Mark, ReadError, Sink, Source, Watched};
@@ -32,10 +33,7 @@ impl Rope {
     /// `Read`, with the reader's error, at once where a read fails, an interrupted one too. `InvalidData`, where
     /// bytes are no UTF-8: at the end of the input, or once 1,968 bytes have been read from the first one that is
     /// not. `Rope(TooLong)`, where the text so far has more than `isize::MAX` bytes, and `Rope(OutOfMemory)`.
-    pub fn from_reader<T: Read + Drop>(
-        alloc: Global,
-        reader: T,
-    ) -> std::result::Result<Rope, ReadError>
+    pub fn from_reader<T: Read + Drop>(alloc: Global, reader: T) -> ReadResult<Rope>
         ensures answer { (left : Option (List ℕ)) × (failed : Bool)
             × Reads text_of (T.remaining reader) left failed result }
         ensures ok { IfOk result (λ rope. IfSome (T.remaining reader) (λ bytes. encode_utf8_all rope.text ≡ bytes)) }
@@ -50,10 +48,7 @@ impl Rope {
     ///
     /// `Read`, `InvalidData` and `Rope`, as for `from_reader`; the mark is set afterwards exactly where the answer
     /// is `Read`. Then one read has failed, with the kind that is answered, and the source was not called again.
-    pub fn from_watched<S: Source>(
-        alloc: Global,
-        source: &mut S,
-    ) -> std::result::Result<Rope, ReadError>
+    pub fn from_watched<S: Source>(alloc: Global, source: &mut S) -> ReadResult<Rope>
         // The bytes that were given decide the answer,
         ensures answer { Reads text_of (S.remaining source.old) (S.remaining source.new) (S.marked source.new) result }
         ensures failure { IsCounted (reader_failure result) (S.failure source.new) (S.failures source.old) (S.failures source.new) }
@@ -75,7 +70,7 @@ impl Rope {
         alloc: Global,
         reader: T,
         breaks: LineBreaks,
-    ) -> std::result::Result<Rope, ReadError>
+    ) -> ReadResult<Rope>
         ensures answer { (left : Option (List ℕ)) × (failed : Bool)
             × Reads text_of (T.remaining reader) left failed result }
         ensures ok { IfOk result (λ rope. IfSome (T.remaining reader) (λ bytes. encode_utf8_all rope.text ≡ bytes)) }
@@ -94,7 +89,7 @@ impl Rope {
         alloc: Global,
         source: &mut S,
         breaks: LineBreaks,
-    ) -> std::result::Result<Rope, ReadError>
+    ) -> ReadResult<Rope>
         ensures answer { Reads text_of (S.remaining source.old) (S.remaining source.new) (S.marked source.new) result }
         ensures failure { IsCounted (reader_failure result) (S.failure source.new) (S.failures source.old) (S.failures source.new) }
         ensures ok { IfOk result (λ rope. IfSome (S.remaining source.old) (λ bytes. encode_utf8_all rope.text ≡ bytes)) }
