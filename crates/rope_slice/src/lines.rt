@@ -54,11 +54,7 @@ impl<'a> RopeSlice<'a> {
             (λ slice. (line_idx < line_count (breaks_of self.now) (text_of self.now))
             × (content_of slice ≡ line_of (content_of self.now) line_idx)) }
     {
-        if line_idx < self.len_lines() {
-            Some(self.line(line_idx))
-        } else {
-            None
-        }
+        Some(self.line(within(line_idx, self.len_lines() - 1)?))
     }
 
     /// A cursor over the lines, before the first, facing forward. Costs one or two look-ups; takes no memory.
