@@ -14,7 +14,11 @@ use Rattle.rope_text.specs.Edit.{size_error, IsRefusal}
 use Rattle.rope_text.specs.Read.{text_front, text_rest, IsRefused}
 use Rattle.rope_text.specs.declared.error.Error.{Error}
 use Rattle.rope_text.proofs.ReadLaws.{IsUtf8-text_front, utf8_valid_len-append, text_rest-append}
-use Rattle.rope_io.specs.Reading.{Fits, has_ended}
+use Rattle.std.specs.Prelude.{Result, Ok, Err}
+use Rattle.std.specs.Result.{IsErrAnd}
+use Rattle.rope_io.specs.declared.error.ReadError.{ReadError}
+use Rattle.rope_io.specs.declared.error.ReadError.TheVariants.{Rope}
+use Rattle.rope_io.specs.Reading.{Fits, has_ended, Answers}
 use borrow.Rule.Slice.PartMut.{put_mid, post_of}
 
 -- the front of a text is all of it
@@ -156,3 +160,9 @@ module _ (start mid new : Option (List ℕ)) (text buf ys : List ℕ) (filled ro
   length_on text_new rest e f =
       let t : List ℕ = take (filled + count) (put_mid filled room buf ys) in
       omega (arith, ap length e, ap length f, length-append (encode_utf8_all text) (text_front t), ap length (take-append-drop (utf8_valid_len t) t), length-append (text_front t) (text_rest t), length_held)
+
+-- a refusal that is passed on as the text's
+pub refusal_answers : {R : Type 0} (text_of : R → List ℕ) (bytes : List ℕ) (left : Option (List ℕ)) (failed : Bool) (r : Result R ReadError) (e : Error)
+    → IsErrAnd r (λ y. y ≡ Rope e) → Answers text_of bytes left failed (Err (Rope e)) → Answers text_of bytes left failed r
+refusal_answers text_of bytes left failed (Ok x) e is answers = absurd is
+refusal_answers text_of bytes left failed (Err y) e is answers = subst (λ z. Answers text_of bytes left failed (Err z)) (sym is) answers

@@ -1,5 +1,5 @@
 -- What failed, by what was answered.
-use Rattle.std.specs.Prelude.{ℕ, ◌+◌, ◌-◌, ◌^◌, min, ◌==◌, if◌then◌else◌, List, length, Option, None, Some, Result, Ok, Err}
+use Rattle.std.specs.Prelude.{◌≡◌, ℕ, ◌+◌, ◌-◌, ◌^◌, min, ◌==◌, if◌then◌else◌, List, length, Option, None, Some, Result, Ok, Err}
 use Rattle.std.specs.IoError.{error_kind}
 use Rattle.std.specs.declared.io.Error.{Error}
 use Rattle.std.specs.declared.io.ErrorKind.{ErrorKind}
@@ -28,3 +28,7 @@ reader_failure (Err (Rope e)) = None
 abbrev pub count_failure : Option ErrorKind → ℕ → ℕ
 count_failure None n = n
 count_failure (Some kind) n = min (n + 1) (2 ^ 64 - 1)
+
+-- a device's last call failed in this way, or didn't: that is what is known of it, and a failure counts once
+abbrev pub IsCounted : Option ErrorKind → Option ErrorKind → ℕ → ℕ → Type 0
+IsCounted failure known before after = (known ≡ failure) × (after ≡ count_failure failure before)

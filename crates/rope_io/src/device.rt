@@ -104,13 +104,7 @@ impl<T> Watched<T> {
     pub fn into_inner(self) -> T
         ensures { result ≡ watched_inner self }
     {
-        let Watched {
-            inner,
-            failed: _,
-            failure: _,
-            failures: _,
-        } = self;
-        inner
+        self.inner
     }
 
     // Marks a failure of this kind.

@@ -15,6 +15,9 @@ pub enum ReadError {
     Rope(Error),
 }
 
+/// What a call that reads a text returns.
+pub type ReadResult<T> = Result<T, ReadError>;
+
 impl fmt::Display for ReadError {
     ghost use Rattle.std.specs.Prelude.{Some};
     ghost use Rattle.rope_io.specs.ReadErrorText.{read_error_text};

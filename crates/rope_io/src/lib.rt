@@ -8,4 +8,4 @@ pub mod reading;
 pub mod writing;
 
 pub use device::{Mark, Sink, Source, Watched};
-pub use error::ReadError;
+pub use error::{ReadError, ReadResult};

@@ -1,23 +1,20 @@
 //! Texts read to the reader's end.
-ghost use Rattle.std.specs.Prelude.{◌≡◌, ◌+◌, ◌-◌, ◌^◌, ◌<◌, ◌≤◌, ◌*◌, ◌/◌, ◌++◌, false, [], length, take, OnOk, IfOk, IfErr};
-ghost use Rattle.std.specs.Str.{IsUtf8, encode_utf8_all};
+ghost use Rattle.std.specs.Prelude.{◌≡◌, ◌+◌, ◌-◌, ◌^◌, ◌<◌, ◌≤◌, ◌*◌, ◌/◌, ◌++◌, false, [], length, take, None, IsOk, OnOk, IfOk, IfErr};
+ghost use Rattle.std.specs.Str.{IsUtf8, chars, encode_utf8_all};
 ghost use Rattle.rope_text.specs.declared.TheConstants.{MIN_CUT_BYTES};
 ghost use Rattle.rope_text.specs.Text.{byte_len};
 ghost use Rattle.rope_text.specs.Edit.{size_error, IsRefusal};
 ghost use Rattle.rope_text.specs.Read.{text_front, text_rest};
 ghost use Rattle.rope_tree.specs.Tree.{text, IsTree};
-ghost use Rattle.rope_io.specs.Failing.{reader_failure, count_failure};
+ghost use Rattle.rope_io.specs.Failing.{reader_failure, IsCounted};
 ghost use Rattle.rope_io.specs.Reading.{Reads};
 
 use crate::device::Source;
-use crate::error::ReadError;
-use rope_text::{Error, LineBreaks, MAX_TEXT_BYTES, Result};
+use crate::error::{ReadError, ReadResult};
+use rope_text::{BUFFER_BYTES, Error, LineBreaks, MAX_TEXT_BYTES, Result};
 use rope_tree::builder::Builder;
 use rope_tree::node::Node;
 use std::alloc::Global;
-
-// How many bytes are held at once, and are refused where they begin with no character.
-const BUFFER_BYTES: usize = rope_text::BUFFER_BYTES;
 
 // The longest front of the bytes that is a text.
 fn front_of(bytes: &[u8]) -> &str
@@ -29,9 +26,16 @@ fn front_of(bytes: &[u8]) -> &str
     }
 }
 
-// Puts a text behind what was read, which refuses it for its size, then when out of memory.
-fn append(builder: &mut Builder, text: &str) -> Result<()>
+/// Puts a text behind those that were passed in. It takes memory, and an empty text none.
+///
+/// # Errors
+///
+/// First `TooLong`, where all texts would have more than `isize::MAX` bytes; then `OutOfMemory`.
+pub fn append(builder: &mut Builder, text: &str) -> Result<()>
+    ensures ok { OnOk result ((size_error (byte_len builder.old.text + length text.now) ≡ None)
+        × (builder.new.text ≡ builder.old.text ++ chars text.now)) }
     ensures text { OnOk result (encode_utf8_all builder.new.text ≡ encode_utf8_all builder.old.text ++ text.now) }
+    ensures empty { length text.now ≡ 0 → IsOk result }
     ensures fits { OnOk result (byte_len builder.new.text < 2 ^ 63) }
     ensures breaks { builder.new.breaks ≡ builder.old.breaks }
     ensures refused { IfErr result (IsRefusal (size_error (byte_len builder.old.text + length text.now))) }
@@ -39,10 +43,7 @@ fn append(builder: &mut Builder, text: &str) -> Result<()>
     if text.len() > MAX_TEXT_BYTES - builder.len_bytes() {
         return Err(Error::TooLong);
     }
-    match builder.append(text) {
-        Ok(()) => Ok(()),
-        Err(_) => Err(Error::OutOfMemory),
-    }
+    Ok(builder.append(text)?)
 }
 
 // Moves the text at the front of the first `filled` bytes to the builder, and what follows it to the front. Answers how
@@ -60,25 +61,18 @@ fn settle(builder: &mut Builder, buffer: &mut [u8], filled: usize) -> Result<usi
 {
     let text = front_of(&buffer[..filled]);
     let decoded = text.len();
-    match append(builder, text) {
-        Ok(()) => {}
-        Err(error) => return Err(error),
-    }
+    append(builder, text)?;
     buffer.copy_within(decoded..filled, 0);
     Ok(filled - decoded)
 }
 
 // Reads to the end, and puts what is text behind what was read. An unfinished character is kept for the next read.
-fn read_texts<S: Source>(
-    source: &mut S,
-    builder: &mut Builder,
-) -> std::result::Result<(), ReadError>
+fn read_texts<S: Source>(source: &mut S, builder: &mut Builder) -> ReadResult<()>
     requires empty { builder.old.text ≡ [] }
     requires clear { S.marked source.old ≡ false }
     ensures answer { Reads (λ _. builder.new.text) (S.remaining source.old) (S.remaining source.new)
         (S.marked source.new) result }
-    ensures failure { S.failure source.new ≡ reader_failure result }
-    ensures once { S.failures source.new ≡ count_failure (reader_failure result) (S.failures source.old) }
+    ensures failure { IsCounted (reader_failure result) (S.failure source.new) (S.failures source.old) (S.failures source.new) }
     ensures utf8 { OnOk result (IsUtf8 (encode_utf8_all builder.new.text)) }
     ensures fits { OnOk result (byte_len builder.new.text < 2 ^ 63) }
     ensures breaks { builder.new.breaks ≡ builder.old.breaks }
@@ -90,10 +84,7 @@ fn read_texts<S: Source>(
             Ok(count) => count,
             Err(error) => return Err(ReadError::Read(error)),
         };
-        filled = match settle(builder, buffer, filled + count) {
-            Ok(rest) => rest,
-            Err(error) => return Err(ReadError::Rope(error)),
-        };
+        filled = settle(builder, buffer, filled + count)?;
         if filled == BUFFER_BYTES {
             return Err(ReadError::InvalidData);
         }
@@ -115,25 +106,17 @@ fn read_texts<S: Source>(
 /// are no UTF-8 are answered as `InvalidData`, at the end of the source or once 1,968 bytes have been read from the
 /// first on that is not. A text of more than `isize::MAX` bytes so far, and a refusal of memory, are returned as
 /// `Rope`.
-pub fn read_tree<S: Source>(
-    alloc: Global,
-    source: &mut S,
-    breaks: LineBreaks,
-) -> std::result::Result<Node, ReadError>
+pub fn read_tree<S: Source>(alloc: Global, source: &mut S, breaks: LineBreaks) -> ReadResult<Node>
     ensures answer { Reads (λ node. text node) (S.remaining source.old) (S.remaining source.new)
         (S.marked source.new) result }
-    ensures failure { S.failure source.new ≡ reader_failure result }
-    ensures once { S.failures source.new ≡ count_failure (reader_failure result) (S.failures source.old) }
+    ensures failure { IsCounted (reader_failure result) (S.failure source.new) (S.failures source.old) (S.failures source.new) }
     ensures breaks { IfOk result (λ node. node.breaks ≡ breaks) }
     ensures tree { IfOk result (λ node. IsTree node) }
     ensures few { IfOk result (λ node. length node.leaves ≤ (byte_len (text node) + (MIN_CUT_BYTES - 1)) / MIN_CUT_BYTES) }
 {
     source.clear();
     let mut builder = Builder::new(alloc, breaks);
-    match read_texts(source, &mut builder) {
-        Ok(()) => {}
-        Err(error) => return Err(error),
-    }
+    read_texts(source, &mut builder)?;
     match builder.finish(&mut 0) {
         Ok(root) => Ok(root),
         Err(_) => Err(ReadError::Rope(Error::OutOfMemory)),

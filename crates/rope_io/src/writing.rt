@@ -3,7 +3,7 @@ ghost use Rattle.std.specs.Prelude.{◌≡◌, ◌↔◌, true, false, OnOk, OnE
 ghost use Rattle.std.specs.Io.KnownBytes.{Appends};
 ghost use Rattle.std.specs.Str.{encode_utf8_all};
 ghost use Rattle.rope_part.specs.Part.{text_of};
-ghost use Rattle.rope_io.specs.Failing.{failure_of, count_failure};
+ghost use Rattle.rope_io.specs.Failing.{failure_of, IsCounted};
 ghost use Rattle.rope_io.specs.Writing.{AppendsFront};
 
 use crate::device::Sink;
@@ -19,15 +19,11 @@ fn write_bytes<S: Sink>(sink: &mut S, bytes: &[u8]) -> io::Result<()>
     ensures clear { OnOk result (S.marked sink.new ≡ false) }
     ensures err { OnErr result (S.marked sink.new ≡ true) }
     ensures front { AppendsFront (S.contents sink.old) (S.contents sink.new) bytes.now }
-    ensures failure { S.failure sink.new ≡ failure_of result }
-    ensures once { S.failures sink.new ≡ count_failure (failure_of result) (S.failures sink.old) }
+    ensures failure { IsCounted (failure_of result) (S.failure sink.new) (S.failures sink.old) (S.failures sink.new) }
 {
     let mut rest = bytes;
     while !rest.is_empty() {
-        let count = match sink.give(rest) {
-            Ok(count) => count,
-            Err(error) => return Err(error),
-        };
+        let count = sink.give(rest)?;
         if count == 0 {
             return Err(io::Error::from(ErrorKind::WriteZero));
         }
@@ -46,17 +42,13 @@ pub fn write_part<S: Sink>(part: &Part<'_>, sink: &mut S) -> io::Result<()>
     ensures ok { OnOk result (Appends (S.contents sink.old) (S.contents sink.new) (encode_utf8_all (text_of part.now))) }
     ensures front { AppendsFront (S.contents sink.old) (S.contents sink.new) (encode_utf8_all (text_of part.now)) }
     ensures failed { IsErr result ↔ (S.marked sink.new ≡ true) }
-    ensures failure { S.failure sink.new ≡ failure_of result }
-    ensures once { S.failures sink.new ≡ count_failure (failure_of result) (S.failures sink.old) }
+    ensures failure { IsCounted (failure_of result) (S.failure sink.new) (S.failures sink.old) (S.failures sink.new) }
 {
     sink.clear();
     // This opens what every part keeps: its chunks join to its text.
     let _ = part.info();
     for chunk in Chunks::new(part) {
-        match write_bytes(sink, chunk.as_bytes()) {
-            Ok(()) => {}
-            Err(error) => return Err(error),
-        }
+        write_bytes(sink, chunk.as_bytes())?;
     }
     Ok(())
 }

@@ -1,7 +1,7 @@
 //! Whether an index lies in a text, and the bounds of a range of bytes.
 ghost use Rattle.std.specs.Prelude.{◌≡◌, ◌≤◌, ◌<◌, ℕ, not, false, nat_lt, Ok, Err, IfOk, IfErr, MatchOption};
 ghost use Rattle.rope_text.specs.Text.{byte_len};
-ghost use Rattle.rope_text.specs.Edit.{range_start, range_end, given, invalid_range, is_char_boundary, byte_range_error};
+ghost use Rattle.rope_text.specs.Edit.{range_start, range_end, given, is_char_boundary, byte_range_error};
 ghost use Rattle.rope_slice.specs.Slice.{text_of};
 
 use crate::slice::RopeSlice;
@@ -15,14 +15,11 @@ pub(crate) fn check(idx: usize, len: usize, error: Error) -> Result<()>
     if idx > len { Err(error) } else { Ok(()) }
 }
 
-// What is wrong with a range whose bounds are both given.
-fn invalid(start: Option<usize>, end: Option<usize>) -> Option<Error>
-    ensures { result ≡ invalid_range start end }
+/// The index, or none where it is past the end.
+pub(crate) fn within(idx: usize, len: usize) -> Option<usize>
+    ensures { MatchOption result (len < idx) (λ same. (idx ≤ len) × (same ≡ idx)) }
 {
-    match (start, end) {
-        (Some(a), Some(b)) if a > b => Some(Error::ByteRangeInvalid(a, b)),
-        _ => None,
-    }
+    (idx <= len).then_some(idx)
 }
 
 // Whether a given bound is past the end.
@@ -52,10 +49,11 @@ impl<'a> RopeSlice<'a> {
     {
         let start = range.start();
         let end = range.end();
-        if let Some(fault) = invalid(start, end) {
-            return Err(fault);
-        }
         let len = self.len_bytes();
+        match (start, end) {
+            (Some(a), Some(b)) if a > b => return Err(Error::ByteRangeInvalid(a, b)),
+            _ => {}
+        }
         if is_past(start, len) || is_past(end, len) {
             return Err(Error::ByteRangeOutOfBounds(start, end, len));
         }

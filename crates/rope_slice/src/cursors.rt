@@ -10,6 +10,7 @@ ghost use Rattle.rope_text.specs.Lookup.{StandsAt, chunk_place_at_byte, chunk_pl
 ghost use Rattle.rope_text.specs.Sides.{at_start, at_place};
 ghost use Rattle.rope_slice.specs.Slice.{text_of, chunks_of, breaks_of};
 
+use crate::bounds::within;
 use crate::slice::RopeSlice;
 use rope_cursor::{Bytes, Chars, Chunks};
 
@@ -38,10 +39,7 @@ impl<'a> RopeSlice<'a> {
         ensures { MatchOption result (byte_len (text_of self.now) < byte_idx)
             (λ bytes. (byte_idx ≤ byte_len (text_of self.now)) × (bytes ≡ at_place (encode_utf8_all (text_of self.now)) byte_idx)) }
     {
-        if byte_idx > self.len_bytes() {
-            return None;
-        }
-        Some(self.bytes_at(byte_idx))
+        Some(self.bytes_at(within(byte_idx, self.len_bytes())?))
     }
 
     /// A cursor over the characters, before the first, facing forward. Costs one or two look-ups; takes no memory.
@@ -68,10 +66,7 @@ impl<'a> RopeSlice<'a> {
         ensures { MatchOption result (length (text_of self.now) < char_idx)
             (λ chars. (char_idx ≤ length (text_of self.now)) × (chars ≡ at_place (text_of self.now) char_idx)) }
     {
-        if char_idx > self.len_chars() {
-            return None;
-        }
-        Some(self.chars_at(char_idx))
+        Some(self.chars_at(within(char_idx, self.len_chars())?))
     }
 
     /// A cursor over the chunks, before the first, facing forward. Costs one or two look-ups; takes no memory.
@@ -101,10 +96,7 @@ impl<'a> RopeSlice<'a> {
             (λ found. (byte_idx ≤ byte_len (text_of self.now)) × StandsAt (breaks_of self.now) (chunks_of self.now)
             (chunk_place_at_byte (chunks_of self.now) byte_idx) found.0 found.1 found.2 found.3) }
     {
-        if byte_idx > self.len_bytes() {
-            return None;
-        }
-        Some(self.chunks_at_byte(byte_idx))
+        Some(self.chunks_at_byte(within(byte_idx, self.len_bytes())?))
     }
 
     /// A cursor over the chunks, before the chunk that holds the character `char_idx`, facing forward; for
@@ -127,10 +119,7 @@ impl<'a> RopeSlice<'a> {
             (λ found. (char_idx ≤ length (text_of self.now)) × StandsAt (breaks_of self.now) (chunks_of self.now)
             (chunk_place_at_char (chunks_of self.now) char_idx) found.0 found.1 found.2 found.3) }
     {
-        if char_idx > self.len_chars() {
-            return None;
-        }
-        Some(self.chunks_at_char(char_idx))
+        Some(self.chunks_at_char(within(char_idx, self.len_chars())?))
     }
 
     /// A cursor over the chunks, before the first chunk by whose end `line_break_idx` line breaks have ended, or
@@ -156,9 +145,6 @@ impl<'a> RopeSlice<'a> {
             (λ found. (line_break_idx ≤ line_count (breaks_of self.now) (text_of self.now)) × StandsAt (breaks_of self.now) (chunks_of self.now)
             (chunk_place_at_line_break (breaks_of self.now) (chunks_of self.now) line_break_idx) found.0 found.1 found.2 found.3) }
     {
-        if line_break_idx > self.len_lines() {
-            return None;
-        }
-        Some(self.chunks_at_line_break(line_break_idx))
+        Some(self.chunks_at_line_break(within(line_break_idx, self.len_lines())?))
     }
 }

@@ -9,6 +9,7 @@ ghost use Rattle.rope_text.specs.LineParts.{line_of, lines_of};
 ghost use Rattle.rope_text.specs.Sides.{ahead, at_start, at_place, turned, GoesAhead, StepsBack};
 ghost use Rattle.rope_slice.specs.Slice.{content_of, text_of, breaks_of};
 
+use crate::bounds::within;
 use crate::slice::RopeSlice;
 use rope_cursor::lines;
 use std::alloc::AllocError;
@@ -53,11 +54,7 @@ impl<'a> RopeSlice<'a> {
             (λ slice. (line_idx < line_count (breaks_of self.now) (text_of self.now))
             × (content_of slice ≡ line_of (content_of self.now) line_idx)) }
     {
-        if line_idx < self.len_lines() {
-            Some(self.line(line_idx))
-        } else {
-            None
-        }
+        Some(self.line(within(line_idx, self.len_lines() - 1)?))
     }
 
     /// A cursor over the lines, before the first, facing forward. Costs one or two look-ups; takes no memory.
@@ -87,10 +84,7 @@ impl<'a> RopeSlice<'a> {
             (λ lines. (line_idx ≤ line_count (breaks_of self.now) (text_of self.now))
             × (lines ≡ at_place (lines_of (content_of self.now)) line_idx)) }
     {
-        if line_idx > self.len_lines() {
-            return None;
-        }
-        Some(self.lines_at(line_idx))
+        Some(self.lines_at(within(line_idx, self.len_lines())?))
     }
 }
 
@@ -111,12 +105,11 @@ impl<'a> Lines<'a> {
     }
 
     /// The same cursor turned round. Takes constant time and no memory.
-    pub fn reversed(self) -> Lines<'a>
+    pub fn reversed(mut self) -> Lines<'a>
         ensures { result ≡ turned self.entry }
     {
-        let mut turned = self;
-        turned.reverse();
-        turned
+        self.reverse();
+        self
     }
 }
 

@@ -9,7 +9,7 @@ ghost use Rattle.rope_text.specs.Lookup.{found_chunk, chunk_index_at_byte, chunk
 ghost use Rattle.rope_part.specs.Found.{IsFoundChunk};
 ghost use Rattle.rope_slice.specs.Slice.{text_of, chunks_of, breaks_of};
 
-use crate::bounds::check;
+use crate::bounds::{check, within};
 use crate::slice::RopeSlice;
 use rope_text::{Error, Result};
 
@@ -112,10 +112,7 @@ impl<'a> RopeSlice<'a> {
             (chunk_index_at_char (chunks_of self.now) char_idx))
             (chars found.0.now) found.1 found.2 found.3) }
     {
-        if char_idx > self.len_chars() {
-            return None;
-        }
-        Some(self.chunk_at_char(char_idx))
+        Some(self.chunk_at_char(within(char_idx, self.len_chars())?))
     }
 
     /// The first chunk by whose end `line_break_idx` line breaks have ended, and the last chunk where there is none
@@ -144,10 +141,7 @@ impl<'a> RopeSlice<'a> {
             (chunk_index_at_line_break (breaks_of self.now) (chunks_of self.now) line_break_idx))
             (chars found.0.now) found.1 found.2 found.3) }
     {
-        if line_break_idx > self.len_lines() {
-            return None;
-        }
-        Some(self.chunk_at_line_break(line_break_idx))
+        Some(self.chunk_at_line_break(within(line_break_idx, self.len_lines())?))
     }
 
     /// The whole text, exactly where the slice has at most one chunk, and else `None`. Costs at most two look-ups;

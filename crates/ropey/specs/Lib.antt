@@ -1,4 +1,5 @@
 pub mod View
+pub mod Edited
 pub mod Building
 pub mod Texts
 pub mod Compared

@@ -36,3 +36,7 @@ pub record IsRope (r : RopeView) : Type 0 where
 -- at most one chunk for each 981 bytes, and one for the rest
 abbrev pub HasFewChunks : RopeView → Type 0
 HasFewChunks r = of_content.HasFewChunks (content r)
+
+-- a rope as it is built: with this set of line breaks, in few chunks
+abbrev pub IsBuilt : LineBreaks → RopeView → Type 0
+IsBuilt breaks r = (r.breaks ≡ breaks) × IsRope r × HasFewChunks r

@@ -2,11 +2,11 @@
 //!
 //! With the text `"hello world"`, `remove(5..)` leaves `"hello"`; `split_off(6)` leaves `"hello "` and returns a
 //! rope of `"world"`, and an `append` of that puts it back.
-ghost use Rattle.std.specs.Prelude.{◌≡◌, ℕ, ◌+◌, ◌*◌, ◌≤◌, ◌<◌, ◌^◌, ◌++◌, length, take, drop, max, None, IsOk, IfOk, IfErr, OnOk, OnErr};
+ghost use Rattle.std.specs.Prelude.{◌≡◌, ℕ, ◌+◌, ◌*◌, ◌≤◌, ◌<◌, ◌^◌, ◌++◌, length, max, None, IsOk, IfOk, IfErr, OnOk};
 ghost use Rattle.rope_text.specs.declared.error.Error.TheVariants.{OutOfMemory};
 ghost use Rattle.rope_text.specs.Text.{byte_len};
 ghost use Rattle.rope_text.specs.Edit.{char_index_error, char_range_error, range_start, range_end, removed, append_error, IsRefusal};
-ghost use Rattle.ropey.specs.View.{IsRope};
+ghost use Rattle.ropey.specs.Edited.{IsEdit, IsCutAt};
 
 use crate::rope::Rope;
 use rope_join::cut::{back, front};
@@ -23,14 +23,9 @@ impl Rope {
     /// `CharIndexOutOfBounds`, with the index and the number of characters, exactly where the index is past
     /// `len_chars()`; else `OutOfMemory`. A refused call leaves the rope as it was.
     pub fn try_split_off(&mut self, char_idx: usize) -> Result<Rope>
-        ensures front { OnOk result ((char_index_error char_idx (length self.old.text) ≡ None) × (self.new.text ≡ take char_idx self.old.text)) }
-        ensures back { IfOk result (λ rope. rope.text ≡ drop char_idx self.old.text) }
-        ensures same { IfOk result (λ rope. rope.breaks ≡ self.old.breaks) }
-        ensures part { IfOk result IsRope }
+        ensures ok { IfOk result (λ back. (char_index_error char_idx (length self.old.text) ≡ None) × IsCutAt char_idx self.old self.new back) }
         ensures refused { IfErr result (IsRefusal (char_index_error char_idx (length self.old.text))) }
-        ensures err { OnErr result (self.new ≡ self.old) }
-        ensures breaks { self.new.breaks ≡ self.old.breaks }
-        ensures kept { IsRope self.new }
+        ensures kept { IsEdit result self.old self.new }
     {
         let len = self.len_chars();
         let _ = self.len_bytes();
@@ -51,14 +46,9 @@ impl Rope {
     /// `OutOfMemory`. A refused call leaves the rope as it was.
     pub fn split_off(&mut self, char_idx: usize) -> Result<Rope>
         requires { char_idx ≤ length self.old.text }
-        ensures front { OnOk result (self.new.text ≡ take char_idx self.old.text) }
-        ensures back { IfOk result (λ rope. rope.text ≡ drop char_idx self.old.text) }
-        ensures same { IfOk result (λ rope. rope.breaks ≡ self.old.breaks) }
-        ensures part { IfOk result IsRope }
+        ensures ok { IfOk result (λ back. IsCutAt char_idx self.old self.new back) }
         ensures refused { IfErr result (λ e. e ≡ OutOfMemory) }
-        ensures err { OnErr result (self.new ≡ self.old) }
-        ensures breaks { self.new.breaks ≡ self.old.breaks }
-        ensures kept { IsRope self.new }
+        ensures kept { IsEdit result self.old self.new }
     {
         self.split_off_counted(char_idx, &mut Steps::new())
     }
@@ -74,14 +64,9 @@ impl Rope {
     /// `OutOfMemory`. A refused call leaves the rope as it was.
     pub fn split_off_counted(&mut self, char_idx: usize, steps: &mut Steps) -> Result<Rope>
         requires { char_idx ≤ length self.old.text }
-        ensures front { OnOk result (self.new.text ≡ take char_idx self.old.text) }
-        ensures back { IfOk result (λ rope. rope.text ≡ drop char_idx self.old.text) }
-        ensures same { IfOk result (λ rope. rope.breaks ≡ self.old.breaks) }
-        ensures part { IfOk result IsRope }
+        ensures ok { IfOk result (λ back. IsCutAt char_idx self.old self.new back) }
         ensures refused { IfErr result (λ e. e ≡ OutOfMemory) }
-        ensures err { OnErr result (self.new ≡ self.old) }
-        ensures breaks { self.new.breaks ≡ self.old.breaks }
-        ensures kept { IsRope self.new }
+        ensures kept { IsEdit result self.old self.new }
         ensures made { steps.new.made ≤ 16 * self.old.depth + 32 }
     {
         *steps = Steps::new();
@@ -96,26 +81,6 @@ impl Rope {
         })
     }
 
-    // Takes the characters of a range out, and counts the nodes that are made.
-    fn remove_range<R: IndexRange + Drop>(&mut self, range: R, made: &mut u64) -> Result<()>
-        ensures ok { OnOk result ((char_range_error (R.given_start range) (R.given_end range) (length self.old.text) ≡ None)
-            × (self.new.text ≡ removed self.old.text (range_start (R.given_start range)) (range_end (R.given_end range) (length self.old.text)))) }
-        ensures refused { IfErr result (IsRefusal (char_range_error (R.given_start range) (R.given_end range) (length self.old.text))) }
-        ensures err { OnErr result (self.new ≡ self.old) }
-        ensures empty { char_range_error (R.given_start range) (R.given_end range) (length self.old.text) ≡ None
-            → range_start (R.given_start range) ≡ range_end (R.given_end range) (length self.old.text) → IsOk result × (self.new ≡ self.old) }
-        ensures breaks { self.new.breaks ≡ self.old.breaks }
-        ensures kept { IsRope self.new }
-        ensures made { made.new ≤ made.old + 16 * self.old.depth + 32 }
-    {
-        let _ = self.len_bytes();
-        let (start, end) = char_bounds(&range, self.len_chars())?;
-        if start == end {
-            return Ok(());
-        }
-        Ok(remove(self.alloc, &mut self.root, start, end, made)?)
-    }
-
     /// As `remove`, for any range.
     ///
     /// # Errors
@@ -127,13 +92,13 @@ impl Rope {
         ensures ok { OnOk result ((char_range_error (R.given_start range) (R.given_end range) (length self.old.text) ≡ None)
             × (self.new.text ≡ removed self.old.text (range_start (R.given_start range)) (range_end (R.given_end range) (length self.old.text)))) }
         ensures refused { IfErr result (IsRefusal (char_range_error (R.given_start range) (R.given_end range) (length self.old.text))) }
-        ensures err { OnErr result (self.new ≡ self.old) }
         ensures empty { char_range_error (R.given_start range) (R.given_end range) (length self.old.text) ≡ None
             → range_start (R.given_start range) ≡ range_end (R.given_end range) (length self.old.text) → IsOk result × (self.new ≡ self.old) }
-        ensures breaks { self.new.breaks ≡ self.old.breaks }
-        ensures kept { IsRope self.new }
+        ensures kept { IsEdit result self.old self.new }
     {
-        self.remove_range(range, &mut 0)
+        let _ = self.len_bytes();
+        let (start, end) = char_bounds(&range, self.len_chars())?;
+        self.remove(start..end)
     }
 
     /// Takes the characters of a range out of the text.
@@ -150,12 +115,10 @@ impl Rope {
         requires { char_range_error (R.given_start range) (R.given_end range) (length self.old.text) ≡ None }
         ensures ok { OnOk result (self.new.text ≡ removed self.old.text (range_start (R.given_start range)) (range_end (R.given_end range) (length self.old.text))) }
         ensures refused { IfErr result (λ e. e ≡ OutOfMemory) }
-        ensures err { OnErr result (self.new ≡ self.old) }
         ensures empty { range_start (R.given_start range) ≡ range_end (R.given_end range) (length self.old.text) → IsOk result × (self.new ≡ self.old) }
-        ensures breaks { self.new.breaks ≡ self.old.breaks }
-        ensures kept { IsRope self.new }
+        ensures kept { IsEdit result self.old self.new }
     {
-        self.try_remove(range)
+        self.remove_counted(range, &mut Steps::new())
     }
 
     /// As `remove`, and sets `steps` to what it did: `made` counts the nodes that were made, at most 16 d + 32 for
@@ -175,14 +138,17 @@ impl Rope {
         requires { char_range_error (R.given_start range) (R.given_end range) (length self.old.text) ≡ None }
         ensures ok { OnOk result (self.new.text ≡ removed self.old.text (range_start (R.given_start range)) (range_end (R.given_end range) (length self.old.text))) }
         ensures refused { IfErr result (λ e. e ≡ OutOfMemory) }
-        ensures err { OnErr result (self.new ≡ self.old) }
         ensures empty { range_start (R.given_start range) ≡ range_end (R.given_end range) (length self.old.text) → IsOk result × (self.new ≡ self.old) }
-        ensures breaks { self.new.breaks ≡ self.old.breaks }
-        ensures kept { IsRope self.new }
+        ensures kept { IsEdit result self.old self.new }
         ensures made { steps.new.made ≤ 16 * self.old.depth + 32 }
     {
         *steps = Steps::new();
-        self.remove_range(range, &mut steps.made)
+        let _ = self.len_bytes();
+        let (start, end) = char_bounds(&range, self.len_chars()).unwrap();
+        if start == end {
+            return Ok(());
+        }
+        Ok(remove(self.alloc, &mut self.root, start, end, &mut steps.made)?)
     }
 
     /// Puts the text of another rope behind this one's. The rope shares what it can of the other's tree.
@@ -198,11 +164,9 @@ impl Rope {
     pub fn append(&mut self, other: Rope) -> Result<()>
         ensures ok { OnOk result ((append_error self.old.breaks other.breaks self.old.text other.text ≡ None) × (self.new.text ≡ self.old.text ++ other.text)) }
         ensures refused { IfErr result (IsRefusal (append_error self.old.breaks other.breaks self.old.text other.text)) }
-        ensures err { OnErr result (self.new ≡ self.old) }
         ensures empty_other { append_error self.old.breaks other.breaks self.old.text other.text ≡ None → length other.text ≡ 0 → IsOk result × (self.new ≡ self.old) }
         ensures empty_self { append_error self.old.breaks other.breaks self.old.text other.text ≡ None → length self.old.text ≡ 0 → 0 < length other.text → IsOk result × (self.new ≡ other) }
-        ensures breaks { self.new.breaks ≡ self.old.breaks }
-        ensures kept { IsRope self.new }
+        ensures kept { IsEdit result self.old self.new }
     {
         self.append_counted(other, &mut Steps::new())
     }
@@ -218,11 +182,9 @@ impl Rope {
     pub fn append_counted(&mut self, mut other: Rope, steps: &mut Steps) -> Result<()>
         ensures ok { OnOk result ((append_error self.old.breaks other.breaks self.old.text other.text ≡ None) × (self.new.text ≡ self.old.text ++ other.text)) }
         ensures refused { IfErr result (IsRefusal (append_error self.old.breaks other.breaks self.old.text other.text)) }
-        ensures err { OnErr result (self.new ≡ self.old) }
         ensures empty_other { append_error self.old.breaks other.breaks self.old.text other.text ≡ None → length other.text ≡ 0 → IsOk result × (self.new ≡ self.old) }
         ensures empty_self { append_error self.old.breaks other.breaks self.old.text other.text ≡ None → length self.old.text ≡ 0 → 0 < length other.text → IsOk result × (self.new ≡ other) }
-        ensures breaks { self.new.breaks ≡ self.old.breaks }
-        ensures kept { IsRope self.new }
+        ensures kept { IsEdit result self.old self.new }
         ensures made { steps.new.made ≤ 16 * max self.old.depth other.depth + 32 }
     {
         *steps = Steps::new();
@@ -241,9 +203,8 @@ impl Rope {
             mem::swap(&mut self.root, &mut other.root);
             return Ok(());
         }
-        let root = append(self.alloc, &self.root, &other.root, &mut steps.made)?;
-        let _ = root.height();
-        self.root = root;
+        self.root = append(self.alloc, &self.root, &other.root, &mut steps.made)?;
+        let _ = self.root.height();
         Ok(())
     }
 }

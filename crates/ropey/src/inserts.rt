@@ -1,13 +1,13 @@
 //! Texts and characters inserted into ropes.
 //!
 //! With the text `"held"`, `insert(3, "lo worl")` makes `"hello world"`, and `insert_char(0, '>')` makes `">held"`.
-ghost use Rattle.std.specs.Prelude.{◌≡◌, ◌+◌, ◌*◌, ◌<◌, ◌≤◌, ◌^◌, [], ◌∷◌, length, None, IsOk, IfErr, OnOk, OnErr};
+ghost use Rattle.std.specs.Prelude.{◌≡◌, ◌+◌, ◌*◌, ◌<◌, ◌≤◌, ◌^◌, [], ◌∷◌, length, None, IsOk, IfErr, OnOk};
 ghost use Rattle.std.specs.Str.{chars};
 ghost use Rattle.rope_text.specs.declared.error.Error.TheVariants.{OutOfMemory};
 ghost use Rattle.rope_text.specs.declared.TheConstants.{MAX_SHORT_BYTES};
 ghost use Rattle.rope_text.specs.Text.{byte_len};
 ghost use Rattle.rope_text.specs.Edit.{inserted, insert_error, IsRefusal};
-ghost use Rattle.ropey.specs.View.{IsRope};
+ghost use Rattle.ropey.specs.Edited.{IsEdit};
 
 use crate::rope::Rope;
 use rope_join::edit::insert;
@@ -15,37 +15,13 @@ use rope_text::{Error, MAX_SHORT_BYTES, MAX_TEXT_BYTES, Result, Steps};
 use rope_tree::edit::insert_at;
 
 impl Rope {
-    // Puts a text that isn't empty where only running out of memory refuses it, and counts the nodes that are made.
-    fn insert_some(&mut self, char_idx: usize, text: &str, made: &mut u64) -> Result<()>
-        requires within { char_idx ≤ length self.old.text }
-        requires fits { byte_len self.old.text + length text.now < 2 ^ 63 }
-        requires some { 0 < length text.now }
-        ensures ok { OnOk result (self.new.text ≡ inserted self.old.text char_idx (chars text.now)) }
-        ensures refused { IfErr result (λ e. e ≡ OutOfMemory) }
-        ensures err { OnErr result (self.new ≡ self.old) }
-        ensures breaks { self.new.breaks ≡ self.old.breaks }
-        ensures kept { IsRope self.new }
-        ensures made { length text.now ≤ MAX_SHORT_BYTES → made.new ≤ made.old + 3 * self.old.depth + 5 }
-    {
-        if text.len() > MAX_SHORT_BYTES {
-            let root = insert(self.alloc, &self.root, char_idx, text, made)?;
-            let _ = root.height();
-            self.root = root;
-            return Ok(());
-        }
-        Ok(insert_at(self.alloc, &mut self.root, char_idx, text, made)?)
-    }
-
     // Puts a text before a character, and counts the nodes that are made.
     fn insert_made(&mut self, char_idx: usize, text: &str, made: &mut u64) -> Result<()>
-        ensures ok { OnOk result ((insert_error self.old.text char_idx (chars text.now) ≡ None)
-            × (self.new.text ≡ inserted self.old.text char_idx (chars text.now))) }
+        ensures ok { OnOk result ((insert_error self.old.text char_idx (chars text.now) ≡ None) × (self.new.text ≡ inserted self.old.text char_idx (chars text.now))) }
         ensures refused { IfErr result (IsRefusal (insert_error self.old.text char_idx (chars text.now))) }
-        ensures err { OnErr result (self.new ≡ self.old) }
         ensures empty { length (chars text.now) ≡ 0 → insert_error self.old.text char_idx (chars text.now) ≡ None
             → IsOk result × (self.new ≡ self.old) }
-        ensures breaks { self.new.breaks ≡ self.old.breaks }
-        ensures kept { IsRope self.new }
+        ensures kept { IsEdit result self.old self.new }
         ensures made { length text.now ≤ MAX_SHORT_BYTES → made.new ≤ made.old + 3 * self.old.depth + 5 }
     {
         let bytes = self.len_bytes();
@@ -59,7 +35,12 @@ impl Rope {
         if text.is_empty() {
             return Ok(());
         }
-        self.insert_some(char_idx, text, made)
+        if text.len() <= MAX_SHORT_BYTES {
+            return Ok(insert_at(self.alloc, &mut self.root, char_idx, text, made)?);
+        }
+        self.root = insert(self.alloc, &self.root, char_idx, text, made)?;
+        let _ = self.root.height();
+        Ok(())
     }
 
     /// As `insert`, for any index.
@@ -70,14 +51,11 @@ impl Rope {
     /// `len_chars()`; then `TooLong`, where the text would have more than `isize::MAX` bytes; then `OutOfMemory`. A
     /// refused call leaves the rope as it was.
     pub fn try_insert(&mut self, char_idx: usize, text: &str) -> Result<()>
-        ensures ok { OnOk result ((insert_error self.old.text char_idx (chars text.now) ≡ None)
-            × (self.new.text ≡ inserted self.old.text char_idx (chars text.now))) }
+        ensures ok { OnOk result ((insert_error self.old.text char_idx (chars text.now) ≡ None) × (self.new.text ≡ inserted self.old.text char_idx (chars text.now))) }
         ensures refused { IfErr result (IsRefusal (insert_error self.old.text char_idx (chars text.now))) }
-        ensures err { OnErr result (self.new ≡ self.old) }
         ensures empty { length (chars text.now) ≡ 0 → insert_error self.old.text char_idx (chars text.now) ≡ None
             → IsOk result × (self.new ≡ self.old) }
-        ensures breaks { self.new.breaks ≡ self.old.breaks }
-        ensures kept { IsRope self.new }
+        ensures kept { IsEdit result self.old self.new }
     {
         self.insert_made(char_idx, text, &mut 0)
     }
@@ -94,14 +72,11 @@ impl Rope {
     /// leaves the rope as it was.
     pub fn insert(&mut self, char_idx: usize, text: &str) -> Result<()>
         requires { char_idx ≤ length self.old.text }
-        ensures ok { OnOk result ((insert_error self.old.text char_idx (chars text.now) ≡ None)
-            × (self.new.text ≡ inserted self.old.text char_idx (chars text.now))) }
+        ensures ok { OnOk result ((insert_error self.old.text char_idx (chars text.now) ≡ None) × (self.new.text ≡ inserted self.old.text char_idx (chars text.now))) }
         ensures refused { IfErr result (IsRefusal (insert_error self.old.text char_idx (chars text.now))) }
-        ensures err { OnErr result (self.new ≡ self.old) }
         ensures empty { length (chars text.now) ≡ 0 → insert_error self.old.text char_idx (chars text.now) ≡ None
             → IsOk result × (self.new ≡ self.old) }
-        ensures breaks { self.new.breaks ≡ self.old.breaks }
-        ensures kept { IsRope self.new }
+        ensures kept { IsEdit result self.old self.new }
     {
         self.try_insert(char_idx, text)
     }
@@ -114,12 +89,9 @@ impl Rope {
     /// `len_chars()`; then `TooLong`, where the text would have more than `isize::MAX` bytes; then `OutOfMemory`. A
     /// refused call leaves the rope as it was.
     pub fn try_insert_char(&mut self, char_idx: usize, c: char) -> Result<()>
-        ensures ok { OnOk result ((insert_error self.old.text char_idx (c ∷ []) ≡ None)
-            × (self.new.text ≡ inserted self.old.text char_idx (c ∷ []))) }
+        ensures ok { OnOk result ((insert_error self.old.text char_idx (c ∷ []) ≡ None) × (self.new.text ≡ inserted self.old.text char_idx (c ∷ []))) }
         ensures refused { IfErr result (IsRefusal (insert_error self.old.text char_idx (c ∷ []))) }
-        ensures err { OnErr result (self.new ≡ self.old) }
-        ensures breaks { self.new.breaks ≡ self.old.breaks }
-        ensures kept { IsRope self.new }
+        ensures kept { IsEdit result self.old self.new }
     {
         self.try_insert(char_idx, c.encode_utf8(&mut [0; 4]))
     }
@@ -136,12 +108,9 @@ impl Rope {
     /// leaves the rope as it was.
     pub fn insert_char(&mut self, char_idx: usize, c: char) -> Result<()>
         requires { char_idx ≤ length self.old.text }
-        ensures ok { OnOk result ((insert_error self.old.text char_idx (c ∷ []) ≡ None)
-            × (self.new.text ≡ inserted self.old.text char_idx (c ∷ []))) }
+        ensures ok { OnOk result ((insert_error self.old.text char_idx (c ∷ []) ≡ None) × (self.new.text ≡ inserted self.old.text char_idx (c ∷ []))) }
         ensures refused { IfErr result (IsRefusal (insert_error self.old.text char_idx (c ∷ []))) }
-        ensures err { OnErr result (self.new ≡ self.old) }
-        ensures breaks { self.new.breaks ≡ self.old.breaks }
-        ensures kept { IsRope self.new }
+        ensures kept { IsEdit result self.old self.new }
     {
         self.try_insert_char(char_idx, c)
     }
@@ -157,12 +126,9 @@ impl Rope {
     /// First `TooLong`, then `OutOfMemory`, as for `insert_char`. A refused call leaves the rope as it was.
     pub fn insert_char_counted(&mut self, char_idx: usize, c: char, steps: &mut Steps) -> Result<()>
         requires { char_idx ≤ length self.old.text }
-        ensures ok { OnOk result ((insert_error self.old.text char_idx (c ∷ []) ≡ None)
-            × (self.new.text ≡ inserted self.old.text char_idx (c ∷ []))) }
+        ensures ok { OnOk result ((insert_error self.old.text char_idx (c ∷ []) ≡ None) × (self.new.text ≡ inserted self.old.text char_idx (c ∷ []))) }
         ensures refused { IfErr result (IsRefusal (insert_error self.old.text char_idx (c ∷ []))) }
-        ensures err { OnErr result (self.new ≡ self.old) }
-        ensures breaks { self.new.breaks ≡ self.old.breaks }
-        ensures kept { IsRope self.new }
+        ensures kept { IsEdit result self.old self.new }
         ensures made { steps.new.made ≤ 8 * self.old.depth + 16 }
     {
         *steps = Steps::new();

@@ -9,12 +9,13 @@ ghost use Rattle.std.specs.Prelude.{◌≡◌, ℕ, List, Bool, Option, true, �
 ghost use Rattle.std.specs.Io.KnownBytes.{Appends};
 ghost use Rattle.std.specs.Str.{encode_utf8_all};
 ghost use Rattle.rope_text.specs.declared.line_breaks.LineBreaks.TheVariants.{Unicode};
-ghost use Rattle.rope_io.specs.Failing.{failure_of, reader_failure, count_failure};
+ghost use Rattle.rope_io.specs.Failing.{failure_of, reader_failure, IsCounted};
 ghost use Rattle.rope_io.specs.Reading.{Reads, IsReadFailure};
 ghost use Rattle.rope_io.specs.Writing.{AppendsFront};
-ghost use Rattle.ropey.specs.View.{IsRope, HasFewChunks, text_of};
+ghost use Rattle.ropey.specs.View.{IsBuilt, text_of};
 
 use crate::rope::Rope;
+use rope_io::ReadResult;
 use rope_io::reading::read_tree;
 use rope_io::writing::write_part;
 pub use rope_io::{Mark, ReadError, Sink, Source, Watched};
@@ -32,16 +33,11 @@ impl Rope {
     /// `Read`, with the reader's error, at once where a read fails, an interrupted one too. `InvalidData`, where
     /// bytes are no UTF-8: at the end of the input, or once 1,968 bytes have been read from the first one that is
     /// not. `Rope(TooLong)`, where the text so far has more than `isize::MAX` bytes, and `Rope(OutOfMemory)`.
-    pub fn from_reader<T: Read + Drop>(
-        alloc: Global,
-        reader: T,
-    ) -> std::result::Result<Rope, ReadError>
+    pub fn from_reader<T: Read + Drop>(alloc: Global, reader: T) -> ReadResult<Rope>
         ensures answer { (left : Option (List ℕ)) × (failed : Bool)
             × Reads text_of (T.remaining reader) left failed result }
         ensures ok { IfOk result (λ rope. IfSome (T.remaining reader) (λ bytes. encode_utf8_all rope.text ≡ bytes)) }
-        ensures breaks { IfOk result (λ rope. rope.breaks ≡ Unicode) }
-        ensures kept { IfOk result IsRope }
-        ensures few { IfOk result HasFewChunks }
+        ensures kept { IfOk result (IsBuilt Unicode) }
     {
         Rope::from_reader_with(alloc, reader, LineBreaks::Unicode)
     }
@@ -52,21 +48,15 @@ impl Rope {
     ///
     /// `Read`, `InvalidData` and `Rope`, as for `from_reader`; the mark is set afterwards exactly where the answer
     /// is `Read`. Then one read has failed, with the kind that is answered, and the source was not called again.
-    pub fn from_watched<S: Source>(
-        alloc: Global,
-        source: &mut S,
-    ) -> std::result::Result<Rope, ReadError>
+    pub fn from_watched<S: Source>(alloc: Global, source: &mut S) -> ReadResult<Rope>
         // The bytes that were given decide the answer,
         ensures answer { Reads text_of (S.remaining source.old) (S.remaining source.new) (S.marked source.new) result }
-        ensures failure { S.failure source.new ≡ reader_failure result }
-        ensures once { S.failures source.new ≡ count_failure (reader_failure result) (S.failures source.old) }
+        ensures failure { IsCounted (reader_failure result) (S.failure source.new) (S.failures source.old) (S.failures source.new) }
 
         // so an `Ok` has the text of the whole input, and the mark says a failed device.
         ensures ok { IfOk result (λ rope. IfSome (S.remaining source.old) (λ bytes. encode_utf8_all rope.text ≡ bytes)) }
         ensures failed { IsReadFailure result ↔ (S.marked source.new ≡ true) }
-        ensures breaks { IfOk result (λ rope. rope.breaks ≡ Unicode) }
-        ensures kept { IfOk result IsRope }
-        ensures few { IfOk result HasFewChunks }
+        ensures kept { IfOk result (IsBuilt Unicode) }
     {
         Rope::from_watched_with(alloc, source, LineBreaks::Unicode)
     }
@@ -80,13 +70,11 @@ impl Rope {
         alloc: Global,
         reader: T,
         breaks: LineBreaks,
-    ) -> std::result::Result<Rope, ReadError>
+    ) -> ReadResult<Rope>
         ensures answer { (left : Option (List ℕ)) × (failed : Bool)
             × Reads text_of (T.remaining reader) left failed result }
         ensures ok { IfOk result (λ rope. IfSome (T.remaining reader) (λ bytes. encode_utf8_all rope.text ≡ bytes)) }
-        ensures breaks { IfOk result (λ rope. rope.breaks ≡ breaks) }
-        ensures kept { IfOk result IsRope }
-        ensures few { IfOk result HasFewChunks }
+        ensures kept { IfOk result (IsBuilt breaks) }
     {
         Rope::from_watched_with(alloc, &mut Watched::new(reader), breaks)
     }
@@ -101,15 +89,12 @@ impl Rope {
         alloc: Global,
         source: &mut S,
         breaks: LineBreaks,
-    ) -> std::result::Result<Rope, ReadError>
+    ) -> ReadResult<Rope>
         ensures answer { Reads text_of (S.remaining source.old) (S.remaining source.new) (S.marked source.new) result }
-        ensures failure { S.failure source.new ≡ reader_failure result }
-        ensures once { S.failures source.new ≡ count_failure (reader_failure result) (S.failures source.old) }
+        ensures failure { IsCounted (reader_failure result) (S.failure source.new) (S.failures source.old) (S.failures source.new) }
         ensures ok { IfOk result (λ rope. IfSome (S.remaining source.old) (λ bytes. encode_utf8_all rope.text ≡ bytes)) }
         ensures failed { IsReadFailure result ↔ (S.marked source.new ≡ true) }
-        ensures breaks { IfOk result (λ rope. rope.breaks ≡ breaks) }
-        ensures kept { IfOk result IsRope }
-        ensures few { IfOk result HasFewChunks }
+        ensures kept { IfOk result (IsBuilt breaks) }
     {
         let root = read_tree(alloc, source, breaks)?;
         Ok(Rope { root, alloc })
@@ -136,8 +121,7 @@ impl Rope {
         ensures ok { OnOk result (Appends (S.contents sink.old) (S.contents sink.new) (encode_utf8_all self.now.text)) }
         ensures front { AppendsFront (S.contents sink.old) (S.contents sink.new) (encode_utf8_all self.now.text) }
         ensures failed { IsErr result ↔ (S.marked sink.new ≡ true) }
-        ensures failure { S.failure sink.new ≡ failure_of result }
-        ensures once { S.failures sink.new ≡ count_failure (failure_of result) (S.failures sink.old) }
+        ensures failure { IsCounted (failure_of result) (S.failure sink.new) (S.failures sink.old) (S.failures sink.new) }
     {
         write_part(&Part::of_node(self.root()), sink)
     }

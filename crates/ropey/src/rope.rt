@@ -11,7 +11,7 @@ ghost use Rattle.rope_text.specs.Lines.{line_count};
 ghost use Rattle.rope_text.specs.Edit.{inserted, insert_error, IsRefusal};
 ghost use Rattle.rope_text.specs.Sides.{at_start};
 ghost use Rattle.rope_tree.specs.Tree.{text};
-ghost use Rattle.ropey.specs.View.{IsRope, HasFewChunks};
+ghost use Rattle.ropey.specs.View.{IsRope, HasFewChunks, IsBuilt};
 
 use crate::iter::Chunks;
 use rope_text::{LineBreaks, MAX_BYTES, Result};
@@ -62,17 +62,6 @@ impl Clone for Rope {
     }
 }
 
-// Hands a chunk in, whose bytes are counted by its characters.
-fn append_chunk(builder: &mut Builder, chunk: &str) -> Result<()>
-    requires { byte_len builder.old.text + byte_len (chars chunk.now) < 2 ^ 63 }
-    ensures ok { OnOk result (builder.new.text ≡ builder.old.text ++ chars chunk.now) }
-    ensures breaks { builder.new.breaks ≡ builder.old.breaks }
-    ensures refused { IfErr result (λ e. e ≡ OutOfMemory) }
-{
-    builder.append(chunk)?;
-    Ok(())
-}
-
 impl Rope {
     /// A rope of the empty text, with Unicode's line breaks, in no chunk. Takes memory for one node.
     ///
@@ -82,8 +71,7 @@ impl Rope {
     pub fn new(alloc: Global) -> Result<Rope>
         ensures text { IfOk result (λ rope. rope.text ≡ []) }
         ensures chunks { IfOk result (λ rope. rope.chunks ≡ []) }
-        ensures breaks { IfOk result (λ rope. rope.breaks ≡ Unicode) }
-        ensures kept { IfOk result IsRope }
+        ensures kept { IfOk result (IsBuilt Unicode) }
         ensures err { IfErr result (λ e. e ≡ OutOfMemory) }
     {
         Rope::new_with(alloc, LineBreaks::Unicode)
@@ -97,9 +85,7 @@ impl Rope {
     /// `OutOfMemory`.
     pub fn from_str(alloc: Global, text: &str) -> Result<Rope>
         ensures text { IfOk result (λ rope. rope.text ≡ chars text.now) }
-        ensures breaks { IfOk result (λ rope. rope.breaks ≡ Unicode) }
-        ensures kept { IfOk result IsRope }
-        ensures few { IfOk result HasFewChunks }
+        ensures kept { IfOk result (IsBuilt Unicode) }
         ensures err { IfErr result (λ e. e ≡ OutOfMemory) }
     {
         Rope::from_str_with(alloc, text, LineBreaks::Unicode)
@@ -113,8 +99,7 @@ impl Rope {
     pub fn new_with(alloc: Global, breaks: LineBreaks) -> Result<Rope>
         ensures text { IfOk result (λ rope. rope.text ≡ []) }
         ensures chunks { IfOk result (λ rope. rope.chunks ≡ []) }
-        ensures breaks { IfOk result (λ rope. rope.breaks ≡ breaks) }
-        ensures kept { IfOk result IsRope }
+        ensures kept { IfOk result (IsBuilt breaks) }
         ensures err { IfErr result (λ e. e ≡ OutOfMemory) }
     {
         Rope::from_str_with(alloc, "", breaks)
@@ -128,9 +113,7 @@ impl Rope {
     /// `OutOfMemory`.
     pub fn from_str_with(alloc: Global, text: &str, breaks: LineBreaks) -> Result<Rope>
         ensures text { IfOk result (λ rope. rope.text ≡ chars text.now) }
-        ensures breaks { IfOk result (λ rope. rope.breaks ≡ breaks) }
-        ensures kept { IfOk result IsRope }
-        ensures few { IfOk result HasFewChunks }
+        ensures kept { IfOk result (IsBuilt breaks) }
         ensures err { IfErr result (λ e. e ≡ OutOfMemory) }
     {
         let root = build(alloc, text, breaks, &mut 0)?;
@@ -219,10 +202,11 @@ impl Rope {
     {
         let mut builder = Builder::new(self.alloc, self.line_breaks());
         for chunk in self.chunks() {
-            append_chunk(&mut builder, chunk)?;
+            // This opens that the chunk is UTF-8, so it has the bytes of its characters.
+            let _ = chunk.as_bytes();
+            builder.append(chunk)?;
         }
-        let root = builder.finish(&mut 0)?;
-        self.root = root;
+        self.root = builder.finish(&mut 0)?;
         Ok(())
     }
 

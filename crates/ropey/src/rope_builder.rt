@@ -6,10 +6,11 @@ ghost use Rattle.std.specs.Str.{chars};
 ghost use Rattle.rope_text.specs.declared.line_breaks.LineBreaks.TheVariants.{Unicode};
 ghost use Rattle.rope_text.specs.Text.{byte_len};
 ghost use Rattle.rope_text.specs.Edit.{or_else, size_error, IsRefusal};
-ghost use Rattle.ropey.specs.View.{IsRope, HasFewChunks};
+ghost use Rattle.ropey.specs.View.{IsBuilt};
 
 use crate::rope::Rope;
-use rope_text::{Error, LineBreaks, MAX_TEXT_BYTES, Result};
+use rope_io::reading::append;
+use rope_text::{Error, LineBreaks, Result};
 use rope_tree::builder::Builder;
 use std::alloc::Global;
 use std::fmt;
@@ -62,20 +63,11 @@ impl RopeBuilder {
         ensures breaks { IfOk result (λ builder. builder.breaks ≡ breaks) }
         ensures failed { IfOk result (λ builder. builder.failed ≡ None) }
     {
-        Ok(RopeBuilder::empty(alloc, breaks))
-    }
-
-    // Nothing is passed in yet.
-    pub(crate) fn empty(alloc: Global, breaks: LineBreaks) -> RopeBuilder
-        ensures text { result.text ≡ [] }
-        ensures breaks { result.breaks ≡ breaks }
-        ensures failed { result.failed ≡ None }
-    {
-        RopeBuilder {
+        Ok(RopeBuilder {
             builder: Builder::new(alloc, breaks),
             failed: None,
             alloc,
-        }
+        })
     }
 
     /// Adds a text behind those that were passed in.
@@ -98,15 +90,9 @@ impl RopeBuilder {
         if let Some(error) = self.failed {
             return Err(error);
         }
-        if text.len() > MAX_TEXT_BYTES - self.builder.len_bytes() {
-            self.failed = Some(Error::TooLong);
-            return Err(Error::TooLong);
-        }
-        if self.builder.append(text).is_err() {
-            self.failed = Some(Error::OutOfMemory);
-            return Err(Error::OutOfMemory);
-        }
-        Ok(())
+        let appended = append(&mut self.builder, text);
+        self.failed = appended.err();
+        appended
     }
 
     /// The rope of the texts that were passed in, in at most (n + 980) / 981 chunks for n bytes. Takes memory for
@@ -117,9 +103,7 @@ impl RopeBuilder {
     /// First the error of an earlier refusal, then `OutOfMemory`.
     pub fn finish(self) -> Result<Rope>
         ensures text { IfOk result (λ rope. rope.text ≡ self.text) }
-        ensures breaks { IfOk result (λ rope. rope.breaks ≡ self.breaks) }
-        ensures kept { IfOk result IsRope }
-        ensures few { IfOk result HasFewChunks }
+        ensures kept { IfOk result (IsBuilt self.breaks) }
         ensures whole { IfOk result (λ _. self.failed ≡ None) }
         ensures refused { IfErr result (IsRefusal self.failed) }
     {

@@ -10,12 +10,12 @@ ghost use Rattle.rope_text.specs.declared.error.Error.TheVariants.{OutOfMemory};
 ghost use Rattle.rope_text.specs.declared.line_breaks.LineBreaks.TheVariants.{Unicode};
 ghost use Rattle.rope_text.specs.Text.{byte_len};
 ghost use Rattle.rope_text.specs.Edit.{size_error, IsRefusal};
-ghost use Rattle.ropey.specs.View.{IsRope, HasFewChunks};
+ghost use Rattle.ropey.specs.View.{IsBuilt};
 ghost use Rattle.ropey.specs.Texts.{IsAllOf, IsBeginningOf};
 
 use crate::rope::Rope;
 use crate::rope_builder::RopeBuilder;
-use rope_text::{LineBreaks, Result};
+use rope_text::Result;
 use std::alloc::Global;
 use std::borrow::CowStr;
 use std::convert::AsStr;
@@ -30,9 +30,7 @@ impl Rope {
     /// `OutOfMemory`.
     pub fn from_string(alloc: Global, text: String) -> Result<Rope>
         ensures text { IfOk result (λ rope. rope.text ≡ chars (string_bytes text)) }
-        ensures breaks { IfOk result (λ rope. rope.breaks ≡ Unicode) }
-        ensures kept { IfOk result IsRope }
-        ensures few { IfOk result HasFewChunks }
+        ensures kept { IfOk result (IsBuilt Unicode) }
         ensures err { IfErr result (λ e. e ≡ OutOfMemory) }
     {
         Rope::from_str(alloc, text.as_str())
@@ -47,9 +45,7 @@ impl Rope {
     /// `OutOfMemory`.
     pub fn from_cow(alloc: Global, cow: CowStr<'_>) -> Result<Rope>
         ensures text { IfOk result (λ rope. rope.text ≡ chars (cow_str_bytes cow.entry)) }
-        ensures breaks { IfOk result (λ rope. rope.breaks ≡ Unicode) }
-        ensures kept { IfOk result IsRope }
-        ensures few { IfOk result HasFewChunks }
+        ensures kept { IfOk result (IsBuilt Unicode) }
         ensures err { IfErr result (λ e. e ≡ OutOfMemory) }
     {
         Rope::from_str(alloc, cow.as_str())
@@ -70,9 +66,7 @@ impl Rope {
     ) -> Result<Rope>
         requires ends { IsFiniteIterable I.into_iter_gives I.IntoIter.can_next I.IntoIter.remaining iter }
         ensures text { IfOk result (λ rope. IsAllOf I.into_iter_gives I.IntoIter.next_gives (λ x. x.now) iter rope.text) }
-        ensures breaks { IfOk result (λ rope. rope.breaks ≡ Unicode) }
-        ensures kept { IfOk result IsRope }
-        ensures few { IfOk result HasFewChunks }
+        ensures kept { IfOk result (IsBuilt Unicode) }
         ensures refused { IfErr result (λ e. (text : List ℕ) × IsBeginningOf I.into_iter_gives I.IntoIter.next_gives (λ x. x.now) iter text × IsRefusal (size_error (byte_len text)) e) }
     {
         from_texts(alloc, iter)
@@ -88,9 +82,7 @@ impl Rope {
     pub fn from_string_iter<I: IntoIterator<Item = String>>(alloc: Global, iter: I) -> Result<Rope>
         requires ends { IsFiniteIterable I.into_iter_gives I.IntoIter.can_next I.IntoIter.remaining iter }
         ensures text { IfOk result (λ rope. IsAllOf I.into_iter_gives I.IntoIter.next_gives string_bytes iter rope.text) }
-        ensures breaks { IfOk result (λ rope. rope.breaks ≡ Unicode) }
-        ensures kept { IfOk result IsRope }
-        ensures few { IfOk result HasFewChunks }
+        ensures kept { IfOk result (IsBuilt Unicode) }
         ensures refused { IfErr result (λ e. (text : List ℕ) × IsBeginningOf I.into_iter_gives I.IntoIter.next_gives string_bytes iter text × IsRefusal (size_error (byte_len text)) e) }
     {
         from_texts(alloc, iter)
@@ -109,9 +101,7 @@ impl Rope {
     ) -> Result<Rope>
         requires ends { IsFiniteIterable I.into_iter_gives I.IntoIter.can_next I.IntoIter.remaining iter }
         ensures text { IfOk result (λ rope. IsAllOf I.into_iter_gives I.IntoIter.next_gives cow_str_bytes iter rope.text) }
-        ensures breaks { IfOk result (λ rope. rope.breaks ≡ Unicode) }
-        ensures kept { IfOk result IsRope }
-        ensures few { IfOk result HasFewChunks }
+        ensures kept { IfOk result (IsBuilt Unicode) }
         ensures refused { IfErr result (λ e. (text : List ℕ) × IsBeginningOf I.into_iter_gives I.IntoIter.next_gives cow_str_bytes iter text × IsRefusal (size_error (byte_len text)) e) }
     {
         from_texts(alloc, iter)
@@ -122,12 +112,10 @@ impl Rope {
 fn from_texts<T: AsStr + Drop, I: IntoIterator<Item = T>>(alloc: Global, iter: I) -> Result<Rope>
     requires ends { IsFiniteIterable I.into_iter_gives I.IntoIter.can_next I.IntoIter.remaining iter }
     ensures text { IfOk result (λ rope. IsAllOf I.into_iter_gives I.IntoIter.next_gives T.text iter rope.text) }
-    ensures breaks { IfOk result (λ rope. rope.breaks ≡ Unicode) }
-    ensures kept { IfOk result IsRope }
-    ensures few { IfOk result HasFewChunks }
+    ensures kept { IfOk result (IsBuilt Unicode) }
     ensures refused { IfErr result (λ e. (text : List ℕ) × IsBeginningOf I.into_iter_gives I.IntoIter.next_gives T.text iter text × IsRefusal (size_error (byte_len text)) e) }
 {
-    let mut builder = RopeBuilder::empty(alloc, LineBreaks::Unicode);
+    let mut builder = RopeBuilder::new(alloc).unwrap();
     for text in iter {
         builder.append(text.as_str())?;
     }

@@ -3,12 +3,12 @@ use Rattle.std.specs.Str.{chars, encode_utf8_all}
 use Rattle.std.proofs.lemmas.Str.{encodes-append, encodes-chars}
 use Rattle.rope_io.proofs.reading.append.Goals as goal
 
-pub returns-in-Ok-clause-text : goal.returns-in-Ok-clause-text
-returns-in-Ok-clause-text c =
-    ap encode_utf8_all c.in-Ok.ensures.ok
+pub returns-clause-text : goal.returns-clause-text
+returns-clause-text c =
+    ap encode_utf8_all c.in_ok-append.ensures.ok
     ∙ encodes-append c.args.builder.now.text (chars c.args.text.now)
     ∙ ap (λ bs. encode_utf8_all c.args.builder.now.text ++ bs) (encodes-chars c.args.text.now c.utf8.text)
 
-pub returns-in-Ok-clause-fits : goal.returns-in-Ok-clause-fits
-returns-in-Ok-clause-fits c =
-    omega (arith, ap length (returns-in-Ok-clause-text c), length-append (encode_utf8_all c.args.builder.now.text) c.args.text.now)
+pub returns-clause-fits : goal.returns-clause-fits
+returns-clause-fits c =
+    omega (arith, ap length (returns-clause-text c), length-append (encode_utf8_all c.args.builder.now.text) c.args.text.now)

@@ -1,7 +1,7 @@
 use Rattle.std.proofs.Common.{◌-◌, ◌≤◌, ◌≡◌, ◌++◌, length, take, refl, ap, sym, ◌∙◌, arith, length-drop}
 use Rattle.std.specs.Str.{encode_utf8_all}
 use Rattle.std.proofs.lemmas.List.{length-take-le, append-nil, nil_from_length}
-use Rattle.rope_io.proofs.Readings.{nothing_read, rest_is, front_fits, refused_full, refused_at_end, given_kept, given_more, read_on, refused_on, bounded, length_on}
+use Rattle.rope_io.proofs.Readings.{nothing_read, rest_is, front_fits, refused_full, refused_at_end, given_kept, given_more, read_on, refused_on, bounded, length_on, refusal_answers}
 use Rattle.rope_io.proofs.reading.read_texts.Goals as goal
 
 pub loop-count-init : goal.loop-count-init
@@ -26,8 +26,8 @@ returns-in-Err-clause-answer g c =
       (omega (arith, ap length (rest_is _ _ _ held h), i.room, i.size, length-take-le c.loop-count.filled c.loop-count.buffer (omega (arith, i.room, i.size))), front_fits _ _ _ held h, c.in-Err.ensures.err),
     )
 
-pub returns-in-Err-settle-clause-answer : goal.returns-in-Err-settle-clause-answer
-returns-in-Err-settle-clause-answer g c =
+pub returns-in_err-filled-clause-answer : goal.returns-in_err-filled-clause-answer
+returns-in_err-filled-clause-answer g c =
     let i = c.loop-count.invariant.reading in
     let filled = c.loop-count.filled in
     let buffer = c.loop-count.buffer in
@@ -35,8 +35,8 @@ returns-in-Err-settle-clause-answer g c =
     let some = c.in-Ok.ensures.bound.0 in (
       _,
       given_more _ _ _ c.loop-count.builder.text buffer c.take.new.buf filled (1968 - filled) c.in-Ok.count within some i.read c.in-Ok.ensures.bytes.0,
-      (
-        refused_on _ _ _ c.loop-count.builder.text buffer c.take.new.buf filled (1968 - filled) c.in-Ok.count within some i.read c.in-Ok.ensures.bytes.0 c.in-Err-settle.error c.in-Err-settle.ensures.refused,
+      refusal_answers _ _ _ _ c.from_residual.result c.in_err-filled.field-0.0 c.from_residual.ensures.1 (
+        refused_on _ _ _ c.loop-count.builder.text buffer c.take.new.buf filled (1968 - filled) c.in-Ok.count within some i.read c.in-Ok.ensures.bytes.0 c.in_err-filled.field-0.0 c.in_err-filled.ensures.refused,
         bounded _ _ _ c.loop-count.builder.text buffer c.take.new.buf filled (1968 - filled) c.in-Ok.count within some i.read c.in-Ok.ensures.bytes.0 (omega (arith, i.room, i.size, some, c.take.auto.buf, length-drop filled buffer)),
         c.in-Ok.ensures.ok ∙ i.clear,
       ),
@@ -45,13 +45,13 @@ returns-in-Err-settle-clause-answer g c =
 pub returns-then-filled-eq-BUFFER_BYTES-clause-answer : goal.returns-then-filled-eq-BUFFER_BYTES-clause-answer
 returns-then-filled-eq-BUFFER_BYTES-clause-answer g c =
     let i = c.loop-count.invariant.reading in
-    let e = c.in-Ok-settle.ensures in
+    let e = c.in_ok-filled.ensures in
     let filled = c.loop-count.filled in
     let buffer = c.loop-count.buffer in
     let within : filled ≤ length buffer = omega (arith, i.room, i.size) in
-    let held = take c.in-Ok-settle.rest c.settle.new.buffer in
+    let held = take c.in_ok-filled.filled c.settle.new.buffer in
     let h = read_on _ _ _ c.loop-count.builder.text buffer c.take.new.buf filled (1968 - filled) c.in-Ok.count within c.in-Ok.ensures.bound.0 i.read c.in-Ok.ensures.bytes.0 c.settle.new.builder.text held e.text e.rest e.fits in
-    let full = length-take-le c.in-Ok-settle.rest c.settle.new.buffer (omega arith) ∙ c.if-filled-eq-BUFFER_BYTES.true in (
+    let full = length-take-le c.in_ok-filled.filled c.settle.new.buffer (omega arith) ∙ c.if-filled-eq-BUFFER_BYTES.true in (
       encode_utf8_all c.settle.new.builder.text ++ held,
       h.given,
       (refused_full _ _ _ held h full, omega (arith, ap length (rest_is _ _ _ held h), full), front_fits _ _ _ held h, c.in-Ok.ensures.ok ∙ i.clear),
@@ -60,13 +60,13 @@ returns-then-filled-eq-BUFFER_BYTES-clause-answer g c =
 pub returns-then-count-eq0-clause-answer : goal.returns-then-count-eq0-clause-answer
 returns-then-count-eq0-clause-answer g c =
     let i = c.loop-count.invariant.reading in
-    let e = c.in-Ok-settle.ensures in
+    let e = c.in_ok-filled.ensures in
     let filled = c.loop-count.filled in
     let buffer = c.loop-count.buffer in
     let within : filled ≤ length buffer = omega (arith, i.room, i.size) in
-    let held = take c.in-Ok-settle.rest c.settle.new.buffer in
+    let held = take c.in_ok-filled.filled c.settle.new.buffer in
     let h = read_on _ _ _ c.loop-count.builder.text buffer c.take.new.buf filled (1968 - filled) c.in-Ok.count within c.in-Ok.ensures.bound.0 i.read c.in-Ok.ensures.bytes.0 c.settle.new.builder.text held e.text e.rest e.fits in
-    let size = length-take-le c.in-Ok-settle.rest c.settle.new.buffer (omega arith) in
+    let size = length-take-le c.in_ok-filled.filled c.settle.new.buffer (omega arith) in
     let end = c.in-Ok.ensures.bytes.1 c.if-count-eq0.true (omega (arith, i.room, i.size, c.take.auto.buf, length-drop filled buffer)) in (
       encode_utf8_all c.settle.new.builder.text ++ held,
       h.given,
@@ -76,13 +76,13 @@ returns-then-count-eq0-clause-answer g c =
 pub returns-then-filled-eq0-clause-answer : goal.returns-then-filled-eq0-clause-answer
 returns-then-filled-eq0-clause-answer g c =
     let i = c.loop-count.invariant.reading in
-    let e = c.in-Ok-settle.ensures in
+    let e = c.in_ok-filled.ensures in
     let filled = c.loop-count.filled in
     let buffer = c.loop-count.buffer in
     let within : filled ≤ length buffer = omega (arith, i.room, i.size) in
-    let held = take c.in-Ok-settle.rest c.settle.new.buffer in
+    let held = take c.in_ok-filled.filled c.settle.new.buffer in
     let h = read_on _ _ _ c.loop-count.builder.text buffer c.take.new.buf filled (1968 - filled) c.in-Ok.count within c.in-Ok.ensures.bound.0 i.read c.in-Ok.ensures.bytes.0 c.settle.new.builder.text held e.text e.rest e.fits in
-    let none : length held ≡ 0 = length-take-le c.in-Ok-settle.rest c.settle.new.buffer (omega arith) ∙ c.if-filled-eq0.true in
+    let none : length held ≡ 0 = length-take-le c.in_ok-filled.filled c.settle.new.buffer (omega arith) ∙ c.if-filled-eq0.true in
     let end = c.in-Ok.ensures.bytes.1 c.if-count-eq0.true (omega (arith, i.room, i.size, c.take.auto.buf, length-drop filled buffer)) in (
       encode_utf8_all c.settle.new.builder.text ++ held,
       h.given,
@@ -92,35 +92,35 @@ returns-then-filled-eq0-clause-answer g c =
 pub returns-then-filled-eq0-clause-utf8 : goal.returns-then-filled-eq0-clause-utf8
 returns-then-filled-eq0-clause-utf8 g c =
     let i = c.loop-count.invariant.reading in
-    let e = c.in-Ok-settle.ensures in
+    let e = c.in_ok-filled.ensures in
     let filled = c.loop-count.filled in
     let buffer = c.loop-count.buffer in
     let within : filled ≤ length buffer = omega (arith, i.room, i.size) in
-    let held = take c.in-Ok-settle.rest c.settle.new.buffer in
+    let held = take c.in_ok-filled.filled c.settle.new.buffer in
     let h = read_on _ _ _ c.loop-count.builder.text buffer c.take.new.buf filled (1968 - filled) c.in-Ok.count within c.in-Ok.ensures.bound.0 i.read c.in-Ok.ensures.bytes.0 c.settle.new.builder.text held e.text e.rest e.fits in
     h.utf8
 
 pub loop-count-smaller : goal.loop-count-smaller
 loop-count-smaller g c =
     let i = c.loop-count.invariant.reading in
-    let e = c.in-Ok-settle.ensures in
+    let e = c.in_ok-filled.ensures in
     let filled = c.loop-count.filled in
     let buffer = c.loop-count.buffer in
     let within : filled ≤ length buffer = omega (arith, i.room, i.size) in
-    let held = take c.in-Ok-settle.rest c.settle.new.buffer in
+    let held = take c.in_ok-filled.filled c.settle.new.buffer in
     let n = length_on _ _ _ c.loop-count.builder.text buffer c.take.new.buf filled (1968 - filled) c.in-Ok.count within c.in-Ok.ensures.bound.0 i.read c.in-Ok.ensures.bytes.0 c.settle.new.builder.text held e.text e.rest in
-    let size = length-take-le c.in-Ok-settle.rest c.settle.new.buffer (omega (arith, i.size, c.settle.auto.buffer, e.bound, c.in-Ok.ensures.bound.0, c.take.auto.buf, length-drop filled buffer)) in
+    let size = length-take-le c.in_ok-filled.filled c.settle.new.buffer (omega (arith, i.size, c.settle.auto.buffer, e.bound, c.in-Ok.ensures.bound.0, c.take.auto.buf, length-drop filled buffer)) in
     let fits = i.read.fits in
     omega (arith, n, size, i.room, fits, e.fits, e.bound, c.in-Ok.ensures.bound.0, c.take.auto.buf)
 
 pub loop-count-preserved : goal.loop-count-preserved
 loop-count-preserved g c =
     let i = c.loop-count.invariant.reading in
-    let e = c.in-Ok-settle.ensures in
+    let e = c.in_ok-filled.ensures in
     let filled = c.loop-count.filled in
     let buffer = c.loop-count.buffer in
     let within : filled ≤ length buffer = omega (arith, i.room, i.size) in
-    let held = take c.in-Ok-settle.rest c.settle.new.buffer in
+    let held = take c.in_ok-filled.filled c.settle.new.buffer in
     record {
       reading = record {
         read = read_on _ _ _ c.loop-count.builder.text buffer c.take.new.buf filled (1968 - filled) c.in-Ok.count within c.in-Ok.ensures.bound.0 i.read c.in-Ok.ensures.bytes.0 c.settle.new.builder.text held e.text e.rest e.fits;

@@ -31,23 +31,23 @@ loop-chunk-preserved g c =
       written = record {
         before = i.before ++ chars s;
         whole = i.whole ∙ ap (λ a. i.before ++ concat a) (c.in-Some.ensures.steps ∙ ap (λ b. chars b ∷ more) (sym c.as_bytes.ensures.value)) ∙ sym (append_assoc i.before (chars s) (concat more));
-        appended = chunk_written _ _ _ i.before s c.as_bytes.ensures.utf8 i.appended c.in-Ok.ensures.ok;
+        appended = chunk_written _ _ _ i.before s c.as_bytes.ensures.utf8 i.appended c.in_ok-write_bytes.ensures.ok;
       };
       none_failed = record {
-        clear = c.in-Ok.ensures.clear;
-        none = c.in-Ok.ensures.failure;
-        same = c.in-Ok.ensures.once ∙ c.loop-chunk.invariant.none_failed.same;
+        clear = c.in_ok-write_bytes.ensures.clear;
+        none = c.in_ok-write_bytes.ensures.failure.0;
+        same = c.in_ok-write_bytes.ensures.failure.1 ∙ c.loop-chunk.invariant.none_failed.same;
       };
     }
 
-pub returns-in-Err-clause-front : goal.returns-in-Err-clause-front
-returns-in-Err-clause-front g c =
+pub returns-in_err-write_bytes-clause-front : goal.returns-in_err-write_bytes-clause-front
+returns-in_err-write_bytes-clause-front g c =
     let i = c.loop-chunk.invariant.written in
     let s = c.as_bytes.result.now in
     let more = ahead c.next.new.self in
     chunk_begun _ _ _ (text_of c.args.part.now) i.before s more c.as_bytes.ensures.utf8
     (i.whole ∙ ap (λ a. i.before ++ concat a) (c.in-Some.ensures.steps ∙ ap (λ b. chars b ∷ more) (sym c.as_bytes.ensures.value)))
-    i.appended c.in-Err.ensures.front
+    i.appended c.in_err-write_bytes.ensures.front
 
 pub returns-clause-front : goal.returns-clause-front
 returns-clause-front g c =

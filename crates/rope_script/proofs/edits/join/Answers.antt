@@ -21,10 +21,10 @@ returns-in-Ok c =
     let read : clone ≡ get_or old c.args.other clone = same ∙ c.index-3.ensures ∙ ap (get_or old c.args.other) (sym same) in
     rw c.reply_to_edit.ensures
     (join_of c.append.result old c.args.rope c.args.other rope clone c.append.new.self at_rope c.index_mut.ensures.value at_other read
-    c.append.ensures.ok c.append.ensures.refused c.append.ensures.err c.append.ensures.empty_other c.append.ensures.empty_self
+    c.append.ensures.ok c.append.ensures.refused c.append.ensures.kept.0 c.append.ensures.empty_other c.append.ensures.empty_self
     (subst IsRope (same_place old c.args.rope c.index.result.now rope at_rope c.index.ensures c.index_mut.ensures.value) c.join_error.ensures.rope)
     (subst IsRope (same_place old c.args.other c.index-2.result.now clone at_other c.index-2.ensures read) c.join_error.ensures.other)
-    c.append.ensures.breaks c.append.ensures.kept)
+    c.append.ensures.kept.1 c.append.ensures.kept.2)
 
 pub returns-in-Err : goal.returns-in-Err
 returns-in-Err c =

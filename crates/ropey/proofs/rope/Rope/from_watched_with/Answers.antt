@@ -1,6 +1,7 @@
 -- A tree is a rope.
+use Rattle.std.proofs.Common.{rules}
 use Rattle.ropey.proofs.Ropes.{rope_of}
 use Rattle.ropey.proofs.rope.Rope.from_watched_with.Goals as goal
 
 pub returns-clause-kept : goal.returns-clause-kept
-returns-clause-kept g c = rope_of c.in_ok-root.root c.in_ok-root.ensures.tree
+returns-clause-kept g c = (search rules, rope_of c.in_ok-root.root c.in_ok-root.ensures.tree, search rules)

@@ -1,17 +1,24 @@
 -- The tests come in the order of the errors, and past them only memory refuses.
-use Rattle.std.proofs.Common.{◌≡◌, ◌<◌, ◌∙◌, length, sym, refl, arith, subst, Some, true, false}
+use Rattle.std.proofs.Common.{rules, ◌≡◌, ◌<◌, ◌∙◌, ℕ, List, length, sym, refl, arith, subst, ap, Some, true, false}
 use Rattle.std.proofs.lemmas.Bool.Decides.{nat_tests}
 use Rattle.std.specs.Prelude.{◌==◌}
-use Rattle.std.proofs.lemmas.Result.{on_ok_weaker}
-use Rattle.std.specs.Result.{IfErr}
-use Rattle.std.specs.Str.{chars}
-use Rattle.rope_text.specs.declared.error.Error.TheVariants.{TooLong}
-use Rattle.rope_text.specs.Edit.{insert_error, IsRefusal}
+use Rattle.std.specs.Str.{IsUtf8, chars}
+use Rattle.rope_text.specs.declared.error.Error.TheVariants.{OutOfMemory, TooLong}
+use Rattle.rope_text.specs.Edit.{inserted, insert_error, IsRefusal}
+use Rattle.ropey.specs.View.{RopeView}
 use Rattle.rope_text.proofs.Apart.{has_chars}
 use Rattle.rope_text.proofs.Walks.{byte_len-chars}
 use Rattle.rope_tree.proofs.BuildLaws.{no_chars}
 use Rattle.ropey.proofs.Refusals.{insert_error-none, insert_error-long, inserted_none}
+use Rattle.ropey.proofs.Ropes.{rope_of}
+use Rattle.ropey.proofs.TextsGiven.{passed_on}
 use Rattle.ropey.proofs.rope.Rope.insert_made.Goals as goal
+
+-- a text that isn't empty has a character
+some_chars : {A : Type 0} (new : List ℕ) → IsUtf8 new → (length new == 0) ≡ false → length (chars new) ≡ 0 → A
+some_chars new u full none =
+    let some : 0 < length new = grind (arith, nat_tests) in
+    absurd (omega (arith, has_chars new u some))
 
 pub returns-then-text-bytes-clause-refused : goal.returns-then-text-bytes-clause-refused
 returns-then-text-bytes-clause-refused c =
@@ -39,23 +46,51 @@ returns-then-is_empty-clause-ok c =
       inserted_none text c.args.char_idx (chars new) (no_chars new nothing),
     )
 
+pub returns-then-text-le-MAX_SHORT_BYTES-clause-ok : goal.returns-then-text-le-MAX_SHORT_BYTES-clause-ok
+returns-then-text-le-MAX_SHORT_BYTES-clause-ok c =
+    let text = c.args.self.now.text in
+    let new = c.args.text.now in
+    let none = insert_error-none text c.args.char_idx (chars new) (omega arith) (omega (arith, byte_len-chars new c.utf8.text, c.len_bytes-bytes.ensures.value, c.len_bytes-bytes.ensures.kept.content.fits)) in
+    (none, c.in_ok-insert_at.ensures.text ∙ ap (λ (r : RopeView). inserted r.text c.args.char_idx (chars new)) c.self.view_is)
+
+pub returns-then-text-le-MAX_SHORT_BYTES-clause-empty : goal.returns-then-text-le-MAX_SHORT_BYTES-clause-empty
+returns-then-text-le-MAX_SHORT_BYTES-clause-empty c = λ none _. some_chars c.args.text.now c.utf8.text (sym c.is_empty.ensures ∙ c.if-is_empty.false) none
+
+pub returns-in_err-insert_at-clause-refused : goal.returns-in_err-insert_at-clause-refused
+returns-in_err-insert_at-clause-refused c =
+    let text = c.args.self.now.text in
+    let new = c.args.text.now in
+    let none = insert_error-none text c.args.char_idx (chars new) (omega arith) (omega (arith, byte_len-chars new c.utf8.text, c.len_bytes-bytes.ensures.value, c.len_bytes-bytes.ensures.kept.content.fits)) in
+    passed_on c.from_residual.result OutOfMemory _ c.from_residual.ensures.1 (subst (λ o. IsRefusal o OutOfMemory) (sym none) refl)
+
+pub returns-in_err-insert_at-clause-empty : goal.returns-in_err-insert_at-clause-empty
+returns-in_err-insert_at-clause-empty c = λ none _. some_chars c.args.text.now c.utf8.text (sym c.is_empty.ensures ∙ c.if-is_empty.false) none
+
 pub returns-clause-ok : goal.returns-clause-ok
 returns-clause-ok c =
     let text = c.args.self.now.text in
     let new = c.args.text.now in
     let none = insert_error-none text c.args.char_idx (chars new) (omega arith) (omega (arith, byte_len-chars new c.utf8.text, c.len_bytes-bytes.ensures.value, c.len_bytes-bytes.ensures.kept.content.fits)) in
-    on_ok_weaker c.insert_some.result (λ same. (none, same)) c.insert_some.ensures.ok
+    (none, c.in_ok-self-inside.ensures.text ∙ ap (λ (r : RopeView). inserted r.text c.args.char_idx (chars new)) c.self.view_is)
 
-pub returns-clause-refused : goal.returns-clause-refused
-returns-clause-refused c =
+pub returns-clause-empty : goal.returns-clause-empty
+returns-clause-empty c = λ none _. some_chars c.args.text.now c.utf8.text (sym c.is_empty.ensures ∙ c.if-is_empty.false) none
+
+pub returns-in_err-self-inside-clause-refused : goal.returns-in_err-self-inside-clause-refused
+returns-in_err-self-inside-clause-refused c =
     let text = c.args.self.now.text in
     let new = c.args.text.now in
     let none = insert_error-none text c.args.char_idx (chars new) (omega arith) (omega (arith, byte_len-chars new c.utf8.text, c.len_bytes-bytes.ensures.value, c.len_bytes-bytes.ensures.kept.content.fits)) in
-    subst (λ o. IfErr c.insert_some.result (IsRefusal o)) (sym none) c.insert_some.ensures.refused
+    passed_on c.from_residual-in_err-self-inside.result OutOfMemory _ c.from_residual-in_err-self-inside.ensures.1 (subst (λ o. IsRefusal o OutOfMemory) (sym none) refl)
 
-pub returns-clause-empty : goal.returns-clause-empty
-returns-clause-empty c = λ none _.
-    let new = c.args.text.now in
-    let full : (length new == 0) ≡ false = sym c.is_empty.ensures ∙ c.if-is_empty.false in
-    let some : 0 < length new = grind (arith, nat_tests) in
-    absurd (omega (arith, has_chars new c.utf8.text some))
+pub returns-in_err-self-inside-clause-empty : goal.returns-in_err-self-inside-clause-empty
+returns-in_err-self-inside-clause-empty c = λ none _. some_chars c.args.text.now c.utf8.text (sym c.is_empty.ensures ∙ c.if-is_empty.false) none
+
+pub returns-then-text-le-MAX_SHORT_BYTES-clause-kept : goal.returns-then-text-le-MAX_SHORT_BYTES-clause-kept
+returns-then-text-le-MAX_SHORT_BYTES-clause-kept c = (search rules, search rules, rope_of c.insert_at.new.root c.insert_at.ensures.tree)
+
+pub returns-in_err-insert_at-clause-kept : goal.returns-in_err-insert_at-clause-kept
+returns-in_err-insert_at-clause-kept c = (search rules, search rules, rope_of c.insert_at.new.root c.insert_at.ensures.tree)
+
+pub returns-clause-kept : goal.returns-clause-kept
+returns-clause-kept c = (search rules, search rules, rope_of _ c.height.ensures.tree)

@@ -1,9 +1,0 @@
--- Each tree is a rope.
-use Rattle.ropey.proofs.Ropes.{rope_of}
-use Rattle.ropey.proofs.rope.Rope.remove_range.Goals as goal
-
-pub returns-in_err-remove-clause-kept : goal.returns-in_err-remove-clause-kept
-returns-in_err-remove-clause-kept g c = rope_of c.remove.new.root c.remove.ensures.tree
-
-pub returns-clause-kept : goal.returns-clause-kept
-returns-clause-kept g c = rope_of c.remove.new.root c.remove.ensures.tree
