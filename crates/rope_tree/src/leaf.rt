@@ -104,8 +104,8 @@ impl Leaf {
 
     /// Whether it has no text, which none has: to ask it reads the leaf ahead.
     #[inline(always)]
-    pub(crate) fn is_no_text(&self) -> bool {
-        self.text.is_no_text()
+    pub(crate) fn is_no_text(&self, from: usize, len: usize) -> bool {
+        self.text.is_no_text(from, len)
     }
 
     /// Puts a text before the character `at`, if there is room for it; returns whether it did. It takes no memory.

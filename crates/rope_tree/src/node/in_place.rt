@@ -9,8 +9,9 @@ ghost use Rattle.rope_tree.specs.Insert.{MayInsert, GoesIn, IsInserted, AreGrown
 use super::own::own;
 use super::{Children, Form, Node};
 use crate::lookup::total_before;
-use crate::search::{char_to_hold, try_place};
+use crate::search::{Totals, char_to_hold, try_place};
 use crate::short_text::ShortText;
+use rope_text::MAX_CHILDREN;
 use std::alloc::{AllocError, Global};
 use std::rc::Rc;
 
@@ -21,6 +22,40 @@ pub(super) struct WayIn {
     pub(super) place: usize,
     pub(super) at: usize,
     pub(super) follows: bool,
+}
+
+/// Whether a list over leaves has none: it is asked before a search, of one place in each 64 bytes, so that the list's places in memory
+/// are read side by side, where the way down would wait for each.
+#[inline(always)]
+pub(super) fn has_no_leaf(height: u8, nodes: &[Node; MAX_CHILDREN]) -> bool {
+    height == 1
+        && nodes[0].is_empty() & nodes[4].is_empty() & nodes[8].is_empty()
+        && nodes[12].is_empty() & nodes[16].is_empty() & nodes[20].is_empty()
+}
+
+/// Whether the child at a place is a leaf that has no text, which none is: it is asked before an edit at its character `at`, so that what
+/// the edit goes over is read ahead. How long the leaf is, the totals tell.
+#[inline(always)]
+pub(super) fn has_no_text(
+    height: u8,
+    totals: &Totals,
+    nodes: &[Node],
+    place: usize,
+    at: usize,
+) -> bool
+    requires totals { place < length totals.now }
+    requires nodes { place < length nodes.now }
+{
+    if height > 1 {
+        return false;
+    }
+    let before = total_before(totals, place);
+    let total = totals.get(place);
+    let bytes = total.bytes.wrapping_sub(before.bytes);
+    let chars = total.chars.wrapping_sub(before.chars);
+    let is_behind = bytes == chars || at > chars / 2;
+    let from = if is_behind { at } else { 0 };
+    nodes[place].is_no_text(from, bytes)
 }
 
 impl Children {
@@ -67,11 +102,17 @@ impl Children {
         ensures err { OnErr result (self.new ≡ self.old) }
         ensures made { made.new ≤ made.old + height_of self.old + 2 }
     {
+        if !follows && has_no_leaf(self.height, &self.nodes) {
+            return Ok(false);
+        }
         if !self.totals.has_room_for(added.len()) {
             return Ok(false);
         }
         let way = self.way_in(at, to_right, follows);
-        if self.nodes[way.place].lacks_room_for(added.len(), way.follows) {
+        if !way.follows && has_no_text(self.height, &self.totals, &self.nodes, way.place, way.at) {
+            return Ok(false);
+        }
+        if self.nodes[way.place].lacks_room_for(added.len()) {
             return self.cut_leaf(alloc, at, added, to_right, made);
         }
         let node = &mut self.nodes[way.place];
@@ -87,20 +128,29 @@ impl Children {
 }
 
 impl Node {
-    /// Whether it is a leaf in which so many bytes more have no room. A leaf that wasn't the last to be changed is read ahead.
+    /// Whether it is a leaf in which so many bytes more have no room.
     #[inline(always)]
-    fn lacks_room_for(&self, bytes: usize, is_last: bool) -> bool {
+    fn lacks_room_for(&self, bytes: usize) -> bool {
         match &self.form {
-            Form::Leaf(leaf) => leaf.lacks_room_for(bytes) || !is_last && leaf.is_no_text(),
+            Form::Leaf(leaf) => leaf.lacks_room_for(bytes),
             _ => false,
         }
     }
 
-    /// Whether it is a leaf that has no text, which none is: it is asked before an edit, so that the leaf is read ahead.
+    /// Whether it is a leaf that has no text, which none is.
     #[inline(always)]
-    pub(super) fn is_no_text(&self) -> bool {
+    fn is_no_text(&self, from: usize, len: usize) -> bool {
         match &self.form {
-            Form::Leaf(leaf) => leaf.is_no_text(),
+            Form::Leaf(leaf) => leaf.is_no_text(from, len),
+            _ => false,
+        }
+    }
+
+    /// Whether it has no text and no children.
+    #[inline(always)]
+    fn is_empty(&self) -> bool {
+        match &self.form {
+            Form::Empty(_) => true,
             _ => false,
         }
     }

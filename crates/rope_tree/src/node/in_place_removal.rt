@@ -3,6 +3,7 @@ ghost use Rattle.std.specs.Prelude.{◌≡◌, ◌+◌, ◌<◌, ◌≤◌, true
 ghost use Rattle.rope_tree.specs.Tree.{text, joined, breaks_of, height_of, AreChildren};
 ghost use Rattle.rope_tree.specs.Removal.{IsRemoved, AreRemoved};
 
+use super::in_place::{has_no_leaf, has_no_text};
 use super::own::own;
 use super::{Children, Form, Node};
 use crate::beside::{Least, least_at};
@@ -32,6 +33,9 @@ impl Children {
         ensures err { OnErr result (self.new ≡ self.old) }
         ensures made { made.new ≤ made.old + height_of self.old + 1 }
     {
+        if !follows && has_no_leaf(self.height, &self.nodes) {
+            return Ok(false);
+        }
         let child = try_place(&self.totals, start, usize::from(self.last), follows);
         let place = child.place;
         if self.totals.get(place).chars < end {
@@ -39,10 +43,11 @@ impl Children {
         }
         let before = total_before(&self.totals, place).chars;
         let least = least_at(usize::from(self.height), &self.totals, place, least);
-        let node = &mut self.nodes[place];
-        if !child.follows && node.is_no_text() {
+        let at = start.saturating_sub(before);
+        if !child.follows && has_no_text(self.height, &self.totals, &self.nodes, place, at) {
             return Ok(false);
         }
+        let node = &mut self.nodes[place];
         let old = node.info();
         if !node.remove_in_place(
             alloc,
