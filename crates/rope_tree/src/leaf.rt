@@ -7,10 +7,12 @@ ghost use Rattle.rope_text.specs.TextInfo.{info_of};
 ghost use Rattle.rope_text.specs.Edit.{inserted};
 ghost use Rattle.rope_tree.specs.Tree.{text, leaf_tree};
 ghost use Rattle.rope_tree.specs.LeafTree.{IsLeafOf};
+ghost use Rattle.rope_tree.specs.Change.{IsChange};
 ghost use Rattle.rope_tree.specs.Insert.{IsInserted};
 ghost use Rattle.rope_tree.specs.Removal.{IsRemoved};
 
 use crate::beside::Least;
+use crate::change::Change;
 use crate::counts::{leaf_with, put_in, take_out};
 use crate::node::{Node, make_leaf};
 use crate::node_text::{NodeText, halves_of};
@@ -108,11 +110,18 @@ impl Leaf {
         self.text.is_no_text(from, len)
     }
 
-    /// Puts a text before the character `at`, if there is room for it; returns whether it did. It takes no memory.
-    pub(crate) fn insert_in_place(&mut self, at: usize, added: &ShortText<'_>) -> bool
+    /// Puts a text before the character `at`, if there is room for it; returns whether it did, and in `change` by how much the
+    /// counts changed. It takes no memory.
+    pub(crate) fn insert_in_place(
+        &mut self,
+        at: usize,
+        added: &ShortText<'_>,
+        change: &mut Change,
+    ) -> bool
         requires within { at ≤ length (text self.old) }
         requires some { 1 ≤ length added.now }
         ensures done { result ≡ true → IsInserted self.old (self.new ∷ []) (inserted (text self.old) at added.now) }
+        ensures change { result ≡ true → IsChange change.new.before change.new.after (info_of self.old.breaks (text self.old)) (info_of self.old.breaks (text self.new)) }
         ensures kept { result ≡ false → self.new ≡ self.old }
     {
         if self.text.len() + added.len() > MAX_BYTES {
@@ -120,9 +129,11 @@ impl Leaf {
         }
         let old = self.summary;
         let breaks = old.line_breaks();
-        let new = put_in(&mut self.text, at, added, old.info(), breaks);
+        let before = old.info();
+        let after = put_in(&mut self.text, at, added, before, breaks);
         let _ = self.text.as_str();
-        self.summary = Summary::new(breaks, new);
+        self.summary = Summary::new(breaks, after);
+        *change = Change { before, after };
         true
     }
 
