@@ -1,5 +1,5 @@
 -- A child that takes a text, as the code finds and leaves it among its siblings.
-use Rattle.std.proofs.Common.{◌≡◌, ℕ, ◌+◌, ◌-◌, ◌<◌, ◌≤◌, ◌^◌, Bool, List, [], ◌∷◌, ◌++◌, length, get_or, set, take, drop, OnErr, Result, Ok, Err, refl, sym, ap, subst, ◌∙◌, arith}
+use Rattle.std.proofs.Common.{◌≡◌, ℕ, ◌+◌, ◌-◌, ◌<◌, ◌≤◌, ◌^◌, Bool, List, [], ◌∷◌, ◌++◌, length, get_or, set, take, drop, OnErr, Result, Ok, Err, refl, sym, ap, ◌∙◌, arith}
 use Rattle.rope_text.specs.declared.text_info.TextInfo.{TextInfo}
 use Rattle.rope_text.specs.Text.{byte_len}
 use Rattle.rope_text.specs.Edit.{inserted}
@@ -15,12 +15,11 @@ use Rattle.rope_tree.specs.Insert.{MayInsert, IsInserted, AreGrown}
 use Rattle.rope_tree.proofs.Infos.{small_info}
 use Rattle.rope_tree.specs.Narrow.{AreNarrow, FitsWith}
 use Rattle.rope_tree.specs.Change.{IsChange}
-use Rattle.rope_tree.proofs.ChangeLaws.{whole_change, part_of_part, part_fits, whole_changed, change_above}
+use Rattle.rope_tree.proofs.ChangeLaws.{whole_change, part_of_part, part_fits, whole_changed, change_by, change_own, change_of_list}
 use Rattle.rope_tree.proofs.TreeLaws.{breaks_of_is}
 use Rattle.rope_tree.proofs.InsertDescents.{Takes, last_total}
 use Rattle.rope_tree.proofs.InsertTrees.{child_may, text_around, byte_len-inserted}
-use Rattle.rope_tree.proofs.TotalLaws.{has_part, even, fits_after}
-use Rattle.std.proofs.lemmas.List.{length-set, take_all}
+use Rattle.rope_tree.proofs.TotalLaws.{has_part, fits_after}
 use Rattle.rope_tree.proofs.GrownLaws.{totals_seen, grown, children_grown, child_grown}
 
 -- what holds however it went holds where it failed
@@ -110,7 +109,7 @@ module _ (a : Inside) (ts : List Tree) (k : ℕ) (child : Tree) (at i : ℕ) (to
         own_change : IsChange old new (info_of child.breaks (text child)) (info_of u.breaks (text u))
         own_change =
             let wide = child_grown (breaks_of ts) (height_of ts) child u _ f.taken.own done in
-            subst (λ b. IsChange old new (info_of child.breaks (text child)) (info_of b (text u))) (f.taken.own.same_breaks ∙ sym wide.same_breaks) change
+            change_own child u old new (wide.same_breaks ∙ sym f.taken.own.same_breaks) change
 
         pub change_part : (seen : List TextInfo) → seen ≡ a.totals → (j : ℕ) (d : TextInfo) → k ≤ j → j < length seen → HasPart (get_or seen j d) old
         change_part seen is j d from within = part_of_part old new _ _ own_change (get_or seen j d) (part seen is _ refl j d from within)
@@ -134,21 +133,8 @@ module _ (a : Inside) (ts : List Tree) (k : ℕ) (child : Tree) (at i : ℕ) (to
           pub list_changed : IsChange old new (info_of (breaks_of ts) (joined ts)) (info_of (breaks_of ts) (joined (listed b)))
           list_changed =
               let d = f.taken in
-              let br = breaks_of ts in
-              let us = set ts k u in
-              let wide = child_grown (breaks_of ts) (height_of ts) child u _ d.own done in
-              let m : ℕ = length ts - 1 in
-              let some : m + 1 ≡ length ts = omega (arith, d.children.at_least_two) in
-              let here : m < length ts = omega (arith, some) in
-              let from : k ≤ m = omega (arith, some, d.within) in
-              let all : take (m + 1) ts ≡ ts = take_all (m + 1) ts (omega (arith, some)) in
-              let all_us : take (m + 1) us ≡ us = take_all (m + 1) us (omega (arith, some, length-set ts k u)) in
-              let own = subst (λ b. IsChange old new (info_of b (text child)) (info_of br (text u))) d.own.same_breaks (subst (λ b. IsChange old new (info_of child.breaks (text child)) (info_of b (text u))) d.own.same_breaks change) in
-              let p = subst (λ l. HasPart (info_of br (joined l)) (info_of br (text child))) all (has_part br (height_of ts) ts us k child u d.children d.within d.child_is m from here) in
-              let e = subst (λ l. info_sum (info_of br (joined l)) (info_of br (text child)) ≡ info_sum (info_of br (joined ts)) (info_of br (text u))) all_us
-                  (subst (λ l. info_sum (info_of br (joined (take (m + 1) us))) (info_of br (text child)) ≡ info_sum (info_of br (joined l)) (info_of br (text u))) all
-                  (even br (height_of ts) ts us k child u d.children d.within d.child_is all_children refl m from here)) in
-              rw (set_seen a b ts k u f.fields f.view f.taken.within all_children height breaks nodes (retotaled b height breaks nodes seen after _ _ is refl refl len before all_past totals)) (change_above old new _ _ own _ _ p e)
+              rw (set_seen a b ts k u f.fields f.view d.within all_children height breaks nodes (retotaled b height breaks nodes seen after _ _ is refl refl len before all_past totals))
+              (change_of_list (breaks_of ts) (height_of ts) ts k child u d.children d.within d.child_is all_children old new (change_by (breaks_of ts) child u old new d.own.same_breaks change))
 
 -- the counts of children that took a text, by their own
 pub list_grown : (ts us : List Tree) (new : List ℕ) → AreChildren (breaks_of ts) (height_of ts) ts → AreGrown ts us new → (before after : TextInfo) → before ≡ info_of (breaks_of ts) (joined ts) → after ≡ info_of (breaks_of us) (joined us)

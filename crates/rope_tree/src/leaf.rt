@@ -169,21 +169,30 @@ impl Leaf {
     }
 
     /// Takes the characters from `start` up to `end` out, if the leaf may do without them and keeps so many bytes; returns
-    /// whether it did. It takes no memory.
-    pub(crate) fn remove_in_place(&mut self, start: usize, end: usize, least: Least) -> bool
+    /// whether it did, and in `change` by how much the counts changed. It takes no memory.
+    pub(crate) fn remove_in_place(
+        &mut self,
+        start: usize,
+        end: usize,
+        least: Least,
+        change: &mut Change,
+    ) -> bool
         requires ordered { start < end }
         requires within { end ≤ length (text self.old) }
         ensures done { result ≡ true → IsRemoved least.first least.last self.old self.new start end }
+        ensures change { result ≡ true → IsChange change.new.before change.new.after (info_of self.old.breaks (text self.old)) (info_of self.old.breaks (text self.new)) }
         ensures kept { result ≡ false → self.new ≡ self.old }
     {
         let old = self.summary;
         let breaks = old.line_breaks();
         let least = least.first.max(least.last);
-        let Some(left) = take_out(&mut self.text, start, end, least, old.info(), breaks) else {
+        let before = old.info();
+        let Some(after) = take_out(&mut self.text, start, end, least, before, breaks) else {
             return false;
         };
         let _ = self.text.as_str();
-        self.summary = Summary::new(breaks, left);
+        self.summary = Summary::new(breaks, after);
+        *change = Change { before, after };
         true
     }
 }
