@@ -27,31 +27,22 @@ pub(super) struct WayIn {
     pub(super) follows: bool,
 }
 
-/// Whether a list over leaves has none: it is asked before a search, of one place in each 64 bytes, so that the list's places in memory
-/// are read side by side, where the way down would wait for each.
-#[inline(always)]
-pub(super) fn has_no_leaf(height: u8, nodes: &[Node; MAX_CHILDREN]) -> bool {
-    height == 1
-        && nodes[0].is_empty() & nodes[4].is_empty() & nodes[8].is_empty()
+/// Whether a list of children has none: it is asked before a search in a list over leaves, of one place in each 64 bytes, so that the
+/// list's places in memory are read side by side, where the way down would wait for each. It stands by itself, since an edit that
+/// follows the one before has no use for it.
+#[inline(never)]
+pub(super) fn has_no_child(nodes: &[Node; MAX_CHILDREN]) -> bool {
+    nodes[0].is_empty() & nodes[4].is_empty() & nodes[8].is_empty()
         && nodes[12].is_empty() & nodes[16].is_empty() & nodes[20].is_empty()
 }
 
 /// Whether the child at a place is a leaf that has no text, which none is: it is asked before an edit at its character `at`, so that what
 /// the edit goes over is read ahead. How long the leaf is, the totals tell.
-#[inline(always)]
-pub(super) fn has_no_text(
-    height: u8,
-    totals: &Totals,
-    nodes: &[Node],
-    place: usize,
-    at: usize,
-) -> bool
+#[inline(never)]
+pub(super) fn has_no_text(totals: &Totals, nodes: &[Node], place: usize, at: usize) -> bool
     requires totals { place < length totals.now }
     requires nodes { place < length nodes.now }
 {
-    if height > 1 {
-        return false;
-    }
     let before = total_before(totals, place);
     let total = totals.get(place);
     let bytes = total.bytes.wrapping_sub(before.bytes);
@@ -108,14 +99,15 @@ impl Children {
         ensures err { OnErr result (self.new ≡ self.old) }
         ensures made { made.new ≤ made.old + height_of self.old + 2 }
     {
-        if !follows && has_no_leaf(self.height, &self.nodes) {
+        if !follows && self.height == 1 && has_no_child(&self.nodes) {
             return Ok(false);
         }
         if !self.totals.has_room_for(added.len()) {
             return Ok(false);
         }
         let way = self.way_in(at, to_right, follows);
-        if !way.follows && has_no_text(self.height, &self.totals, &self.nodes, way.place, way.at) {
+        let is_ahead = !way.follows && self.height == 1;
+        if is_ahead && has_no_text(&self.totals, &self.nodes, way.place, way.at) {
             return Ok(false);
         }
         if self.nodes[way.place].lacks_room_for(added.len()) {

@@ -5,7 +5,7 @@ ghost use Rattle.rope_text.specs.TextInfo.{info_of};
 ghost use Rattle.rope_tree.specs.Change.{IsChange};
 ghost use Rattle.rope_tree.specs.Removal.{IsRemoved, AreRemoved};
 
-use super::in_place::{has_no_leaf, has_no_text};
+use super::in_place::{has_no_child, has_no_text};
 use super::own::own;
 use super::{Children, Form, Node};
 use crate::beside::{Least, least_at};
@@ -39,7 +39,7 @@ impl Children {
         ensures err { OnErr result (self.new ≡ self.old) }
         ensures made { made.new ≤ made.old + height_of self.old + 1 }
     {
-        if !follows && has_no_leaf(self.height, &self.nodes) {
+        if !follows && self.height == 1 && has_no_child(&self.nodes) {
             return Ok(false);
         }
         let child = try_place(&self.totals, start, usize::from(self.last), follows);
@@ -50,7 +50,8 @@ impl Children {
         let before = total_before(&self.totals, place).chars;
         let least = least_at(usize::from(self.height), &self.totals, place, least);
         let at = start.saturating_sub(before);
-        if !child.follows && has_no_text(self.height, &self.totals, &self.nodes, place, at) {
+        let is_ahead = !child.follows && self.height == 1;
+        if is_ahead && has_no_text(&self.totals, &self.nodes, place, at) {
             return Ok(false);
         }
         let node = &mut self.nodes[place];
