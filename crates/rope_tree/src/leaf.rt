@@ -21,6 +21,7 @@ use crate::summary::Summary;
 use rope_text::{LineBreaks, MAX_BYTES, TextInfo};
 use std::alloc::{AllocError, Global};
 use std::marker::Model;
+use std::rc::Rc;
 
 /// A text of at most `MAX_BYTES` bytes, its counts and its set of line breaks. It is seen as the tree that is a leaf.
 #[derive(Drop)]
@@ -42,38 +43,56 @@ impl Model for Leaf {
 }
 
 impl Leaf {
-    /// A leaf with a copy of this text, whose counts the caller knows.
+    /// A leaf of no text, of which each byte is 0: so its place in memory is cleared at once.
     #[inline(always)]
-    pub(crate) fn of(breaks: LineBreaks, text: &str, info: TextInfo) -> Leaf
-        requires fits { length text.now ≤ MAX_BYTES }
-        requires info { info ≡ info_of breaks (chars text.now) }
-        ensures { result ≡ leaf_tree breaks (chars text.now) }
-    {
+    fn empty() -> Leaf {
         Leaf {
-            summary: Summary::new(breaks, info),
-            text: NodeText::from_str(text),
+            summary: Summary::new(LineBreaks::Lf, TextInfo::new()),
+            text: NodeText::new(),
         }
     }
 
-    /// Puts a copy of another text in the place of its own, whose counts the caller knows.
-    fn set(&mut self, text: &str, info: TextInfo)
+    /// Puts a copy of another text in the place of its own, whose counts by this set of line breaks the caller knows.
+    fn fill(&mut self, breaks: LineBreaks, text: &str, info: TextInfo)
         requires fits { length text.now ≤ MAX_BYTES }
-        requires info { info ≡ info_of self.old.breaks (chars text.now) }
-        ensures { self.new ≡ leaf_tree self.old.breaks (chars text.now) }
+        requires info { info ≡ info_of breaks (chars text.now) }
+        ensures { self.new ≡ leaf_tree breaks (chars text.now) }
     {
-        self.summary = Summary::new(self.line_breaks(), info);
+        self.summary = Summary::new(breaks, info);
         self.text.set(text);
     }
 
-    /// The same leaf once more, with a copy of its text.
-    pub(crate) fn copied(&self) -> Leaf
-        ensures { result ≡ self.now }
+    /// A leaf with a copy of this text, whose counts by this set the caller knows. It is filled where it stays, so that the text is
+    /// moved once.
+    pub(crate) fn with_text(
+        alloc: Global,
+        breaks: LineBreaks,
+        text: &str,
+        info: TextInfo,
+    ) -> Result<Rc<Leaf>, AllocError>
+        requires fits { length text.now ≤ MAX_BYTES }
+        requires info { info ≡ info_of breaks (chars text.now) }
+        ensures { IfOk result (λ leaf. leaf.value ≡ leaf_tree breaks (chars text.now)) }
     {
-        let text = self.text.as_str_of_len(self.info().bytes);
-        Leaf {
-            summary: self.summary,
-            text: NodeText::from_str(text),
-        }
+        // Matched by hand: through `?` the leaf that a refusal gives back would be moved where none is refused, too.
+        let Ok(mut leaf) = Rc::new(alloc, Leaf::empty()) else {
+            return Err(AllocError);
+        };
+        // A leaf that was just made has no other owner, so that it can always be changed.
+        let Some(room) = Rc::get_mut(&mut leaf) else {
+            return Err(AllocError);
+        };
+        room.fill(breaks, text, info);
+        Ok(leaf)
+    }
+
+    /// The same leaf once more, with a copy of its text.
+    pub(crate) fn copied(&self, alloc: Global) -> Result<Rc<Leaf>, AllocError>
+        ensures { IfOk result (λ leaf. leaf.value ≡ self.now) }
+    {
+        let info = self.info();
+        let text = self.text.as_str_of_len(info.bytes);
+        Leaf::with_text(alloc, self.line_breaks(), text, info)
     }
 
     /// Its set of line breaks.
@@ -164,7 +183,7 @@ impl Leaf {
         let front_info = TextInfo::from_str(halves.front, breaks);
         let back_info = grown.info.minus(front_info);
         let behind = make_leaf(alloc, breaks, halves.back, back_info, made)?;
-        self.set(halves.front, front_info);
+        self.fill(breaks, halves.front, front_info);
         Ok(Some(behind))
     }
 

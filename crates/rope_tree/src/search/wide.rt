@@ -35,30 +35,8 @@ impl Model for WideTotals {
     ghost invariant = { IsTotals };
 }
 
-/// Adds numbers, modulo 2^64, to the counts of two rows, from one place on and before another. The rows are gone over side by side, so
-/// that only one loop's end must be guessed.
-#[inline(always)]
-fn shift_two(
-    counts: &mut [usize],
-    others: &mut [usize],
-    from: usize,
-    to: usize,
-    more: usize,
-    more_others: usize,
-)
-    requires ordered { from ≤ to }
-    requires counts { to ≤ length counts.old }
-    requires others { to ≤ length others.old }
-    ensures counts { IsShifted counts.old counts.new from to more }
-    ensures others { IsShifted others.old others.new from to more_others }
-{
-    for j in from..to {
-        counts[j] = counts[j].wrapping_add(more);
-        others[j] = others[j].wrapping_add(more_others);
-    }
-}
-
-/// Adds numbers to the counts of four rows; where nothing is added, as for the pairs and breaks of most edits, two are left alone.
+/// Adds numbers, modulo 2^64, to the counts of four rows, from one place on and before another. The rows are gone over side by
+/// side, so that only one loop's end must be guessed.
 #[inline(always)]
 fn shift_rows(
     bytes: &mut [usize],
@@ -79,10 +57,11 @@ fn shift_rows(
     ensures pairs { IsShifted pairs.old pairs.new from to more.utf16_surrogates }
     ensures breaks { IsShifted breaks.old breaks.new from to more.break_count }
 {
-    shift_two(bytes, chars, from, to, more.bytes, more.chars);
-    let (more_pairs, more_breaks) = (more.utf16_surrogates, more.break_count);
-    if more_pairs != 0 || more_breaks != 0 {
-        shift_two(pairs, breaks, from, to, more_pairs, more_breaks);
+    for j in from..to {
+        bytes[j] = bytes[j].wrapping_add(more.bytes);
+        chars[j] = chars[j].wrapping_add(more.chars);
+        pairs[j] = pairs[j].wrapping_add(more.utf16_surrogates);
+        breaks[j] = breaks[j].wrapping_add(more.break_count);
     }
 }
 
