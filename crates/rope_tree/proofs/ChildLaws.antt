@@ -1,5 +1,5 @@
 -- A child that takes a text, as the code finds and leaves it among its siblings.
-use Rattle.std.proofs.Common.{◌≡◌, ℕ, ◌+◌, ◌-◌, ◌<◌, ◌≤◌, ◌^◌, Bool, List, [], ◌∷◌, ◌++◌, length, get_or, set, take, drop, OnErr, Result, Ok, Err, refl, ap, ◌∙◌, arith}
+use Rattle.std.proofs.Common.{◌≡◌, ℕ, ◌+◌, ◌-◌, ◌<◌, ◌≤◌, ◌^◌, Bool, List, [], ◌∷◌, ◌++◌, length, get_or, set, take, drop, OnErr, Result, Ok, Err, refl, sym, ap, ◌∙◌, arith}
 use Rattle.rope_text.specs.declared.text_info.TextInfo.{TextInfo}
 use Rattle.rope_text.specs.Text.{byte_len}
 use Rattle.rope_text.specs.Edit.{inserted}
@@ -14,6 +14,9 @@ use Rattle.rope_tree.specs.Search.{IsSmall, HasPart}
 use Rattle.rope_tree.specs.Insert.{MayInsert, IsInserted, AreGrown}
 use Rattle.rope_tree.proofs.Infos.{small_info}
 use Rattle.rope_tree.specs.Narrow.{AreNarrow, FitsWith}
+use Rattle.rope_tree.specs.Change.{IsChange}
+use Rattle.rope_tree.proofs.ChangeLaws.{whole_change, part_of_part, part_fits, whole_changed, change_by, change_own, change_of_list}
+use Rattle.rope_tree.proofs.TreeLaws.{breaks_of_is}
 use Rattle.rope_tree.proofs.InsertDescents.{Takes, last_total}
 use Rattle.rope_tree.proofs.InsertTrees.{child_may, text_around, byte_len-inserted}
 use Rattle.rope_tree.proofs.TotalLaws.{has_part, fits_after}
@@ -100,3 +103,44 @@ module _ (a : Inside) (ts : List Tree) (k : ℕ) (child : Tree) (at i : ℕ) (to
 
         pub all_grown : AreGrown ts (listed b) (inserted (joined ts) at s)
         all_grown = rw (set_seen a b ts k u f.fields f.view f.taken.within all_children height breaks nodes retotaled) grows
+
+      -- the same by the counts of a part of it, which changed as much
+      module _ (old new : TextInfo) (change : IsChange old new (info_of child.breaks (text child)) (info_of child.breaks (text u))) where
+        own_change : IsChange old new (info_of child.breaks (text child)) (info_of u.breaks (text u))
+        own_change =
+            let wide = child_grown (breaks_of ts) (height_of ts) child u _ f.taken.own done in
+            change_own child u old new (wide.same_breaks ∙ sym f.taken.own.same_breaks) change
+
+        pub change_part : (seen : List TextInfo) → seen ≡ a.totals → (j : ℕ) (d : TextInfo) → k ≤ j → j < length seen → HasPart (get_or seen j d) old
+        change_part seen is j d from within = part_of_part old new _ _ own_change (get_or seen j d) (part seen is _ refl j d from within)
+
+        pub change_narrow : (seen : List TextInfo) → seen ≡ a.totals → (AreNarrow seen → (d : TextInfo) → (get_or seen (length seen - 1) d).bytes + byte_len s < 2 ^ 16)
+            → AreNarrow seen → (j : ℕ) (d : TextInfo) → k ≤ j → j < length seen → FitsWith (get_or seen j d) old new
+        change_narrow seen is room narrow j d from within = part_fits old new _ _ own_change (get_or seen j d) (still_narrow seen is room _ _ refl refl narrow j d from within)
+
+        module _ (b : Inside) (height : b.height ≡ a.height) (breaks : b.breaks ≡ a.breaks) (nodes : b.nodes ≡ set a.nodes k u) (seen after : List TextInfo) (is : seen ≡ a.totals)
+            (len : length after ≡ length seen) (before : (j : ℕ) (d : TextInfo) → j < k → get_or after j d ≡ get_or seen j d)
+            (past : (j : ℕ) (d : TextInfo) → k ≤ j → j < length seen → info_sum (get_or after j d) old ≡ info_sum (get_or seen j d) new) (totals : b.totals ≡ after) where
+          all_past : (j : ℕ) (d : TextInfo) → k ≤ j → j < length seen → info_sum (get_or after j d) (info_of child.breaks (text child)) ≡ info_sum (get_or seen j d) (info_of u.breaks (text u))
+          all_past j d from within = whole_changed old new _ _ own_change _ _ (past j d from within)
+
+          pub fields_changed : IsListed b
+          fields_changed = fields_after b height breaks nodes seen after _ _ is refl refl len before all_past totals
+
+          pub all_changed : AreGrown ts (listed b) (inserted (joined ts) at s)
+          all_changed = all_grown b height breaks nodes seen after _ _ is refl refl len before all_past totals
+
+          pub list_changed : IsChange old new (info_of (breaks_of ts) (joined ts)) (info_of (breaks_of ts) (joined (listed b)))
+          list_changed =
+              let d = f.taken in
+              rw (set_seen a b ts k u f.fields f.view d.within all_children height breaks nodes (retotaled b height breaks nodes seen after _ _ is refl refl len before all_past totals))
+              (change_of_list (breaks_of ts) (height_of ts) ts k child u d.children d.within d.child_is all_children old new (change_by (breaks_of ts) child u old new d.own.same_breaks change))
+
+-- the counts of children that took a text, by their own
+pub list_grown : (ts us : List Tree) (new : List ℕ) → AreChildren (breaks_of ts) (height_of ts) ts → AreGrown ts us new → (before after : TextInfo) → before ≡ info_of (breaks_of ts) (joined ts) → after ≡ info_of (breaks_of us) (joined us)
+    → IsChange before after (info_of (breaks_of ts) (joined ts)) (info_of (breaks_of ts) (joined us))
+list_grown ts us new a g before after before_is after_is =
+    let b = children_grown ts us new a g in
+    let same = breaks_of_is (breaks_of ts) (height_of ts) us (omega (arith, b.at_least_two)) b.each in
+    let now = after_is ∙ ap (λ x. info_of x (joined us)) same in
+    rw (← before_is, ← now) (whole_change before after (rw now (small_info (breaks_of ts) (joined us) b.fits)))

@@ -17,6 +17,7 @@ pub mod GrownLaws
 pub mod EmptyTrees
 pub mod FormLaws
 pub mod ListedLaws
+pub mod ChangeLaws
 pub mod ChildLaws
 pub mod RemovalEnds
 pub mod RemovalLaws

@@ -4,6 +4,7 @@ pub mod Tree
 pub mod Search
 pub mod Totals
 pub mod Narrow
+pub mod Change
 pub mod NarrowShape
 pub mod WideShape
 pub mod Shifted

@@ -9,6 +9,7 @@ ghost use Rattle.rope_tree.specs.Tree.{text, IsTree};
 ghost use Rattle.rope_tree.specs.View.{trees_in};
 ghost use Rattle.rope_tree.specs.Insert.{MayInsert, IsInserted};
 
+use crate::change::Change;
 use crate::counts::ends_in_cr;
 use crate::insert::insert;
 use crate::lookup::char_at;
@@ -56,7 +57,7 @@ fn insert_in_place(
     ensures made { made.new ≤ made.old + root.old.height + 2 }
 {
     let to_right = goes_right(root, at, added);
-    root.insert_in_place(alloc, at, added, to_right, true, made)
+    root.insert_in_place(alloc, at, added, to_right, true, &mut Change::none(), made)
 }
 
 /// One tree over the nodes that an insert into `old` made.

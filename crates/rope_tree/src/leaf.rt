@@ -7,10 +7,12 @@ ghost use Rattle.rope_text.specs.TextInfo.{info_of};
 ghost use Rattle.rope_text.specs.Edit.{inserted};
 ghost use Rattle.rope_tree.specs.Tree.{text, leaf_tree};
 ghost use Rattle.rope_tree.specs.LeafTree.{IsLeafOf};
+ghost use Rattle.rope_tree.specs.Change.{IsChange};
 ghost use Rattle.rope_tree.specs.Insert.{IsInserted};
 ghost use Rattle.rope_tree.specs.Removal.{IsRemoved};
 
 use crate::beside::Least;
+use crate::change::Change;
 use crate::counts::{leaf_with, put_in, take_out};
 use crate::node::{Node, make_leaf};
 use crate::node_text::{NodeText, halves_of};
@@ -19,6 +21,7 @@ use crate::summary::Summary;
 use rope_text::{LineBreaks, MAX_BYTES, TextInfo};
 use std::alloc::{AllocError, Global};
 use std::marker::Model;
+use std::rc::Rc;
 
 /// A text of at most `MAX_BYTES` bytes, its counts and its set of line breaks. It is seen as the tree that is a leaf.
 #[derive(Drop)]
@@ -40,38 +43,56 @@ impl Model for Leaf {
 }
 
 impl Leaf {
-    /// A leaf with a copy of this text, whose counts the caller knows.
+    /// A leaf of no text, of which each byte is 0: so its place in memory is cleared at once.
     #[inline(always)]
-    pub(crate) fn of(breaks: LineBreaks, text: &str, info: TextInfo) -> Leaf
-        requires fits { length text.now ≤ MAX_BYTES }
-        requires info { info ≡ info_of breaks (chars text.now) }
-        ensures { result ≡ leaf_tree breaks (chars text.now) }
-    {
+    fn empty() -> Leaf {
         Leaf {
-            summary: Summary::new(breaks, info),
-            text: NodeText::from_str(text),
+            summary: Summary::new(LineBreaks::Lf, TextInfo::new()),
+            text: NodeText::new(),
         }
     }
 
-    /// Puts a copy of another text in the place of its own, whose counts the caller knows.
-    fn set(&mut self, text: &str, info: TextInfo)
+    /// Puts a copy of another text in the place of its own, whose counts by this set of line breaks the caller knows.
+    fn fill(&mut self, breaks: LineBreaks, text: &str, info: TextInfo)
         requires fits { length text.now ≤ MAX_BYTES }
-        requires info { info ≡ info_of self.old.breaks (chars text.now) }
-        ensures { self.new ≡ leaf_tree self.old.breaks (chars text.now) }
+        requires info { info ≡ info_of breaks (chars text.now) }
+        ensures { self.new ≡ leaf_tree breaks (chars text.now) }
     {
-        self.summary = Summary::new(self.line_breaks(), info);
+        self.summary = Summary::new(breaks, info);
         self.text.set(text);
     }
 
-    /// The same leaf once more, with a copy of its text.
-    pub(crate) fn copied(&self) -> Leaf
-        ensures { result ≡ self.now }
+    /// A leaf with a copy of this text, whose counts by this set the caller knows. It is filled where it stays, so that the text is
+    /// moved once.
+    pub(crate) fn with_text(
+        alloc: Global,
+        breaks: LineBreaks,
+        text: &str,
+        info: TextInfo,
+    ) -> Result<Rc<Leaf>, AllocError>
+        requires fits { length text.now ≤ MAX_BYTES }
+        requires info { info ≡ info_of breaks (chars text.now) }
+        ensures { IfOk result (λ leaf. leaf.value ≡ leaf_tree breaks (chars text.now)) }
     {
-        let text = self.text.as_str_of_len(self.info().bytes);
-        Leaf {
-            summary: self.summary,
-            text: NodeText::from_str(text),
-        }
+        // Matched by hand: through `?` the leaf that a refusal gives back would be moved where none is refused, too.
+        let Ok(mut leaf) = Rc::new(alloc, Leaf::empty()) else {
+            return Err(AllocError);
+        };
+        // A leaf that was just made has no other owner, so that it can always be changed.
+        let Some(room) = Rc::get_mut(&mut leaf) else {
+            return Err(AllocError);
+        };
+        room.fill(breaks, text, info);
+        Ok(leaf)
+    }
+
+    /// The same leaf once more, with a copy of its text.
+    pub(crate) fn copied(&self, alloc: Global) -> Result<Rc<Leaf>, AllocError>
+        ensures { IfOk result (λ leaf. leaf.value ≡ self.now) }
+    {
+        let info = self.info();
+        let text = self.text.as_str_of_len(info.bytes);
+        Leaf::with_text(alloc, self.line_breaks(), text, info)
     }
 
     /// Its set of line breaks.
@@ -104,15 +125,22 @@ impl Leaf {
 
     /// Whether it has no text, which none has: to ask it reads the leaf ahead.
     #[inline(always)]
-    pub(crate) fn is_no_text(&self) -> bool {
-        self.text.is_no_text()
+    pub(crate) fn is_no_text(&self, from: usize, len: usize) -> bool {
+        self.text.is_no_text(from, len)
     }
 
-    /// Puts a text before the character `at`, if there is room for it; returns whether it did. It takes no memory.
-    pub(crate) fn insert_in_place(&mut self, at: usize, added: &ShortText<'_>) -> bool
+    /// Puts a text before the character `at`, if there is room for it; returns whether it did, and in `change` by how much the
+    /// counts changed. It takes no memory.
+    pub(crate) fn insert_in_place(
+        &mut self,
+        at: usize,
+        added: &ShortText<'_>,
+        change: &mut Change,
+    ) -> bool
         requires within { at ≤ length (text self.old) }
         requires some { 1 ≤ length added.now }
         ensures done { result ≡ true → IsInserted self.old (self.new ∷ []) (inserted (text self.old) at added.now) }
+        ensures change { result ≡ true → IsChange change.new.before change.new.after (info_of self.old.breaks (text self.old)) (info_of self.old.breaks (text self.new)) }
         ensures kept { result ≡ false → self.new ≡ self.old }
     {
         if self.text.len() + added.len() > MAX_BYTES {
@@ -120,9 +148,11 @@ impl Leaf {
         }
         let old = self.summary;
         let breaks = old.line_breaks();
-        let new = put_in(&mut self.text, at, added, old.info(), breaks);
+        let before = old.info();
+        let after = put_in(&mut self.text, at, added, before, breaks);
         let _ = self.text.as_str();
-        self.summary = Summary::new(breaks, new);
+        self.summary = Summary::new(breaks, after);
+        *change = Change { before, after };
         true
     }
 
@@ -153,26 +183,35 @@ impl Leaf {
         let front_info = TextInfo::from_str(halves.front, breaks);
         let back_info = info.minus(front_info);
         let behind = make_leaf(alloc, breaks, halves.back, back_info, made)?;
-        self.set(halves.front, front_info);
+        self.fill(breaks, halves.front, front_info);
         Ok(Some(behind))
     }
 
     /// Takes the characters from `start` up to `end` out, if the leaf may do without them and keeps so many bytes; returns
-    /// whether it did. It takes no memory.
-    pub(crate) fn remove_in_place(&mut self, start: usize, end: usize, least: Least) -> bool
+    /// whether it did, and in `change` by how much the counts changed. It takes no memory.
+    pub(crate) fn remove_in_place(
+        &mut self,
+        start: usize,
+        end: usize,
+        least: Least,
+        change: &mut Change,
+    ) -> bool
         requires ordered { start < end }
         requires within { end ≤ length (text self.old) }
         ensures done { result ≡ true → IsRemoved least.first least.last self.old self.new start end }
+        ensures change { result ≡ true → IsChange change.new.before change.new.after (info_of self.old.breaks (text self.old)) (info_of self.old.breaks (text self.new)) }
         ensures kept { result ≡ false → self.new ≡ self.old }
     {
         let old = self.summary;
         let breaks = old.line_breaks();
         let least = least.first.max(least.last);
-        let Some(left) = take_out(&mut self.text, start, end, least, old.info(), breaks) else {
+        let before = old.info();
+        let Some(after) = take_out(&mut self.text, start, end, least, before, breaks) else {
             return false;
         };
         let _ = self.text.as_str();
-        self.summary = Summary::new(breaks, left);
+        self.summary = Summary::new(breaks, after);
+        *change = Change { before, after };
         true
     }
 }

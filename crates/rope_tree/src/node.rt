@@ -254,7 +254,7 @@ pub fn make_leaf(
     let form = if info.bytes == 0 {
         Form::Empty(breaks)
     } else {
-        Form::Leaf(Rc::new(alloc, Leaf::of(breaks, text, info))?)
+        Form::Leaf(Leaf::with_text(alloc, breaks, text, info)?)
     };
     let node = Node { form };
     let _ = node.height();

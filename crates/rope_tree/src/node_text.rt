@@ -27,6 +27,15 @@ pub(crate) fn join_parts<const N: usize>(first: &str, second: &str, third: &str)
     text
 }
 
+// A byte, or 0 behind the last one.
+#[inline(always)]
+fn byte_or_zero(bytes: &[u8], at: usize) -> usize {
+    match bytes.get(at) {
+        Some(byte) => usize::from(*byte),
+        None => 0,
+    }
+}
+
 // The byte at which a text that is too long for one leaf is cut into two.
 fn split_place(text: &str) -> usize
     requires long { MAX_BYTES < length text.now }
@@ -141,15 +150,17 @@ impl NodeText {
         self.as_str().len()
     }
 
-    /// Whether some bytes of it, one in each 64, have a sum that none have: so it never is. It is asked before an edit, for then the
-    /// leaf's places in memory are read side by side, where the edit would wait for each.
+    /// Whether some bytes of it, the last of `len` and one in each 64 from `from` on, have a sum that none have: so it never is. It is
+    /// asked before an edit, for then the leaf's places in memory are read side by side, where the edit would wait for each. The length
+    /// is the caller's, since the text's own would be waited for.
     #[inline(always)]
-    pub(crate) fn is_no_text(&self) -> bool {
+    pub(crate) fn is_no_text(&self, from: usize, len: usize) -> bool {
         let bytes = self.bytes.as_slice();
-        let mut sum: usize = 0;
-        let mut at = 0;
-        while at < bytes.len() {
-            sum = sum.wrapping_add(usize::from(bytes[at]));
+        let len = len.min(MAX_BYTES);
+        let mut sum = byte_or_zero(bytes, len.saturating_sub(1));
+        let mut at = from;
+        while at < len {
+            sum = sum.wrapping_add(byte_or_zero(bytes, at));
             at += 64;
         }
         sum == usize::MAX

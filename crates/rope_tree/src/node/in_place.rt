@@ -4,13 +4,17 @@ ghost use Rattle.rope_text.specs.declared.TheConstants.{MAX_SHORT_BYTES};
 ghost use Rattle.rope_text.specs.Text.{byte_len};
 ghost use Rattle.rope_text.specs.Edit.{inserted};
 ghost use Rattle.rope_tree.specs.Tree.{Tree, text, joined, breaks_of, height_of, tree_over, AreChildren};
+ghost use Rattle.rope_text.specs.TextInfo.{info_of};
+ghost use Rattle.rope_tree.specs.Change.{IsChange};
 ghost use Rattle.rope_tree.specs.Insert.{MayInsert, GoesIn, IsInserted, AreGrown};
 
 use super::own::own;
 use super::{Children, Form, Node};
+use crate::change::Change;
 use crate::lookup::total_before;
-use crate::search::{char_to_hold, try_place};
+use crate::search::{Totals, char_to_hold, try_place};
 use crate::short_text::ShortText;
+use rope_text::MAX_CHILDREN;
 use std::alloc::{AllocError, Global};
 use std::rc::Rc;
 
@@ -21,6 +25,31 @@ pub(super) struct WayIn {
     pub(super) place: usize,
     pub(super) at: usize,
     pub(super) follows: bool,
+}
+
+/// Whether a list of children has none: it is asked before a search in a list over leaves, of one place in each 64 bytes, so that the
+/// list's places in memory are read side by side, where the way down would wait for each. It stands by itself, since an edit that
+/// follows the one before has no use for it.
+#[inline(never)]
+pub(super) fn has_no_child(nodes: &[Node; MAX_CHILDREN]) -> bool {
+    nodes[0].is_empty() & nodes[4].is_empty() & nodes[8].is_empty()
+        && nodes[12].is_empty() & nodes[16].is_empty() & nodes[20].is_empty()
+}
+
+/// Whether the child at a place is a leaf that has no text, which none is: it is asked before an edit at its character `at`, so that what
+/// the edit goes over is read ahead. How long the leaf is, the totals tell.
+#[inline(never)]
+pub(super) fn has_no_text(totals: &Totals, nodes: &[Node], place: usize, at: usize) -> bool
+    requires totals { place < length totals.now }
+    requires nodes { place < length nodes.now }
+{
+    let before = total_before(totals, place);
+    let total = totals.get(place);
+    let bytes = total.bytes.wrapping_sub(before.bytes);
+    let chars = total.chars.wrapping_sub(before.chars);
+    let is_behind = bytes == chars || at > chars / 2;
+    let from = if is_behind { at } else { 0 };
+    nodes[place].is_no_text(from, bytes)
 }
 
 impl Children {
@@ -45,7 +74,8 @@ impl Children {
     }
 
     /// Puts a text before the character `at`, where the leaf has room, or is cut into two and the node over it has room for one
-    /// more; returns whether it did. Where memory is refused, the children are as they were.
+    /// more; returns whether it did, and in `change` by how much the counts changed. `follows` says whether the way is that of the edit
+    /// before so far. Where memory is refused, the children are as they were.
     #[cycle(in_place)]
     fn insert_in_place(
         &mut self,
@@ -54,6 +84,7 @@ impl Children {
         added: &ShortText<'_>,
         to_right: bool,
         follows: bool,
+        change: &mut Change,
         made: &mut u64,
     ) -> Result<bool, AllocError>
         requires children { AreChildren (breaks_of self.old) (height_of self.old) self.old }
@@ -63,59 +94,80 @@ impl Children {
         requires fits { byte_len (joined self.old) + byte_len added.now < 2 ^ 63 }
         requires side { MayInsert (tree_over self.old) at added.now to_right }
         ensures done { IfOk result (λ did. did ≡ true → AreGrown self.old self.new (inserted (joined self.old) at added.now)) }
+        ensures change { IfOk result (λ did. did ≡ true → IsChange change.new.before change.new.after (info_of (breaks_of self.old) (joined self.old)) (info_of (breaks_of self.old) (joined self.new))) }
         ensures kept { IfOk result (λ did. did ≡ false → self.new ≡ self.old) }
         ensures err { OnErr result (self.new ≡ self.old) }
         ensures made { made.new ≤ made.old + height_of self.old + 2 }
     {
+        if !follows && self.height == 1 && has_no_child(&self.nodes) {
+            return Ok(false);
+        }
         if !self.totals.has_room_for(added.len()) {
             return Ok(false);
         }
         let way = self.way_in(at, to_right, follows);
-        if self.nodes[way.place].lacks_room_for(added.len(), way.follows) {
-            return self.cut_leaf(alloc, at, added, to_right, made);
-        }
-        let node = &mut self.nodes[way.place];
-        let old = node.info();
-        if !node.insert_in_place(alloc, way.at, added, to_right, way.follows, made)? {
+        let is_ahead = !way.follows && self.height == 1;
+        if is_ahead && has_no_text(&self.totals, &self.nodes, way.place, way.at) {
             return Ok(false);
         }
-        let new = node.info();
-        self.totals.retotal(way.place, old, new);
+        if self.nodes[way.place].lacks_room_for(added.len()) {
+            let before = self.total();
+            let did = self.cut_leaf(alloc, at, added, to_right, made)?;
+            let after = self.total();
+            *change = Change { before, after };
+            return Ok(did);
+        }
+        let node = &mut self.nodes[way.place];
+        if !node.insert_in_place(alloc, way.at, added, to_right, way.follows, change, made)? {
+            return Ok(false);
+        }
+        self.totals.retotal(way.place, change.before, change.after);
         self.last = way.place as u8;
         Ok(true)
     }
 }
 
 impl Node {
-    /// Whether it is a leaf in which so many bytes more have no room. A leaf that wasn't the last to be changed is read ahead.
+    /// Whether it is a leaf in which so many bytes more have no room.
     #[inline(always)]
-    fn lacks_room_for(&self, bytes: usize, is_last: bool) -> bool {
+    fn lacks_room_for(&self, bytes: usize) -> bool {
         match &self.form {
-            Form::Leaf(leaf) => leaf.lacks_room_for(bytes) || !is_last && leaf.is_no_text(),
+            Form::Leaf(leaf) => leaf.lacks_room_for(bytes),
             _ => false,
         }
     }
 
-    /// Whether it is a leaf that has no text, which none is: it is asked before an edit, so that the leaf is read ahead.
+    /// Whether it is a leaf that has no text, which none is.
     #[inline(always)]
-    pub(super) fn is_no_text(&self) -> bool {
+    fn is_no_text(&self, from: usize, len: usize) -> bool {
         match &self.form {
-            Form::Leaf(leaf) => leaf.is_no_text(),
+            Form::Leaf(leaf) => leaf.is_no_text(from, len),
+            _ => false,
+        }
+    }
+
+    /// Whether it has no text and no children.
+    #[inline(always)]
+    fn is_empty(&self) -> bool {
+        match &self.form {
+            Form::Empty(_) => true,
             _ => false,
         }
     }
 
     /// Puts a text of at most 981 bytes before the character `at`, where the leaf has room, or is cut into two and the node over
-    /// it has room for one more; returns whether it did. A node on the way that is shared is copied; where none is, and the leaf
-    /// has room, it takes no memory. Where memory is refused, the tree is as it was.
+    /// it has room for one more; returns whether it did, and in `change` by how much the counts changed. `follows` says whether the way
+    /// is that of the edit before so far. A node on the way that is shared is copied; where none is, and the leaf has room, it takes no
+    /// memory. Where memory is refused, the tree is as it was.
     #[cycle(in_place)]
-    pub fn insert_in_place(
+    pub(crate) fn insert_in_place(
         &mut self,
         alloc: Global,
         at: usize,
         added: &ShortText<'_>,
         to_right: bool,
         follows: bool,
+        change: &mut Change,
         made: &mut u64,
     ) -> Result<bool, AllocError>
         requires within { at ≤ length (text self.old) }
@@ -124,6 +176,7 @@ impl Node {
         requires fits { byte_len (text self.old) + byte_len added.now < 2 ^ 63 }
         requires side { MayInsert self.old at added.now to_right }
         ensures done { IfOk result (λ did. did ≡ true → IsInserted self.old (self.new ∷ []) (inserted (text self.old) at added.now)) }
+        ensures change { IfOk result (λ did. did ≡ true → IsChange change.new.before change.new.after (info_of self.old.breaks (text self.old)) (info_of self.old.breaks (text self.new))) }
         ensures kept { IfOk result (λ did. did ≡ false → self.new ≡ self.old) }
         ensures err { OnErr result (self.new ≡ self.old) }
         ensures made { made.new ≤ made.old + self.old.height + 2 }
@@ -132,12 +185,12 @@ impl Node {
         match &mut self.form {
             Form::Empty(_) => Ok(false),
             Form::Leaf(leaf) => match Rc::get_mut(leaf) {
-                Some(leaf) => Ok(leaf.insert_in_place(at, added)),
+                Some(leaf) => Ok(leaf.insert_in_place(at, added, change)),
                 None => Ok(false),
             },
             Form::Inner(children) => match Rc::get_mut(children) {
                 Some(children) => {
-                    children.insert_in_place(alloc, at, added, to_right, follows, made)
+                    children.insert_in_place(alloc, at, added, to_right, follows, change, made)
                 }
                 None => Ok(false),
             },

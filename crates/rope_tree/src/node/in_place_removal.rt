@@ -1,11 +1,15 @@
 //! Removals of characters from one leaf where the nodes stand: one way down, on which a node that is shared is copied.
 ghost use Rattle.std.specs.Prelude.{◌≡◌, ◌+◌, ◌<◌, ◌≤◌, true, false, length, IfOk, OnErr};
 ghost use Rattle.rope_tree.specs.Tree.{text, joined, breaks_of, height_of, AreChildren};
+ghost use Rattle.rope_text.specs.TextInfo.{info_of};
+ghost use Rattle.rope_tree.specs.Change.{IsChange};
 ghost use Rattle.rope_tree.specs.Removal.{IsRemoved, AreRemoved};
 
+use super::in_place::{has_no_child, has_no_text};
 use super::own::own;
 use super::{Children, Form, Node};
 use crate::beside::{Least, least_at};
+use crate::change::Change;
 use crate::lookup::total_before;
 use crate::search::try_place;
 use std::alloc::{AllocError, Global};
@@ -13,7 +17,8 @@ use std::rc::Rc;
 
 impl Children {
     /// Takes the characters from `start` up to `end` out, where they lie in one leaf that may do without them and keeps enough
-    /// beside its neighbours; returns whether it did. Where memory is refused, the children are as they were.
+    /// beside its neighbours; returns whether it did, and in `change` by how much the counts changed. `follows` says whether the way is
+    /// that of the edit before so far. Where memory is refused, the children are as they were.
     #[cycle(in_place_removal)]
     fn remove_in_place(
         &mut self,
@@ -22,16 +27,21 @@ impl Children {
         end: usize,
         least: Least,
         follows: bool,
+        change: &mut Change,
         made: &mut u64,
     ) -> Result<bool, AllocError>
         requires children { AreChildren (breaks_of self.old) (height_of self.old) self.old }
         requires ordered { start < end }
         requires within { end ≤ length (joined self.old) }
         ensures done { IfOk result (λ did. did ≡ true → AreRemoved least.first least.last self.old self.new start end) }
+        ensures change { IfOk result (λ did. did ≡ true → IsChange change.new.before change.new.after (info_of (breaks_of self.old) (joined self.old)) (info_of (breaks_of self.old) (joined self.new))) }
         ensures kept { IfOk result (λ did. did ≡ false → self.new ≡ self.old) }
         ensures err { OnErr result (self.new ≡ self.old) }
         ensures made { made.new ≤ made.old + height_of self.old + 1 }
     {
+        if !follows && self.height == 1 && has_no_child(&self.nodes) {
+            return Ok(false);
+        }
         let child = try_place(&self.totals, start, usize::from(self.last), follows);
         let place = child.place;
         if self.totals.get(place).chars < end {
@@ -39,23 +49,24 @@ impl Children {
         }
         let before = total_before(&self.totals, place).chars;
         let least = least_at(usize::from(self.height), &self.totals, place, least);
-        let node = &mut self.nodes[place];
-        if !child.follows && node.is_no_text() {
+        let at = start.saturating_sub(before);
+        let is_ahead = !child.follows && self.height == 1;
+        if is_ahead && has_no_text(&self.totals, &self.nodes, place, at) {
             return Ok(false);
         }
-        let old = node.info();
+        let node = &mut self.nodes[place];
         if !node.remove_in_place(
             alloc,
             start - before,
             end - before,
             least,
             child.follows,
+            change,
             made,
         )? {
             return Ok(false);
         }
-        let new = node.info();
-        self.totals.retotal(place, old, new);
+        self.totals.retotal(place, change.before, change.after);
         self.last = place as u8;
         Ok(true)
     }
@@ -63,21 +74,24 @@ impl Children {
 
 impl Node {
     /// Takes the characters from `start` up to `end` out, where they lie in one leaf that may do without them, and keeps so many
-    /// bytes where it is first or last; returns whether it did. A node on the way that is shared is copied; where none is, it takes
-    /// no memory. Where memory is refused, the tree is as it was.
+    /// bytes where it is first or last; returns whether it did, and in `change` by how much the counts changed. `follows` says whether the
+    /// way is that of the edit before so far. A node on the way that is shared is copied; where none is, it takes no memory. Where
+    /// memory is refused, the tree is as it was.
     #[cycle(in_place_removal)]
-    pub fn remove_in_place(
+    pub(crate) fn remove_in_place(
         &mut self,
         alloc: Global,
         start: usize,
         end: usize,
         least: Least,
         follows: bool,
+        change: &mut Change,
         made: &mut u64,
     ) -> Result<bool, AllocError>
         requires ordered { start < end }
         requires within { end ≤ length (text self.old) }
         ensures done { IfOk result (λ did. did ≡ true → IsRemoved least.first least.last self.old self.new start end) }
+        ensures change { IfOk result (λ did. did ≡ true → IsChange change.new.before change.new.after (info_of self.old.breaks (text self.old)) (info_of self.old.breaks (text self.new))) }
         ensures kept { IfOk result (λ did. did ≡ false → self.new ≡ self.old) }
         ensures err { OnErr result (self.new ≡ self.old) }
         ensures made { made.new ≤ made.old + self.old.height + 1 }
@@ -86,12 +100,12 @@ impl Node {
         match &mut self.form {
             Form::Empty(_) => Ok(false),
             Form::Leaf(leaf) => match Rc::get_mut(leaf) {
-                Some(leaf) => Ok(leaf.remove_in_place(start, end, least)),
+                Some(leaf) => Ok(leaf.remove_in_place(start, end, least, change)),
                 None => Ok(false),
             },
             Form::Inner(children) => match Rc::get_mut(children) {
                 Some(children) => {
-                    children.remove_in_place(alloc, start, end, least, follows, made)
+                    children.remove_in_place(alloc, start, end, least, follows, change, made)
                 }
                 None => Ok(false),
             },

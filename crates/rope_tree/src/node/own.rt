@@ -52,14 +52,14 @@ impl Children {
     }
 }
 
-/// Puts a copy of a leaf in its place. It stands by itself, since a caller would clear room for the copy at each call.
+/// Puts a copy of a leaf in its place.
 #[inline(never)]
 fn copy_leaf(leaf: &mut Rc<Leaf>, alloc: Global, made: &mut u64) -> Result<(), AllocError>
     ensures same { leaf.new.value ≡ leaf.old.value }
     ensures made { made.new ≤ made.old + 1 }
 {
     add_made(made);
-    *leaf = Rc::new(alloc, leaf.copied())?;
+    *leaf = leaf.copied(alloc)?;
     Ok(())
 }
 

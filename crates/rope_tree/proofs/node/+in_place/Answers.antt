@@ -7,13 +7,15 @@ use Rattle.rope_tree.specs.declared.node.Node.TheInside.{Inside}
 use Rattle.rope_tree.specs.Shape.{IsNode}
 use Rattle.rope_tree.specs.Falls.{tallest_below}
 use Rattle.rope_tree.specs.Tree.{text, joined, breaks_of, height_of, tree_over}
+use Rattle.rope_text.specs.TextInfo.{info_of}
+use Rattle.rope_tree.specs.Change.{IsChange}
 use Rattle.rope_tree.specs.Insert.{MayInsert, IsInserted, AreGrown}
 use Rattle.rope_tree.proofs.NodeLaws.{small_totals}
 use Rattle.rope_tree.proofs.InsertDescents.{takes}
 use Rattle.rope_tree.proofs.GrownLaws.{tallest_above}
 use Rattle.rope_tree.proofs.FormLaws.{inner_of, inner_seen, leaf_seen, by_outcome, still_children, grown_children, grown_node}
 use Rattle.rope_tree.proofs.ListedLaws.{seen_at}
-use Rattle.rope_tree.proofs.ChildLaws.{Finds, read, part, child_fits, may, small, still_narrow, fields_after, all_grown}
+use Rattle.rope_tree.proofs.ChildLaws.{Finds, read, child_fits, may, change_part, change_narrow, fields_changed, all_changed, list_changed, list_grown}
 use Rattle.rope_tree.proofs.node.+in_place.Goals.{Children::insert_in_place-After-index-self-way-2, Node::insert_in_place-in-Empty, Node::insert_in_place-in-Leaf+in-Some, Node::insert_in_place-in-Leaf+in-None, Node::insert_in_place-in-Inner+in-Some-get_mut, Node::insert_in_place-in-Inner+in-None-get_mut}
 use Rattle.rope_tree.proofs.node.+in_place.Goals as goal
 
@@ -46,36 +48,55 @@ Children::insert_in_place-retotal-requires-clause-small t c =
 pub Children::insert_in_place-retotal-requires-clause-part :
     goal.Children::insert_in_place-retotal-requires-clause-part
 Children::insert_in_place-retotal-requires-clause-part t c =
-    part _ _ _ _ _ _ _ (found t (goal.at.Children::insert_in_place-retotal-requires-clause-part t c).After-index-self-way-2) c.self.inside.totals refl c.info-old.result c.info-old.ensures
+    change_part _ _ _ _ _ _ _ (found t (goal.at.Children::insert_in_place-retotal-requires-clause-part t c).After-index-self-way-2) c.args.added.now c.requires.some c.requires.side c.requires.fits
+    c.insert_in_place.new.self (c.in_ok-insert_in_place.ensures.done c.if-not-branch.false) c.insert_in_place.new.change.before c.insert_in_place.new.change.after (c.in_ok-insert_in_place.ensures.change c.if-not-branch.false) c.self.inside.totals refl
 
 pub Children::insert_in_place-retotal-requires-clause-new :
     goal.Children::insert_in_place-retotal-requires-clause-new
-Children::insert_in_place-retotal-requires-clause-new t c =
-    small _ _ _ _ _ _ _ (found t (goal.at.Children::insert_in_place-retotal-requires-clause-new t c).After-index-self-way-2) c.args.added.now c.requires.some c.requires.side c.requires.fits
-    c.insert_in_place.new.self (c.in_ok-insert_in_place.ensures.done c.if-not-branch.false) c.info-new.result c.info-new.ensures
+Children::insert_in_place-retotal-requires-clause-new t c = (c.in_ok-insert_in_place.ensures.change c.if-not-branch.false).small
 
 pub Children::insert_in_place-retotal-requires-clause-fits :
     goal.Children::insert_in_place-retotal-requires-clause-fits
 Children::insert_in_place-retotal-requires-clause-fits t c =
-    still_narrow _ _ _ _ _ _ _ (found t (goal.at.Children::insert_in_place-retotal-requires-clause-fits t c).After-index-self-way-2) c.args.added.now c.requires.some c.requires.side c.requires.fits
-    c.insert_in_place.new.self (c.in_ok-insert_in_place.ensures.done c.if-not-branch.false) c.self.inside.totals refl
-    (rw c.len.ensures.value at c.has_room_for.ensures c.if-not-has_room_for.false) c.info-old.result c.info-new.result c.info-old.ensures c.info-new.ensures
+    change_narrow _ _ _ _ _ _ _ (found t (goal.at.Children::insert_in_place-retotal-requires-clause-fits t c).After-index-self-way-2) c.args.added.now c.requires.some c.requires.side c.requires.fits
+    c.insert_in_place.new.self (c.in_ok-insert_in_place.ensures.done c.if-not-branch.false) c.insert_in_place.new.change.before c.insert_in_place.new.change.after (c.in_ok-insert_in_place.ensures.change c.if-not-branch.false) c.self.inside.totals refl
+    (rw c.len.ensures.value at c.has_room_for.ensures c.if-not-has_room_for.false)
 
 pub Children::insert_in_place-invariant_of-self-2 :
     goal.Children::insert_in_place-invariant_of-self-2
 Children::insert_in_place-invariant_of-self-2 t c =
-    fields_after _ _ _ _ _ _ _ (found t (goal.at.Children::insert_in_place-invariant_of-self-2 t c).After-index-self-way-2) c.args.added.now c.requires.some c.requires.side c.requires.fits
-    c.insert_in_place.new.self (c.in_ok-insert_in_place.ensures.done c.if-not-branch.false) _ refl refl refl
-    c.self.inside.totals c.retotal.new.self c.info-old.result c.info-new.result refl c.info-old.ensures c.info-new.ensures
-    c.retotal.ensures.len c.retotal.ensures.before c.retotal.ensures.after refl
+    fields_changed _ _ _ _ _ _ _ (found t (goal.at.Children::insert_in_place-invariant_of-self-2 t c).After-index-self-way-2) c.args.added.now c.requires.some c.requires.side c.requires.fits
+    c.insert_in_place.new.self (c.in_ok-insert_in_place.ensures.done c.if-not-branch.false) c.insert_in_place.new.change.before c.insert_in_place.new.change.after (c.in_ok-insert_in_place.ensures.change c.if-not-branch.false) _ refl refl refl
+    c.self.inside.totals c.retotal.new.self refl c.retotal.ensures.len c.retotal.ensures.before c.retotal.ensures.after refl
 
 pub Children::insert_in_place-returns-clause-done :
     goal.Children::insert_in_place-returns-clause-done
 Children::insert_in_place-returns-clause-done t c = λ yes.
-    all_grown _ _ _ _ _ _ _ (found t (goal.at.Children::insert_in_place-returns-clause-done t c).After-index-self-way-2) c.args.added.now c.requires.some c.requires.side c.requires.fits
-    c.insert_in_place.new.self (c.in_ok-insert_in_place.ensures.done c.if-not-branch.false) (record { height = _; breaks = _; last = c.self.inside.last; totals = _; nodes = _ }) refl refl refl
-    c.self.inside.totals c.retotal.new.self c.info-old.result c.info-new.result refl c.info-old.ensures c.info-new.ensures
-    c.retotal.ensures.len c.retotal.ensures.before c.retotal.ensures.after refl
+    all_changed _ _ _ _ _ _ _ (found t (goal.at.Children::insert_in_place-returns-clause-done t c).After-index-self-way-2) c.args.added.now c.requires.some c.requires.side c.requires.fits
+    c.insert_in_place.new.self (c.in_ok-insert_in_place.ensures.done c.if-not-branch.false) c.insert_in_place.new.change.before c.insert_in_place.new.change.after (c.in_ok-insert_in_place.ensures.change c.if-not-branch.false) (record { height = _; breaks = _; last = c.self.inside.last; totals = _; nodes = _ }) refl refl refl
+    c.self.inside.totals c.retotal.new.self refl c.retotal.ensures.len c.retotal.ensures.before c.retotal.ensures.after refl
+
+pub Children::insert_in_place-returns-clause-change :
+    goal.Children::insert_in_place-returns-clause-change
+Children::insert_in_place-returns-clause-change t c = λ yes.
+    list_changed _ _ _ _ _ _ _ (found t (goal.at.Children::insert_in_place-returns-clause-change t c).After-index-self-way-2) c.args.added.now c.requires.some c.requires.side c.requires.fits
+    c.insert_in_place.new.self (c.in_ok-insert_in_place.ensures.done c.if-not-branch.false) c.insert_in_place.new.change.before c.insert_in_place.new.change.after (c.in_ok-insert_in_place.ensures.change c.if-not-branch.false) (record { height = _; breaks = _; last = c.self.inside.last; totals = _; nodes = _ }) refl refl refl
+    c.self.inside.totals c.retotal.new.self refl c.retotal.ensures.len c.retotal.ensures.before c.retotal.ensures.after refl
+
+pub Children::insert_in_place-returns-then-lacks_room_for-clause-change :
+    goal.Children::insert_in_place-returns-then-lacks_room_for-clause-change
+Children::insert_in_place-returns-then-lacks_room_for-clause-change t c = λ yes.
+    list_grown c.args.self.now c.cut_leaf.new.self _ c.requires.children (c.in_ok-did.ensures.done yes) c.total-before.result c.total-after.result c.total-before.ensures c.total-after.ensures
+
+pub Children::insert_in_place-returns-in_err-insert_in_place-clause-made :
+    goal.Children::insert_in_place-returns-in_err-insert_in_place-clause-made
+Children::insert_in_place-returns-in_err-insert_in_place-clause-made t c =
+    omega (arith, c.insert_in_place.ensures.made, (found t (goal.at.Children::insert_in_place-returns-in_err-insert_in_place-clause-made t c).After-index-self-way-2).taken.own.at_height)
+
+pub Children::insert_in_place-returns-then-not-branch-clause-made :
+    goal.Children::insert_in_place-returns-then-not-branch-clause-made
+Children::insert_in_place-returns-then-not-branch-clause-made t c =
+    omega (arith, c.insert_in_place.ensures.made, (found t (goal.at.Children::insert_in_place-returns-then-not-branch-clause-made t c).After-index-self-way-2).taken.own.at_height)
 
 pub Children::insert_in_place-returns-clause-made :
     goal.Children::insert_in_place-returns-clause-made
@@ -143,5 +164,27 @@ Node::insert_in_place-returns-clause-done t c =
           let i = inner_seen mine c.args.self.now w.in-Inner.children ts is_node w.in-Inner.is view w.in-Some-get_mut.ensures.value in
           rw (w.result-is, w.self-inside-is) (IfOk-weaker did.result (λ did. did ≡ true → AreGrown ts us (inserted (joined ts) c.args.at c.args.added.now))
           (λ did. did ≡ true → IsInserted c.args.self.now (tree_over us ∷ []) (inserted (text c.args.self.now) c.args.at c.args.added.now)) (λ did g yes. grown_node c.args.self.now ts us c.args.at c.args.added.now i (g yes)) did.ensures.done)
+      | Node::insert_in_place-in-Inner+in-None-get_mut w ↦ rw w.result-is (λ no. cc)
+    ]
+
+pub Node::insert_in_place-returns-clause-change : goal.Node::insert_in_place-returns-clause-change
+Node::insert_in_place-returns-clause-change t c =
+    let mine = own_form c.own.new.form in
+    let is_node : IsNode mine = record { form = c.in_ok-own.ensures.kept c.self.invariant.form } in
+    let view = c.in_ok-own.ensures.same ∙ c.self.view_is in
+    elim c.match-self.branch [
+      | Node::insert_in_place-in-Empty w ↦ rw w.result-is (λ no. cc)
+      | Node::insert_in_place-in-Leaf+in-Some w ↦
+          let same = leaf_seen mine c.args.self.now w.in-Leaf.leaf w.in-Some.leaf.now w.in-Leaf.is view w.in-Some.ensures.value in
+          rw (w.result-is, w.self-inside-is, w.change-is) (λ yes. subst (λ x. IsChange w.insert_in_place.new.change.before w.insert_in_place.new.change.after (info_of x.breaks (text x)) (info_of x.breaks (text w.insert_in_place.new.self))) (sym same) (w.insert_in_place.ensures.change yes))
+      | Node::insert_in_place-in-Leaf+in-None w ↦ rw w.result-is (λ no. cc)
+      | Node::insert_in_place-in-Inner+in-Some-get_mut w ↦
+          let did = w.insert_in_place-in-Some-get_mut in
+          let ts = w.in-Some-get_mut.children.now in
+          let us = did.new.self in
+          let i = inner_seen mine c.args.self.now w.in-Inner.children ts is_node w.in-Inner.is view w.in-Some-get_mut.ensures.value in
+          let now = did.new.change in
+          rw (w.result-is, w.self-inside-is, w.change-is) (IfOk-weaker did.result (λ did. did ≡ true → IsChange now.before now.after (info_of (breaks_of ts) (joined ts)) (info_of (breaks_of ts) (joined us)))
+          (λ did. did ≡ true → IsChange now.before now.after (info_of c.args.self.now.breaks (text c.args.self.now)) (info_of c.args.self.now.breaks (text (tree_over us)))) (λ did g yes. rw i.is (g yes)) did.ensures.change)
       | Node::insert_in_place-in-Inner+in-None-get_mut w ↦ rw w.result-is (λ no. cc)
     ]

@@ -41,6 +41,6 @@ returns-clause-cut c =
     let s = c.args.added.now in
     let long = byte_len-chars front halves.ensures.utf8.0 in
     let least : (491 ≤ byte_len (chars front)) × (491 ≤ byte_len (chars back)) = (omega (arith, long, halves.ensures.least), omega (arith, byte_len-chars back halves.ensures.utf8.1, halves.ensures.least)) in
-    rw c.set.ensures (subst (λ t. IsInserted t (leaf_tree breaks (chars front) ∷ behind ∷ []) (inserted (text t) c.args.at s)) (sym c.text-old.ensures.is)
+    rw (c.fill.ensures, c.line_breaks-breaks.ensures) (subst (λ t. IsInserted t (leaf_tree breaks (chars front) ∷ behind ∷ []) (inserted (text t) c.args.at s)) (sym c.text-old.ensures.is)
     (leaf_parted breaks c.text-old.result (chars front) (omega (arith, long, halves.ensures.most)) (scalars-chars front halves.ensures.utf8.0) c.args.at s (chars back) behind
     (c.in_ok-behind.ensures.ok ∙ ap (λ b. leaf_tree b (chars back)) c.line_breaks-breaks.ensures) c.in_ok-behind.ensures.tree (whole f) (halves.ensures.some.0, halves.ensures.some.1, halves.ensures.apart) least))

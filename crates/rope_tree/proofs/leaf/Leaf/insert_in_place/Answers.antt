@@ -1,15 +1,17 @@
 use Rattle.std.proofs.Common.{sym, ap, subst, ◌∙◌, arith}
 use Rattle.rope_text.specs.TextInfo.{info_of}
-use Rattle.rope_tree.proofs.Infos.{IsLow, low_info}
+use Rattle.rope_tree.proofs.Infos.{IsLow, low_info, small_info}
+use Rattle.rope_tree.proofs.ChangeLaws.{whole_change}
+use Rattle.rope_tree.proofs.NodeLaws.{leaf_text}
 use Rattle.rope_tree.proofs.GrownLaws.{leaf_inserted}
 use Rattle.rope_tree.proofs.leaf.Leaf.insert_in_place.Goals.{After-as_str}
 use Rattle.rope_tree.proofs.leaf.Leaf.insert_in_place.Goals as goal
 
 -- the counts of a leaf that took the text
-low : (c : After-as_str) → IsLow c.put_in-new.result 984
+low : (c : After-as_str) → IsLow c.put_in-after.result 984
 low c =
-    let now = c.put_in-new.ensures.info ∙ ap (info_of c.line_breaks-breaks.result) (sym c.put_in-new.ensures.text) in
-    subst (λ i. IsLow i 984) (sym now) (low_info c.line_breaks-breaks.result c.put_in-new.new.leaf 984 c.as_str.ensures.fits)
+    let now = c.put_in-after.ensures.info ∙ ap (info_of c.line_breaks-breaks.result) (sym c.put_in-after.ensures.text) in
+    subst (λ i. IsLow i 984) (sym now) (low_info c.line_breaks-breaks.result c.put_in-after.new.leaf 984 c.as_str.ensures.fits)
 
 pub new-self-inside-requires-clause-chars : goal.new-self-inside-requires-clause-chars
 new-self-inside-requires-clause-chars c = (low c).chars
@@ -22,4 +24,11 @@ new-self-inside-requires-clause-break_count c = (low c).count
 
 pub returns-clause-done : goal.returns-clause-done
 returns-clause-done c = λ yes.
-    rw (← c.self.view_is, c.new-self-inside.ensures.breaks, ← c.line_breaks-breaks.ensures) (leaf_inserted c.line_breaks-breaks.result c.self.inside.text c.put_in-new.new.leaf c.as_str.ensures.fits c.as_str.ensures.scalars c.args.at c.args.added.now c.put_in-new.ensures.text c.requires.some)
+    rw (← c.self.view_is, c.new-self-inside.ensures.breaks, ← c.line_breaks-breaks.ensures) (leaf_inserted c.line_breaks-breaks.result c.self.inside.text c.put_in-after.new.leaf c.as_str.ensures.fits c.as_str.ensures.scalars c.args.at c.args.added.now c.put_in-after.ensures.text c.requires.some)
+
+pub returns-clause-change : goal.returns-clause-change
+returns-clause-change c = λ yes.
+    let old_is = c.info-before.ensures ∙ c.self.invariant.counted in
+    let new_is = c.put_in-after.ensures.info ∙ ap (info_of c.line_breaks-breaks.result) (sym c.put_in-after.ensures.text) ∙ ap (λ b. info_of b c.put_in-after.new.leaf) c.line_breaks-breaks.ensures in
+    let small = small_info c.self.inside.summary.breaks c.put_in-after.new.leaf (omega (arith, c.as_str.ensures.fits)) in
+    rw (← c.self.view_is, leaf_text c.self.inside.text, leaf_text c.put_in-after.new.leaf, ← old_is, ← new_is) (whole_change c.info-before.result c.put_in-after.result (rw new_is small))

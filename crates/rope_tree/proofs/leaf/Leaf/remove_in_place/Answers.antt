@@ -1,12 +1,14 @@
 use Rattle.std.proofs.Common.{sym, ap, subst, ◌∙◌, arith}
 use Rattle.rope_text.specs.TextInfo.{info_of}
-use Rattle.rope_tree.proofs.Infos.{IsLow, low_info}
+use Rattle.rope_tree.proofs.Infos.{IsLow, low_info, small_info}
+use Rattle.rope_tree.proofs.NodeLaws.{leaf_text}
+use Rattle.rope_tree.proofs.ChangeLaws.{whole_change}
 use Rattle.rope_tree.proofs.RemovalLaws.{leaf_left}
 use Rattle.rope_tree.proofs.leaf.Leaf.remove_in_place.Goals.{After-as_str}
 use Rattle.rope_tree.proofs.leaf.Leaf.remove_in_place.Goals as goal
 
 -- the counts of a leaf that lost the characters
-low : (c : After-as_str) → IsLow c.in-Some.left 984
+low : (c : After-as_str) → IsLow c.in-Some.after 984
 low c =
     let now = c.in-Some.ensures.info ∙ ap (info_of c.line_breaks-breaks.result) (sym c.in-Some.ensures.text) in
     subst (λ i. IsLow i 984) (sym now) (low_info c.line_breaks-breaks.result c.take_out.new.leaf 984 c.as_str.ensures.fits)
@@ -24,3 +26,10 @@ pub returns-clause-done : goal.returns-clause-done
 returns-clause-done c = λ yes.
     rw (← c.self.view_is, c.new-self-inside.ensures.breaks, ← c.line_breaks-breaks.ensures) (leaf_left c.args.least.first c.args.least.last c.line_breaks-breaks.result c.self.inside.text c.take_out.new.leaf c.args.start c.args.end c.in-Some.ensures.text c.requires.ordered (rw (← c.self.view_is) at c.requires.within)
     c.in-Some.ensures.some c.in-Some.ensures.ends (rw c.max-least.ensures at c.in-Some.ensures.least) c.as_str.ensures.fits c.as_str.ensures.scalars)
+
+pub returns-clause-change : goal.returns-clause-change
+returns-clause-change c = λ yes.
+    let old_is = c.info-before.ensures ∙ c.self.invariant.counted in
+    let new_is = c.in-Some.ensures.info ∙ ap (info_of c.line_breaks-breaks.result) (sym c.in-Some.ensures.text) ∙ ap (λ b. info_of b c.take_out.new.leaf) c.line_breaks-breaks.ensures in
+    let small = small_info c.self.inside.summary.breaks c.take_out.new.leaf (omega (arith, c.as_str.ensures.fits)) in
+    rw (← c.self.view_is, leaf_text c.self.inside.text, leaf_text c.take_out.new.leaf, ← old_is, ← new_is) (whole_change c.info-before.result c.in-Some.after (rw new_is small))

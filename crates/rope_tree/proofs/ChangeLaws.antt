@@ -1,0 +1,79 @@
+-- Counts that change as much as those of a part.
+use Rattle.std.proofs.Common.{◌≡◌, ℕ, ◌+◌, ◌-◌, ◌<◌, ◌≤◌, ◌^◌, List, length, get_or, set, take, refl, sym, ap, subst, arith}
+use Rattle.std.proofs.lemmas.List.{length-set, take_all}
+use Rattle.rope_text.specs.declared.line_breaks.LineBreaks.{LineBreaks}
+use Rattle.rope_text.specs.declared.text_info.TextInfo.{TextInfo}
+use Rattle.rope_text.specs.TextInfo.{info_of, info_sum}
+use Rattle.rope_tree.specs.Tree.{Tree, text, joined, AreChildren}
+use Rattle.rope_tree.specs.Search.{IsSmall, HasPart}
+use Rattle.rope_tree.specs.Narrow.{FitsWith}
+use Rattle.rope_tree.specs.Change.{IsChange}
+use Rattle.rope_tree.proofs.TotalLaws.{same_counts, has_part, even}
+
+-- a text is a part of itself
+pub whole_change : (old new : TextInfo) → IsSmall new → IsChange old new old new
+whole_change old new small = record {
+  sum = same_counts (info_sum new old) (info_sum old new) (omega arith) (omega arith) (omega arith) (omega arith);
+  part = record { bytes = omega arith; chars = omega arith; surrogates = omega arith; count = omega arith };
+  small = small;
+}
+
+module _ (before after old new : TextInfo) (c : IsChange before after old new) where
+  -- a part of a part is a part of the whole
+  pub part_of_part : (t : TextInfo) → HasPart t old → HasPart t before
+  part_of_part t p = record {
+    bytes = omega (arith, p.bytes, c.part.bytes);
+    chars = omega (arith, p.chars, c.part.chars);
+    surrogates = omega (arith, p.surrogates, c.part.surrogates);
+    count = omega (arith, p.count, c.part.count);
+  }
+
+  -- what fits with the one fits with the other
+  pub part_fits : (t : TextInfo) → FitsWith t old new → FitsWith t before after
+  part_fits t f = record {
+    bytes = omega (arith, f.bytes, ap (λ x. x.bytes) c.sum);
+    chars = omega (arith, f.chars, ap (λ x. x.chars) c.sum);
+    surrogates = omega (arith, f.surrogates, ap (λ x. x.utf16_surrogates) c.sum);
+    count = omega (arith, f.count, ap (λ x. x.break_count) c.sum);
+  }
+
+  -- totals in which the part was changed are those in which the text was
+  pub whole_changed : (t u : TextInfo) → info_sum u before ≡ info_sum t after → info_sum u old ≡ info_sum t new
+  whole_changed t u e =
+      same_counts (info_sum u old) (info_sum t new)
+      (omega (arith, ap (λ x. x.bytes) e, ap (λ x. x.bytes) c.sum)) (omega (arith, ap (λ x. x.chars) e, ap (λ x. x.chars) c.sum))
+      (omega (arith, ap (λ x. x.utf16_surrogates) e, ap (λ x. x.utf16_surrogates) c.sum)) (omega (arith, ap (λ x. x.break_count) e, ap (λ x. x.break_count) c.sum))
+
+  -- so has each text that has it
+  pub change_above : (t u : TextInfo) → HasPart t old → info_sum u old ≡ info_sum t new → IsChange before after t u
+  change_above t u p e = record {
+    sum = same_counts (info_sum u before) (info_sum t after)
+        (omega (arith, ap (λ x. x.bytes) e, ap (λ x. x.bytes) c.sum)) (omega (arith, ap (λ x. x.chars) e, ap (λ x. x.chars) c.sum))
+        (omega (arith, ap (λ x. x.utf16_surrogates) e, ap (λ x. x.utf16_surrogates) c.sum)) (omega (arith, ap (λ x. x.break_count) e, ap (λ x. x.break_count) c.sum));
+    part = part_of_part t p;
+    small = c.small;
+  }
+
+-- by another name of the set of line breaks
+pub change_by : (br : LineBreaks) (child u : Tree) (before after : TextInfo) → child.breaks ≡ br → IsChange before after (info_of child.breaks (text child)) (info_of child.breaks (text u)) → IsChange before after (info_of br (text child)) (info_of br (text u))
+change_by br child u before after same c = subst (λ b. IsChange before after (info_of b (text child)) (info_of b (text u))) same c
+
+pub change_own : (child u : Tree) (before after : TextInfo) → u.breaks ≡ child.breaks → IsChange before after (info_of child.breaks (text child)) (info_of child.breaks (text u)) → IsChange before after (info_of child.breaks (text child)) (info_of u.breaks (text u))
+change_own child u before after same c = subst (λ b. IsChange before after (info_of child.breaks (text child)) (info_of b (text u))) (sym same) c
+
+-- the counts of all children change as much as those of one
+pub change_of_list : (br : LineBreaks) (h : ℕ) (ts : List Tree) (k : ℕ) (child u : Tree) → AreChildren br h ts → k < length ts → get_or ts k child ≡ child → AreChildren br h (set ts k u) → (before after : TextInfo)
+    → IsChange before after (info_of br (text child)) (info_of br (text u)) → IsChange before after (info_of br (joined ts)) (info_of br (joined (set ts k u)))
+change_of_list br h ts k child u a within child_is b before after c =
+    let us = set ts k u in
+    let m : ℕ = length ts - 1 in
+    let some : m + 1 ≡ length ts = omega (arith, a.at_least_two) in
+    let here : m < length ts = omega (arith, some) in
+    let from : k ≤ m = omega (arith, some, within) in
+    let all : take (m + 1) ts ≡ ts = take_all (m + 1) ts (omega (arith, some)) in
+    let all_us : take (m + 1) us ≡ us = take_all (m + 1) us (omega (arith, some, length-set ts k u)) in
+    let p = subst (λ l. HasPart (info_of br (joined l)) (info_of br (text child))) all (has_part br h ts us k child u a within child_is m from here) in
+    let e = subst (λ l. info_sum (info_of br (joined l)) (info_of br (text child)) ≡ info_sum (info_of br (joined ts)) (info_of br (text u))) all_us
+    (subst (λ l. info_sum (info_of br (joined (take (m + 1) us))) (info_of br (text child)) ≡ info_sum (info_of br (joined l)) (info_of br (text u))) all
+    (even br h ts us k child u a within child_is b refl m from here)) in
+    change_above before after (info_of br (text child)) (info_of br (text u)) c (info_of br (joined ts)) (info_of br (joined us)) p e
