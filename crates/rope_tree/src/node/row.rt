@@ -13,6 +13,7 @@ use crate::lookup::total_before;
 use crate::search::Totals;
 use rope_text::{LineBreaks, MAX_CHILDREN, TextInfo};
 use std::alloc::{AllocError, Global};
+use std::mem;
 use std::rc::Rc;
 
 /// Nodes side by side. Where they are some of the children of a node, `totals` are the running totals of all of those, and `from`
@@ -187,10 +188,13 @@ pub(super) fn empty_list(alloc: Global) -> Result<Rc<Children>, AllocError>
         totals: Totals::new(),
         nodes: Default::default(),
     };
-    // Matched by hand: through `?` the list that a refusal gives back would be moved where none is refused, too.
     match Rc::new(alloc, none) {
         Ok(list) => Ok(list),
-        Err(_) => Err(AllocError),
+        Err(refused) => {
+            // It holds nothing; were it dropped here, it would be moved where none is refused, too.
+            mem::forget(refused);
+            Err(AllocError)
+        }
     }
 }
 
