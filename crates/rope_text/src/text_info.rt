@@ -45,7 +45,7 @@ impl TextInfo {
     }
 
     /// The counts of a text, its line breaks by the set. Reads the text once; takes no memory.
-    // Never inlined: where a leaf is made, what is expanded there would be copied once more.
+    // Never inlined: the counts of a leaf take the time of a call many times over.
     #[inline(never)]
     pub fn from_str(text: &str, breaks: LineBreaks) -> TextInfo
         ensures { result ≡ info_of breaks (chars text.now) }

@@ -46,7 +46,7 @@ enum Form {
 struct Children {
     height: u8,
     breaks: LineBreaks,
-    /// Which child the last text went to, where the next one often goes.
+    /// Which child the last edit went to, where the next one often goes.
     last: u8,
     totals: Totals,
     nodes: [Node; MAX_CHILDREN],

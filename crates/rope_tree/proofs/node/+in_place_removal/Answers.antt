@@ -15,14 +15,13 @@ use Rattle.rope_tree.specs.Change.{IsChange}
 use Rattle.rope_tree.specs.Removal.{IsRemoved, AreRemoved}
 use Rattle.rope_tree.proofs.ChangeLaws.{part_of_part, part_fits, whole_changed, change_by, change_own, change_of_list}
 use Rattle.rope_tree.proofs.NodeLaws.{small_totals}
-use Rattle.rope_tree.proofs.Infos.{small_info}
 use Rattle.rope_tree.proofs.Descents.{Descends, descends}
 use Rattle.rope_tree.proofs.InsertDescents.{last_total}
 use Rattle.rope_tree.proofs.TotalLaws.{has_part, fits_after}
 use Rattle.rope_tree.proofs.GrownLaws.{totals_seen, tallest_above}
 use Rattle.rope_tree.proofs.ListedLaws.{seen_at, set_seen, set_listed, set_totals}
 use Rattle.rope_tree.proofs.FormLaws.{inner_of, inner_seen, leaf_seen, by_outcome, still_children, removed_children, removed_node}
-use Rattle.rope_tree.proofs.RemovalLaws.{Holds, holds, byte_len-removed, children_removed, child_removed}
+use Rattle.rope_tree.proofs.RemovalLaws.{Holds, holds, byte_len-removed, children_removed}
 use Rattle.rope_tree.proofs.node.+in_place_removal.Goals as goal
 use Rattle.rope_tree.proofs.node.+in_place_removal.Goals.{Children::remove_in_place-After-index-self-place, Node::remove_in_place-in-Empty, Node::remove_in_place-in-Leaf+in-Some, Node::remove_in_place-in-Leaf+in-None, Node::remove_in_place-in-Inner+in-Some-get_mut, Node::remove_in_place-in-Inner+in-None-get_mut}
 
