@@ -11,11 +11,17 @@
 //   DOWN      totals are set on the way down, before the leaf is waited for
 //   TOUCH     the totals of the list over the leaf are read on the way down, so that their lines come while the leaf is waited for
 //   TOUCHLEAF one byte of each line of the leaf behind the place is read on the way down, for the same
+//   TOUCHALL  one byte of each line of the whole leaf is read before the edit, by its own length
+//   TOUCHEND  the last byte of the leaf is read as soon as it is known, by the totals of its list
+//   TOUCHLIST one node of each line of the list over the leaf is read before its search
 //   FETCH     each line of the leaf behind the place is fetched ahead
 //   TWOCOUNT  both parts of a leaf that is split are counted
 //   TWOWAYS   a split goes down twice, once for each part
 //   FROMSTART a look-up of a line counts the leaf from its start, not its shorter side
 //   LAST      an insert first tries the child that the last one went to, and then searches
+//   BRANCH    a search asks by a branch whether a step stays inside the list (CLAMP: it looks at the last total instead)
+//   SIDE      totals in words are set row beside row, from the place on (else each row by masks, and only where it changes)
+//   ASKCHILD  each level asks its child for its counts before the edit and after it, instead of being handed the change
 //   BYVALUE   a list is made in a place of its own, and copied to where it stays, twice
 #define _GNU_SOURCE
 #include <stdint.h>
@@ -197,7 +203,13 @@ INL Info node_info(Node n) { return n.tag == LEAF ? leaf_info(n.p) : n.tag == IN
 INL int height(Node n) { return n.tag == INNER ? ((Inner *)n.p)->height : 0; }
 INL void set_len(Inner *p, u64 len) { if (p->wide) p->w->len = len; else p->n.len = len; }
 
+#ifdef BRANCH
+#define STEP(h) if (b + (h) < len) { __asm__ volatile("" : "+r"(b)); b += (h) & -(u64)(t[b + (h) - 1] <= at); }
+#elif defined(CLAMP)
+#define STEP(h) { u64 e = b + (h) < len ? b + (h) : len; b += (h) & -(u64)(t[e - 1] <= at); }
+#else
 #define STEP(h) b += (h) & -(u64)((b + (h) < len) & (t[b + (h) - 1] <= at));
+#endif
 INL u64 find_n(const u16 *t, u64 len, u64 at) {
 #ifdef LANES
     __m128i x = _mm_set1_epi16((short)at), o = _mm_setzero_si128();
@@ -240,7 +252,11 @@ INL void retotal(Inner *p, u64 from, Info d) {
     u64 k = len_of(p) - 1; if (p->height == 1) { set_total(p, k, plus(total_of(p, k), d)); return; }   // the last alone
     set_total(p, k, plus(total_of(p, k), d)); return;
 #endif
+#ifdef SIDE
+    if (p->wide) { u64 (*r)[MAXC] = p->w->row, len = p->w->len; for (u64 j = from; j < len; j++) { r[0][j] += d.n[0]; r[1][j] += d.n[1]; r[2][j] += d.n[2]; r[3][j] += d.n[3]; } }
+#else
     if (p->wide) for (int r = 0; r < 4; r++) shift_w(p->w->row[r], from, d.n[r]);
+#endif
     else for (int r = 0; r < 4; r++) shift_n(p->n.row[r], from, d.n[r]);
 }
 NOINL void widen(Inner *p) {
@@ -559,7 +575,7 @@ static Node append_own(Node l, Node r) {
 }
 
 // ---- edits where the nodes stand ----
-typedef struct { Inner *p; u64 k; } Way;
+typedef struct { Inner *p; u64 k; Info old; } Way;
 INL u8 joined_byte(const u8 *t, u64 place, const u8 *s, u64 n, u64 i) { return i < place ? t[i] : i < place + n ? s[i - place] : t[i - n]; }
 // a text into a leaf that has no room: the first part stays, the second is answered
 NOINL Leaf *cut_leaf(Leaf *l, u64 place, const u8 *s, u64 n, Info all, Info *fi, Info *bi) {
@@ -627,12 +643,24 @@ INL void touch(const Inner *p, u64 k, u64 at) {
 #endif
     (void)p; (void)k; (void)at;
 }
+INL void touch_list(const Inner *p) {
+#ifdef TOUCHLIST
+    if (p->height == 1) for (int j = 0; j < 24; j += 4) { u64 x = p->nodes[j].tag; __asm__ volatile("" : : "r"(x)); }
+#endif
+    (void)p;
+}
+INL void touch_all(const Leaf *l) {
+#ifdef TOUCHALL
+    for (u64 j = 0; j < l->len; j += 64) { u64 x = l->text[j]; __asm__ volatile("" : : "r"(x)); }
+#endif
+    (void)l;
+}
 INL void insert_at(Node *root, u64 at, const u8 *s, u64 n) {
     if (unlikely(root->tag == EMPTY)) { *root = make_leaf(s, n); return; }
     Way way[20]; int h = 0; Node *cur = root; Info d = count_all(s, n); u64 at0 = at; (void)at0;
     Inner *p = 0; u64 k = 0; int follows = 1; (void)follows;
     while (cur->tag == INNER) {
-        own(cur); p = cur->p;
+        own(cur); p = cur->p; touch_list(p);
         if (unlikely(!p->wide && p->n.row[BYTE][p->n.len - 1] + n >= WIDE)) widen(p);
 #ifdef LAST
         u64 held = at ? at - 1 : 0, g = follows && p->last < len_of(p) ? p->last : 0;
@@ -641,7 +669,14 @@ INL void insert_at(Node *root, u64 at, const u8 *s, u64 n) {
 #else
         k = place_of(p, CHAR, at ? at - 1 : 0);
 #endif
-        at -= before1(p, k, CHAR); way[h].p = p; way[h++].k = k; cur = &p->nodes[k]; touch(p, k, at);
+        at -= before1(p, k, CHAR); way[h].p = p; way[h].k = k; cur = &p->nodes[k];
+#ifdef ASKCHILD
+        way[h].old = node_info(*cur);
+#endif
+#ifdef TOUCHEND
+        if (p->height == 1) { u64 n = total(p, k, BYTE) - before1(p, k, BYTE); const Leaf *l = p->nodes[k].p; u64 x = l->text[n - 1]; __asm__ volatile("" : : "r"(x)); }
+#endif
+        h++; touch(p, k, at);
 #ifdef DOWN
         if (p->height > 1) retotal(p, k, d);
         else {
@@ -650,7 +685,7 @@ INL void insert_at(Node *root, u64 at, const u8 *s, u64 n) {
         }
 #endif
     }
-    own(cur); Leaf *l = cur->p; u8 *t = l->text;
+    own(cur); Leaf *l = cur->p; u8 *t = l->text; touch_all(l);
 #ifdef LEAFSUM
     Info old = p ? child_info(p, k) : leaf_info(l);
 #ifdef DOWN
@@ -682,7 +717,11 @@ INL void insert_at(Node *root, u64 at, const u8 *s, u64 n) {
         memmove(t + place + n, t + place, len - place); if (n == 1) t[place] = *s; else memcpy(t + place, s, n);
         leaf_set(l, plus(old, d));
 #ifndef DOWN
+#ifdef ASKCHILD
+        for (int i = h - 1; i >= 0; i--) { __asm__ volatile("" ::: "memory"); retotal(way[i].p, way[i].k, minus(node_info(way[i].p->nodes[way[i].k]), way[i].old)); }
+#else
         for (int i = 0; i < h; i++) retotal(way[i].p, way[i].k, d);
+#endif
 #endif
         return;
     }
@@ -714,7 +753,7 @@ INL u64 least_by(u64 bytes) { u64 w = bytes >= MINPAIR ? 0 : MINPAIR - bytes; re
 INL void remove_at(Node *root, u64 start, u64 end) {
     Way way[20]; int h = 0; Node *cur = root; u64 s = start, e = end, first = 0, last = 0;
     while (cur->tag == INNER) {
-        own(cur); Inner *p = cur->p; u64 k = place_of(p, CHAR, s);
+        own(cur); Inner *p = cur->p; touch_list(p); u64 k = place_of(p, CHAR, s);
         if (unlikely(total(p, k, CHAR) < e)) {
 #ifdef NOTOTALS
             if (0)
@@ -728,7 +767,7 @@ INL void remove_at(Node *root, u64 start, u64 end) {
         }
         cur = &p->nodes[k]; touch(p, k, s);
     }
-    own(cur); Leaf *l = cur->p; u8 *t = l->text; u64 len = l->bytes, chars = l->chars, from, to;
+    own(cur); Leaf *l = cur->p; u8 *t = l->text; touch_all(l); u64 len = l->bytes, chars = l->chars, from, to;
 #ifdef LEAFSUM
     if (h) { Info i = child_info(way[h - 1].p, way[h - 1].k); len = i.n[BYTE]; chars = i.n[CHAR]; }
 #endif
