@@ -1,15 +1,22 @@
 -- The breaks that begin in a part of the bytes, place by place.
-use Rattle.std.proofs.Common.{◌≡◌, ℕ, zero, suc, ◌+◌, ◌<◌, ◌≤◌, Bool, true, false, cond, List, [], ◌∷◌, length, take, drop, get_or, count_by, refl, sym, ap, ◌∙◌, arith, take-append-drop, ◌&&◌, ◌||◌}
+use Rattle.std.proofs.Common.{◌≡◌, ℕ, zero, suc, ◌+◌, ◌<◌, ◌≤◌, Bool, true, false, cond, List, [], ◌∷◌, length, take, drop, get_or, count_by, refl, sym, ap, ◌∙◌, arith, take-append-drop, not, eqb, leb, bit_and, ◌&&◌, ◌||◌}
 use Rattle.std.specs.List.{range_with_len}
 use Rattle.std.proofs.lemmas.Bool.{both_ways}
 use Rattle.std.proofs.lemmas.List.{at_drop_more, get_or-drop}
 use Rattle.std.proofs.lemmas.List.Sums.{sum_by-cons, sum_by-append, count_by-le-length}
 use Rattle.std.proofs.lemmas.Simd.{chunk-drop}
 use Rattle.rope_text.specs.declared.line_breaks.LineBreaks.{LineBreaks}
-use Rattle.rope_text.specs.Bytes.{begins_char, begins_pair, begins}
-use Rattle.rope_text.specs.declared.lanes.Counted.{Counted}
+use Rattle.rope_text.specs.declared.line_breaks.LineBreaks.TheVariants.{Lf, CrLf, Unicode}
+use Rattle.rope_text.specs.declared.text_info.TextInfo.{TextInfo}
+use Rattle.rope_text.specs.Breaks.{break_ends}
+use Rattle.rope_text.specs.TextInfo.{info_of}
+use Rattle.rope_text.specs.Bytes.{begins_char, begins_pair}
+use Rattle.rope_text.specs.declared.lanes.Mark.{Mark}
+use Rattle.rope_text.specs.declared.lanes.Mark.TheVariants.{Char, Pair, Break}
+use Rattle.rope_text.specs.Marks.{mark_at, marks, ahead, narrow_mark}
 use Rattle.rope_text.specs.ByteBreaks.{break_at, breaks_at, byte_break_count}
 use Rattle.rope_text.proofs.BitLaws.{one_at_most}
+use Rattle.rope_text.proofs.UnicodeLanes.{no_wide_begin}
 use mir.Val.{bool_byte}
 
 pub byte_break_count-drop : (b : LineBreaks) (xs : List ℕ) (i : ℕ) → i < length xs →
@@ -37,9 +44,6 @@ byte_break_count_le b (x ∷ xs) = omega (arith, byte_break_count_le b xs, one_a
 pub begins_le : (xs : List ℕ) → count_by begins_char xs ≤ length xs
 begins_le xs = count_by-le-length begins_char xs
 
-pub begun_le : (counted : Counted) (xs : List ℕ) → count_by (begins counted) xs ≤ length xs
-begun_le counted xs = count_by-le-length (begins counted) xs
-
 pub pairs_le : (xs : List ℕ) → count_by begins_pair xs ≤ length xs
 pairs_le xs = count_by-le-length begins_pair xs
 
@@ -51,6 +55,40 @@ count_by-front p xs n = ap (count_by p) (sym (take-append-drop n xs)) ∙ sum_by
 
 pub count_by-drop : (p : ℕ → Bool) (xs : List ℕ) (i : ℕ) → i < length xs → count_by p (drop i xs) ≡ cond (p (get_or xs i 0)) 1 0 + count_by p (drop (i + 1) xs)
 count_by-drop p xs i h = at_drop_more (count_by p) xs i 0 h ∙ sum_by-cons (λ x. cond (p x) 1 0) (get_or xs i 0) (drop (i + 1) xs)
+
+pub count_by-places : (p : ℕ → Bool) (xs : List ℕ) (i n : ℕ) → i + n ≤ length xs → count_by p (drop i xs) ≡ count_by (λ k. p (get_or xs k 0)) (range_with_len i n) + count_by p (drop (i + n) xs)
+count_by-places p xs i zero h = omega (arith, ap (λ j. count_by p (drop j xs)) (let e : i + 0 ≡ i = omega arith in e))
+count_by-places p xs i (suc n) h =
+    omega (
+      arith,
+      count_by-drop p xs i (omega arith),
+      sum_by-cons (λ k. cond (p (get_or xs k 0)) 1 0) i (range_with_len (i + 1) n),
+      count_by-places p xs (i + 1) n (omega arith),
+      ap (λ j. count_by p (drop j xs)) (let e : i + suc n ≡ (i + 1) + n = omega arith in e),
+    )
+
+-- the marks from a place on, by those of the places of a block, and by the one that may begin there
+pub marks-block : (m : Mark) (xs : List ℕ) (i n : ℕ) → i + n ≤ length xs → marks m (drop i xs) ≡ count_by (mark_at m xs) (range_with_len i n) + marks m (drop (i + n) xs)
+marks-block Char xs i n h = count_by-places begins_char xs i n h
+marks-block Pair xs i n h = count_by-places begins_pair xs i n h
+marks-block (Break b) xs i n h = byte_break_count-block b xs i n h
+
+pub marks-drop : (m : Mark) (xs : List ℕ) (i : ℕ) → i < length xs → marks m (drop i xs) ≡ cond (mark_at m xs i) 1 0 + marks m (drop (i + 1) xs)
+marks-drop Char xs i h = count_by-drop begins_char xs i h
+marks-drop Pair xs i h = count_by-drop begins_pair xs i h
+marks-drop (Break b) xs i h = byte_break_count-drop b xs i h
+
+pub marks_le : (m : Mark) (xs : List ℕ) → marks m xs ≤ length xs
+marks_le Char xs = begins_le xs
+marks_le Pair xs = pairs_le xs
+marks_le (Break b) xs = byte_break_count_le b xs
+
+pub ahead_le : (m : Mark) → ahead m ≤ 2
+ahead_le Char = omega arith
+ahead_le Pair = omega arith
+ahead_le (Break Lf) = omega arith
+ahead_le (Break CrLf) = omega arith
+ahead_le (Break Unicode) = omega arith
 
 -- a test as a number
 pub one_where : (a b : Bool) → a ≡ b → bool_byte a ≡ cond b 1 0
@@ -75,3 +113,42 @@ wide_off false true c d e f h = refl
 wide_off false false false false e f h = refl
 wide_off false false true d e f h = absurd (both_ways true h refl)
 wide_off false false false true e f h = absurd (both_ways true h refl)
+
+-- where no byte behind a block is needed, none is read, and where no NEL, LS or PS begins, the narrow marks are all
+pub narrow_alone : (m : Mark) (x y z : ℕ) → ahead m ≡ 0 → narrow_mark m x y ≡ narrow_mark m x z
+narrow_alone Char x y z h = refl
+narrow_alone Pair x y z h = refl
+narrow_alone (Break Lf) x y z h = refl
+narrow_alone (Break CrLf) x y z h = absurd (omega (arith, h))
+narrow_alone (Break Unicode) x y z h = absurd (omega (arith, h))
+
+pub narrow_all : (m : Mark) (xs ks : List ℕ) → (ahead m ≡ 2 → count_by (λ k. eqb (bit_and (get_or xs k 0) 223) 194) ks ≡ 0)
+    → count_by (λ k. narrow_mark m (get_or xs k 0) (get_or xs (k + 1) 0)) ks ≡ count_by (mark_at m xs) ks
+narrow_all Char xs ks none = refl
+narrow_all Pair xs ks none = refl
+narrow_all (Break Lf) xs ks none = refl
+narrow_all (Break CrLf) xs ks none = refl
+narrow_all (Break Unicode) xs ks none =
+    let at : ℕ → ℕ → Bool = λ k v. eqb (get_or xs k 0) v in
+    let is_low : ℕ → Bool = λ k. leb 10 (get_or xs k 0) && leb (get_or xs k 0) 12 in
+    let is_lone_cr : ℕ → Bool = λ k. at k 13 && not (at (k + 1) 10) in
+    count_by-unless (λ k. eqb (bit_and (get_or xs k 0) 223) 194) (λ k. is_low k || is_lone_cr k) (breaks_at Unicode xs) ks
+    (λ k off.
+    wide_off (is_low k) (is_lone_cr k) (at k 194) (at k 226) (at (k + 1) 133) (at (k + 1) 128 && (at (k + 2) 168 || at (k + 2) 169))
+    (no_wide_begin (get_or xs k 0) off)) (none refl)
+
+-- what the empty text counts
+pub record IsNone (info : TextInfo) : Type 0 where
+  pub bytes : info.bytes ≡ 0
+  pub chars : info.chars ≡ 0
+  pub pairs : info.utf16_surrogates ≡ 0
+  pub break_count : info.break_count ≡ 0
+
+pub no_counts : (info : TextInfo) → ((breaks : LineBreaks) → info ≡ info_of breaks []) → IsNone info
+unfolding break_ends
+no_counts info same = record {
+  bytes = ap (λ i. i.bytes) (same Lf);
+  chars = ap (λ i. i.chars) (same Lf);
+  pairs = ap (λ i. i.utf16_surrogates) (same Lf);
+  break_count = ap (λ i. i.break_count) (same Lf);
+}

@@ -9,17 +9,18 @@ use Rattle.std.proofs.Math.Path.{subst}
 use Rattle.std.proofs.lemmas.List.{take_all}
 use Rattle.std.proofs.lemmas.List.FromFn.{length-range_with_len}
 use Rattle.std.proofs.lemmas.List.Sums.{sum_by-cons, count_by-le-length}
-use lib.Lanes.{Each1, zip2, sum_l, sel_l, top}
+use lib.Lanes.{Each1, zip2, sum_l}
 use Rattle.rope_text.specs.declared.line_breaks.LineBreaks.{LineBreaks}
 use Rattle.rope_text.specs.declared.line_breaks.LineBreaks.TheVariants.{Lf, CrLf, Unicode}
 use Rattle.rope_text.specs.declared.runs.Sums.{Sums}
+use Rattle.rope_text.specs.declared.lanes.Mark.TheVariants.{Break}
 use Rattle.rope_text.specs.Bits.{ones_below}
 use Rattle.rope_text.specs.Bytes.{begins_char, begins_pair}
 use Rattle.rope_text.specs.ByteBreaks.{break_at, byte_break_count, breaks_at}
-use Rattle.rope_text.specs.Runs.{IsSum, IsRun, narrow_at, wide_at, narrow_here, wide_here, wide_begin, places, chars_of, pairs_of, narrow_of, wide_of, high_of}
+use Rattle.rope_text.specs.Marks.{IsLanes, narrow_at, ahead}
+use Rattle.rope_text.specs.Runs.{IsSum, IsRun, wide_at, narrow_here, wide_here, wide_begin, places, chars_of, pairs_of, narrow_of, wide_of, high_of}
 use Rattle.rope_text.proofs.BitLaws.{ones_more, shift_more, no_marks}
-use Rattle.rope_text.proofs.Blocks.{byte_break_count-block, count_by-drop}
-use Rattle.rope_text.proofs.Marks.{IsMask, chosen}
+use Rattle.rope_text.proofs.Blocks.{byte_break_count-block, count_by-places}
 use Rattle.rope_text.proofs.UnicodeLanes.{no_wide_begin}
 use Rattle.std.proofs.lemmas.Nat.{zero_from_ones}
 
@@ -69,23 +70,13 @@ places_four q i total a b c d first second third fourth =
       places_split q (i + 32) 16 16 (i + 48) 32 (omega arith) refl,
     )
 
-block : (p : ℕ → Bool) (xs : List ℕ) (i n : ℕ) → i + n ≤ length xs → count_by p (drop i xs) ≡ count_by (λ k. p (get_or xs k 0)) (places i n) + count_by p (drop (i + n) xs)
-unfolding places
-block p xs i zero h = omega (arith, ap (λ j. count_by p (drop j xs)) (let e : i + 0 ≡ i = omega arith in e))
-block p xs i (suc n) h =
-    omega (
-      arith,
-      count_by-drop p xs i (omega arith),
-      sum_by-cons (λ k. cond (p (get_or xs k 0)) 1 0) i (range_with_len (i + 1) n),
-      block p xs (i + 1) n (omega arith),
-      ap (λ j. count_by p (drop j xs)) (let e : i + suc n ≡ (i + 1) + n = omega arith in e),
-    )
-
 pub chars_block : (xs : List ℕ) (i n : ℕ) → i + n ≤ length xs → count_by begins_char (drop i xs) ≡ chars_of xs i n + count_by begins_char (drop (i + n) xs)
-chars_block xs i n h = block begins_char xs i n h
+unfolding places
+chars_block xs i n h = count_by-places begins_char xs i n h
 
 pub pairs_block : (xs : List ℕ) (i n : ℕ) → i + n ≤ length xs → count_by begins_pair (drop i xs) ≡ pairs_of xs i n + count_by begins_pair (drop (i + n) xs)
-pairs_block xs i n h = block begins_pair xs i n h
+unfolding places
+pairs_block xs i n h = count_by-places begins_pair xs i n h
 
 -- a break begins with a byte below 128 or with one above
 split_at : (b : LineBreaks) (x y z : ℕ) → cond {A = ℕ} (break_at b x y z) 1 0 ≡ cond (narrow_at b x y) 1 0 + cond (wide_at b x y z) 1 0
@@ -168,15 +159,14 @@ few_marks p (k ∷ ks) = (go (p k), few_marks p ks)
     go true = omega arith
     go false = omega arith
 
--- 1 where a mask is set
-pub ones_of : {p : ℕ → Bool} {a : List ℕ} (i : ℕ) → IsMask (range_with_len i 16) p a → IsSum 1 (count_by p (places i 16)) (sel_l (map (top 7) a) (replicate 16 1) (replicate 16 0))
-ones_of {p} {a} i mask =
+-- 1 where the test holds
+pub ones_of : (p : ℕ → Bool) {v : List ℕ} (i : ℕ) → IsLanes (range_with_len i 16) (λ k. cond (p k) 1 0) v → IsSum 1 (count_by p (places i 16)) v
+ones_of p {v} i lanes =
     let ks : List ℕ = range_with_len i 16 in
-    let same : sel_l (map (top 7) a) (replicate 16 1) (replicate 16 0) ≡ map (λ k. cond (p k) 1 0) ks = (chosen 1 0 16 (length-range_with_len i 16) mask).same in
     record {
-      long = ap length same ∙ length-map-range i;
-      few = subst (Each1 (λ x. x ≤ 1)) (sym same) (few_marks p ks);
-      sum = ap sum_l same ∙ sum_of_marks p ks ∙ ap (count_by p) (places_are i 16);
+      long = ap length lanes.same ∙ length-map-range i;
+      few = subst (Each1 (λ x. x ≤ 1)) (sym lanes.same) (few_marks p ks);
+      sum = ap sum_l lanes.same ∙ sum_of_marks p ks ∙ ap (count_by p) (places_are i 16);
     }
   where
     length-map-range : (j : ℕ) → length (map (λ k. cond {A = ℕ} (p k) 1 0) (range_with_len j 16)) ≡ 16
@@ -314,11 +304,15 @@ nowhere : (q : ℕ → Bool) (ks : List ℕ) → ((k : ℕ) → q k ≡ false) �
 nowhere q [] off = refl
 nowhere q (k ∷ ks) off = sum_by-cons (λ j. cond (q j) 1 0) k ks ∙ rw (off k, nowhere q ks off) refl
 
-pub wide_lf : (xs : List ℕ) (i n : ℕ) → wide_of Lf xs i n ≡ 0
-wide_lf xs i n = nowhere (wide_here Lf xs) (places i n) (λ k. refl)
+pub wide_none : (b : LineBreaks) (xs : List ℕ) (i n : ℕ) → ahead (Break b) < 2 → wide_of b xs i n ≡ 0
+wide_none Lf xs i n h = nowhere (wide_here Lf xs) (places i n) (λ k. refl)
+wide_none CrLf xs i n h = nowhere (wide_here CrLf xs) (places i n) (λ k. refl)
+wide_none Unicode xs i n h = absurd (omega (arith, h))
 
-pub wide_cr_lf : (xs : List ℕ) (i n : ℕ) → wide_of CrLf xs i n ≡ 0
-wide_cr_lf xs i n = nowhere (wide_here CrLf xs) (places i n) (λ k. refl)
+pub is_unicode : (b : LineBreaks) → 2 ≤ ahead (Break b) → b ≡ Unicode
+is_unicode Lf h = absurd (omega (arith, h))
+is_unicode CrLf h = absurd (omega (arith, h))
+is_unicode Unicode h = refl
 
 pub narrow_few : (b : LineBreaks) (xs : List ℕ) (i n : ℕ) → narrow_of b xs i n ≤ n
 narrow_few b xs i n = omega (arith, count_by-le-length (narrow_here b xs) (places i n), length-places i n)

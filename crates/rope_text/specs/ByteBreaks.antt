@@ -1,5 +1,5 @@
 -- Line breaks, code units and widths over the bytes of a text. Private working definitions: only clauses of private functions cite them.
-use Rattle.std.specs.Prelude.{◌≡◌, ℕ, ◌+◌, Bool, cond, not, count_by, nat_lt, if◌then◌else◌, ◌&&◌, ◌||◌, ◌==◌, List, [], ◌∷◌, drop, get_or, IsTrue}
+use Rattle.std.specs.Prelude.{ℕ, ◌+◌, Bool, cond, not, count_by, nat_lt, if◌then◌else◌, ◌&&◌, ◌||◌, ◌==◌, List, [], ◌∷◌, get_or}
 use Rattle.std.specs.Int.{is_in_range}
 use Rattle.rope_text.specs.Bytes.{begins_char, begins_pair}
 use Rattle.rope_text.specs.declared.line_breaks.LineBreaks.{LineBreaks}
@@ -24,14 +24,6 @@ breaks_at breaks bytes k = break_at breaks (get_or bytes k 0) (get_or bytes (k +
 abbrev pub byte_break_count : LineBreaks → List ℕ → ℕ
 byte_break_count breaks [] = 0
 byte_break_count breaks (x ∷ xs) = cond (break_at breaks x (get_or xs 0 0) (get_or xs 1 0)) 1 0 + byte_break_count breaks xs
-
--- the break n begins with the byte `at`, the breaks counted from the byte `from` on
-abbrev pub IsBreak : LineBreaks → List ℕ → ℕ → ℕ → ℕ → Type 0
-IsBreak breaks bytes from n at = (byte_break_count breaks (drop from bytes) ≡ n + byte_break_count breaks (drop at bytes)) × IsTrue (breaks_at breaks bytes at)
-
--- the same of the character n
-abbrev pub IsChar : List ℕ → ℕ → ℕ → ℕ → Type 0
-IsChar bytes from n at = (count_by begins_char (drop from bytes) ≡ n + count_by begins_char (drop at bytes)) × IsTrue (begins_char (get_or bytes at 0))
 
 -- how many code units the bytes take in UTF-16
 abbrev pub unit_count : List ℕ → ℕ

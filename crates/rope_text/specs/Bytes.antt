@@ -1,7 +1,5 @@
 -- The bytes of UTF-8 with which a character begins.
 use Rattle.std.specs.Prelude.{ℕ, Bool, ◌||◌, nat_lt, nat_le}
-use Rattle.rope_text.specs.declared.lanes.Counted.{Counted}
-use Rattle.rope_text.specs.declared.lanes.Counted.TheVariants.{Chars, Pairs}
 
 -- whether a character begins with the byte
 abbrev pub begins_char : ℕ → Bool
@@ -10,8 +8,3 @@ begins_char b = nat_lt b 128 || nat_le 192 b
 -- whether a character of four bytes, which takes two code units in UTF-16, begins with the byte
 abbrev pub begins_pair : ℕ → Bool
 begins_pair b = nat_le 240 b
-
--- whether what is counted begins with the byte
-abbrev pub begins : Counted → ℕ → Bool
-begins Chars b = begins_char b
-begins Pairs b = begins_pair b

@@ -19,6 +19,7 @@ pub mod Sides
 pub mod ErrorText
 pub mod Range
 pub mod ByteBreaks
+pub mod Marks
 pub mod TextInfo
 pub mod LastBreak
 pub mod LineParts

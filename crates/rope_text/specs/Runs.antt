@@ -1,28 +1,20 @@
 -- Counts of blocks of bytes that are added up in lanes. Private working definitions: only clauses of private functions cite them.
 use Rattle.std.specs.Prelude.{◌≡◌, ℕ, ◌+◌, ◌≤◌, Bool, false, ◌&&◌, ◌||◌, ◌==◌, List, length, get_or, count_by, bit_and}
-use Rattle.std.specs.Int.{is_in_range}
 use Rattle.std.specs.List.{range_with_len}
 use lib.Lanes.{Each1, sum_l}
 use lib.Dec.{leb}
 use Rattle.rope_text.specs.declared.line_breaks.LineBreaks.{LineBreaks}
 use Rattle.rope_text.specs.declared.line_breaks.LineBreaks.TheVariants.{Lf, CrLf, Unicode}
 use Rattle.rope_text.specs.declared.runs.Sums.{Sums}
-use Rattle.rope_text.specs.declared.runs.Added.{Added}
-use Rattle.rope_text.specs.declared.runs.Added.TheVariants.{Begun, Narrow}
-use Rattle.rope_text.specs.Bytes.{begins_char, begins_pair, begins}
-use Rattle.rope_text.specs.ByteBreaks.{lone_cr}
+use Rattle.rope_text.specs.declared.lanes.Mark.{Mark}
+use Rattle.rope_text.specs.Bytes.{begins_char, begins_pair}
+use Rattle.rope_text.specs.Marks.{narrow_at, narrow_mark}
 
 -- 16 lanes, none of which is above `most`, that add up to the total
 pub record IsSum (most total : ℕ) (lanes : List ℕ) : Type 0 where
   pub long : length lanes ≡ 16
   pub few : Each1 (λ x. x ≤ most) lanes
   pub sum : sum_l lanes ≡ total
-
--- whether a break begins with the byte x, which is below 128
-abbrev pub narrow_at : LineBreaks → ℕ → ℕ → Bool
-narrow_at Lf x y = x == 10
-narrow_at CrLf x y = x == 10 || lone_cr x y
-narrow_at Unicode x y = is_in_range 10 12 x || lone_cr x y
 
 -- whether a break begins with the byte x, which is above 127
 abbrev pub wide_at : LineBreaks → ℕ → ℕ → ℕ → Bool
@@ -60,13 +52,12 @@ wide_of breaks xs i n = count_by (wide_here breaks xs) (places i n)
 abbrev pub high_of : List ℕ → ℕ → ℕ → ℕ
 high_of xs i n = count_by (λ k. leb 128 (get_or xs k 0)) (places i n)
 
--- whether the byte k is added up, and of the n bytes from i on those that are
-abbrev pub is_added : Added → List ℕ → ℕ → Bool
-is_added (Begun counted) xs k = begins counted (get_or xs k 0)
-is_added (Narrow breaks) xs k = narrow_here breaks xs k
+-- whether a mark begins with the byte k, and with how many of the n bytes from i on, a break only where it is below 128
+abbrev pub narrow_mark_at : Mark → List ℕ → ℕ → Bool
+narrow_mark_at mark xs k = narrow_mark mark (get_or xs k 0) (get_or xs (k + 1) 0)
 
-abbrev pub count_of : Added → List ℕ → ℕ → ℕ → ℕ
-count_of added xs i n = count_by (is_added added xs) (places i n)
+abbrev pub count_of : Mark → List ℕ → ℕ → ℕ → ℕ
+count_of mark xs i n = count_by (narrow_mark_at mark xs) (places i n)
 
 -- the sums of the n bytes from i on
 pub record IsRun (breaks : LineBreaks) (bytes : List ℕ) (i n most : ℕ) (sums : Sums) : Type 0 where

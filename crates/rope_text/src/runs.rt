@@ -7,8 +7,9 @@ ghost use Rattle.rope_text.specs.ByteBreaks.{byte_break_count};
 ghost use Rattle.rope_text.specs.Runs.{IsSum, IsRun, count_of, wide_of, wide_at, high_of, wide_begin, places};
 
 use crate::bits::first_mark;
-use crate::lanes::Counted;
+use crate::lanes::{Mark, ahead, ones};
 use crate::line_breaks::LineBreaks;
+use crate::text_info::TextInfo;
 use std::simd::prelude::*;
 
 // The blocks of a run at the most: a lane gets four at each, and holds 255.
@@ -24,61 +25,28 @@ pub(crate) struct Sums {
     pub wide: usize,
 }
 
-/// What the lanes add up.
-#[derive(Clone, Copy)]
-pub(crate) enum Added {
-    /// The bytes that begin what is counted.
-    Begun(Counted),
-    /// The bytes below 128 at which a break of the set begins.
-    Narrow(LineBreaks),
-}
-
-// For each of the 16 bytes from `at` on, 1 where it is added up, else 0. What is added up is known where this is expanded.
+// For each of the 16 bytes from `at` on, 1 where a mark begins, a break only where it is below 128, else 0. The mark is known
+// where this is expanded.
 #[inline(always)]
-fn ones(bytes: &[u8], at: usize, added: Added) -> u8x16
+fn ones_from(bytes: &[u8], at: usize, mark: Mark) -> u8x16
     requires { at + 17 ≤ length bytes.now }
-    ensures { IsSum 1 (count_of added bytes.now at 16) result }
+    ensures { IsSum 1 (count_of mark bytes.now at 16) result }
 {
     let x = u8x16::from_slice(&bytes[at..]);
     let y = u8x16::from_slice(&bytes[at + 1..]);
-    let marks = match added {
-        Added::Begun(Counted::Chars) => x.simd_lt(u8x16::splat(0x80))
-            | x.simd_ge(u8x16::splat(0xC0)),
-        Added::Begun(Counted::Pairs) => x.simd_ge(u8x16::splat(0xF0)),
-        Added::Narrow(LineBreaks::Lf) => x.simd_eq(u8x16::splat(b'\n')),
-        Added::Narrow(LineBreaks::CrLf) => {
-            let lone_cr = x.simd_eq(u8x16::splat(b'\r')) & y.simd_ne(u8x16::splat(b'\n'));
-            x.simd_eq(u8x16::splat(b'\n')) | lone_cr
-        }
-        Added::Narrow(LineBreaks::Unicode) => {
-            // From 10 to 13, but only to 12 before LF.
-            let most = y
-                .simd_eq(u8x16::splat(b'\n'))
-                .select(u8x16::splat(2), u8x16::splat(3));
-            (x - u8x16::splat(10)).simd_le(most)
-        }
-    };
-    marks.select(u8x16::splat(1), u8x16::splat(0))
-}
-
-// Lane by lane.
-#[inline(always)]
-fn add(a: u8x16, b: u8x16) -> u8x16
-    ensures { (j k s t : ℕ) → j + k < 256 → IsSum j s a → IsSum k t b → IsSum (j + k) (s + t) result }
-{
-    a + b
+    ones(x, y, mark)
 }
 
 // The 64 bytes from `at` on more.
 #[inline(always)]
-fn add_ones(sums: u8x16, bytes: &[u8], at: usize, added: Added) -> u8x16
+fn add_ones(sums: u8x16, bytes: &[u8], at: usize, mark: Mark) -> u8x16
     requires { at + 65 ≤ length bytes.now }
-    ensures { (most total : ℕ) → most + 4 < 256 → IsSum most total sums → IsSum (most + 4) (total + count_of added bytes.now at 64) result }
+    ensures { (most total : ℕ) → most + 4 < 256 → IsSum most total sums → IsSum (most + 4) (total + count_of mark bytes.now at 64) result }
 {
-    let first = add(sums, ones(bytes, at, added));
-    let second = add(first, ones(bytes, at + 16, added));
-    let third = add(second, ones(bytes, at + 32, added));
-    add(third, ones(bytes, at + 48, added))
+    let first = sums + ones_from(bytes, at, mark);
+    let second = first + ones_from(bytes, at + 16, mark);
+    let third = second + ones_from(bytes, at + 32, mark);
+    third + ones_from(bytes, at + 48, mark)
 }
 
 // Whether each of the 64 bytes from `at` on is below 128.
@@ -117,10 +85,8 @@ fn wide_in(bytes: &[u8], at: usize, breaks: LineBreaks) -> usize
     requires { at + 66 ≤ length bytes.now }
     ensures { result ≡ wide_of breaks bytes.now at 64 }
 {
-    match breaks {
-        LineBreaks::Lf => return 0,
-        LineBreaks::CrLf => return 0,
-        LineBreaks::Unicode => {}
+    if ahead(Mark::Break(breaks)) < 2 {
+        return 0;
     }
     let mut begins = wide_begins(bytes, at);
     let mut i = at;
@@ -144,22 +110,17 @@ fn add_block(sums: Sums, bytes: &[u8], at: usize, breaks: LineBreaks) -> Sums
     requires wide { sums.wide ≤ at }
     ensures { (from n most : ℕ) → at ≡ from + n → most + 4 < 256 → IsRun breaks bytes.now from n most sums → IsRun breaks bytes.now from (n + 64) (most + 4) result }
 {
-    let narrow = add_ones(sums.narrow, bytes, at, Added::Narrow(breaks));
+    let mut sums = sums;
+    sums.narrow = add_ones(sums.narrow, bytes, at, Mark::Break(breaks));
     // ASCII begins a character at each byte, and no pair and none of the other breaks.
     if is_ascii(bytes, at) {
-        return Sums {
-            chars: add(sums.chars, u8x16::splat(4)),
-            pairs: sums.pairs,
-            narrow,
-            wide: sums.wide,
-        };
+        sums.chars = sums.chars + u8x16::splat(4);
+        return sums;
     }
-    Sums {
-        chars: add_ones(sums.chars, bytes, at, Added::Begun(Counted::Chars)),
-        pairs: add_ones(sums.pairs, bytes, at, Added::Begun(Counted::Pairs)),
-        narrow,
-        wide: sums.wide + wide_in(bytes, at, breaks),
-    }
+    sums.chars = add_ones(sums.chars, bytes, at, Mark::Char);
+    sums.pairs = add_ones(sums.pairs, bytes, at, Mark::Pair);
+    sums.wide += wide_in(bytes, at, breaks);
+    sums
 }
 
 #[inline(always)]
@@ -169,26 +130,19 @@ fn sum_of(lanes: u8x16) -> usize
     lanes.cast::<u16>().strict_reduce_sum() as usize
 }
 
-/// The counts of a run of whole blocks from `from` on and before `to`, behind which two more bytes are read: its end, the
-/// characters in it, those of two code units, and the breaks. It has one block at least, if one is there.
+/// The counts of a run of whole blocks from `from` on and before `to`, behind which two more bytes are read. It has one block
+/// at least, if one is there.
 #[inline(always)]
-pub(crate) fn count_run(
-    bytes: &[u8],
-    from: usize,
-    to: usize,
-    breaks: LineBreaks,
-) -> (usize, usize, usize, usize)
+pub(crate) fn count_run(bytes: &[u8], from: usize, to: usize, breaks: LineBreaks) -> TextInfo
     requires from { from ≤ to }
     requires to { to ≤ length bytes.now - 2 }
-    ensures not_before { from ≤ result.0 }
-    ensures bound { result.0 ≤ to }
-    ensures further { from + 64 ≤ to → from + 64 ≤ result.0 }
-    ensures chars { count_by begins_char (drop from bytes.now) ≡ result.1 + count_by begins_char (drop result.0 bytes.now) }
-    ensures pairs { count_by begins_pair (drop from bytes.now) ≡ result.2 + count_by begins_pair (drop result.0 bytes.now) }
-    ensures break_count { byte_break_count breaks (drop from bytes.now) ≡ result.3 + byte_break_count breaks (drop result.0 bytes.now) }
+    ensures bound { from + result.bytes ≤ to }
+    ensures further { from + 64 ≤ to → 64 ≤ result.bytes }
+    ensures chars { count_by begins_char (drop from bytes.now) ≡ result.chars + count_by begins_char (drop (from + result.bytes) bytes.now) }
+    ensures pairs { count_by begins_pair (drop from bytes.now) ≡ result.utf16_surrogates + count_by begins_pair (drop (from + result.bytes) bytes.now) }
+    ensures break_count { byte_break_count breaks (drop from bytes.now) ≡ result.break_count + byte_break_count breaks (drop (from + result.bytes) bytes.now) }
 {
-    let blocks = ((to - from) / 64).min(BLOCKS);
-    let end = from + 64 * blocks;
+    let size = 64 * ((to - from) / 64).min(BLOCKS);
     let none = u8x16::splat(0);
     let mut sums = Sums {
         chars: none,
@@ -197,14 +151,14 @@ pub(crate) fn count_run(
         wide: 0,
     };
     let mut i = from;
-    while i < end {
+    while i < from + size {
         sums = add_block(sums, bytes, i, breaks);
         i += 64;
     }
-    (
-        end,
-        sum_of(sums.chars),
-        sum_of(sums.pairs),
-        sum_of(sums.narrow) + sums.wide,
-    )
+    TextInfo {
+        bytes: size,
+        chars: sum_of(sums.chars),
+        utf16_surrogates: sum_of(sums.pairs),
+        break_count: sum_of(sums.narrow) + sums.wide,
+    }
 }

@@ -4,7 +4,7 @@ ghost use Rattle.rope_text.specs.ByteBreaks.{breaks_at};
 ghost use Rattle.rope_text.specs.Scan.{IsFront};
 
 use crate::bits::{first_mark, first_mark_before, ones_before, ones_between};
-use crate::lanes::{Counted, begin_mask, break_mask, is_begin, is_break_begin, known_break_mask};
+use crate::lanes::{Mark, is_mark, known_mask, mask};
 use crate::line_breaks::LineBreaks;
 
 /// The bytes of a text before a place in its first line, and what they count.
@@ -28,9 +28,9 @@ fn go_in_last_block(bytes: &[u8], from: Front, breaks: LineBreaks) -> Front
     }
     let at = bytes.len() - 34;
     let skip = from.bytes - at;
-    let begins = begin_mask(bytes, at, Counted::Chars);
-    let doubles = begin_mask(bytes, at, Counted::Pairs);
-    let marks = break_mask(bytes, at, breaks) >> skip;
+    let begins = known_mask(bytes, at, Mark::Char);
+    let doubles = known_mask(bytes, at, Mark::Pair);
+    let marks = mask(bytes, at, Mark::Break(breaks)) >> skip;
     let more = first_mark_before(marks, 32 - skip);
     Front {
         bytes: from.bytes + more,
@@ -48,10 +48,9 @@ fn go_to_end(bytes: &[u8], from: Front, breaks: LineBreaks) -> Front
     ensures inside { result.bytes < length bytes.now → IsTrue (breaks_at breaks bytes.now result.bytes) }
 {
     let mut front = go_in_last_block(bytes, from, breaks);
-    while front.bytes < bytes.len() && !is_break_begin(bytes, front.bytes, breaks) {
-        let byte = bytes[front.bytes];
-        front.chars += is_begin(byte, Counted::Chars) as usize;
-        front.pairs += is_begin(byte, Counted::Pairs) as usize;
+    while front.bytes < bytes.len() && !is_mark(bytes, front.bytes, Mark::Break(breaks)) {
+        front.chars += is_mark(bytes, front.bytes, Mark::Char) as usize;
+        front.pairs += is_mark(bytes, front.bytes, Mark::Pair) as usize;
         front.bytes += 1;
     }
     front
@@ -65,9 +64,9 @@ fn go_by_blocks(bytes: &[u8], breaks: LineBreaks) -> Front
 {
     let (mut at, mut chars, mut pairs) = (0, 0, 0);
     while bytes.len() - at >= 34 {
-        let breaks = known_break_mask(bytes, at, breaks);
-        let begins = begin_mask(bytes, at, Counted::Chars);
-        let doubles = begin_mask(bytes, at, Counted::Pairs);
+        let breaks = known_mask(bytes, at, Mark::Break(breaks));
+        let begins = known_mask(bytes, at, Mark::Char);
+        let doubles = known_mask(bytes, at, Mark::Pair);
         if ones_before(breaks, 32) > 0 {
             let front = first_mark(breaks);
             return Front {

@@ -3,25 +3,26 @@
 //! A place that isn't there is the end.
 ghost use Rattle.std.specs.Prelude.{◌≡◌, ◌+◌, ◌<◌, ◌≤◌, length, count_by, drop, slice_index, IsTrue};
 ghost use Rattle.rope_text.specs.Bytes.{begins_char, begins_pair};
-ghost use Rattle.rope_text.specs.ByteBreaks.{byte_break_count, unit_count, IsBreak, IsChar};
+ghost use Rattle.rope_text.specs.ByteBreaks.{byte_break_count, unit_count};
+ghost use Rattle.rope_text.specs.Marks.{marks, ahead, IsMark};
 
 use crate::bits::{ones_before, place_of_mark};
-use crate::lanes::{
-    Counted, begin_mask, begun_between, begun_in, break_mask, breaks_between, breaks_in,
-    chars_in_two, is_begin, is_break_begin,
-};
+use crate::lanes::{Mark, ahead, is_mark, known_mask, marks_between, marks_in, mask};
 use crate::line_breaks::LineBreaks;
+use crate::text_info::TextInfo;
 
-fn find_char(bytes: &[u8], from: usize, n: usize) -> usize
+// The byte with which the mark `n` begins, counted from the byte `from` on, byte by byte.
+#[inline(always)]
+fn find(bytes: &[u8], from: usize, n: usize, mark: Mark) -> usize
     requires { from ≤ length bytes.now }
     ensures from { from ≤ result }
     ensures bound { result ≤ length bytes.now }
-    ensures inside { result < length bytes.now → IsChar bytes.now from n result }
-    ensures end { result ≡ length bytes.now → count_by begins_char (drop from bytes.now) ≤ n }
+    ensures inside { result < length bytes.now → IsMark mark bytes.now from n result }
+    ensures end { result ≡ length bytes.now → marks mark (drop from bytes.now) ≤ n }
 {
     let mut left = n;
     for at in from..bytes.len() {
-        if is_begin(bytes[at], Counted::Chars) {
+        if is_mark(bytes, at, mark) {
             if left == 0 {
                 return at;
             }
@@ -29,6 +30,29 @@ fn find_char(bytes: &[u8], from: usize, n: usize) -> usize
         }
     }
     bytes.len()
+}
+
+// The same in blocks.
+#[inline(always)]
+fn find_from(bytes: &[u8], from: usize, n: usize, mark: Mark) -> usize
+    requires { from ≤ length bytes.now }
+    ensures from { from ≤ result }
+    ensures bound { result ≤ length bytes.now }
+    ensures inside { result < length bytes.now → IsMark mark bytes.now from n result }
+    ensures end { result ≡ length bytes.now → marks mark (drop from bytes.now) ≤ n }
+{
+    let mut at = from;
+    let mut left = n;
+    while bytes.len() - at >= 32 + ahead(mark) {
+        let begun = mask(bytes, at, mark);
+        let passed = ones_before(begun, 32);
+        if left < passed {
+            return at + place_of_mark(begun, 0, left);
+        }
+        left -= passed;
+        at += 32;
+    }
+    find(bytes, at, left, mark)
 }
 
 // The pairs of blocks before the character `n`: their end, and which character it is from there on.
@@ -40,7 +64,7 @@ fn skip_chars(bytes: &[u8], n: usize) -> (usize, usize)
     let mut at = 0;
     let mut left = n;
     while bytes.len() - at >= 64 {
-        let passed = chars_in_two(bytes, at);
+        let passed = marks_in(bytes, at, Mark::Char) + marks_in(bytes, at + 32, Mark::Char);
         if left < passed {
             return (at, left);
         }
@@ -63,7 +87,7 @@ fn skip_chars_back(bytes: &[u8], n: usize, chars: usize) -> (usize, usize)
     // The characters from `n` on that begin before `at`.
     let mut left = chars - n;
     while at >= 64 {
-        let passed = chars_in_two(bytes, at - 64);
+        let passed = marks_in(bytes, at - 64, Mark::Char) + marks_in(bytes, at - 32, Mark::Char);
         if left <= passed {
             return (at - 64, passed - left);
         }
@@ -73,44 +97,21 @@ fn skip_chars_back(bytes: &[u8], n: usize, chars: usize) -> (usize, usize)
     (0, n)
 }
 
-// The byte at which the character `n` begins, the characters counted from the byte `from` on.
-#[inline(always)]
-fn find_char_from(bytes: &[u8], from: usize, n: usize) -> usize
-    requires { from ≤ length bytes.now }
-    ensures from { from ≤ result }
-    ensures bound { result ≤ length bytes.now }
-    ensures inside { result < length bytes.now → IsChar bytes.now from n result }
-    ensures end { result ≡ length bytes.now → count_by begins_char (drop from bytes.now) ≤ n }
-{
-    let mut at = from;
-    let mut left = n;
-    while bytes.len() - at >= 32 {
-        let mask = begin_mask(bytes, at, Counted::Chars);
-        let passed = ones_before(mask, 32);
-        if left < passed {
-            return at + place_of_mark(mask, 0, left);
-        }
-        left -= passed;
-        at += 32;
-    }
-    find_char(bytes, at, left)
-}
-
 /// The byte at which the character `n` begins.
 pub(crate) fn place_of_char(bytes: &[u8], n: usize) -> usize
     ensures bound { result ≤ length bytes.now }
-    ensures inside { result < length bytes.now → IsChar bytes.now 0 n result }
+    ensures inside { result < length bytes.now → IsMark Mark.Char bytes.now 0 n result }
     ensures end { result ≡ length bytes.now → count_by begins_char bytes.now ≤ n }
 {
     let (from, left) = skip_chars(bytes, n);
-    find_char_from(bytes, from, left)
+    find_from(bytes, from, left, Mark::Char)
 }
 
 /// The same, where it is known how many characters there are: the side of it that has fewer of them is gone over.
 pub(crate) fn place_of_char_of(bytes: &[u8], n: usize, chars: usize) -> usize
     requires { chars ≡ count_by begins_char bytes.now }
     ensures bound { result ≤ length bytes.now }
-    ensures inside { result < length bytes.now → IsChar bytes.now 0 n result }
+    ensures inside { result < length bytes.now → IsMark Mark.Char bytes.now 0 n result }
     ensures end { result ≡ length bytes.now → count_by begins_char bytes.now ≤ n }
 {
     if n >= chars {
@@ -121,34 +122,10 @@ pub(crate) fn place_of_char_of(bytes: &[u8], n: usize, chars: usize) -> usize
     } else {
         skip_chars_back(bytes, n, chars)
     };
-    find_char_from(bytes, from, left)
+    find_from(bytes, from, left, Mark::Char)
 }
 
-/// The byte at which the character `n` begins, and how many breaks begin before it.
-#[tactic(auto, using(crate::proofs::Blocks::byte_break_count_le))]
-#[inline(always)]
-pub(crate) fn line_of_char(bytes: &[u8], n: usize, breaks: LineBreaks) -> (usize, usize)
-    ensures bound { result.0 ≤ length bytes.now }
-    ensures inside { result.0 < length bytes.now → IsChar bytes.now 0 n result.0 }
-    ensures end { result.0 ≡ length bytes.now → count_by begins_char bytes.now ≤ n }
-    ensures break_count { byte_break_count breaks bytes.now ≡ result.1 + byte_break_count breaks (drop result.0 bytes.now) }
-{
-    let mut at = 0;
-    let mut left = n;
-    let mut break_count = 0;
-    while bytes.len() - at >= 34 {
-        let passed = begun_in(bytes, at, Counted::Chars);
-        if left < passed {
-            break;
-        }
-        left -= passed;
-        break_count += breaks_in(bytes, at, breaks);
-        at += 32;
-    }
-    let to = find_char_from(bytes, at, left);
-    (to, break_count + breaks_between(bytes, at, to, breaks))
-}
-
+// The byte at which the character begins that holds the code unit `n`, counted from the byte `from` on, byte by byte.
 fn find_unit(bytes: &[u8], from: usize, n: usize) -> usize
     requires { from ≤ length bytes.now }
     ensures from { from ≤ result }
@@ -159,8 +136,8 @@ fn find_unit(bytes: &[u8], from: usize, n: usize) -> usize
 {
     let mut left = n;
     for at in from..bytes.len() {
-        if is_begin(bytes[at], Counted::Chars) {
-            let width = 1 + is_begin(bytes[at], Counted::Pairs) as usize;
+        if is_mark(bytes, at, Mark::Char) {
+            let width = 1 + is_mark(bytes, at, Mark::Pair) as usize;
             if left < width {
                 return at;
             }
@@ -183,8 +160,8 @@ pub(crate) fn place_of_unit(bytes: &[u8], n: usize) -> (usize, usize)
     let mut left = n;
     let mut chars = 0;
     while bytes.len() - at >= 32 {
-        let begins = begin_mask(bytes, at, Counted::Chars);
-        let pairs = begin_mask(bytes, at, Counted::Pairs);
+        let begins = known_mask(bytes, at, Mark::Char);
+        let pairs = known_mask(bytes, at, Mark::Pair);
         let begun = ones_before(begins, 32);
         let passed = begun + ones_before(pairs, 32);
         if left < passed {
@@ -196,100 +173,92 @@ pub(crate) fn place_of_unit(bytes: &[u8], n: usize) -> (usize, usize)
         at += 32;
     }
     let to = find_unit(bytes, at, left);
-    (to, chars + begun_between(bytes, at, to, Counted::Chars))
+    (to, chars + marks_between(bytes, at, to, Mark::Char))
 }
 
-// The blocks before the break `n`: their end, which break it is from there on, the characters in them, and those of two
-// code units. What a caller takes no count of isn't counted, since this is expanded there.
-#[tactic(auto, using(crate::proofs::Blocks::begins_le, crate::proofs::Blocks::pairs_le))]
+/// The byte at which the character `n` begins, and how many breaks begin before it. The set is known where this is expanded.
+#[tactic(auto, using(crate::proofs::Blocks::byte_break_count_le))]
 #[inline(always)]
-fn skip_breaks(bytes: &[u8], n: usize, breaks: LineBreaks) -> (usize, usize, usize, usize)
+pub(crate) fn line_of_char(bytes: &[u8], n: usize, breaks: LineBreaks) -> (usize, usize)
     ensures bound { result.0 ≤ length bytes.now }
-    ensures counted { byte_break_count breaks bytes.now + result.1 ≡ n + byte_break_count breaks (drop result.0 bytes.now) }
-    ensures chars { count_by begins_char bytes.now ≡ result.2 + count_by begins_char (drop result.0 bytes.now) }
-    ensures pairs { count_by begins_pair bytes.now ≡ result.3 + count_by begins_pair (drop result.0 bytes.now) }
+    ensures inside { result.0 < length bytes.now → IsMark Mark.Char bytes.now 0 n result.0 }
+    ensures end { result.0 ≡ length bytes.now → count_by begins_char bytes.now ≤ n }
+    ensures break_count { byte_break_count breaks bytes.now ≡ result.1 + byte_break_count breaks (drop result.0 bytes.now) }
 {
     let mut at = 0;
     let mut left = n;
-    let mut chars = 0;
-    let mut pairs = 0;
+    let mut break_count = 0;
     while bytes.len() - at >= 34 {
-        let passed = breaks_in(bytes, at, breaks);
+        let passed = marks_in(bytes, at, Mark::Char);
         if left < passed {
-            return (at, left, chars, pairs);
+            break;
         }
         left -= passed;
-        chars += begun_in(bytes, at, Counted::Chars);
-        pairs += begun_in(bytes, at, Counted::Pairs);
+        break_count += marks_in(bytes, at, Mark::Break(breaks));
         at += 32;
     }
-    (at, left, chars, pairs)
+    let to = find_from(bytes, at, left, Mark::Char);
+    let more = marks_between(bytes, at, to, Mark::Break(breaks));
+    (to, break_count + more)
 }
 
-// The byte at which the break `n` begins, the breaks counted from the byte `from` on.
-#[inline(always)]
-fn find_break(bytes: &[u8], from: usize, n: usize, breaks: LineBreaks) -> usize
-    requires { from ≤ length bytes.now }
-    ensures from { from ≤ result }
-    ensures bound { result ≤ length bytes.now }
-    ensures inside { result < length bytes.now → IsBreak breaks bytes.now from n result }
-    ensures end { result ≡ length bytes.now → byte_break_count breaks (drop from bytes.now) ≤ n }
-{
-    if bytes.len() - from >= 34 {
-        let mask = break_mask(bytes, from, breaks);
-        if n < ones_before(mask, 32) {
-            return from + place_of_mark(mask, 0, n);
-        }
-    }
-    let mut left = n;
-    for at in from..bytes.len() {
-        if is_break_begin(bytes, at, breaks) {
-            if left == 0 {
-                return at;
-            }
-            left -= 1;
-        }
-    }
-    bytes.len()
-}
-
-/// The byte at which the last character of the break `n` begins, the breaks counted from 0.
-pub(crate) fn place_of_break(bytes: &[u8], n: usize, breaks: LineBreaks) -> usize
-    ensures bound { result ≤ length bytes.now }
-    ensures inside { result < length bytes.now → IsBreak breaks bytes.now 0 n result }
-    ensures end { result ≡ length bytes.now → byte_break_count breaks bytes.now ≤ n }
-{
-    let (from, left, _, _) = skip_breaks(bytes, n, breaks);
-    find_break(bytes, from, left, breaks)
-}
-
-/// The same, and how many characters begin before it.
-#[tactic(auto, using(crate::proofs::Blocks::begins_le))]
-pub(crate) fn char_of_break(bytes: &[u8], n: usize, breaks: LineBreaks) -> (usize, usize)
-    ensures bound { result.0 ≤ length bytes.now }
-    ensures inside { result.0 < length bytes.now → IsBreak breaks bytes.now 0 n result.0 }
-    ensures end { result.0 ≡ length bytes.now → byte_break_count breaks bytes.now ≤ n }
-    ensures chars { count_by begins_char bytes.now ≡ result.1 + count_by begins_char (drop result.0 bytes.now) }
-{
-    let (from, left, before, _) = skip_breaks(bytes, n, breaks);
-    let to = find_break(bytes, from, left, breaks);
-    (to, before + begun_between(bytes, from, to, Counted::Chars))
-}
-
-/// The same, and how many of those characters take two code units.
+// The blocks before the break `n`: which break it is from their end on, and what they count but for breaks. What a caller takes
+// no count of isn't counted, since this is expanded there, where the set is known.
 #[tactic(auto, using(crate::proofs::Blocks::begins_le, crate::proofs::Blocks::pairs_le))]
-pub(crate) fn counts_to_break(bytes: &[u8], n: usize, breaks: LineBreaks) -> (usize, usize, usize)
-    ensures bound { result.0 ≤ length bytes.now }
-    ensures inside { result.0 < length bytes.now → IsBreak breaks bytes.now 0 n result.0 }
-    ensures end { result.0 ≡ length bytes.now → byte_break_count breaks bytes.now ≤ n }
-    ensures chars { count_by begins_char bytes.now ≡ result.1 + count_by begins_char (drop result.0 bytes.now) }
-    ensures pairs { count_by begins_pair bytes.now ≡ result.2 + count_by begins_pair (drop result.0 bytes.now) }
+#[inline(always)]
+fn skip_known(bytes: &[u8], n: usize, breaks: LineBreaks) -> (usize, TextInfo)
+    ensures bound { result.1.bytes ≤ length bytes.now }
+    ensures counted { byte_break_count breaks bytes.now + result.0 ≡ n + byte_break_count breaks (drop result.1.bytes bytes.now) }
+    ensures chars { count_by begins_char bytes.now ≡ result.1.chars + count_by begins_char (drop result.1.bytes bytes.now) }
+    ensures pairs { count_by begins_pair bytes.now ≡ result.1.utf16_surrogates + count_by begins_pair (drop result.1.bytes bytes.now) }
 {
-    let (from, left, chars, pairs) = skip_breaks(bytes, n, breaks);
-    let to = find_break(bytes, from, left, breaks);
-    (
-        to,
-        chars + begun_between(bytes, from, to, Counted::Chars),
-        pairs + begun_between(bytes, from, to, Counted::Pairs),
-    )
+    let mut left = n;
+    let mut counts = TextInfo::new();
+    while bytes.len() - counts.bytes >= 34 {
+        let at = counts.bytes;
+        let passed = marks_in(bytes, at, Mark::Break(breaks));
+        if left < passed {
+            return (left, counts);
+        }
+        left -= passed;
+        counts.chars += marks_in(bytes, at, Mark::Char);
+        counts.utf16_surrogates += marks_in(bytes, at, Mark::Pair);
+        counts.bytes += 32;
+    }
+    (left, counts)
+}
+
+// The same for each set.
+#[inline(always)]
+fn skip_breaks(bytes: &[u8], n: usize, breaks: LineBreaks) -> (usize, TextInfo)
+    ensures bound { result.1.bytes ≤ length bytes.now }
+    ensures counted { byte_break_count breaks bytes.now + result.0 ≡ n + byte_break_count breaks (drop result.1.bytes bytes.now) }
+    ensures chars { count_by begins_char bytes.now ≡ result.1.chars + count_by begins_char (drop result.1.bytes bytes.now) }
+    ensures pairs { count_by begins_pair bytes.now ≡ result.1.utf16_surrogates + count_by begins_pair (drop result.1.bytes bytes.now) }
+{
+    match breaks {
+        LineBreaks::Lf => skip_known(bytes, n, LineBreaks::Lf),
+        LineBreaks::CrLf => skip_known(bytes, n, LineBreaks::CrLf),
+        LineBreaks::Unicode => skip_known(bytes, n, LineBreaks::Unicode),
+    }
+}
+
+/// What the bytes before the last character of the break `n` count, the breaks counted from 0 and the count of them left out.
+/// What a caller takes no count of isn't counted, since this is expanded there.
+#[tactic(auto, using(crate::proofs::Blocks::begins_le, crate::proofs::Blocks::pairs_le))]
+#[inline(always)]
+pub(crate) fn before_break(bytes: &[u8], n: usize, breaks: LineBreaks) -> TextInfo
+    ensures bound { result.bytes ≤ length bytes.now }
+    ensures inside { result.bytes < length bytes.now → IsMark (Mark.Break breaks) bytes.now 0 n result.bytes }
+    ensures end { result.bytes ≡ length bytes.now → byte_break_count breaks bytes.now ≤ n }
+    ensures chars { count_by begins_char bytes.now ≡ result.chars + count_by begins_char (drop result.bytes bytes.now) }
+    ensures pairs { count_by begins_pair bytes.now ≡ result.utf16_surrogates + count_by begins_pair (drop result.bytes bytes.now) }
+{
+    let (left, mut counts) = skip_breaks(bytes, n, breaks);
+    let from = counts.bytes;
+    let to = find_from(bytes, from, left, Mark::Break(breaks));
+    counts.chars += marks_between(bytes, from, to, Mark::Char);
+    counts.utf16_surrogates += marks_between(bytes, from, to, Mark::Pair);
+    counts.bytes = to;
+    counts
 }

@@ -2,7 +2,7 @@
 ghost use Rattle.std.specs.Prelude.{◌≡◌};
 
 /// What a counted call did: the nodes that it entered, the totals that it compared, the nodes that it made.
-#[derive(Clone, Copy, Debug, PartialEq, Eq)]
+#[derive(Clone, Copy, Debug, Default, PartialEq, Eq)]
 pub struct Steps {
     /// The nodes that were entered.
     pub nodes: u64,
@@ -17,10 +17,6 @@ impl Steps {
     pub fn new() -> Steps
         ensures { result ≡ record { nodes = 0; compares = 0; made = 0 } }
     {
-        Steps {
-            nodes: 0,
-            compares: 0,
-            made: 0,
-        }
+        Steps::default()
     }
 }

@@ -11,7 +11,7 @@ ghost use Rattle.rope_text.specs.TextInfo.{info_of, info_sum};
 use crate::lanes::count_all;
 use crate::line_breaks::LineBreaks;
 use crate::scan::to_first_break;
-use crate::seek::counts_to_break;
+use crate::seek::before_break;
 use crate::str_utils::width_of;
 
 /// What a text counts.
@@ -36,12 +36,7 @@ impl TextInfo {
     pub fn new() -> TextInfo
         ensures { (breaks : LineBreaks) → result ≡ info_of breaks [] }
     {
-        TextInfo {
-            bytes: 0,
-            chars: 0,
-            utf16_surrogates: 0,
-            break_count: 0,
-        }
+        TextInfo::default()
     }
 
     /// The counts of a text, its line breaks by the set. Reads the text once; takes no memory.
@@ -59,13 +54,7 @@ impl TextInfo {
     pub fn of_short(text: &str, breaks: LineBreaks) -> TextInfo
         ensures { result ≡ info_of breaks (chars text.now) }
     {
-        let (chars, pairs, break_count) = count_all(text.as_bytes(), breaks);
-        TextInfo {
-            bytes: text.len(),
-            chars,
-            utf16_surrogates: pairs,
-            break_count,
-        }
+        count_all(text.as_bytes(), breaks)
     }
 
     /// The counts of a text up to the end of its first line break of the set, or of all of it. Reads the text once, up
@@ -101,12 +90,12 @@ impl TextInfo {
         ensures { result ≡ info_of breaks (take (line_start breaks (chars text.now) line_idx) (chars text.now)) }
     {
         let bytes = text.as_bytes();
-        let (last, chars, pairs) = counts_to_break(bytes, line_idx - 1, breaks);
+        let counted = before_break(bytes, line_idx - 1, breaks);
         TextInfo {
-            bytes: last + width_of(bytes[last]),
-            chars: chars + 1,
-            utf16_surrogates: pairs,
+            bytes: counted.bytes + width_of(bytes[counted.bytes]),
+            chars: counted.chars + 1,
             break_count: line_idx,
+            ..counted
         }
     }
 

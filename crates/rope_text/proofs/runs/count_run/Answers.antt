@@ -47,8 +47,7 @@ pub returns-clause-chars : goal.returns-clause-chars
 returns-clause-chars c =
     let s = c.args.bytes.now in
     let n : ℕ = c.loop-i.i - c.args.from in
-    let within = c.loop-i.invariant.within in
-    let end : c.args.from + n ≡ c.args.from + 64 * c.min-blocks.result = omega (arith, within, c.loop-i.invariant.not_before, c.loop-i-test.false) in
+    let end : c.args.from + n ≡ c.args.from + 64 * c.min-size.result = omega (arith, c.loop-i.invariant.within, c.loop-i.invariant.not_before, c.loop-i-test.false) in
     omega (
       arith,
       c.sum_of.ensures,
@@ -61,8 +60,7 @@ pub returns-clause-pairs : goal.returns-clause-pairs
 returns-clause-pairs c =
     let s = c.args.bytes.now in
     let n : ℕ = c.loop-i.i - c.args.from in
-    let within = c.loop-i.invariant.within in
-    let end : c.args.from + n ≡ c.args.from + 64 * c.min-blocks.result = omega (arith, within, c.loop-i.invariant.not_before, c.loop-i-test.false) in
+    let end : c.args.from + n ≡ c.args.from + 64 * c.min-size.result = omega (arith, c.loop-i.invariant.within, c.loop-i.invariant.not_before, c.loop-i-test.false) in
     omega (
       arith,
       c.sum_of-2.ensures,
@@ -75,8 +73,7 @@ pub returns-clause-break_count : goal.returns-clause-break_count
 returns-clause-break_count c =
     let s = c.args.bytes.now in
     let n : ℕ = c.loop-i.i - c.args.from in
-    let within = c.loop-i.invariant.within in
-    let end : c.args.from + n ≡ c.args.from + 64 * c.min-blocks.result = omega (arith, within, c.loop-i.invariant.not_before, c.loop-i-test.false) in
+    let end : c.args.from + n ≡ c.args.from + 64 * c.min-size.result = omega (arith, c.loop-i.invariant.within, c.loop-i.invariant.not_before, c.loop-i-test.false) in
     omega (
       arith,
       c.sum_of-3.ensures,

@@ -5,11 +5,11 @@ use Rattle.rope_text.proofs.runs.count_run.Given as goal
 abbrev pub invariant-loop-i : goal.invariant-loop-i
 invariant-loop-i l = record {
   not_before : l.from ≤ l.i;
-  within : l.i ≤ l.end;
-  whole : (l.end - l.i) % 64 ≡ 0;
-  short : l.end ≤ l.from + 4032;
+  within : l.i ≤ l.from + l.size;
+  whole : ((l.from + l.size) - l.i) % 64 ≡ 0;
+  short : l.size ≤ 4032;
   run : IsRun l.breaks l.bytes l.from (l.i - l.from) ((l.i - l.from) / 16) l.sums;
 }
 
 abbrev pub decreases-loop-i : goal.decreases-loop-i
-decreases-loop-i l = l.end - l.i
+decreases-loop-i l = (l.from + l.size) - l.i

@@ -1,7 +1,7 @@
 use Rattle.std.proofs.Common.{◌≡◌, ℕ, ◌+◌, ◌-◌, Bool, cond, count_by, take, sym, ap, ap₂, ◌∙◌, arith}
 use Rattle.rope_text.specs.declared.line_breaks.LineBreaks.TheVariants.{Unicode}
 use Rattle.rope_text.specs.Runs.{wide_begin, wide_here, wide_of, places}
-use Rattle.rope_text.proofs.LaneSums.{lowest, wide_step, wide_end, wide_few, wide_lf, wide_cr_lf}
+use Rattle.rope_text.proofs.LaneSums.{lowest, wide_step, wide_end, wide_few, wide_none, is_unicode}
 use Rattle.rope_text.proofs.runs.wide_in.Goals as goal
 use Rattle.rope_text.proofs.runs.wide_in.Goals.{then-is_wide_break, else-is_wide_break}
 
@@ -56,10 +56,8 @@ loop-begins-preserved c =
 pub returns : goal.returns
 returns c =
     let l = c.loop-begins in
-    omega (arith, ap (λ b. wide_of b c.args.bytes.now c.args.at 64) c.in-Unicode.is, l.invariant.counted, wide_end c.args.bytes.now l.begins l.i ((c.args.at + 64) - l.i) l.invariant.marked (omega (arith, c.loop-begins-test.false)))
+    let set = is_unicode c.args.breaks (omega (arith, c.ahead.ensures, c.if-ahead-lt2.false)) in
+    omega (arith, ap (λ b. wide_of b c.args.bytes.now c.args.at 64) set, l.invariant.counted, wide_end c.args.bytes.now l.begins l.i ((c.args.at + 64) - l.i) l.invariant.marked (omega (arith, c.loop-begins-test.false)))
 
-pub returns-in-Lf : goal.returns-in-Lf
-returns-in-Lf c = sym (ap (λ b. wide_of b c.args.bytes.now c.args.at 64) c.in-Lf.is ∙ wide_lf c.args.bytes.now c.args.at 64)
-
-pub returns-in-CrLf : goal.returns-in-CrLf
-returns-in-CrLf c = sym (ap (λ b. wide_of b c.args.bytes.now c.args.at 64) c.in-CrLf.is ∙ wide_cr_lf c.args.bytes.now c.args.at 64)
+pub returns-then-ahead-lt2 : goal.returns-then-ahead-lt2
+returns-then-ahead-lt2 c = sym (wide_none c.args.breaks c.args.bytes.now c.args.at 64 (omega (arith, c.ahead.ensures, c.if-ahead-lt2.true)))

@@ -6,14 +6,14 @@ use Rattle.rope_text.proofs.Blocks.{byte_break_count-drop}
 use Rattle.rope_text.proofs.scan.go_by_blocks.Goals as goal
 
 pub first_mark-front-requires : goal.first_mark-front-requires
-first_mark-front-requires c = omega (arith, ones_more c.known_break_mask-breaks.result 32 32 64 refl, c.ones_before.ensures, c.if-ones_before-gt0.true)
+first_mark-front-requires c = omega (arith, ones_more c.known_mask-breaks.result 32 32 64 refl, c.ones_before.ensures, c.if-ones_before-gt0.true)
 
 pub returns-then-ones_before-gt0-clause-inside : goal.returns-then-ones_before-gt0-clause-inside
 returns-then-ones_before-gt0-clause-inside c = λ inside.
     let s = c.args.bytes.now in
     let breaks = c.args.breaks in
     let i : ℕ = c.loop-at.at in
-    let mask = c.known_break_mask-breaks in
+    let mask = c.known_mask-breaks in
     let mark = c.first_mark-front in
     let r : ℕ = mark.result in
     let few : r < 32 = mark.ensures.block (omega (arith, c.ones_before.ensures, c.if-ones_before-gt0.true)) in

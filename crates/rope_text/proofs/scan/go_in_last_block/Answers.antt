@@ -21,25 +21,25 @@ returns c =
     front_block b s f _ more c.ones_between.result c.ones_between-2.result c.requires.front refl (omega (arith, all, end)) refl refl
     (omega (
       arith,
-      c.break_mask.ensures skip few,
-      c.break_mask.ensures (skip + more) all,
-      ones_more c.break_mask.result skip more (skip + more) refl,
+      c.mask.ensures skip few,
+      c.mask.ensures (skip + more) all,
+      ones_more c.mask.result skip more (skip + more) refl,
       c.first_mark_before-more.ensures.before,
       ap (λ k. byte_break_count b (drop k s)) start,
       ap (λ k. byte_break_count b (drop k s)) end,
     ))
     (omega (
       arith,
-      c.begin_mask-begins.ensures skip few,
-      c.begin_mask-begins.ensures (skip + more) all,
+      c.known_mask-begins.ensures skip few,
+      c.known_mask-begins.ensures (skip + more) all,
       c.ones_between.ensures,
       ap (λ k. count_by begins_char (drop k s)) start,
       ap (λ k. count_by begins_char (drop k s)) end,
     ))
     (omega (
       arith,
-      c.begin_mask-doubles.ensures skip few,
-      c.begin_mask-doubles.ensures (skip + more) all,
+      c.known_mask-doubles.ensures skip few,
+      c.known_mask-doubles.ensures (skip + more) all,
       c.ones_between-2.ensures,
       ap (λ k. count_by begins_pair (drop k s)) start,
       ap (λ k. count_by begins_pair (drop k s)) end,

@@ -22,7 +22,7 @@ behind bs text p counted n same size more =
 pub overflow_sub-result : goal.overflow_sub-result
 overflow_sub-result c =
     let text = c.args.text.now in
-    let counted = behind c.as_bytes-bytes.result.now text c.floor_char_boundary-end.result _ _ c.as_bytes-bytes.ensures.value refl c.count_begun.ensures in
+    let counted = behind c.as_bytes-bytes.result.now text c.floor_char_boundary-end.result _ _ c.as_bytes-bytes.ensures.value refl c.count_marks.ensures in
     omega (arith, c.requires, counted, length-chars text c.utf8.text, count_by-front begins_char text c.floor_char_boundary-end.result)
 
 pub returns-then-end-bytes : goal.returns-then-end-bytes
@@ -30,7 +30,7 @@ returns-then-end-bytes c =
     let text = c.args.text.now in
     let end = c.floor_char_boundary-end in
     let before = front text c.args.byte_idx end.result c.utf8.text end.ensures.boundary end.ensures.bound end.ensures.nearest in
-    let counted = rw c.as_bytes-bytes.ensures.value at c.count_begins_before.ensures in
+    let counted = rw c.as_bytes-bytes.ensures.value at c.count_before.ensures in
     omega (arith, counted, before, count_by-front begins_char text end.result)
 
 pub returns-else-end-bytes : goal.returns-else-end-bytes
@@ -38,5 +38,5 @@ returns-else-end-bytes c =
     let text = c.args.text.now in
     let end = c.floor_char_boundary-end in
     let before = front text c.args.byte_idx end.result c.utf8.text end.ensures.boundary end.ensures.bound end.ensures.nearest in
-    let counted = behind c.as_bytes-bytes.result.now text end.result _ _ c.as_bytes-bytes.ensures.value refl c.count_begun.ensures in
+    let counted = behind c.as_bytes-bytes.result.now text end.result _ _ c.as_bytes-bytes.ensures.value refl c.count_marks.ensures in
     omega (arith, c.requires, counted, before, length-chars text c.utf8.text, count_by-front begins_char text end.result)

@@ -1,0 +1,52 @@
+-- What begins with a byte and is counted: characters, characters of two code units, and line breaks. Private working definitions: only clauses of private functions cite them.
+use Rattle.std.specs.Prelude.{◌≡◌, ℕ, ◌+◌, Bool, cond, List, map, drop, get_or, count_by, IsTrue, ◌==◌, ◌||◌}
+use Rattle.rope_text.specs.declared.line_breaks.LineBreaks.{LineBreaks}
+use Rattle.rope_text.specs.declared.line_breaks.LineBreaks.TheVariants.{Lf, CrLf, Unicode}
+use Rattle.rope_text.specs.declared.lanes.Mark.{Mark}
+use Rattle.rope_text.specs.declared.lanes.Mark.TheVariants.{Char, Pair, Break}
+use Rattle.std.specs.Int.{is_in_range}
+use Rattle.rope_text.specs.Bytes.{begins_char, begins_pair}
+use Rattle.rope_text.specs.ByteBreaks.{lone_cr, breaks_at, byte_break_count}
+
+-- whether a mark begins with the byte k
+abbrev pub mark_at : Mark → List ℕ → ℕ → Bool
+mark_at Char bytes k = begins_char (get_or bytes k 0)
+mark_at Pair bytes k = begins_pair (get_or bytes k 0)
+mark_at (Break breaks) bytes k = breaks_at breaks bytes k
+
+-- how many begin in the bytes
+abbrev pub marks : Mark → List ℕ → ℕ
+marks Char bytes = count_by begins_char bytes
+marks Pair bytes = count_by begins_pair bytes
+marks (Break breaks) bytes = byte_break_count breaks bytes
+
+-- the mark n begins with the byte `at`, counted from the byte `from` on
+abbrev pub IsMark : Mark → List ℕ → ℕ → ℕ → ℕ → Type 0
+IsMark mark bytes from n at = (marks mark (drop from bytes) ≡ n + marks mark (drop at bytes)) × IsTrue (mark_at mark bytes at)
+
+-- how many bytes behind a block say with it which marks begin there
+abbrev pub ahead : Mark → ℕ
+ahead Char = 0
+ahead Pair = 0
+ahead (Break Lf) = 0
+ahead (Break CrLf) = 1
+ahead (Break Unicode) = 2
+
+-- whether a break begins with the byte x, which is below 128, before the byte y
+abbrev pub narrow_at : LineBreaks → ℕ → ℕ → Bool
+narrow_at Lf x y = x == 10
+narrow_at CrLf x y = x == 10 || lone_cr x y
+narrow_at Unicode x y = is_in_range 10 12 x || lone_cr x y
+
+-- whether a mark begins with the byte x before the byte y, a break only where x is below 128
+abbrev pub narrow_mark : Mark → ℕ → ℕ → Bool
+narrow_mark Char x y = begins_char x
+narrow_mark Pair x y = begins_pair x
+narrow_mark (Break breaks) x y = narrow_at breaks x y
+
+-- lanes that are g of each place, and lanes that are set where p holds of the place
+pub record IsLanes (ks : List ℕ) (g : ℕ → ℕ) (v : List ℕ) : Type 0 where
+  pub same : v ≡ map g ks
+
+pub record IsMask (ks : List ℕ) (p : ℕ → Bool) (a : List ℕ) : Type 0 where
+  pub same : a ≡ map (λ k. cond (p k) 255 0) ks
