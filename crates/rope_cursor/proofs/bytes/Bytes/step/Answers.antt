@@ -1,5 +1,4 @@
-use Rattle.std.proofs.Common.{◌≡◌, ◌+◌, ◌-◌, ◌<◌, ◌≤◌, Bool, length, true, false, refl, ap, sym, ◌∙◌, subst, arith}
-use Rattle.std.specs.Bool.{MatchBool}
+use Rattle.std.proofs.Common.{◌<◌, sym, ◌∙◌, arith}
 use Rattle.rope_cursor.proofs.ByteCursors.{IsReady, ready_here, ready_beside, before_room, left_some, right_some, goes_left, goes_right}
 use Rattle.rope_cursor.proofs.bytes.Bytes.step.Goals.{Joined-self-end_of, then-self-end_of+else-end_of-self+in_ok-chunk, else-self-end_of}
 use Rattle.rope_cursor.proofs.bytes.Bytes.step.Goals as goal

@@ -1,4 +1,4 @@
-use Rattle.std.proofs.Common.{◌≡◌, ◌+◌, ◌-◌, ◌<◌, ◌^◌, Bool, length, true, false, if◌then◌else◌, refl, ap, sym, ◌∙◌, arith}
+use Rattle.std.proofs.Common.{◌≡◌, ◌+◌, ◌-◌, ◌<◌, ◌^◌, if◌then◌else◌, ap, sym, ◌∙◌, arith}
 use Rattle.rope_cursor.specs.Chars.{at_char}
 use Rattle.rope_cursor.proofs.CharCursors.{IsReady, ready_here, ready_beside, none_beside, goes_beside, cursor_beside}
 use Rattle.rope_cursor.proofs.Points.{stays_put}
