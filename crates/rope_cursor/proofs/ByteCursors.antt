@@ -129,9 +129,9 @@ module _ (back : Bool) (old : Sides ℕ) (p : Place) (chunk : List ℕ) (at befo
       let one : at - 1 + 1 ≡ at = omega (arith, some) in
       let enc = encode_utf8_all (concat p.before) in
       let left : enc ++ take at chunk ≡ (enc ++ take (at - 1) chunk) ++ get_or chunk (at - 1) 0 ∷ [] =
-          ap (λ x. enc ++ x) (ap (λ i. take i chunk) (sym one) ∙ take_more chunk (at - 1) 0 (omega (arith, some, within))) ∙ sym (append_assoc enc (take (at - 1) chunk) (get_or chunk (at - 1) 0 ∷ [])) in
+      ap (λ x. enc ++ x) (ap (λ i. take i chunk) (sym one) ∙ take_more chunk (at - 1) 0 (omega (arith, some, within))) ∙ sym (append_assoc enc (take (at - 1) chunk) (get_or chunk (at - 1) 0 ∷ [])) in
       let right : drop (at - 1) chunk ++ encode_utf8_all (concat p.after) ≡ get_or chunk (at - 1) 0 ∷ (drop at chunk ++ encode_utf8_all (concat p.after)) =
-          ap (λ x. x ++ encode_utf8_all (concat p.after)) (drop_more chunk (at - 1) 0 (omega (arith, some, within)) ∙ ap (λ i. get_or chunk (at - 1) 0 ∷ drop i chunk) one) in
+      ap (λ x. x ++ encode_utf8_all (concat p.after)) (drop_more chunk (at - 1) 0 (omega (arith, some, within)) ∙ ap (λ i. get_or chunk (at - 1) 0 ∷ drop i chunk) one) in
       rw (← r.same) (left, right, refl)
 
   pub goes_right : (is_left : Bool) → is_left ≡ false → IsReady is_left back old p chunk at before total → GoesRight (λ x. x) old (Some (get_or chunk at 0)) (at_byte p chunk (at + 1) back)
@@ -140,7 +140,7 @@ module _ (back : Bool) (old : Sides ℕ) (p : Place) (chunk : List ℕ) (at befo
       let right = ap (λ x. x ++ encode_utf8_all (concat p.after)) (drop_more chunk at 0 some) in
       let enc = encode_utf8_all (concat p.before) in
       let left : enc ++ take (at + 1) chunk ≡ (enc ++ take at chunk) ++ get_or chunk at 0 ∷ [] =
-          ap (λ x. enc ++ x) (take_more chunk at 0 some) ∙ sym (append_assoc enc (take at chunk) (get_or chunk at 0 ∷ [])) in
+      ap (λ x. enc ++ x) (take_more chunk at 0 some) ∙ sym (append_assoc enc (take at chunk) (get_or chunk at 0 ∷ [])) in
       rw (← r.same) (right, left, refl)
 
 some_chars : (text : List ℕ) → 0 < byte_len text → 0 < length text

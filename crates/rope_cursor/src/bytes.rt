@@ -11,6 +11,7 @@ ghost use Rattle.rope_part.specs.Part.{text_of};
 use crate::point::{end_of, step_chunk};
 use crate::span::Span;
 use rope_part::Part;
+use rope_tree::search::Unit;
 use std::alloc::AllocError;
 use std::fmt;
 use std::iter::ExactSizeIterator;
@@ -48,7 +49,7 @@ impl<'a> Bytes<'a> {
         ensures { result ≡ at_place (encode_utf8_all (text_of part.now)) byte_idx }
     {
         let total = part.info().bytes;
-        let (span, before, _, _) = Span::with_byte(part, byte_idx);
+        let (span, before, _, _) = Span::holding(part, Unit::Byte, byte_idx);
         let chunk = span.chunk();
         Bytes {
             span,

@@ -56,7 +56,11 @@ pub(crate) fn char_beside(text: &str, at: usize, is_left: bool) -> (char, usize)
     requires cut { IsCharBoundary text.now at }
     ensures { MatchBool is_left (IsCharBetween text.now result.1 at result.0) (IsCharBetween text.now at result.1 result.0) }
 {
-    let (start, past) = if is_left { (at - 1, at - 1) } else { (at, at + 1) };
+    let (start, past) = if is_left {
+        (at - 1, at - 1)
+    } else {
+        (at, at + 1)
+    };
     let byte = text.as_bytes()[start];
     if byte < 0x80 {
         return (byte as char, past);
