@@ -75,11 +75,8 @@ impl<'a> Chars<'a> {
         }
         let (c, at) = char_beside(self.chunk, self.at, is_left);
         self.at = at;
-        self.passed = if is_left {
-            self.passed - 1
-        } else {
-            self.passed + 1
-        };
+        let passed = self.passed;
+        self.passed = if is_left { passed - 1 } else { passed + 1 };
         Some(c)
     }
 

@@ -70,11 +70,8 @@ impl<'a> Chunks<'a> {
     pub fn new(part: &Part<'a>) -> Chunks<'a>
         ensures { result ≡ at_start (chunks_of part.now) }
     {
-        let (chunks, _, _, _) = Chunks::found(
-            part.info(),
-            Span::holding(part, Unit::Char, 0),
-            false,
-        );
+        let span = Span::holding(part, Unit::Char, 0);
+        let (chunks, _, _, _) = Chunks::found(part.info(), span, false);
         chunks
     }
 
@@ -126,11 +123,8 @@ impl<'a> Chunks<'a> {
             return Chunks::at_char(part, info.chars);
         }
         let end = part.convert(Unit::LineBreak, Unit::Char, line_break_idx);
-        Chunks::found(
-            info,
-            Span::holding(part, Unit::Char, end.saturating_sub(1)),
-            false,
-        )
+        let span = Span::holding(part, Unit::Char, end.saturating_sub(1));
+        Chunks::found(info, span, false)
     }
 
     // One chunk to the right, or to the left.

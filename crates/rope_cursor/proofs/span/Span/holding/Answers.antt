@@ -1,4 +1,4 @@
-use Rattle.std.proofs.Common.{◌≡◌, min, refl, sym, ap, ◌∙◌, ◌<◌, ◌≤◌, ◌+◌, ◌-◌, arith}
+use Rattle.std.proofs.Common.{◌≡◌, min, refl, sym, ap, ◌∙◌, ◌+◌, ◌-◌, arith}
 use Rattle.std.specs.List.{concat}
 use Rattle.rope_text.proofs.ClipLaws.{concat-clip}
 use Rattle.rope_text.proofs.ConversionLaws.{char_to_line_start}
