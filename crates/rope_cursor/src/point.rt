@@ -19,13 +19,12 @@ pub(crate) fn end_of(count: usize, is_left: bool) -> usize
 
 // Goes to the chunk beside a span's, of a span that is moved in and moved out: no call is told where the span lies.
 #[inline(never)]
-fn chunk_beside<'a>(span: Span<'a>, is_left: bool) -> (Span<'a>, Option<&'a str>)
+fn chunk_beside<'a>(mut span: Span<'a>, is_left: bool) -> (Span<'a>, Option<&'a str>)
     ensures moved { IfSome result.1 (λ chunk. IsBeside is_left span.entry result.0) }
     ensures chunk { IfSome result.1 (λ chunk. IsChunkAt result.0 chunk.now) }
     ensures stays { IfNone result.1 (result.0 ≡ span.entry) }
     ensures ended { IfNone result.1 (IsLast is_left span.entry) }
 {
-    let mut span = span;
     let has_moved = span.step(is_left);
     let chunk = span.chunk();
     (span, has_moved.then_some(chunk))
