@@ -1,16 +1,24 @@
 -- Steps of a cursor over bytes.
-use Rattle.std.proofs.Common.{All, length-take, ◌≡◌, ℕ, ◌+◌, ◌-◌, ◌<◌, ◌≤◌, List, [], ◌∷◌, ◌++◌, length, take, drop, get_or, ap, sym, ◌∙◌, arith, append_assoc, length-append}
-use Rattle.std.proofs.lemmas.List.{take-append-drop, append-nil, take_all, drop_all, drop_more, take_more}
+use Rattle.std.proofs.Common.{All, Some, subst, Bool, true, false, if◌then◌else◌, refl, length-take, length-drop, ◌≡◌, ℕ, ◌+◌, ◌-◌, ◌<◌, ◌≤◌, List, [], ◌∷◌, ◌++◌, length, take, drop, get_or, ap, sym, ◌∙◌, arith, append_assoc, length-append}
+use Rattle.std.proofs.lemmas.List.{nil_from_length, take-append-drop, append-nil, take_all, drop_all, drop_more, take_more}
 use Rattle.std.proofs.lemmas.Str.{encodes-append}
+use Rattle.std.specs.Bool.{MatchBool}
 use Rattle.std.specs.List.{concat}
 use Rattle.std.specs.Str.{encode_utf8_all}
 use Rattle.rope_text.specs.Text.{byte_len}
 use Rattle.rope_text.proofs.Measures.{IsMeasure-byte_len}
 use Rattle.rope_text.proofs.CuttingLaws.{concat-append}
-use Rattle.rope_cursor.specs.Path.{Place, IsNext, leaves}
+use Rattle.rope_text.specs.Sides.{Sides, GoesLeft, GoesRight}
+use Rattle.rope_cursor.specs.Path.{Place, IsNext, IsBeside, leaves}
 use Rattle.rope_cursor.specs.Point.{IsChunkAt}
-use Rattle.rope_cursor.specs.Bytes.{IsByteCursor}
-use Rattle.rope_cursor.proofs.Points.{leaves_next, here_solid, AreSolid_same, chunk_bytes, chunk_some}
+use Rattle.rope_cursor.specs.Bytes.{at_byte, IsByteCursor}
+use Rattle.rope_cursor.proofs.Points.{leaves_next, here_solid, AreSolid_same, chunk_bytes, chunk_some, sides_same}
+
+-- a cursor with a byte to the left, or to the right, in its chunk, which shows what another one does
+pub record IsReady (is_left back : Bool) (old : Sides ℕ) (p : Place) (chunk : List ℕ) (at before total : ℕ) : Type 0 where
+  pub cursor : IsByteCursor p chunk at before total
+  pub some : MatchBool is_left (0 < at) (at < length chunk)
+  pub same : at_byte p chunk at back ≡ old
 
 -- the bytes before the next place, and those from it on
 module _ (p q : Place) (chunk next : List ℕ) (n : IsNext p q) (h : IsChunkAt p chunk) (k : IsChunkAt q next) where
@@ -23,70 +31,117 @@ module _ (p q : Place) (chunk next : List ℕ) (n : IsNext p q) (h : IsChunkAt p
   bytes_after =
       ap (λ x. encode_utf8_all (concat x)) n.after ∙ encodes-append q.here (concat q.after) ∙ ap (λ x. x ++ encode_utf8_all (concat q.after)) (chunk_bytes q next k)
 
-  length_before : length (encode_utf8_all (concat q.before)) ≡ length (encode_utf8_all (concat p.before)) + length chunk
+  pub length_before : length (encode_utf8_all (concat q.before)) ≡ length (encode_utf8_all (concat p.before)) + length chunk
   length_before = ap length bytes_before ∙ length-append (encode_utf8_all (concat p.before)) chunk
 
   length_after : length (encode_utf8_all (concat p.after)) ≡ length next + length (encode_utf8_all (concat q.after))
   length_after = ap length bytes_after ∙ length-append next (encode_utf8_all (concat q.after))
 
-  -- the cursor there
-  pub cursor_next : (at to before total : ℕ) → IsByteCursor p chunk at before total → length chunk ≤ at → to ≤ length next → IsByteCursor q next to (before + at) total
-  cursor_next at to before total c past within = record {
-    chunk_is = k;
-    within = within;
-    before_is = omega (arith, c.before_is, c.within, length_before);
-    total_is = omega (arith, c.total_is, c.within, length_after);
-    solid = AreSolid_same p q total (leaves_next p q n) c.solid;
-  }
+  -- past the last byte of a chunk it stands before the first one of the next
+  page_left : (at to : ℕ) → at ≡ length chunk → to ≡ 0 → encode_utf8_all (concat p.before) ++ take at chunk ≡ encode_utf8_all (concat q.before) ++ take to next
+  page_left at to e z =
+      let before = encode_utf8_all (concat p.before) in
+      ap (λ x. before ++ x) (take_all at chunk (omega (arith, e))) ∙ sym bytes_before ∙ sym (append-nil (encode_utf8_all (concat q.before)))
+      ∙ ap (λ i. encode_utf8_all (concat q.before) ++ take i next) (sym z)
 
-  -- and back
-  pub cursor_prev : (at to before total : ℕ) → IsByteCursor q next at before total → to ≤ length chunk → IsByteCursor p chunk to (before - length chunk) total
-  cursor_prev at to before total c within = record {
-    chunk_is = h;
-    within = within;
-    before_is = omega (arith, c.before_is, length_before);
-    total_is = omega (arith, c.total_is, c.before_is, length_before, length_after);
-    solid = AreSolid_same q p total (sym (leaves_next p q n)) c.solid;
-  }
+  page_right : (at to : ℕ) → at ≡ length chunk → to ≡ 0 → drop at chunk ++ encode_utf8_all (concat p.after) ≡ drop to next ++ encode_utf8_all (concat q.after)
+  page_right at to e z =
+      ap (λ x. x ++ encode_utf8_all (concat p.after)) (drop_all at chunk (omega (arith, e))) ∙ bytes_after ∙ ap (λ i. drop i next ++ encode_utf8_all (concat q.after)) (sym z)
 
-  pub before_some : (at before total : ℕ) → IsByteCursor q next at before total → length chunk ≤ before
-  before_some at before total c = omega (arith, c.before_is, length_before)
+  pub page : (at to : ℕ) (back : Bool) → at ≡ length chunk → to ≡ 0 → at_byte p chunk at back ≡ at_byte q next to back
+  page at to back e z = sides_same _ _ (page_left at to e z) (page_right at to e z) refl
 
-  -- the chunk there is not empty, where it is not at the end of the bytes; nor the one before, where it is not at their start
-  pub next_some : (at before total : ℕ) → IsByteCursor p chunk at before total → length chunk ≤ at → (total ≡ before + at → ⊥) → 0 < length next
-  next_some at before total c past more =
+  -- the cursor there, and back, where it is not at the end of all the bytes
+  pub ready_next : (at to before total : ℕ) (back : Bool) → IsByteCursor p chunk at before total → at ≡ length chunk → (before + at ≡ total → ⊥) → to ≡ 0
+      → IsReady false back (at_byte p chunk at back) q next to (before + at - to) total
+  ready_next at to before total back c e more z =
       let some : 0 < total = omega (arith, c.total_is, c.within, more) in
-      chunk_some q next k (here_solid q total (AreSolid_same p q total (leaves_next p q n) c.solid) some)
+      let solid = AreSolid_same p q total (leaves_next p q n) c.solid in
+      let first : 0 < length next = chunk_some q next k (here_solid q total solid some) in
+      record {
+        cursor = record {
+          chunk_is = k;
+          within = omega (arith, z);
+          before_is = omega (arith, c.before_is, length_before, e, z);
+          total_is = omega (arith, c.total_is, length_after, e, z);
+          solid = solid;
+        };
+        some = omega (arith, z, first);
+        same = sym (page at to back e z);
+      }
 
-  pub prev_some : (at before total : ℕ) → IsByteCursor q next at before total → (before ≡ 0 → ⊥) → 0 < length chunk
-  prev_some at before total c more =
-      let some : 0 < total = omega (arith, c.total_is, more) in
-      chunk_some p chunk h (here_solid p total (AreSolid_same q p total (sym (leaves_next p q n)) c.solid) some)
+  pub ready_prev : (at to before total : ℕ) (back : Bool) → IsByteCursor q next at before total → at ≡ 0 → (before + at ≡ 0 → ⊥) → to ≡ length chunk
+      → IsReady true back (at_byte q next at back) p chunk to (before + at - to) total
+  ready_prev at to before total back c z more e =
+      let some : 0 < total = omega (arith, c.total_is, z, more) in
+      let solid = AreSolid_same q p total (sym (leaves_next p q n)) c.solid in
+      let last : 0 < length chunk = chunk_some p chunk h (here_solid p total solid some) in
+      record {
+        cursor = record {
+          chunk_is = h;
+          within = omega (arith, e);
+          before_is = omega (arith, c.before_is, length_before, e, z);
+          total_is = omega (arith, c.total_is, c.before_is, length_before, length_after, e, z);
+          solid = solid;
+        };
+        some = omega (arith, e, last);
+        same = page to at back e z;
+      }
 
-  -- the first byte there, passed
-  pub passes_first : (at : ℕ) → at ≤ length chunk → length chunk ≤ at → 0 < length next →
-      (drop at chunk ++ encode_utf8_all (concat p.after) ≡ get_or next 0 0 ∷ (drop 1 next ++ encode_utf8_all (concat q.after)))
-      × (encode_utf8_all (concat q.before) ++ take 1 next ≡ (encode_utf8_all (concat p.before) ++ take at chunk) ++ get_or next 0 0 ∷ [])
-  passes_first at within past some =
-      let front : take 1 next ≡ get_or next 0 0 ∷ [] = take_more next 0 0 some in (
-        rw (drop_all at chunk past) bytes_after ∙ ap (λ x. x ++ encode_utf8_all (concat q.after)) (drop_more next 0 0 some),
-        rw (take_all at chunk past, front) (ap (λ x. x ++ get_or next 0 0 ∷ []) bytes_before),
-      )
+-- it has a byte on that side in its chunk
+pub ready_here : (is_left back : Bool) (p : Place) (chunk : List ℕ) (at before total : ℕ) → IsByteCursor p chunk at before total → (at ≡ (if is_left then 0 else length chunk) → ⊥)
+    → IsReady is_left back (at_byte p chunk at back) p chunk at before total
+ready_here true back p chunk at before total c more = record { cursor = c; some = omega (arith, more); same = refl }
+ready_here false back p chunk at before total c more = record { cursor = c; some = omega (arith, c.within, more); same = refl }
 
-  -- the last byte of the chunk before, passed
-  pub passes_last : 0 < length chunk →
-      (encode_utf8_all (concat q.before) ++ take 0 next ≡ (encode_utf8_all (concat p.before) ++ take (length chunk - 1) chunk) ++ get_or chunk (length chunk - 1) 0 ∷ [])
-      × (drop (length chunk - 1) chunk ++ encode_utf8_all (concat p.after) ≡ get_or chunk (length chunk - 1) 0 ∷ (next ++ encode_utf8_all (concat q.after)))
-  passes_last some =
-      let last = length chunk - 1 in
-      let within : last < length chunk = omega arith in
-      let one : last + 1 ≡ length chunk = omega arith in
-      let whole : take (last + 1) chunk ≡ chunk = take_all (last + 1) chunk (omega arith) in
-      let none : drop (last + 1) chunk ≡ [] = drop_all (last + 1) chunk (omega arith) in
-      let before = encode_utf8_all (concat p.before) in (
-        append-nil (encode_utf8_all (concat q.before)) ∙ bytes_before ∙ ap (λ x. before ++ x) (sym whole ∙ take_more chunk last 0 within) ∙ sym (append_assoc before (take last chunk) (get_or chunk last 0 ∷ [])),
-        ap (λ x. x ++ encode_utf8_all (concat p.after)) (drop_more chunk last 0 within ∙ ap (λ x. get_or chunk last 0 ∷ x) none) ∙ ap (λ x. get_or chunk last 0 ∷ x) bytes_after,
-      )
+pub ready_beside : (is_left back : Bool) (p q : Place) (chunk next : List ℕ) → IsBeside is_left p q → IsChunkAt q next → (at to before total : ℕ) → IsByteCursor p chunk at before total
+    → at ≡ (if is_left then 0 else length chunk) → (before + at ≡ (if is_left then 0 else total) → ⊥) → to ≡ (if is_left then length next else 0)
+    → IsReady is_left back (at_byte p chunk at back) q next to (before + at - to) total
+ready_beside true back p q chunk next n k at to before total c e more t = ready_prev q p next chunk n k c.chunk_is at to before total back c e more t
+ready_beside false back p q chunk next n k at to before total c e more t = ready_next p q chunk next n c.chunk_is k at to before total back c e more t
+
+-- what is behind it on that side
+pub no_side : (is_left : Bool) (p : Place) (chunk : List ℕ) (at before total : ℕ) → IsByteCursor p chunk at before total → at ≡ (if is_left then 0 else length chunk) → before + at ≡ (if is_left then 0 else total)
+    → (if is_left then encode_utf8_all (concat p.before) ++ take at chunk else drop at chunk ++ encode_utf8_all (concat p.after)) ≡ []
+no_side true p chunk at before total c e z =
+    nil_from_length _ (omega (arith, length-append (encode_utf8_all (concat p.before)) (take at chunk), length-take at chunk, c.before_is))
+no_side false p chunk at before total c e z =
+    nil_from_length _ (omega (arith, length-append (drop at chunk) (encode_utf8_all (concat p.after)), length-drop at chunk, c.total_is))
+
+-- a chunk is within what is behind its end
+pub before_room : (is_left : Bool) (p q : Place) (next : List ℕ) → IsBeside is_left p q → IsChunkAt q next → (chunk : List ℕ) (at to before total : ℕ) → IsByteCursor p chunk at before total
+    → to ≡ (if is_left then length next else 0) → to ≤ before + at
+before_room true p q next n k chunk at to before total c t = omega (arith, t, c.before_is, length_before q p next chunk n k c.chunk_is)
+before_room false p q next n k chunk at to before total c t = omega (arith, t)
+
+-- the byte to the left, passed, and the one to the right
+module _ (back : Bool) (old : Sides ℕ) (p : Place) (chunk : List ℕ) (at before total : ℕ) where
+  pub left_some : (is_left : Bool) → is_left ≡ true → IsReady is_left back old p chunk at before total → 0 < at
+  left_some is_left e r = subst (λ (b : Bool). MatchBool b (0 < at) (at < length chunk)) e r.some
+
+  pub right_some : (is_left : Bool) → is_left ≡ false → IsReady is_left back old p chunk at before total → at < length chunk
+  right_some is_left e r = subst (λ (b : Bool). MatchBool b (0 < at) (at < length chunk)) e r.some
+
+  pub goes_left : (is_left : Bool) → is_left ≡ true → IsReady is_left back old p chunk at before total → GoesLeft (λ x. x) old (Some (get_or chunk (at - 1) 0)) (at_byte p chunk (at - 1) back)
+  goes_left is_left e r =
+      let some = left_some is_left e r in
+      let within = r.cursor.within in
+      let one : at - 1 + 1 ≡ at = omega (arith, some) in
+      let enc = encode_utf8_all (concat p.before) in
+      let left : enc ++ take at chunk ≡ (enc ++ take (at - 1) chunk) ++ get_or chunk (at - 1) 0 ∷ [] =
+      ap (λ x. enc ++ x) (ap (λ i. take i chunk) (sym one) ∙ take_more chunk (at - 1) 0 (omega (arith, some, within))) ∙ sym (append_assoc enc (take (at - 1) chunk) (get_or chunk (at - 1) 0 ∷ [])) in
+      let right : drop (at - 1) chunk ++ encode_utf8_all (concat p.after) ≡ get_or chunk (at - 1) 0 ∷ (drop at chunk ++ encode_utf8_all (concat p.after)) =
+      ap (λ x. x ++ encode_utf8_all (concat p.after)) (drop_more chunk (at - 1) 0 (omega (arith, some, within)) ∙ ap (λ i. get_or chunk (at - 1) 0 ∷ drop i chunk) one) in
+      rw (← r.same) (left, right, refl)
+
+  pub goes_right : (is_left : Bool) → is_left ≡ false → IsReady is_left back old p chunk at before total → GoesRight (λ x. x) old (Some (get_or chunk at 0)) (at_byte p chunk (at + 1) back)
+  goes_right is_left e r =
+      let some = right_some is_left e r in
+      let right = ap (λ x. x ++ encode_utf8_all (concat p.after)) (drop_more chunk at 0 some) in
+      let enc = encode_utf8_all (concat p.before) in
+      let left : enc ++ take (at + 1) chunk ≡ (enc ++ take at chunk) ++ get_or chunk at 0 ∷ [] =
+      ap (λ x. enc ++ x) (take_more chunk at 0 some) ∙ sym (append_assoc enc (take at chunk) (get_or chunk at 0 ∷ [])) in
+      rw (← r.same) (right, left, refl)
 
 some_chars : (text : List ℕ) → 0 < byte_len text → 0 < length text
 some_chars [] h = absurd (omega arith)

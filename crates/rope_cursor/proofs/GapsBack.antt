@@ -2,7 +2,7 @@
 use Rattle.std.proofs.Common.{◌≡◌, ℕ, ◌+◌, ◌-◌, ◌<◌, ◌≤◌, false, List, [], ◌∷◌, ◌++◌, length, take, drop, refl, sym, ap, subst, ◌∙◌, arith, append_assoc, length-append, inl, inr}
 use Rattle.std.specs.List.{concat}
 use Rattle.std.proofs.lemmas.Bool.{cases_lt}
-use Rattle.std.proofs.lemmas.List.{append-nil, take-append-le, drop-append-le, take-append-drop, length-take-le}
+use Rattle.std.proofs.lemmas.List.{take_all, drop_all, append-nil, take-append-le, drop-append-le, take-append-drop, length-take-le}
 use Rattle.std.proofs.Math.Seq.{take-append-add, drop-append-add}
 use Rattle.std.proofs.lemmas.Str.{length-le-encodes}
 use Rattle.rope_text.specs.declared.line_breaks.LineBreaks.{LineBreaks}
@@ -23,10 +23,23 @@ use Rattle.rope_text.proofs.SliceLaws.{char_to_line_early}
 use Rattle.rope_text.proofs.LineSeams.{never, break_count-apart, last_start-left, last_start-right}
 use Rattle.rope_text.proofs.InfoLaws.{same_info}
 use Rattle.rope_cursor.specs.Path.{Place, IsNext}
-use Rattle.rope_cursor.specs.Gap.{halves_at, AreChunks, IsGap, PassesBack, PassedBack, PassedBackTo}
+use Rattle.rope_cursor.proofs.PartsBetween.{char_at_byte}
+use Rattle.rope_cursor.specs.Gap.{before_byte, after_byte, halves_at, AreChunks, IsGap, PassesBack, PassedBack, PassedBackTo}
 use Rattle.rope_cursor.proofs.Spans.{leaves_next}
 use Rattle.rope_cursor.proofs.Gaps.{apart_joined, apart_front, here_apart, front_place, half_of, AreHalf, size_two, whole_text}
 use Rattle.rope_cursor.proofs.GapSteps.{apart_back}
+
+-- the place behind the last byte is behind the last character
+end_at : (text : List ℕ) (size : ℕ) → size ≡ byte_len text → byte_to_char text size ≡ length text
+end_at text size e = char_at_byte text size (length text) (omega arith) (e ∙ ap byte_len (sym (take_all (length text) text (omega arith))))
+
+pub whole : (text : List ℕ) (size : ℕ) → size ≡ byte_len text → before_byte text size ≡ text
+whole text size e = ap (λ k. take k text) (end_at text size e) ∙ take_all (length text) text (omega arith)
+
+pub apart_at_end : (text : List ℕ) (size : ℕ) → size ≡ byte_len text → parts_crlf (before_byte text size) (after_byte text size) ≡ false
+apart_at_end text size e =
+    let none : after_byte text size ≡ [] = ap (λ k. drop k text) (end_at text size e) ∙ drop_all (length text) text (omega arith) in
+    ap (parts_crlf (before_byte text size)) none ∙ never (ends_in_cr (before_byte text size))
 
 -- no CR meets LF between the chunks before and those from here on
 apart_chunks : (p q : List (List ℕ)) → KeepsCrlf (p ++ q) → parts_crlf (concat p) (concat q) ≡ false

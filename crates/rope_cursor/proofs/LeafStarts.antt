@@ -1,5 +1,5 @@
 -- The chunk of a stretch that lies in a leaf, and what of the stretch lies before it.
-use Rattle.std.proofs.Common.{◌≡◌, ℕ, suc, ◌+◌, ◌-◌, ◌<◌, min, List, [], ◌∷◌, ◌++◌, length, take, get_or, refl, sym, ap, ◌∙◌, subst, arith, inl, inr, All, append_assoc}
+use Rattle.std.proofs.Common.{◌≤◌, ◌^◌, ◌≡◌, ℕ, suc, ◌+◌, ◌-◌, ◌<◌, min, List, [], ◌∷◌, ◌++◌, length, take, get_or, refl, sym, ap, ◌∙◌, subst, arith, inl, inr, All, append_assoc}
 use Rattle.std.specs.List.{concat, slice_range}
 use Rattle.std.proofs.lemmas.Bool.{cases_lt}
 use Rattle.std.proofs.lemmas.List.{length-append, take_all, take_at, take-append-le}
@@ -18,13 +18,15 @@ use Rattle.rope_tree.specs.Tree.{Tree, text, IsTree}
 use Rattle.rope_tree.proofs.LeafLaws.{nonempty_leaves}
 use Rattle.rope_tree.specs.Found.{IsFound}
 use Rattle.rope_tree.specs.declared.search.Unit.{Unit}
+use Rattle.rope_tree.specs.declared.search.Unit.TheVariants.{Byte, Char, CodeUnit, LineBreak}
+use Rattle.rope_tree.specs.Search.{count_of}
 use Rattle.rope_part.specs.Edge.{IsStretch}
 use Rattle.rope_part.proofs.ClippedChunks.{size_of_part}
-use Rattle.rope_part.proofs.Measured.{measured}
-use Rattle.rope_part.proofs.LeafParts.{leaf_in}
+use Rattle.rope_part.proofs.Measured.{Measured, measured}
+use Rattle.rope_part.proofs.LeafParts.{leaf_in, meets_byte, meets_char}
 use Rattle.rope_cursor.specs.Path.{Place, leaves, HoldsPlace}
 use Rattle.rope_cursor.specs.Span.{IsWithin}
-use Rattle.rope_cursor.specs.Starts.{AreBefore}
+use Rattle.rope_cursor.specs.Starts.{AreBefore, IsItem, size_in}
 use Rattle.rope_cursor.proofs.Spans.{bytes_before_within, leaves_clipped, some_leaf}
 
 -- the place of a leaf among the leaves of a tree
@@ -137,3 +139,56 @@ module _ (t : Tree) (start end : TextInfo) (p : Place) (info : TextInfo) (tree :
             let cut : byte_len (take end.chars x) ≡ end.bytes = sym (m.end_bytes ∙ ap byte_len (ap (take end.chars) (text_is p t e) ∙ take-append-le end.chars x (concat p.after) inside)) in
             omega (arith, size, from, both, cut, size_le_all byte_len IsMeasure-byte_len x end.chars)
       ]
+
+-- the leaf that holds a byte or a character of the stretch, or at its end the last one
+module _ (t : Tree) (start end : TextInfo) (s : IsStretch t.breaks (text t) start end) (idx place : ℕ) where
+  m : Measured t.breaks (text t) start end
+  m = measured t.breaks (text t) start end s
+
+  pub some_in : (unit : Unit) → IsItem unit → count_of unit start < count_of unit end
+  some_in Byte i = m.some_bytes
+  some_in Char i = m.some
+  some_in CodeUnit i = absurd i
+  some_in LineBreak i = absurd i
+
+  pub fits_in : (unit : Unit) → IsItem unit → idx ≤ size_in unit (slice_range (text t) start.chars end.chars) → byte_len (text t) < 2 ^ 63 → count_of unit start + idx < 2 ^ 64
+  fits_in Byte i l fits = omega (arith, l, fits, m.bytes, m.all_bytes)
+  fits_in Char i l fits = omega (arith, l, fits, m.chars, m.within, m.few_chars)
+  fits_in CodeUnit i l fits = absurd i
+  fits_in LineBreak i l fits = absurd i
+
+  pub place_in : (unit : Unit) → IsItem unit → place ≡ min (count_of unit start + idx) (count_of unit end - 1) → place < count_of unit (info_of t.breaks (text t))
+  place_in Byte i e = omega (arith, e, m.some_bytes, m.all_bytes)
+  place_in Char i e = omega (arith, e, m.some, m.within)
+  place_in CodeUnit i e = absurd i
+  place_in LineBreak i e = absurd i
+
+  module _ (p : Place) (info : TextInfo) (e : leaves p ≡ t.leaves) where
+    pub meets_in : (unit : Unit) → IsItem unit → place ≡ min (count_of unit start + idx) (count_of unit end - 1) → HoldsPlace unit t.breaks place p.before p.here info
+        → (info.chars < end.chars) × (start.chars < info.chars + length p.here)
+    meets_in Byte i at h =
+        let meets = meets_byte place t start end p.here info s (found_at Byte place t p info e h) (omega (arith, at, m.some_bytes)) (omega (arith, at, m.some_bytes)) in
+        (meets.starts, meets.ends)
+    meets_in Char i at h =
+        let meets = meets_char place t start end p.here info (found_at Char place t p info e h) (omega (arith, at, m.some)) (omega (arith, at, m.some)) in
+        (meets.starts, meets.ends)
+    meets_in CodeUnit i at h = absurd i
+    meets_in LineBreak i at h = absurd i
+
+    -- and what it holds of the stretch
+    module _ (front : List (List ℕ)) (here : List ℕ) (bytes_before : byte_len (concat front) ≡ info.bytes - start.bytes) (chars_before : length (concat front) ≡ info.chars - start.chars)
+        (chars : length (concat front) + length here ≡ min (length (concat p.before) + length p.here) end.chars - start.chars)
+        (bytes : byte_len (concat front) + byte_len here ≡ min (byte_len (concat p.before) + byte_len p.here) end.bytes - start.bytes) where
+      pub within_in : (unit : Unit) → IsItem unit → place ≡ min (count_of unit start + idx) (count_of unit end - 1) → HoldsPlace unit t.breaks place p.before p.here info
+          → idx ≤ size_in unit (slice_range (text t) start.chars end.chars) → idx ≤ size_in unit (concat front) + size_in unit here
+      within_in Byte i at h l = omega (arith, at, h.past, l, bytes, m.bytes, m.some_bytes, IsMeasure-byte_len.joined (concat p.before) p.here)
+      within_in Char i at h l = omega (arith, at, h.past, l, chars, m.chars, m.some, length-append (concat p.before) p.here)
+      within_in CodeUnit i at h l = absurd i
+      within_in LineBreak i at h l = absurd i
+
+      pub inside_in : (unit : Unit) → IsItem unit → place ≡ min (count_of unit start + idx) (count_of unit end - 1) → HoldsPlace unit t.breaks place p.before p.here info
+          → idx < size_in unit (slice_range (text t) start.chars end.chars) → idx < size_in unit (concat front) + size_in unit here
+      inside_in Byte i at h l = omega (arith, at, h.past, l, bytes, m.bytes, m.some_bytes, IsMeasure-byte_len.joined (concat p.before) p.here)
+      inside_in Char i at h l = omega (arith, at, h.past, l, chars, m.chars, m.some, length-append (concat p.before) p.here)
+      inside_in CodeUnit i at h l = absurd i
+      inside_in LineBreak i at h l = absurd i

@@ -15,15 +15,12 @@ use Rattle.rope_text.proofs.ConversionLaws.{char_to_line-line_start}
 use Rattle.rope_text.proofs.SliceLaws.{break_count-drop}
 use Rattle.rope_cursor.proofs.Gaps.{front_place, size_two}
 use Rattle.rope_text.specs.declared.line_breaks.LineBreaks.{LineBreaks}
-use Rattle.rope_text.specs.declared.text_info.TextInfo.{TextInfo}
-use Rattle.rope_text.specs.Text.{byte_len, surrogate_count}
-use Rattle.rope_text.specs.TextInfo.{info_of}
+use Rattle.rope_text.specs.Text.{byte_len}
 use Rattle.rope_text.specs.Breaks.{break_count}
 use Rattle.rope_text.specs.Conversions.{byte_to_char}
 use Rattle.rope_text.specs.LineParts.{last_start}
 use Rattle.rope_text.proofs.LineLaws.{line_start-le-length}
 use Rattle.rope_text.proofs.LineSeams.{last_start-right}
-use Rattle.rope_text.proofs.InfoLaws.{same_info}
 use Rattle.rope_cursor.proofs.PartsBetween.{char_at_byte}
 
 -- the breaks from a line's start on
@@ -31,12 +28,6 @@ pub last_breaks : (breaks : LineBreaks) (text : List ℕ) (k : ℕ) → break_co
 last_breaks breaks text k =
     let l : ℕ = break_count breaks text - k in
     omega (arith, break_count-drop breaks text (last_start breaks text k) (line_start-le-length breaks text l), char_to_line-line_start breaks text l (omega arith))
-
-pub last_counts : (breaks : LineBreaks) (text rest : List ℕ) (k count : ℕ) (info : TextInfo) → rest ≡ drop (last_start breaks text k) text → count ≡ break_count breaks text → info.bytes ≡ byte_len rest
-    → info.chars ≡ length rest → info.utf16_surrogates ≡ surrogate_count rest → info.break_count ≡ min k count → info ≡ info_of breaks (drop (last_start breaks text k) text)
-last_counts breaks text rest k count info same all bytes chars pairs few =
-    same_info info (info_of breaks (drop (last_start breaks text k) text)) (bytes ∙ ap byte_len same) (chars ∙ ap length same) (pairs ∙ ap surrogate_count same)
-    (few ∙ ap (min k) all ∙ sym (last_breaks breaks text k))
 
 -- the last lines of the text behind a place in no CR LF
 module _ (breaks : LineBreaks) (text : List ℕ) (i skip : ℕ) (within : i ≤ length text) (apart : parts_crlf (take i text) (drop i text) ≡ false) (less : skip < break_count breaks (drop i text)) where

@@ -1,5 +1,6 @@
 -- The last lines of a text's front, found between two places of the text.
-use Rattle.std.proofs.Common.{◌≡◌, ℕ, ◌+◌, ◌-◌, ◌<◌, ◌≤◌, false, List, length, take, drop, sym, ap, ◌∙◌, arith}
+use Rattle.std.proofs.Common.{◌⊎◌, inl, inr, min, ◌≡◌, ℕ, ◌+◌, ◌-◌, ◌<◌, ◌≤◌, false, List, length, take, drop, sym, ap, ◌∙◌, arith}
+use Rattle.std.proofs.lemmas.Bool.{cases_lt}
 use Rattle.std.proofs.lemmas.List.{take-take, drop-drop, length-drop, length-take-le}
 use Rattle.rope_text.specs.declared.line_breaks.LineBreaks.{LineBreaks}
 use Rattle.rope_text.specs.declared.text_info.TextInfo.{TextInfo}
@@ -19,7 +20,7 @@ use Rattle.rope_part.proofs.Clips.{byte_to_char-mono}
 use Rattle.rope_text.proofs.InfoLaws.{same_info}
 use Rattle.rope_part.proofs.Stretches.{front_and_part, part_of_front, size_part}
 use Rattle.rope_cursor.proofs.PartsBetween.{breaks_apart, char_at_byte, byte_of_char}
-use Rattle.rope_cursor.proofs.Gaps.{size_front}
+use Rattle.rope_cursor.proofs.Gaps.{size_front, front_place}
 use Rattle.rope_cursor.proofs.GapSteps.{apart_back}
 use Rattle.rope_cursor.proofs.LineCounts.{last_breaks, near_size, near_rest}
 use Rattle.rope_cursor.specs.Gap.{IsBetween}
@@ -88,7 +89,7 @@ module _ (breaks : LineBreaks) (text : List ℕ) (i j skip : ℕ) (within : j �
         let k : ℕ = line_start breaks (drop i text) (count - skip) in
         omega (arith, size_part byte_len IsMeasure-byte_len (drop i text) k (j - i) line_inside)
 
-    pub line_breaks_are : skip < count → skip ≡ break_count breaks (drop (last_start breaks (drop i (take j text)) skip) (drop i (take j text)))
+    pub line_breaks_are : skip ≤ count → skip ≡ break_count breaks (drop (last_start breaks (drop i (take j text)) skip) (drop i (take j text)))
     line_breaks_are less = sym (last_breaks breaks (drop i (take j text)) skip ∙ (let all = near_breaks count len e b in omega arith))
 
 -- the counts of a front
@@ -99,10 +100,18 @@ front_counts breaks text info place chars pairs count =
     let n : ℕ = byte_to_char text info.bytes in
     same_info info (info_of breaks (take n text)) (sym place) (chars ∙ sym (length-take-le n text (byte_to_char-le-length text info.bytes))) pairs count
 
+-- not so many breaks, and nothing before them; or more
+pub more_left : {count all cut : ℕ} → ((count ≤ all × cut ≤ 0) ⊎ (all < count)) → 0 < cut → all < count
+more_left (inl none) some = omega (arith, none.1, some)
+more_left (inr more) some = more
+
+pub few_left : {count all cut skip : ℕ} → ((count ≤ all × cut ≤ 0) ⊎ (all < count)) → skip ≡ min all count → 0 < cut → skip < count
+few_left these e some = let more = more_left these some in omega (arith, e, more)
+
 -- the same, of places in bytes
 module _ (breaks : LineBreaks) (text near : List ℕ) (skip end cut count start : ℕ) (at_end : IsBetween text end) (at_cut : IsBetween text cut) (before : cut ≤ end)
     (first : parts_crlf (take (byte_to_char text cut) text) (drop (byte_to_char text cut) text) ≡ false) (second : parts_crlf (take (byte_to_char text end) text) (drop (byte_to_char text end) text) ≡ false)
-    (near_text : near ≡ drop (byte_to_char text cut) text) (count_is : count ≡ byte_to_line breaks near (end - cut)) (less : skip < count)
+    (near_text : near ≡ drop (byte_to_char text cut) text) (count_is : count ≡ byte_to_line breaks near (end - cut)) (less : skip ≤ count) (far : 0 < cut → skip < count)
     (start_is : start ≡ byte_len (take (line_start breaks near (count - skip)) near)) where
   inside : byte_to_char text end ≤ length text
   inside = byte_to_char-le-length text end
@@ -125,20 +134,42 @@ module _ (breaks : LineBreaks) (text near : List ℕ) (skip end cut count start 
   pub start_inside : start ≤ end - cut
   start_inside = start_within breaks text (byte_to_char text cut) (byte_to_char text end) skip inside ordered first second count (end - cut) len_is lines_are start place_is
 
-  enough : skip < break_count breaks (drop (byte_to_char text cut) (take (byte_to_char text end) text))
-  enough =
-      let all = near_breaks breaks text (byte_to_char text cut) (byte_to_char text end) skip inside ordered first second count (end - cut) len_is lines_are in
-      omega (arith, less)
+  all_breaks : count ≡ break_count breaks (drop (byte_to_char text cut) (take (byte_to_char text end) text))
+  all_breaks = near_breaks breaks text (byte_to_char text cut) (byte_to_char text end) skip inside ordered first second count (end - cut) len_is lines_are
+
+  enough : 0 < cut → skip < break_count breaks (drop (byte_to_char text cut) (take (byte_to_char text end) text))
+  enough some = omega (arith, all_breaks, far some)
+
+  -- nothing lies before the bytes that are looked at
+  at_start : cut ≤ 0 → byte_to_char text cut ≡ 0
+  at_start none =
+      let zero : cut ≡ 0 = omega (arith, none) in
+      ap (byte_to_char text) zero ∙ front_place text 0 (omega arith)
+
+  -- as many breaks before the last as there are, where there are not so many
+  pub same_start : (all : ℕ) → skip ≡ min all count → (0 < cut → all < count) → last_start breaks (take (byte_to_char text end) text) skip ≡ last_start breaks (take (byte_to_char text end) text) all
+  same_start all e more =
+      let t : List ℕ = take (byte_to_char text end) text in
+      elim (cases_lt 0 cut) [
+        | inl some ↦ (let same : skip ≡ all = omega (arith, e, more some) in ap (last_start breaks t) same)
+        | inr none ↦
+            let these : count ≡ break_count breaks t = all_breaks ∙ ap (λ k. break_count breaks (drop k t)) (at_start none) in
+            let line : break_count breaks t - skip ≡ break_count breaks t - all = omega (arith, these, e) in
+            ap (line_start breaks t) line
+      ]
 
   front_within : byte_to_char text cut ≤ length (take (byte_to_char text end) text)
   front_within = omega (arith, length-take-le (byte_to_char text end) text inside, ordered)
 
   pub found_start : cut + start ≡ byte_len (take (last_start breaks (take (byte_to_char text end) text) skip) (take (byte_to_char text end) text))
   found_start =
-      near_size breaks (take (byte_to_char text end) text) (byte_to_char text cut) skip front_within
-      (near_apart breaks text (byte_to_char text cut) (byte_to_char text end) skip inside ordered first second) enough cut start
-      (sym at_cut ∙ ap byte_len (sym (take-take (byte_to_char text cut) (byte_to_char text end) text ordered)))
-      (line_bytes breaks text (byte_to_char text cut) (byte_to_char text end) skip inside ordered first second count (end - cut) len_is lines_are start place_is)
+      let t : List ℕ = take (byte_to_char text end) text in
+      let line = line_bytes breaks text (byte_to_char text cut) (byte_to_char text end) skip inside ordered first second count (end - cut) len_is lines_are start place_is in
+      elim (cases_lt 0 cut) [
+        | inl some ↦ near_size breaks t (byte_to_char text cut) skip front_within (near_apart breaks text (byte_to_char text cut) (byte_to_char text end) skip inside ordered first second) (enough some) cut start
+            (sym at_cut ∙ ap byte_len (sym (take-take (byte_to_char text cut) (byte_to_char text end) text ordered))) line
+        | inr none ↦ omega (arith, none, line, ap (λ k. byte_len (take (last_start breaks (drop k t) skip) (drop k t))) (at_start none))
+      ]
 
   pub found_fits : cut + start ≤ byte_len text
   found_fits =
@@ -180,5 +211,8 @@ module _ (breaks : LineBreaks) (text near : List ℕ) (skip end cut count start 
     pub found_counts : (info : TextInfo) → info ≡ info_of breaks (take (byte_to_char rest ((end - cut) - start)) rest)
         → info ≡ info_of breaks (drop (last_start breaks (take (byte_to_char text end) text) skip) (take (byte_to_char text end) text))
     found_counts info e =
-        e ∙ ap (info_of breaks) (front_text ∙ near_rest breaks (take (byte_to_char text end) text) (byte_to_char text cut) skip front_within
-        (near_apart breaks text (byte_to_char text cut) (byte_to_char text end) skip inside ordered first second) enough)
+        let t : List ℕ = take (byte_to_char text end) text in
+        e ∙ ap (info_of breaks) (front_text ∙ elim (cases_lt 0 cut) [
+          | inl some ↦ near_rest breaks t (byte_to_char text cut) skip front_within (near_apart breaks text (byte_to_char text cut) (byte_to_char text end) skip inside ordered first second) (enough some)
+          | inr none ↦ ap (λ k. drop (last_start breaks (drop k t) skip) (drop k t)) (at_start none)
+        ])

@@ -1,6 +1,7 @@
 -- Steps of a cursor over lines.
-use Rattle.std.proofs.Common.{◌≡◌, ℕ, ◌+◌, ◌-◌, ◌<◌, ◌≤◌, Bool, true, false, [], ◌∷◌, ◌++◌, length, take, drop, sym, ◌∙◌, ap, arith, length-take, length-drop}
+use Rattle.std.proofs.Common.{◌≡◌, ℕ, ◌+◌, ◌-◌, ◌<◌, ◌≤◌, Bool, true, false, if◌then◌else◌, [], ◌∷◌, ◌++◌, length, take, drop, sym, ◌∙◌, ap, arith, length-take, length-drop}
 use Rattle.std.proofs.lemmas.List.{drop_all, length-reverse}
+use Rattle.std.specs.Bool.{MatchBool}
 use Rattle.rope_text.specs.declared.text_info.TextInfo.{TextInfo}
 use Rattle.rope_text.specs.Lines.{line_count}
 use Rattle.rope_text.specs.Content.{Content}
@@ -22,8 +23,10 @@ left_of_line c l back some within =
     let e : (l - 1) + 1 ≡ l = omega (arith, some) in
     (ap (λ k. take k (lines_of c)) (sym e) ∙ step.1, step.0 ∙ ap (λ k. line_of c (l - 1) ∷ drop k (lines_of c)) e)
 
-pub no_line_right : (c : Content) (h : Halves) (before : TextInfo) (l total : ℕ) (back : Bool) → IsLineStart c h before l total → l ≡ total → (at_line c l back).right ≡ []
-no_line_right c h before l total back s e = drop_all l (lines_of c) (omega (arith, length-lines_of c, s.total_is))
+pub no_line : (is_left : Bool) (c : Content) (h : Halves) (before : TextInfo) (l total : ℕ) (back : Bool) → IsLineStart c h before l total → l ≡ (if is_left then 0 else total)
+    → MatchBool is_left ((at_line c l back).left ≡ []) ((at_line c l back).right ≡ [])
+no_line true c h before l total back s e = ap (λ k. take k (lines_of c)) e
+no_line false c h before l total back s e = drop_all l (lines_of c) (omega (arith, length-lines_of c, s.total_is, e))
 
 -- how many lines are ahead
 pub ahead_forward : (c : Content) (h : Halves) (before : TextInfo) (l total : ℕ) → IsLineStart c h before l total → length (ahead (at_line c l false)) ≡ total - l

@@ -1,10 +1,12 @@
 -- A character of a text between two of its bytes.
-use Rattle.std.proofs.Common.{All, ◌≡◌, ℕ, ◌+◌, ◌-◌, ◌<◌, true, List, [], ◌∷◌, ◌++◌, length, take, drop, get_or, refl, ap, subst, sym, ◌∙◌, arith, append_assoc, length-append, length-take, length-drop}
+use Rattle.std.proofs.Common.{All, None, Bool, false, if◌then◌else◌, ◌≡◌, ℕ, ◌+◌, ◌-◌, ◌<◌, true, List, [], ◌∷◌, ◌++◌, length, take, drop, get_or, refl, ap, subst, sym, ◌∙◌, arith, append_assoc, length-append, length-take, length-drop}
 use Rattle.std.proofs.lemmas.List.{get_or_at, append-nil, take-append-drop, take_at, drop_at, drop_more}
 use Rattle.std.proofs.lemmas.Str.{encodes-chars, length-le-encodes, cons_from_encodes, chars_past_char, chars-append, encode_ascii, length-encode, len_utf8_bounds, IsUtf8-encode, IsUtf8-past_char, IsUtf8-take, IsUtf8-drop, IsCharBoundary-at_seam, IsCharBoundary-from_take, IsCharBoundary-before_ascii, chars-nil}
 use Rattle.std.specs.Char.{encode_utf8, IsScalar}
 use Rattle.std.specs.Str.{chars, IsUtf8, IsCharBoundary, all_scalars, encode_utf8_all}
 use Rattle.rope_text.proofs.FirstBytes.{first_scalar}
+use Rattle.std.specs.Bool.{MatchBool}
+use Rattle.rope_text.specs.Sides.{Sides, GoesLeft, GoesRight}
 use Rattle.rope_cursor.specs.Path.{Place, IsNext, leaves}
 use Rattle.rope_cursor.specs.Point.{IsCharBetween, IsChunkAt, AreSolid}
 
@@ -80,3 +82,20 @@ chunk_bytes p bytes h = ap encode_utf8_all (sym h.here) ∙ encodes-chars bytes 
 
 pub chunk_some : (p : Place) (bytes : List ℕ) → IsChunkAt p bytes → 0 < length p.here → 0 < length bytes
 chunk_some p bytes h some = omega (arith, length-le-encodes p.here, ap length (chunk_bytes p bytes h))
+
+-- two cursors with the same on each side
+pub sides_same : {X : Type 0} (s t : Sides X) → s.left ≡ t.left → s.right ≡ t.right → s.is_backward ≡ t.is_backward → s ≡ t
+sides_same s t l r b = rw (l, r, b) refl
+
+-- where there is none on that side, it stays
+pub stays_put : {X : Type 0} (is_left : Bool) (old new : Sides X) → new ≡ old → MatchBool is_left (old.left ≡ []) (old.right ≡ []) → {A : Type 0} (view : A → X)
+    → MatchBool is_left (GoesLeft view old None new) (GoesRight view old None new)
+stays_put true old new e none view = (none, e)
+stays_put false old new e none view = (none, e)
+
+-- a byte below 128 on that side is a character of its own
+pub ascii_beside : (is_left : Bool) (bs : List ℕ) (at start past : ℕ) → IsUtf8 bs → IsCharBoundary bs at → MatchBool is_left (0 < at) (at < length bs)
+    → start ≡ (if is_left then at - 1 else at) → past ≡ (if is_left then at - 1 else at + 1) → get_or bs start 0 < 128
+    → MatchBool is_left (IsCharBetween bs past at (get_or bs start 0)) (IsCharBetween bs at past (get_or bs start 0))
+ascii_beside true bs at start past u cut some s p low = rw (p, s) (ascii_before bs at u cut some (rw (← s) low))
+ascii_beside false bs at start past u cut some s p low = rw (p, s) (ascii_after bs at u cut some (rw (← s) low))

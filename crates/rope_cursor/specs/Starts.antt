@@ -1,13 +1,29 @@
 -- Where a cursor over chunks starts.
-use Rattle.std.specs.Prelude.{◌≡◌, ℕ, ◌+◌, ◌<◌, List, length}
+use Rattle.std.specs.Prelude.{◌≡◌, ⊤, ℕ, ◌+◌, ◌<◌, List, length}
 use Rattle.std.specs.List.{concat}
 use Rattle.rope_text.specs.declared.line_breaks.LineBreaks.{LineBreaks}
 use Rattle.rope_text.specs.declared.text_info.TextInfo.{TextInfo}
 use Rattle.rope_text.specs.Text.{byte_len}
 use Rattle.rope_text.specs.TextInfo.{info_of}
 use Rattle.rope_text.specs.Conversions.{char_to_line}
+use Rattle.rope_tree.specs.declared.search.Unit.{Unit}
+use Rattle.rope_tree.specs.declared.search.Unit.TheVariants.{Byte, Char, CodeUnit, LineBreak}
 use Rattle.rope_part.specs.declared.stretch.Stretch.{Stretch}
 use Rattle.rope_cursor.specs.Path.{Place, leaves}
+
+-- a byte or a character
+abbrev pub IsItem : Unit → Type 0
+IsItem Byte = ⊤
+IsItem Char = ⊤
+IsItem CodeUnit = ⊥
+IsItem LineBreak = ⊥
+
+-- how many of them a text has
+abbrev pub size_in : Unit → List ℕ → ℕ
+size_in Byte text = byte_len text
+size_in Char text = length text
+size_in CodeUnit text = 0
+size_in LineBreak text = 0
 
 -- the bytes, the characters and the line breaks of a text that lie in its first chunks; only breaks that end there are counted
 pub record AreBefore (breaks : LineBreaks) (text : List ℕ) (chunks : List (List ℕ)) (bytes chars count : ℕ) : Type 0 where

@@ -8,28 +8,8 @@ ghost use Rattle.rope_part.specs.Part.{content_of, text_of, breaks_of};
 ghost use Rattle.rope_part.specs.Stretch as of_stretch;
 ghost use Rattle.rope_part.specs.Plain as of_plain;
 
-use crate::cuts::{text_after, text_before};
 use rope_part::{Part, Plain, Stretch};
 use rope_text::TextInfo;
-
-// The plain text between two places.
-fn in_text<'a>(plain: &Plain<'a>, from: TextInfo, to: TextInfo) -> Plain<'a>
-    requires from_is { from ≡ info_of plain.now.breaks (take from.chars (of_plain.text_of plain.now)) }
-    requires to_is { to ≡ info_of plain.now.breaks (take to.chars (of_plain.text_of plain.now)) }
-    requires ordered { from.chars ≤ to.chars }
-    requires within { to.chars ≤ length (of_plain.text_of plain.now) }
-    requires apart { parts_crlf (take from.chars (of_plain.text_of plain.now)) (drop from.chars (of_plain.text_of plain.now)) ≡ false }
-    ensures text { of_plain.text_of result ≡ slice_range (of_plain.text_of plain.now) from.chars to.chars }
-    ensures breaks { result.breaks ≡ plain.now.breaks }
-{
-    let info = to.minus(from);
-    let rest = text_after(plain.as_str(), from.bytes);
-    Plain {
-        text: text_before(rest, info.bytes),
-        info,
-        breaks: plain.breaks,
-    }
-}
 
 /// The part between two places of a part, by the counts of its text up to them. The first lies in no CR LF.
 #[inline(always)]
@@ -52,6 +32,11 @@ pub(crate) fn between<'a>(part: &Part<'a>, from: TextInfo, to: TextInfo) -> Part
             let end = stretch.start.plus(to);
             Part::InTree(Stretch { node, start, end })
         }
-        Part::Alone(plain) => Part::Alone(in_text(plain, from, to)),
+        Part::Alone(plain) => {
+            let text = &plain.as_str()[from.bytes..to.bytes];
+            let info = to.minus(from);
+            let breaks = plain.breaks;
+            Part::Alone(Plain { text, info, breaks })
+        }
     }
 }

@@ -1,5 +1,6 @@
 //! A cursor over the bytes of a part.
 ghost use Rattle.std.specs.Prelude.{◌≡◌, ℕ, ◌≤◌, length, false, ⊤, IfSome, Some};
+ghost use Rattle.std.specs.Bool.{MatchBool};
 ghost use Rattle.std.specs.Str.{encode_utf8_all};
 ghost use Rattle.std.specs.Iterator.{YieldsFirstBy, item_count, UpTo};
 ghost use Rattle.std.specs.Iterator.SizeHint.{IsWithinCount};
@@ -7,9 +8,10 @@ ghost use Rattle.rope_text.specs.Text.{byte_len};
 ghost use Rattle.rope_text.specs.Sides.{ahead, at_place, turned, GoesRight, GoesLeft, GoesAhead, StepsBack};
 ghost use Rattle.rope_part.specs.Part.{text_of};
 
-use crate::point::step_chunk;
+use crate::point::{end_of, step_chunk};
 use crate::span::Span;
 use rope_part::Part;
+use rope_tree::search::Unit;
 use std::alloc::AllocError;
 use std::fmt;
 use std::iter::ExactSizeIterator;
@@ -47,7 +49,7 @@ impl<'a> Bytes<'a> {
         ensures { result ≡ at_place (encode_utf8_all (text_of part.now)) byte_idx }
     {
         let total = part.info().bytes;
-        let (span, before, _, _) = Span::with_byte(part, byte_idx);
+        let (span, before, _, _) = Span::holding(part, Unit::Byte, byte_idx);
         let chunk = span.chunk();
         Bytes {
             span,
@@ -59,45 +61,28 @@ impl<'a> Bytes<'a> {
         }
     }
 
-    // One byte to the right. Expanded where it is called: mostly it stays in the chunk, and a call costs more.
+    // One byte to the left, or to the right. Expanded where it is called, by a constant: mostly it stays in the chunk, and a call
+    // costs more.
     #[inline(always)]
-    fn right(&mut self) -> Option<u8>
-        ensures { GoesRight (λ x. x) self.old result self.new }
+    fn step(&mut self, is_left: bool) -> Option<u8>
+        ensures { MatchBool is_left (GoesLeft (λ x. x) self.old result self.new) (GoesRight (λ x. x) self.old result self.new) }
     {
-        let at = self.at;
-        if at < self.chunk.len() {
-            self.at = at + 1;
-            return Some(self.chunk.as_bytes()[at]);
+        if self.at == end_of(self.chunk.len(), is_left) {
+            if end_of(self.total, is_left) == self.before + self.at {
+                return None;
+            }
+            let (chunk, at) = step_chunk(&mut self.span, is_left)?;
+            self.chunk = chunk;
+            self.before = self.before + self.at - at;
+            self.at = at;
         }
-        if self.total == self.before + at {
-            return None;
-        }
-        let chunk = step_chunk(&mut self.span, false)?;
-        self.before += at;
-        self.chunk = chunk;
-        self.at = 1;
-        Some(chunk.as_bytes()[0])
-    }
-
-    // One byte to the left.
-    #[inline(always)]
-    fn left(&mut self) -> Option<u8>
-        ensures { GoesLeft (λ x. x) self.old result self.new }
-    {
         let at = self.at;
-        if at > 0 {
+        if is_left {
             self.at = at - 1;
             return Some(self.chunk.as_bytes()[at - 1]);
         }
-        if self.before == 0 {
-            return None;
-        }
-        let chunk = step_chunk(&mut self.span, true)?;
-        let last = chunk.len() - 1;
-        self.before -= chunk.len();
-        self.chunk = chunk;
-        self.at = last;
-        Some(chunk.as_bytes()[last])
+        self.at = at + 1;
+        Some(self.chunk.as_bytes()[at])
     }
 
     /// The byte behind, to which it steps back; or none at that end, where it stays.
@@ -106,9 +91,9 @@ impl<'a> Bytes<'a> {
         ensures { StepsBack (λ x. x) self.old result self.new }
     {
         if self.is_backward {
-            self.right()
+            self.step(false)
         } else {
-            self.left()
+            self.step(true)
         }
     }
 
@@ -142,9 +127,9 @@ impl<'a> Iterator for Bytes<'a> {
         ensures goes { GoesAhead (λ x. x) self.old result self.new }
     {
         if self.is_backward {
-            self.left()
+            self.step(true)
         } else {
-            self.right()
+            self.step(false)
         }
     }
 

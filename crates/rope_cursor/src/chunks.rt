@@ -70,7 +70,8 @@ impl<'a> Chunks<'a> {
     pub fn new(part: &Part<'a>) -> Chunks<'a>
         ensures { result ≡ at_start (chunks_of part.now) }
     {
-        let (chunks, _, _, _) = Chunks::found(part.info(), Span::with_char(part, 0), false);
+        let span = Span::holding(part, Unit::Char, 0);
+        let (chunks, _, _, _) = Chunks::found(part.info(), span, false);
         chunks
     }
 
@@ -85,7 +86,7 @@ impl<'a> Chunks<'a> {
             (chunk_place_at_byte (chunks_of part.now) byte_idx)) result.1 result.2 result.3 }
     {
         let info = part.info();
-        let span = Span::with_byte(part, byte_idx);
+        let span = Span::holding(part, Unit::Byte, byte_idx);
         Chunks::found(info, span, byte_idx == info.bytes)
     }
 
@@ -100,7 +101,7 @@ impl<'a> Chunks<'a> {
             (chunk_place_at_char (chunks_of part.now) char_idx)) result.1 result.2 result.3 }
     {
         let info = part.info();
-        let span = Span::with_char(part, char_idx);
+        let span = Span::holding(part, Unit::Char, char_idx);
         Chunks::found(info, span, char_idx == info.chars)
     }
 
@@ -122,7 +123,8 @@ impl<'a> Chunks<'a> {
             return Chunks::at_char(part, info.chars);
         }
         let end = part.convert(Unit::LineBreak, Unit::Char, line_break_idx);
-        Chunks::found(info, Span::with_char(part, end.saturating_sub(1)), false)
+        let span = Span::holding(part, Unit::Char, end.saturating_sub(1));
+        Chunks::found(info, span, false)
     }
 
     // One chunk to the right, or to the left.

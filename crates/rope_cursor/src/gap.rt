@@ -1,5 +1,5 @@
 //! A place between two characters of a part, which goes from line to line.
-ghost use Rattle.std.specs.Prelude.{◌≡◌, ◌≤◌, ◌++◌, false, length, take, drop, IfSome};
+ghost use Rattle.std.specs.Prelude.{◌≡◌, ◌<◌, ◌≤◌, ◌++◌, false, length, take, drop, IfSome, IfNone};
 ghost use Rattle.rope_text.specs.Cutting.{parts_crlf};
 ghost use Rattle.std.specs.List.{concat};
 ghost use Rattle.std.specs.Str.{chars};
@@ -10,15 +10,14 @@ ghost use Rattle.rope_text.specs.TextInfo.{info_of};
 ghost use Rattle.rope_part.specs.Part.{text_of};
 ghost use Rattle.rope_cursor.specs.Gap.{before_byte, after_byte, AreChunks, IsBetween, PassesLine, PassesBack};
 
-use crate::cuts::{text_after, text_before};
+use crate::cuts::text_after;
 use crate::span::Span;
 use rope_part::Part;
 use rope_text::crlf::prev_break;
 use rope_text::str_utils::{
-    byte_len_of, byte_to_char_idx, byte_to_line_with, byte_to_surrogates, count_breaks,
-    count_chars, count_surrogates, line_to_byte_with,
+    byte_len_of, byte_to_char_idx, byte_to_line_with, byte_to_surrogates, line_to_byte_with,
 };
-use rope_text::{LineBreaks, TextInfo};
+use rope_text::{LineBreaks, MAX_BYTES, TextInfo};
 use std::marker::Model;
 
 /// A place between two characters of a part: a byte of a chunk.
@@ -64,26 +63,9 @@ const NEAR_BYTES: usize = 64;
 // And so many at the most, however long the line was that was found last.
 const FAR_BYTES: usize = 256;
 
-// The byte at which the last line of a text starts, or the one so many line breaks before it, and the counts from there on.
-// All of the text is read.
-fn count_last_of_all(text: &str, skip: usize, breaks: LineBreaks) -> (usize, TextInfo)
-    ensures start { result.0 ≡ byte_len (take (last_start breaks (chars text.now) skip) (chars text.now)) }
-    ensures counts { result.1 ≡ info_of breaks (drop (last_start breaks (chars text.now) skip) (chars text.now)) }
-{
-    let break_count = count_breaks(text, breaks);
-    let start = line_to_byte_with(text, break_count.saturating_sub(skip), breaks);
-    let rest = text_after(text, start);
-    let info = TextInfo {
-        bytes: byte_len_of(rest),
-        chars: count_chars(rest),
-        utf16_surrogates: count_surrogates(rest),
-        break_count: skip.min(break_count),
-    };
-    (start, info)
-}
-
-// What `count_last_of_all` answers of a text's front, where it is found in the bytes near the front's end. What follows the front
-// helps to count, since whole blocks are counted at once.
+// The byte at which the last line of a text's front starts, or the one so many line breaks before it, and the counts from there
+// on; or none, where they are not found in so many bytes before the front's end. What follows the front helps to count, since
+// whole blocks are counted at once.
 fn find_last(
     text: &str,
     end: usize,
@@ -97,6 +79,7 @@ fn find_last(
         ≡ byte_len (take (last_start breaks (before_byte (chars text.now) end) skip) (before_byte (chars text.now) end))) }
     ensures counts { IfSome result (λ found. found.1
         ≡ info_of breaks (drop (last_start breaks (before_byte (chars text.now) end) skip) (before_byte (chars text.now) end))) }
+    ensures far { IfNone result (near < end) }
 {
     let _ = byte_len_of(text);
     // so many bytes before the end or more, in no CR LF
@@ -104,9 +87,10 @@ fn find_last(
     let near = text_after(text, cut);
     let len = end - cut;
     let break_count = byte_to_line_with(near, len, breaks);
-    if break_count <= skip {
+    if break_count <= skip && cut > 0 {
         return None;
     }
+    let skip = skip.min(break_count);
     // mostly it is the second line, since so little text is looked at
     let line_idx = break_count - skip;
     let start = if line_idx == 1 {
@@ -125,29 +109,19 @@ fn find_last(
     Some((cut + start, info))
 }
 
-// What `count_last_of_all` answers, found near the end of the text where it is there.
-fn count_last(text: &str, skip: usize, breaks: LineBreaks) -> (usize, TextInfo)
-    ensures start { result.0 ≡ byte_len (take (last_start breaks (chars text.now) skip) (chars text.now)) }
-    ensures counts { result.1 ≡ info_of breaks (drop (last_start breaks (chars text.now) skip) (chars text.now)) }
-{
-    let end = byte_len_of(text);
-    if let Some(found) = find_last(text, end, NEAR_BYTES, skip, breaks) {
-        return found;
-    }
-    count_last_of_all(text, skip, breaks)
-}
-
-// What `count_last_of_all` answers of a text's front. It is looked for so many bytes before the front's end, and then in twice
-// as many, so a line costs its own length, however long the text is before it.
-fn count_last_before(
+// What `find_last` answers. It is looked for in so many bytes before the front's end, and then in `times` as many, until it is
+// found: so a line costs its own length, however long the text is before it.
+fn count_last(
     text: &str,
     end: usize,
     first: usize,
+    times: usize,
     skip: usize,
     breaks: LineBreaks,
 ) -> (usize, TextInfo)
     requires between { IsBetween (chars text.now) end }
     requires apart { parts_crlf (before_byte (chars text.now) end) (after_byte (chars text.now) end) ≡ false }
+    requires more { 1 < times }
     ensures start { result.0 ≡ byte_len (take (last_start breaks (before_byte (chars text.now) end) skip) (before_byte (chars text.now) end)) }
     ensures counts { result.1 ≡ info_of breaks (drop (last_start breaks (before_byte (chars text.now) end) skip) (before_byte (chars text.now) end)) }
 {
@@ -156,10 +130,7 @@ fn count_last_before(
         if let Some(found) = find_last(text, end, near, skip, breaks) {
             return found;
         }
-        if near >= end {
-            return count_last_of_all(text_before(text, end), skip, breaks);
-        }
-        near = near.saturating_mul(2);
+        near = near.saturating_mul(times);
     }
 }
 
@@ -171,7 +142,10 @@ fn pass_chunks_back(span: &mut Span<'_>, skip: usize, breaks: LineBreaks) -> (us
     let mut passed = TextInfo::new();
     let mut left = skip;
     while span.step(true) {
-        let (start, more) = count_last(span.chunk(), left, breaks);
+        let chunk = span.chunk();
+        let end = byte_len_of(chunk);
+        // near its end, and then in all of it
+        let (start, more) = count_last(chunk, end, NEAR_BYTES, MAX_BYTES, left, breaks);
         passed = more.plus(passed);
         if start > 0 {
             return (start, passed);
@@ -230,8 +204,7 @@ impl<'a> Gap<'a> {
         ensures back { self.new.back ≡ drop (last_start breaks self.old.front skip) self.old.front ++ self.old.back }
         ensures counts { result ≡ info_of breaks (drop (last_start breaks self.old.front skip) self.old.front) }
     {
-        let near = self.near;
-        let (start, last) = count_last_before(self.span.chunk(), self.inside, near, skip, breaks);
+        let (start, last) = count_last(self.span.chunk(), self.inside, self.near, 2, skip, breaks);
         if start > 0 {
             self.inside = start;
             // lines mostly are of much the same length: so the next is looked for a quarter more behind, and a break before it

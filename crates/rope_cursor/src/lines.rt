@@ -1,5 +1,6 @@
 //! A cursor over the lines of a part.
 ghost use Rattle.std.specs.Prelude.{◌≡◌, ◌+◌, ◌≤◌, ◌<◌, ℕ, ⊤, false, length, Some, IfSome};
+ghost use Rattle.std.specs.Bool.{MatchBool};
 ghost use Rattle.std.specs.Iterator.{YieldsFirstBy, UpTo, item_count};
 ghost use Rattle.std.specs.Iterator.SizeHint.{IsWithinCount};
 ghost use Rattle.rope_text.specs.Lines.{line_count};
@@ -9,6 +10,7 @@ ghost use Rattle.rope_part.specs.Part.{content_of, text_of, breaks_of};
 
 use crate::between::between;
 use crate::gap::Gap;
+use crate::point::end_of;
 use rope_part::Part;
 use rope_text::TextInfo;
 use std::alloc::AllocError;
@@ -70,39 +72,28 @@ impl<'a> Lines<'a> {
         }
     }
 
-    // One line to the right. Expanded where it is called, so that of the part only what is asked for is worked out; the text is
-    // read in a call.
+    // One line to the left, or to the right. Expanded where it is called, so that of the part only what is asked for is worked out;
+    // the text is read in a call.
     #[inline(always)]
-    fn right(&mut self) -> Option<Part<'a>>
-        ensures { GoesRight (λ x. content_of x) self.old result self.new }
+    fn step(&mut self, is_left: bool) -> Option<Part<'a>>
+        ensures { MatchBool is_left (GoesLeft (λ x. content_of x) self.old result self.new) (GoesRight (λ x. content_of x) self.old result self.new) }
     {
-        if self.line == self.total {
+        if self.line == end_of(self.total, is_left) {
             return None;
         }
-        let passed = self.gap.pass_line(self.part.line_breaks());
-        let after = self.before.plus(passed);
-        let item = between(&self.part, self.before, after);
-        self.before = after;
+        let breaks = self.part.line_breaks();
+        let here = self.before;
+        if is_left {
+            let line = self.line - 1;
+            let passed = self.gap.pass_line_back(here.break_count - line, breaks);
+            self.before = here.minus(passed);
+            self.line = line;
+            return Some(between(&self.part, self.before, here));
+        }
+        let passed = self.gap.pass_line(breaks);
+        self.before = here.plus(passed);
         self.line += 1;
-        Some(item)
-    }
-
-    // One line to the left.
-    #[inline(always)]
-    fn left(&mut self) -> Option<Part<'a>>
-        ensures { GoesLeft (λ x. content_of x) self.old result self.new }
-    {
-        if self.line == 0 {
-            return None;
-        }
-        let line = self.line - 1;
-        let skip = self.before.break_count - line;
-        let passed = self.gap.pass_line_back(skip, self.part.line_breaks());
-        let start = self.before.minus(passed);
-        let item = between(&self.part, start, self.before);
-        self.before = start;
-        self.line = line;
-        Some(item)
+        Some(between(&self.part, here, self.before))
     }
 
     /// The item behind, to which it steps back; or none at that end, where it stays.
@@ -110,11 +101,7 @@ impl<'a> Lines<'a> {
     pub fn prev(&mut self) -> Option<Part<'a>>
         ensures { StepsBack (λ x. content_of x) self.old result self.new }
     {
-        if self.is_backward {
-            self.right()
-        } else {
-            self.left()
-        }
+        self.step(!self.is_backward)
     }
 
     /// Turns it round where it stands: `next` and `prev` change places.
@@ -146,11 +133,7 @@ impl<'a> Iterator for Lines<'a> {
         ensures steps { YieldsFirstBy (λ x. content_of x) ahead self.old result self.new }
         ensures goes { GoesAhead (λ x. content_of x) self.old result self.new }
     {
-        if self.is_backward {
-            self.left()
-        } else {
-            self.right()
-        }
+        self.step(self.is_backward)
     }
 
     /// How many lines are still to come, twice.

@@ -127,35 +127,28 @@ fn enter_at<'a>(
     node: &'a Node,
     before: TextInfo,
     unit: Unit,
-    at: usize,
+    idx: usize,
 ) -> (usize, &'a str, TextInfo)
     requires frames { AreFrames frames.old level (around frames.old level node.now.leaves) }
     requires low { IsLow node.now (MAX_HEIGHT - level) }
-    requires within { at < count_of unit (info_of node.now.breaks (text node.now)) }
+    requires within { idx < count_of unit (info_of node.now.breaks (text node.now)) }
     requires before { before ≡ info_of node.now.breaks (concat (before_of (take level frames.old))) }
     requires leaves { AreLeaves (around frames.old level node.now.leaves) }
     requires fits { byte_len (concat (around frames.old level node.now.leaves)) < 2 ^ 63 }
     ensures leads { LeadsTo frames.new result.0 (chars result.1.now) (around frames.old level node.now.leaves) }
-    ensures holds { HoldsPlace unit node.now.breaks (count_of unit before + at) (before_of (take result.0 frames.new))
+    ensures holds { HoldsPlace unit node.now.breaks (count_of unit before + idx) (before_of (take result.0 frames.new))
         (chars result.1.now) result.2 }
 {
     match node.view() {
         View::Leaf(leaf) => (level, leaf.as_str(), before),
         View::Inner(children, totals) => {
-            let place = place_of(totals, unit, at, &mut Steps::new());
-            let front = total_before(totals, place);
-            frames[level] = Frame {
-                children,
-                at: place,
-            };
-            enter_at(
-                frames,
-                level + 1,
-                &children[place],
-                before.plus(front),
-                unit,
-                at - count(front, unit),
-            )
+            let at = place_of(totals, unit, idx, &mut Steps::new());
+            let front = total_before(totals, at);
+            frames[level] = Frame { children, at };
+            let child = &children[at];
+            let before = before.plus(front);
+            let rest = idx - count(front, unit);
+            enter_at(frames, level + 1, child, before, unit, rest)
         }
     }
 }
@@ -224,8 +217,7 @@ impl<'a> Path<'a> {
         while level > 0 {
             level -= 1;
             let frame = slots[level];
-            let children = frame.children;
-            let at = frame.at;
+            let Frame { children, at } = frame;
             let end = if is_backward { 0 } else { children.len() - 1 };
             if at != end {
                 let at = if is_backward { at - 1 } else { at + 1 };

@@ -9,14 +9,14 @@ ghost use Rattle.rope_text.specs.Cutting.{clip};
 ghost use Rattle.rope_text.specs.TextInfo.{info_of};
 ghost use Rattle.rope_tree.specs.Tree.{text};
 ghost use Rattle.rope_cursor.specs.Path.{IsBeside, IsLast, leaves};
-ghost use Rattle.rope_cursor.specs.Starts.{AreBefore, MeetsLeaf};
+ghost use Rattle.rope_cursor.specs.Starts.{AreBefore, IsItem, MeetsLeaf, size_in};
 ghost use Rattle.rope_part.specs.Part.{text_of, chunks_of, breaks_of};
 
 use crate::path::Path;
 use rope_part::{Part, Plain, Stretch};
 use rope_text::TextInfo;
 use rope_text::str_utils::char_to_byte_idx;
-use rope_tree::search::Unit;
+use rope_tree::search::{Unit, count};
 use std::marker::Model;
 
 /// The bytes and the characters before a place of a text.
@@ -106,44 +106,25 @@ impl<'a> Span<'a> {
         }
     }
 
-    /// The chunk of a part that holds a character; at the end of the text the last chunk. With it the bytes, the characters
-    /// and the line breaks of the text before it. An empty part has no chunk: then it is the empty text.
-    pub fn with_char(part: &Part<'a>, char_idx: usize) -> (Span<'a>, usize, usize, usize)
-        requires { char_idx ≤ length (text_of part.now) }
+    /// The chunk of a part that holds a byte or a character; at the end of the text the last chunk. With it the bytes, the
+    /// characters and the line breaks of the text before it. An empty part has no chunk: then it is the empty text.
+    // Expanded where it is called, by a constant: a way is half a kilobyte, and is then moved once less.
+    #[inline(always)]
+    pub fn holding(part: &Part<'a>, unit: Unit, idx: usize) -> (Span<'a>, usize, usize, usize)
+        requires unit { IsItem unit }
+        requires within { idx ≤ size_in unit (text_of part.now) }
         ensures text { concat (leaves result.0) ≡ text_of part.now }
         ensures chunks { 0 < length (text_of part.now) → leaves result.0 ≡ chunks_of part.now }
         ensures before { AreBefore (breaks_of part.now) (text_of part.now) result.0.before result.1 result.2 result.3 }
-        ensures starts { result.2 ≤ char_idx }
-        ensures within { char_idx ≤ result.2 + length result.0.here }
-        ensures inside { char_idx < length (text_of part.now) → char_idx < result.2 + length result.0.here }
+        ensures starts { size_in unit (concat result.0.before) ≤ idx }
+        ensures within { idx ≤ size_in unit (concat result.0.before) + size_in unit result.0.here }
+        ensures inside { idx < size_in unit (text_of part.now) → idx < size_in unit (concat result.0.before) + size_in unit result.0.here }
     {
         match part {
             Part::InTree(stretch) => {
                 let _ = stretch.node.height();
-                let place = (stretch.start.chars + char_idx).min(stretch.end.chars - 1);
-                let (path, before) = Path::at(stretch.node, Unit::Char, place);
-                Span::in_leaf(stretch, path, before)
-            }
-            Part::Alone(plain) => (Span::of_text(plain), 0, 0, 0),
-        }
-    }
-
-    /// The chunk of a part that holds a byte; at the end of the text the last chunk. With it the bytes, the characters and
-    /// the line breaks of the text before it. An empty part has no chunk: then it is the empty text.
-    pub fn with_byte(part: &Part<'a>, byte_idx: usize) -> (Span<'a>, usize, usize, usize)
-        requires { byte_idx ≤ byte_len (text_of part.now) }
-        ensures text { concat (leaves result.0) ≡ text_of part.now }
-        ensures chunks { 0 < length (text_of part.now) → leaves result.0 ≡ chunks_of part.now }
-        ensures before { AreBefore (breaks_of part.now) (text_of part.now) result.0.before result.1 result.2 result.3 }
-        ensures starts { result.1 ≤ byte_idx }
-        ensures within { byte_idx ≤ result.1 + byte_len result.0.here }
-        ensures inside { byte_idx < byte_len (text_of part.now) → byte_idx < result.1 + byte_len result.0.here }
-    {
-        match part {
-            Part::InTree(stretch) => {
-                let _ = stretch.node.height();
-                let place = (stretch.start.bytes + byte_idx).min(stretch.end.bytes - 1);
-                let (path, before) = Path::at(stretch.node, Unit::Byte, place);
+                let place = (count(stretch.start, unit) + idx).min(count(stretch.end, unit) - 1);
+                let (path, before) = Path::at(stretch.node, unit, place);
                 Span::in_leaf(stretch, path, before)
             }
             Part::Alone(plain) => {
@@ -168,7 +149,7 @@ impl<'a> Span<'a> {
         ensures within { char_idx ≤ length (concat result.0.before) + length result.0.here }
         ensures byte { result.1 ≡ char_to_byte result.0.here (char_idx - length (concat result.0.before)) }
     {
-        let (span, _, chars, _) = Span::with_char(part, char_idx);
+        let (span, _, chars, _) = Span::holding(part, Unit::Char, char_idx);
         let within = char_idx - chars;
         let byte = if info.bytes == info.chars {
             within

@@ -11,3 +11,4 @@ pub mod ChunkParts
 pub mod LeafParts
 pub mod Lookups
 pub mod Kept
+mod ChunksAt

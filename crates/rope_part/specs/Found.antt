@@ -1,9 +1,14 @@
 -- What a chunk look-up of a part says.
-use Rattle.std.specs.Prelude.{◌≡◌, ℕ, ◌+◌, ◌-◌, ◌<◌, List, [], length, take, slice_index_or}
+use Rattle.std.specs.Prelude.{◌≡◌, ℕ, ◌+◌, ◌-◌, ◌<◌, ◌≤◌, List, [], length, take, slice_index_or}
 use Rattle.std.specs.List.{concat}
 use Rattle.rope_text.specs.declared.text_info.TextInfo.{TextInfo}
+use Rattle.rope_text.specs.declared.line_breaks.LineBreaks.{LineBreaks}
+use Rattle.rope_text.specs.Text.{byte_len}
+use Rattle.rope_text.specs.Breaks.{break_count}
 use Rattle.rope_text.specs.TextInfo.{info_of}
-use Rattle.rope_text.specs.Lookup.{FoundChunk}
+use Rattle.rope_tree.specs.declared.search.Unit.{Unit}
+use Rattle.rope_tree.specs.declared.search.Unit.TheVariants.{Byte, Char, CodeUnit, LineBreak}
+use Rattle.rope_text.specs.Lookup.{FoundChunk, chunk_index_at_byte, chunk_index_at_char, chunk_index_at_line_break}
 use Rattle.rope_part.specs.declared.stretch.Stretch.{Stretch}
 
 -- a chunk and the three numbers are those that the look-up found
@@ -25,3 +30,17 @@ pub record MeetsLeaf (s : Stretch) (leaf : List ℕ) (before : TextInfo) : Type 
 -- the first character of the stretch that lies in the leaf
 abbrev pub first_in : Stretch → TextInfo → ℕ
 first_in s before = before.chars - s.start.chars
+
+-- a chunk may be asked for by a byte or a character of the text, or by its end; or by a line break
+abbrev pub MayHold : Unit → LineBreaks → List ℕ → ℕ → Type 0
+MayHold Byte breaks text idx = idx ≤ byte_len text
+MayHold Char breaks text idx = idx ≤ length text
+MayHold CodeUnit breaks text idx = ⊥
+MayHold LineBreak breaks text idx = idx < break_count breaks text
+
+-- and that is the chunk
+abbrev pub chunk_index : Unit → LineBreaks → List (List ℕ) → ℕ → ℕ
+chunk_index Byte breaks chunks idx = chunk_index_at_byte chunks idx
+chunk_index Char breaks chunks idx = chunk_index_at_char chunks idx
+chunk_index CodeUnit breaks chunks idx = 0
+chunk_index LineBreak breaks chunks idx = chunk_index_at_line_break breaks chunks (idx + 1)

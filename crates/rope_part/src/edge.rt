@@ -72,7 +72,6 @@ fn line_start_at(node: &Node, line_idx: usize) -> (TextInfo, &str)
     ensures rest { IsLeafFrom node.now (line_start node.now.breaks (text node.now) line_idx) (chars result.1.now) }
 {
     let _ = node.height();
-    let _ = node.info();
     let found = leaf_at(node, Unit::LineBreak, line_idx - 1, &mut Steps::new());
     let leaf = found.leaf.as_str();
     let line = line_idx - found.before.break_count;
@@ -108,7 +107,6 @@ pub fn around_line(node: &Node, line_idx: usize) -> (TextInfo, TextInfo)
     ensures end { result.1 ≡ info_of node.now.breaks (take (line_start node.now.breaks (text node.now) (line_idx + 1)) (text node.now)) }
 {
     let _ = node.height();
-    let _ = node.info();
     let (start, rest) = line_start_at(node, line_idx);
     let line = TextInfo::of_first_line(rest, node.line_breaks());
     if line.break_count == 0 {

@@ -3,15 +3,15 @@ ghost use Rattle.std.specs.Prelude.{◌≡◌, ◌≤◌, ◌<◌, length, slice
 ghost use Rattle.std.specs.Str.{chars, encode_utf8_all};
 ghost use Rattle.rope_text.specs.Text.{byte_len};
 ghost use Rattle.rope_text.specs.Lines.{line_count};
-ghost use Rattle.rope_text.specs.Lookup.{found_chunk, chunk_index_at_byte, chunk_index_at_char, chunk_index_at_line_break};
-ghost use Rattle.rope_part.specs.Found.{IsFoundChunk};
+ghost use Rattle.rope_text.specs.Lookup.{found_chunk, chunk_index_at_line_break};
+ghost use Rattle.rope_part.specs.Found.{IsFoundChunk, MayHold, chunk_index};
 ghost use Rattle.rope_part.specs.Part.{text_of, chunks_of, breaks_of};
 
 use crate::part::Part;
 use rope_text::Steps;
 use rope_text::str_utils::{byte_len_of, char_to_byte_idx, first_char};
 use rope_tree::lookup::{byte_at, char_at, leaf_at};
-use rope_tree::search::Unit;
+use rope_tree::search::{Unit, count};
 
 impl<'a> Part<'a> {
     /// The byte at a place.
@@ -48,39 +48,21 @@ impl<'a> Part<'a> {
         }
     }
 
-    /// The chunk that holds a byte; at the end of the text the last chunk. With it the bytes, the characters and the line
-    /// breaks that end before it. With no chunk it is `("", 0, 0, 0)`.
-    pub fn chunk_at_byte(&self, byte_idx: usize) -> (&'a str, usize, usize, usize)
-        requires { byte_idx ≤ byte_len (text_of self.now) }
+    /// The chunk that holds a byte or a character; at the end of the text the last chunk. Or the one that holds the last character
+    /// of a line break, counted from 0. With it the bytes, the characters and the line breaks that end before it. With no chunk it
+    /// is `("", 0, 0, 0)`.
+    // Expanded where it is called, by a constant: so each search is that of its unit.
+    #[inline(always)]
+    pub fn chunk_at(&self, unit: Unit, idx: usize) -> (&'a str, usize, usize, usize)
+        requires { MayHold unit (breaks_of self.now) (text_of self.now) idx }
         ensures { IsFoundChunk (found_chunk (breaks_of self.now) (chunks_of self.now)
-            (chunk_index_at_byte (chunks_of self.now) byte_idx))
+            (chunk_index unit (breaks_of self.now) (chunks_of self.now) idx))
             (chars result.0.now) result.1 result.2 result.3 }
     {
         match self {
             Part::InTree(stretch) => {
-                let place = stretch
-                    .place(Unit::Byte, byte_idx)
-                    .min(stretch.end.bytes - 1);
-                stretch.chunk_in(leaf_at(stretch.node, Unit::Byte, place, &mut Steps::new()))
-            }
-            Part::Alone(plain) => (plain.text, 0, 0, 0),
-        }
-    }
-
-    /// The chunk that holds a character; at the end of the text the last chunk. With it the bytes, the characters and the
-    /// line breaks that end before it. With no chunk it is `("", 0, 0, 0)`.
-    pub fn chunk_at_char(&self, char_idx: usize) -> (&'a str, usize, usize, usize)
-        requires { char_idx ≤ length (text_of self.now) }
-        ensures { IsFoundChunk (found_chunk (breaks_of self.now) (chunks_of self.now)
-            (chunk_index_at_char (chunks_of self.now) char_idx))
-            (chars result.0.now) result.1 result.2 result.3 }
-    {
-        match self {
-            Part::InTree(stretch) => {
-                let place = stretch
-                    .place(Unit::Char, char_idx)
-                    .min(stretch.end.chars - 1);
-                stretch.chunk_in(leaf_at(stretch.node, Unit::Char, place, &mut Steps::new()))
+                let place = stretch.place(unit, idx).min(count(stretch.end, unit) - 1);
+                stretch.chunk_in(leaf_at(stretch.node, unit, place, &mut Steps::new()))
             }
             Part::Alone(plain) => (plain.text, 0, 0, 0),
         }
@@ -98,18 +80,12 @@ impl<'a> Part<'a> {
     {
         let info = self.info();
         if line_break_idx == 0 {
-            return self.chunk_at_char(0);
+            return self.chunk_at(Unit::Char, 0);
         }
         if line_break_idx > info.break_count {
-            return self.chunk_at_char(info.chars.saturating_sub(1));
+            return self.chunk_at(Unit::Char, info.chars.saturating_sub(1));
         }
-        match self {
-            Part::InTree(stretch) => {
-                let at = stretch.place(Unit::LineBreak, line_break_idx - 1);
-                stretch.chunk_in(leaf_at(stretch.node, Unit::LineBreak, at, &mut Steps::new()))
-            }
-            Part::Alone(plain) => (plain.text, 0, 0, 0),
-        }
+        self.chunk_at(Unit::LineBreak, line_break_idx - 1)
     }
 
     /// The text, where it is one chunk or none.
@@ -119,7 +95,7 @@ impl<'a> Part<'a> {
         ensures value { IfSome result (λ s. chars s.now ≡ text_of self.now) }
     {
         let len = self.info().bytes;
-        let (chunk, _, _, _) = self.chunk_at_char(0);
+        let (chunk, _, _, _) = self.chunk_at(Unit::Char, 0);
         (byte_len_of(chunk) == len).then_some(chunk)
     }
 }

@@ -12,6 +12,7 @@ ghost use Rattle.rope_slice.specs.Slice.{text_of, chunks_of, breaks_of};
 use crate::bounds::{check, within};
 use crate::slice::RopeSlice;
 use rope_text::{Error, Result};
+use rope_tree::search::Unit;
 
 impl<'a> RopeSlice<'a> {
     /// The byte `byte_idx`, counted from 0.
@@ -68,7 +69,7 @@ impl<'a> RopeSlice<'a> {
             (chunk_index_at_byte (chunks_of self.now) byte_idx))
             (chars result.0.now) result.1 result.2 result.3 }
     {
-        self.part.chunk_at_byte(byte_idx)
+        self.part.chunk_at(Unit::Byte, byte_idx)
     }
 
     /// As `chunk_at_byte`, for any index. Costs one or two look-ups; takes no memory.
@@ -100,7 +101,7 @@ impl<'a> RopeSlice<'a> {
             (chunk_index_at_char (chunks_of self.now) char_idx))
             (chars result.0.now) result.1 result.2 result.3 }
     {
-        self.part.chunk_at_char(char_idx)
+        self.part.chunk_at(Unit::Char, char_idx)
     }
 
     /// As `chunk_at_char`, or `None` exactly where the index is past `len_chars()`. Costs one or two look-ups;

@@ -1,4 +1,4 @@
-use Rattle.std.proofs.Common.{ℕ, ◌-◌, ◌≤◌, ◌∙◌, length, refl, ap, sym, arith}
+use Rattle.std.proofs.Common.{ℕ, ◌≡◌, take, drop, ◌-◌, ◌≤◌, ◌∙◌, length, refl, ap, sym, arith}
 use Rattle.std.proofs.lemmas.Str.{chars-nil}
 use Rattle.rope_text.specs.Cutting.{single_chunk}
 use Rattle.rope_text.specs.TextInfo.{info_sum}
@@ -10,10 +10,17 @@ use Rattle.rope_part.specs.Edge.{IsStretch}
 use Rattle.rope_part.specs.Stretch as of_stretch
 use Rattle.rope_part.proofs.Measured.{measured}
 use Rattle.rope_part.proofs.Stretches.{length_part}
-use Rattle.rope_part.proofs.Clips.{part_of_part, clip_of_clip}
-use Rattle.rope_cursor.proofs.PartsBetween.{same_content, stretch_between, small_between, AreSmall}
+use Rattle.rope_part.proofs.Clips.{part_of_part, clip_of_clip, single_chunk-clip}
+use Rattle.rope_cursor.proofs.PartsBetween.{between_sum, same_content, stretch_between, small_between, AreSmall}
 use Rattle.rope_part.specs.Part.{content_of, text_of, chunks_of}
-use Rattle.rope_cursor.proofs.between.between.Goals.{After-height}
+use Rattle.std.specs.List.{slice_range}
+use Rattle.std.specs.Str.{chars}
+use Rattle.rope_text.specs.TextInfo.{info_of}
+use Rattle.rope_text.proofs.LineSeams.{parts_crlf-take}
+use Rattle.rope_part.specs.Plain as of_plain
+use Rattle.rope_part.proofs.ChunkParts.{chars_of_part, boundary_of}
+use Rattle.rope_part.proofs.Stretches.{front_and_part}
+use Rattle.rope_cursor.proofs.between.between.Goals.{After-height, In-Alone, After-range-text}
 use Rattle.rope_cursor.proofs.between.between.Goals as goal
 
 kept : (c : After-height)
@@ -78,3 +85,51 @@ returns-then-from-to c =
     let chunks = c.from_str_with.ensures.chunks ∙ ap single_chunk chars-nil ∙ sym (clip_empty (chunks_of c.args.part.now) i j (omega (arith, c.if-from-to.true))) in
     let breaks = c.from_str_with.ensures.breaks ∙ c.line_breaks.ensures in
     same_content (content_of c.from_str_with.result) (part_between (content_of c.args.part.now) i j) text chunks breaks
+
+-- the part of a plain text
+sum_is : (c : In-Alone) → c.args.to ≡ info_sum c.args.from (info_of c.in-Alone.plain.breaks (slice_range (of_plain.text_of c.in-Alone.plain) c.args.from.chars c.args.to.chars))
+sum_is c =
+    between_sum c.in-Alone.plain.breaks (of_plain.text_of c.in-Alone.plain) c.args.from c.args.to (rw c.in-Alone.is at c.requires.from_is) (rw c.in-Alone.is at c.requires.to_is) c.requires.ordered
+    (rw c.in-Alone.is at c.requires.apart)
+
+part_is : (c : After-range-text) → chars c.range-text.result.now ≡ slice_range (of_plain.text_of c.in-Alone.plain) c.args.from.chars c.args.to.chars
+part_is c =
+    chars_of_part c.as_str.result.now (of_plain.text_of c.in-Alone.plain) c.range-text.result.now c.args.from.chars c.args.to.chars c.args.from.bytes c.args.to.bytes c.as_str.utf8 c.as_str.ensures c.requires.ordered
+    (ap (λ x. x.bytes) (rw c.in-Alone.is at c.requires.from_is)) (ap (λ x. x.bytes) (rw c.in-Alone.is at c.requires.to_is)) c.range-text.ensures.value
+
+pub range-text-requires-clause-start_le_end : goal.range-text-requires-clause-start_le_end
+range-text-requires-clause-start_le_end c = omega (arith, ap (λ x. x.bytes) (sum_is (goal.at.range-text-requires-clause-start_le_end c).In-Alone))
+
+pub range-text-requires-clause-start_boundary : goal.range-text-requires-clause-start_boundary
+range-text-requires-clause-start_boundary c =
+    λ _. boundary_of c.as_str.result.now (of_plain.text_of c.in-Alone.plain) c.args.from.chars c.args.from.bytes c.as_str.utf8 c.as_str.ensures (ap (λ x. x.bytes) (rw c.in-Alone.is at c.requires.from_is))
+
+pub range-text-requires-clause-end_boundary : goal.range-text-requires-clause-end_boundary
+range-text-requires-clause-end_boundary c =
+    boundary_of c.as_str.result.now (of_plain.text_of c.in-Alone.plain) c.args.to.chars c.args.to.bytes c.as_str.utf8 c.as_str.ensures (ap (λ x. x.bytes) (rw c.in-Alone.is at c.requires.to_is))
+
+pub minus-info-requires-clause-utf16_surrogates : goal.minus-info-requires-clause-utf16_surrogates
+minus-info-requires-clause-utf16_surrogates c = omega (arith, ap (λ x. x.utf16_surrogates) (sum_is (goal.at.minus-info-requires-clause-utf16_surrogates c).In-Alone))
+
+pub minus-info-requires-clause-break_count : goal.minus-info-requires-clause-break_count
+minus-info-requires-clause-break_count c = omega (arith, ap (λ x. x.break_count) (sum_is (goal.at.minus-info-requires-clause-break_count c).In-Alone))
+
+pub invariant_of-result-in-Alone : goal.invariant_of-result-in-Alone
+invariant_of-result-in-Alone c =
+    let t = of_plain.text_of c.in-Alone.plain in
+    let i = c.args.from.chars in
+    let breaks = c.in-Alone.plain.breaks in
+    let to_is = rw c.in-Alone.is at c.requires.to_is in
+    let apart = rw c.in-Alone.is at c.requires.apart in
+    let counts = c.minus-info.ensures.rest breaks (take i t) (slice_range t i c.args.to.chars)
+    (to_is ∙ ap (info_of breaks) (sym (front_and_part t i c.args.to.chars c.requires.ordered))) (rw c.in-Alone.is at c.requires.from_is)
+    (parts_crlf-take (take i t) (drop i t) (c.args.to.chars - i) apart) in
+    record { counted = counts ∙ ap (info_of breaks) (sym (part_is (goal.at.invariant_of-result-in-Alone c).After-range-text)) }
+
+pub returns-in-Alone : goal.returns-in-Alone
+returns-in-Alone c =
+    let plain = c.in-Alone.plain in
+    let i = c.args.from.chars in
+    let j = c.args.to.chars in
+    let part = part_is (goal.at.returns-in-Alone c).After-range-text in
+    rw c.in-Alone.is (same_content _ (part_between (of_plain.content_of plain) i j) part (ap single_chunk part ∙ single_chunk-clip (of_plain.text_of plain) i j) refl)

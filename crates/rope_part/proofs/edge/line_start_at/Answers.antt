@@ -58,7 +58,6 @@ overflow_add-before-3 c =
 
 pub returns-clause-before : goal.returns-clause-before
 returns-clause-before c =
-    let e = ap (λ x. x.break_count) c.info.ensures in
     let front = front_is (goal.at.returns-clause-before c).After-before_line-front in
     line_found c.args.line_idx c.args.node.now c.leaf_at-found.result.leaf c.leaf_at-found.result.before c.height.ensures.tree c.leaf_at-found.ensures.found (omega arith) (omega arith)
     c.before_line-front.result.bytes c.before_line-front.result.chars c.before_line-front.result.utf16_surrogates

@@ -11,28 +11,28 @@ use Rattle.rope_cursor.proofs.chunks.Chunks.at_byte.Goals as goal
 
 placed : (c : After-found)
     → IsPlaced (breaks_of c.args.part.now) (chunks_of c.args.part.now) (chunk_place_at_byte (chunks_of c.args.part.now) c.args.byte_idx)
-    (at_chunk c.with_byte-span.result.0 (c.info-info.result.chars == 0) (c.args.byte_idx == c.info-info.result.bytes) false) c.found.result.1 c.found.result.2 c.found.result.3
+    (at_chunk c.holding-span.result.0 (c.info-info.result.chars == 0) (c.args.byte_idx == c.info-info.result.bytes) false) c.found.result.1 c.found.result.2 c.found.result.3
 placed c =
     let part = c.args.part.now in
     let cut = c.info-info.ensures.kept.cut in
-    let e = c.with_byte-span.ensures in
+    let e = c.holding-span.ensures in
     let bytes = ap (λ x. x.bytes) c.info-info.ensures.value in
     let all : byte_len (concat (chunks_of part)) ≡ byte_len (text_of part) = ap byte_len cut.joined in
     let k : ℕ = chunk_index_at_byte (chunks_of part) c.args.byte_idx in
-    placed_by (breaks_of part) c.with_byte-span.result.0 (text_of part) (chunks_of part) cut e.text e.chunks c.info-info.result c.info-info.ensures.value c.args.byte_idx c.info-info.result.bytes (byte_len (concat (chunks_of part))) k
-    (bytes ∙ sym all) c.found.result.1 c.found.result.2 c.found.result.3 c.with_byte-span.result.1 c.with_byte-span.result.2 c.with_byte-span.result.3 c.found.ensures.past c.found.ensures.here
-    (λ at_end. ends_by_bytes c.with_byte-span.result.0 (text_of part) e.text (omega (arith, at_end, all, e.within, e.before.bytes_are)))
+    placed_by (breaks_of part) c.holding-span.result.0 (text_of part) (chunks_of part) cut e.text e.chunks c.info-info.result c.info-info.ensures.value c.args.byte_idx c.info-info.result.bytes (byte_len (concat (chunks_of part))) k
+    (bytes ∙ sym all) c.found.result.1 c.found.result.2 c.found.result.3 c.holding-span.result.1 c.holding-span.result.2 c.holding-span.result.3 c.found.ensures.past c.found.ensures.here
+    (λ at_end. ends_by_bytes c.holding-span.result.0 (text_of part) e.text (omega (arith, at_end, all, e.within, e.before.bytes_are)))
     (λ inside.
     (let less = e.inside (omega (arith, c.requires, inside, all)) in
-    is_placed c.with_byte-span.result.0 (text_of part) (chunks_of part) cut e.text e.chunks c.info-info.result.chars (ap (λ x. x.chars) c.info-info.ensures.value) (breaks_of part) k c.with_byte-span.result.1 c.with_byte-span.result.2
-    c.with_byte-span.result.3 e.before (chunk_index_at_byte-le (chunks_of part) c.args.byte_idx)
-    (λ some. index_of_byte c.with_byte-span.result.0 (chunks_of part) (e.chunks some) cut.nonempty c.args.byte_idx (omega (arith, e.starts, e.before.bytes_are)) (omega (arith, less, e.before.bytes_are)))))
+    is_placed c.holding-span.result.0 (text_of part) (chunks_of part) cut e.text e.chunks c.info-info.result.chars (ap (λ x. x.chars) c.info-info.ensures.value) (breaks_of part) k c.holding-span.result.1 c.holding-span.result.2
+    c.holding-span.result.3 e.before (chunk_index_at_byte-le (chunks_of part) c.args.byte_idx)
+    (λ some. index_of_byte c.holding-span.result.0 (chunks_of part) (e.chunks some) cut.nonempty c.args.byte_idx (omega (arith, e.starts, e.before.bytes_are)) (omega (arith, less, e.before.bytes_are)))))
 
 pub returns-clause-items : goal.returns-clause-items
 returns-clause-items c =
     let part = c.args.part.now in
-    let e = c.with_byte-span.ensures in
-    rw c.found.ensures.chunk (items_by c.with_byte-span.result.0 (text_of part) (chunks_of part) c.info-info.ensures.kept.cut e.text e.chunks c.info-info.result.chars (ap (λ x. x.chars) c.info-info.ensures.value) (c.args.byte_idx == c.info-info.result.bytes))
+    let e = c.holding-span.ensures in
+    rw c.found.ensures.chunk (items_by c.holding-span.result.0 (text_of part) (chunks_of part) c.info-info.ensures.kept.cut e.text e.chunks c.info-info.result.chars (ap (λ x. x.chars) c.info-info.ensures.value) (c.args.byte_idx == c.info-info.result.bytes))
 
 pub returns-clause-place : goal.returns-clause-place
 returns-clause-place c = rw c.found.ensures.chunk (placed (goal.at.returns-clause-place c).After-found).place_is

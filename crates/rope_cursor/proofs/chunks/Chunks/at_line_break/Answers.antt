@@ -13,16 +13,16 @@ use Rattle.rope_cursor.proofs.chunks.Chunks.at_line_break.Goals as goal
 
 placed : (c : After-found)
     → IsPlaced (breaks_of c.args.part.now) (chunks_of c.args.part.now) (chunk_place_at_line_break (breaks_of c.args.part.now) (chunks_of c.args.part.now) c.args.line_break_idx)
-    (at_chunk c.with_char.result.0 (c.info-info.result.chars == 0) false false) c.with_char.result.1 c.with_char.result.2 c.with_char.result.3
+    (at_chunk c.holding-span.result.0 (c.info-info.result.chars == 0) false false) c.holding-span.result.1 c.holding-span.result.2 c.holding-span.result.3
 placed c =
     let part = c.args.part.now in
     let cut = c.info-info.ensures.kept.cut in
-    let e = c.with_char.ensures in
+    let e = c.holding-span.ensures in
     let k : ℕ = chunk_index_at_line_break (breaks_of part) (chunks_of part) c.args.line_break_idx in
     placed_inside (breaks_of part) (chunks_of part) c.args.line_break_idx (line_count (breaks_of part) (concat (chunks_of part))) k _ _ _ _
     (λ same. c.if-line_break_idx-len_lines.false (same ∙ ap (λ t. line_count (breaks_of part) t) cut.joined ∙ sym (c.len_lines.ensures)))
-    (is_placed c.with_char.result.0 (text_of part) (chunks_of part) cut e.text e.chunks c.info-info.result.chars (ap (λ x. x.chars) c.info-info.ensures.value) (breaks_of part) k c.with_char.result.1 c.with_char.result.2
-    c.with_char.result.3 e.before (chunk_index_at_line_break-le (breaks_of part) (chunks_of part) c.args.line_break_idx)
+    (is_placed c.holding-span.result.0 (text_of part) (chunks_of part) cut e.text e.chunks c.info-info.result.chars (ap (λ x. x.chars) c.info-info.ensures.value) (breaks_of part) k c.holding-span.result.1 c.holding-span.result.2
+    c.holding-span.result.3 e.before (chunk_index_at_line_break-le (breaks_of part) (chunks_of part) c.args.line_break_idx)
     (λ some.
     (let end = line_start-le-length (breaks_of part) (text_of part) c.args.line_break_idx in
     let less = e.inside (omega (arith, some, end, c.convert-end.ensures, c.saturating_sub.ensures)) in
@@ -30,16 +30,16 @@ placed c =
     let place : i ≡ line_start (breaks_of part) (concat (chunks_of part)) c.args.line_break_idx - 1 =
     c.saturating_sub.ensures ∙ ap (λ n. n - 1) (c.convert-end.ensures ∙ ap (λ t. line_start (breaks_of part) t c.args.line_break_idx) (sym cut.joined)) in
     line_break_index (breaks_of part) (chunks_of part) c.args.line_break_idx cut.nonempty ∙ ap (chunk_index_at_char (chunks_of part)) (sym place)
-    ∙ index_of_char c.with_char.result.0 (chunks_of part) (e.chunks some) cut.nonempty i (omega (arith, e.starts, e.before.chars_are)) (omega (arith, less, e.before.chars_are)))))
+    ∙ index_of_char c.holding-span.result.0 (chunks_of part) (e.chunks some) cut.nonempty i (omega (arith, e.starts, e.before.chars_are)) (omega (arith, less, e.before.chars_are)))))
 
-pub with_char-requires : goal.with_char-requires
-with_char-requires c = omega (arith, c.convert-end.ensures, c.saturating_sub.ensures, line_start-le-length (breaks_of c.args.part.now) (text_of c.args.part.now) c.args.line_break_idx)
+pub holding-span-requires : goal.holding-span-requires
+holding-span-requires c = omega (arith, c.convert-end.ensures, c.saturating_sub.ensures, line_start-le-length (breaks_of c.args.part.now) (text_of c.args.part.now) c.args.line_break_idx)
 
 pub returns-clause-items : goal.returns-clause-items
 returns-clause-items c =
     let part = c.args.part.now in
-    let e = c.with_char.ensures in
-    rw c.found.ensures.chunk (items_here c.with_char.result.0 (text_of part) (chunks_of part) c.info-info.ensures.kept.cut e.text e.chunks c.info-info.result.chars (ap (λ x. x.chars) c.info-info.ensures.value))
+    let e = c.holding-span.ensures in
+    rw c.found.ensures.chunk (items_here c.holding-span.result.0 (text_of part) (chunks_of part) c.info-info.ensures.kept.cut e.text e.chunks c.info-info.result.chars (ap (λ x. x.chars) c.info-info.ensures.value))
 
 pub returns-clause-place : goal.returns-clause-place
 returns-clause-place c =

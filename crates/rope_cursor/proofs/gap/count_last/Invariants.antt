@@ -1,5 +1,5 @@
 use Rattle.std.proofs.Common.{◌≤◌, ◌-◌}
-use Rattle.rope_cursor.proofs.gap.count_last_before.Given as goal
+use Rattle.rope_cursor.proofs.gap.count_last.Given as goal
 
 abbrev pub invariant-loop-found : goal.invariant-loop-found
 invariant-loop-found l = 64 ≤ l.near
