@@ -38,18 +38,18 @@ module _ {T : Type 0} (v : T → ℕ) where
   module _ (bound : ℕ) (a b : Inside T) (ts : List TextInfo) (i : IsTotals v bound a) (view : all_totals v a ≡ ts) where
     -- one total more behind them
     module _ (total : TextInfo) (few : length ts < 24) (fits : IsBelow bound total) (x y z w : T) (x_is : v x ≡ total.bytes) (y_is : v y ≡ total.chars) (z_is : v z ≡ total.utf16_surrogates) (w_is : v w ≡ total.break_count)
-        (len : b.len ≡ a.len + 1) (bytes : b.bytes ≡ set a.bytes a.len x) (chars : b.chars ≡ set a.chars a.len y) (pairs : b.pairs ≡ set a.pairs a.len z) (breaks : b.breaks ≡ set a.breaks a.len w) where
+        (len : b.len ≡ a.len + 1) (bytes : b.rows.bytes ≡ set a.rows.bytes a.len x) (chars : b.rows.chars ≡ set a.rows.chars a.len y) (pairs : b.rows.pairs ≡ set a.rows.pairs a.len z) (breaks : b.rows.breaks ≡ set a.rows.breaks a.len w) where
       pushed_before : (k : ℕ) → k < a.len → counts_at v a k ≡ counts_at v b k
       pushed_before k lt = sym (
-        same_counts (counts_at v b k) (counts_at v a k) (ap (λ l. cell v l k) bytes ∙ set_other v a.bytes a.len k x lt) (ap (λ l. cell v l k) chars ∙ set_other v a.chars a.len k y lt)
-        (ap (λ l. cell v l k) pairs ∙ set_other v a.pairs a.len k z lt) (ap (λ l. cell v l k) breaks ∙ set_other v a.breaks a.len k w lt)
-      )
+          same_counts (counts_at v b k) (counts_at v a k) (ap (λ l. cell v l k) bytes ∙ set_other v a.rows.bytes a.len k x lt) (ap (λ l. cell v l k) chars ∙ set_other v a.rows.chars a.len k y lt)
+          (ap (λ l. cell v l k) pairs ∙ set_other v a.rows.pairs a.len k z lt) (ap (λ l. cell v l k) breaks ∙ set_other v a.rows.breaks a.len k w lt)
+          )
 
       pushed_last : counts_at v b a.len ≡ total
       pushed_last =
           let n = many a ts view in
-          same_counts (counts_at v b a.len) total (ap (λ l. cell v l a.len) bytes ∙ set_same v a.bytes a.len x (omega (arith, n, i.bytes)) ∙ x_is) (ap (λ l. cell v l a.len) chars ∙ set_same v a.chars a.len y (omega (arith, n, i.chars)) ∙ y_is)
-          (ap (λ l. cell v l a.len) pairs ∙ set_same v a.pairs a.len z (omega (arith, n, i.pairs)) ∙ z_is) (ap (λ l. cell v l a.len) breaks ∙ set_same v a.breaks a.len w (omega (arith, n, i.breaks)) ∙ w_is)
+          same_counts (counts_at v b a.len) total (ap (λ l. cell v l a.len) bytes ∙ set_same v a.rows.bytes a.len x (omega (arith, n, i.bytes)) ∙ x_is) (ap (λ l. cell v l a.len) chars ∙ set_same v a.rows.chars a.len y (omega (arith, n, i.chars)) ∙ y_is)
+          (ap (λ l. cell v l a.len) pairs ∙ set_same v a.rows.pairs a.len z (omega (arith, n, i.pairs)) ∙ z_is) (ap (λ l. cell v l a.len) breaks ∙ set_same v a.rows.breaks a.len w (omega (arith, n, i.breaks)) ∙ w_is)
 
       pub pushed : all_totals v b ≡ ts ++ total ∷ []
       pushed =
@@ -59,10 +59,10 @@ module _ {T : Type 0} (v : T → ℕ) where
       pub pushed_totals : IsTotals v bound b
       pushed_totals = record {
         few = omega (arith, len, few, many a ts view);
-        bytes = ap length bytes ∙ length-set a.bytes a.len x ∙ i.bytes;
-        chars = ap length chars ∙ length-set a.chars a.len y ∙ i.chars;
-        pairs = ap length pairs ∙ length-set a.pairs a.len z ∙ i.pairs;
-        breaks = ap length breaks ∙ length-set a.breaks a.len w ∙ i.breaks;
+        bytes = ap length bytes ∙ length-set a.rows.bytes a.len x ∙ i.bytes;
+        chars = ap length chars ∙ length-set a.rows.chars a.len y ∙ i.chars;
+        pairs = ap length pairs ∙ length-set a.rows.pairs a.len z ∙ i.pairs;
+        breaks = ap length breaks ∙ length-set a.rows.breaks a.len w ∙ i.breaks;
         below = λ k lt. elim (cases_lt k a.len) [
           | inl early ↦ subst (IsBelow bound) (pushed_before k early) (i.below k early)
           | inr late ↦
@@ -72,8 +72,8 @@ module _ {T : Type 0} (v : T → ℕ) where
       }
 
     -- other counts in as many places
-    module _ (place : ℕ) (old new : TextInfo) (len : b.len ≡ a.len) (bytes : IsShifted (map v a.bytes) (map v b.bytes) place a.len old.bytes new.bytes) (chars : IsShifted (map v a.chars) (map v b.chars) place a.len old.chars new.chars)
-        (pairs : IsShifted (map v a.pairs) (map v b.pairs) place a.len old.utf16_surrogates new.utf16_surrogates) (breaks : IsShifted (map v a.breaks) (map v b.breaks) place a.len old.break_count new.break_count) where
+    module _ (place : ℕ) (old new : TextInfo) (len : b.len ≡ a.len) (bytes : IsShifted (map v a.rows.bytes) (map v b.rows.bytes) place a.len old.bytes new.bytes) (chars : IsShifted (map v a.rows.chars) (map v b.rows.chars) place a.len old.chars new.chars)
+        (pairs : IsShifted (map v a.rows.pairs) (map v b.rows.pairs) place a.len old.utf16_surrogates new.utf16_surrogates) (breaks : IsShifted (map v a.rows.breaks) (map v b.rows.breaks) place a.len old.break_count new.break_count) where
       early_at : (j : ℕ) → j < place → counts_at v b j ≡ counts_at v a j
       early_at j lt = same_counts (counts_at v b j) (counts_at v a j) (bytes.early j lt) (chars.early j lt) (pairs.early j lt) (breaks.early j lt)
 
@@ -93,10 +93,10 @@ module _ {T : Type 0} (v : T → ℕ) where
       pub shifted_totals : ((j : ℕ) → place ≤ j → j < a.len → IsBelowWith bound (counts_at v a j) old new) → IsTotals v bound b
       shifted_totals fits = record {
         few = omega (arith, len, i.few);
-        bytes = long a.bytes b.bytes bytes.len i.bytes;
-        chars = long a.chars b.chars chars.len i.chars;
-        pairs = long a.pairs b.pairs pairs.len i.pairs;
-        breaks = long a.breaks b.breaks breaks.len i.breaks;
+        bytes = long a.rows.bytes b.rows.bytes bytes.len i.bytes;
+        chars = long a.rows.chars b.rows.chars chars.len i.chars;
+        pairs = long a.rows.pairs b.rows.pairs pairs.len i.pairs;
+        breaks = long a.rows.breaks b.rows.breaks breaks.len i.breaks;
         below = λ j lt. elim (cases_lt j place) [
           | inl early ↦ subst (IsBelow bound) (sym (early_at j early)) (i.below j (omega (arith, len)))
           | inr late ↦
@@ -113,23 +113,23 @@ module _ {T : Type 0} (v : T → ℕ) where
 
     -- one total more before another
     module _ (place : ℕ) (total : TextInfo) (within : place ≤ length ts) (room : length ts < 24) (fits : IsBelow bound total) (x y z w : T) (x_is : v x ≡ total.bytes) (y_is : v y ≡ total.chars) (z_is : v z ≡ total.utf16_surrogates) (w_is : v w ≡ total.break_count)
-        (len : b.len ≡ a.len + 1) (bytes : b.bytes ≡ insert (take (length a.bytes - 1) a.bytes) place x) (chars : b.chars ≡ insert (take (length a.chars - 1) a.chars) place y)
-        (pairs : b.pairs ≡ insert (take (length a.pairs - 1) a.pairs) place z) (breaks : b.breaks ≡ insert (take (length a.breaks - 1) a.breaks) place w) where
+        (len : b.len ≡ a.len + 1) (bytes : b.rows.bytes ≡ insert (take (length a.rows.bytes - 1) a.rows.bytes) place x) (chars : b.rows.chars ≡ insert (take (length a.rows.chars - 1) a.rows.chars) place y)
+        (pairs : b.rows.pairs ≡ insert (take (length a.rows.pairs - 1) a.rows.pairs) place z) (breaks : b.rows.breaks ≡ insert (take (length a.rows.breaks - 1) a.rows.breaks) place w) where
       before_at : (k : ℕ) → k < place → counts_at v b k ≡ counts_at v a k
       before_at k lt =
-          same_counts (counts_at v b k) (counts_at v a k) (ap (λ l. cell v l k) bytes ∙ in_before v a.bytes place x i.bytes (omega arith) k lt) (ap (λ l. cell v l k) chars ∙ in_before v a.chars place y i.chars (omega arith) k lt)
-          (ap (λ l. cell v l k) pairs ∙ in_before v a.pairs place z i.pairs (omega arith) k lt) (ap (λ l. cell v l k) breaks ∙ in_before v a.breaks place w i.breaks (omega arith) k lt)
+          same_counts (counts_at v b k) (counts_at v a k) (ap (λ l. cell v l k) bytes ∙ in_before v a.rows.bytes place x i.bytes (omega arith) k lt) (ap (λ l. cell v l k) chars ∙ in_before v a.rows.chars place y i.chars (omega arith) k lt)
+          (ap (λ l. cell v l k) pairs ∙ in_before v a.rows.pairs place z i.pairs (omega arith) k lt) (ap (λ l. cell v l k) breaks ∙ in_before v a.rows.breaks place w i.breaks (omega arith) k lt)
 
       here_at : counts_at v b place ≡ total
       here_at =
-          same_counts (counts_at v b place) total (ap (λ l. cell v l place) bytes ∙ in_here v a.bytes place x i.bytes (omega arith) ∙ x_is) (ap (λ l. cell v l place) chars ∙ in_here v a.chars place y i.chars (omega arith) ∙ y_is)
-          (ap (λ l. cell v l place) pairs ∙ in_here v a.pairs place z i.pairs (omega arith) ∙ z_is) (ap (λ l. cell v l place) breaks ∙ in_here v a.breaks place w i.breaks (omega arith) ∙ w_is)
+          same_counts (counts_at v b place) total (ap (λ l. cell v l place) bytes ∙ in_here v a.rows.bytes place x i.bytes (omega arith) ∙ x_is) (ap (λ l. cell v l place) chars ∙ in_here v a.rows.chars place y i.chars (omega arith) ∙ y_is)
+          (ap (λ l. cell v l place) pairs ∙ in_here v a.rows.pairs place z i.pairs (omega arith) ∙ z_is) (ap (λ l. cell v l place) breaks ∙ in_here v a.rows.breaks place w i.breaks (omega arith) ∙ w_is)
 
       behind_at : (k : ℕ) → place ≤ k → k < a.len → counts_at v b (k + 1) ≡ counts_at v a k
       behind_at k le lt =
           let to : k < 23 = omega (arith, lt, many a ts view, room) in
-          same_counts (counts_at v b (k + 1)) (counts_at v a k) (ap (λ l. cell v l (k + 1)) bytes ∙ in_behind v a.bytes place x i.bytes (omega arith) k le to) (ap (λ l. cell v l (k + 1)) chars ∙ in_behind v a.chars place y i.chars (omega arith) k le to)
-          (ap (λ l. cell v l (k + 1)) pairs ∙ in_behind v a.pairs place z i.pairs (omega arith) k le to) (ap (λ l. cell v l (k + 1)) breaks ∙ in_behind v a.breaks place w i.breaks (omega arith) k le to)
+          same_counts (counts_at v b (k + 1)) (counts_at v a k) (ap (λ l. cell v l (k + 1)) bytes ∙ in_behind v a.rows.bytes place x i.bytes (omega arith) k le to) (ap (λ l. cell v l (k + 1)) chars ∙ in_behind v a.rows.chars place y i.chars (omega arith) k le to)
+          (ap (λ l. cell v l (k + 1)) pairs ∙ in_behind v a.rows.pairs place z i.pairs (omega arith) k le to) (ap (λ l. cell v l (k + 1)) breaks ∙ in_behind v a.rows.breaks place w i.breaks (omega arith) k le to)
 
       pub one_more : length (all_totals v b) ≡ length ts + 1
       one_more = omega (arith, length-map-range_with_len (counts_at v b) 0 b.len, len, many a ts view)
@@ -146,10 +146,10 @@ module _ {T : Type 0} (v : T → ℕ) where
       pub put_totals : IsTotals v bound b
       put_totals = record {
         few = omega (arith, len, many a ts view, room);
-        bytes = ap length bytes ∙ in_length v a.bytes place x i.bytes (omega arith);
-        chars = ap length chars ∙ in_length v a.chars place y i.chars (omega arith);
-        pairs = ap length pairs ∙ in_length v a.pairs place z i.pairs (omega arith);
-        breaks = ap length breaks ∙ in_length v a.breaks place w i.breaks (omega arith);
+        bytes = ap length bytes ∙ in_length v a.rows.bytes place x i.bytes (omega arith);
+        chars = ap length chars ∙ in_length v a.rows.chars place y i.chars (omega arith);
+        pairs = ap length pairs ∙ in_length v a.rows.pairs place z i.pairs (omega arith);
+        breaks = ap length breaks ∙ in_length v a.rows.breaks place w i.breaks (omega arith);
         below = λ j lt. elim (cases_lt j place) [
           | inl early ↦ subst (IsBelow bound) (sym (before_at j early)) (i.below j (omega (arith, many a ts view)))
           | inr late ↦ elim (cases_lt place j) [
@@ -166,7 +166,7 @@ module _ {T : Type 0} (v : T → ℕ) where
 
     -- totals of another list behind them
     module _ (o : Inside T) (us : List TextInfo) (from count : ℕ) (j : IsTotals v bound o) (others : all_totals v o ≡ us) (within : from + count ≤ length us) (room : length ts + count ≤ 24) (len : b.len ≡ a.len + count)
-        (bytes : b.bytes ≡ pasted a.len count from a.bytes o.bytes) (chars : b.chars ≡ pasted a.len count from a.chars o.chars) (pairs : b.pairs ≡ pasted a.len count from a.pairs o.pairs) (breaks : b.breaks ≡ pasted a.len count from a.breaks o.breaks) where
+        (bytes : b.rows.bytes ≡ pasted a.len count from a.rows.bytes o.rows.bytes) (chars : b.rows.chars ≡ pasted a.len count from a.rows.chars o.rows.chars) (pairs : b.rows.pairs ≡ pasted a.len count from a.rows.pairs o.rows.pairs) (breaks : b.rows.breaks ≡ pasted a.len count from a.rows.breaks o.rows.breaks) where
       pub longer : length (all_totals v b) ≡ length ts + count
       longer = omega (arith, length-map-range_with_len (counts_at v b) 0 b.len, len, many a ts view)
 
@@ -178,13 +178,13 @@ module _ {T : Type 0} (v : T → ℕ) where
 
       kept_at : (k : ℕ) → k < a.len → counts_at v b k ≡ counts_at v a k
       kept_at k lt =
-          same_counts (counts_at v b k) (counts_at v a k) (ap (λ l. cell v l k) bytes ∙ kept_cell a.bytes o.bytes k i.bytes lt) (ap (λ l. cell v l k) chars ∙ kept_cell a.chars o.chars k i.chars lt)
-          (ap (λ l. cell v l k) pairs ∙ kept_cell a.pairs o.pairs k i.pairs lt) (ap (λ l. cell v l k) breaks ∙ kept_cell a.breaks o.breaks k i.breaks lt)
+          same_counts (counts_at v b k) (counts_at v a k) (ap (λ l. cell v l k) bytes ∙ kept_cell a.rows.bytes o.rows.bytes k i.bytes lt) (ap (λ l. cell v l k) chars ∙ kept_cell a.rows.chars o.rows.chars k i.chars lt)
+          (ap (λ l. cell v l k) pairs ∙ kept_cell a.rows.pairs o.rows.pairs k i.pairs lt) (ap (λ l. cell v l k) breaks ∙ kept_cell a.rows.breaks o.rows.breaks k i.breaks lt)
 
       moved_at : (k : ℕ) → k < count → counts_at v b (a.len + k) ≡ counts_at v o (from + k)
       moved_at k lt =
-          same_counts (counts_at v b (a.len + k)) (counts_at v o (from + k)) (ap (λ l. cell v l (a.len + k)) bytes ∙ moved_cell a.bytes o.bytes k i.bytes j.bytes lt) (ap (λ l. cell v l (a.len + k)) chars ∙ moved_cell a.chars o.chars k i.chars j.chars lt)
-          (ap (λ l. cell v l (a.len + k)) pairs ∙ moved_cell a.pairs o.pairs k i.pairs j.pairs lt) (ap (λ l. cell v l (a.len + k)) breaks ∙ moved_cell a.breaks o.breaks k i.breaks j.breaks lt)
+          same_counts (counts_at v b (a.len + k)) (counts_at v o (from + k)) (ap (λ l. cell v l (a.len + k)) bytes ∙ moved_cell a.rows.bytes o.rows.bytes k i.bytes j.bytes lt) (ap (λ l. cell v l (a.len + k)) chars ∙ moved_cell a.rows.chars o.rows.chars k i.chars j.chars lt)
+          (ap (λ l. cell v l (a.len + k)) pairs ∙ moved_cell a.rows.pairs o.rows.pairs k i.pairs j.pairs lt) (ap (λ l. cell v l (a.len + k)) breaks ∙ moved_cell a.rows.breaks o.rows.breaks k i.breaks j.breaks lt)
 
       pub kept_totals : (k : ℕ) (d : TextInfo) → k < length ts → get_or (all_totals v b) k d ≡ get_or ts k d
       kept_totals k d lt =
@@ -202,10 +202,10 @@ module _ {T : Type 0} (v : T → ℕ) where
       pub joined_totals : IsTotals v bound b
       joined_totals = record {
         few = omega (arith, len, room, many a ts view);
-        bytes = ap length bytes ∙ pasted_long a.bytes o.bytes i.bytes j.bytes;
-        chars = ap length chars ∙ pasted_long a.chars o.chars i.chars j.chars;
-        pairs = ap length pairs ∙ pasted_long a.pairs o.pairs i.pairs j.pairs;
-        breaks = ap length breaks ∙ pasted_long a.breaks o.breaks i.breaks j.breaks;
+        bytes = ap length bytes ∙ pasted_long a.rows.bytes o.rows.bytes i.bytes j.bytes;
+        chars = ap length chars ∙ pasted_long a.rows.chars o.rows.chars i.chars j.chars;
+        pairs = ap length pairs ∙ pasted_long a.rows.pairs o.rows.pairs i.pairs j.pairs;
+        breaks = ap length breaks ∙ pasted_long a.rows.breaks o.rows.breaks i.breaks j.breaks;
         below = λ k lt. elim (cases_lt k a.len) [
           | inl early ↦ subst (IsBelow bound) (sym (kept_at k early)) (i.below k early)
           | inr late ↦

@@ -27,38 +27,35 @@ pub(crate) trait Cell: Copy {
         ensures { result ≡ value self };
 
     /// Puts the counts of one part of a text for those of another, from one place on and before another, where they are in use.
-    fn shift_rows(
-        bytes: &mut [Self],
-        chars: &mut [Self],
-        pairs: &mut [Self],
-        breaks: &mut [Self],
-        from: usize,
-        to: usize,
-        old: TextInfo,
-        new: TextInfo,
-    )
+    fn shift(rows: &mut Rows<Self>, from: usize, to: usize, old: TextInfo, new: TextInfo)
         requires ordered { from ≤ to }
         requires few { to ≤ MAX_CHILDREN }
-        requires bytes { CanShift bound (map value bytes.old) from to old.bytes new.bytes }
-        requires chars { CanShift bound (map value chars.old) from to old.chars new.chars }
-        requires pairs { CanShift bound (map value pairs.old) from to old.utf16_surrogates new.utf16_surrogates }
-        requires breaks { CanShift bound (map value breaks.old) from to old.break_count new.break_count }
-        ensures bytes { IsShifted (map value bytes.old) (map value bytes.new) from to old.bytes new.bytes }
-        ensures chars { IsShifted (map value chars.old) (map value chars.new) from to old.chars new.chars }
-        ensures pairs { IsShifted (map value pairs.old) (map value pairs.new) from to old.utf16_surrogates new.utf16_surrogates }
-        ensures breaks { IsShifted (map value breaks.old) (map value breaks.new) from to old.break_count new.break_count };
+        requires bytes { CanShift bound (map value rows.old.bytes) from to old.bytes new.bytes }
+        requires chars { CanShift bound (map value rows.old.chars) from to old.chars new.chars }
+        requires pairs { CanShift bound (map value rows.old.pairs) from to old.utf16_surrogates new.utf16_surrogates }
+        requires breaks { CanShift bound (map value rows.old.breaks) from to old.break_count new.break_count }
+        ensures bytes { IsShifted (map value rows.old.bytes) (map value rows.new.bytes) from to old.bytes new.bytes }
+        ensures chars { IsShifted (map value rows.old.chars) (map value rows.new.chars) from to old.chars new.chars }
+        ensures pairs { IsShifted (map value rows.old.pairs) (map value rows.new.pairs) from to old.utf16_surrogates new.utf16_surrogates }
+        ensures breaks { IsShifted (map value rows.old.breaks) (map value rows.new.breaks) from to old.break_count new.break_count };
 
     ghost positive: { 0 < bound };
+}
+
+/// For each kind of count a row of 24 cells.
+#[derive(Clone, Copy)]
+pub(super) struct Rows<T> {
+    pub(super) bytes: [T; MAX_CHILDREN],
+    pub(super) chars: [T; MAX_CHILDREN],
+    pub(super) pairs: [T; MAX_CHILDREN],
+    pub(super) breaks: [T; MAX_CHILDREN],
 }
 
 /// For each child of a list of at most 24 the counts of all children up to and with it, seen as the list of those counts.
 #[derive(Drop)]
 pub(crate) struct CountRows<T: Cell> {
     len: usize,
-    bytes: [T; MAX_CHILDREN],
-    chars: [T; MAX_CHILDREN],
-    pairs: [T; MAX_CHILDREN],
-    breaks: [T; MAX_CHILDREN],
+    rows: Rows<T>,
 }
 
 impl<T: Cell> Model for CountRows<T> {
@@ -119,13 +116,13 @@ impl<T: Cell> CountRows<T> {
         ensures { result ≡ [] }
     {
         let none = [T::of(0); MAX_CHILDREN];
-        CountRows {
-            len: 0,
+        let rows = Rows {
             bytes: none,
             chars: none,
             pairs: none,
             breaks: none,
-        }
+        };
+        CountRows { len: 0, rows }
     }
 
     /// The same totals once more.
@@ -135,10 +132,7 @@ impl<T: Cell> CountRows<T> {
     {
         CountRows {
             len: self.len,
-            bytes: self.bytes,
-            chars: self.chars,
-            pairs: self.pairs,
-            breaks: self.breaks,
+            rows: self.rows,
         }
     }
 
@@ -158,10 +152,10 @@ impl<T: Cell> CountRows<T> {
         ensures below { IsBelow T.bound result }
     {
         TextInfo {
-            bytes: at(&self.bytes, place),
-            chars: at(&self.chars, place),
-            utf16_surrogates: at(&self.pairs, place),
-            break_count: at(&self.breaks, place),
+            bytes: at(&self.rows.bytes, place),
+            chars: at(&self.rows.chars, place),
+            utf16_surrogates: at(&self.rows.pairs, place),
+            break_count: at(&self.rows.breaks, place),
         }
     }
 
@@ -173,10 +167,10 @@ impl<T: Cell> CountRows<T> {
         ensures { self.new ≡ self.old ++ total ∷ [] }
     {
         let len = self.len;
-        put(&mut self.bytes, len, T::of(total.bytes));
-        put(&mut self.chars, len, T::of(total.chars));
-        put(&mut self.pairs, len, T::of(total.utf16_surrogates));
-        put(&mut self.breaks, len, T::of(total.break_count));
+        put(&mut self.rows.bytes, len, T::of(total.bytes));
+        put(&mut self.rows.chars, len, T::of(total.chars));
+        put(&mut self.rows.pairs, len, T::of(total.utf16_surrogates));
+        put(&mut self.rows.breaks, len, T::of(total.break_count));
         self.len = len + 1;
     }
 
@@ -190,10 +184,10 @@ impl<T: Cell> CountRows<T> {
         ensures here { (d : TextInfo) → slice_index_or self.new place d ≡ total }
         ensures behind { (j : ℕ) (d : TextInfo) → place ≤ j → j < length self.old → slice_index_or self.new (j + 1) d ≡ slice_index_or self.old j d }
     {
-        put_in(&mut self.bytes, place, T::of(total.bytes));
-        put_in(&mut self.chars, place, T::of(total.chars));
-        put_in(&mut self.pairs, place, T::of(total.utf16_surrogates));
-        put_in(&mut self.breaks, place, T::of(total.break_count));
+        put_in(&mut self.rows.bytes, place, T::of(total.bytes));
+        put_in(&mut self.rows.chars, place, T::of(total.chars));
+        put_in(&mut self.rows.pairs, place, T::of(total.utf16_surrogates));
+        put_in(&mut self.rows.breaks, place, T::of(total.break_count));
         self.len += 1;
     }
 
@@ -207,34 +201,10 @@ impl<T: Cell> CountRows<T> {
         ensures before { (j : ℕ) (d : TextInfo) → j < place → slice_index_or self.new j d ≡ slice_index_or self.old j d }
         ensures after { (j : ℕ) (d : TextInfo) → place ≤ j → j < length self.old → info_sum (slice_index_or self.new j d) old ≡ info_sum (slice_index_or self.old j d) new }
     {
-        let CountRows {
-            len,
-            bytes,
-            chars,
-            pairs,
-            breaks,
-        } = self;
-        T::shift_rows(bytes, chars, pairs, breaks, place, *len, old, new);
+        T::shift(&mut self.rows, place, self.len, old, new);
     }
 
-    /// Puts totals of another list behind these: `count` of them, from a place on.
-    #[inline(always)]
-    fn append(&mut self, others: &CountRows<T>, from: usize, count: usize)
-        requires within { from + count ≤ length others.now }
-        requires room { length self.old + count ≤ MAX_CHILDREN }
-        ensures len { length self.new ≡ length self.old + count }
-        ensures before { (j : ℕ) (d : TextInfo) → j < length self.old → slice_index_or self.new j d ≡ slice_index_or self.old j d }
-        ensures behind { (j : ℕ) (d : TextInfo) → j < count → slice_index_or self.new (length self.old + j) d ≡ slice_index_or others.now (from + j) d }
-    {
-        let place = self.len;
-        put_row(&mut self.bytes, place, &others.bytes, from, count);
-        put_row(&mut self.chars, place, &others.chars, from, count);
-        put_row(&mut self.pairs, place, &others.pairs, from, count);
-        put_row(&mut self.breaks, place, &others.breaks, from, count);
-        self.len = place + count;
-    }
-
-    /// The same, with the counts `new` in each of them for the part `old`.
+    /// Puts totals of another list behind these: `count` of them, from a place on, with the counts `new` in each for the part `old`.
     pub(super) fn append_with(
         &mut self,
         others: &CountRows<T>,
@@ -252,8 +222,18 @@ impl<T: Cell> CountRows<T> {
         ensures before { (j : ℕ) (d : TextInfo) → j < length self.old → slice_index_or self.new j d ≡ slice_index_or self.old j d }
         ensures behind { (j : ℕ) (d : TextInfo) → j < count → info_sum (slice_index_or self.new (length self.old + j) d) old ≡ info_sum (slice_index_or others.now (from + j) d) new }
     {
-        let place = self.len();
-        self.append(others, from, count);
+        let place = self.len;
+        put_row(&mut self.rows.bytes, place, &others.rows.bytes, from, count);
+        put_row(&mut self.rows.chars, place, &others.rows.chars, from, count);
+        put_row(&mut self.rows.pairs, place, &others.rows.pairs, from, count);
+        put_row(
+            &mut self.rows.breaks,
+            place,
+            &others.rows.breaks,
+            from,
+            count,
+        );
+        self.len = place + count;
         self.retotal(place, old, new);
     }
 }

@@ -3,7 +3,7 @@ ghost use Rattle.std.specs.Prelude.{◌≡◌, ℕ, ◌+◌, ◌-◌, ◌%◌, �
 ghost use Rattle.std.proofs.Common.{rules};
 ghost use Rattle.rope_text.specs.declared.TheConstants.{MAX_CHILDREN};
 
-use super::count_rows::Cell;
+use super::count_rows::{Cell, Rows};
 use rope_text::{MAX_CHILDREN, TextInfo};
 
 /// What is to be added, modulo 2^16, to a count in which one part is put for another.
@@ -71,23 +71,12 @@ impl Cell for u16 {
     }
 
     #[inline(always)]
-    fn shift_rows(
-        bytes: &mut [u16],
-        chars: &mut [u16],
-        pairs: &mut [u16],
-        breaks: &mut [u16],
-        from: usize,
-        _: usize,
-        old: TextInfo,
-        new: TextInfo,
-    ) {
-        shift(bytes, from, difference(old.bytes, new.bytes));
-        shift(chars, from, difference(old.chars, new.chars));
-        shift(
-            pairs,
-            from,
-            difference(old.utf16_surrogates, new.utf16_surrogates),
-        );
-        shift(breaks, from, difference(old.break_count, new.break_count));
+    fn shift(rows: &mut Rows<u16>, from: usize, _: usize, old: TextInfo, new: TextInfo) {
+        let breaks = difference(old.break_count, new.break_count);
+        let pairs = difference(old.utf16_surrogates, new.utf16_surrogates);
+        shift(&mut rows.bytes, from, difference(old.bytes, new.bytes));
+        shift(&mut rows.chars, from, difference(old.chars, new.chars));
+        shift(&mut rows.pairs, from, pairs);
+        shift(&mut rows.breaks, from, breaks);
     }
 }

@@ -57,4 +57,3 @@ returns-clause-behind g c =
     put_behind_same g.T.Cell.value g.T.Cell.bound c.self.inside _ c.args.self.now c.self.invariant c.self.view_is c.args.place c.args.total c.requires.within c.requires.room
     (c.requires.below (all_below g.T.Cell.value g.T.Cell.bound c.self.inside c.args.self.now c.self.invariant c.self.view_is)) c.of.result c.of-2.result c.of-3.result c.of-4.result
     c.of.ensures c.of-2.ensures c.of-3.ensures c.of-4.ensures refl c.put_in.ensures c.put_in-2.ensures c.put_in-3.ensures c.put_in-4.ensures
-

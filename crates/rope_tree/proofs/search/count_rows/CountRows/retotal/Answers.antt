@@ -1,4 +1,4 @@
-use Rattle.std.proofs.Common.{◌≡◌, ℕ, ◌+◌, ◌<◌, ◌≤◌, length, get_or, map, refl, ap, sym, ◌∙◌, arith}
+use Rattle.std.proofs.Common.{rules, ◌≡◌, ℕ, ◌+◌, ◌<◌, ◌≤◌, length, get_or, map, refl, ap, sym, ◌∙◌, arith}
 use Rattle.std.proofs.lemmas.List.{length-map}
 use Rattle.rope_tree.specs.Search.{HasPart}
 use Rattle.rope_tree.specs.Narrow.{IsBelow, IsBelowWith}
@@ -35,58 +35,58 @@ module _ (g : _) (c : After-self g) where
   is : IsBelow g.T.Cell.bound c.args.new
   is = is_below g.T.Cell.bound (counts_at g.T.Cell.value c.self.inside c.args.place) c.args.old c.args.new (part c.args.place (omega arith) first) (fits c.args.place (omega arith) first)
 
-pub shift_rows-requires-clause-bytes : goal.shift_rows-requires-clause-bytes
-shift_rows-requires-clause-bytes g c =
-    let e = (goal.at.shift_rows-requires-clause-bytes g c).After-self in
-    record {
-      len = length-map c.self.inside.bytes g.T.Cell.value ∙ c.self.invariant.bytes;
-      was_below = (was g e).bytes;
-      is_below = (is g e).bytes;
-      has = λ j le lt. (part g e j le lt).bytes;
-      fits = λ j le lt. (fits g e j le lt).bytes;
-    }
-
-pub shift_rows-requires-clause-chars : goal.shift_rows-requires-clause-chars
-shift_rows-requires-clause-chars g c =
-    let e = (goal.at.shift_rows-requires-clause-chars g c).After-self in
-    record {
-      len = length-map c.self.inside.chars g.T.Cell.value ∙ c.self.invariant.chars;
-      was_below = (was g e).chars;
-      is_below = (is g e).chars;
-      has = λ j le lt. (part g e j le lt).chars;
-      fits = λ j le lt. (fits g e j le lt).chars;
-    }
-
-pub shift_rows-requires-clause-pairs : goal.shift_rows-requires-clause-pairs
-shift_rows-requires-clause-pairs g c =
-    let e = (goal.at.shift_rows-requires-clause-pairs g c).After-self in
-    record {
-      len = length-map c.self.inside.pairs g.T.Cell.value ∙ c.self.invariant.pairs;
-      was_below = (was g e).surrogates;
-      is_below = (is g e).surrogates;
-      has = λ j le lt. (part g e j le lt).surrogates;
-      fits = λ j le lt. (fits g e j le lt).surrogates;
-    }
-
-pub shift_rows-requires-clause-breaks : goal.shift_rows-requires-clause-breaks
-shift_rows-requires-clause-breaks g c =
-    let e = (goal.at.shift_rows-requires-clause-breaks g c).After-self in
-    record {
-      len = length-map c.self.inside.breaks g.T.Cell.value ∙ c.self.invariant.breaks;
-      was_below = (was g e).count;
-      is_below = (is g e).count;
-      has = λ j le lt. (part g e j le lt).count;
-      fits = λ j le lt. (fits g e j le lt).count;
-    }
-
-pub shift_rows-requires-clause-ordered : goal.shift_rows-requires-clause-ordered
-shift_rows-requires-clause-ordered g c = omega (arith, c.requires.within, many g.T.Cell.value c.self.inside c.args.self.now c.self.view_is)
+pub shift-requires : goal.shift-requires
+shift-requires g c =
+    let e = (goal.at.shift-requires g c).After-self in
+    let n = many g.T.Cell.value c.self.inside c.args.self.now c.self.view_is in (
+      search rules,
+      (
+        omega (arith, c.requires.within, n),
+        (
+          c.self.invariant.few,
+          (
+            record {
+              len = length-map c.self.inside.rows.bytes g.T.Cell.value ∙ c.self.invariant.bytes;
+              was_below = (was g e).bytes;
+              is_below = (is g e).bytes;
+              has = λ j le lt. (part g e j le lt).bytes;
+              fits = λ j le lt. (fits g e j le lt).bytes;
+            },
+            (
+              record {
+                len = length-map c.self.inside.rows.chars g.T.Cell.value ∙ c.self.invariant.chars;
+                was_below = (was g e).chars;
+                is_below = (is g e).chars;
+                has = λ j le lt. (part g e j le lt).chars;
+                fits = λ j le lt. (fits g e j le lt).chars;
+              },
+              (
+                record {
+                  len = length-map c.self.inside.rows.pairs g.T.Cell.value ∙ c.self.invariant.pairs;
+                  was_below = (was g e).surrogates;
+                  is_below = (is g e).surrogates;
+                  has = λ j le lt. (part g e j le lt).surrogates;
+                  fits = λ j le lt. (fits g e j le lt).surrogates;
+                },
+                record {
+                  len = length-map c.self.inside.rows.breaks g.T.Cell.value ∙ c.self.invariant.breaks;
+                  was_below = (was g e).count;
+                  is_below = (is g e).count;
+                  has = λ j le lt. (part g e j le lt).count;
+                  fits = λ j le lt. (fits g e j le lt).count;
+                },
+              ),
+            ),
+          ),
+        ),
+      ),
+    )
 
 pub invariant_of-self : goal.invariant_of-self
-invariant_of-self g c = shifted_totals g.T.Cell.value g.T.Cell.bound c.self.inside _ c.args.self.now c.self.invariant c.self.view_is c.args.place c.args.old c.args.new refl c.shift_rows.ensures.bytes c.shift_rows.ensures.chars c.shift_rows.ensures.pairs c.shift_rows.ensures.breaks (fits g (goal.at.invariant_of-self g c).After-self)
+invariant_of-self g c = shifted_totals g.T.Cell.value g.T.Cell.bound c.self.inside _ c.args.self.now c.self.invariant c.self.view_is c.args.place c.args.old c.args.new refl c.shift.ensures.bytes c.shift.ensures.chars c.shift.ensures.pairs c.shift.ensures.breaks (fits g (goal.at.invariant_of-self g c).After-self)
 
 pub returns-clause-before : goal.returns-clause-before
-returns-clause-before g c = λ j d early. early_same g.T.Cell.value g.T.Cell.bound c.self.inside _ c.args.self.now c.self.invariant c.self.view_is c.args.place c.args.old c.args.new refl c.shift_rows.ensures.bytes c.shift_rows.ensures.chars c.shift_rows.ensures.pairs c.shift_rows.ensures.breaks j d (omega (arith, early, c.requires.within)) early
+returns-clause-before g c = λ j d early. early_same g.T.Cell.value g.T.Cell.bound c.self.inside _ c.args.self.now c.self.invariant c.self.view_is c.args.place c.args.old c.args.new refl c.shift.ensures.bytes c.shift.ensures.chars c.shift.ensures.pairs c.shift.ensures.breaks j d (omega (arith, early, c.requires.within)) early
 
 pub returns-clause-after : goal.returns-clause-after
-returns-clause-after g c = λ j d late lt. late_sums g.T.Cell.value g.T.Cell.bound c.self.inside _ c.args.self.now c.self.invariant c.self.view_is c.args.place c.args.old c.args.new refl c.shift_rows.ensures.bytes c.shift_rows.ensures.chars c.shift_rows.ensures.pairs c.shift_rows.ensures.breaks j d late lt
+returns-clause-after g c = λ j d late lt. late_sums g.T.Cell.value g.T.Cell.bound c.self.inside _ c.args.self.now c.self.invariant c.self.view_is c.args.place c.args.old c.args.new refl c.shift.ensures.bytes c.shift.ensures.chars c.shift.ensures.pairs c.shift.ensures.breaks j d late lt
