@@ -1,7 +1,7 @@
 -- Rows of cells, by what the cells count.
-use Rattle.std.proofs.Common.{◌≡◌, ℕ, suc, ◌+◌, ◌-◌, ◌<◌, ◌≤◌, List, [], ◌∷◌, ◌++◌, length, take, drop, map, set, get_or, refl, sym, ap, ◌∙◌, arith, add-one, get_or-set_other, get_or-set_same}
+use Rattle.std.proofs.Common.{◌≡◌, ℕ, suc, ◌+◌, ◌-◌, ◌<◌, ◌≤◌, List, ◌∷◌, ◌++◌, length, take, drop, map, set, get_or, refl, sym, ap, ◌∙◌, arith, add-one, get_or-set_other, get_or-set_same}
 use Rattle.std.specs.List.{insert, copy_within}
-use Rattle.std.proofs.lemmas.List.{length-map, length-set, length-take-le, map-set, map-append, take-map, drop-map, get_or-take, get_or-map, take-append-le, take-take, drop-take, drop_all, set_split, append_assoc, append-nil}
+use Rattle.std.proofs.lemmas.List.{length-map, length-take-le, map-set, map-append, take-map, drop-map, get_or-take, get_or-map, take-append-le, take-take, drop-take, drop_all, set_split, append_assoc, append-nil}
 use Rattle.std.proofs.Math.Seq.{drop-append_seam}
 use Rattle.std.proofs.lemmas.List.Edits.{length-insert, get_or-insert_at, get_or-insert_below, get_or-insert_above}
 use Rattle.rope_tree.proofs.Rows.{put_before, put_within, put_length}

@@ -1,5 +1,5 @@
 -- Running totals kept by kind of count.
-use Rattle.std.proofs.Common.{◌≡◌, ℕ, ◌+◌, ◌-◌, ◌<◌, ◌≤◌, List, [], ◌∷◌, ◌++◌, length, get_or, set, take, drop, map, inl, inr, subst, refl, sym, ap, ◌∙◌, arith}
+use Rattle.std.proofs.Common.{◌≡◌, ℕ, ◌+◌, ◌-◌, ◌<◌, ◌≤◌, List, [], ◌∷◌, ◌++◌, length, get_or, set, take, map, inl, inr, subst, sym, ap, ◌∙◌, arith}
 use Rattle.std.specs.List.{range_with_len, insert}
 use Rattle.std.proofs.lemmas.Bool.{cases_lt}
 use Rattle.std.proofs.lemmas.List.{length-map, length-set}
@@ -10,7 +10,7 @@ use Rattle.rope_tree.specs.declared.search.count_rows.CountRows.TheInside.{Insid
 use Rattle.rope_tree.specs.CountRows.{counts_at, all_totals, IsTotals}
 use Rattle.rope_tree.specs.Narrow.{IsBelow, AreBounded, IsBelowWith}
 use Rattle.rope_tree.specs.Search.{HasPart}
-use Rattle.rope_tree.specs.Shifted.{CanShift, IsShifted}
+use Rattle.rope_tree.specs.Shifted.{IsShifted}
 use Rattle.rope_tree.proofs.TotalLaws.{same_counts}
 use Rattle.rope_tree.proofs.CellRows.{cell, pasted, set_same, set_other, in_length, in_here, in_before, in_behind, pasted_before, pasted_within, pasted_length}
 

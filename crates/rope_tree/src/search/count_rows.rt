@@ -222,18 +222,12 @@ impl<T: Cell> CountRows<T> {
         ensures before { (j : ℕ) (d : TextInfo) → j < length self.old → slice_index_or self.new j d ≡ slice_index_or self.old j d }
         ensures behind { (j : ℕ) (d : TextInfo) → j < count → info_sum (slice_index_or self.new (length self.old + j) d) old ≡ info_sum (slice_index_or others.now (from + j) d) new }
     {
-        let place = self.len;
-        put_row(&mut self.rows.bytes, place, &others.rows.bytes, from, count);
-        put_row(&mut self.rows.chars, place, &others.rows.chars, from, count);
-        put_row(&mut self.rows.pairs, place, &others.rows.pairs, from, count);
-        put_row(
-            &mut self.rows.breaks,
-            place,
-            &others.rows.breaks,
-            from,
-            count,
-        );
-        self.len = place + count;
-        self.retotal(place, old, new);
+        let len = self.len;
+        put_row(&mut self.rows.bytes, len, &others.rows.bytes, from, count);
+        put_row(&mut self.rows.chars, len, &others.rows.chars, from, count);
+        put_row(&mut self.rows.pairs, len, &others.rows.pairs, from, count);
+        put_row(&mut self.rows.breaks, len, &others.rows.breaks, from, count);
+        self.len = len + count;
+        self.retotal(len, old, new);
     }
 }

@@ -1,4 +1,4 @@
-use Rattle.std.proofs.Common.{◌≡◌, ℕ, ◌+◌, ◌-◌, ◌<◌, ◌≤◌, ◌^◌, ◌++◌, length, take, drop, refl, ap, arith}
+use Rattle.std.proofs.Common.{◌≡◌, ℕ, ◌+◌, ◌-◌, ◌<◌, ◌≤◌, ◌^◌, ◌++◌, length, take, drop, ap, arith}
 use Rattle.rope_text.specs.Text.{byte_len}
 use Rattle.rope_text.proofs.Measures.{IsMeasure-byte_len}
 use Rattle.rope_tree.specs.declared.search.Unit.TheVariants.{Char}
@@ -8,7 +8,7 @@ use Rattle.rope_tree.specs.Insert.{MayInsert, GoesIn}
 use Rattle.rope_tree.proofs.NodeLaws.{small_totals}
 use Rattle.rope_tree.proofs.Descents.{Descends, descends}
 use Rattle.rope_tree.proofs.InsertDescents.{last_total, inner_some, held_within, goes_in}
-use Rattle.rope_tree.proofs.InsertTrees.{around, siblings_of_first, text_around, child_may, new_siblings, new_length, new_node}
+use Rattle.rope_tree.proofs.InsertTrees.{siblings_of_first, text_around, child_may, new_siblings, new_length, new_node}
 use Rattle.rope_tree.proofs.insert.+insert.Goals.{After-index-children-place, In_ok-middle-in-Inner}
 use Rattle.rope_tree.proofs.insert.+insert.Goals as goal
 

@@ -1,5 +1,4 @@
 use Rattle.std.proofs.Common.{refl, arith}
-use Rattle.rope_tree.specs.Narrow.{IsBelow}
 use Rattle.rope_tree.proofs.CountsKept.{many, all_below, one_more, put_before_same, put_here, put_behind_same, put_totals}
 use Rattle.rope_tree.proofs.search.count_rows.CountRows.insert.Goals.{After-self}
 use Rattle.rope_tree.proofs.search.count_rows.CountRows.insert.Goals as goal

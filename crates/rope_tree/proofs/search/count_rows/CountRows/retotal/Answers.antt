@@ -1,8 +1,7 @@
-use Rattle.std.proofs.Common.{rules, ◌≡◌, ℕ, ◌+◌, ◌<◌, ◌≤◌, length, get_or, map, refl, ap, sym, ◌∙◌, arith}
+use Rattle.std.proofs.Common.{rules, ◌≡◌, ℕ, ◌<◌, ◌≤◌, length, refl, ◌∙◌, arith}
 use Rattle.std.proofs.lemmas.List.{length-map}
 use Rattle.rope_tree.specs.Search.{HasPart}
 use Rattle.rope_tree.specs.Narrow.{IsBelow, IsBelowWith}
-use Rattle.rope_tree.specs.Shifted.{CanShift}
 use Rattle.rope_tree.specs.CountRows.{counts_at}
 use Rattle.rope_tree.proofs.CountsKept.{many, total_seen, all_below, was_below, is_below, early_same, late_sums, shifted_totals}
 use Rattle.rope_tree.proofs.search.count_rows.CountRows.retotal.Goals.{After-self}
