@@ -7,9 +7,8 @@ pub mod RowLaws
 pub mod PartLaws
 pub mod Rows
 pub mod ShortTexts
-pub mod WideKept
-pub mod NarrowKept
-pub mod Retotals
+pub mod CountsKept
+pub mod CellRows
 pub mod CountLaws
 pub mod TotalLaws
 pub mod CutLaws

@@ -5,8 +5,7 @@ pub mod Search
 pub mod Totals
 pub mod Narrow
 pub mod Change
-pub mod NarrowShape
-pub mod WideShape
+pub mod CountRows
 pub mod Shifted
 pub mod TotalsShape
 pub mod Flat

@@ -1,21 +1,31 @@
--- Counts that fit in 16 bits.
+-- Counts below a bound, as those that fit in 16 bits.
 use Rattle.std.specs.Prelude.{ℕ, ◌+◌, ◌<◌, ◌^◌, List, length, slice_index_or}
 use Rattle.rope_text.specs.declared.text_info.TextInfo.{TextInfo}
 
--- each count fits
-pub record IsNarrow (info : TextInfo) : Type 0 where
-  pub bytes : info.bytes < 2 ^ 16
-  pub chars : info.chars < 2 ^ 16
-  pub surrogates : info.utf16_surrogates < 2 ^ 16
-  pub count : info.break_count < 2 ^ 16
+-- each count is below it
+pub record IsBelow (bound : ℕ) (info : TextInfo) : Type 0 where
+  pub bytes : info.bytes < bound
+  pub chars : info.chars < bound
+  pub surrogates : info.utf16_surrogates < bound
+  pub count : info.break_count < bound
 
--- all of them do
+-- all of them are
+abbrev pub AreBounded : ℕ → List TextInfo → Type 0
+AreBounded bound totals = (k : ℕ) (d : TextInfo) → k < length totals → IsBelow bound (slice_index_or totals k d)
+
+-- they are so with other counts for those of a part
+pub record IsBelowWith (bound : ℕ) (total old new : TextInfo) : Type 0 where
+  pub bytes : total.bytes + new.bytes < bound + old.bytes
+  pub chars : total.chars + new.chars < bound + old.chars
+  pub surrogates : total.utf16_surrogates + new.utf16_surrogates < bound + old.utf16_surrogates
+  pub count : total.break_count + new.break_count < bound + old.break_count
+
+-- those that fit in 16 bits
+abbrev pub IsNarrow : TextInfo → Type 0
+IsNarrow info = IsBelow (2 ^ 16) info
+
 abbrev pub AreNarrow : List TextInfo → Type 0
-AreNarrow totals = (k : ℕ) (d : TextInfo) → k < length totals → IsNarrow (slice_index_or totals k d)
+AreNarrow totals = AreBounded (2 ^ 16) totals
 
--- they do so with other counts for those of a part
-pub record FitsWith (total old new : TextInfo) : Type 0 where
-  pub bytes : total.bytes + new.bytes < 2 ^ 16 + old.bytes
-  pub chars : total.chars + new.chars < 2 ^ 16 + old.chars
-  pub surrogates : total.utf16_surrogates + new.utf16_surrogates < 2 ^ 16 + old.utf16_surrogates
-  pub count : total.break_count + new.break_count < 2 ^ 16 + old.break_count
+abbrev pub FitsWith : TextInfo → TextInfo → TextInfo → Type 0
+FitsWith total old new = IsBelowWith (2 ^ 16) total old new

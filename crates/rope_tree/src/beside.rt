@@ -36,29 +36,6 @@ fn least_next_to(height: usize, totals: &Totals, place: usize) -> usize
     MIN_PAIR_BYTES.saturating_sub(bytes).min(ENOUGH_BYTES)
 }
 
-/// So many bytes are enough for the first leaf of the child at a place, beside what stands before it.
-fn least_behind(height: usize, totals: &Totals, place: usize, wanted: usize) -> usize
-    requires { place < length totals.now }
-    ensures { (ts : List Tree) → AreBelow height totals.now ts → IsEnoughBehind wanted result (leaves_of (take place ts)) }
-{
-    if place == 0 {
-        return wanted;
-    }
-    least_next_to(height, totals, place - 1)
-}
-
-/// So many bytes are enough for its last leaf, beside what follows it.
-fn least_ahead(height: usize, totals: &Totals, place: usize, wanted: usize) -> usize
-    requires { place < length totals.now }
-    ensures { (ts : List Tree) → AreBelow height totals.now ts → IsEnoughAhead wanted result (leaves_of (drop (place + 1) ts)) }
-{
-    let end = totals.len() - 1;
-    if place == end {
-        return wanted;
-    }
-    least_next_to(height, totals, place + 1)
-}
-
 /// What is enough at the two ends of the child at a place, of a list of children of a node of this height, by what is wanted at
 /// the ends of that node.
 pub fn least_at(height: usize, totals: &Totals, place: usize, wanted: Least) -> Least
@@ -66,8 +43,13 @@ pub fn least_at(height: usize, totals: &Totals, place: usize, wanted: Least) -> 
     ensures behind { (ts : List Tree) → AreBelow height totals.now ts → IsEnoughBehind wanted.first result.first (leaves_of (take place ts)) }
     ensures ahead { (ts : List Tree) → AreBelow height totals.now ts → IsEnoughAhead wanted.last result.last (leaves_of (drop (place + 1) ts)) }
 {
-    Least {
-        first: least_behind(height, totals, place, wanted.first),
-        last: least_ahead(height, totals, place, wanted.last),
+    let mut least = wanted;
+    if place > 0 {
+        least.first = least_next_to(height, totals, place - 1);
     }
+    let end = totals.len() - 1;
+    if place < end {
+        least.last = least_next_to(height, totals, place + 1);
+    }
+    least
 }

@@ -126,28 +126,6 @@ fn cut_leaves(
     Ok(())
 }
 
-// Puts a text behind `rest`, and cuts leaves off the front of the two where they don't fit into one.
-fn append_to(
-    alloc: Global,
-    breaks: LineBreaks,
-    leaves: &mut Vec<Node>,
-    rest: &mut NodeText,
-    text: &str,
-) -> Result<(), AllocError>
-    requires some { 0 < length text.now }
-    requires nodes { AreFrontNodes breaks (joined leaves.old.items ++ (rest.old ++ chars text.now)) leaves.old.items (rest.old ++ chars text.now) }
-    ensures nodes { IfOk result (λ _. AreFrontNodes breaks (joined leaves.old.items ++ (rest.old ++ chars text.now)) leaves.new.items rest.new) }
-    ensures long { IfOk result (λ _. MIN_CUT_BYTES * length (leaves_of leaves.new.items) + byte_len rest.new
-        ≤ MIN_CUT_BYTES * length (leaves_of leaves.old.items) + byte_len rest.old + length text.now) }
-    ensures followed { IfOk result (λ _. 0 < byte_len rest.new) }
-{
-    if rest.len() + text.len() > MAX_BYTES {
-        return Ok(cut_leaves(alloc, breaks, leaves, rest, text)?);
-    }
-    rest.push_str(text);
-    Ok(())
-}
-
 /// Builds a tree of texts that are passed in one after the other. It is seen as the text so far and the set of line breaks.
 #[derive(Drop)]
 pub struct Builder {
@@ -203,17 +181,17 @@ impl Builder {
         if text.is_empty() {
             return Ok(());
         }
-        let appended = append_to(
-            self.alloc,
-            self.breaks,
+        let (alloc, breaks) = (self.alloc, self.breaks);
+        if self.rest.len() + text.len() <= MAX_BYTES {
+            self.rest.push_str(text);
+        } else if let Err(refused) = cut_leaves(
+            alloc,
+            breaks,
             &mut self.leaves,
             &mut self.rest,
             text,
-        );
-        if let Err(refused) = appended {
-            self.leaves = Vec::new(self.alloc);
-            self.rest = NodeText::new();
-            self.bytes = 0;
+        ) {
+            *self = Builder::new(alloc, breaks);
             return Err(refused);
         }
         self.bytes += text.len();

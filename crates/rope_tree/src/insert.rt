@@ -99,16 +99,8 @@ pub fn insert(
             let place = place_of(totals, Unit::Char, held, &mut Steps::new());
             let front = total_before(totals, place).chars;
             let middle = insert(alloc, &children[place], at - front, added, to_right, made)?;
-            let before = Row {
-                nodes: &children[..place],
-                totals: Some(totals),
-                from: 0,
-            };
-            let after = Row {
-                nodes: &children[place + 1..],
-                totals: Some(totals),
-                from: place + 1,
-            };
+            let row = Row::of(children, totals);
+            let (before, after) = (row.first(place), row.rest(place + 1));
             Ok(pack(alloc, before, middle, after, made)?)
         }
     }

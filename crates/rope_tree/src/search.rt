@@ -1,5 +1,5 @@
 //! Running totals over children, and the child that holds a place, found by halving over them.
-ghost use Rattle.std.specs.Prelude.{◌≡◌, ℕ, ◌+◌, ◌-◌, ◌<◌, ◌≤◌, ◌^◌, [], ◌∷◌, ◌++◌, true, false, length, take, drop, slice_index_or, IfOk, OnOk, OnErr};
+ghost use Rattle.std.specs.Prelude.{◌≡◌, ℕ, ◌+◌, ◌-◌, ◌<◌, ◌≤◌, ◌^◌, [], ◌∷◌, ◌++◌, true, false, length, slice_index_or, IfOk, OnOk, OnErr};
 ghost use Rattle.rope_text.specs.declared.TheConstants.{MAX_CHILDREN};
 ghost use Rattle.rope_text.specs.declared.text_info.TextInfo.{TextInfo};
 ghost use Rattle.rope_text.specs.TextInfo.{info_sum};
@@ -11,11 +11,11 @@ use rope_text::{MIN_CHILDREN, Steps, TextInfo};
 use std::alloc::{AllocError, Global};
 use std::marker::Model;
 
+mod count_rows;
 mod narrow;
 mod wide;
 
-use narrow::NarrowTotals;
-use wide::WideTotals;
+use count_rows::CountRows;
 
 /// What a search counts in.
 #[derive(Clone, Copy)]
@@ -50,8 +50,8 @@ pub struct Totals {
 /// Totals in 16 bits each, or in words.
 #[derive(Drop)]
 enum Width {
-    Narrow(NarrowTotals),
-    Wide(Box<WideTotals>),
+    Narrow(CountRows<u16>),
+    Wide(Box<CountRows<usize>>),
 }
 
 impl Model for Totals {
@@ -65,27 +65,19 @@ impl Model for Totals {
     ghost view = { totals_of };
 }
 
-/// Puts counts of another row, `count` of them from one place on, into a row, from another place on.
-#[inline(always)]
-fn put_row<T: Copy>(counts: &mut [T], place: usize, others: &[T], from: usize, count: usize)
-    requires room { place + count ≤ length counts.old }
-    requires within { from + count ≤ length others.now }
-    ensures { counts.new ≡ take place counts.old ++ (take count (drop from others.now) ++ drop (place + count) counts.old) }
-{
-    counts[place..place + count].copy_from_slice(&others[from..from + count]);
-}
-
 /// The same totals in words. It is kept out of the callers, which seldom come to it.
 #[inline(never)]
-fn widened(alloc: Global, totals: &NarrowTotals) -> Result<Box<WideTotals>, AllocError>
+fn widened(alloc: Global, totals: &CountRows<u16>) -> Result<Box<CountRows<usize>>, AllocError>
     requires { length totals.now ≤ MAX_CHILDREN }
     ensures { IfOk result (λ wide. wide.value ≡ totals.now) }
 {
     // Matched by hand: through `?` the totals that a refusal gives back would be moved where none is refused, too.
-    let Ok(mut wide) = Box::new(alloc, WideTotals::new()) else {
+    let Ok(mut wide) = Box::new(alloc, CountRows::new()) else {
         return Err(AllocError);
     };
-    wide.push_all(totals);
+    for place in 0..totals.len() {
+        wide.push(totals.get(place));
+    }
     Ok(wide)
 }
 
@@ -99,7 +91,7 @@ impl Totals {
         ensures { result ≡ [] }
     {
         Totals {
-            width: Width::Narrow(NarrowTotals::new()),
+            width: Width::Narrow(CountRows::new()),
         }
     }
 
@@ -144,10 +136,7 @@ impl Totals {
         requires small { (d : TextInfo) → IsSmall (slice_index_or self.now place d) }
         ensures { (d : TextInfo) → result ≡ count_of unit (slice_index_or self.now place d) }
     {
-        match &self.width {
-            Width::Narrow(totals) => totals.count(place, unit),
-            Width::Wide(totals) => totals.count(place, unit),
-        }
+        count(self.get(place), unit)
     }
 
     /// Whether a text of so many bytes more leaves the totals in the width that they have.

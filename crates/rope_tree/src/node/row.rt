@@ -270,20 +270,6 @@ pub fn node_over(alloc: Global, nodes: &[Node], made: &mut u64) -> Result<Node, 
     make_over(alloc, Row::none(), nodes, Row::none(), made)
 }
 
-/// The first nodes of a list, so many, or all.
-fn first_of(nodes: &[Node], most: usize) -> &[Node]
-    ensures { result.now ≡ take most nodes.now }
-{
-    &nodes[..most.min(nodes.len())]
-}
-
-/// The nodes behind the first so many of a list, or none.
-fn rest_of(nodes: &[Node], past: usize) -> &[Node]
-    ensures { result.now ≡ drop past nodes.now }
-{
-    &nodes[past.min(nodes.len())..]
-}
-
 impl<'a> Row<'a> {
     /// No node.
     #[inline(always)]
@@ -291,8 +277,17 @@ impl<'a> Row<'a> {
         ensures row { IsRow result }
         ensures nodes { result.nodes.now ≡ [] }
     {
+        Row::plain(&[])
+    }
+
+    /// Nodes whose counts are not known together.
+    #[inline(always)]
+    fn plain(nodes: &'a [Node]) -> Row<'a>
+        ensures row { IsRow result }
+        ensures nodes { result.nodes.now ≡ nodes.now }
+    {
         Row {
-            nodes: &[],
+            nodes,
             totals: None,
             from: 0,
         }
@@ -321,7 +316,7 @@ impl<'a> Row<'a> {
         ensures nodes { result.nodes.now ≡ take most self.entry.nodes.now }
     {
         Row {
-            nodes: first_of(self.nodes, most),
+            nodes: &self.nodes[..most.min(self.nodes.len())],
             ..self
         }
     }
@@ -333,9 +328,10 @@ impl<'a> Row<'a> {
         ensures row { IsRow result }
         ensures nodes { result.nodes.now ≡ drop past self.entry.nodes.now }
     {
+        let past = past.min(self.nodes.len());
         Row {
-            nodes: rest_of(self.nodes, past),
-            from: self.from.saturating_add(past.min(self.nodes.len())),
+            nodes: &self.nodes[past..],
+            from: self.from.saturating_add(past),
             ..self
         }
     }
@@ -367,14 +363,11 @@ pub fn pack_over(
     let half = count / 2;
     let more = half.saturating_sub(before.nodes.len());
     let most = more.saturating_sub(middle.len());
-    let (left, mid, right) = (
-        before.first(half),
-        first_of(middle, more),
-        after.first(most),
-    );
-    let first = make_over(alloc, left, mid, right, made)?;
-    let (left, mid, right) = (before.rest(half), rest_of(middle, more), after.rest(most));
-    let second = make_over(alloc, left, mid, right, made)?;
+    let middle = Row::plain(middle);
+    let (left, mid, right) = (before.first(half), middle.first(more), after.first(most));
+    let first = make_over(alloc, left, mid.nodes, right, made)?;
+    let (left, mid, right) = (before.rest(half), middle.rest(more), after.rest(most));
+    let second = make_over(alloc, left, mid.nodes, right, made)?;
     Ok(Nodes::Two(first, second))
 }
 

@@ -1,4 +1,4 @@
-use Rattle.std.proofs.Common.{◌≡◌, ℕ, ◌+◌, ◌-◌, ◌<◌, ◌≤◌, ◌^◌, ◌++◌, length, take, drop, refl, ap, arith}
+use Rattle.std.proofs.Common.{◌≡◌, ℕ, ◌+◌, ◌-◌, ◌<◌, ◌≤◌, ◌^◌, ◌++◌, length, take, drop, ap, arith}
 use Rattle.rope_text.specs.Text.{byte_len}
 use Rattle.rope_text.proofs.Measures.{IsMeasure-byte_len}
 use Rattle.rope_tree.specs.declared.search.Unit.TheVariants.{Char}
@@ -8,7 +8,7 @@ use Rattle.rope_tree.specs.Insert.{MayInsert, GoesIn}
 use Rattle.rope_tree.proofs.NodeLaws.{small_totals}
 use Rattle.rope_tree.proofs.Descents.{Descends, descends}
 use Rattle.rope_tree.proofs.InsertDescents.{last_total, inner_some, held_within, goes_in}
-use Rattle.rope_tree.proofs.InsertTrees.{around, siblings_of_first, text_around, child_may, new_siblings, new_length, new_node}
+use Rattle.rope_tree.proofs.InsertTrees.{siblings_of_first, text_around, child_may, new_siblings, new_length, new_node}
 use Rattle.rope_tree.proofs.insert.+insert.Goals.{After-index-children-place, In_ok-middle-in-Inner}
 use Rattle.rope_tree.proofs.insert.+insert.Goals as goal
 
@@ -68,12 +68,6 @@ insert-requires t c =
     let above = ap (λ u. u.height) c.in-Inner.ensures.is in
     (omega (arith, c.decreases, above, d.own.at_height), ((goes t e).1.within, (c.requires.some, (c.requires.short, (omega (arith, c.requires.fits, child_fits t e), may t e)))))
 
--- the nodes with the new ones in the child's place
-spliced : (t : ℕ) (c : In_ok-middle-in-Inner t) → take c.place_of-place.result c.in-Inner.children.now
-    ++ (trees_in c.in_ok-middle-in-Inner.middle ++ take (length c.in-Inner.children.now - (c.place_of-place.result + 1)) (drop (c.place_of-place.result + 1) c.in-Inner.children.now))
-    ≡ take c.place_of-place.result c.in-Inner.children.now ++ (trees_in c.in_ok-middle-in-Inner.middle ++ drop (c.place_of-place.result + 1) c.in-Inner.children.now)
-spliced t c = around c.in-Inner.children.now c.place_of-place.result (trees_in c.in_ok-middle-in-Inner.middle) _ refl
-
 fits : (t : ℕ) (c : In_ok-middle-in-Inner t) → byte_len (text c.args.node.now) + byte_len c.args.added.now < 2 ^ 63
 fits t c = omega (arith, c.requires.fits)
 
@@ -101,7 +95,7 @@ pack-requires-clause-siblings t c =
     ps c.args.to_right g.inside g.outside c.requires.side c.in_ok-middle-in-Inner.ensures.ok (fits t n) in
     let s = new_siblings (breaks_of ts) (height_of ts) ts c.place_of-place.result c.index-children-place.result d.children d.within d.child_is c.args.node.now c.in-Inner.ensures.is c.args.at (c.args.at - c.total_before-front.result.chars) c.args.added.now c.requires.some (place t e) g.within
     ps c.args.to_right g.inside g.outside c.requires.side c.in_ok-middle-in-Inner.ensures.ok (fits t n) in
-    rw (spliced t n) (siblings_of_first (breaks_of ts) (height_of ts) (take c.place_of-place.result ts ++ (ps ++ drop (c.place_of-place.result + 1) ts))
+    rw (c.first-before.ensures.nodes, c.rest-after.ensures.nodes, c.of-row.ensures.nodes) (siblings_of_first (breaks_of ts) (height_of ts) (take c.place_of-place.result ts ++ (ps ++ drop (c.place_of-place.result + 1) ts))
     (omega (arith, more, d.children.at_least_two, c.in_ok-middle-in-Inner.ensures.ok.parts.some)) s)
 
 pub returns-in_ok-pack-in-Inner-clause-ok : goal.returns-in_ok-pack-in-Inner-clause-ok
@@ -115,4 +109,4 @@ returns-in_ok-pack-in-Inner-clause-ok t c =
     let leaves = c.in_ok-pack-in-Inner.ensures.leaves in
     let shape = c.in_ok-pack-in-Inner.ensures.shape in
     new_node (breaks_of ts) (height_of ts) ts c.place_of-place.result c.index-children-place.result d.children d.within d.child_is c.args.node.now c.in-Inner.ensures.is c.args.at (c.args.at - c.total_before-front.result.chars) c.args.added.now c.requires.some (place t e) g.within
-    ps c.args.to_right g.inside g.outside c.requires.side c.in_ok-middle-in-Inner.ensures.ok (fits t n) (trees_in c.in_ok-pack-in-Inner.field-0) (rw (spliced t n) at leaves) (rw (spliced t n) at shape)
+    ps c.args.to_right g.inside g.outside c.requires.side c.in_ok-middle-in-Inner.ensures.ok (fits t n) (trees_in c.in_ok-pack-in-Inner.field-0) (rw (c.first-before.ensures.nodes, c.rest-after.ensures.nodes, c.of-row.ensures.nodes) at leaves) (rw (c.first-before.ensures.nodes, c.rest-after.ensures.nodes, c.of-row.ensures.nodes) at shape)

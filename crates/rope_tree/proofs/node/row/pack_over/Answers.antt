@@ -17,17 +17,17 @@ returns-then-count-le-MAX_CHILDREN-clause-shape c =
 many : (c : After-first-right) → 24 < length (c.args.before.nodes.now ++ (c.args.middle.now ++ c.args.after.nodes.now))
 many c = omega (arith, counted c.args.before.nodes.now c.args.middle.now c.args.after.nodes.now, c.if-count-le-MAX_CHILDREN.false)
 
-front : (c : After-first-right) → c.first-left.result.nodes.now ++ (c.first_of-mid.result.now ++ c.first-right.result.nodes.now)
+front : (c : After-first-right) → c.first-left.result.nodes.now ++ (c.first-mid.result.nodes.now ++ c.first-right.result.nodes.now)
     ≡ take (length (c.args.before.nodes.now ++ (c.args.middle.now ++ c.args.after.nodes.now)) / 2) (c.args.before.nodes.now ++ (c.args.middle.now ++ c.args.after.nodes.now))
 front c =
     front_row c.args.before.nodes.now c.args.middle.now c.args.after.nodes.now _ c.saturating_sub-more.result c.saturating_sub-most.result refl c.saturating_sub-more.ensures c.saturating_sub-most.ensures
-    _ _ _ c.first-left.ensures.nodes c.first_of-mid.ensures c.first-right.ensures.nodes
+    _ _ _ c.first-left.ensures.nodes (c.first-mid.ensures.nodes ∙ ap (take c.saturating_sub-more.result) c.plain-middle.ensures.nodes) c.first-right.ensures.nodes
 
-back : (c : After-rest-right) → c.rest-left.result.nodes.now ++ (c.rest_of-mid.result.now ++ c.rest-right.result.nodes.now)
+back : (c : After-rest-right) → c.rest-left.result.nodes.now ++ (c.rest-mid.result.nodes.now ++ c.rest-right.result.nodes.now)
     ≡ drop (length (c.args.before.nodes.now ++ (c.args.middle.now ++ c.args.after.nodes.now)) / 2) (c.args.before.nodes.now ++ (c.args.middle.now ++ c.args.after.nodes.now))
 back c =
     back_row c.args.before.nodes.now c.args.middle.now c.args.after.nodes.now _ c.saturating_sub-more.result c.saturating_sub-most.result refl c.saturating_sub-more.ensures c.saturating_sub-most.ensures
-    _ _ _ c.rest-left.ensures.nodes c.rest_of-mid.ensures c.rest-right.ensures.nodes
+    _ _ _ c.rest-left.ensures.nodes (c.rest-mid.ensures.nodes ∙ ap (drop c.saturating_sub-more.result) c.plain-middle.ensures.nodes) c.rest-right.ensures.nodes
 
 pub make_over-requires-2-clause-children : goal.make_over-requires-2-clause-children
 make_over-requires-2-clause-children c =

@@ -1,5 +1,0 @@
-use Rattle.rope_tree.proofs.WideKept.{many}
-use Rattle.rope_tree.proofs.search.wide.WideTotals.len.Goals as goal
-
-pub returns : goal.returns
-returns c = many c.self.inside c.args.self.now c.self.view_is
