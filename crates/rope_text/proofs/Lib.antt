@@ -45,3 +45,4 @@ pub mod LineSeams
 pub mod ByteOrder
 pub mod Scans
 pub mod LaneSums
+pub mod Padded

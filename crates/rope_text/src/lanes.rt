@@ -199,9 +199,6 @@ pub(crate) fn marks_between(bytes: &[u8], from: usize, to: usize, mark: Mark) ->
     marks_byte_by_byte(bytes, from, to, mark)
 }
 
-// A text of fewer bytes is counted byte by byte.
-const FEW_BYTES: usize = 34;
-
 // A text of so many bytes or more is counted at four places side by side. It comes from far memory: so the waits for the four
 // are one, where a single pass would wait for each in turn.
 const LONG_BYTES: usize = 65_536;
@@ -359,22 +356,41 @@ fn count_known(bytes: &[u8], breaks: LineBreaks) -> TextInfo
     }
 }
 
-// The same byte by byte, which takes less where they are few.
+// The same of one byte, as of a key that was pressed.
 #[inline(always)]
-fn count_few(bytes: &[u8], breaks: LineBreaks) -> TextInfo
+fn count_one(bytes: &[u8], breaks: LineBreaks) -> TextInfo
+    requires { length bytes.now ≡ 1 }
     ensures bytes { result.bytes ≡ length bytes.now }
     ensures chars { result.chars ≡ count_by begins_char bytes.now }
     ensures pairs { result.utf16_surrogates ≡ count_by begins_pair bytes.now }
     ensures break_count { byte_break_count breaks bytes.now ≡ result.break_count + byte_break_count breaks (drop (length bytes.now) bytes.now) }
 {
-    let mut counts = TextInfo::new();
-    for at in 0..bytes.len() {
-        counts.chars += is_mark(bytes, at, Mark::Char) as usize;
-        counts.utf16_surrogates += is_mark(bytes, at, Mark::Pair) as usize;
-        counts.break_count += is_mark(bytes, at, Mark::Break(breaks)) as usize;
+    TextInfo {
+        bytes: 1,
+        chars: is_mark(bytes, 0, Mark::Char) as usize,
+        utf16_surrogates: is_mark(bytes, 0, Mark::Pair) as usize,
+        break_count: is_mark(bytes, 0, Mark::Break(breaks)) as usize,
     }
-    counts.bytes = bytes.len();
-    counts
+}
+
+// The same of few bytes, at most 32: they are put before zeros, of which none begins a break, and are counted at once.
+#[inline(always)]
+fn count_few(bytes: &[u8], breaks: LineBreaks) -> TextInfo
+    requires { length bytes.now ≤ 32 }
+    ensures bytes { result.bytes ≡ length bytes.now }
+    ensures chars { result.chars ≡ count_by begins_char bytes.now }
+    ensures pairs { result.utf16_surrogates ≡ count_by begins_pair bytes.now }
+    ensures break_count { byte_break_count breaks bytes.now ≡ result.break_count + byte_break_count breaks (drop (length bytes.now) bytes.now) }
+{
+    let len = bytes.len();
+    let mut block = [0; 34];
+    block[..len].copy_from_slice(bytes);
+    TextInfo {
+        bytes: len,
+        chars: ones_before(mask(&block, 0, Mark::Char), len),
+        utf16_surrogates: ones_before(mask(&block, 0, Mark::Pair), len),
+        break_count: ones_before(mask(&block, 0, Mark::Break(breaks)), len),
+    }
 }
 
 // The same in blocks. It stands by itself, since where it is expanded the few would wait for what it answers through memory.
@@ -401,9 +417,8 @@ pub(crate) fn count_all(bytes: &[u8], breaks: LineBreaks) -> TextInfo
     ensures break_count { byte_break_count breaks bytes.now ≡ result.break_count + byte_break_count breaks (drop (length bytes.now) bytes.now) }
 {
     if bytes.len() == 1 {
-        // As of a key that was pressed: here the loop is one turn, which the compiler makes straight.
-        count_few(bytes, breaks)
-    } else if bytes.len() < FEW_BYTES {
+        count_one(bytes, breaks)
+    } else if bytes.len() <= 32 {
         count_few(bytes, breaks)
     } else {
         count_many(bytes, breaks)

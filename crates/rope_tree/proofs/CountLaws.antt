@@ -4,7 +4,7 @@ use Rattle.std.proofs.lemmas.List.{take-append-drop, length-append}
 use Rattle.rope_text.specs.declared.line_breaks.LineBreaks.{LineBreaks}
 use Rattle.rope_text.specs.declared.text_info.TextInfo.{TextInfo}
 use Rattle.rope_text.specs.Text.{byte_len, surrogate_count}
-use Rattle.rope_text.specs.Breaks.{is_break_char, break_count}
+use Rattle.rope_text.specs.Breaks.{is_break_char, break_count, ends_in_cr, begins_with_lf}
 use Rattle.rope_text.specs.Cutting.{parts_crlf}
 use Rattle.rope_text.specs.Edit.{inserted}
 use Rattle.rope_text.specs.TextInfo.{info_of, info_sum, shared_breaks}
@@ -23,6 +23,10 @@ pub breaks_inserted : (breaks : LineBreaks) (f a b : List ℕ) → 1 ≤ length 
 breaks_inserted breaks f a b some =
     omega (arith, break_count-append breaks f (a ++ b), break_count-append breaks a b, break_count-append breaks f b, shared_first breaks f a b some)
 
+-- no CR meets an LF
+pub none_shared : (breaks : LineBreaks) (s t : List ℕ) → ends_in_cr s ≡ false → shared_breaks breaks s t ≡ 0
+none_shared breaks s t no_cr = ap (λ b. cond {A = ℕ} ((b && begins_with_lf t) && is_break_char breaks 13) 1 0) no_cr
+
 -- the counts of the old text and of the new one give the counts of both
 pub info_inserted : (breaks : LineBreaks) (text a : List ℕ) (at : ℕ) (more : TextInfo) (n : ℕ) → 1 ≤ length a → more ≡ info_sum (info_of breaks text) (info_of breaks a)
     → n + (shared_breaks breaks (take at text) a + shared_breaks breaks a (drop at text)) ≡ more.break_count + shared_breaks breaks (take at text) (drop at text)
@@ -36,6 +40,18 @@ info_inserted breaks text a at more n some sums left =
     omega (arith, ap (λ i. i.utf16_surrogates) sums, ap surrogate_count is, ap surrogate_count whole, surrogate_count-append (take at text) (a ++ drop at text), surrogate_count-append a (drop at text), surrogate_count-append (take at text) (drop at text)) in
     let count : n ≡ break_count breaks (inserted text at a) =
     omega (arith, ap (λ i. i.break_count) sums, ap (break_count breaks) is, ap (break_count breaks) whole, breaks_inserted breaks (take at text) a (drop at text) some, left) in
+    cc
+
+-- where no CR meets an LF, the sum of the counts is right
+pub info_apart : (breaks : LineBreaks) (f a b : List ℕ) (more : TextInfo) → 1 ≤ length a → more ≡ info_sum (info_of breaks (f ++ b)) (info_of breaks a)
+    → ends_in_cr f ≡ false → ends_in_cr a ≡ false → more ≡ info_of breaks (f ++ (a ++ b))
+info_apart breaks f a b more some sums no_cr no_cr_within =
+    let count : more.break_count ≡ break_count breaks (f ++ (a ++ b)) =
+    omega (arith, ap (λ i. i.break_count) sums, breaks_inserted breaks f a b some, none_shared breaks f a no_cr, none_shared breaks f b no_cr, none_shared breaks a b no_cr_within) in
+    let bytes : more.bytes ≡ byte_len (f ++ (a ++ b)) = omega (arith, ap (λ i. i.bytes) sums, IsMeasure-byte_len.joined f (a ++ b), IsMeasure-byte_len.joined a b, IsMeasure-byte_len.joined f b) in
+    let chars : more.chars ≡ length (f ++ (a ++ b)) = omega (arith, ap (λ i. i.chars) sums, length-append f (a ++ b), length-append a b, length-append f b) in
+    let pairs : more.utf16_surrogates ≡ surrogate_count (f ++ (a ++ b)) =
+    omega (arith, ap (λ i. i.utf16_surrogates) sums, surrogate_count-append f (a ++ b), surrogate_count-append a b, surrogate_count-append f b) in
     cc
 
 pub shared_le : (breaks : LineBreaks) (s t : List ℕ) → shared_breaks breaks s t ≤ 1

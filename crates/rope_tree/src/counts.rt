@@ -52,6 +52,9 @@ fn info_between(
     ensures { result ≡ info_of breaks (chars front.now ++ (chars added.now ++ chars back.now)) }
 {
     let more = info.plus(TextInfo::of_short(added, breaks));
+    if !ends_in_cr(front) && !ends_in_cr(added) {
+        return more;
+    }
     let apart = shared_breaks(front, back, breaks);
     let met = shared_breaks(front, added, breaks) + shared_breaks(added, back, breaks);
     TextInfo {

@@ -33,39 +33,19 @@ fn append_few(bytes: &mut LeafBytes, added: &[u8])
     append_bytes(bytes, added);
 }
 
-// Puts bytes over as many others; one takes no call.
-#[inline(always)]
-fn put_over(bytes: &mut [u8], added: &[u8])
-    requires { length added.now ≡ length bytes.old }
-    ensures { bytes.new ≡ added.now }
-{
-    if added.len() == 1 {
-        bytes[0] = added[0];
-        return;
-    }
-    bytes.copy_from_slice(added);
-}
-
-// Puts bytes before the one at `place` of the first `old_len`. What follows it moves up, over as many bytes as are put in.
-fn put_in_gap(bytes: &mut [u8], place: usize, old_len: usize, added: &[u8])
-    requires place { place ≤ old_len }
-    requires len { length bytes.old ≡ old_len + length added.now }
-    ensures { bytes.new ≡ insert_slice (take old_len bytes.old) place added.now }
-{
-    let end = place + added.len();
-    bytes.copy_within(place..old_len, end);
-    put_over(&mut bytes[place..end], added);
-}
-
-/// Puts bytes before the one at `place`. What follows it moves up once, and what stands before it stays.
+/// Puts bytes before the one at `place`. They are put at the end, and what follows the place changes sides with them.
 pub(crate) fn put_bytes(bytes: &mut LeafBytes, place: usize, added: &[u8])
     requires place { place ≤ length bytes.old.items }
     requires fits { length bytes.old.items + length added.now ≤ MAX_BYTES }
     ensures { bytes.new.items ≡ insert_slice bytes.old.items place added.now }
 {
-    let old_len = bytes.len();
     append_few(bytes, added);
-    put_in_gap(bytes.as_mut_slice(), place, old_len, added);
+    if added.len() == 1 {
+        // By one place, which the compiler knows: so it is one move of what follows.
+        bytes.as_mut_slice()[place..].rotate_right(1);
+    } else {
+        bytes.as_mut_slice()[place..].rotate_right(added.len());
+    }
 }
 
 /// Takes the bytes from `from` up to `to` out. What follows them moves down once, and what stands before them stays.

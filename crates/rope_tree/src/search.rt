@@ -345,5 +345,5 @@ pub fn char_to_hold(at: usize, to_right: bool) -> usize
     ensures first { to_right ≡ false → at ≡ 0 → result ≡ 0 }
     ensures left { to_right ≡ false → 0 < at → result + 1 ≡ at }
 {
-    if to_right || at == 0 { at } else { at - 1 }
+    at.saturating_sub(usize::from(!to_right))
 }

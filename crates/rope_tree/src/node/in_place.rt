@@ -77,6 +77,7 @@ impl Children {
     /// more; returns whether it did, and in `change` by how much the counts changed. `follows` says whether the way is that of the edit
     /// before so far. Where memory is refused, the children are as they were.
     #[cycle(in_place)]
+    #[inline(never)]
     fn insert_in_place(
         &mut self,
         alloc: Global,
@@ -160,6 +161,7 @@ impl Node {
     /// is that of the edit before so far. A node on the way that is shared is copied; where none is, and the leaf has room, it takes no
     /// memory. Where memory is refused, the tree is as it was.
     #[cycle(in_place)]
+    #[inline(always)]
     pub(crate) fn insert_in_place(
         &mut self,
         alloc: Global,

@@ -20,6 +20,7 @@ impl Children {
     /// beside its neighbours; returns whether it did, and in `change` by how much the counts changed. `follows` says whether the way is
     /// that of the edit before so far. Where memory is refused, the children are as they were.
     #[cycle(in_place_removal)]
+    #[inline(never)]
     fn remove_in_place(
         &mut self,
         alloc: Global,
@@ -78,6 +79,7 @@ impl Node {
     /// way is that of the edit before so far. A node on the way that is shared is copied; where none is, it takes no memory. Where
     /// memory is refused, the tree is as it was.
     #[cycle(in_place_removal)]
+    #[inline(always)]
     pub(crate) fn remove_in_place(
         &mut self,
         alloc: Global,

@@ -1,26 +1,24 @@
-use Rattle.std.proofs.Common.{arith}
-use Rattle.rope_text.specs.Bytes.{begins_char, begins_pair}
-use Rattle.rope_text.proofs.Blocks.{no_counts, byte_break_count_le, count_by-drop, byte_break_count-drop, one_where}
+use Rattle.std.proofs.Common.{◌≡◌, ℕ, zero, suc, ◌+◌, ◌<◌, ◌++◌, List, [], ◌∷◌, length, drop, get_or, refl, sym, ap, ◌∙◌, arith}
+use Rattle.std.specs.Prelude.{replicate}
+use Rattle.std.proofs.lemmas.List.{drop_at, get_or-replicate}
+use Rattle.rope_text.specs.ByteBreaks.{byte_break_count}
+use Rattle.rope_text.proofs.ByteBreakLaws.{byte_break_count-past}
+use Rattle.rope_text.proofs.Padded.{AreZeros, zeros_dropped, no_breaks, breaks_padded}
 use Rattle.rope_text.proofs.lanes.count_few.Goals as goal
 
-pub loop-at-init : goal.loop-at-init
-loop-at-init c =
-    let none = no_counts _ c.new-counts.ensures in
-    record { chars = omega (arith, none.chars); pairs = omega (arith, none.pairs); break_count = omega (arith, none.break_count) }
+zeros_at : (n : ℕ) → AreZeros (replicate n 0)
+zeros_at zero k = refl
+zeros_at (suc n) zero = refl
+zeros_at (suc n) (suc k) = zeros_at n k
 
-pub loop-at-preserved : goal.loop-at-preserved
-loop-at-preserved c =
-    let s = c.args.bytes.now in
-    let at = c.loop-at.at in
-    let go = c.loop-at.invariant in
-    record {
-      chars = omega (arith, go.chars, one_where _ _ c.is_mark.ensures, count_by-drop begins_char s at (omega arith));
-      pairs = omega (arith, go.pairs, one_where _ _ c.is_mark-in-loop-at.ensures, count_by-drop begins_pair s at (omega arith));
-      break_count = omega (arith, go.break_count, one_where _ _ c.is_mark-in-loop-at-2.ensures, byte_break_count-drop c.args.breaks s at (omega arith));
-    }
-
-pub overflow_add-counts-in-loop-at-2 : goal.overflow_add-counts-in-loop-at-2
-overflow_add-counts-in-loop-at-2 c =
-    let s = c.args.bytes.now in
-    let at = c.loop-at.at in
-    omega (arith, c.loop-at.invariant.break_count, one_where _ _ c.is_mark-in-loop-at-2.ensures, byte_break_count-drop c.args.breaks s at (omega arith), byte_break_count_le c.args.breaks s)
+pub returns-clause-break_count : goal.returns-clause-break_count
+returns-clause-break_count c =
+    let b = c.args.breaks in
+    let bs = c.args.bytes.now in
+    let n = length bs in
+    let rest = drop n (replicate 34 0) in
+    let are : AreZeros rest = zeros_dropped n (replicate 34 0) (zeros_at 34) in
+    let ys = c.copy_from_slice.new.self in
+    let whole : byte_break_count b (ys ++ rest) ≡ byte_break_count b bs = ap (λ x. byte_break_count b (x ++ rest)) c.copy_from_slice.ensures.after ∙ breaks_padded b bs rest are in
+    let behind : byte_break_count b (drop (0 + n) (ys ++ rest)) ≡ 0 = ap (λ k. byte_break_count b (drop k (ys ++ rest))) (let e : 0 + n ≡ n = omega arith in e) ∙ ap (λ x. byte_break_count b (drop n (x ++ rest))) c.copy_from_slice.ensures.after ∙ ap (byte_break_count b) (drop_at bs rest _ refl) ∙ no_breaks b rest are in
+    omega (arith, c.mask-3.ensures n c.requires, whole, behind, c.ones_before-3.ensures, byte_break_count-past b bs n (omega arith))

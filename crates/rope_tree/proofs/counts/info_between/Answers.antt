@@ -7,7 +7,7 @@ use Rattle.rope_text.proofs.Walks.{byte_len-chars}
 use Rattle.rope_tree.specs.Search.{IsSmall}
 use Rattle.rope_tree.proofs.Infos.{small_info}
 use Rattle.rope_tree.proofs.InsertTrees.{inserted_is}
-use Rattle.rope_tree.proofs.CountLaws.{Corrects, corrects}
+use Rattle.rope_tree.proofs.CountLaws.{Corrects, corrects, info_apart}
 use Rattle.rope_tree.proofs.counts.info_between.Goals.{After-of_short, After-shared_breaks-2}
 use Rattle.rope_tree.proofs.counts.info_between.Goals as goal
 
@@ -56,3 +56,9 @@ returns c = (met (goal.at.returns c).After-shared_breaks-2).whole ∙ ap (info_o
 
 pub plus-more-requires-clause-bytes : goal.plus-more-requires-clause-bytes
 plus-more-requires-clause-bytes c = let o = old c in let n = new c in omega (arith, o.bytes, n.bytes)
+
+pub returns-then-not-ends_in_cr-2 : goal.returns-then-not-ends_in_cr-2
+returns-then-not-ends_in_cr-2 c =
+    info_apart c.args.breaks (chars c.args.front.now) (chars c.args.added.now) (chars c.args.back.now) c.plus-more.result c.requires.some
+    (c.plus-more.ensures.sum ∙ ap₂ info_sum c.requires.info c.of_short.ensures)
+    (sym c.ends_in_cr.ensures ∙ c.if-not-ends_in_cr.true) (sym c.ends_in_cr-then-not-ends_in_cr.ensures ∙ c.if-not-ends_in_cr-2.true)
