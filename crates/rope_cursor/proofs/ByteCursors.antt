@@ -1,6 +1,6 @@
 -- Steps of a cursor over bytes.
-use Rattle.std.proofs.Common.{All, Some, subst, Bool, true, false, if◌then◌else◌, refl, length-take, length-drop, ◌≡◌, ℕ, ◌+◌, ◌-◌, ◌<◌, ◌≤◌, List, [], ◌∷◌, ◌++◌, length, take, drop, get_or, ap, sym, ◌∙◌, arith, append_assoc, length-append}
-use Rattle.std.proofs.lemmas.List.{nil_from_length, take-append-drop, append-nil, take_all, drop_all, drop_more, take_more}
+use Rattle.std.proofs.Common.{All, Some, subst, Bool, true, false, if◌then◌else◌, refl, length-take, ◌≡◌, ℕ, ◌+◌, ◌-◌, ◌<◌, ◌≤◌, List, [], ◌∷◌, ◌++◌, length, take, drop, get_or, ap, sym, ◌∙◌, arith, append_assoc, length-append}
+use Rattle.std.proofs.lemmas.List.{take-append-drop, append-nil, take_all, drop_all, drop_more, take_more}
 use Rattle.std.proofs.lemmas.Str.{encodes-append}
 use Rattle.std.specs.Bool.{MatchBool}
 use Rattle.std.specs.List.{concat}
@@ -99,14 +99,6 @@ pub ready_beside : (is_left back : Bool) (p q : Place) (chunk next : List ℕ) �
     → IsReady is_left back (at_byte p chunk at back) q next to (before + at - to) total
 ready_beside true back p q chunk next n k at to before total c e more t = ready_prev q p next chunk n k c.chunk_is at to before total back c e more t
 ready_beside false back p q chunk next n k at to before total c e more t = ready_next p q chunk next n c.chunk_is k at to before total back c e more t
-
--- what is behind it on that side
-pub no_side : (is_left : Bool) (p : Place) (chunk : List ℕ) (at before total : ℕ) → IsByteCursor p chunk at before total → at ≡ (if is_left then 0 else length chunk) → before + at ≡ (if is_left then 0 else total)
-    → (if is_left then encode_utf8_all (concat p.before) ++ take at chunk else drop at chunk ++ encode_utf8_all (concat p.after)) ≡ []
-no_side true p chunk at before total c e z =
-    nil_from_length _ (omega (arith, length-append (encode_utf8_all (concat p.before)) (take at chunk), length-take at chunk, c.before_is))
-no_side false p chunk at before total c e z =
-    nil_from_length _ (omega (arith, length-append (drop at chunk) (encode_utf8_all (concat p.after)), length-drop at chunk, c.total_is))
 
 -- a chunk is within what is behind its end
 pub before_room : (is_left : Bool) (p q : Place) (next : List ℕ) → IsBeside is_left p q → IsChunkAt q next → (chunk : List ℕ) (at to before total : ℕ) → IsByteCursor p chunk at before total

@@ -1,30 +1,22 @@
 -- Steps of a cursor over characters.
-use Rattle.std.proofs.Common.{All, Some, Bool, true, false, if◌then◌else◌, ◌≡◌, ℕ, ◌+◌, ◌-◌, ◌<◌, ◌≤◌, List, [], ◌∷◌, ◌++◌, length, take, drop, refl, ap, sym, ◌∙◌, arith, append_assoc, length-append, length-take}
+use Rattle.std.proofs.Common.{All, ◌≡◌, ℕ, ◌+◌, ◌-◌, ◌<◌, ◌≤◌, List, [], ◌∷◌, ◌++◌, length, take, drop, refl, ap, sym, ◌∙◌, arith, append_assoc, length-append, length-take}
 use Rattle.std.proofs.lemmas.List.{append-nil, take-append-drop, take_all, drop_all}
-use Rattle.std.proofs.lemmas.Str.{chars-nil, IsCharBoundary-start, IsCharBoundary-end}
-use Rattle.std.specs.Bool.{MatchBool}
+use Rattle.std.proofs.lemmas.Str.{chars-nil}
 use Rattle.std.specs.List.{concat}
 use Rattle.std.specs.Str.{chars}
 use Rattle.rope_text.specs.Conversions.{char_to_byte}
 use Rattle.rope_text.proofs.CuttingLaws.{concat-append}
 use Rattle.rope_text.proofs.TextParts.{chars-take, chars-drop, byte_len_boundary}
-use Rattle.rope_text.specs.Sides.{Sides, GoesLeft, GoesRight}
-use Rattle.rope_cursor.specs.Path.{Place, IsNext, IsBeside, IsLast, leaves}
+use Rattle.rope_cursor.specs.Path.{Place, IsNext, leaves}
 use Rattle.rope_cursor.specs.Point.{IsChunkAt, IsCharBetween}
-use Rattle.rope_cursor.specs.Chars.{at_char, IsCharCursor}
-use Rattle.rope_cursor.proofs.Points.{leaves_next, here_solid, AreSolid_same, chunk_some, sides_same}
+use Rattle.rope_cursor.specs.Chars.{IsCharCursor}
+use Rattle.rope_cursor.proofs.Points.{leaves_next, here_solid, AreSolid_same, chunk_some}
 
 pub no_front : (text : List ℕ) → chars (take 0 text) ≡ []
 no_front text = chars-nil
 
 pub no_rest : (text : List ℕ) (at : ℕ) → length text ≤ at → chars (drop at text) ≡ []
 no_rest text at past = ap chars (drop_all at text past) ∙ chars-nil
-
--- a cursor with a character to the left, or to the right, in its chunk, which shows what another one does
-pub record IsReady (is_left back : Bool) (old : Sides ℕ) (p : Place) (chunk : List ℕ) (at passed total : ℕ) : Type 0 where
-  pub cursor : IsCharCursor p chunk at passed total
-  pub some : MatchBool is_left (0 < at) (at < length chunk)
-  pub same : at_char p chunk at back ≡ old
 
 -- the characters before the next place, and those from it on
 module _ (p q : Place) (chunk next : List ℕ) (n : IsNext p q) (h : IsChunkAt p chunk) (k : IsChunkAt q next) where
@@ -34,112 +26,59 @@ module _ (p q : Place) (chunk next : List ℕ) (n : IsNext p q) (h : IsChunkAt p
   chars_after : concat p.after ≡ chars next ++ concat q.after
   chars_after = ap concat n.after ∙ ap (λ x. x ++ concat q.after) (sym k.here)
 
-  -- past the last character of a chunk it stands before the first one of the next
-  page_left : (at to : ℕ) → at ≡ length chunk → to ≡ 0 → concat p.before ++ chars (take at chunk) ≡ concat q.before ++ chars (take to next)
-  page_left at to e z =
-      ap (λ bs. concat p.before ++ chars bs) (take_all at chunk (omega (arith, e))) ∙ sym chars_before ∙ sym (append-nil (concat q.before))
-      ∙ ap (λ cs. concat q.before ++ cs) (sym (no_front next)) ∙ ap (λ i. concat q.before ++ chars (take i next)) (sym z)
-
-  page_right : (at to : ℕ) → at ≡ length chunk → to ≡ 0 → chars (drop at chunk) ++ concat p.after ≡ chars (drop to next) ++ concat q.after
-  page_right at to e z = ap (λ cs. cs ++ concat p.after) (no_rest chunk at (omega (arith, e))) ∙ chars_after ∙ ap (λ i. chars (drop i next) ++ concat q.after) (sym z)
-
-  page : (at to : ℕ) (back : Bool) → at ≡ length chunk → to ≡ 0 → at_char p chunk at back ≡ at_char q next to back
-  page at to back e z = sides_same _ _ (page_left at to e z) (page_right at to e z) refl
-
-  -- the cursor there, and back, where it is not at the end of all the characters
-  pub ready_next : (at to passed total : ℕ) (back : Bool) → IsCharCursor p chunk at passed total → at ≡ length chunk → (passed ≡ total → ⊥) → to ≡ 0
-      → IsReady false back (at_char p chunk at back) q next to passed total
-  ready_next at to passed total back c e more z =
+  -- the chunk there is not empty, where it is not at the end; nor the one before, where it is not at the start
+  pub next_some : (at passed total : ℕ) → IsCharCursor p chunk at passed total → (passed ≡ total → ⊥) → 0 < length next
+  next_some at passed total c more =
       let some : 0 < total = omega (arith, c.total_is, more) in
-      let solid = AreSolid_same p q total (leaves_next p q n) c.solid in
-      let first : 0 < length next = chunk_some q next k (here_solid q total solid some) in
-      record {
-        cursor = record {
-          chunk_is = k;
-          cut = rw z (IsCharBoundary-start next k.utf8);
-          passed_is = c.passed_is ∙ ap length (page_left at to e z);
-          total_is = c.total_is ∙ ap (λ cs. passed + length cs) (page_right at to e z);
-          solid = solid;
-        };
-        some = omega (arith, z, first);
-        same = sym (page at to back e z);
-      }
+      chunk_some q next k (here_solid q total (AreSolid_same p q total (leaves_next p q n) c.solid) some)
 
-  pub ready_prev : (at to passed total : ℕ) (back : Bool) → IsCharCursor q next at passed total → at ≡ 0 → (passed ≡ 0 → ⊥) → to ≡ length chunk
-      → IsReady true back (at_char q next at back) p chunk to passed total
-  ready_prev at to passed total back c z more e =
+  pub prev_some : (at passed total : ℕ) → IsCharCursor q next at passed total → (passed ≡ 0 → ⊥) → 0 < length chunk
+  prev_some at passed total c more =
       let some : 0 < total = omega (arith, c.total_is, more) in
-      let solid = AreSolid_same q p total (sym (leaves_next p q n)) c.solid in
-      let last : 0 < length chunk = chunk_some p chunk h (here_solid p total solid some) in
-      record {
-        cursor = record {
+      chunk_some p chunk h (here_solid p total (AreSolid_same q p total (sym (leaves_next p q n)) c.solid) some)
+
+  -- the first character there, passed
+  module _ (at end x : ℕ) (past : length chunk ≤ at) (b : IsCharBetween next 0 end x) where
+    pub first_right : chars (drop at chunk) ++ concat p.after ≡ x ∷ (chars (drop end next) ++ concat q.after)
+    first_right = ap (λ cs. cs ++ concat p.after) (no_rest chunk at past) ∙ chars_after ∙ ap (λ cs. cs ++ concat q.after) b.rest
+
+    pub first_left : concat q.before ++ chars (take end next) ≡ (concat p.before ++ chars (take at chunk)) ++ x ∷ []
+    first_left =
+        ap (λ cs. concat q.before ++ cs) (b.front ∙ ap (λ cs. cs ++ x ∷ []) (no_front next))
+        ∙ ap (λ cs. cs ++ x ∷ []) (chars_before ∙ ap (λ bs. concat p.before ++ chars bs) (sym (take_all at chunk past)))
+
+    pub cursor_next : (passed total : ℕ) → IsCharCursor p chunk at passed total → IsCharCursor q next end (passed + 1) total
+    cursor_next passed total c = record {
+      chunk_is = k;
+      cut = b.end_cut;
+      passed_is = omega (arith, c.passed_is, ap length first_left, length-append (concat p.before ++ chars (take at chunk)) (x ∷ []));
+      total_is = omega (arith, c.total_is, ap length first_right);
+      solid = AreSolid_same p q total (leaves_next p q n) c.solid;
+    }
+
+  -- the last character of the chunk before, passed
+  module _ (at start x : ℕ) (first : at ≡ 0) (b : IsCharBetween chunk start (length chunk) x) where
+    pub last_left : concat q.before ++ chars (take at next) ≡ (concat p.before ++ chars (take start chunk)) ++ x ∷ []
+    last_left =
+        let whole : take (length chunk) chunk ≡ chunk = take_all (length chunk) chunk (omega arith) in
+        ap (λ i. concat q.before ++ chars (take i next)) first ∙ ap (λ cs. concat q.before ++ cs) (no_front next) ∙ append-nil (concat q.before)
+        ∙ chars_before ∙ ap (λ cs. concat p.before ++ cs) (ap chars (sym whole) ∙ b.front) ∙ sym (append_assoc (concat p.before) (chars (take start chunk)) (x ∷ []))
+
+    pub last_right : chars (drop start chunk) ++ concat p.after ≡ x ∷ (chars (drop at next) ++ concat q.after)
+    last_right =
+        ap (λ cs. cs ++ concat p.after) (b.rest ∙ ap (λ cs. x ∷ cs) (no_rest chunk (length chunk) (omega arith)))
+        ∙ ap (λ cs. x ∷ cs) (chars_after ∙ ap (λ i. chars (drop i next) ++ concat q.after) (sym first))
+
+    pub cursor_prev : (passed total : ℕ) → IsCharCursor q next at passed total → IsCharCursor p chunk start (passed - 1) total
+    cursor_prev passed total c =
+        let size = length-append (concat p.before ++ chars (take start chunk)) (x ∷ []) in
+        record {
           chunk_is = h;
-          cut = rw e (IsCharBoundary-end chunk);
-          passed_is = c.passed_is ∙ ap length (sym (page_left to at e z));
-          total_is = c.total_is ∙ ap (λ cs. passed + length cs) (sym (page_right to at e z));
-          solid = solid;
-        };
-        some = omega (arith, e, last);
-        same = page to at back e z;
-      }
-
--- it has a character on that side in its chunk
-pub ready_here : (is_left back : Bool) (p : Place) (chunk : List ℕ) (at passed total : ℕ) → IsCharCursor p chunk at passed total → (at ≡ (if is_left then 0 else length chunk) → ⊥)
-    → IsReady is_left back (at_char p chunk at back) p chunk at passed total
-ready_here true back p chunk at passed total c more = record { cursor = c; some = omega (arith, more); same = refl }
-ready_here false back p chunk at passed total c more = record { cursor = c; some = omega (arith, c.cut.0, more); same = refl }
-
-pub ready_beside : (is_left back : Bool) (p q : Place) (chunk next : List ℕ) → IsBeside is_left p q → IsChunkAt q next → (at to passed total : ℕ) → IsCharCursor p chunk at passed total
-    → at ≡ (if is_left then 0 else length chunk) → (passed ≡ (if is_left then 0 else total) → ⊥) → to ≡ (if is_left then length next else 0)
-    → IsReady is_left back (at_char p chunk at back) q next to passed total
-ready_beside true back p q chunk next n k at to passed total c e more t = ready_prev q p next chunk n k c.chunk_is at to passed total back c e more t
-ready_beside false back p q chunk next n k at to passed total c e more t = ready_next p q chunk next n c.chunk_is k at to passed total back c e more t
-
--- there is none, where there is no chunk beside
-pub none_beside : (is_left back : Bool) (p : Place) (chunk : List ℕ) (at : ℕ) → at ≡ (if is_left then 0 else length chunk) → IsLast is_left p
-    → MatchBool is_left ((at_char p chunk at back).left ≡ []) ((at_char p chunk at back).right ≡ [])
-none_beside true back p chunk at e last = ap (λ i. concat p.before ++ chars (take i chunk)) e ∙ ap (λ cs. concat p.before ++ cs) (no_front chunk) ∙ append-nil (concat p.before) ∙ ap concat last
-none_beside false back p chunk at e last = ap (λ cs. cs ++ concat p.after) (no_rest chunk at (omega (arith, e))) ∙ ap concat last
-
--- a character, passed
-module _ (p : Place) (chunk : List ℕ) (start end x passed total : ℕ) (b : IsCharBetween chunk start end x) where
-  pub passes_left : concat p.before ++ chars (take end chunk) ≡ (concat p.before ++ chars (take start chunk)) ++ x ∷ []
-  passes_left = ap (λ cs. concat p.before ++ cs) b.front ∙ sym (append_assoc (concat p.before) (chars (take start chunk)) (x ∷ []))
-
-  pub passes_right : chars (drop start chunk) ++ concat p.after ≡ x ∷ (chars (drop end chunk) ++ concat p.after)
-  passes_right = ap (λ cs. cs ++ concat p.after) b.rest
-
-  size : length (concat p.before ++ chars (take end chunk)) ≡ length (concat p.before ++ chars (take start chunk)) + 1
-  size = ap length passes_left ∙ length-append (concat p.before ++ chars (take start chunk)) (x ∷ [])
-
-  pub cursor_next : IsCharCursor p chunk start passed total → IsCharCursor p chunk end (passed + 1) total
-  cursor_next c = record {
-    chunk_is = c.chunk_is;
-    cut = b.end_cut;
-    passed_is = omega (arith, c.passed_is, size);
-    total_is = omega (arith, c.total_is, ap length passes_right);
-    solid = c.solid;
-  }
-
-  pub cursor_prev : IsCharCursor p chunk end passed total → IsCharCursor p chunk start (passed - 1) total
-  cursor_prev c = record {
-    chunk_is = c.chunk_is;
-    cut = b.start_cut;
-    passed_is = omega (arith, c.passed_is, size);
-    total_is = omega (arith, c.total_is, c.passed_is, size, ap length passes_right);
-    solid = c.solid;
-  }
-
-pub goes_beside : (is_left back : Bool) (old : Sides ℕ) (p : Place) (chunk : List ℕ) (at passed total to x : ℕ) → IsReady is_left back old p chunk at passed total
-    → MatchBool is_left (IsCharBetween chunk to at x) (IsCharBetween chunk at to x)
-    → MatchBool is_left (GoesLeft (λ y. y) old (Some x) (at_char p chunk to back)) (GoesRight (λ y. y) old (Some x) (at_char p chunk to back))
-goes_beside true back old p chunk at passed total to x r b = rw (← r.same) (passes_left p chunk to at x passed total b, passes_right p chunk to at x passed total b, refl)
-goes_beside false back old p chunk at passed total to x r b = rw (← r.same) (passes_right p chunk at to x passed total b, passes_left p chunk at to x passed total b, refl)
-
-pub cursor_beside : (is_left back : Bool) (old : Sides ℕ) (p : Place) (chunk : List ℕ) (at passed total to x : ℕ) → IsReady is_left back old p chunk at passed total
-    → MatchBool is_left (IsCharBetween chunk to at x) (IsCharBetween chunk at to x) → IsCharCursor p chunk to (if is_left then passed - 1 else passed + 1) total
-cursor_beside true back old p chunk at passed total to x r b = cursor_prev p chunk to at x passed total b r.cursor
-cursor_beside false back old p chunk at passed total to x r b = cursor_next p chunk at to x passed total b r.cursor
+          cut = b.start_cut;
+          passed_is = omega (arith, c.passed_is, ap length last_left, size);
+          total_is = omega (arith, c.passed_is, c.total_is, ap length last_left, ap length last_right, size);
+          solid = AreSolid_same q p total (sym (leaves_next p q n)) c.solid;
+        }
 
 -- the cursor at a character
 module _ (text : List ℕ) (p : Place) (whole : concat (leaves p) ≡ text) (chunk : List ℕ) (h : IsChunkAt p chunk) (at within : ℕ) (is : at ≡ char_to_byte (chars chunk) within) where

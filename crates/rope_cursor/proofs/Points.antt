@@ -1,5 +1,5 @@
 -- A character of a text between two of its bytes.
-use Rattle.std.proofs.Common.{All, None, Bool, false, if◌then◌else◌, ◌≡◌, ℕ, ◌+◌, ◌-◌, ◌<◌, true, List, [], ◌∷◌, ◌++◌, length, take, drop, get_or, refl, ap, subst, sym, ◌∙◌, arith, append_assoc, length-append, length-take, length-drop}
+use Rattle.std.proofs.Common.{All, None, Bool, false, ◌≡◌, ℕ, ◌+◌, ◌-◌, ◌<◌, true, List, [], ◌∷◌, ◌++◌, length, take, drop, get_or, refl, ap, subst, sym, ◌∙◌, arith, append_assoc, length-append, length-take, length-drop}
 use Rattle.std.proofs.lemmas.List.{get_or_at, append-nil, take-append-drop, take_at, drop_at, drop_more}
 use Rattle.std.proofs.lemmas.Str.{encodes-chars, length-le-encodes, cons_from_encodes, chars_past_char, chars-append, encode_ascii, length-encode, len_utf8_bounds, IsUtf8-encode, IsUtf8-past_char, IsUtf8-take, IsUtf8-drop, IsCharBoundary-at_seam, IsCharBoundary-from_take, IsCharBoundary-before_ascii, chars-nil}
 use Rattle.std.specs.Char.{encode_utf8, IsScalar}
@@ -92,10 +92,3 @@ pub stays_put : {X : Type 0} (is_left : Bool) (old new : Sides X) → new ≡ ol
     → MatchBool is_left (GoesLeft view old None new) (GoesRight view old None new)
 stays_put true old new e none view = (none, e)
 stays_put false old new e none view = (none, e)
-
--- a byte below 128 on that side is a character of its own
-pub ascii_beside : (is_left : Bool) (bs : List ℕ) (at start past : ℕ) → IsUtf8 bs → IsCharBoundary bs at → MatchBool is_left (0 < at) (at < length bs)
-    → start ≡ (if is_left then at - 1 else at) → past ≡ (if is_left then at - 1 else at + 1) → get_or bs start 0 < 128
-    → MatchBool is_left (IsCharBetween bs past at (get_or bs start 0)) (IsCharBetween bs at past (get_or bs start 0))
-ascii_beside true bs at start past u cut some s p low = rw (p, s) (ascii_before bs at u cut some (rw (← s) low))
-ascii_beside false bs at start past u cut some s p low = rw (p, s) (ascii_after bs at u cut some (rw (← s) low))

@@ -1,12 +1,11 @@
 //! A cursor over the characters of a part.
 ghost use Rattle.std.specs.Prelude.{◌≡◌, ℕ, ◌≤◌, length, false, ⊤, IfSome, Some};
-ghost use Rattle.std.specs.Bool.{MatchBool};
 ghost use Rattle.std.specs.Iterator.{YieldsFirstBy, item_count, UpTo};
 ghost use Rattle.std.specs.Iterator.SizeHint.{IsWithinCount};
 ghost use Rattle.rope_text.specs.Sides.{ahead, at_place, turned, GoesRight, GoesLeft, GoesAhead, StepsBack};
 ghost use Rattle.rope_part.specs.Part.{text_of};
 
-use crate::point::{char_beside, end_of, step_chunk};
+use crate::point::{char_after, char_before, step_chunk};
 use crate::span::Span;
 use rope_part::Part;
 use std::alloc::AllocError;
@@ -58,25 +57,50 @@ impl<'a> Chars<'a> {
         }
     }
 
-    // One character to the left, or to the right. Expanded where it is called, by a constant: mostly it stays in the chunk, and
-    // a call costs as much.
+    // One character to the right. Expanded where it is called: mostly it stays in the chunk, and a call costs as much.
     #[inline(always)]
-    fn step(&mut self, is_left: bool) -> Option<char>
-        ensures { MatchBool is_left (GoesLeft (λ x. x) self.old result self.new) (GoesRight (λ x. x) self.old result self.new) }
+    fn right(&mut self) -> Option<char>
+        ensures { GoesRight (λ x. x) self.old result self.new }
     {
-        let end = end_of(self.total, is_left);
-        if self.at == end_of(self.chunk.len(), is_left) {
-            if self.passed == end {
-                return None;
-            }
-            let (chunk, at) = step_chunk(&mut self.span, is_left)?;
-            self.chunk = chunk;
-            self.at = at;
+        let at = self.at;
+        let total = self.total;
+        if at < self.chunk.len() {
+            let (c, end) = char_after(self.chunk, at);
+            self.at = end;
+            self.passed += 1;
+            return Some(c);
         }
-        let (c, at) = char_beside(self.chunk, self.at, is_left);
-        self.at = at;
-        let passed = self.passed;
-        self.passed = if is_left { passed - 1 } else { passed + 1 };
+        if self.passed == total {
+            return None;
+        }
+        let (chunk, _) = step_chunk(&mut self.span, false)?;
+        let (c, end) = char_after(chunk, 0);
+        self.chunk = chunk;
+        self.at = end;
+        self.passed += 1;
+        Some(c)
+    }
+
+    // One character to the left.
+    #[inline(always)]
+    fn left(&mut self) -> Option<char>
+        ensures { GoesLeft (λ x. x) self.old result self.new }
+    {
+        let at = self.at;
+        if at > 0 {
+            let (c, start) = char_before(self.chunk, at);
+            self.at = start;
+            self.passed -= 1;
+            return Some(c);
+        }
+        if self.passed == 0 {
+            return None;
+        }
+        let (chunk, _) = step_chunk(&mut self.span, true)?;
+        let (c, start) = char_before(chunk, chunk.len());
+        self.chunk = chunk;
+        self.at = start;
+        self.passed -= 1;
         Some(c)
     }
 
@@ -86,9 +110,9 @@ impl<'a> Chars<'a> {
         ensures { StepsBack (λ x. x) self.old result self.new }
     {
         if self.is_backward {
-            self.step(false)
+            self.right()
         } else {
-            self.step(true)
+            self.left()
         }
     }
 
@@ -122,9 +146,9 @@ impl<'a> Iterator for Chars<'a> {
         ensures goes { GoesAhead (λ x. x) self.old result self.new }
     {
         if self.is_backward {
-            self.step(true)
+            self.left()
         } else {
-            self.step(false)
+            self.right()
         }
     }
 

@@ -10,7 +10,6 @@ ghost use Rattle.rope_text.specs.TextInfo.{info_of};
 ghost use Rattle.rope_part.specs.Part.{text_of};
 ghost use Rattle.rope_cursor.specs.Gap.{before_byte, after_byte, AreChunks, IsBetween, PassesLine, PassesBack};
 
-use crate::cuts::text_after;
 use crate::span::Span;
 use rope_part::Part;
 use rope_text::crlf::prev_break;
@@ -37,6 +36,14 @@ impl<'a> Model for Gap<'a> {
     ghost view = { λ a. halves_at a.span a.inside };
 
     ghost invariant = { λ a. IsGap a.span a.inside };
+}
+
+// The text from a byte on at which a character begins.
+fn text_after(text: &str, byte: usize) -> &str
+    requires { IsBetween (chars text.now) byte }
+    ensures { chars result.now ≡ after_byte (chars text.now) byte }
+{
+    &text[byte..]
 }
 
 // From the end of a chunk to the end of a line: the place in the last chunk, and the counts of what was passed. Never

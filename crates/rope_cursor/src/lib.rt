@@ -6,7 +6,6 @@ mod between;
 pub mod bytes;
 pub mod chars;
 pub mod chunks;
-mod cuts;
 mod gap;
 pub mod laws;
 pub mod lines;

@@ -1,6 +1,5 @@
 //! Steps from a point of a chunk: over a character, or to the chunk beside it.
 ghost use Rattle.std.specs.Prelude.{if◌then◌else◌, ◌≡◌, ◌<◌, ◌≤◌, [], length, IfSome, IfNone};
-ghost use Rattle.std.specs.Bool.{MatchBool};
 ghost use Rattle.std.specs.Str.{chars, IsCharBoundary};
 ghost use Rattle.rope_text.specs.Text.{byte_len};
 ghost use Rattle.rope_text.specs.Conversions.{char_to_byte};
@@ -48,41 +47,54 @@ pub(crate) fn step_chunk<'a>(span: &mut Span<'a>, is_left: bool) -> Option<(&'a 
     Some((chunk, end_of(chunk.len(), !is_left)))
 }
 
-// The character that ends at a byte, and where it begins; or to the right the one that begins there, and where it ends.
-#[inline(always)]
-pub(crate) fn char_beside(text: &str, at: usize, is_left: bool) -> (char, usize)
-    requires some { MatchBool is_left (0 < at) (at < length text.now) }
+// The character at a byte, and where it ends.
+pub(crate) fn char_after(text: &str, at: usize) -> (char, usize)
+    requires within { at < length text.now }
     requires cut { IsCharBoundary text.now at }
-    ensures { MatchBool is_left (IsCharBetween text.now result.1 at result.0) (IsCharBetween text.now at result.1 result.0) }
+    ensures { IsCharBetween text.now at result.1 result.0 }
 {
-    let (start, past) = if is_left {
-        (at - 1, at - 1)
-    } else {
-        (at, at + 1)
-    };
-    let byte = text.as_bytes()[start];
+    let byte = text.as_bytes()[at];
     if byte < 0x80 {
-        return (byte as char, past);
+        return (byte as char, at + 1);
     }
-    wide_char_beside(text, at, is_left)
+    wide_char_after(text, at)
 }
 
 // The same of any character, as of those of two bytes or more.
-fn wide_char_beside(text: &str, at: usize, is_left: bool) -> (char, usize)
-    requires some { MatchBool is_left (0 < at) (at < length text.now) }
+fn wide_char_after(text: &str, at: usize) -> (char, usize)
+    requires within { at < length text.now }
     requires cut { IsCharBoundary text.now at }
-    ensures { MatchBool is_left (IsCharBetween text.now result.1 at result.0) (IsCharBetween text.now at result.1 result.0) }
+    ensures { IsCharBetween text.now at result.1 result.0 }
 {
-    if is_left {
-        let mut front = text[..at].chars();
-        let Some(c) = front.next_back() else {
-            unreachable!();
-        };
-        return (c, front.as_str().len());
-    }
     let mut rest = text[at..].chars();
     let Some(c) = rest.next() else {
         unreachable!();
     };
     (c, text.len() - rest.as_str().len())
+}
+
+// The character that ends at a byte, and where it begins.
+pub(crate) fn char_before(text: &str, at: usize) -> (char, usize)
+    requires some { 0 < at }
+    requires cut { IsCharBoundary text.now at }
+    ensures { IsCharBetween text.now result.1 at result.0 }
+{
+    let byte = text.as_bytes()[at - 1];
+    if byte < 0x80 {
+        return (byte as char, at - 1);
+    }
+    wide_char_before(text, at)
+}
+
+// The same of any character, as of those of two bytes or more.
+fn wide_char_before(text: &str, at: usize) -> (char, usize)
+    requires some { 0 < at }
+    requires cut { IsCharBoundary text.now at }
+    ensures { IsCharBetween text.now result.1 at result.0 }
+{
+    let mut front = text[..at].chars();
+    let Some(c) = front.next_back() else {
+        unreachable!();
+    };
+    (c, front.as_str().len())
 }

@@ -1,0 +1,10 @@
+use Rattle.std.proofs.Common.{◌≡◌, ◌++◌, drop}
+use Rattle.std.specs.Char.{encode_utf8}
+use Rattle.rope_cursor.proofs.Points.{char_between_rest}
+use Rattle.rope_cursor.proofs.point.wide_char_after.Goals as goal
+
+pub returns : goal.returns
+returns c =
+    let s = c.as_str.result.now in
+    let h : drop c.args.at c.args.text.now ≡ encode_utf8 c.in-Some.c ++ s = cc (c.in-Some.ensures.steps.0) in
+    char_between_rest c.args.text.now s c.args.at c.in-Some.c c.utf8.text c.requires.cut h
