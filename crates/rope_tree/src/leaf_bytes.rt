@@ -20,32 +20,31 @@ pub(crate) fn append_bytes(bytes: &mut LeafBytes, added: &[u8])
     }
 }
 
-// The same where they may be few: one, as of a key that was pressed, takes no call.
-#[inline(always)]
-fn append_few(bytes: &mut LeafBytes, added: &[u8])
-    requires { length bytes.old.items + length added.now ≤ MAX_BYTES }
-    ensures { bytes.new.items ≡ bytes.old.items ++ added.now }
+// Puts bytes before the one at `place` of the first `old_len`. What follows it moves up, over as many bytes as are put in.
+fn put_in_gap(bytes: &mut [u8], place: usize, old_len: usize, added: &[u8])
+    requires place { place ≤ old_len }
+    requires len { length bytes.old ≡ old_len + length added.now }
+    ensures { bytes.new ≡ insert_slice (take old_len bytes.old) place added.now }
 {
-    if added.len() == 1 {
-        bytes.push(added[0]);
-        return;
-    }
-    append_bytes(bytes, added);
+    let end = place + added.len();
+    bytes.copy_within(place..old_len, end);
+    bytes[place..end].copy_from_slice(added);
 }
 
-/// Puts bytes before the one at `place`. They are put at the end, and what follows the place changes sides with them.
+/// Puts bytes before the one at `place`. What follows it moves up once, and what stands before it stays.
 pub(crate) fn put_bytes(bytes: &mut LeafBytes, place: usize, added: &[u8])
     requires place { place ≤ length bytes.old.items }
     requires fits { length bytes.old.items + length added.now ≤ MAX_BYTES }
     ensures { bytes.new.items ≡ insert_slice bytes.old.items place added.now }
 {
-    append_few(bytes, added);
     if added.len() == 1 {
-        // By one place, which the compiler knows: so it is one move of what follows.
-        bytes.as_mut_slice()[place..].rotate_right(1);
-    } else {
-        bytes.as_mut_slice()[place..].rotate_right(added.len());
+        // As of a key that was pressed: what follows moves by one place, which the compiler knows, and so by one call.
+        bytes.insert(place, added[0]);
+        return;
     }
+    let old_len = bytes.len();
+    append_bytes(bytes, added);
+    put_in_gap(bytes.as_mut_slice(), place, old_len, added);
 }
 
 /// Takes the bytes from `from` up to `to` out. What follows them moves down once, and what stands before them stays.
