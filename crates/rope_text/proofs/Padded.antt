@@ -1,5 +1,5 @@
 -- Bytes with zeros behind them: no break begins at a zero, and none is seen otherwise before one.
-use Rattle.std.proofs.Common.{◌≡◌, ℕ, zero, suc, ◌+◌, false, cond, List, [], ◌∷◌, ◌++◌, length, drop, get_or, refl, sym, ap, ◌∙◌, arith}
+use Rattle.std.proofs.Common.{◌≡◌, ℕ, zero, suc, false, cond, List, [], ◌∷◌, ◌++◌, drop, get_or, refl, ap, ◌∙◌, arith}
 use Rattle.rope_text.specs.declared.line_breaks.LineBreaks.{LineBreaks}
 use Rattle.rope_text.specs.declared.line_breaks.LineBreaks.TheVariants.{Lf, CrLf, Unicode}
 use Rattle.rope_text.specs.ByteBreaks.{break_at, byte_break_count}

@@ -1,6 +1,6 @@
-use Rattle.std.proofs.Common.{◌≡◌, ℕ, zero, suc, ◌+◌, ◌<◌, ◌++◌, List, [], ◌∷◌, length, drop, get_or, refl, sym, ap, ◌∙◌, arith}
+use Rattle.std.proofs.Common.{◌≡◌, ℕ, zero, suc, ◌+◌, ◌++◌, length, drop, refl, ap, ◌∙◌, arith}
 use Rattle.std.specs.Prelude.{replicate}
-use Rattle.std.proofs.lemmas.List.{drop_at, get_or-replicate}
+use Rattle.std.proofs.lemmas.List.{drop_at}
 use Rattle.rope_text.specs.ByteBreaks.{byte_break_count}
 use Rattle.rope_text.proofs.ByteBreakLaws.{byte_break_count-past}
 use Rattle.rope_text.proofs.Padded.{AreZeros, zeros_dropped, no_breaks, breaks_padded}
