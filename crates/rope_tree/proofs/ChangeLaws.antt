@@ -1,22 +1,60 @@
 -- Counts that change as much as those of a part.
-use Rattle.std.proofs.Common.{◌≡◌, ℕ, ◌+◌, ◌-◌, ◌<◌, ◌≤◌, List, length, get_or, set, take, refl, sym, ap, subst, arith}
+use Rattle.std.proofs.Common.{◌≡◌, ℕ, ◌+◌, ◌-◌, ◌<◌, ◌≤◌, List, [], length, get_or, set, take, refl, sym, ap, subst, ◌∙◌, arith}
 use Rattle.std.proofs.lemmas.List.{length-set, take_all}
 use Rattle.rope_text.specs.declared.line_breaks.LineBreaks.{LineBreaks}
+use Rattle.rope_text.specs.declared.line_breaks.LineBreaks.TheVariants.{Lf}
 use Rattle.rope_text.specs.declared.text_info.TextInfo.{TextInfo}
+use Rattle.rope_text.proofs.BreakLaws.{break_ends-nil}
 use Rattle.rope_text.specs.TextInfo.{info_of, info_sum}
 use Rattle.rope_tree.specs.Tree.{Tree, text, joined, AreChildren}
 use Rattle.rope_tree.specs.Search.{IsSmall, HasPart}
 use Rattle.rope_tree.specs.Narrow.{FitsWith}
-use Rattle.rope_tree.specs.Change.{IsChange}
+use Rattle.rope_tree.specs.Change.{IsChange, no_counts}
 use Rattle.rope_tree.proofs.TotalLaws.{same_counts, has_part, even}
 
--- a text is a part of itself
-pub whole_change : (old new : TextInfo) → IsSmall new → IsChange old new old new
-whole_change old new small = record {
-  sum = same_counts (info_sum new old) (info_sum old new) (omega arith) (omega arith) (omega arith) (omega arith);
-  part = record { bytes = omega arith; chars = omega arith; surrogates = omega arith; count = omega arith };
-  small = small;
-}
+-- those of no text, as a call gives them
+pub no_counts_are : (none : TextInfo) → ((breaks : LineBreaks) → none ≡ info_of breaks []) → none ≡ no_counts
+no_counts_are none is = is Lf ∙ same_counts (info_of Lf []) no_counts refl refl refl (ap length (break_ends-nil Lf))
+
+pub change_from : (none more old new : TextInfo) → ((breaks : LineBreaks) → none ≡ info_of breaks []) → IsChange no_counts more old new → IsChange none more old new
+change_from none more old new is c = subst (λ n. IsChange n more old new) (sym (no_counts_are none is)) c
+
+pub change_seen : (none more old new : TextInfo) → ((breaks : LineBreaks) → none ≡ info_of breaks []) → IsChange none more old new → IsChange no_counts more old new
+change_seen none more old new is c = subst (λ n. IsChange n more old new) (no_counts_are none is) c
+
+pub change_to : (none less old new : TextInfo) → ((breaks : LineBreaks) → none ≡ info_of breaks []) → IsChange less no_counts old new → IsChange less none old new
+change_to none less old new is c = subst (λ n. IsChange less n old new) (sym (no_counts_are none is)) c
+
+-- by what the counts of a text grow
+pub grown_change : (old new more : TextInfo) → info_sum old more ≡ new → IsSmall new → IsChange no_counts more old new
+grown_change old new more sum small =
+    let bytes = ap (λ x. x.bytes) sum in
+    let chars = ap (λ x. x.chars) sum in
+    let pairs = ap (λ x. x.utf16_surrogates) sum in
+    let count = ap (λ x. x.break_count) sum in
+    record {
+      sum = same_counts (info_sum new no_counts) (info_sum old more) (omega (arith, bytes)) (omega (arith, chars)) (omega (arith, pairs)) (omega (arith, count));
+      part = record { bytes = omega arith; chars = omega arith; surrogates = omega arith; count = omega arith };
+      low = record {
+        bytes = omega (arith, bytes, small.bytes);
+        chars = omega (arith, chars, small.chars, small.bytes);
+        surrogates = omega (arith, pairs, small.surrogates, small.chars, small.bytes);
+        count = omega (arith, count, small.count, small.chars, small.bytes);
+      };
+    }
+
+-- and by what they fall
+pub fallen_change : (old new less : TextInfo) → info_sum new less ≡ old → IsChange less no_counts old new
+fallen_change old new less sum =
+    let bytes = ap (λ x. x.bytes) sum in
+    let chars = ap (λ x. x.chars) sum in
+    let pairs = ap (λ x. x.utf16_surrogates) sum in
+    let count = ap (λ x. x.break_count) sum in
+    record {
+      sum = same_counts (info_sum new less) (info_sum old no_counts) (omega (arith, bytes)) (omega (arith, chars)) (omega (arith, pairs)) (omega (arith, count));
+      part = record { bytes = omega (arith, bytes); chars = omega (arith, chars); surrogates = omega (arith, pairs); count = omega (arith, count) };
+      low = record { bytes = omega arith; chars = omega arith; surrogates = omega arith; count = omega arith };
+    }
 
 module _ (before after old new : TextInfo) (c : IsChange before after old new) where
   -- a part of a part is a part of the whole
@@ -51,7 +89,7 @@ module _ (before after old new : TextInfo) (c : IsChange before after old new) w
         (omega (arith, ap (λ x. x.bytes) e, ap (λ x. x.bytes) c.sum)) (omega (arith, ap (λ x. x.chars) e, ap (λ x. x.chars) c.sum))
         (omega (arith, ap (λ x. x.utf16_surrogates) e, ap (λ x. x.utf16_surrogates) c.sum)) (omega (arith, ap (λ x. x.break_count) e, ap (λ x. x.break_count) c.sum));
     part = part_of_part t p;
-    small = c.small;
+    low = c.low;
   }
 
 -- by another name of the set of line breaks

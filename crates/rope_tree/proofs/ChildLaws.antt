@@ -14,8 +14,9 @@ use Rattle.rope_tree.specs.Search.{IsSmall, HasPart}
 use Rattle.rope_tree.specs.Insert.{MayInsert, IsInserted, AreGrown}
 use Rattle.rope_tree.proofs.Infos.{small_info}
 use Rattle.rope_tree.specs.Narrow.{AreNarrow, FitsWith}
-use Rattle.rope_tree.specs.Change.{IsChange}
-use Rattle.rope_tree.proofs.ChangeLaws.{whole_change, part_of_part, part_fits, whole_changed, change_by, change_own, change_of_list}
+use Rattle.rope_tree.specs.Change.{IsChange, no_counts}
+use Rattle.rope_tree.proofs.CountLaws.{counts_grow}
+use Rattle.rope_tree.proofs.ChangeLaws.{grown_change, part_of_part, part_fits, whole_changed, change_by, change_own, change_of_list}
 use Rattle.rope_tree.proofs.TreeLaws.{breaks_of_is}
 use Rattle.rope_tree.proofs.InsertDescents.{Takes, last_total}
 use Rattle.rope_tree.proofs.InsertTrees.{child_may, text_around, byte_len-inserted}
@@ -76,13 +77,13 @@ module _ (a : Inside) (ts : List Tree) (k : ℕ) (child : Tree) (at i : ℕ) (to
           rw is (small_info u.breaks (text u) wide.tree.fits)
 
       -- the counts fit in 16 bits where all did, and the text has room
-      pub still_narrow : (seen : List TextInfo) → seen ≡ a.totals → (AreNarrow seen → (d : TextInfo) → (get_or seen (length seen - 1) d).bytes + byte_len s < 2 ^ 16) → (old new : TextInfo) → old ≡ info_of child.breaks (text child) → new ≡ info_of u.breaks (text u)
+      pub still_narrow : (seen : List TextInfo) → seen ≡ a.totals → (AreNarrow seen → (d : TextInfo) → (get_or seen (length seen - 1) d).bytes + byte_len s < 2 ^ 32) → (old new : TextInfo) → old ≡ info_of child.breaks (text child) → new ≡ info_of u.breaks (text u)
           → AreNarrow seen → (j : ℕ) (d : TextInfo) → k ≤ j → j < length seen → FitsWith (get_or seen j d) old new
       still_narrow seen is room old new old_is new_is narrow j d from within =
           let t = f.taken in
           let totals = read seen is in
           let last = last_total (breaks_of ts) seen ts totals (omega (arith, t.children.at_least_two)) d in
-          let few : byte_len (joined (set ts k u)) < 2 ^ 16 = omega (arith, room narrow d, ap (λ x. x.bytes) last, ap byte_len grows.text_is, byte_len-inserted (joined ts) at s) in
+          let few : byte_len (joined (set ts k u)) < 2 ^ 32 = omega (arith, room narrow d, ap (λ x. x.bytes) last, ap byte_len grows.text_is, byte_len-inserted (joined ts) at s) in
           let inside : j < length ts = omega (arith, totals.as_many, within) in
           let wide = child_grown (breaks_of ts) (height_of ts) child u _ t.own done in
           let now = new_is ∙ ap (λ b. info_of b (text u)) wide.same_breaks in
@@ -114,7 +115,7 @@ module _ (a : Inside) (ts : List Tree) (k : ℕ) (child : Tree) (at i : ℕ) (to
         pub change_part : (seen : List TextInfo) → seen ≡ a.totals → (j : ℕ) (d : TextInfo) → k ≤ j → j < length seen → HasPart (get_or seen j d) old
         change_part seen is j d from within = part_of_part old new _ _ own_change (get_or seen j d) (part seen is _ refl j d from within)
 
-        pub change_narrow : (seen : List TextInfo) → seen ≡ a.totals → (AreNarrow seen → (d : TextInfo) → (get_or seen (length seen - 1) d).bytes + byte_len s < 2 ^ 16)
+        pub change_narrow : (seen : List TextInfo) → seen ≡ a.totals → (AreNarrow seen → (d : TextInfo) → (get_or seen (length seen - 1) d).bytes + byte_len s < 2 ^ 32)
             → AreNarrow seen → (j : ℕ) (d : TextInfo) → k ≤ j → j < length seen → FitsWith (get_or seen j d) old new
         change_narrow seen is room narrow j d from within = part_fits old new _ _ own_change (get_or seen j d) (still_narrow seen is room _ _ refl refl narrow j d from within)
 
@@ -137,10 +138,17 @@ module _ (a : Inside) (ts : List Tree) (k : ℕ) (child : Tree) (at i : ℕ) (to
               (change_of_list (breaks_of ts) (height_of ts) ts k child u d.children d.within d.child_is all_children old new (change_by (breaks_of ts) child u old new d.own.same_breaks change))
 
 -- the counts of children that took a text, by their own
-pub list_grown : (ts us : List Tree) (new : List ℕ) → AreChildren (breaks_of ts) (height_of ts) ts → AreGrown ts us new → (before after : TextInfo) → before ≡ info_of (breaks_of ts) (joined ts) → after ≡ info_of (breaks_of us) (joined us)
-    → IsChange before after (info_of (breaks_of ts) (joined ts)) (info_of (breaks_of ts) (joined us))
-list_grown ts us new a g before after before_is after_is =
-    let b = children_grown ts us new a g in
-    let same = breaks_of_is (breaks_of ts) (height_of ts) us (omega (arith, b.at_least_two)) b.each in
-    let now = after_is ∙ ap (λ x. info_of x (joined us)) same in
-    rw (← before_is, ← now) (whole_change before after (rw now (small_info (breaks_of ts) (joined us) b.fits)))
+module _ (ts us : List Tree) (s : List ℕ) (at : ℕ) (a : AreChildren (breaks_of ts) (height_of ts) ts) (g : AreGrown ts us (inserted (joined ts) at s)) (some : 1 ≤ length s)
+    (before after : TextInfo) (before_is : before ≡ info_of (breaks_of ts) (joined ts)) (after_is : after ≡ info_of (breaks_of us) (joined us)) where
+  now : after ≡ info_of (breaks_of ts) (joined us)
+  now =
+      let b = children_grown ts us (inserted (joined ts) at s) a g in
+      after_is ∙ ap (λ x. info_of x (joined us)) (breaks_of_is (breaks_of ts) (height_of ts) us (omega (arith, b.at_least_two)) b.each)
+
+  pub list_has : HasPart after before
+  list_has = rw (before_is, now, g.text_is) (counts_grow (breaks_of ts) (joined ts) s at some)
+
+  pub list_grown : (more : TextInfo) → info_sum before more ≡ after → IsChange no_counts more (info_of (breaks_of ts) (joined ts)) (info_of (breaks_of ts) (joined us))
+  list_grown more sum =
+      let b = children_grown ts us (inserted (joined ts) at s) a g in
+      rw (← before_is, ← now) (grown_change before after more sum (rw now (small_info (breaks_of ts) (joined us) b.fits)))

@@ -1,16 +1,19 @@
 -- The counts of a text with another put into it, or without a part.
-use Rattle.std.proofs.Common.{◌≡◌, ℕ, ◌+◌, ◌-◌, ◌≤◌, true, false, ◌&&◌, cond, List, [], ◌∷◌, ◌++◌, length, take, drop, refl, sym, ap, ◌∙◌, arith}
-use Rattle.std.proofs.lemmas.List.{take-append-drop, length-append}
+use Rattle.std.proofs.Common.{◌≡◌, ℕ, ◌+◌, ◌-◌, ◌<◌, ◌≤◌, Bool, true, false, ◌&&◌, cond, eqb, List, [], ◌∷◌, ◌++◌, length, take, drop, refl, sym, ap, subst, ◌∙◌, arith, inl, inr}
+use Rattle.std.proofs.lemmas.Bool.{cases_Bool, eqb-true}
+use Rattle.std.proofs.lemmas.List.{take-append-drop, length-append, length-take, length-drop, drop-drop}
 use Rattle.rope_text.specs.declared.line_breaks.LineBreaks.{LineBreaks}
+use Rattle.rope_text.specs.declared.line_breaks.LineBreaks.TheVariants.{Lf, CrLf, Unicode}
 use Rattle.rope_text.specs.declared.text_info.TextInfo.{TextInfo}
 use Rattle.rope_text.specs.Text.{byte_len, surrogate_count}
 use Rattle.rope_text.specs.Breaks.{is_break_char, break_count, ends_in_cr, begins_with_lf}
 use Rattle.rope_text.specs.Cutting.{parts_crlf}
-use Rattle.rope_text.specs.Edit.{inserted}
+use Rattle.rope_text.specs.Edit.{inserted, removed}
 use Rattle.rope_text.specs.TextInfo.{info_of, info_sum, shared_breaks}
-use Rattle.rope_text.proofs.BreakLaws.{break_count-append}
+use Rattle.rope_text.proofs.BreakLaws.{break_count-append, break_count-cons, break_char_13, one_less}
 use Rattle.rope_text.proofs.InfoLaws.{surrogate_count-append}
 use Rattle.rope_text.proofs.Measures.{IsMeasure-byte_len}
+use Rattle.rope_tree.specs.Search.{HasPart}
 use Rattle.rope_tree.proofs.InsertTrees.{inserted_is, byte_len-inserted, length-inserted}
 
 shared_first : (breaks : LineBreaks) (f a b : List ℕ) → 1 ≤ length a → shared_breaks breaks f (a ++ b) ≡ shared_breaks breaks f a
@@ -22,6 +25,64 @@ pub breaks_inserted : (breaks : LineBreaks) (f a b : List ℕ) → 1 ≤ length 
     → break_count breaks (f ++ (a ++ b)) + (shared_breaks breaks f a + shared_breaks breaks a b) ≡ (break_count breaks (f ++ b) + break_count breaks a) + shared_breaks breaks f b
 breaks_inserted breaks f a b some =
     omega (arith, break_count-append breaks f (a ++ b), break_count-append breaks a b, break_count-append breaks f b, shared_first breaks f a b some)
+
+-- a text has as many breaks as it may share with what stands behind it
+shared_behind : (breaks : LineBreaks) (a b : List ℕ) → shared_breaks breaks a b ≤ break_count breaks a
+shared_behind breaks [] b = omega arith
+shared_behind breaks (c ∷ []) b =
+    omega (arith, one_less (is_break_char breaks c) (eqb c 13) (begins_with_lf b) (is_break_char breaks 13) (break_char_13 breaks c), break_count-cons breaks c [])
+shared_behind breaks (c ∷ d ∷ a) b = omega (arith, shared_behind breaks (d ∷ a) b, break_count-cons breaks c (d ∷ a))
+
+-- an LF is a break of every set
+lf_counts : (breaks : LineBreaks) (a : List ℕ) → break_count breaks (10 ∷ a) ≡ 1 + break_count breaks a
+lf_counts Lf a = break_count-cons Lf 10 a
+lf_counts CrLf a = break_count-cons CrLf 10 a
+lf_counts Unicode a = break_count-cons Unicode 10 a
+
+-- and so with an LF at its start
+shared_after_lf : (breaks : LineBreaks) (a b : List ℕ) → 1 + shared_breaks breaks (10 ∷ a) b ≤ break_count breaks (10 ∷ a)
+shared_after_lf breaks [] b = omega (arith, lf_counts breaks [])
+shared_after_lf breaks (d ∷ a) b = omega (arith, lf_counts breaks (d ∷ a), shared_behind breaks (d ∷ a) b)
+
+shared_before : (p q r : Bool) → cond {A = ℕ} ((p && q) && r) 1 0 ≤ cond {A = ℕ} q 1 0
+shared_before true true true = omega arith
+shared_before true true false = omega arith
+shared_before true false r = omega arith
+shared_before false q r = omega arith
+
+shared_at_ends : (breaks : LineBreaks) (x : ℕ) (a b : List ℕ) → cond {A = ℕ} (eqb x 10) 1 0 + shared_breaks breaks (x ∷ a) b ≤ break_count breaks (x ∷ a)
+shared_at_ends breaks x a b = elim (cases_Bool (eqb x 10)) [
+  | inl lf ↦ subst (λ y. cond {A = ℕ} (eqb y 10) 1 0 + shared_breaks breaks (y ∷ a) b ≤ break_count breaks (y ∷ a)) (sym (eqb-true x 10 lf)) (shared_after_lf breaks a b)
+  | inr off ↦ rw off (omega (arith, shared_behind breaks (x ∷ a) b))
+]
+
+shared_around : (breaks : LineBreaks) (f a b : List ℕ) → 1 ≤ length a → shared_breaks breaks f a + shared_breaks breaks a b ≤ break_count breaks a
+shared_around breaks f [] b some = absurd (omega arith)
+shared_around breaks f (x ∷ a) b some = omega (arith, shared_before (ends_in_cr f) (eqb x 10) (is_break_char breaks 13), shared_at_ends breaks x a b)
+
+-- no count falls where a text is put in
+counts_around : (breaks : LineBreaks) (f a b : List ℕ) → 1 ≤ length a → HasPart (info_of breaks (f ++ (a ++ b))) (info_of breaks (f ++ b))
+counts_around breaks f a b some = record {
+  bytes = omega (arith, IsMeasure-byte_len.joined f (a ++ b), IsMeasure-byte_len.joined a b, IsMeasure-byte_len.joined f b);
+  chars = omega (arith, length-append f (a ++ b), length-append a b, length-append f b);
+  surrogates = omega (arith, surrogate_count-append f (a ++ b), surrogate_count-append a b, surrogate_count-append f b);
+  count = omega (arith, breaks_inserted breaks f a b some, shared_around breaks f a b some);
+}
+
+pub counts_grow : (breaks : LineBreaks) (text a : List ℕ) (at : ℕ) → 1 ≤ length a → HasPart (info_of breaks (inserted text at a)) (info_of breaks text)
+counts_grow breaks text a at some =
+    let around = counts_around breaks (take at text) a (drop at text) some in
+    rw (inserted_is text at a) (subst (λ t. HasPart (info_of breaks (take at text ++ (a ++ drop at text))) (info_of breaks t)) (take-append-drop at text) around)
+
+-- and none grows where some is taken out
+pub counts_fall : (breaks : LineBreaks) (text : List ℕ) (start end : ℕ) → start < end → end ≤ length text → HasPart (info_of breaks text) (info_of breaks (removed text start end))
+counts_fall breaks text start end order within =
+    let part = take (end - start) (drop start text) in
+    let tail : drop (end - start) (drop start text) ≡ drop end text = drop-drop (end - start) start text ∙ ap (λ n. drop n text) (omega arith) in
+    let behind : part ++ drop end text ≡ drop start text = ap (λ t. part ++ t) (sym tail) ∙ take-append-drop (end - start) (drop start text) in
+    let whole : take start text ++ (part ++ drop end text) ≡ text = ap (λ t. take start text ++ t) behind ∙ take-append-drop start text in
+    let some : 1 ≤ length part = omega (arith, length-take (end - start) (drop start text), length-drop start text) in
+    subst (λ t. HasPart (info_of breaks t) (info_of breaks (removed text start end))) whole (counts_around breaks (take start text) part (drop end text) some)
 
 -- no CR meets an LF
 pub none_shared : (breaks : LineBreaks) (s t : List ℕ) → ends_in_cr s ≡ false → shared_breaks breaks s t ≡ 0

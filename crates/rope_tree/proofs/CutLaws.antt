@@ -109,9 +109,9 @@ module _ (ts us : List Tree) (k : ℕ) (c u x : Tree) (cut : Cuts ts us k c u x)
       }
 
   -- where the whole text has few bytes, so has each front
-  pub cut_fits : byte_len (joined us) < 2 ^ 16 → (m : ℕ) → k ≤ m → m < length ts → FitsWith (counted (breaks_of ts) ts (m + 1)) (info_of (breaks_of ts) (text c)) both
+  pub cut_fits : byte_len (joined us) < 2 ^ 32 → (m : ℕ) → k ≤ m → m < length ts → FitsWith (counted (breaks_of ts) ts (m + 1)) (info_of (breaks_of ts) (text c)) both
   cut_fits few m from within =
-      let low = low_info (breaks_of ts) (joined (take (m + 1 + 1) us)) 65535 (omega (arith, byte_len-joined us (m + 1 + 1), few)) in
+      let low = low_info (breaks_of ts) (joined (take (m + 1 + 1) us)) 4294967295 (omega (arith, byte_len-joined us (m + 1 + 1), few)) in
       let e = even m from within in
       record {
         bytes = omega (arith, low.bytes, ap (λ t. t.bytes) e);
@@ -120,9 +120,9 @@ module _ (ts us : List Tree) (k : ℕ) (c u x : Tree) (cut : Cuts ts us k c u x)
         count = omega (arith, low.count, ap (λ t. t.break_count) e);
       }
 
-  pub first_narrow : byte_len (joined us) < 2 ^ 16 → IsNarrow (info_sum (counted (breaks_of ts) ts k) (info_of (breaks_of ts) (text u)))
+  pub first_narrow : byte_len (joined us) < 2 ^ 32 → IsNarrow (info_sum (counted (breaks_of ts) ts k) (info_of (breaks_of ts) (text u)))
   first_narrow few =
-      let low = low_info (breaks_of ts) (joined (take (k + 1) us)) 65535 (omega (arith, byte_len-joined us (k + 1), few)) in
+      let low = low_info (breaks_of ts) (joined (take (k + 1) us)) 4294967295 (omega (arith, byte_len-joined us (k + 1), few)) in
       rw (sym first_more) (record { bytes = omega (arith, low.bytes); chars = omega (arith, low.chars); surrogates = omega (arith, low.surrogates); count = omega (arith, low.count) })
 
   -- so the totals are right again
@@ -153,7 +153,7 @@ module _ (ts us : List Tree) (k : ℕ) (c u x : Tree) (cut : Cuts ts us k c u x)
 
   -- where the totals of both fit, the whole text has few bytes
   pub few_bytes : (totals mid : List TextInfo) → HasTotals (breaks_of ts) totals ts → length mid ≡ length totals
-      → ((j : ℕ) (d : TextInfo) → k ≤ j → j < length totals → info_sum (get_or mid j d) (info_of (breaks_of ts) (text c)) ≡ info_sum (get_or totals j d) both) → AreNarrow mid → byte_len (joined us) < 2 ^ 16
+      → ((j : ℕ) (d : TextInfo) → k ≤ j → j < length totals → info_sum (get_or mid j d) (info_of (breaks_of ts) (text c)) ≡ info_sum (get_or totals j d) both) → AreNarrow mid → byte_len (joined us) < 2 ^ 32
   few_bytes totals mid t len past narrow =
       let i : ℕ = length ts - 1 in
       let d = info_of (breaks_of ts) (text c) in

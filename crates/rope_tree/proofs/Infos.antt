@@ -10,6 +10,7 @@ use Rattle.rope_text.specs.declared.text_info.TextInfo.{TextInfo}
 use Rattle.rope_text.specs.Text.{byte_len, surrogate_count}
 use Rattle.rope_text.specs.TextInfo.{info_of}
 use Rattle.rope_text.proofs.InfoLaws.{break_count-le-length}
+use Rattle.rope_tree.specs.Narrow.{IsBelow}
 use Rattle.rope_tree.specs.Search.{IsSmall}
 
 -- the counts of a text of at most isize::MAX bytes
@@ -19,6 +20,15 @@ small_info breaks text fits = record {
   chars = length-le-encodes text;
   surrogates = count_by-le-length (λ c. nat_le 65536 c) text;
   count = break_count-le-length breaks text;
+}
+
+-- none of them is above it
+pub small_below : (info : TextInfo) → IsSmall info → IsBelow (2 ^ 63) info
+small_below info s = record {
+  bytes = s.bytes;
+  chars = omega (arith, s.bytes, s.chars);
+  surrogates = omega (arith, s.bytes, s.chars, s.surrogates);
+  count = omega (arith, s.bytes, s.chars, s.count);
 }
 
 -- a character of two code units takes four bytes

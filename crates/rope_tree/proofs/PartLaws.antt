@@ -151,7 +151,7 @@ module _ (xs ts : List Tree) (totals : List TextInfo) (from : ℕ) (p : IsPart t
   has_base k d lt = rw (total_is k d lt) (record { bytes = omega arith; chars = omega arith; surrogates = omega arith; count = omega arith })
 
   -- where the last total has room in 16 bits, all have
-  pub part_fits : (k : ℕ) (d : TextInfo) → k < length ts → (get_or totals (from + length ts - 1) d).bytes + before.bytes < 2 ^ 16 + base.bytes → FitsWith (get_or totals (from + k) d) base before
+  pub part_fits : (k : ℕ) (d : TextInfo) → k < length ts → (get_or totals (from + length ts - 1) d).bytes + before.bytes < 2 ^ 32 + base.bytes → FitsWith (get_or totals (from + k) d) base before
   part_fits k d lt room =
       let n : from + length ts - 1 ≡ from + (length ts - 1) = omega arith in
       let last = ap (λ i. i.bytes) (ap (λ m. get_or totals m d) n ∙ total_is (length ts - 1) d (omega arith)) in

@@ -1,4 +1,4 @@
--- Counts below a bound, as those that fit in 16 bits.
+-- Counts below a bound, as those that fit in 32 bits.
 use Rattle.std.specs.Prelude.{ℕ, ◌+◌, ◌<◌, ◌^◌, List, length, slice_index_or}
 use Rattle.rope_text.specs.declared.text_info.TextInfo.{TextInfo}
 
@@ -20,12 +20,12 @@ pub record IsBelowWith (bound : ℕ) (total old new : TextInfo) : Type 0 where
   pub surrogates : total.utf16_surrogates + new.utf16_surrogates < bound + old.utf16_surrogates
   pub count : total.break_count + new.break_count < bound + old.break_count
 
--- those that fit in 16 bits
+-- those that fit in 32 bits
 abbrev pub IsNarrow : TextInfo → Type 0
-IsNarrow info = IsBelow (2 ^ 16) info
+IsNarrow info = IsBelow (2 ^ 32) info
 
 abbrev pub AreNarrow : List TextInfo → Type 0
-AreNarrow totals = AreBounded (2 ^ 16) totals
+AreNarrow totals = AreBounded (2 ^ 32) totals
 
 abbrev pub FitsWith : TextInfo → TextInfo → TextInfo → Type 0
-FitsWith total old new = IsBelowWith (2 ^ 16) total old new
+FitsWith total old new = IsBelowWith (2 ^ 32) total old new

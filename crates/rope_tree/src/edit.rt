@@ -9,14 +9,13 @@ ghost use Rattle.rope_tree.specs.Tree.{text, IsTree};
 ghost use Rattle.rope_tree.specs.View.{trees_in};
 ghost use Rattle.rope_tree.specs.Insert.{MayInsert, IsInserted};
 
-use crate::change::Change;
 use crate::counts::ends_in_cr;
 use crate::insert::insert;
 use crate::lookup::char_at;
 use crate::node::row::node_over;
 use crate::node::{Node, Nodes};
 use crate::short_text::ShortText;
-use rope_text::Steps;
+use rope_text::{Steps, TextInfo};
 use std::alloc::{AllocError, Global};
 
 /// Whether an LF stands at a place.
@@ -57,7 +56,7 @@ fn insert_in_place(
     ensures made { made.new ≤ made.old + root.old.height + 2 }
 {
     let to_right = goes_right(root, at, added);
-    root.insert_in_place(alloc, at, added, to_right, true, &mut Change::none(), made)
+    root.insert_in_place(alloc, at, added, to_right, true, &mut TextInfo::new(), made)
 }
 
 /// One tree over the nodes that an insert into `old` made.

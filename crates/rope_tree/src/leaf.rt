@@ -7,12 +7,11 @@ ghost use Rattle.rope_text.specs.TextInfo.{info_of};
 ghost use Rattle.rope_text.specs.Edit.{inserted};
 ghost use Rattle.rope_tree.specs.Tree.{text, leaf_tree};
 ghost use Rattle.rope_tree.specs.LeafTree.{IsLeafOf};
-ghost use Rattle.rope_tree.specs.Change.{IsChange};
+ghost use Rattle.rope_tree.specs.Change.{IsChange, no_counts};
 ghost use Rattle.rope_tree.specs.Insert.{IsInserted};
 ghost use Rattle.rope_tree.specs.Removal.{IsRemoved};
 
 use crate::beside::Least;
-use crate::change::Change;
 use crate::counts::{leaf_with, put_in, take_out};
 use crate::node::{Node, make_leaf};
 use crate::node_text::{NodeText, halves_of};
@@ -129,18 +128,18 @@ impl Leaf {
         self.text.is_no_text(from, len)
     }
 
-    /// Puts a text before the character `at`, if there is room for it; returns whether it did, and in `change` by how much the
-    /// counts changed. It takes no memory.
+    /// Puts a text before the character `at`, if there is room for it; returns whether it did, and in `more` by how much the
+    /// counts grew. It takes no memory.
     pub(crate) fn insert_in_place(
         &mut self,
         at: usize,
         added: &ShortText<'_>,
-        change: &mut Change,
+        more: &mut TextInfo,
     ) -> bool
         requires within { at ≤ length (text self.old) }
         requires some { 1 ≤ length added.now }
         ensures done { result ≡ true → IsInserted self.old (self.new ∷ []) (inserted (text self.old) at added.now) }
-        ensures change { result ≡ true → IsChange change.new.before change.new.after (info_of self.old.breaks (text self.old)) (info_of self.old.breaks (text self.new)) }
+        ensures change { result ≡ true → IsChange no_counts more.new (info_of self.old.breaks (text self.old)) (info_of self.old.breaks (text self.new)) }
         ensures kept { result ≡ false → self.new ≡ self.old }
     {
         if self.text.len() + added.len() > MAX_BYTES {
@@ -152,7 +151,7 @@ impl Leaf {
         let after = put_in(&mut self.text, at, added, before, breaks);
         let _ = self.text.as_str();
         self.summary = Summary::new(breaks, after);
-        *change = Change { before, after };
+        *more = after.minus(before);
         true
     }
 
@@ -188,18 +187,18 @@ impl Leaf {
     }
 
     /// Takes the characters from `start` up to `end` out, if the leaf may do without them and keeps so many bytes; returns
-    /// whether it did, and in `change` by how much the counts changed. It takes no memory.
+    /// whether it did, and in `less` by how much the counts fell. It takes no memory.
     pub(crate) fn remove_in_place(
         &mut self,
         start: usize,
         end: usize,
         least: Least,
-        change: &mut Change,
+        less: &mut TextInfo,
     ) -> bool
         requires ordered { start < end }
         requires within { end ≤ length (text self.old) }
         ensures done { result ≡ true → IsRemoved least.first least.last self.old self.new start end }
-        ensures change { result ≡ true → IsChange change.new.before change.new.after (info_of self.old.breaks (text self.old)) (info_of self.old.breaks (text self.new)) }
+        ensures change { result ≡ true → IsChange less.new no_counts (info_of self.old.breaks (text self.old)) (info_of self.old.breaks (text self.new)) }
         ensures kept { result ≡ false → self.new ≡ self.old }
     {
         let old = self.summary;
@@ -211,7 +210,7 @@ impl Leaf {
         };
         let _ = self.text.as_str();
         self.summary = Summary::new(breaks, after);
-        *change = Change { before, after };
+        *less = before.minus(after);
         true
     }
 }

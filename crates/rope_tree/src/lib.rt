@@ -4,7 +4,6 @@
 mod beside;
 pub mod build;
 pub mod builder;
-mod change;
 pub mod conversions;
 pub mod counts;
 pub mod edit;

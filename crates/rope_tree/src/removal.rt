@@ -5,8 +5,8 @@ ghost use Rattle.rope_text.specs.Edit.{removed};
 ghost use Rattle.rope_tree.specs.Tree.{text, IsTree};
 
 use crate::beside::Least;
-use crate::change::Change;
 use crate::node::Node;
+use rope_text::TextInfo;
 use std::alloc::{AllocError, Global};
 
 /// At the ends of a tree nothing stands beside a leaf, and it may be as short as it will.
@@ -31,5 +31,5 @@ pub fn remove_at(
     ensures made { made.new ≤ made.old + root.old.height + 1 }
 {
     let _ = root.height();
-    root.remove_in_place(alloc, start, end, ANY, true, &mut Change::none(), made)
+    root.remove_in_place(alloc, start, end, ANY, true, &mut TextInfo::new(), made)
 }

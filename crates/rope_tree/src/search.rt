@@ -5,7 +5,7 @@ ghost use Rattle.rope_text.specs.declared.text_info.TextInfo.{TextInfo};
 ghost use Rattle.rope_text.specs.TextInfo.{info_sum};
 ghost use Rattle.rope_tree.specs.declared.search.Unit.TheVariants.{Char};
 ghost use Rattle.rope_tree.specs.Search.{count_of, IsSmall, HasPart};
-ghost use Rattle.rope_tree.specs.Narrow.{IsNarrow, AreNarrow, FitsWith};
+ghost use Rattle.rope_tree.specs.Narrow.{IsBelow, IsNarrow, AreNarrow, FitsWith};
 
 use rope_text::{MIN_CHILDREN, Steps, TextInfo};
 use std::alloc::{AllocError, Global};
@@ -40,17 +40,17 @@ pub fn count(info: TextInfo, unit: Unit) -> usize
     }
 }
 
-/// For each child of a list of at most 24 the counts of all children up to and with it, seen as the list of those counts. Those
-/// over leaves fit in 16 bits each, and so do those over any nodes with a short text; others are kept elsewhere, in words.
+/// For each child of a list of at most 24 the counts of all children up to and with it, seen as the list of those counts. Those of
+/// a text below 4 GiB fit in 32 bits each; others are kept elsewhere, in words.
 #[derive(Drop)]
 pub struct Totals {
     width: Width,
 }
 
-/// Totals in 16 bits each, or in words.
+/// Totals in 32 bits each, or in words.
 #[derive(Drop)]
 enum Width {
-    Narrow(CountRows<u16>),
+    Narrow(CountRows<u32>),
     Wide(Box<CountRows<usize>>),
 }
 
@@ -67,7 +67,7 @@ impl Model for Totals {
 
 /// The same totals in words. It is kept out of the callers, which seldom come to it.
 #[inline(never)]
-fn widened(alloc: Global, totals: &CountRows<u16>) -> Result<Box<CountRows<usize>>, AllocError>
+fn widened(alloc: Global, totals: &CountRows<u32>) -> Result<Box<CountRows<usize>>, AllocError>
     requires { length totals.now ≤ MAX_CHILDREN }
     ensures { IfOk result (λ wide. wide.value ≡ totals.now) }
 {
@@ -81,8 +81,8 @@ fn widened(alloc: Global, totals: &CountRows<u16>) -> Result<Box<CountRows<usize
     Ok(wide)
 }
 
-/// The bytes of a text whose counts may not all fit in 16 bits.
-const TOO_WIDE: usize = 65536;
+/// The bytes of a text whose counts may not all fit in 32 bits.
+const TOO_WIDE: usize = 4_294_967_296;
 
 impl Totals {
     /// Those of no child.
@@ -143,7 +143,7 @@ impl Totals {
     #[inline(always)]
     pub(crate) fn has_room_for(&self, bytes: usize) -> bool
         requires { 1 ≤ length self.now }
-        ensures { result ≡ true → AreNarrow self.now → (d : TextInfo) → (slice_index_or self.now (length self.now - 1) d).bytes + bytes < 2 ^ 16 }
+        ensures { result ≡ true → AreNarrow self.now → (d : TextInfo) → (slice_index_or self.now (length self.now - 1) d).bytes + bytes < 2 ^ 32 }
     {
         let all = self.get(self.len() - 1).bytes;
         all >= TOO_WIDE || bytes < TOO_WIDE - all
@@ -202,7 +202,7 @@ impl Totals {
         requires small_others { (j : ℕ) (d : TextInfo) → j < count → IsSmall (slice_index_or others.now (from + j) d) }
         requires part { (j : ℕ) (d : TextInfo) → j < count → HasPart (slice_index_or others.now (from + j) d) old }
         requires new { IsSmall new }
-        requires fits { (j : ℕ) (d : TextInfo) → j < count → (slice_index_or others.now (from + count - 1) d).bytes + new.bytes < 2 ^ 16 + old.bytes → FitsWith (slice_index_or others.now (from + j) d) old new }
+        requires fits { (j : ℕ) (d : TextInfo) → j < count → (slice_index_or others.now (from + count - 1) d).bytes + new.bytes < 2 ^ 32 + old.bytes → FitsWith (slice_index_or others.now (from + j) d) old new }
         ensures len { IfOk result (λ did. did ≡ true → length self.new ≡ length self.old + count) }
         ensures before { IfOk result (λ did. did ≡ true → (j : ℕ) (d : TextInfo) → j < length self.old → slice_index_or self.new j d ≡ slice_index_or self.old j d) }
         ensures behind { IfOk result (λ did. did ≡ true → (j : ℕ) (d : TextInfo) → j < count → info_sum (slice_index_or self.new (length self.old + j) d) old ≡ info_sum (slice_index_or others.now (from + j) d) new) }
@@ -248,7 +248,7 @@ impl Totals {
         requires within { place < length self.old }
         requires small { (j : ℕ) (d : TextInfo) → j < length self.old → IsSmall (slice_index_or self.old j d) }
         requires part { (j : ℕ) (d : TextInfo) → place ≤ j → j < length self.old → HasPart (slice_index_or self.old j d) old }
-        requires new { IsSmall new }
+        requires new { IsBelow (2 ^ 63) new }
         requires fits { AreNarrow self.old → (j : ℕ) (d : TextInfo) → place ≤ j → j < length self.old → FitsWith (slice_index_or self.old j d) old new }
         ensures len { length self.new ≡ length self.old }
         ensures before { (j : ℕ) (d : TextInfo) → j < place → slice_index_or self.new j d ≡ slice_index_or self.old j d }

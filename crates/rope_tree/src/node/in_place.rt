@@ -5,16 +5,15 @@ ghost use Rattle.rope_text.specs.Text.{byte_len};
 ghost use Rattle.rope_text.specs.Edit.{inserted};
 ghost use Rattle.rope_tree.specs.Tree.{Tree, text, joined, breaks_of, height_of, tree_over, AreChildren};
 ghost use Rattle.rope_text.specs.TextInfo.{info_of};
-ghost use Rattle.rope_tree.specs.Change.{IsChange};
+ghost use Rattle.rope_tree.specs.Change.{IsChange, no_counts};
 ghost use Rattle.rope_tree.specs.Insert.{MayInsert, GoesIn, IsInserted, AreGrown};
 
 use super::own::own;
 use super::{Children, Form, Node};
-use crate::change::Change;
 use crate::lookup::total_before;
 use crate::search::{Totals, char_to_hold, try_place};
 use crate::short_text::ShortText;
-use rope_text::MAX_CHILDREN;
+use rope_text::{MAX_CHILDREN, TextInfo};
 use std::alloc::{AllocError, Global};
 use std::rc::Rc;
 
@@ -74,7 +73,7 @@ impl Children {
     }
 
     /// Puts a text before the character `at`, where the leaf has room, or is cut into two and the node over it has room for one
-    /// more; returns whether it did, and in `change` by how much the counts changed. `follows` says whether the way is that of the edit
+    /// more; returns whether it did, and in `more` by how much the counts grew. `follows` says whether the way is that of the edit
     /// before so far. Where memory is refused, the children are as they were.
     #[cycle(in_place)]
     #[inline(never)]
@@ -85,7 +84,7 @@ impl Children {
         added: &ShortText<'_>,
         to_right: bool,
         follows: bool,
-        change: &mut Change,
+        more: &mut TextInfo,
         made: &mut u64,
     ) -> Result<bool, AllocError>
         requires children { AreChildren (breaks_of self.old) (height_of self.old) self.old }
@@ -95,7 +94,7 @@ impl Children {
         requires fits { byte_len (joined self.old) + byte_len added.now < 2 ^ 63 }
         requires side { MayInsert (tree_over self.old) at added.now to_right }
         ensures done { IfOk result (λ did. did ≡ true → AreGrown self.old self.new (inserted (joined self.old) at added.now)) }
-        ensures change { IfOk result (λ did. did ≡ true → IsChange change.new.before change.new.after (info_of (breaks_of self.old) (joined self.old)) (info_of (breaks_of self.old) (joined self.new))) }
+        ensures change { IfOk result (λ did. did ≡ true → IsChange no_counts more.new (info_of (breaks_of self.old) (joined self.old)) (info_of (breaks_of self.old) (joined self.new))) }
         ensures kept { IfOk result (λ did. did ≡ false → self.new ≡ self.old) }
         ensures err { OnErr result (self.new ≡ self.old) }
         ensures made { made.new ≤ made.old + height_of self.old + 2 }
@@ -113,16 +112,17 @@ impl Children {
         }
         if self.nodes[way.place].lacks_room_for(added.len()) {
             let before = self.total();
-            let did = self.cut_leaf(alloc, at, added, to_right, made)?;
-            let after = self.total();
-            *change = Change { before, after };
-            return Ok(did);
+            if !self.cut_leaf(alloc, at, added, to_right, made)? {
+                return Ok(false);
+            }
+            *more = self.total().minus(before);
+            return Ok(true);
         }
         let node = &mut self.nodes[way.place];
-        if !node.insert_in_place(alloc, way.at, added, to_right, way.follows, change, made)? {
+        if !node.insert_in_place(alloc, way.at, added, to_right, way.follows, more, made)? {
             return Ok(false);
         }
-        self.totals.retotal(way.place, change.before, change.after);
+        self.totals.retotal(way.place, TextInfo::new(), *more);
         self.last = way.place as u8;
         Ok(true)
     }
@@ -157,7 +157,7 @@ impl Node {
     }
 
     /// Puts a text of at most 981 bytes before the character `at`, where the leaf has room, or is cut into two and the node over
-    /// it has room for one more; returns whether it did, and in `change` by how much the counts changed. `follows` says whether the way
+    /// it has room for one more; returns whether it did, and in `more` by how much the counts grew. `follows` says whether the way
     /// is that of the edit before so far. A node on the way that is shared is copied; where none is, and the leaf has room, it takes no
     /// memory. Where memory is refused, the tree is as it was.
     #[cycle(in_place)]
@@ -169,7 +169,7 @@ impl Node {
         added: &ShortText<'_>,
         to_right: bool,
         follows: bool,
-        change: &mut Change,
+        more: &mut TextInfo,
         made: &mut u64,
     ) -> Result<bool, AllocError>
         requires within { at ≤ length (text self.old) }
@@ -178,7 +178,7 @@ impl Node {
         requires fits { byte_len (text self.old) + byte_len added.now < 2 ^ 63 }
         requires side { MayInsert self.old at added.now to_right }
         ensures done { IfOk result (λ did. did ≡ true → IsInserted self.old (self.new ∷ []) (inserted (text self.old) at added.now)) }
-        ensures change { IfOk result (λ did. did ≡ true → IsChange change.new.before change.new.after (info_of self.old.breaks (text self.old)) (info_of self.old.breaks (text self.new))) }
+        ensures change { IfOk result (λ did. did ≡ true → IsChange no_counts more.new (info_of self.old.breaks (text self.old)) (info_of self.old.breaks (text self.new))) }
         ensures kept { IfOk result (λ did. did ≡ false → self.new ≡ self.old) }
         ensures err { OnErr result (self.new ≡ self.old) }
         ensures made { made.new ≤ made.old + self.old.height + 2 }
@@ -187,12 +187,12 @@ impl Node {
         match &mut self.form {
             Form::Empty(_) => Ok(false),
             Form::Leaf(leaf) => match Rc::get_mut(leaf) {
-                Some(leaf) => Ok(leaf.insert_in_place(at, added, change)),
+                Some(leaf) => Ok(leaf.insert_in_place(at, added, more)),
                 None => Ok(false),
             },
             Form::Inner(children) => match Rc::get_mut(children) {
                 Some(children) => {
-                    children.insert_in_place(alloc, at, added, to_right, follows, change, made)
+                    children.insert_in_place(alloc, at, added, to_right, follows, more, made)
                 }
                 None => Ok(false),
             },

@@ -2,22 +2,22 @@
 ghost use Rattle.std.specs.Prelude.{◌≡◌, ◌+◌, ◌<◌, ◌≤◌, true, false, length, IfOk, OnErr};
 ghost use Rattle.rope_tree.specs.Tree.{text, joined, breaks_of, height_of, AreChildren};
 ghost use Rattle.rope_text.specs.TextInfo.{info_of};
-ghost use Rattle.rope_tree.specs.Change.{IsChange};
+ghost use Rattle.rope_tree.specs.Change.{IsChange, no_counts};
 ghost use Rattle.rope_tree.specs.Removal.{IsRemoved, AreRemoved};
 
 use super::in_place::{has_no_child, has_no_text};
 use super::own::own;
 use super::{Children, Form, Node};
 use crate::beside::{Least, least_at};
-use crate::change::Change;
 use crate::lookup::total_before;
 use crate::search::try_place;
+use rope_text::TextInfo;
 use std::alloc::{AllocError, Global};
 use std::rc::Rc;
 
 impl Children {
     /// Takes the characters from `start` up to `end` out, where they lie in one leaf that may do without them and keeps enough
-    /// beside its neighbours; returns whether it did, and in `change` by how much the counts changed. `follows` says whether the way is
+    /// beside its neighbours; returns whether it did, and in `less` by how much the counts fell. `follows` says whether the way is
     /// that of the edit before so far. Where memory is refused, the children are as they were.
     #[cycle(in_place_removal)]
     #[inline(never)]
@@ -28,14 +28,14 @@ impl Children {
         end: usize,
         least: Least,
         follows: bool,
-        change: &mut Change,
+        less: &mut TextInfo,
         made: &mut u64,
     ) -> Result<bool, AllocError>
         requires children { AreChildren (breaks_of self.old) (height_of self.old) self.old }
         requires ordered { start < end }
         requires within { end ≤ length (joined self.old) }
         ensures done { IfOk result (λ did. did ≡ true → AreRemoved least.first least.last self.old self.new start end) }
-        ensures change { IfOk result (λ did. did ≡ true → IsChange change.new.before change.new.after (info_of (breaks_of self.old) (joined self.old)) (info_of (breaks_of self.old) (joined self.new))) }
+        ensures change { IfOk result (λ did. did ≡ true → IsChange less.new no_counts (info_of (breaks_of self.old) (joined self.old)) (info_of (breaks_of self.old) (joined self.new))) }
         ensures kept { IfOk result (λ did. did ≡ false → self.new ≡ self.old) }
         ensures err { OnErr result (self.new ≡ self.old) }
         ensures made { made.new ≤ made.old + height_of self.old + 1 }
@@ -62,12 +62,12 @@ impl Children {
             end - before,
             least,
             child.follows,
-            change,
+            less,
             made,
         )? {
             return Ok(false);
         }
-        self.totals.retotal(place, change.before, change.after);
+        self.totals.retotal(place, *less, TextInfo::new());
         self.last = place as u8;
         Ok(true)
     }
@@ -75,7 +75,7 @@ impl Children {
 
 impl Node {
     /// Takes the characters from `start` up to `end` out, where they lie in one leaf that may do without them, and keeps so many
-    /// bytes where it is first or last; returns whether it did, and in `change` by how much the counts changed. `follows` says whether the
+    /// bytes where it is first or last; returns whether it did, and in `less` by how much the counts fell. `follows` says whether the
     /// way is that of the edit before so far. A node on the way that is shared is copied; where none is, it takes no memory. Where
     /// memory is refused, the tree is as it was.
     #[cycle(in_place_removal)]
@@ -87,13 +87,13 @@ impl Node {
         end: usize,
         least: Least,
         follows: bool,
-        change: &mut Change,
+        less: &mut TextInfo,
         made: &mut u64,
     ) -> Result<bool, AllocError>
         requires ordered { start < end }
         requires within { end ≤ length (text self.old) }
         ensures done { IfOk result (λ did. did ≡ true → IsRemoved least.first least.last self.old self.new start end) }
-        ensures change { IfOk result (λ did. did ≡ true → IsChange change.new.before change.new.after (info_of self.old.breaks (text self.old)) (info_of self.old.breaks (text self.new))) }
+        ensures change { IfOk result (λ did. did ≡ true → IsChange less.new no_counts (info_of self.old.breaks (text self.old)) (info_of self.old.breaks (text self.new))) }
         ensures kept { IfOk result (λ did. did ≡ false → self.new ≡ self.old) }
         ensures err { OnErr result (self.new ≡ self.old) }
         ensures made { made.new ≤ made.old + self.old.height + 1 }
@@ -102,12 +102,12 @@ impl Node {
         match &mut self.form {
             Form::Empty(_) => Ok(false),
             Form::Leaf(leaf) => match Rc::get_mut(leaf) {
-                Some(leaf) => Ok(leaf.remove_in_place(start, end, least, change)),
+                Some(leaf) => Ok(leaf.remove_in_place(start, end, least, less)),
                 None => Ok(false),
             },
             Form::Inner(children) => match Rc::get_mut(children) {
                 Some(children) => {
-                    children.remove_in_place(alloc, start, end, least, follows, change, made)
+                    children.remove_in_place(alloc, start, end, least, follows, less, made)
                 }
                 None => Ok(false),
             },

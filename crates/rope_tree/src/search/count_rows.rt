@@ -1,4 +1,4 @@
-//! Running totals kept by kind of count, in 16 bits each or in words.
+//! Running totals kept by kind of count, in 32 bits each or in words.
 ghost use Rattle.std.specs.Prelude.{◌≡◌, ℕ, ◌+◌, ◌-◌, ◌<◌, ◌≤◌, [], ◌∷◌, ◌++◌, length, take, drop, map, slice_index, slice_index_or, slice_set};
 ghost use Rattle.std.specs.List.{insert};
 ghost use Rattle.rope_text.specs.declared.TheConstants.{MAX_CHILDREN};
@@ -11,7 +11,7 @@ ghost use Rattle.rope_tree.specs.Shifted.{CanShift, IsShifted};
 use rope_text::{MAX_CHILDREN, TextInfo};
 use std::marker::Model;
 
-/// What a count is kept in: 16 bits, or a word.
+/// What a count is kept in: 32 bits, or a word.
 pub(crate) trait Cell: Copy {
     ghost value: { Self → ℕ };
 

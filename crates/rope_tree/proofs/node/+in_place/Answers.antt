@@ -8,16 +8,24 @@ use Rattle.rope_tree.specs.Shape.{IsNode}
 use Rattle.rope_tree.specs.Falls.{tallest_below}
 use Rattle.rope_tree.specs.Tree.{text, joined, breaks_of, height_of, tree_over}
 use Rattle.rope_text.specs.TextInfo.{info_of}
-use Rattle.rope_tree.specs.Change.{IsChange}
+use Rattle.rope_tree.specs.Change.{IsChange, no_counts}
+use Rattle.rope_tree.specs.Search.{HasPart}
 use Rattle.rope_tree.specs.Insert.{MayInsert, IsInserted, AreGrown}
 use Rattle.rope_tree.proofs.NodeLaws.{small_totals}
 use Rattle.rope_tree.proofs.InsertDescents.{takes}
 use Rattle.rope_tree.proofs.GrownLaws.{tallest_above}
 use Rattle.rope_tree.proofs.FormLaws.{inner_of, inner_seen, leaf_seen, by_outcome, still_children, grown_children, grown_node}
 use Rattle.rope_tree.proofs.ListedLaws.{seen_at}
-use Rattle.rope_tree.proofs.ChildLaws.{Finds, read, child_fits, may, change_part, change_narrow, fields_changed, all_changed, list_changed, list_grown}
-use Rattle.rope_tree.proofs.node.+in_place.Goals.{Children::insert_in_place-After-index-self-way-2, Node::insert_in_place-in-Empty, Node::insert_in_place-in-Leaf+in-Some, Node::insert_in_place-in-Leaf+in-None, Node::insert_in_place-in-Inner+in-Some-get_mut, Node::insert_in_place-in-Inner+in-None-get_mut}
+use Rattle.rope_tree.proofs.ChangeLaws.{change_from, change_seen}
+use Rattle.rope_tree.proofs.ChildLaws.{Finds, read, child_fits, may, change_part, change_narrow, fields_changed, all_changed, list_changed, list_has, list_grown}
+use Rattle.rope_tree.proofs.node.+in_place.Goals.{Children::insert_in_place-After-total, Children::insert_in_place-After-index-self-way-2, Node::insert_in_place-in-Empty, Node::insert_in_place-in-Leaf+in-Some, Node::insert_in_place-in-Leaf+in-None, Node::insert_in_place-in-Inner+in-Some-get_mut, Node::insert_in_place-in-Inner+in-None-get_mut}
 use Rattle.rope_tree.proofs.node.+in_place.Goals as goal
+
+-- the counts where a leaf was cut
+cut_has : (t : ℕ) (c : Children::insert_in_place-After-total t) → HasPart c.total.result c.total-before.result
+cut_has t c =
+    list_has c.args.self.now c.cut_leaf.new.self c.args.added.now c.args.at c.requires.children (c.in_ok-cut_leaf.ensures.done c.if-not-branch.false) c.requires.some
+    c.total-before.result c.total.result c.total-before.ensures c.total.ensures
 
 -- the child that takes the text
 found : (t : ℕ) (c : Children::insert_in_place-After-index-self-way-2 t) → Finds c.self.inside c.args.self.now c.way_in-way.result.place (get_or c.self.inside.nodes c.way_in-way.result.place c.index-self-way-2.result)
@@ -49,54 +57,67 @@ pub Children::insert_in_place-retotal-requires-clause-part :
     goal.Children::insert_in_place-retotal-requires-clause-part
 Children::insert_in_place-retotal-requires-clause-part t c =
     change_part _ _ _ _ _ _ _ (found t (goal.at.Children::insert_in_place-retotal-requires-clause-part t c).After-index-self-way-2) c.args.added.now c.requires.some c.requires.side c.requires.fits
-    c.insert_in_place.new.self (c.in_ok-insert_in_place.ensures.done c.if-not-branch.false) c.insert_in_place.new.change.before c.insert_in_place.new.change.after (c.in_ok-insert_in_place.ensures.change c.if-not-branch.false) c.self.inside.totals refl
+    c.insert_in_place.new.self (c.in_ok-insert_in_place.ensures.done c.if-not-branch-2.false) c.new.result c.insert_in_place.new.more (change_from c.new.result c.insert_in_place.new.more _ _ c.new.ensures (c.in_ok-insert_in_place.ensures.change c.if-not-branch-2.false)) c.self.inside.totals refl
 
 pub Children::insert_in_place-retotal-requires-clause-new :
     goal.Children::insert_in_place-retotal-requires-clause-new
-Children::insert_in_place-retotal-requires-clause-new t c = (c.in_ok-insert_in_place.ensures.change c.if-not-branch.false).small
+Children::insert_in_place-retotal-requires-clause-new t c = (c.in_ok-insert_in_place.ensures.change c.if-not-branch-2.false).low
 
 pub Children::insert_in_place-retotal-requires-clause-fits :
     goal.Children::insert_in_place-retotal-requires-clause-fits
 Children::insert_in_place-retotal-requires-clause-fits t c =
     change_narrow _ _ _ _ _ _ _ (found t (goal.at.Children::insert_in_place-retotal-requires-clause-fits t c).After-index-self-way-2) c.args.added.now c.requires.some c.requires.side c.requires.fits
-    c.insert_in_place.new.self (c.in_ok-insert_in_place.ensures.done c.if-not-branch.false) c.insert_in_place.new.change.before c.insert_in_place.new.change.after (c.in_ok-insert_in_place.ensures.change c.if-not-branch.false) c.self.inside.totals refl
+    c.insert_in_place.new.self (c.in_ok-insert_in_place.ensures.done c.if-not-branch-2.false) c.new.result c.insert_in_place.new.more (change_from c.new.result c.insert_in_place.new.more _ _ c.new.ensures (c.in_ok-insert_in_place.ensures.change c.if-not-branch-2.false)) c.self.inside.totals refl
     (rw c.len.ensures.value at c.has_room_for.ensures c.if-not-has_room_for.false)
 
 pub Children::insert_in_place-invariant_of-self-2 :
     goal.Children::insert_in_place-invariant_of-self-2
 Children::insert_in_place-invariant_of-self-2 t c =
     fields_changed _ _ _ _ _ _ _ (found t (goal.at.Children::insert_in_place-invariant_of-self-2 t c).After-index-self-way-2) c.args.added.now c.requires.some c.requires.side c.requires.fits
-    c.insert_in_place.new.self (c.in_ok-insert_in_place.ensures.done c.if-not-branch.false) c.insert_in_place.new.change.before c.insert_in_place.new.change.after (c.in_ok-insert_in_place.ensures.change c.if-not-branch.false) _ refl refl refl
+    c.insert_in_place.new.self (c.in_ok-insert_in_place.ensures.done c.if-not-branch-2.false) c.new.result c.insert_in_place.new.more (change_from c.new.result c.insert_in_place.new.more _ _ c.new.ensures (c.in_ok-insert_in_place.ensures.change c.if-not-branch-2.false)) _ refl refl refl
     c.self.inside.totals c.retotal.new.self refl c.retotal.ensures.len c.retotal.ensures.before c.retotal.ensures.after refl
 
 pub Children::insert_in_place-returns-clause-done :
     goal.Children::insert_in_place-returns-clause-done
 Children::insert_in_place-returns-clause-done t c = λ yes.
     all_changed _ _ _ _ _ _ _ (found t (goal.at.Children::insert_in_place-returns-clause-done t c).After-index-self-way-2) c.args.added.now c.requires.some c.requires.side c.requires.fits
-    c.insert_in_place.new.self (c.in_ok-insert_in_place.ensures.done c.if-not-branch.false) c.insert_in_place.new.change.before c.insert_in_place.new.change.after (c.in_ok-insert_in_place.ensures.change c.if-not-branch.false) (record { height = _; breaks = _; last = c.self.inside.last; totals = _; nodes = _ }) refl refl refl
+    c.insert_in_place.new.self (c.in_ok-insert_in_place.ensures.done c.if-not-branch-2.false) c.new.result c.insert_in_place.new.more (change_from c.new.result c.insert_in_place.new.more _ _ c.new.ensures (c.in_ok-insert_in_place.ensures.change c.if-not-branch-2.false)) (record { height = _; breaks = _; last = c.self.inside.last; totals = _; nodes = _ }) refl refl refl
     c.self.inside.totals c.retotal.new.self refl c.retotal.ensures.len c.retotal.ensures.before c.retotal.ensures.after refl
 
 pub Children::insert_in_place-returns-clause-change :
     goal.Children::insert_in_place-returns-clause-change
-Children::insert_in_place-returns-clause-change t c = λ yes.
-    list_changed _ _ _ _ _ _ _ (found t (goal.at.Children::insert_in_place-returns-clause-change t c).After-index-self-way-2) c.args.added.now c.requires.some c.requires.side c.requires.fits
-    c.insert_in_place.new.self (c.in_ok-insert_in_place.ensures.done c.if-not-branch.false) c.insert_in_place.new.change.before c.insert_in_place.new.change.after (c.in_ok-insert_in_place.ensures.change c.if-not-branch.false) (record { height = _; breaks = _; last = c.self.inside.last; totals = _; nodes = _ }) refl refl refl
-    c.self.inside.totals c.retotal.new.self refl c.retotal.ensures.len c.retotal.ensures.before c.retotal.ensures.after refl
+Children::insert_in_place-returns-clause-change t c = λ yes. change_seen c.new.result c.insert_in_place.new.more _ _ c.new.ensures
+    (list_changed _ _ _ _ _ _ _ (found t (goal.at.Children::insert_in_place-returns-clause-change t c).After-index-self-way-2) c.args.added.now c.requires.some c.requires.side c.requires.fits
+    c.insert_in_place.new.self (c.in_ok-insert_in_place.ensures.done c.if-not-branch-2.false) c.new.result c.insert_in_place.new.more (change_from c.new.result c.insert_in_place.new.more _ _ c.new.ensures (c.in_ok-insert_in_place.ensures.change c.if-not-branch-2.false)) (record { height = _; breaks = _; last = c.self.inside.last; totals = _; nodes = _ }) refl refl refl
+    c.self.inside.totals c.retotal.new.self refl c.retotal.ensures.len c.retotal.ensures.before c.retotal.ensures.after refl)
+
+pub Children::insert_in_place-minus-requires-clause-bytes : goal.Children::insert_in_place-minus-requires-clause-bytes
+Children::insert_in_place-minus-requires-clause-bytes t c = (cut_has t (goal.at.Children::insert_in_place-minus-requires-clause-bytes t c).After-total).bytes
+
+pub Children::insert_in_place-minus-requires-clause-chars : goal.Children::insert_in_place-minus-requires-clause-chars
+Children::insert_in_place-minus-requires-clause-chars t c = (cut_has t (goal.at.Children::insert_in_place-minus-requires-clause-chars t c).After-total).chars
+
+pub Children::insert_in_place-minus-requires-clause-utf16_surrogates : goal.Children::insert_in_place-minus-requires-clause-utf16_surrogates
+Children::insert_in_place-minus-requires-clause-utf16_surrogates t c = (cut_has t (goal.at.Children::insert_in_place-minus-requires-clause-utf16_surrogates t c).After-total).surrogates
+
+pub Children::insert_in_place-minus-requires-clause-break_count : goal.Children::insert_in_place-minus-requires-clause-break_count
+Children::insert_in_place-minus-requires-clause-break_count t c = (cut_has t (goal.at.Children::insert_in_place-minus-requires-clause-break_count t c).After-total).count
 
 pub Children::insert_in_place-returns-then-lacks_room_for-clause-change :
     goal.Children::insert_in_place-returns-then-lacks_room_for-clause-change
 Children::insert_in_place-returns-then-lacks_room_for-clause-change t c = λ yes.
-    list_grown c.args.self.now c.cut_leaf.new.self _ c.requires.children (c.in_ok-did.ensures.done yes) c.total-before.result c.total-after.result c.total-before.ensures c.total-after.ensures
+    list_grown c.args.self.now c.cut_leaf.new.self c.args.added.now c.args.at c.requires.children (c.in_ok-cut_leaf.ensures.done c.if-not-branch.false) c.requires.some
+    c.total-before.result c.total.result c.total-before.ensures c.total.ensures c.minus.result c.minus.ensures.sum
 
 pub Children::insert_in_place-returns-in_err-insert_in_place-clause-made :
     goal.Children::insert_in_place-returns-in_err-insert_in_place-clause-made
 Children::insert_in_place-returns-in_err-insert_in_place-clause-made t c =
     omega (arith, c.insert_in_place.ensures.made, (found t (goal.at.Children::insert_in_place-returns-in_err-insert_in_place-clause-made t c).After-index-self-way-2).taken.own.at_height)
 
-pub Children::insert_in_place-returns-then-not-branch-clause-made :
-    goal.Children::insert_in_place-returns-then-not-branch-clause-made
-Children::insert_in_place-returns-then-not-branch-clause-made t c =
-    omega (arith, c.insert_in_place.ensures.made, (found t (goal.at.Children::insert_in_place-returns-then-not-branch-clause-made t c).After-index-self-way-2).taken.own.at_height)
+pub Children::insert_in_place-returns-then-not-branch-2-clause-made :
+    goal.Children::insert_in_place-returns-then-not-branch-2-clause-made
+Children::insert_in_place-returns-then-not-branch-2-clause-made t c =
+    omega (arith, c.insert_in_place.ensures.made, (found t (goal.at.Children::insert_in_place-returns-then-not-branch-2-clause-made t c).After-index-self-way-2).taken.own.at_height)
 
 pub Children::insert_in_place-returns-clause-made :
     goal.Children::insert_in_place-returns-clause-made
@@ -176,15 +197,15 @@ Node::insert_in_place-returns-clause-change t c =
       | Node::insert_in_place-in-Empty w ↦ rw w.result-is (λ no. cc)
       | Node::insert_in_place-in-Leaf+in-Some w ↦
           let same = leaf_seen mine c.args.self.now w.in-Leaf.leaf w.in-Some.leaf.now w.in-Leaf.is view w.in-Some.ensures.value in
-          rw (w.result-is, w.self-inside-is, w.change-is) (λ yes. subst (λ x. IsChange w.insert_in_place.new.change.before w.insert_in_place.new.change.after (info_of x.breaks (text x)) (info_of x.breaks (text w.insert_in_place.new.self))) (sym same) (w.insert_in_place.ensures.change yes))
+          rw (w.result-is, w.self-inside-is, w.more-is) (λ yes. subst (λ x. IsChange no_counts w.insert_in_place.new.more (info_of x.breaks (text x)) (info_of x.breaks (text w.insert_in_place.new.self))) (sym same) (w.insert_in_place.ensures.change yes))
       | Node::insert_in_place-in-Leaf+in-None w ↦ rw w.result-is (λ no. cc)
       | Node::insert_in_place-in-Inner+in-Some-get_mut w ↦
           let did = w.insert_in_place-in-Some-get_mut in
           let ts = w.in-Some-get_mut.children.now in
           let us = did.new.self in
           let i = inner_seen mine c.args.self.now w.in-Inner.children ts is_node w.in-Inner.is view w.in-Some-get_mut.ensures.value in
-          let now = did.new.change in
-          rw (w.result-is, w.self-inside-is, w.change-is) (IfOk-weaker did.result (λ did. did ≡ true → IsChange now.before now.after (info_of (breaks_of ts) (joined ts)) (info_of (breaks_of ts) (joined us)))
-          (λ did. did ≡ true → IsChange now.before now.after (info_of c.args.self.now.breaks (text c.args.self.now)) (info_of c.args.self.now.breaks (text (tree_over us)))) (λ did g yes. rw i.is (g yes)) did.ensures.change)
+          let now = did.new.more in
+          rw (w.result-is, w.self-inside-is, w.more-is) (IfOk-weaker did.result (λ did. did ≡ true → IsChange no_counts now (info_of (breaks_of ts) (joined ts)) (info_of (breaks_of ts) (joined us)))
+          (λ did. did ≡ true → IsChange no_counts now (info_of c.args.self.now.breaks (text c.args.self.now)) (info_of c.args.self.now.breaks (text (tree_over us)))) (λ did g yes. rw i.is (g yes)) did.ensures.change)
       | Node::insert_in_place-in-Inner+in-None-get_mut w ↦ rw w.result-is (λ no. cc)
     ]

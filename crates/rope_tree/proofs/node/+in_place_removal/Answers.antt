@@ -11,9 +11,9 @@ use Rattle.rope_tree.specs.declared.search.Unit.TheVariants.{Char}
 use Rattle.rope_tree.specs.Tree.{Tree, text, joined, height_of, breaks_of, tree_over}
 use Rattle.rope_tree.specs.Listed.{listed}
 use Rattle.rope_tree.specs.Totals.{AreBelow}
-use Rattle.rope_tree.specs.Change.{IsChange}
+use Rattle.rope_tree.specs.Change.{IsChange, no_counts}
 use Rattle.rope_tree.specs.Removal.{IsRemoved, AreRemoved}
-use Rattle.rope_tree.proofs.ChangeLaws.{part_of_part, part_fits, whole_changed, change_by, change_own, change_of_list}
+use Rattle.rope_tree.proofs.ChangeLaws.{change_to, part_of_part, part_fits, whole_changed, change_by, change_own, change_of_list}
 use Rattle.rope_tree.proofs.NodeLaws.{small_totals}
 use Rattle.rope_tree.proofs.Descents.{Descends, descends}
 use Rattle.rope_tree.proofs.InsertDescents.{last_total}
@@ -91,12 +91,12 @@ Children::remove_in_place-retotal-requires-clause-part t c = λ j e from within.
     let d = down t (goal.at.Children::remove_in_place-retotal-requires-clause-part t c).After-index-self-place in
     let totals = totals_seen (listed c.self.inside) ts c.self.inside.totals c.self.inside.totals c.self.view_is refl c.self.invariant.totals_right in
     let inside : j < length ts = omega (arith, totals.as_many) in
-    let change = change_by (breaks_of ts) child u c.remove_in_place.new.change.before c.remove_in_place.new.change.after d.own.same_breaks (c.in_ok-remove_in_place.ensures.change c.if-not-branch.false) in
+    let change = change_by (breaks_of ts) child u c.remove_in_place.new.less c.new.result d.own.same_breaks (change_to c.new.result c.remove_in_place.new.less _ _ c.new.ensures (c.in_ok-remove_in_place.ensures.change c.if-not-branch.false)) in
     part_of_part _ _ _ _ change _ (rw (totals.total_at j e inside) (has_part (breaks_of ts) (height_of ts) ts ts c.try_place-child.result.place child child d.children d.within d.child_is j from inside))
 
 pub Children::remove_in_place-retotal-requires-clause-new :
     goal.Children::remove_in_place-retotal-requires-clause-new
-Children::remove_in_place-retotal-requires-clause-new t c = (c.in_ok-remove_in_place.ensures.change c.if-not-branch.false).small
+Children::remove_in_place-retotal-requires-clause-new t c = (change_to c.new.result c.remove_in_place.new.less _ _ c.new.ensures (c.in_ok-remove_in_place.ensures.change c.if-not-branch.false)).low
 
 -- the children where something was taken out
 left : (t : ℕ) (c : Children::remove_in_place-After-index-self-place t) (u : Tree)
@@ -122,9 +122,9 @@ Children::remove_in_place-retotal-requires-clause-fits t c = λ narrow j e from 
     let inside : j < length ts = omega (arith, totals.as_many, within) in
     let r = left t i u (c.in_ok-remove_in_place.ensures.done c.if-not-branch.false) in
     let last = last_total (breaks_of ts) c.self.inside.totals ts totals (omega (arith, c.requires.children.at_least_two)) e in
-    let few : byte_len (joined (set ts c.try_place-child.result.place u)) < 2 ^ 16 =
+    let few : byte_len (joined (set ts c.try_place-child.result.place u)) < 2 ^ 32 =
     omega (arith, (narrow (length c.self.inside.totals - 1) e (omega (arith, within))).bytes, ap (λ x. x.bytes) last, ap byte_len r.text_is, byte_len-removed (joined ts) c.args.start c.args.end (omega (arith, c.requires.ordered))) in
-    let change = change_by (breaks_of ts) child u c.remove_in_place.new.change.before c.remove_in_place.new.change.after d.own.same_breaks (c.in_ok-remove_in_place.ensures.change c.if-not-branch.false) in
+    let change = change_by (breaks_of ts) child u c.remove_in_place.new.less c.new.result d.own.same_breaks (change_to c.new.result c.remove_in_place.new.less _ _ c.new.ensures (c.in_ok-remove_in_place.ensures.change c.if-not-branch.false)) in
     part_fits _ _ _ _ change _ (rw (totals.total_at j e inside)
     (fits_after (breaks_of ts) (height_of ts) ts (set ts c.try_place-child.result.place u) c.try_place-child.result.place child u d.children d.within d.child_is r.children refl few j from inside))
 
@@ -137,7 +137,7 @@ Children::remove_in_place-invariant_of-self-2 t c =
     let done = c.in_ok-remove_in_place.ensures.done c.if-not-branch.false in
     let b = (left t i c.remove_in_place.new.self done).children in
     let seen = totals_seen (listed c.self.inside) ts c.self.inside.totals c.self.inside.totals c.self.view_is refl c.self.invariant.totals_right in
-    let change = change_own (get_or c.self.inside.nodes c.try_place-child.result.place c.index-self-place.result) c.remove_in_place.new.self c.remove_in_place.new.change.before c.remove_in_place.new.change.after done.same_breaks (c.in_ok-remove_in_place.ensures.change c.if-not-branch.false) in
+    let change = change_own (get_or c.self.inside.nodes c.try_place-child.result.place c.index-self-place.result) c.remove_in_place.new.self c.remove_in_place.new.less c.new.result done.same_breaks (change_to c.new.result c.remove_in_place.new.less _ _ c.new.ensures (c.in_ok-remove_in_place.ensures.change c.if-not-branch.false)) in
     let totals = set_totals _ _ _ _ _ _ _ _ _ d.children d.within d.child_is d.own.same_breaks b (done.same_breaks ∙ d.own.same_breaks) seen refl refl refl
     c.retotal.ensures.len c.retotal.ensures.before (λ j e from within. whole_changed _ _ _ _ change _ _ (c.retotal.ensures.after j e from within)) in
     set_listed c.self.inside _ ts c.try_place-child.result.place c.remove_in_place.new.self c.self.invariant c.self.view_is d.within b refl refl refl totals
@@ -151,7 +151,7 @@ Children::remove_in_place-returns-clause-done t c = λ yes.
     let done = c.in_ok-remove_in_place.ensures.done c.if-not-branch.false in
     let r = left t i c.remove_in_place.new.self done in
     let seen = totals_seen (listed c.self.inside) ts c.self.inside.totals c.self.inside.totals c.self.view_is refl c.self.invariant.totals_right in
-    let change = change_own (get_or c.self.inside.nodes c.try_place-child.result.place c.index-self-place.result) c.remove_in_place.new.self c.remove_in_place.new.change.before c.remove_in_place.new.change.after done.same_breaks (c.in_ok-remove_in_place.ensures.change c.if-not-branch.false) in
+    let change = change_own (get_or c.self.inside.nodes c.try_place-child.result.place c.index-self-place.result) c.remove_in_place.new.self c.remove_in_place.new.less c.new.result done.same_breaks (change_to c.new.result c.remove_in_place.new.less _ _ c.new.ensures (c.in_ok-remove_in_place.ensures.change c.if-not-branch.false)) in
     let totals = set_totals _ _ _ _ _ _ _ _ _ d.children d.within d.child_is d.own.same_breaks r.children (done.same_breaks ∙ d.own.same_breaks) seen refl refl refl
     c.retotal.ensures.len c.retotal.ensures.before (λ j e from within. whole_changed _ _ _ _ change _ _ (c.retotal.ensures.after j e from within)) in
     rw (set_seen c.self.inside (record { height = _; breaks = _; last = c.self.inside.last; totals = _; nodes = _ }) ts c.try_place-child.result.place c.remove_in_place.new.self c.self.invariant c.self.view_is d.within r.children refl refl refl totals) r
@@ -167,7 +167,7 @@ Children::remove_in_place-returns-clause-change t c = λ yes.
     let done = c.in_ok-remove_in_place.ensures.done c.if-not-branch.false in
     let r = left t i u done in
     let seen = totals_seen (listed c.self.inside) ts c.self.inside.totals c.self.inside.totals c.self.view_is refl c.self.invariant.totals_right in
-    let change = change_own child u c.remove_in_place.new.change.before c.remove_in_place.new.change.after done.same_breaks (c.in_ok-remove_in_place.ensures.change c.if-not-branch.false) in
+    let change = change_own child u c.remove_in_place.new.less c.new.result done.same_breaks (change_to c.new.result c.remove_in_place.new.less _ _ c.new.ensures (c.in_ok-remove_in_place.ensures.change c.if-not-branch.false)) in
     let totals = set_totals _ _ _ _ _ _ _ _ _ d.children d.within d.child_is d.own.same_breaks r.children (done.same_breaks ∙ d.own.same_breaks) seen refl refl refl
     c.retotal.ensures.len c.retotal.ensures.before (λ j e from within. whole_changed _ _ _ _ change _ _ (c.retotal.ensures.after j e from within)) in
     rw (set_seen c.self.inside (record { height = _; breaks = _; last = c.self.inside.last; totals = _; nodes = _ }) ts c.try_place-child.result.place u c.self.invariant c.self.view_is d.within r.children refl refl refl totals)
@@ -251,15 +251,15 @@ Node::remove_in_place-returns-clause-change t c =
       | Node::remove_in_place-in-Empty w ↦ rw w.result-is (λ no. cc)
       | Node::remove_in_place-in-Leaf+in-Some w ↦
           let same = leaf_seen mine c.args.self.now w.in-Leaf.leaf w.in-Some.leaf.now w.in-Leaf.is view w.in-Some.ensures.value in
-          rw (w.result-is, w.self-inside-is, w.change-is) (λ yes. subst (λ x. IsChange w.remove_in_place.new.change.before w.remove_in_place.new.change.after (info_of x.breaks (text x)) (info_of x.breaks (text w.remove_in_place.new.self))) (sym same) (w.remove_in_place.ensures.change yes))
+          rw (w.result-is, w.self-inside-is, w.less-is) (λ yes. subst (λ x. IsChange w.remove_in_place.new.less no_counts (info_of x.breaks (text x)) (info_of x.breaks (text w.remove_in_place.new.self))) (sym same) (w.remove_in_place.ensures.change yes))
       | Node::remove_in_place-in-Leaf+in-None w ↦ rw w.result-is (λ no. cc)
       | Node::remove_in_place-in-Inner+in-Some-get_mut w ↦
           let did = w.remove_in_place-in-Some-get_mut in
           let ts = w.in-Some-get_mut.children.now in
           let us = did.new.self in
           let i = inner_seen mine c.args.self.now w.in-Inner.children ts is_node w.in-Inner.is view w.in-Some-get_mut.ensures.value in
-          let now = did.new.change in
-          rw (w.result-is, w.self-inside-is, w.change-is) (IfOk-weaker did.result (λ did. did ≡ true → IsChange now.before now.after (info_of (breaks_of ts) (joined ts)) (info_of (breaks_of ts) (joined us)))
-          (λ did. did ≡ true → IsChange now.before now.after (info_of c.args.self.now.breaks (text c.args.self.now)) (info_of c.args.self.now.breaks (text (tree_over us)))) (λ did g yes. rw i.is (g yes)) did.ensures.change)
+          let now = did.new.less in
+          rw (w.result-is, w.self-inside-is, w.less-is) (IfOk-weaker did.result (λ did. did ≡ true → IsChange now no_counts (info_of (breaks_of ts) (joined ts)) (info_of (breaks_of ts) (joined us)))
+          (λ did. did ≡ true → IsChange now no_counts (info_of c.args.self.now.breaks (text c.args.self.now)) (info_of c.args.self.now.breaks (text (tree_over us)))) (λ did g yes. rw i.is (g yes)) did.ensures.change)
       | Node::remove_in_place-in-Inner+in-None-get_mut w ↦ rw w.result-is (λ no. cc)
     ]

@@ -1,7 +1,10 @@
-use Rattle.std.proofs.Common.{sym, ap, subst, ◌∙◌, arith}
+use Rattle.std.proofs.Common.{◌≡◌, sym, ap, subst, ◌∙◌, arith}
 use Rattle.rope_text.specs.TextInfo.{info_of}
+use Rattle.rope_text.specs.Edit.{inserted}
+use Rattle.rope_tree.specs.Search.{HasPart}
+use Rattle.rope_tree.proofs.CountLaws.{counts_grow}
 use Rattle.rope_tree.proofs.Infos.{IsLow, low_info, small_info}
-use Rattle.rope_tree.proofs.ChangeLaws.{whole_change}
+use Rattle.rope_tree.proofs.ChangeLaws.{grown_change}
 use Rattle.rope_tree.proofs.NodeLaws.{leaf_text}
 use Rattle.rope_tree.proofs.GrownLaws.{leaf_inserted}
 use Rattle.rope_tree.proofs.leaf.Leaf.insert_in_place.Goals.{After-as_str}
@@ -26,9 +29,30 @@ pub returns-clause-done : goal.returns-clause-done
 returns-clause-done c = λ yes.
     rw (← c.self.view_is, c.new-self-inside.ensures.breaks, ← c.line_breaks-breaks.ensures) (leaf_inserted c.line_breaks-breaks.result c.self.inside.text c.put_in-after.new.leaf c.as_str.ensures.fits c.as_str.ensures.scalars c.args.at c.args.added.now c.put_in-after.ensures.text c.requires.some)
 
+old_is : (c : After-as_str) → c.info-before.result ≡ info_of c.self.inside.summary.breaks c.self.inside.text
+old_is c = c.info-before.ensures ∙ c.self.invariant.counted
+
+new_is : (c : After-as_str) → c.put_in-after.result ≡ info_of c.self.inside.summary.breaks (inserted c.self.inside.text c.args.at c.args.added.now)
+new_is c = c.put_in-after.ensures.info ∙ ap (λ b. info_of b (inserted c.self.inside.text c.args.at c.args.added.now)) c.line_breaks-breaks.ensures
+
+has : (c : After-as_str) → HasPart c.put_in-after.result c.info-before.result
+has c = rw (old_is c, new_is c) (counts_grow c.self.inside.summary.breaks c.self.inside.text c.args.added.now c.args.at c.requires.some)
+
+pub minus-requires-clause-bytes : goal.minus-requires-clause-bytes
+minus-requires-clause-bytes c = (has (goal.at.minus-requires-clause-bytes c).After-as_str).bytes
+
+pub minus-requires-clause-chars : goal.minus-requires-clause-chars
+minus-requires-clause-chars c = (has (goal.at.minus-requires-clause-chars c).After-as_str).chars
+
+pub minus-requires-clause-utf16_surrogates : goal.minus-requires-clause-utf16_surrogates
+minus-requires-clause-utf16_surrogates c = (has (goal.at.minus-requires-clause-utf16_surrogates c).After-as_str).surrogates
+
+pub minus-requires-clause-break_count : goal.minus-requires-clause-break_count
+minus-requires-clause-break_count c = (has (goal.at.minus-requires-clause-break_count c).After-as_str).count
+
 pub returns-clause-change : goal.returns-clause-change
 returns-clause-change c = λ yes.
-    let old_is = c.info-before.ensures ∙ c.self.invariant.counted in
-    let new_is = c.put_in-after.ensures.info ∙ ap (info_of c.line_breaks-breaks.result) (sym c.put_in-after.ensures.text) ∙ ap (λ b. info_of b c.put_in-after.new.leaf) c.line_breaks-breaks.ensures in
+    let e = (goal.at.returns-clause-change c).After-as_str in
+    let new = new_is e ∙ ap (info_of c.self.inside.summary.breaks) (sym c.put_in-after.ensures.text) in
     let small = small_info c.self.inside.summary.breaks c.put_in-after.new.leaf (omega (arith, c.as_str.ensures.fits)) in
-    rw (← c.self.view_is, leaf_text c.self.inside.text, leaf_text c.put_in-after.new.leaf, ← old_is, ← new_is) (whole_change c.info-before.result c.put_in-after.result (rw new_is small))
+    rw (← c.self.view_is, leaf_text c.self.inside.text, leaf_text c.put_in-after.new.leaf, ← old_is e, ← new) (grown_change c.info-before.result c.put_in-after.result c.minus.result c.minus.ensures.sum (rw new small))

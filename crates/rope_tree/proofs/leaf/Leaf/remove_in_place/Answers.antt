@@ -1,8 +1,11 @@
-use Rattle.std.proofs.Common.{sym, ap, subst, ◌∙◌, arith}
+use Rattle.std.proofs.Common.{◌≡◌, sym, ap, subst, ◌∙◌, arith}
 use Rattle.rope_text.specs.TextInfo.{info_of}
+use Rattle.rope_text.specs.Edit.{removed}
+use Rattle.rope_tree.specs.Search.{HasPart}
+use Rattle.rope_tree.proofs.CountLaws.{counts_fall}
 use Rattle.rope_tree.proofs.Infos.{IsLow, low_info, small_info}
 use Rattle.rope_tree.proofs.NodeLaws.{leaf_text}
-use Rattle.rope_tree.proofs.ChangeLaws.{whole_change}
+use Rattle.rope_tree.proofs.ChangeLaws.{fallen_change}
 use Rattle.rope_tree.proofs.RemovalLaws.{leaf_left}
 use Rattle.rope_tree.proofs.leaf.Leaf.remove_in_place.Goals.{After-as_str}
 use Rattle.rope_tree.proofs.leaf.Leaf.remove_in_place.Goals as goal
@@ -27,9 +30,29 @@ returns-clause-done c = λ yes.
     rw (← c.self.view_is, c.new-self-inside.ensures.breaks, ← c.line_breaks-breaks.ensures) (leaf_left c.args.least.first c.args.least.last c.line_breaks-breaks.result c.self.inside.text c.take_out.new.leaf c.args.start c.args.end c.in-Some.ensures.text c.requires.ordered (rw (← c.self.view_is) at c.requires.within)
     c.in-Some.ensures.some c.in-Some.ensures.ends (rw c.max-least.ensures at c.in-Some.ensures.least) c.as_str.ensures.fits c.as_str.ensures.scalars)
 
+old_is : (c : After-as_str) → c.info-before.result ≡ info_of c.self.inside.summary.breaks c.self.inside.text
+old_is c = c.info-before.ensures ∙ c.self.invariant.counted
+
+new_is : (c : After-as_str) → c.in-Some.after ≡ info_of c.self.inside.summary.breaks (removed c.self.inside.text c.args.start c.args.end)
+new_is c = c.in-Some.ensures.info ∙ ap (λ b. info_of b (removed c.self.inside.text c.args.start c.args.end)) c.line_breaks-breaks.ensures
+
+has : (c : After-as_str) → HasPart c.info-before.result c.in-Some.after
+has c = rw (old_is c, new_is c) (counts_fall c.self.inside.summary.breaks c.self.inside.text c.args.start c.args.end c.requires.ordered (rw (← c.self.view_is, leaf_text c.self.inside.text) at c.requires.within))
+
+pub minus-requires-clause-bytes : goal.minus-requires-clause-bytes
+minus-requires-clause-bytes c = (has (goal.at.minus-requires-clause-bytes c).After-as_str).bytes
+
+pub minus-requires-clause-chars : goal.minus-requires-clause-chars
+minus-requires-clause-chars c = (has (goal.at.minus-requires-clause-chars c).After-as_str).chars
+
+pub minus-requires-clause-utf16_surrogates : goal.minus-requires-clause-utf16_surrogates
+minus-requires-clause-utf16_surrogates c = (has (goal.at.minus-requires-clause-utf16_surrogates c).After-as_str).surrogates
+
+pub minus-requires-clause-break_count : goal.minus-requires-clause-break_count
+minus-requires-clause-break_count c = (has (goal.at.minus-requires-clause-break_count c).After-as_str).count
+
 pub returns-clause-change : goal.returns-clause-change
 returns-clause-change c = λ yes.
-    let old_is = c.info-before.ensures ∙ c.self.invariant.counted in
-    let new_is = c.in-Some.ensures.info ∙ ap (info_of c.line_breaks-breaks.result) (sym c.in-Some.ensures.text) ∙ ap (λ b. info_of b c.take_out.new.leaf) c.line_breaks-breaks.ensures in
-    let small = small_info c.self.inside.summary.breaks c.take_out.new.leaf (omega (arith, c.as_str.ensures.fits)) in
-    rw (← c.self.view_is, leaf_text c.self.inside.text, leaf_text c.take_out.new.leaf, ← old_is, ← new_is) (whole_change c.info-before.result c.in-Some.after (rw new_is small))
+    let e = (goal.at.returns-clause-change c).After-as_str in
+    let new = new_is e ∙ ap (info_of c.self.inside.summary.breaks) (sym c.in-Some.ensures.text) in
+    rw (← c.self.view_is, leaf_text c.self.inside.text, leaf_text c.take_out.new.leaf, ← old_is e, ← new) (fallen_change c.info-before.result c.in-Some.after c.minus.result c.minus.ensures.sum)

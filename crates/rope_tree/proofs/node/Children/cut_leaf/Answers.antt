@@ -11,7 +11,7 @@ use Rattle.rope_tree.specs.Search.{IsSmall}
 use Rattle.rope_tree.specs.Tree.{Tree, text, joined, height_of, breaks_of, AreChildren}
 use Rattle.rope_tree.specs.Totals.{HasTotals}
 use Rattle.rope_tree.specs.Insert.{IsInserted, AreGrown}
-use Rattle.rope_tree.proofs.Infos.{small_info}
+use Rattle.rope_tree.proofs.Infos.{small_info, small_below}
 use Rattle.rope_tree.proofs.TreeLaws.{breaks_of_is}
 use Rattle.rope_tree.proofs.NodeLaws.{byte_len-joined, small_totals}
 use Rattle.rope_tree.proofs.Descents.{front_is}
@@ -170,7 +170,7 @@ retotal-requires-clause-part c =
 pub retotal-requires-clause-new : goal.retotal-requires-clause-new
 retotal-requires-clause-new c =
     let f = (goal.at.retotal-requires-clause-new c).After-info-front in
-    rw (both_are f c.info.result c.plus.result c.info.ensures c.plus.ensures.sum) (small_both _ _ _ _ _ _ (cut f))
+    small_below c.plus.result (rw (both_are f c.info.result c.plus.result c.info.ensures c.plus.ensures.sum) (small_both _ _ _ _ _ _ (cut f)))
 
 pub retotal-requires-clause-fits : goal.retotal-requires-clause-fits
 retotal-requires-clause-fits c = λ narrow j d from within.
@@ -180,7 +180,7 @@ retotal-requires-clause-fits c = λ narrow j d from within.
     let inside : j < length ts = omega (arith, t.as_many, within) in
     let last = last_total (breaks_of ts) c.self.inside.totals ts t (omega (arith, c.requires.children.at_least_two)) d in
     let room = rw c.len.ensures.value at (c.has_room_for.ensures c.if-not-has_room_for.false narrow d) in
-    let few : byte_len (joined (parts f)) < 2 ^ 16 = omega (arith, room, ap (λ x. x.bytes) last, ap byte_len (parted f).text_is, byte_len-inserted (joined ts) c.args.at c.args.added.now) in
+    let few : byte_len (joined (parts f)) < 2 ^ 32 = omega (arith, room, ap (λ x. x.bytes) last, ap byte_len (parted f).text_is, byte_len-inserted (joined ts) c.args.at c.args.added.now) in
     rw (t.total_at j d inside, old_is f, both_are f c.info.result c.plus.result c.info.ensures c.plus.ensures.sum) (cut_fits _ _ _ _ _ _ (cut f) few j from inside)
 
 pub insert-requires-clause-narrow : goal.insert-requires-clause-narrow
