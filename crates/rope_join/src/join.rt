@@ -1,15 +1,15 @@
 //! Two trees as one.
 ghost use Rattle.std.specs.Prelude.{◌≡◌, ◌+◌, ◌-◌, ◌*◌, ◌<◌, ◌≤◌, [], ◌∷◌, ◌++◌, true, false, length, max, IfOk};
 ghost use Rattle.rope_text.specs.declared.TheConstants.{MAX_BYTES, MAX_CHILDREN, MIN_PAIR_BYTES};
-ghost use Rattle.rope_tree.specs.Tree.{height_of, breaks_of, AreChildren};
+ghost use Rattle.rope_tree.specs.Tree.{height_of};
 ghost use Rattle.rope_tree.specs.View.{trees_in};
-ghost use Rattle.rope_tree.specs.Siblings.{AreSiblings};
+ghost use Rattle.rope_tree.specs.Siblings.{AreSiblings, gathered};
 ghost use Rattle.rope_tree.specs.Rows.{IsRow};
-ghost use Rattle.rope_join.specs.Join.{CanGather, CanJoin, CanMerge, EndsIn, BeginsIn, IsNear, IsUnion, IsJoin, gathered};
+ghost use Rattle.rope_join.specs.Join.{CanGather, CanJoin, CanMerge, EndsIn, BeginsIn, IsNear, IsUnion, IsJoin};
 
 use crate::near::can_merge;
 use rope_text::{MAX_BYTES, MAX_CHILDREN, MIN_BYTES, MIN_CHILDREN};
-use rope_tree::node::row::{Row, node_over, pack, pack_over};
+use rope_tree::node::row::{Row, pack, pack_over, root_of};
 use rope_tree::node::{Node, Nodes, View, make_leaf};
 use rope_tree::node_text::NodeText;
 use std::alloc::{AllocError, Global};
@@ -117,18 +117,6 @@ fn unite(alloc: Global, left: &Node, right: &Node, made: &mut u64) -> Result<Nod
     let (first, after) = first_of(right, left.height());
     let middle = unite(alloc, last, first, made)?;
     pack(alloc, before, middle, after, made)
-}
-
-/// One tree or two side by side as one: the only one, or a node over them.
-fn root_of(alloc: Global, nodes: Nodes, made: &mut u64) -> Result<Node, AllocError>
-    requires { let ts = trees_in nodes in length ts ≡ 2 → AreChildren (breaks_of ts) (height_of ts) ts }
-    ensures ok { IfOk result (λ node. node ≡ gathered (trees_in nodes)) }
-    ensures made { made.new ≤ made.old + 1 }
-{
-    match nodes {
-        Nodes::One(node) => Ok(node),
-        Nodes::Two(first, second) => node_over(alloc, &[first, second], made),
-    }
 }
 
 /// The text of the one tree and then that of the other as one tree, at most one level higher than the higher of them. No

@@ -6,15 +6,14 @@ ghost use Rattle.rope_text.specs.Text.{byte_len};
 ghost use Rattle.rope_text.specs.Breaks.{begins_with_lf};
 ghost use Rattle.rope_text.specs.Edit.{inserted};
 ghost use Rattle.rope_tree.specs.Tree.{text, IsTree};
-ghost use Rattle.rope_tree.specs.View.{trees_in};
-ghost use Rattle.rope_tree.specs.Insert.{MayInsert, IsInserted};
+ghost use Rattle.rope_tree.specs.Insert.{TakesShort, MayInsert};
 
 use crate::change::Change;
 use crate::counts::ends_in_cr;
 use crate::insert::insert;
 use crate::lookup::char_at;
-use crate::node::row::node_over;
-use crate::node::{Node, Nodes};
+use crate::node::Node;
+use crate::node::row::root_of;
 use crate::short_text::ShortText;
 use rope_text::Steps;
 use std::alloc::{AllocError, Global};
@@ -45,10 +44,7 @@ fn insert_in_place(
     added: &ShortText<'_>,
     made: &mut u64,
 ) -> Result<bool, AllocError>
-    requires within { at ≤ length (text root.old) }
-    requires some { 1 ≤ length added.now }
-    requires short { byte_len added.now ≤ MAX_SHORT_BYTES }
-    requires fits { byte_len (text root.old) + byte_len added.now < 2 ^ 63 }
+    requires { TakesShort root.old at added.now }
     ensures text { IfOk result (λ did. did ≡ true → text root.new ≡ inserted (text root.old) at added.now) }
     ensures breaks { root.new.breaks ≡ root.old.breaks }
     ensures tree { IfOk result (λ did. did ≡ true → IsTree root.new) }
@@ -60,31 +56,6 @@ fn insert_in_place(
     root.insert_in_place(alloc, at, added, to_right, true, &mut Change::none(), made)
 }
 
-/// One tree over the nodes that an insert into `old` made.
-fn root_of(
-    alloc: Global,
-    old: &Node,
-    nodes: Nodes,
-    added: &ShortText<'_>,
-    at: usize,
-    made: &mut u64,
-) -> Result<Node, AllocError>
-    requires inserted { IsInserted old.now (trees_in nodes) (inserted (text old.now) at added.now) }
-    requires fits { byte_len (text old.now) + byte_len added.now < 2 ^ 63 }
-    ensures text { IfOk result (λ node. text node ≡ inserted (text old.now) at added.now) }
-    ensures breaks { IfOk result (λ node. node.breaks ≡ old.now.breaks) }
-    ensures made { made.new ≤ made.old + 1 }
-    ensures rises { made.old ≤ made.new }
-{
-    match nodes {
-        Nodes::One(node) => Ok(node),
-        Nodes::Two(first, second) => {
-            let node = node_over(alloc, &[first, second], made)?;
-            Ok(node)
-        }
-    }
-}
-
 /// The tree with a text of at most 981 bytes before its character `at`. The old tree stays as it is.
 pub fn insert_short(
     alloc: Global,
@@ -93,10 +64,7 @@ pub fn insert_short(
     added: &ShortText<'_>,
     made: &mut u64,
 ) -> Result<Node, AllocError>
-    requires within { at ≤ length (text node.now) }
-    requires some { 1 ≤ length added.now }
-    requires short { byte_len added.now ≤ MAX_SHORT_BYTES }
-    requires fits { byte_len (text node.now) + byte_len added.now < 2 ^ 63 }
+    requires { TakesShort node.now at added.now }
     ensures text { IfOk result (λ new. text new ≡ inserted (text node.now) at added.now) }
     ensures breaks { IfOk result (λ new. new.breaks ≡ node.now.breaks) }
     ensures made { made.new ≤ made.old + 2 * node.now.height + 3 }
@@ -104,7 +72,7 @@ pub fn insert_short(
 {
     let to_right = goes_right(node, at, added);
     let nodes = insert(alloc, node, at, added, to_right, made)?;
-    Ok(root_of(alloc, node, nodes, added, at, made)?)
+    root_of(alloc, nodes, made)
 }
 
 /// Puts a text of 1 to 981 bytes before the character `at`: where the nodes stand, if the leaf has room, or is cut into two below

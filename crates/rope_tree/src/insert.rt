@@ -9,7 +9,7 @@ ghost use Rattle.rope_tree.specs.Search.{count_of};
 ghost use Rattle.rope_tree.specs.Tree.{text, leaf_tree, IsTree};
 ghost use Rattle.rope_tree.specs.Totals.{HasTotals};
 ghost use Rattle.rope_tree.specs.View.{trees_in};
-ghost use Rattle.rope_tree.specs.Insert.{MayInsert, IsInserted};
+ghost use Rattle.rope_tree.specs.Insert.{TakesShort, MayInsert, IsInserted};
 
 use crate::counts::leaf_with;
 use crate::lookup::total_before;
@@ -81,10 +81,7 @@ pub fn insert(
     to_right: bool,
     made: &mut u64,
 ) -> Result<Nodes, AllocError>
-    requires within { at ≤ length (text node.now) }
-    requires some { 1 ≤ length added.now }
-    requires short { byte_len added.now ≤ MAX_SHORT_BYTES }
-    requires fits { byte_len (text node.now) + byte_len added.now < 2 ^ 63 }
+    requires takes { TakesShort node.now at added.now }
     requires side { MayInsert node.now at added.now to_right }
     ensures ok { IfOk result (λ nodes. IsInserted node.now (trees_in nodes) (inserted (text node.now) at added.now)) }
     ensures made { made.new ≤ made.old + 2 * node.now.height + 2 }

@@ -1,12 +1,10 @@
 //! Inserts of short texts where the nodes stand: one way down, on which a node that is shared is copied.
-ghost use Rattle.std.specs.Prelude.{◌≡◌, ◌+◌, ◌<◌, ◌≤◌, ◌^◌, [], ◌∷◌, true, false, length, take, slice_index_or, IfOk, OnErr};
-ghost use Rattle.rope_text.specs.declared.TheConstants.{MAX_SHORT_BYTES};
-ghost use Rattle.rope_text.specs.Text.{byte_len};
+ghost use Rattle.std.specs.Prelude.{◌≡◌, ◌+◌, ◌<◌, ◌≤◌, [], ◌∷◌, true, false, length, take, slice_index_or, IfOk, OnErr};
 ghost use Rattle.rope_text.specs.Edit.{inserted};
 ghost use Rattle.rope_tree.specs.Tree.{Tree, text, joined, breaks_of, height_of, tree_over, AreChildren};
 ghost use Rattle.rope_text.specs.TextInfo.{info_of};
 ghost use Rattle.rope_tree.specs.Change.{IsChange};
-ghost use Rattle.rope_tree.specs.Insert.{MayInsert, GoesIn, IsInserted, AreGrown};
+ghost use Rattle.rope_tree.specs.Insert.{TakesShort, MayInsert, GoesIn, IsInserted, AreGrown};
 
 use super::own::own;
 use super::{Children, Form, Node};
@@ -89,10 +87,7 @@ impl Children {
         made: &mut u64,
     ) -> Result<bool, AllocError>
         requires children { AreChildren (breaks_of self.old) (height_of self.old) self.old }
-        requires within { at ≤ length (joined self.old) }
-        requires some { 1 ≤ length added.now }
-        requires short { byte_len added.now ≤ MAX_SHORT_BYTES }
-        requires fits { byte_len (joined self.old) + byte_len added.now < 2 ^ 63 }
+        requires takes { TakesShort (tree_over self.old) at added.now }
         requires side { MayInsert (tree_over self.old) at added.now to_right }
         ensures done { IfOk result (λ did. did ≡ true → AreGrown self.old self.new (inserted (joined self.old) at added.now)) }
         ensures change { IfOk result (λ did. did ≡ true → IsChange change.new.before change.new.after (info_of (breaks_of self.old) (joined self.old)) (info_of (breaks_of self.old) (joined self.new))) }
@@ -172,10 +167,7 @@ impl Node {
         change: &mut Change,
         made: &mut u64,
     ) -> Result<bool, AllocError>
-        requires within { at ≤ length (text self.old) }
-        requires some { 1 ≤ length added.now }
-        requires short { byte_len added.now ≤ MAX_SHORT_BYTES }
-        requires fits { byte_len (text self.old) + byte_len added.now < 2 ^ 63 }
+        requires takes { TakesShort self.old at added.now }
         requires side { MayInsert self.old at added.now to_right }
         ensures done { IfOk result (λ did. did ≡ true → IsInserted self.old (self.new ∷ []) (inserted (text self.old) at added.now)) }
         ensures change { IfOk result (λ did. did ≡ true → IsChange change.new.before change.new.after (info_of self.old.breaks (text self.old)) (info_of self.old.breaks (text self.new))) }

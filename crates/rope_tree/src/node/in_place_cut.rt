@@ -1,11 +1,11 @@
 //! Inserts of short texts where the nodes stand, into a leaf that has no room: it is cut into two, of which the first stays.
-ghost use Rattle.std.specs.Prelude.{◌≡◌, ◌+◌, ◌<◌, ◌≤◌, ◌^◌, ◌-◌, [], ◌∷◌, true, false, length, take, IfOk, OnOk, OnErr, IfSome, IfNone};
+ghost use Rattle.std.specs.Prelude.{◌≡◌, ◌+◌, ◌<◌, ◌≤◌, ◌-◌, [], ◌∷◌, true, false, length, take, IfOk, OnOk, OnErr, IfSome, IfNone};
 ghost use Rattle.std.specs.List.{insert};
 ghost use Rattle.rope_text.specs.declared.TheConstants.{MAX_SHORT_BYTES};
 ghost use Rattle.rope_text.specs.Text.{byte_len};
 ghost use Rattle.rope_text.specs.Edit.{inserted};
 ghost use Rattle.rope_tree.specs.Tree.{text, joined, breaks_of, height_of, tree_over, AreChildren};
-ghost use Rattle.rope_tree.specs.Insert.{MayInsert, IsInserted, AreGrown};
+ghost use Rattle.rope_tree.specs.Insert.{TakesShort, MayInsert, IsInserted, AreGrown};
 
 use super::own::own;
 use super::{Children, Form, Node};
@@ -28,10 +28,7 @@ impl Children {
         made: &mut u64,
     ) -> Result<bool, AllocError>
         requires children { AreChildren (breaks_of self.old) (height_of self.old) self.old }
-        requires within { at ≤ length (joined self.old) }
-        requires some { 1 ≤ length added.now }
-        requires short { byte_len added.now ≤ MAX_SHORT_BYTES }
-        requires fits { byte_len (joined self.old) + byte_len added.now < 2 ^ 63 }
+        requires takes { TakesShort (tree_over self.old) at added.now }
         requires side { MayInsert (tree_over self.old) at added.now to_right }
         ensures done { IfOk result (λ did. did ≡ true → AreGrown self.old self.new (inserted (joined self.old) at added.now)) }
         ensures kept { IfOk result (λ did. did ≡ false → self.new ≡ self.old) }

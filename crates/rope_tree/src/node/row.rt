@@ -4,7 +4,7 @@ ghost use Rattle.rope_text.specs.declared.TheConstants.{MAX_CHILDREN};
 ghost use Rattle.rope_tree.specs.Tree.{height_of, breaks_of, leaves_of, tree_over, AreChildren};
 ghost use Rattle.rope_tree.specs.Totals.{HasTotals, IsTotalOf};
 ghost use Rattle.rope_tree.specs.View.{trees_in};
-ghost use Rattle.rope_tree.specs.Siblings.{AreSiblings, AreParts};
+ghost use Rattle.rope_tree.specs.Siblings.{AreSiblings, AreParts, gathered};
 ghost use Rattle.rope_tree.specs.Rows.{IsPart, IsRow};
 ghost use Rattle.rope_tree.specs.NewList.{new_list, nodes_in, IsNewList};
 
@@ -392,5 +392,18 @@ pub fn pack(
     match middle {
         Nodes::One(node) => Ok(pack_over(alloc, before, &[node], after, made)?),
         Nodes::Two(first, second) => Ok(pack_over(alloc, before, &[first, second], after, made)?),
+    }
+}
+
+/// One tree or two side by side as one: the only one, or a node over them.
+pub fn root_of(alloc: Global, nodes: Nodes, made: &mut u64) -> Result<Node, AllocError>
+    requires { let ts = trees_in nodes in length ts ≡ 2 → AreChildren (breaks_of ts) (height_of ts) ts }
+    ensures ok { IfOk result (λ node. node ≡ gathered (trees_in nodes)) }
+    ensures made { made.new ≤ made.old + 1 }
+    ensures rises { made.old ≤ made.new }
+{
+    match nodes {
+        Nodes::One(node) => Ok(node),
+        Nodes::Two(first, second) => node_over(alloc, &[first, second], made),
     }
 }

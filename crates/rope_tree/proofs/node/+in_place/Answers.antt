@@ -9,7 +9,7 @@ use Rattle.rope_tree.specs.Falls.{tallest_below}
 use Rattle.rope_tree.specs.Tree.{text, joined, breaks_of, height_of, tree_over}
 use Rattle.rope_text.specs.TextInfo.{info_of}
 use Rattle.rope_tree.specs.Change.{IsChange}
-use Rattle.rope_tree.specs.Insert.{MayInsert, IsInserted, AreGrown}
+use Rattle.rope_tree.specs.Insert.{TakesShort, MayInsert, IsInserted, AreGrown}
 use Rattle.rope_tree.proofs.NodeLaws.{small_totals}
 use Rattle.rope_tree.proofs.InsertDescents.{takes}
 use Rattle.rope_tree.proofs.GrownLaws.{tallest_above}
@@ -35,9 +35,9 @@ pub Children::insert_in_place-insert_in_place-requires :
 Children::insert_in_place-insert_in_place-requires t c =
     let f = found t (goal.at.Children::insert_in_place-insert_in_place-requires t c).After-index-self-way-2 in
     let low = rw f.taken.child_is at (tallest_above c.args.self.now c.way_in-way.result.place (get_or c.self.inside.nodes c.way_in-way.result.place c.index-self-way-2.result) f.taken.within) in
-    let fits = child_fits _ _ _ _ _ _ _ f c.args.added.now c.requires.some c.requires.side c.requires.fits in
-    let side = may _ _ _ _ _ _ _ f c.args.added.now c.requires.some c.requires.side c.requires.fits in
-    (omega (arith, c.decreases, low), (f.taken.goes.within, (c.requires.some, (c.requires.short, (fits, side)))))
+    let fits = child_fits _ _ _ _ _ _ _ f c.args.added.now c.requires.takes.some c.requires.side c.requires.takes.fits in
+    let side = may _ _ _ _ _ _ _ f c.args.added.now c.requires.takes.some c.requires.side c.requires.takes.fits in
+    (omega (arith, c.decreases, low), (record { within = f.taken.goes.within; some = c.requires.takes.some; short = c.requires.takes.short; fits = fits }, side))
 
 pub Children::insert_in_place-retotal-requires-clause-small :
     goal.Children::insert_in_place-retotal-requires-clause-small
@@ -48,7 +48,7 @@ Children::insert_in_place-retotal-requires-clause-small t c =
 pub Children::insert_in_place-retotal-requires-clause-part :
     goal.Children::insert_in_place-retotal-requires-clause-part
 Children::insert_in_place-retotal-requires-clause-part t c =
-    change_part _ _ _ _ _ _ _ (found t (goal.at.Children::insert_in_place-retotal-requires-clause-part t c).After-index-self-way-2) c.args.added.now c.requires.some c.requires.side c.requires.fits
+    change_part _ _ _ _ _ _ _ (found t (goal.at.Children::insert_in_place-retotal-requires-clause-part t c).After-index-self-way-2) c.args.added.now c.requires.takes.some c.requires.side c.requires.takes.fits
     c.insert_in_place.new.self (c.in_ok-insert_in_place.ensures.done c.if-not-branch.false) c.insert_in_place.new.change.before c.insert_in_place.new.change.after (c.in_ok-insert_in_place.ensures.change c.if-not-branch.false) c.self.inside.totals refl
 
 pub Children::insert_in_place-retotal-requires-clause-new :
@@ -58,28 +58,28 @@ Children::insert_in_place-retotal-requires-clause-new t c = (c.in_ok-insert_in_p
 pub Children::insert_in_place-retotal-requires-clause-fits :
     goal.Children::insert_in_place-retotal-requires-clause-fits
 Children::insert_in_place-retotal-requires-clause-fits t c =
-    change_narrow _ _ _ _ _ _ _ (found t (goal.at.Children::insert_in_place-retotal-requires-clause-fits t c).After-index-self-way-2) c.args.added.now c.requires.some c.requires.side c.requires.fits
+    change_narrow _ _ _ _ _ _ _ (found t (goal.at.Children::insert_in_place-retotal-requires-clause-fits t c).After-index-self-way-2) c.args.added.now c.requires.takes.some c.requires.side c.requires.takes.fits
     c.insert_in_place.new.self (c.in_ok-insert_in_place.ensures.done c.if-not-branch.false) c.insert_in_place.new.change.before c.insert_in_place.new.change.after (c.in_ok-insert_in_place.ensures.change c.if-not-branch.false) c.self.inside.totals refl
     (rw c.len.ensures.value at c.has_room_for.ensures c.if-not-has_room_for.false)
 
 pub Children::insert_in_place-invariant_of-self-2 :
     goal.Children::insert_in_place-invariant_of-self-2
 Children::insert_in_place-invariant_of-self-2 t c =
-    fields_changed _ _ _ _ _ _ _ (found t (goal.at.Children::insert_in_place-invariant_of-self-2 t c).After-index-self-way-2) c.args.added.now c.requires.some c.requires.side c.requires.fits
+    fields_changed _ _ _ _ _ _ _ (found t (goal.at.Children::insert_in_place-invariant_of-self-2 t c).After-index-self-way-2) c.args.added.now c.requires.takes.some c.requires.side c.requires.takes.fits
     c.insert_in_place.new.self (c.in_ok-insert_in_place.ensures.done c.if-not-branch.false) c.insert_in_place.new.change.before c.insert_in_place.new.change.after (c.in_ok-insert_in_place.ensures.change c.if-not-branch.false) _ refl refl refl
     c.self.inside.totals c.retotal.new.self refl c.retotal.ensures.len c.retotal.ensures.before c.retotal.ensures.after refl
 
 pub Children::insert_in_place-returns-clause-done :
     goal.Children::insert_in_place-returns-clause-done
 Children::insert_in_place-returns-clause-done t c = λ yes.
-    all_changed _ _ _ _ _ _ _ (found t (goal.at.Children::insert_in_place-returns-clause-done t c).After-index-self-way-2) c.args.added.now c.requires.some c.requires.side c.requires.fits
+    all_changed _ _ _ _ _ _ _ (found t (goal.at.Children::insert_in_place-returns-clause-done t c).After-index-self-way-2) c.args.added.now c.requires.takes.some c.requires.side c.requires.takes.fits
     c.insert_in_place.new.self (c.in_ok-insert_in_place.ensures.done c.if-not-branch.false) c.insert_in_place.new.change.before c.insert_in_place.new.change.after (c.in_ok-insert_in_place.ensures.change c.if-not-branch.false) (record { height = _; breaks = _; last = c.self.inside.last; totals = _; nodes = _ }) refl refl refl
     c.self.inside.totals c.retotal.new.self refl c.retotal.ensures.len c.retotal.ensures.before c.retotal.ensures.after refl
 
 pub Children::insert_in_place-returns-clause-change :
     goal.Children::insert_in_place-returns-clause-change
 Children::insert_in_place-returns-clause-change t c = λ yes.
-    list_changed _ _ _ _ _ _ _ (found t (goal.at.Children::insert_in_place-returns-clause-change t c).After-index-self-way-2) c.args.added.now c.requires.some c.requires.side c.requires.fits
+    list_changed _ _ _ _ _ _ _ (found t (goal.at.Children::insert_in_place-returns-clause-change t c).After-index-self-way-2) c.args.added.now c.requires.takes.some c.requires.side c.requires.takes.fits
     c.insert_in_place.new.self (c.in_ok-insert_in_place.ensures.done c.if-not-branch.false) c.insert_in_place.new.change.before c.insert_in_place.new.change.after (c.in_ok-insert_in_place.ensures.change c.if-not-branch.false) (record { height = _; breaks = _; last = c.self.inside.last; totals = _; nodes = _ }) refl refl refl
     c.self.inside.totals c.retotal.new.self refl c.retotal.ensures.len c.retotal.ensures.before c.retotal.ensures.after refl
 
@@ -114,13 +114,13 @@ Node::insert_in_place-insert_in_place-requires-in-Some-get_mut t c =
     let is_node : IsNode (own_form c.own.new.form) = record { form = c.in_ok-own.ensures.kept c.self.invariant.form } in
     let i = inner_seen (own_form c.own.new.form) c.args.self.now c.in-Inner.children ts is_node c.in-Inner.is (c.in_ok-own.ensures.same ∙ c.self.view_is) c.in-Some-get_mut.ensures.value in
     let low = tallest_below (breaks_of ts) (height_of ts) ts i.children.each in
-    let text_is = ap text i.is in (
+    (
       omega (arith, c.decreases, low, ap (λ x. x.height) i.is),
       (
         i.children,
         (
-          omega (arith, c.requires.within, ap length text_is),
-          (c.requires.some, (c.requires.short, (omega (arith, c.requires.fits, ap byte_len text_is), subst (λ x. MayInsert x c.args.at c.args.added.now c.args.to_right) i.is c.requires.side))),
+          subst (λ x. TakesShort x c.args.at c.args.added.now) i.is c.requires.takes,
+          subst (λ x. MayInsert x c.args.at c.args.added.now c.args.to_right) i.is c.requires.side,
         ),
       ),
     )

@@ -51,8 +51,8 @@ parted c =
     let new = inserted (text (child c)) c.way_in-way.result.at c.args.added.now in
     let done = subst (λ o. IfSome o (λ back. IsInserted (child c) (u ∷ back ∷ []) new)) c.in-Some.is c.in_ok-back.ensures.cut in
     let few : length ts < 24 = omega (arith, c.if-count-ge-MAX_CHILDREN.false, c.len-count.ensures, c.self.invariant.totals_right.as_many, ap length c.self.view_is) in
-    grown_by_one (breaks_of ts) (height_of ts) ts k (child c) u c.in-Some.back d.children d.within d.child_is c.args.at c.way_in-way.result.at c.args.added.now c.requires.some
-    d.place g.within c.args.to_right g.inside g.outside c.requires.side done c.requires.fits refl refl few
+    grown_by_one (breaks_of ts) (height_of ts) ts k (child c) u c.in-Some.back d.children d.within d.child_is c.args.at c.way_in-way.result.at c.args.added.now c.requires.takes.some
+    d.place g.within c.args.to_right g.inside g.outside c.requires.side done c.requires.takes.fits refl refl few
 
 children : (c : After-info-front) → AreChildren (breaks_of c.args.self.now) (height_of c.args.self.now) (parts c)
 children c = children_grown c.args.self.now (parts c) _ c.requires.children (parted c)

@@ -2,7 +2,7 @@
 use Rattle.std.proofs.Common.{◌≡◌, ◌+◌, ◌≤◌, List, [], ◌∷◌, length, refl, sym, arith}
 use Rattle.std.proofs.lemmas.List.{append-nil}
 use Rattle.rope_tree.specs.Tree.{Tree, leaves_of, height_of, breaks_of, tree_over}
-use Rattle.rope_join.specs.Join.{gathered}
+use Rattle.rope_tree.specs.Siblings.{gathered}
 
 -- what holds of the one
 pub record IsGathered (ts : List Tree) (t : Tree) : Type 0 where
