@@ -12,11 +12,11 @@ use crate::change::Change;
 use crate::counts::ends_in_cr;
 use crate::insert::insert;
 use crate::lookup::char_at;
+use crate::maker::{Made, Maker};
 use crate::node::Node;
 use crate::node::row::root_of;
 use crate::short_text::ShortText;
 use rope_text::Steps;
-use std::alloc::{AllocError, Global};
 
 /// Whether an LF stands at a place.
 pub fn is_lf(node: &Node, at: usize) -> bool
@@ -38,53 +38,40 @@ fn goes_right(node: &Node, at: usize, added: &ShortText<'_>) -> bool
 
 /// Puts a text of at most 981 bytes before the character `at` where the nodes stand; returns whether it did.
 fn insert_in_place(
-    alloc: Global,
+    maker: &mut Maker,
     root: &mut Node,
     at: usize,
     added: &ShortText<'_>,
-    made: &mut u64,
-) -> Result<bool, AllocError>
+) -> Made<bool>
     requires { TakesShort root.old at added.now }
     ensures text { IfOk result (λ did. did ≡ true → text root.new ≡ inserted (text root.old) at added.now) }
     ensures breaks { root.new.breaks ≡ root.old.breaks }
     ensures tree { IfOk result (λ did. did ≡ true → IsTree root.new) }
     ensures kept { IfOk result (λ did. did ≡ false → root.new ≡ root.old) }
     ensures err { OnErr result (root.new ≡ root.old) }
-    ensures made { made.new ≤ made.old + root.old.height + 2 }
+    ensures made { maker.new.made ≤ maker.old.made + root.old.height + 2 }
 {
     let to_right = goes_right(root, at, added);
-    root.insert_in_place(alloc, at, added, to_right, true, &mut Change::none(), made)
+    root.insert_in_place(maker, at, added, to_right, true, &mut Change::none())
 }
 
 /// The tree with a text of at most 981 bytes before its character `at`. The old tree stays as it is.
-pub fn insert_short(
-    alloc: Global,
-    node: &Node,
-    at: usize,
-    added: &ShortText<'_>,
-    made: &mut u64,
-) -> Result<Node, AllocError>
+pub fn insert_short(maker: &mut Maker, node: &Node, at: usize, added: &ShortText<'_>) -> Made<Node>
     requires { TakesShort node.now at added.now }
     ensures text { IfOk result (λ new. text new ≡ inserted (text node.now) at added.now) }
     ensures breaks { IfOk result (λ new. new.breaks ≡ node.now.breaks) }
-    ensures made { made.new ≤ made.old + 2 * node.now.height + 3 }
-    ensures some_made { made.old < 18446744073709551615 → made.old < made.new }
+    ensures made { maker.new.made ≤ maker.old.made + 2 * node.now.height + 3 }
+    ensures some_made { maker.old.made < 18446744073709551615 → maker.old.made < maker.new.made }
 {
     let to_right = goes_right(node, at, added);
-    let nodes = insert(alloc, node, at, added, to_right, made)?;
-    root_of(alloc, nodes, made)
+    let nodes = insert(maker, node, at, added, to_right)?;
+    root_of(maker, nodes)
 }
 
 /// Puts a text of 1 to 981 bytes before the character `at`: where the nodes stand, if the leaf has room, or is cut into two below
 /// a node that has room for one more, which takes memory for copies of shared nodes and for the second part alone; and else in a
 /// tree that takes the old one's place last of all.
-pub fn insert_at(
-    alloc: Global,
-    root: &mut Node,
-    at: usize,
-    added: &str,
-    made: &mut u64,
-) -> Result<(), AllocError>
+pub fn insert_at(maker: &mut Maker, root: &mut Node, at: usize, added: &str) -> Made<()>
     requires within { at ≤ length (text root.old) }
     requires some { 1 ≤ length added.now }
     requires short { length added.now ≤ MAX_SHORT_BYTES }
@@ -93,14 +80,14 @@ pub fn insert_at(
     ensures breaks { root.new.breaks ≡ root.old.breaks }
     ensures tree { IsTree root.new }
     ensures err { OnErr result (root.new ≡ root.old) }
-    ensures made { made.new ≤ made.old + 3 * root.old.height + 5 }
+    ensures made { maker.new.made ≤ maker.old.made + 3 * root.old.height + 5 }
 {
     let _ = root.height();
     let added = ShortText::new(added);
-    if insert_in_place(alloc, root, at, &added, made)? {
+    if insert_in_place(maker, root, at, &added)? {
         return Ok(());
     }
-    let new = insert_short(alloc, root, at, &added, made)?;
+    let new = insert_short(maker, root, at, &added)?;
     let _ = new.height();
     *root = new;
     Ok(())

@@ -14,6 +14,7 @@ ghost use Rattle.rope_tree.specs.Removal.{IsRemoved};
 use crate::beside::Least;
 use crate::change::Change;
 use crate::counts::{leaf_with, put_in, take_out};
+use crate::maker::{Made, Maker};
 use crate::node::{Node, make_leaf};
 use crate::node_text::{NodeText, halves_of};
 use crate::short_text::ShortText;
@@ -69,7 +70,7 @@ impl Leaf {
         breaks: LineBreaks,
         text: &str,
         info: TextInfo,
-    ) -> Result<Rc<Leaf>, AllocError>
+    ) -> Made<Rc<Leaf>>
         requires fits { length text.now ≤ MAX_BYTES }
         requires info { info ≡ info_of breaks (chars text.now) }
         ensures { IfOk result (λ leaf. leaf.value ≡ leaf_tree breaks (chars text.now)) }
@@ -87,7 +88,7 @@ impl Leaf {
     }
 
     /// The same leaf once more, with a copy of its text.
-    pub(crate) fn copied(&self, alloc: Global) -> Result<Rc<Leaf>, AllocError>
+    pub(crate) fn copied(&self, alloc: Global) -> Made<Rc<Leaf>>
         ensures { IfOk result (λ leaf. leaf.value ≡ self.now) }
     {
         let info = self.info();
@@ -160,18 +161,17 @@ impl Leaf {
     /// with the second. None, and nothing changed, where there is room. Where memory is refused, nothing is changed.
     pub(crate) fn cut(
         &mut self,
-        alloc: Global,
+        maker: &mut Maker,
         at: usize,
         added: &ShortText<'_>,
-        made: &mut u64,
-    ) -> Result<Option<Node>, AllocError>
+    ) -> Made<Option<Node>>
         requires some { 1 ≤ length added.now }
         requires short { byte_len added.now ≤ MAX_SHORT_BYTES }
         ensures cut { IfOk result (λ found. IfSome found (λ back. IsInserted self.old (self.new ∷ back ∷ []) (inserted (text self.old) at added.now))) }
         ensures kept { IfOk result (λ found. IfNone found (self.new ≡ self.old)) }
         ensures err { OnErr result (self.new ≡ self.old) }
-        ensures unmade { IfOk result (λ found. IfNone found (made.new ≡ made.old)) }
-        ensures made { made.new ≤ made.old + 1 }
+        ensures unmade { IfOk result (λ found. IfNone found (maker.new.made ≡ maker.old.made)) }
+        ensures made { maker.new.made ≤ maker.old.made + 1 }
     {
         let old = self.text();
         if old.len() + added.len() <= MAX_BYTES {
@@ -182,7 +182,7 @@ impl Leaf {
         let halves = halves_of(grown.as_str());
         let front_info = TextInfo::from_str(halves.front, breaks);
         let back_info = info.minus(front_info);
-        let behind = make_leaf(alloc, breaks, halves.back, back_info, made)?;
+        let behind = make_leaf(maker, breaks, halves.back, back_info)?;
         self.fill(breaks, halves.front, front_info);
         Ok(Some(behind))
     }

@@ -6,21 +6,15 @@ ghost use Rattle.rope_tree.specs.Tree.{text, IsTree};
 
 use crate::beside::Least;
 use crate::change::Change;
+use crate::maker::{Made, Maker};
 use crate::node::Node;
-use std::alloc::{AllocError, Global};
 
 /// At the ends of a tree nothing stands beside a leaf, and it may be as short as it will.
 const ANY: Least = Least { first: 0, last: 0 };
 
 /// Takes the characters from `start` up to `end` out where they lie in one leaf that may do without them; returns whether it did.
 /// Nodes on the way that are shared are copied; where none is, that takes no memory.
-pub fn remove_at(
-    alloc: Global,
-    root: &mut Node,
-    start: usize,
-    end: usize,
-    made: &mut u64,
-) -> Result<bool, AllocError>
+pub fn remove_at(maker: &mut Maker, root: &mut Node, start: usize, end: usize) -> Made<bool>
     requires ordered { start < end }
     requires within { end ≤ length (text root.old) }
     ensures done { IfOk result (λ did. did ≡ true → text root.new ≡ removed (text root.old) start end) }
@@ -28,8 +22,8 @@ pub fn remove_at(
     ensures breaks { root.new.breaks ≡ root.old.breaks }
     ensures tree { IsTree root.new }
     ensures err { OnErr result (root.new ≡ root.old) }
-    ensures made { made.new ≤ made.old + root.old.height + 1 }
+    ensures made { maker.new.made ≤ maker.old.made + root.old.height + 1 }
 {
     let _ = root.height();
-    root.remove_in_place(alloc, start, end, ANY, true, &mut Change::none(), made)
+    root.remove_in_place(maker, start, end, ANY, true, &mut Change::none())
 }

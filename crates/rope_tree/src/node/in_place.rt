@@ -10,10 +10,10 @@ use super::own::own;
 use super::{Children, Form, Node};
 use crate::change::Change;
 use crate::lookup::total_before;
+use crate::maker::{Made, Maker};
 use crate::search::{Totals, char_to_hold, try_place};
 use crate::short_text::ShortText;
 use rope_text::MAX_CHILDREN;
-use std::alloc::{AllocError, Global};
 use std::rc::Rc;
 
 /// Where a text goes in a list of children: in which of them, before which character of it, and whether the way follows that of
@@ -78,14 +78,13 @@ impl Children {
     #[inline(never)]
     fn insert_in_place(
         &mut self,
-        alloc: Global,
+        maker: &mut Maker,
         at: usize,
         added: &ShortText<'_>,
         to_right: bool,
         follows: bool,
         change: &mut Change,
-        made: &mut u64,
-    ) -> Result<bool, AllocError>
+    ) -> Made<bool>
         requires children { AreChildren (breaks_of self.old) (height_of self.old) self.old }
         requires takes { TakesShort (tree_over self.old) at added.now }
         requires side { MayInsert (tree_over self.old) at added.now to_right }
@@ -93,7 +92,7 @@ impl Children {
         ensures change { IfOk result (λ did. did ≡ true → IsChange change.new.before change.new.after (info_of (breaks_of self.old) (joined self.old)) (info_of (breaks_of self.old) (joined self.new))) }
         ensures kept { IfOk result (λ did. did ≡ false → self.new ≡ self.old) }
         ensures err { OnErr result (self.new ≡ self.old) }
-        ensures made { made.new ≤ made.old + height_of self.old + 2 }
+        ensures made { maker.new.made ≤ maker.old.made + height_of self.old + 2 }
     {
         if !follows && self.height == 1 && has_no_child(&self.nodes) {
             return Ok(false);
@@ -108,13 +107,13 @@ impl Children {
         }
         if self.nodes[way.place].lacks_room_for(added.len()) {
             let before = self.total();
-            let did = self.cut_leaf(alloc, at, added, to_right, made)?;
+            let did = self.cut_leaf(maker, at, added, to_right)?;
             let after = self.total();
             *change = Change { before, after };
             return Ok(did);
         }
         let node = &mut self.nodes[way.place];
-        if !node.insert_in_place(alloc, way.at, added, to_right, way.follows, change, made)? {
+        if !node.insert_in_place(maker, way.at, added, to_right, way.follows, change)? {
             return Ok(false);
         }
         self.totals.retotal(way.place, change.before, change.after);
@@ -159,23 +158,22 @@ impl Node {
     #[inline(always)]
     pub(crate) fn insert_in_place(
         &mut self,
-        alloc: Global,
+        maker: &mut Maker,
         at: usize,
         added: &ShortText<'_>,
         to_right: bool,
         follows: bool,
         change: &mut Change,
-        made: &mut u64,
-    ) -> Result<bool, AllocError>
+    ) -> Made<bool>
         requires takes { TakesShort self.old at added.now }
         requires side { MayInsert self.old at added.now to_right }
         ensures done { IfOk result (λ did. did ≡ true → IsInserted self.old (self.new ∷ []) (inserted (text self.old) at added.now)) }
         ensures change { IfOk result (λ did. did ≡ true → IsChange change.new.before change.new.after (info_of self.old.breaks (text self.old)) (info_of self.old.breaks (text self.new))) }
         ensures kept { IfOk result (λ did. did ≡ false → self.new ≡ self.old) }
         ensures err { OnErr result (self.new ≡ self.old) }
-        ensures made { made.new ≤ made.old + self.old.height + 2 }
+        ensures made { maker.new.made ≤ maker.old.made + self.old.height + 2 }
     {
-        own(&mut self.form, alloc, made)?;
+        own(&mut self.form, maker)?;
         match &mut self.form {
             Form::Empty(_) => Ok(false),
             Form::Leaf(leaf) => match Rc::get_mut(leaf) {
@@ -184,7 +182,7 @@ impl Node {
             },
             Form::Inner(children) => match Rc::get_mut(children) {
                 Some(children) => {
-                    children.insert_in_place(alloc, at, added, to_right, follows, change, made)
+                    children.insert_in_place(maker, at, added, to_right, follows, change)
                 }
                 None => Ok(false),
             },

@@ -11,8 +11,8 @@ use super::{Children, Form, Node};
 use crate::beside::{Least, least_at};
 use crate::change::Change;
 use crate::lookup::total_before;
+use crate::maker::{Made, Maker};
 use crate::search::try_place;
-use std::alloc::{AllocError, Global};
 use std::rc::Rc;
 
 impl Children {
@@ -23,14 +23,13 @@ impl Children {
     #[inline(never)]
     fn remove_in_place(
         &mut self,
-        alloc: Global,
+        maker: &mut Maker,
         start: usize,
         end: usize,
         least: Least,
         follows: bool,
         change: &mut Change,
-        made: &mut u64,
-    ) -> Result<bool, AllocError>
+    ) -> Made<bool>
         requires children { AreChildren (breaks_of self.old) (height_of self.old) self.old }
         requires ordered { start < end }
         requires within { end ≤ length (joined self.old) }
@@ -38,7 +37,7 @@ impl Children {
         ensures change { IfOk result (λ did. did ≡ true → IsChange change.new.before change.new.after (info_of (breaks_of self.old) (joined self.old)) (info_of (breaks_of self.old) (joined self.new))) }
         ensures kept { IfOk result (λ did. did ≡ false → self.new ≡ self.old) }
         ensures err { OnErr result (self.new ≡ self.old) }
-        ensures made { made.new ≤ made.old + height_of self.old + 1 }
+        ensures made { maker.new.made ≤ maker.old.made + height_of self.old + 1 }
     {
         if !follows && self.height == 1 && has_no_child(&self.nodes) {
             return Ok(false);
@@ -57,13 +56,12 @@ impl Children {
         }
         let node = &mut self.nodes[place];
         if !node.remove_in_place(
-            alloc,
+            maker,
             start - before,
             end - before,
             least,
             child.follows,
             change,
-            made,
         )? {
             return Ok(false);
         }
@@ -82,23 +80,22 @@ impl Node {
     #[inline(always)]
     pub(crate) fn remove_in_place(
         &mut self,
-        alloc: Global,
+        maker: &mut Maker,
         start: usize,
         end: usize,
         least: Least,
         follows: bool,
         change: &mut Change,
-        made: &mut u64,
-    ) -> Result<bool, AllocError>
+    ) -> Made<bool>
         requires ordered { start < end }
         requires within { end ≤ length (text self.old) }
         ensures done { IfOk result (λ did. did ≡ true → IsRemoved least.first least.last self.old self.new start end) }
         ensures change { IfOk result (λ did. did ≡ true → IsChange change.new.before change.new.after (info_of self.old.breaks (text self.old)) (info_of self.old.breaks (text self.new))) }
         ensures kept { IfOk result (λ did. did ≡ false → self.new ≡ self.old) }
         ensures err { OnErr result (self.new ≡ self.old) }
-        ensures made { made.new ≤ made.old + self.old.height + 1 }
+        ensures made { maker.new.made ≤ maker.old.made + self.old.height + 1 }
     {
-        own(&mut self.form, alloc, made)?;
+        own(&mut self.form, maker)?;
         match &mut self.form {
             Form::Empty(_) => Ok(false),
             Form::Leaf(leaf) => match Rc::get_mut(leaf) {
@@ -107,7 +104,7 @@ impl Node {
             },
             Form::Inner(children) => match Rc::get_mut(children) {
                 Some(children) => {
-                    children.remove_in_place(alloc, start, end, least, follows, change, made)
+                    children.remove_in_place(maker, start, end, least, follows, change)
                 }
                 None => Ok(false),
             },

@@ -113,8 +113,7 @@ Node::insert_in_place-insert_in_place-requires-in-Some-get_mut t c =
     let ts = c.in-Some-get_mut.children.now in
     let is_node : IsNode (own_form c.own.new.form) = record { form = c.in_ok-own.ensures.kept c.self.invariant.form } in
     let i = inner_seen (own_form c.own.new.form) c.args.self.now c.in-Inner.children ts is_node c.in-Inner.is (c.in_ok-own.ensures.same ∙ c.self.view_is) c.in-Some-get_mut.ensures.value in
-    let low = tallest_below (breaks_of ts) (height_of ts) ts i.children.each in
-    (
+    let low = tallest_below (breaks_of ts) (height_of ts) ts i.children.each in (
       omega (arith, c.decreases, low, ap (λ x. x.height) i.is),
       (
         i.children,
