@@ -7,12 +7,12 @@ use Rattle.std.proofs.lemmas.Option.{slice_get_within, get_or_from_slice_get}
 use Rattle.rope_text.specs.Text.{byte_len}
 use Rattle.rope_text.specs.Breaks.{begins_with_lf, ends_in_cr}
 use Rattle.rope_text.specs.Cutting.{parts_crlf}
-use Rattle.rope_tree.specs.Tree.{Tree, text, height_of, breaks_of, AreChildren}
+use Rattle.rope_tree.specs.Tree.{Tree, text, height_of, breaks_of, IsTree, AreChildren}
 use Rattle.rope_tree.specs.Siblings.{gathered}
 use Rattle.rope_tree.specs.Insert.{MayInsert, IsInserted}
 use Rattle.rope_tree.proofs.TreeLaws.{breaks_of_wide}
 use Rattle.rope_tree.proofs.NodeLaws.{children_of_first}
-use Rattle.rope_tree.proofs.Gathered.{is_gathered}
+use Rattle.rope_tree.proofs.Gathered.{is_gathered, gathered_tree}
 
 -- the character at a place begins what follows
 pub begins_at : (xs : List ℕ) (i x : ℕ) → slice_get xs i ≡ Some x → begins_with_lf (drop i xs) ≡ eqb x 10
@@ -41,3 +41,6 @@ module _ (old : Tree) (ts : List Tree) (new : List ℕ) (i : IsInserted old ts n
 
   pub root_breaks : (t : Tree) → t ≡ gathered ts → t.breaks ≡ old.breaks
   root_breaks t is = ap (λ u. u.breaks) is ∙ (is_gathered ts i.parts.some).same_breaks ∙ breaks_of_wide old.breaks _ old.height ts i.parts.some i.parts.each
+
+  pub root_tree : byte_len new < 2 ^ 63 → (t : Tree) → t ≡ gathered ts → IsTree t
+  root_tree fits t is = rw is (gathered_tree old.breaks _ old.height ts i.parts.some i.parts.each (λ more. root_children fits (omega (arith, i.parts.at_most_two, more))))

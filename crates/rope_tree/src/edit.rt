@@ -1,12 +1,12 @@
 //! Edits of whole trees.
-ghost use Rattle.std.specs.Prelude.{◌≡◌, ◌+◌, ◌-◌, ◌*◌, ◌<◌, ◌≤◌, ◌^◌, ◌&&◌, true, false, length, drop, IfOk, OnOk, OnErr};
+ghost use Rattle.std.specs.Prelude.{◌≡◌, ◌+◌, ◌*◌, ◌<◌, ◌≤◌, ◌^◌, length, drop, OnOk, OnErr};
 ghost use Rattle.std.specs.Str.{chars};
 ghost use Rattle.rope_text.specs.declared.TheConstants.{MAX_SHORT_BYTES};
 ghost use Rattle.rope_text.specs.Text.{byte_len};
 ghost use Rattle.rope_text.specs.Breaks.{begins_with_lf};
 ghost use Rattle.rope_text.specs.Edit.{inserted};
 ghost use Rattle.rope_tree.specs.Tree.{text, IsTree};
-ghost use Rattle.rope_tree.specs.Insert.{TakesShort, MayInsert};
+ghost use Rattle.rope_tree.specs.Insert.{MayInsert};
 
 use crate::change::Change;
 use crate::counts::ends_in_cr;
@@ -36,38 +36,6 @@ fn goes_right(node: &Node, at: usize, added: &ShortText<'_>) -> bool
     ends_in_cr(added.as_str()) && is_lf(node, at)
 }
 
-/// Puts a text of at most 981 bytes before the character `at` where the nodes stand; returns whether it did.
-fn insert_in_place(
-    maker: &mut Maker,
-    root: &mut Node,
-    at: usize,
-    added: &ShortText<'_>,
-) -> Made<bool>
-    requires { TakesShort root.old at added.now }
-    ensures text { IfOk result (λ did. did ≡ true → text root.new ≡ inserted (text root.old) at added.now) }
-    ensures breaks { root.new.breaks ≡ root.old.breaks }
-    ensures tree { IfOk result (λ did. did ≡ true → IsTree root.new) }
-    ensures kept { IfOk result (λ did. did ≡ false → root.new ≡ root.old) }
-    ensures err { OnErr result (root.new ≡ root.old) }
-    ensures made { maker.new.made ≤ maker.old.made + root.old.height + 2 }
-{
-    let to_right = goes_right(root, at, added);
-    root.insert_in_place(maker, at, added, to_right, true, &mut Change::none())
-}
-
-/// The tree with a text of at most 981 bytes before its character `at`. The old tree stays as it is.
-pub fn insert_short(maker: &mut Maker, node: &Node, at: usize, added: &ShortText<'_>) -> Made<Node>
-    requires { TakesShort node.now at added.now }
-    ensures text { IfOk result (λ new. text new ≡ inserted (text node.now) at added.now) }
-    ensures breaks { IfOk result (λ new. new.breaks ≡ node.now.breaks) }
-    ensures made { maker.new.made ≤ maker.old.made + 2 * node.now.height + 3 }
-    ensures some_made { maker.old.made < 18446744073709551615 → maker.old.made < maker.new.made }
-{
-    let to_right = goes_right(node, at, added);
-    let nodes = insert(maker, node, at, added, to_right)?;
-    root_of(maker, nodes)
-}
-
 /// Puts a text of 1 to 981 bytes before the character `at`: where the nodes stand, if the leaf has room, or is cut into two below
 /// a node that has room for one more, which takes memory for copies of shared nodes and for the second part alone; and else in a
 /// tree that takes the old one's place last of all.
@@ -84,11 +52,11 @@ pub fn insert_at(maker: &mut Maker, root: &mut Node, at: usize, added: &str) -> 
 {
     let _ = root.height();
     let added = ShortText::new(added);
-    if insert_in_place(maker, root, at, &added)? {
+    let to_right = goes_right(root, at, &added);
+    if root.insert_in_place(maker, at, &added, to_right, true, &mut Change::none())? {
         return Ok(());
     }
-    let new = insert_short(maker, root, at, &added)?;
-    let _ = new.height();
-    *root = new;
+    let nodes = insert(maker, root, at, &added, to_right)?;
+    *root = root_of(maker, nodes)?;
     Ok(())
 }

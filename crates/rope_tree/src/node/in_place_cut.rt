@@ -1,11 +1,12 @@
 //! Inserts of short texts where the nodes stand, into a leaf that has no room: it is cut into two, of which the first stays.
-ghost use Rattle.std.specs.Prelude.{◌≡◌, ◌+◌, ◌<◌, ◌≤◌, ◌-◌, [], ◌∷◌, true, false, length, take, IfOk, OnOk, OnErr, IfSome, IfNone};
+ghost use Rattle.std.specs.Prelude.{◌≡◌, ◌+◌, ◌<◌, ◌≤◌, ◌-◌, [], ◌∷◌, true, false, length, take, IfOk, OnErr, IfSome, IfNone};
 ghost use Rattle.std.specs.List.{insert};
 ghost use Rattle.rope_text.specs.declared.TheConstants.{MAX_SHORT_BYTES};
 ghost use Rattle.rope_text.specs.Text.{byte_len};
 ghost use Rattle.rope_text.specs.Edit.{inserted};
 ghost use Rattle.rope_tree.specs.Tree.{text, joined, breaks_of, height_of, tree_over, AreChildren};
 ghost use Rattle.rope_tree.specs.Insert.{TakesShort, MayInsert, IsInserted, AreGrown};
+ghost use Rattle.rope_tree.specs.Tries.{IsTried};
 
 use super::own::own;
 use super::{Children, Form, Node};
@@ -29,10 +30,8 @@ impl Children {
         requires children { AreChildren (breaks_of self.old) (height_of self.old) self.old }
         requires takes { TakesShort (tree_over self.old) at added.now }
         requires side { MayInsert (tree_over self.old) at added.now to_right }
-        ensures done { IfOk result (λ did. did ≡ true → AreGrown self.old self.new (inserted (joined self.old) at added.now)) }
-        ensures kept { IfOk result (λ did. did ≡ false → self.new ≡ self.old) }
-        ensures err { OnErr result (self.new ≡ self.old) }
         ensures made { maker.new.made ≤ maker.old.made + 2 }
+        ensures tried { IsTried result self.old self.new (AreGrown self.old self.new (inserted (joined self.old) at added.now)) }
     {
         let count = self.totals.len();
         if count >= MAX_CHILDREN || !self.totals.has_room_for(added.len()) {

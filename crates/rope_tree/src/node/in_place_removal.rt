@@ -1,9 +1,10 @@
 //! Removals of characters from one leaf where the nodes stand: one way down, on which a node that is shared is copied.
-ghost use Rattle.std.specs.Prelude.{◌≡◌, ◌+◌, ◌<◌, ◌≤◌, true, false, length, IfOk, OnErr};
+ghost use Rattle.std.specs.Prelude.{◌≡◌, ◌+◌, ◌<◌, ◌≤◌, true, false, length, IfOk};
 ghost use Rattle.rope_tree.specs.Tree.{text, joined, breaks_of, height_of, AreChildren};
 ghost use Rattle.rope_text.specs.TextInfo.{info_of};
 ghost use Rattle.rope_tree.specs.Change.{IsChange};
 ghost use Rattle.rope_tree.specs.Removal.{IsRemoved, AreRemoved};
+ghost use Rattle.rope_tree.specs.Tries.{IsTried};
 
 use super::in_place::{has_no_child, has_no_text};
 use super::own::own;
@@ -33,11 +34,9 @@ impl Children {
         requires children { AreChildren (breaks_of self.old) (height_of self.old) self.old }
         requires ordered { start < end }
         requires within { end ≤ length (joined self.old) }
-        ensures done { IfOk result (λ did. did ≡ true → AreRemoved least.first least.last self.old self.new start end) }
         ensures change { IfOk result (λ did. did ≡ true → IsChange change.new.before change.new.after (info_of (breaks_of self.old) (joined self.old)) (info_of (breaks_of self.old) (joined self.new))) }
-        ensures kept { IfOk result (λ did. did ≡ false → self.new ≡ self.old) }
-        ensures err { OnErr result (self.new ≡ self.old) }
         ensures made { maker.new.made ≤ maker.old.made + height_of self.old + 1 }
+        ensures tried { IsTried result self.old self.new (AreRemoved least.first least.last self.old self.new start end) }
     {
         if !follows && self.height == 1 && has_no_child(&self.nodes) {
             return Ok(false);
@@ -89,11 +88,9 @@ impl Node {
     ) -> Made<bool>
         requires ordered { start < end }
         requires within { end ≤ length (text self.old) }
-        ensures done { IfOk result (λ did. did ≡ true → IsRemoved least.first least.last self.old self.new start end) }
         ensures change { IfOk result (λ did. did ≡ true → IsChange change.new.before change.new.after (info_of self.old.breaks (text self.old)) (info_of self.old.breaks (text self.new))) }
-        ensures kept { IfOk result (λ did. did ≡ false → self.new ≡ self.old) }
-        ensures err { OnErr result (self.new ≡ self.old) }
         ensures made { maker.new.made ≤ maker.old.made + self.old.height + 1 }
+        ensures tried { IsTried result self.old self.new (IsRemoved least.first least.last self.old self.new start end) }
     {
         own(&mut self.form, maker)?;
         match &mut self.form {

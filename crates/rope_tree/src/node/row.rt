@@ -88,37 +88,7 @@ fn push_all(
     Ok(total)
 }
 
-/// The same with a row that isn't empty, whose totals are known: they are moved in rows.
-fn push_known(
-    alloc: Global,
-    totals: &mut Totals,
-    places: &mut [Node],
-    row: Row<'_>,
-    known: &Totals,
-    before: TextInfo,
-) -> Made<TextInfo>
-    requires list { IsNewList (new_list totals.old places.old) }
-    requires some { 1 ≤ length row.nodes.now }
-    requires room { length (nodes_in (new_list totals.old places.old)) + length row.nodes.now ≤ MAX_CHILDREN }
-    requires part { IsPart row.nodes.now known.now row.from }
-    requires before { IsTotalOf (nodes_in (new_list totals.old places.old)) before }
-    requires siblings { let ts = nodes_in (new_list totals.old places.old) ++ row.nodes.now in AreSiblings (breaks_of ts) (height_of ts) ts }
-    ensures list { OnOk result (IsNewList (new_list totals.new places.new)) }
-    ensures nodes { OnOk result (nodes_in (new_list totals.new places.new) ≡ nodes_in (new_list totals.old places.old) ++ row.entry.nodes.now) }
-    ensures total { IfOk result (IsTotalOf (nodes_in (new_list totals.new places.new))) }
-{
-    let Row { nodes, from, .. } = row;
-    let base = total_before(known, from);
-    let count = totals.len();
-    if !totals.append(alloc, known, from, nodes.len(), base, before)? {
-        return push_all(alloc, totals, places, nodes, before);
-    }
-    share_all(places, count, nodes)?;
-    Ok(totals.get(totals.len() - 1))
-}
-
-/// The same with any row.
-#[inline(always)]
+/// The same with a row: where its totals are known, they are moved in one piece.
 fn push_row(
     alloc: Global,
     totals: &mut Totals,
@@ -135,11 +105,18 @@ fn push_row(
     ensures nodes { OnOk result (nodes_in (new_list totals.new places.new) ≡ nodes_in (new_list totals.old places.old) ++ row.entry.nodes.now) }
     ensures total { IfOk result (IsTotalOf (nodes_in (new_list totals.new places.new))) }
 {
+    let Row { nodes, from, .. } = row;
     match row.totals {
-        Some(known) if !row.nodes.is_empty() => {
-            push_known(alloc, totals, places, row, known, before)
+        Some(known) if !nodes.is_empty() => {
+            let base = total_before(known, from);
+            let count = totals.len();
+            if !totals.append(alloc, known, from, nodes.len(), base, before)? {
+                return push_all(alloc, totals, places, nodes, before);
+            }
+            share_all(places, count, nodes)?;
+            Ok(totals.get(totals.len() - 1))
         }
-        _ => push_all(alloc, totals, places, row.nodes, before),
+        _ => push_all(alloc, totals, places, nodes, before),
     }
 }
 
