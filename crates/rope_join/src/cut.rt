@@ -47,8 +47,8 @@ pub fn front(maker: &mut Maker, node: &Node, at: usize) -> Made<Node>
 pub fn back(maker: &mut Maker, node: &Node, at: usize) -> Made<Node>
     requires { at ≤ length (text node.now) }
     ensures back { IfOk result (λ part. IsBack at node.now part) }
-    ensures made_ok { IfOk result (λ part. maker.new.made ≤ maker.old.made + 4 * node.now.height + 2 * part.height + 1) }
     ensures made { maker.new.made ≤ maker.old.made + 6 * node.now.height + 1 }
+    ensures made_ok { IfOk result (λ part. maker.new.made ≤ maker.old.made + 4 * node.now.height + 2 * part.height + 1) }
 {
     let _ = node.height();
     if at == node.info().chars {

@@ -18,13 +18,6 @@ use Rattle.rope_tree.proofs.Gathered.{is_gathered, gathered_tree}
 pub begins_at : (xs : List ℕ) (i x : ℕ) → slice_get xs i ≡ Some x → begins_with_lf (drop i xs) ≡ eqb x 10
 begins_at xs i x e = ap begins_with_lf (drop_more xs i x (slice_get_within xs i x e)) ∙ ap (λ d. eqb d 10) (get_or_from_slice_get xs i x x e)
 
--- the side of a seam, by whether the new text ends in CR and an LF follows
-pub may_insert : (t : Tree) (at : ℕ) (new : List ℕ) → MayInsert t at new (parts_crlf new (drop at (text t)))
-may_insert t at new = record {
-  left = λ f. record { apart = f };
-  right = λ f. (and_parts (ends_in_cr new) (begins_with_lf (drop at (text t))) f).1;
-}
-
 -- what an insert made, as one tree
 module _ (old : Tree) (ts : List Tree) (new : List ℕ) (i : IsInserted old ts new) where
   pub root_children : byte_len new < 2 ^ 63 → length ts ≡ 2 → AreChildren (breaks_of ts) (height_of ts) ts

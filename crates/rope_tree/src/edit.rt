@@ -6,7 +6,6 @@ ghost use Rattle.rope_text.specs.Text.{byte_len};
 ghost use Rattle.rope_text.specs.Breaks.{begins_with_lf};
 ghost use Rattle.rope_text.specs.Edit.{inserted};
 ghost use Rattle.rope_tree.specs.Tree.{text, IsTree};
-ghost use Rattle.rope_tree.specs.Insert.{MayInsert};
 
 use crate::change::Change;
 use crate::counts::ends_in_cr;
@@ -27,15 +26,6 @@ pub fn is_lf(node: &Node, at: usize) -> bool
     at < node.info().chars && char_at(node, at, &mut Steps::new()) == '\n'
 }
 
-/// Whether a text that is put in at a seam goes to the right of it: where it ends in CR, so that it can't part that CR from
-/// an LF there. No CR stands before the LF across a seam.
-fn goes_right(node: &Node, at: usize, added: &ShortText<'_>) -> bool
-    requires { at ≤ length (text node.now) }
-    ensures { MayInsert node.now at added.now result }
-{
-    ends_in_cr(added.as_str()) && is_lf(node, at)
-}
-
 /// Puts a text of 1 to 981 bytes before the character `at`: where the nodes stand, if the leaf has room, or is cut into two below
 /// a node that has room for one more, which takes memory for copies of shared nodes and for the second part alone; and else in a
 /// tree that takes the old one's place last of all.
@@ -52,7 +42,9 @@ pub fn insert_at(maker: &mut Maker, root: &mut Node, at: usize, added: &str) -> 
 {
     let _ = root.height();
     let added = ShortText::new(added);
-    let to_right = goes_right(root, at, &added);
+    // At a seam it goes to the right where it ends in CR, so that it can't part that CR from an LF there. No CR stands before the LF
+    // across a seam.
+    let to_right = ends_in_cr(added.as_str()) && is_lf(root, at);
     if root.insert_in_place(maker, at, &added, to_right, true, &mut Change::none())? {
         return Ok(());
     }
