@@ -39,32 +39,8 @@ pub(super) fn share_all(places: &mut [Node], from: usize, nodes: &[Node]) -> Mad
     Ok(())
 }
 
-/// Puts a node behind the others of a list, whose counts the caller knows; returns the counts with it. So no total is read that
-/// was written just before.
-#[inline(always)]
-fn push(
-    alloc: Global,
-    totals: &mut Totals,
-    places: &mut [Node],
-    node: Node,
-    before: TextInfo,
-) -> Made<TextInfo>
-    requires list { IsNewList (new_list totals.old places.old) }
-    requires room { length (nodes_in (new_list totals.old places.old)) < MAX_CHILDREN }
-    requires before { IsTotalOf (nodes_in (new_list totals.old places.old)) before }
-    requires siblings { let ts = nodes_in (new_list totals.old places.old) ++ node ∷ [] in AreSiblings (breaks_of ts) (height_of ts) ts }
-    ensures list { OnOk result (IsNewList (new_list totals.new places.new)) }
-    ensures nodes { OnOk result (nodes_in (new_list totals.new places.new) ≡ nodes_in (new_list totals.old places.old) ++ node ∷ []) }
-    ensures total { IfOk result (IsTotalOf (nodes_in (new_list totals.new places.new))) }
-{
-    let count = totals.len();
-    let total = before.plus(node.info());
-    totals.push(alloc, total)?;
-    places[count] = node;
-    Ok(total)
-}
-
-/// Shares the nodes, and puts them behind the others of a list, whose counts the caller knows; returns the counts with them.
+/// Shares the nodes, and puts them behind the others of a list, whose counts the caller knows; returns the counts with them. So no
+/// total is read that was written just before.
 #[inline(always)]
 fn push_all(
     alloc: Global,
@@ -83,7 +59,11 @@ fn push_all(
 {
     let mut total = before;
     for node in nodes {
-        total = push(alloc, totals, places, node.share()?, total)?;
+        let count = totals.len();
+        let shared = node.share()?;
+        total = total.plus(shared.info());
+        totals.push(alloc, total)?;
+        places[count] = shared;
     }
     Ok(total)
 }
