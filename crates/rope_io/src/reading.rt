@@ -13,6 +13,7 @@ use crate::device::Source;
 use crate::error::{ReadError, ReadResult};
 use rope_text::{BUFFER_BYTES, Error, LineBreaks, MAX_TEXT_BYTES, Result};
 use rope_tree::builder::Builder;
+use rope_tree::maker::Maker;
 use rope_tree::node::Node;
 use std::alloc::Global;
 
@@ -117,7 +118,7 @@ pub fn read_tree<S: Source>(alloc: Global, source: &mut S, breaks: LineBreaks) -
     source.clear();
     let mut builder = Builder::new(alloc, breaks);
     read_texts(source, &mut builder)?;
-    match builder.finish(&mut 0) {
+    match builder.finish(&mut Maker::new(alloc)) {
         Ok(root) => Ok(root),
         Err(_) => Err(ReadError::Rope(Error::OutOfMemory)),
     }

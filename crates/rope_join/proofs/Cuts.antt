@@ -20,7 +20,7 @@ use Rattle.rope_tree.proofs.Descents.{leaves_at}
 use Rattle.rope_tree.proofs.InsertTrees.{text_around}
 use Rattle.rope_tree.proofs.InsertLaws.{front_of, rest_of}
 use Rattle.rope_join.specs.Join.{CanJoin, IsNear, IsJoin}
-use Rattle.rope_join.proofs.Gathered.{IsGathered}
+use Rattle.rope_tree.proofs.Gathered.{IsGathered}
 use Rattle.rope_join.specs.Cut.{IsFront, IsBack}
 
 -- the parts of an inner node around one child

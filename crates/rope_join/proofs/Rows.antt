@@ -1,10 +1,10 @@
 -- Trees side by side joined with one tree more, behind them or before them.
 use Rattle.std.proofs.Common.{◌≡◌, ◌+◌, ◌-◌, ◌<◌, ◌≤◌, List, ◌++◌, length, get_or, take, drop, refl, sym, subst, arith}
 use Rattle.rope_tree.specs.Tree.{Tree, leaves_of, height_of, breaks_of, tree_over, AreChildren}
-use Rattle.rope_tree.specs.Siblings.{AreSiblings, AreParts}
+use Rattle.rope_tree.specs.Siblings.{AreSiblings, AreParts, gathered}
 use Rattle.rope_tree.proofs.SiblingLaws.{children_of}
-use Rattle.rope_join.specs.Join.{CanJoin, EndsIn, BeginsIn, IsNear, IsUnion, gathered}
-use Rattle.rope_join.proofs.Gathered.{gathered_over}
+use Rattle.rope_join.specs.Join.{CanJoin, EndsIn, BeginsIn, IsNear, IsUnion}
+use Rattle.rope_tree.proofs.Gathered.{gathered_over}
 use Rattle.rope_join.proofs.Unions.{ends_in, begins_in, end_can_join, end_near, end_siblings, end_union, front_can_join, front_near, front_siblings, front_union}
 
 module _ (ts : List Tree) (b d : Tree) (s : AreSiblings (breaks_of ts) (height_of ts) ts) (many : 2 ≤ length ts) (few : length ts ≤ 24) (low : b.height ≤ height_of ts) where

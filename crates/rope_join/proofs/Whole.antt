@@ -11,14 +11,14 @@ use Rattle.rope_text.proofs.CuttingLaws.{concat-append}
 use Rattle.rope_text.proofs.DenseLaws.{last_bytes-some}
 use Rattle.rope_tree.specs.Leaves.{Recuts}
 use Rattle.rope_tree.specs.Tree.{Tree, text, joined, leaves_of, height_of, breaks_of, tree_over, IsTree, IsWide, IsChild, AreChildren}
-use Rattle.rope_tree.specs.Siblings.{AreParts}
+use Rattle.rope_tree.specs.Siblings.{AreParts, gathered}
 use Rattle.rope_tree.proofs.TreeLaws.{height_of_is, breaks_of_is}
 use Rattle.rope_tree.proofs.NodeLaws.{children_of_first}
 use Rattle.rope_tree.proofs.EmptyTrees.{no_leaves_of, lone_of_none}
 use Rattle.rope_tree.specs.declared.node.Nodes.{Nodes}
 use Rattle.rope_tree.specs.declared.node.Nodes.TheVariants.{One, Two}
 use Rattle.rope_tree.specs.View.{trees_in}
-use Rattle.rope_join.specs.Join.{CanJoin, IsUnion, IsJoin, gathered}
+use Rattle.rope_join.specs.Join.{CanJoin, IsUnion, IsJoin}
 
 pub join_empty_right : (a b t : Tree) → IsTree a → IsTree b → byte_len (text b) ≡ 0 → CanJoin a b → t ≡ a → IsJoin a b t
 join_empty_right a b t own i empty j e =

@@ -55,9 +55,3 @@ pub record CanGather (ts : List Tree) : Type 0 where
   pub siblings : AreSiblings (breaks_of ts) (height_of ts) ts
   pub some : 1 ≤ length ts
   pub at_most_24 : length ts ≤ MAX_CHILDREN
-
--- trees side by side as one: the only one, or a node over them
-abbrev pub gathered : List Tree → Tree
-gathered [] = leaf_tree (breaks_of []) []
-gathered (t ∷ []) = t
-gathered (t ∷ u ∷ ts) = tree_over (t ∷ u ∷ ts)

@@ -9,86 +9,80 @@ use crate::leaf_cut::{Side, leaf_part};
 use rope_text::Steps;
 use rope_tree::insert::leaf_of;
 use rope_tree::lookup::total_before;
+use rope_tree::maker::{Made, Maker};
 use rope_tree::node::row::Row;
 use rope_tree::node::{Node, View};
 use rope_tree::search::{Unit, place_of};
-use std::alloc::{AllocError, Global};
 
 /// The first `at` characters, perhaps none.
-pub fn front(alloc: Global, node: &Node, at: usize, made: &mut u64) -> Result<Node, AllocError>
+pub fn front(maker: &mut Maker, node: &Node, at: usize) -> Made<Node>
     requires { at ≤ length (text node.now) }
     ensures front { IfOk result (λ part. IsFront at node.now part) }
-    ensures made_ok { IfOk result (λ part. made.new ≤ made.old + 4 * node.now.height + 2 * part.height + 1) }
-    ensures made { made.new ≤ made.old + 6 * node.now.height + 1 }
+    ensures made_ok { IfOk result (λ part. maker.new.made ≤ maker.old.made + 4 * node.now.height + 2 * part.height + 1) }
+    ensures made { maker.new.made ≤ maker.old.made + 6 * node.now.height + 1 }
 {
     let _ = node.height();
     if at == 0 {
-        return leaf_of(alloc, node.line_breaks(), "", made);
+        return leaf_of(maker, node.line_breaks(), "");
     }
     if at == node.info().chars {
         return node.share();
     }
     match node.view() {
-        View::Leaf(leaf) => leaf_part(alloc, node, &leaf, at, Side::Front, made),
+        View::Leaf(leaf) => leaf_part(maker, node, &leaf, at, Side::Front),
         View::Inner(children, totals) => {
             let place = place_of(totals, Unit::Char, at - 1, &mut Steps::new());
             let before = total_before(totals, place).chars;
-            let part = front(alloc, &children[place], at - before, made)?;
+            let part = front(maker, &children[place], at - before)?;
             if place == 0 {
                 return Ok(part);
             }
             let before = Row::of(children, totals).first(place);
-            join_behind(alloc, before, &part, made)
+            join_behind(maker, before, &part)
         }
     }
 }
 
 /// What follows the first `at` characters, perhaps nothing.
-pub fn back(alloc: Global, node: &Node, at: usize, made: &mut u64) -> Result<Node, AllocError>
+pub fn back(maker: &mut Maker, node: &Node, at: usize) -> Made<Node>
     requires { at ≤ length (text node.now) }
     ensures back { IfOk result (λ part. IsBack at node.now part) }
-    ensures made_ok { IfOk result (λ part. made.new ≤ made.old + 4 * node.now.height + 2 * part.height + 1) }
-    ensures made { made.new ≤ made.old + 6 * node.now.height + 1 }
+    ensures made { maker.new.made ≤ maker.old.made + 6 * node.now.height + 1 }
+    ensures made_ok { IfOk result (λ part. maker.new.made ≤ maker.old.made + 4 * node.now.height + 2 * part.height + 1) }
 {
     let _ = node.height();
     if at == node.info().chars {
-        return leaf_of(alloc, node.line_breaks(), "", made);
+        return leaf_of(maker, node.line_breaks(), "");
     }
     if at == 0 {
         return node.share();
     }
     match node.view() {
-        View::Leaf(leaf) => leaf_part(alloc, node, &leaf, at, Side::Back, made),
+        View::Leaf(leaf) => leaf_part(maker, node, &leaf, at, Side::Back),
         View::Inner(children, totals) => {
             let place = place_of(totals, Unit::Char, at, &mut Steps::new());
             let before = total_before(totals, place).chars;
-            let part = back(alloc, &children[place], at - before, made)?;
+            let part = back(maker, &children[place], at - before)?;
             if place + 1 == children.len() {
                 return Ok(part);
             }
             let after = Row::of(children, totals).rest(place + 1);
-            join_before(alloc, &part, after, made)
+            join_before(maker, &part, after)
         }
     }
 }
 
 /// The characters from `start` up to `end`, one at least. What lies within whole is shared.
-pub fn between(
-    alloc: Global,
-    node: &Node,
-    start: usize,
-    end: usize,
-    made: &mut u64,
-) -> Result<Node, AllocError>
+pub fn between(maker: &mut Maker, node: &Node, start: usize, end: usize) -> Made<Node>
     requires ordered { start < end }
     requires within { end ≤ length (text node.now) }
     ensures text { IfOk result (λ part. text part ≡ slice_range (text node.now) start end) }
     ensures breaks { IfOk result (λ part. part.breaks ≡ node.now.breaks) }
     ensures tree { IfOk result (λ part. IsTree part) }
-    ensures made { made.new ≤ made.old + 12 * node.now.height + 3 }
+    ensures made { maker.new.made ≤ maker.old.made + 12 * node.now.height + 3 }
 {
-    let front = front(alloc, node, end, made)?;
-    let part = back(alloc, &front, start, made)?;
+    let front = front(maker, node, end)?;
+    let part = back(maker, &front, start)?;
     let _ = part.height();
     Ok(part)
 }

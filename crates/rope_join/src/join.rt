@@ -1,18 +1,18 @@
 //! Two trees as one.
 ghost use Rattle.std.specs.Prelude.{◌≡◌, ◌+◌, ◌-◌, ◌*◌, ◌<◌, ◌≤◌, [], ◌∷◌, ◌++◌, true, false, length, max, IfOk};
 ghost use Rattle.rope_text.specs.declared.TheConstants.{MAX_BYTES, MAX_CHILDREN, MIN_PAIR_BYTES};
-ghost use Rattle.rope_tree.specs.Tree.{height_of, breaks_of, AreChildren};
+ghost use Rattle.rope_tree.specs.Tree.{height_of};
 ghost use Rattle.rope_tree.specs.View.{trees_in};
-ghost use Rattle.rope_tree.specs.Siblings.{AreSiblings};
+ghost use Rattle.rope_tree.specs.Siblings.{AreSiblings, gathered};
 ghost use Rattle.rope_tree.specs.Rows.{IsRow};
-ghost use Rattle.rope_join.specs.Join.{CanGather, CanJoin, CanMerge, EndsIn, BeginsIn, IsNear, IsUnion, IsJoin, gathered};
+ghost use Rattle.rope_join.specs.Join.{CanGather, CanJoin, CanMerge, EndsIn, BeginsIn, IsNear, IsUnion, IsJoin};
 
 use crate::near::can_merge;
 use rope_text::{MAX_BYTES, MAX_CHILDREN, MIN_BYTES, MIN_CHILDREN};
-use rope_tree::node::row::{Row, node_over, pack, pack_over};
+use rope_tree::maker::{Made, Maker};
+use rope_tree::node::row::{Row, pack, pack_over, root_of};
 use rope_tree::node::{Node, Nodes, View, make_leaf};
 use rope_tree::node_text::NodeText;
-use std::alloc::{AllocError, Global};
 
 /// Whether two leaves of so many bytes become one: they fit in it, and one of them is short.
 fn become_one(first: usize, second: usize) -> bool
@@ -26,13 +26,13 @@ fn become_one(first: usize, second: usize) -> bool
 
 /// Two trees that can be merged as one tree or two of their height. Leaves become one where they fit in it and one of them is
 /// short; other nodes where one can have all children, and where one of them has few they share the children evenly.
-fn merge(alloc: Global, left: &Node, right: &Node, made: &mut u64) -> Result<Nodes, AllocError>
+fn merge(maker: &mut Maker, left: &Node, right: &Node) -> Made<Nodes>
     requires left_some { 1 ≤ length left.now.leaves }
     requires right_some { 1 ≤ length right.now.leaves }
     requires join { CanJoin left.now right.now }
     requires merge { CanMerge left.now right.now }
     ensures union { IfOk result (λ nodes. IsUnion left.now right.now (trees_in nodes)) }
-    ensures made { made.new ≤ made.old + 2 }
+    ensures made { maker.new.made ≤ maker.old.made + 2 }
 {
     let _ = left.height();
     let _ = right.height();
@@ -45,7 +45,7 @@ fn merge(alloc: Global, left: &Node, right: &Node, made: &mut u64) -> Result<Nod
                 let info = left.info().plus(right.info());
                 let mut text = NodeText::from_str(first.as_str());
                 text.push_str(second.as_str());
-                let node = make_leaf(alloc, left.line_breaks(), text.as_str(), info, made)?;
+                let node = make_leaf(maker, left.line_breaks(), text.as_str(), info)?;
                 return Ok(Nodes::One(node));
             }
             Ok(Nodes::Two(left.share()?, right.share()?))
@@ -62,7 +62,7 @@ fn merge(alloc: Global, left: &Node, right: &Node, made: &mut u64) -> Result<Nod
             }
             let before = Row::of(first, first_totals);
             let after = Row::of(second, second_totals);
-            pack_over(alloc, before, &[], after, made)
+            pack_over(maker, before, &[], after)
         }
     }
 }
@@ -102,42 +102,30 @@ fn first_of(node: &Node, least: usize) -> (&Node, Row<'_>)
 
 /// Two trees that aren't empty as one tree or two of the greater height. It goes down the sides on which they meet to nodes of
 /// one height, and where the two leaves there have too few bytes together, down to those, which become one.
-fn unite(alloc: Global, left: &Node, right: &Node, made: &mut u64) -> Result<Nodes, AllocError>
+fn unite(maker: &mut Maker, left: &Node, right: &Node) -> Made<Nodes>
     requires left_some { 1 ≤ length left.now.leaves }
     requires right_some { 1 ≤ length right.now.leaves }
     requires join { CanJoin left.now right.now }
     ensures union { IfOk result (λ nodes. IsUnion left.now right.now (trees_in nodes)) }
-    ensures made { made.new ≤ made.old + 2 * max left.now.height right.now.height + 2 }
-    ensures made_near { IsNear left.now right.now → made.new ≤ made.old + 2 * ((left.now.height - right.now.height) + (right.now.height - left.now.height)) + 2 }
+    ensures made { maker.new.made ≤ maker.old.made + 2 * max left.now.height right.now.height + 2 }
+    ensures made_near { IsNear left.now right.now → maker.new.made ≤ maker.old.made + 2 * ((left.now.height - right.now.height) + (right.now.height - left.now.height)) + 2 }
 {
     if can_merge(left, right) {
-        return merge(alloc, left, right, made);
+        return merge(maker, left, right);
     }
     let (before, last) = last_of(left, right.height());
     let (first, after) = first_of(right, left.height());
-    let middle = unite(alloc, last, first, made)?;
-    pack(alloc, before, middle, after, made)
-}
-
-/// One tree or two side by side as one: the only one, or a node over them.
-fn root_of(alloc: Global, nodes: Nodes, made: &mut u64) -> Result<Node, AllocError>
-    requires { let ts = trees_in nodes in length ts ≡ 2 → AreChildren (breaks_of ts) (height_of ts) ts }
-    ensures ok { IfOk result (λ node. node ≡ gathered (trees_in nodes)) }
-    ensures made { made.new ≤ made.old + 1 }
-{
-    match nodes {
-        Nodes::One(node) => Ok(node),
-        Nodes::Two(first, second) => node_over(alloc, &[first, second], made),
-    }
+    let middle = unite(maker, last, first)?;
+    pack(maker, before, middle, after)
 }
 
 /// The text of the one tree and then that of the other as one tree, at most one level higher than the higher of them. No
 /// CR at the end of the one may stand before an LF of the other.
-pub fn join(alloc: Global, left: &Node, right: &Node, made: &mut u64) -> Result<Node, AllocError>
+pub fn join(maker: &mut Maker, left: &Node, right: &Node) -> Made<Node>
     requires { CanJoin left.now right.now }
     ensures join { IfOk result (λ node. IsJoin left.now right.now node) }
-    ensures made { made.new ≤ made.old + 2 * max left.now.height right.now.height + 3 }
-    ensures made_near { IsNear left.now right.now → made.new ≤ made.old + 2 * ((left.now.height - right.now.height) + (right.now.height - left.now.height)) + 3 }
+    ensures made { maker.new.made ≤ maker.old.made + 2 * max left.now.height right.now.height + 3 }
+    ensures made_near { IsNear left.now right.now → maker.new.made ≤ maker.old.made + 2 * ((left.now.height - right.now.height) + (right.now.height - left.now.height)) + 3 }
 {
     let _ = left.height();
     let _ = right.height();
@@ -147,18 +135,13 @@ pub fn join(alloc: Global, left: &Node, right: &Node, made: &mut u64) -> Result<
     if left.info().bytes == 0 {
         return right.share();
     }
-    let nodes = unite(alloc, left, right, made)?;
-    root_of(alloc, nodes, made)
+    let nodes = unite(maker, left, right)?;
+    root_of(maker, nodes)
 }
 
 /// Nodes side by side and behind them a tree that is no higher, as one tree: as `join` makes it of the only one of them, or of a
 /// node over them, which isn't made.
-pub fn join_behind(
-    alloc: Global,
-    row: Row<'_>,
-    right: &Node,
-    made: &mut u64,
-) -> Result<Node, AllocError>
+pub fn join_behind(maker: &mut Maker, row: Row<'_>, right: &Node) -> Made<Node>
     requires row { IsRow row }
     requires gather { CanGather row.nodes.now }
     requires right_some { 1 ≤ length right.now.leaves }
@@ -166,26 +149,21 @@ pub fn join_behind(
     requires join { CanJoin (gathered row.nodes.now) right.now }
     requires near { IsNear (gathered row.nodes.now) right.now }
     ensures join { IfOk result (λ node. IsJoin (gathered row.entry.nodes.now) right.now node) }
-    ensures made_ok { IfOk result (λ node. made.new + 2 * right.now.height ≤ made.old + 2 * node.height + 3) }
-    ensures made { made.new ≤ made.old + 2 * (height_of row.entry.nodes.now - right.now.height) + 5 }
+    ensures made_ok { IfOk result (λ node. maker.new.made + 2 * right.now.height ≤ maker.old.made + 2 * node.height + 3) }
+    ensures made { maker.new.made ≤ maker.old.made + 2 * (height_of row.entry.nodes.now - right.now.height) + 5 }
 {
     let nodes = row.nodes;
     let last = nodes.len() - 1;
     if last == 0 {
-        return join(alloc, &nodes[0], right, made);
+        return join(maker, &nodes[0], right);
     }
-    let middle = unite(alloc, &nodes[last], right, made)?;
-    let parts = pack(alloc, row.first(last), middle, Row::none(), made)?;
-    root_of(alloc, parts, made)
+    let middle = unite(maker, &nodes[last], right)?;
+    let parts = pack(maker, row.first(last), middle, Row::none())?;
+    root_of(maker, parts)
 }
 
 /// The same with the tree before the nodes.
-pub fn join_before(
-    alloc: Global,
-    left: &Node,
-    row: Row<'_>,
-    made: &mut u64,
-) -> Result<Node, AllocError>
+pub fn join_before(maker: &mut Maker, left: &Node, row: Row<'_>) -> Made<Node>
     requires row { IsRow row }
     requires gather { CanGather row.nodes.now }
     requires left_some { 1 ≤ length left.now.leaves }
@@ -193,14 +171,14 @@ pub fn join_before(
     requires join { CanJoin left.now (gathered row.nodes.now) }
     requires near { IsNear left.now (gathered row.nodes.now) }
     ensures join { IfOk result (λ node. IsJoin left.now (gathered row.entry.nodes.now) node) }
-    ensures made_ok { IfOk result (λ node. made.new + 2 * left.now.height ≤ made.old + 2 * node.height + 3) }
-    ensures made { made.new ≤ made.old + 2 * (height_of row.entry.nodes.now - left.now.height) + 5 }
+    ensures made_ok { IfOk result (λ node. maker.new.made + 2 * left.now.height ≤ maker.old.made + 2 * node.height + 3) }
+    ensures made { maker.new.made ≤ maker.old.made + 2 * (height_of row.entry.nodes.now - left.now.height) + 5 }
 {
     let nodes = row.nodes;
     if nodes.len() == 1 {
-        return join(alloc, left, &nodes[0], made);
+        return join(maker, left, &nodes[0]);
     }
-    let middle = unite(alloc, left, &nodes[0], made)?;
-    let parts = pack(alloc, Row::none(), middle, row.rest(1), made)?;
-    root_of(alloc, parts, made)
+    let middle = unite(maker, left, &nodes[0])?;
+    let parts = pack(maker, Row::none(), middle, row.rest(1))?;
+    root_of(maker, parts)
 }

@@ -7,9 +7,9 @@ ghost use Rattle.rope_join.specs.Cut.{side_of};
 
 use rope_text::{LineBreaks, TextInfo};
 use rope_tree::counts::shared_breaks;
+use rope_tree::maker::{Made, Maker};
 use rope_tree::node::{Node, make_leaf};
 use rope_tree::short_text::ShortText;
-use std::alloc::{AllocError, Global};
 
 /// The two sides of a place at which a text is cut.
 #[derive(Clone, Copy)]
@@ -33,19 +33,18 @@ fn part_info(both: TextInfo, part: &str, other: &str, breaks: LineBreaks) -> Tex
 /// for its text at each node.
 #[inline(never)]
 pub(crate) fn leaf_part(
-    alloc: Global,
+    maker: &mut Maker,
     node: &Node,
     leaf: &ShortText<'_>,
     at: usize,
     side: Side,
-    made: &mut u64,
-) -> Result<Node, AllocError>
+) -> Made<Node>
     requires leaf { node.now ≡ leaf_tree node.now.breaks leaf.now }
     requires some { 1 ≤ at }
     requires within { at < length leaf.now }
     ensures ok { IfOk result (λ part. part ≡ leaf_tree node.now.breaks (side_of side at leaf.now)) }
     ensures tree { IfOk result (λ part. IsTree part) }
-    ensures made { made.new ≤ made.old + 1 }
+    ensures made { maker.new.made ≤ maker.old.made + 1 }
 {
     let breaks = node.line_breaks();
     let text = leaf.as_str();
@@ -60,11 +59,5 @@ pub(crate) fn leaf_part(
     if let Side::Back = side {
         (part, other) = (back, front);
     }
-    make_leaf(
-        alloc,
-        breaks,
-        part,
-        part_info(both, part, other, breaks),
-        made,
-    )
+    make_leaf(maker, breaks, part, part_info(both, part, other, breaks))
 }

@@ -1,15 +1,16 @@
 //! Trees of texts.
 use rope_text::LineBreaks;
 use rope_tree::build::build;
+use rope_tree::maker::Maker;
 use std::alloc::{AllocError, Global};
 
 /// How many nodes a tree of the text took, its height, and its bytes, characters and line breaks.
 fn counts(alloc: Global, text: &str, breaks: LineBreaks) -> Result<(u64, [usize; 4]), AllocError> {
-    let mut made = 0;
-    let node = build(alloc, text, breaks, &mut made)?;
+    let mut maker = Maker::new(alloc);
+    let node = build(&mut maker, text, breaks)?;
     let info = node.info();
     Ok((
-        made,
+        maker.made,
         [node.height(), info.bytes, info.chars, info.break_count],
     ))
 }

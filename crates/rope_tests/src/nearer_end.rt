@@ -7,6 +7,7 @@ use rope_text::str_utils::{byte_to_char_idx_of, char_to_byte_idx_of, count_chars
 use rope_text::{LineBreaks, Steps};
 use rope_tree::build::build;
 use rope_tree::conversions::convert;
+use rope_tree::maker::Maker;
 use rope_tree::node::Node;
 use rope_tree::node_text::NodeText;
 use rope_tree::search::Unit;
@@ -85,7 +86,7 @@ fn has_places_of(node: &Node, text: &str) -> bool {
 }
 
 fn is_right_in_a_tree(alloc: Global, text: &str) -> bool {
-    match build(alloc, text, LineBreaks::Lf, &mut 0) {
+    match build(&mut Maker::new(alloc), text, LineBreaks::Lf) {
         Ok(node) => has_places_of(&node, text),
         Err(_) => false,
     }

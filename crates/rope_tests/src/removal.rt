@@ -1,20 +1,15 @@
 //! Characters taken out of one leaf.
 use rope_text::LineBreaks;
 use rope_tree::build::build;
+use rope_tree::maker::{Made, Maker};
 use rope_tree::node::Node;
 use rope_tree::removal::remove_at;
-use std::alloc::{AllocError, Global};
+use std::alloc::Global;
 
 /// Removes where the characters are there.
-fn remove(
-    alloc: Global,
-    root: &mut Node,
-    start: usize,
-    end: usize,
-    made: &mut u64,
-) -> Result<bool, AllocError> {
+fn remove(maker: &mut Maker, root: &mut Node, start: usize, end: usize) -> Made<bool> {
     if start < end && end <= root.info().chars {
-        return remove_at(alloc, root, start, end, made);
+        return remove_at(maker, root, start, end);
     }
     Ok(false)
 }
@@ -28,7 +23,7 @@ fn becomes<F: FnOnce(&mut Node) -> bool>(
 ) -> bool
     requires { F.IsAlwaysCallable is_right }
 {
-    match build(alloc, text, breaks, &mut 0) {
+    match build(&mut Maker::new(alloc), text, breaks) {
         Ok(mut root) => is_right(&mut root),
         Err(_) => false,
     }
@@ -49,18 +44,18 @@ fn becomes_of_lines<F: FnOnce(&mut Node) -> bool>(
 }
 
 fn removes_in_place(alloc: Global, root: &mut Node) -> bool {
-    let mut made = 0;
-    remove(alloc, root, 4000, 4008, &mut made) == Ok(true)
-        && made == 0
+    let mut maker = Maker::new(alloc);
+    remove(&mut maker, root, 4000, 4008) == Ok(true)
+        && maker.made == 0
         && [root.info().bytes, root.info().break_count] == [7992, 999]
 }
 
 fn removes_by_copies(alloc: Global, root: &mut Node) -> bool {
-    let mut made = 0;
+    let mut maker = Maker::new(alloc);
     match root.share() {
         Ok(other) => {
-            remove(alloc, root, 4003, 4005, &mut made) == Ok(true)
-                && made == 2
+            remove(&mut maker, root, 4003, 4005) == Ok(true)
+                && maker.made == 2
                 && [root.info().chars, other.info().chars] == [7990, 7992]
         }
         Err(_) => false,
@@ -78,22 +73,25 @@ fn removes_in_place_or_by_copies(rt: HostRuntime) {
 }
 
 fn removes_in_no_two_leaves(alloc: Global, root: &mut Node) -> bool {
-    remove(alloc, root, 0, 2000, &mut 0) == Ok(false) && root.info().chars == 8000
+    let mut maker = Maker::new(alloc);
+    remove(&mut maker, root, 0, 2000) == Ok(false) && root.info().chars == 8000
 }
 
 fn removes_no_whole_leaf(alloc: Global, leaf: &mut Node) -> bool {
-    remove(alloc, leaf, 0, 6, &mut 0) == Ok(false)
-        && remove(alloc, leaf, 1, 6, &mut 0) == Ok(true)
+    let mut maker = Maker::new(alloc);
+    remove(&mut maker, leaf, 0, 6) == Ok(false)
+        && remove(&mut maker, leaf, 1, 6) == Ok(true)
         && leaf.info().bytes == 1
 }
 
 // Leaves of 984 bytes: at a leaf's ends no LF may come first and no CR last; inside they may meet.
 fn bares_no_end(alloc: Global, root: &mut Node) -> bool {
-    remove(alloc, root, 983, 984, &mut 0) == Ok(false)
-        && remove(alloc, root, 984, 991, &mut 0) == Ok(false)
-        && remove(alloc, root, 982, 984, &mut 0) == Ok(true)
+    let mut maker = Maker::new(alloc);
+    remove(&mut maker, root, 983, 984) == Ok(false)
+        && remove(&mut maker, root, 984, 991) == Ok(false)
+        && remove(&mut maker, root, 982, 984) == Ok(true)
         && root.info().break_count == 999
-        && remove(alloc, root, 7, 15, &mut 0) == Ok(true)
+        && remove(&mut maker, root, 7, 15) == Ok(true)
         && [root.info().break_count, root.info().chars] == [998, 7990]
 }
 

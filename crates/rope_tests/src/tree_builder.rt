@@ -1,6 +1,8 @@
 //! Trees of texts that are passed in one after the other.
 use rope_text::LineBreaks;
 use rope_tree::builder::Builder;
+use rope_tree::maker::Maker;
+use std::alloc::Global;
 
 const PIECES: [&str; 5] = ["a\r", "\nbä", "", "日本", "𝄞"];
 
@@ -24,8 +26,14 @@ fn appends_all(builder: &mut Builder) -> bool {
 }
 
 /// Whether the builder ends in a tree of this height, with so many bytes and line breaks.
-fn ends_in(builder: Builder, height: usize, bytes: usize, break_count: usize) -> bool {
-    match builder.finish(&mut 0) {
+fn ends_in(
+    alloc: Global,
+    builder: Builder,
+    height: usize,
+    bytes: usize,
+    break_count: usize,
+) -> bool {
+    match builder.finish(&mut Maker::new(alloc)) {
         Ok(node) => {
             let info = node.info();
             [node.height(), info.bytes, info.break_count] == [height, bytes, break_count]
@@ -38,11 +46,11 @@ fn ends_in(builder: Builder, height: usize, bytes: usize, break_count: usize) ->
 fn pieces(rt: HostRuntime) {
     let mut builder = Builder::new(rt.alloc(), LineBreaks::Unicode);
     assert!(rt; appends_all(&mut builder));
-    assert!(rt; ends_in(builder, 1, 16_000, 1000));
+    assert!(rt; ends_in(rt.alloc(), builder, 1, 16_000, 1000));
 }
 
 #[test]
 fn nothing(rt: HostRuntime) {
     let builder = Builder::new(rt.alloc(), LineBreaks::Unicode);
-    assert!(rt; ends_in(builder, 0, 0, 0));
+    assert!(rt; ends_in(rt.alloc(), builder, 0, 0, 0));
 }

@@ -1,5 +1,5 @@
 -- What the form of a node says of it.
-use Rattle.std.proofs.Common.{◌≡◌, ℕ, Bool, true, false, Result, Ok, Err, IfOk, OnErr, List, [], ◌∷◌, refl, sym, ap, subst, ◌∙◌, arith}
+use Rattle.std.proofs.Common.{◌≡◌, ℕ, Bool, true, false, Result, Ok, Err, List, [], ◌∷◌, refl, sym, ap, subst, ◌∙◌, arith}
 use Rattle.std.proofs.lemmas.List.{nil_from_length}
 use Rattle.std.proofs.lemmas.Str.{length-le-encodes}
 use Rattle.std.specs.declared.alloc.Global.{Global}
@@ -14,6 +14,7 @@ use Rattle.rope_tree.specs.Tree.{Tree, text, joined, height_of, breaks_of, tree_
 use Rattle.rope_tree.specs.Shape.{form_tree, tree_of, IsForm, IsNode}
 use Rattle.rope_tree.specs.Insert.{IsInserted, AreGrown}
 use Rattle.rope_tree.specs.Removal.{IsRemoved, AreRemoved}
+use Rattle.rope_tree.specs.Tries.{IsTried}
 use Rattle.rope_tree.proofs.NodeLaws.{children_of_first}
 use Rattle.rope_tree.proofs.RemovalLaws.{over_removed}
 use Rattle.rope_tree.proofs.GrownLaws.{children_after, over_grown}
@@ -46,9 +47,21 @@ pub by_answer : {P : Type 0} (b : Bool) → (b ≡ true → P) → (b ≡ false 
 by_answer true f g = f refl
 by_answer false f g = g refl
 
-pub by_outcome : {E Q S P : Type 0} (r : Result Bool E) → IfOk r (λ did. did ≡ true → Q) → IfOk r (λ did. did ≡ false → S) → OnErr r S → (Q → P) → (S → P) → P
-by_outcome (Ok did) done kept err f g = by_answer did (λ y. f (done y)) (λ n. g (kept n))
-by_outcome (Err e) done kept err f g = g err
+pub by_outcome : {E A Q P : Type 0} (r : Result Bool E) (old new : A) → IsTried r old new Q → (Q → P) → (new ≡ old → P) → P
+by_outcome (Ok did) old new i f g = by_answer did (λ y. f (i.done y)) (λ n. g (i.kept n))
+by_outcome (Err e) old new i f g = g i.err
+
+-- what was not tried
+pub not_tried : {E A P : Type 0} (old new : A) → new ≡ old → IsTried {E = E} (Ok false) old new P
+not_tried old new same = record { done = λ yes. cc; kept = λ no. same; err = tt }
+
+-- the same of what holds it, and of what follows
+pub tried_in : {E A B P Q : Type 0} (r : Result Bool E) (f : A → B) (old new : A) (t u : B) → t ≡ f old → u ≡ f new → (P → Q) → IsTried r old new P → IsTried r t u Q
+tried_in (Ok did) f old new t u e g q i = record { done = λ yes. q (i.done yes); kept = λ no. g ∙ ap f (i.kept no) ∙ sym e; err = tt }
+tried_in (Err x) f old new t u e g q i = record { done = tt; kept = tt; err = g ∙ ap f i.err ∙ sym e }
+
+pub tried_weaker : {E A P Q : Type 0} (r : Result Bool E) (old new : A) → (P → Q) → IsTried r old new P → IsTried r old new Q
+tried_weaker r old new q i = tried_in r (λ x. x) old new old new refl refl q i
 
 pub still_children : (t : Tree) (ts us : List Tree) → IsInner t ts → us ≡ ts → AreChildren (breaks_of us) (height_of us) us
 still_children t ts us i same = rw same i.children

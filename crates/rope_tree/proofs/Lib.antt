@@ -32,6 +32,7 @@ pub mod InsertLaws
 pub mod InsertTrees
 pub mod InsertLeaves
 pub mod InsertDescents
+pub mod Gathered
 pub mod InsertRoots
 pub mod BuildLaws
 pub mod FrontLaws

@@ -47,9 +47,12 @@ pub height_of_is : (breaks : LineBreaks) (h : ℕ) (ts : List Tree) → 1 ≤ le
 height_of_is breaks h [] some each = absurd (omega arith)
 height_of_is breaks h (t ∷ ts) some each = (All-head (IsChild breaks h) t ts each).at_height
 
+pub breaks_of_wide : (breaks : LineBreaks) (w h : ℕ) (ts : List Tree) → 1 ≤ length ts → All (IsWide breaks w h) ts → breaks_of ts ≡ breaks
+breaks_of_wide breaks w h [] some each = absurd (omega arith)
+breaks_of_wide breaks w h (t ∷ ts) some each = (All-head (IsWide breaks w h) t ts each).same_breaks
+
 pub breaks_of_is : (breaks : LineBreaks) (h : ℕ) (ts : List Tree) → 1 ≤ length ts → All (IsChild breaks h) ts → breaks_of ts ≡ breaks
-breaks_of_is breaks h [] some each = absurd (omega arith)
-breaks_of_is breaks h (t ∷ ts) some each = (All-head (IsChild breaks h) t ts each).same_breaks
+breaks_of_is breaks h ts some each = breaks_of_wide breaks 12 h ts some each
 
 -- a node over children
 pub is_tree_over : (breaks : LineBreaks) (h : ℕ) (ts : List Tree) → AreChildren breaks h ts → IsTree (tree_over ts)

@@ -1,10 +1,18 @@
 -- What an insert into a tree needs and gives.
-use Rattle.std.specs.Prelude.{◌≡◌, ℕ, ◌+◌, ◌≤◌, ◌<◌, ◌⊎◌, Bool, true, false, List, length, drop}
-use Rattle.rope_text.specs.declared.TheConstants.{MAX_CHILDREN, MIN_HALF_BYTES}
+use Rattle.std.specs.Prelude.{◌≡◌, ℕ, ◌+◌, ◌≤◌, ◌<◌, ◌^◌, ◌⊎◌, Bool, true, false, List, length, drop}
+use Rattle.rope_text.specs.declared.TheConstants.{MAX_CHILDREN, MAX_SHORT_BYTES, MIN_HALF_BYTES}
+use Rattle.rope_text.specs.Text.{byte_len}
 use Rattle.rope_text.specs.Breaks.{begins_with_lf}
 use Rattle.rope_tree.specs.Leaves.{AreLeaves, IsSeam, StandFor}
 use Rattle.rope_tree.specs.Tree.{Tree, text, joined, leaves_of, height_of, breaks_of}
 use Rattle.rope_tree.specs.Siblings.{AreSiblings, AreParts}
+
+-- a tree takes a text of 1 to 981 bytes before its character `at`, and has fewer than 2^63 bytes with it
+pub record TakesShort (t : Tree) (at : ℕ) (new : List ℕ) : Type 0 where
+  pub within : at ≤ length (text t)
+  pub some : 1 ≤ length new
+  pub short : byte_len new ≤ MAX_SHORT_BYTES
+  pub fits : byte_len (text t) + byte_len new < 2 ^ 63
 
 -- on which side of a seam a text goes: to the left of it, where it doesn't end in CR before an LF, or else to the right, before that LF
 pub record MayInsert (t : Tree) (at : ℕ) (new : List ℕ) (to_right : Bool) : Type 0 where

@@ -25,3 +25,4 @@ pub mod StepBounds
 pub mod Conversions
 pub mod Insert
 pub mod Removal
+pub mod Tries

@@ -1,11 +1,11 @@
 -- Trees side by side, and what becomes of them.
-use Rattle.std.specs.Prelude.{◌≡◌, ℕ, ◌^◌, ◌≤◌, ◌<◌, min, List, length}
+use Rattle.std.specs.Prelude.{◌≡◌, ℕ, ◌^◌, ◌≤◌, ◌<◌, min, List, [], ◌∷◌, length}
 use Rattle.std.specs.List.{All}
 use Rattle.rope_text.specs.declared.TheConstants.{MAX_CHILDREN, MIN_CHILDREN}
 use Rattle.rope_text.specs.declared.line_breaks.LineBreaks.{LineBreaks}
 use Rattle.rope_text.specs.Text.{byte_len}
 use Rattle.rope_tree.specs.Leaves.{AreLeaves}
-use Rattle.rope_tree.specs.Tree.{Tree, joined, leaves_of, IsWide, IsChild}
+use Rattle.rope_tree.specs.Tree.{Tree, joined, leaves_of, breaks_of, leaf_tree, tree_over, IsWide, IsChild}
 
 -- trees of height h side by side, of one set of line breaks
 pub record AreSiblings (breaks : LineBreaks) (h : ℕ) (ts : List Tree) : Type 0 where
@@ -20,3 +20,9 @@ pub record AreParts (breaks : LineBreaks) (least most h : ℕ) (ts : List Tree) 
   pub each : All (IsWide breaks (min MIN_CHILDREN least) h) ts
   pub two : length ts ≡ 2 → All (IsChild breaks h) ts
   pub full : length ts ≡ 2 → 1 ≤ h → MAX_CHILDREN < most
+
+-- trees side by side as one: the only one, or a node over them
+abbrev pub gathered : List Tree → Tree
+gathered [] = leaf_tree (breaks_of []) []
+gathered (t ∷ []) = t
+gathered (t ∷ u ∷ ts) = tree_over (t ∷ u ∷ ts)

@@ -6,34 +6,29 @@ ghost use Rattle.rope_tree.specs.Tree.{text, joined, leaves_of, height_of, break
 ghost use Rattle.rope_tree.specs.Siblings.{AreSiblings};
 
 use crate::insert::leaf_of;
+use crate::maker::{Made, Maker};
 use crate::node::Node;
 use crate::node::row::node_over;
 use crate::node_text::first_leaf_len;
 use rope_text::{FRESH_CHILDREN, LineBreaks, MAX_BYTES, MAX_CHILDREN};
-use std::alloc::{AllocError, Global};
 
 /// The leaves of a text that is not empty, in order, each but the last of 981 bytes or more.
-fn leaf_nodes(
-    alloc: Global,
-    whole: &str,
-    breaks: LineBreaks,
-    made: &mut u64,
-) -> Result<Vec<Node>, AllocError>
+fn leaf_nodes(maker: &mut Maker, whole: &str, breaks: LineBreaks) -> Made<Vec<Node>>
     requires { 0 < length whole.now }
     ensures siblings { IfOk result (λ nodes. AreSiblings breaks 0 nodes.items) }
     ensures text { IfOk result (λ nodes. joined nodes.items ≡ chars whole.now) }
     ensures some { IfOk result (λ nodes. 1 ≤ length nodes.items) }
     ensures few { IfOk result (λ nodes. length (leaves_of nodes.items) ≤ (length whole.now + (MIN_CUT_BYTES - 1)) / MIN_CUT_BYTES) }
-    ensures made { IfOk result (λ nodes. made.new ≤ made.old + length nodes.items) }
+    ensures made { IfOk result (λ nodes. maker.new.made ≤ maker.old.made + length nodes.items) }
 {
-    let mut nodes = Vec::new(alloc);
+    let mut nodes = Vec::new(maker.alloc);
     let mut rest = whole;
     while rest.len() > MAX_BYTES {
         let len = first_leaf_len(rest);
-        nodes.push(leaf_of(alloc, breaks, &rest[..len], made)?)?;
+        nodes.push(leaf_of(maker, breaks, &rest[..len])?)?;
         rest = &rest[len..];
     }
-    nodes.push(leaf_of(alloc, breaks, rest, made)?)?;
+    nodes.push(leaf_of(maker, breaks, rest)?)?;
     Ok(nodes)
 }
 
@@ -52,20 +47,20 @@ fn group_len(left: usize, groups: usize) -> usize
 }
 
 /// The nodes one level up, of 12 to 22 children each.
-fn level_over(alloc: Global, nodes: &[Node], made: &mut u64) -> Result<Vec<Node>, AllocError>
+fn level_over(maker: &mut Maker, nodes: &[Node]) -> Made<Vec<Node>>
     requires siblings { AreSiblings (breaks_of nodes.now) (height_of nodes.now) nodes.now }
     requires many { MAX_CHILDREN < length nodes.now }
     ensures siblings { IfOk result (λ level. AreSiblings (breaks_of nodes.now) (height_of nodes.now + 1) level.items) }
     ensures leaves { IfOk result (λ level. leaves_of level.items ≡ leaves_of nodes.now) }
     ensures few { IfOk result (λ level. length level.items ≡ (length nodes.now + (FRESH_CHILDREN - 1)) / FRESH_CHILDREN) }
-    ensures made { IfOk result (λ level. made.new ≤ made.old + length level.items) }
+    ensures made { IfOk result (λ level. maker.new.made ≤ maker.old.made + length level.items) }
 {
     let mut groups = nodes.len().div_ceil(FRESH_CHILDREN);
-    let mut level = Vec::with_capacity(alloc, groups)?;
+    let mut level = Vec::with_capacity(maker.alloc, groups)?;
     let mut rest = nodes;
     while groups > 0 {
         let len = group_len(rest.len(), groups);
-        level.push(node_over(alloc, &rest[..len], made)?)?;
+        level.push(node_over(maker, &rest[..len])?)?;
         rest = &rest[len..];
         groups -= 1;
     }
@@ -73,41 +68,36 @@ fn level_over(alloc: Global, nodes: &[Node], made: &mut u64) -> Result<Vec<Node>
 }
 
 /// The tree over the nodes, level by level up to one root.
-pub(crate) fn root_over(alloc: Global, nodes: Vec<Node>, made: &mut u64) -> Result<Node, AllocError>
+pub(crate) fn root_over(maker: &mut Maker, nodes: Vec<Node>) -> Made<Node>
     requires siblings { AreSiblings (breaks_of nodes.items) (height_of nodes.items) nodes.items }
     requires some { 1 ≤ length nodes.items }
     ensures leaves { IfOk result (λ node. node.leaves ≡ leaves_of nodes.items) }
     ensures breaks { IfOk result (λ node. node.breaks ≡ breaks_of nodes.items) }
     ensures tree { IfOk result (λ node. IsTree node) }
-    ensures made { IfOk result (λ _. made.new ≤ made.old + length nodes.items) }
+    ensures made { IfOk result (λ _. maker.new.made ≤ maker.old.made + length nodes.items) }
 {
     let mut level = nodes;
     while level.len() > MAX_CHILDREN {
-        level = level_over(alloc, &level, made)?;
+        level = level_over(maker, &level)?;
     }
     if level.len() == 1 {
         return Ok(level[0].share()?);
     }
-    Ok(node_over(alloc, &level, made)?)
+    Ok(node_over(maker, &level)?)
 }
 
 /// A tree of this text, built from the bottom: leaves cut in order, then nodes of 12 to 22 children level by level.
 /// It makes two nodes at the most for each leaf, and one for a text that fits in a leaf. No text is read twice for its counts.
-pub fn build(
-    alloc: Global,
-    whole: &str,
-    breaks: LineBreaks,
-    made: &mut u64,
-) -> Result<Node, AllocError>
+pub fn build(maker: &mut Maker, whole: &str, breaks: LineBreaks) -> Made<Node>
     ensures text { IfOk result (λ node. text node ≡ chars whole.now) }
     ensures breaks { IfOk result (λ node. node.breaks ≡ breaks) }
     ensures tree { IfOk result (λ node. IsTree node) }
     ensures few { IfOk result (λ node. length node.leaves ≤ (length whole.now + (MIN_CUT_BYTES - 1)) / MIN_CUT_BYTES) }
-    ensures made { IfOk result (λ node. made.new ≤ made.old + 2 * length node.leaves + 1) }
+    ensures made { IfOk result (λ node. maker.new.made ≤ maker.old.made + 2 * length node.leaves + 1) }
 {
     if whole.len() <= MAX_BYTES {
-        return Ok(leaf_of(alloc, breaks, whole, made)?);
+        return Ok(leaf_of(maker, breaks, whole)?);
     }
-    let leaves = leaf_nodes(alloc, whole, breaks, made)?;
-    Ok(root_over(alloc, leaves, made)?)
+    let leaves = leaf_nodes(maker, whole, breaks)?;
+    Ok(root_over(maker, leaves)?)
 }

@@ -9,11 +9,12 @@ ghost use Rattle.rope_tree.specs.Fronts.{AreFrontNodes};
 
 use crate::build::root_over;
 use crate::insert::leaf_of;
+use crate::maker::{Made, Maker};
 use crate::node::Node;
 use crate::node_text::{NodeText, first_leaf_len, join_parts};
 use rope_text::crlf::prev_break;
 use rope_text::{LineBreaks, MAX_BYTES, MIN_CUT_BYTES};
-use std::alloc::{AllocError, Global};
+use std::alloc::Global;
 use std::marker::Model;
 
 // More bytes than a leaf can have, even where the last of them begin a character or are a CR.
@@ -100,7 +101,7 @@ fn cut_leaves(
     leaves: &mut Vec<Node>,
     rest: &mut NodeText,
     text: &str,
-) -> Result<(), AllocError>
+) -> Made<()>
     requires some { 0 < length text.now }
     requires nodes { AreFrontNodes breaks (joined leaves.old.items ++ (rest.old ++ chars text.now)) leaves.old.items (rest.old ++ chars text.now) }
     ensures nodes { IfOk result (λ _. AreFrontNodes breaks (joined leaves.old.items ++ (rest.old ++ chars text.now)) leaves.new.items rest.new) }
@@ -108,16 +109,17 @@ fn cut_leaves(
         ≤ MIN_CUT_BYTES * length (leaves_of leaves.old.items) + byte_len rest.old + length text.now) }
     ensures followed { IfOk result (λ _. 0 < byte_len rest.new) }
 {
+    let mut maker = Maker::new(alloc);
     let mut left = text;
     while rest.len() + left.len() > MAX_BYTES {
         let taken = fill_up(rest, left);
         if taken > 0 {
-            leaves.push(leaf_of(alloc, breaks, rest.as_str(), &mut 0)?)?;
+            leaves.push(leaf_of(&mut maker, breaks, rest.as_str())?)?;
             rest.set("");
             left = &left[taken..];
         } else {
             let front = cut_at_seam(rest, left);
-            leaves.push(leaf_of(alloc, breaks, front.leaf.as_str(), &mut 0)?)?;
+            leaves.push(leaf_of(&mut maker, breaks, front.leaf.as_str())?)?;
             *rest = front.rest;
             left = &left[front.taken..];
         }
@@ -171,7 +173,7 @@ impl Builder {
 
     /// Puts a text behind what was passed in. Where memory is refused, it is as if nothing had been passed in. An empty
     /// text takes no memory.
-    pub fn append(&mut self, text: &str) -> Result<(), AllocError>
+    pub fn append(&mut self, text: &str) -> Made<()>
         requires { byte_len self.old.text + length text.now < 2 ^ 63 }
         ensures ok { OnOk result (self.new.text ≡ self.old.text ++ chars text.now) }
         ensures err { OnErr result (self.new.text ≡ []) }
@@ -200,19 +202,19 @@ impl Builder {
 
     /// The tree of what was passed in, with at most one leaf for each 981 bytes and one for the rest. The nodes that it
     /// makes are counted, and those that were made before are not.
-    pub fn finish(self, made: &mut u64) -> Result<Node, AllocError>
+    pub fn finish(self, maker: &mut Maker) -> Made<Node>
         ensures text { IfOk result (λ node. text node ≡ self.text) }
         ensures breaks { IfOk result (λ node. node.breaks ≡ self.breaks) }
         ensures tree { IfOk result (λ node. IsTree node) }
         ensures few { IfOk result (λ node. length node.leaves ≤ (byte_len self.text + (MIN_CUT_BYTES - 1)) / MIN_CUT_BYTES) }
-        ensures made { IfOk result (λ node. made.new ≤ made.old + length node.leaves + 1) }
+        ensures made { IfOk result (λ node. maker.new.made ≤ maker.old.made + length node.leaves + 1) }
     {
-        let rest = leaf_of(self.alloc, self.breaks, self.rest.as_str(), made)?;
+        let rest = leaf_of(maker, self.breaks, self.rest.as_str())?;
         if self.leaves.is_empty() {
             return Ok(rest);
         }
         let mut leaves = self.leaves;
         leaves.push(rest)?;
-        Ok(root_over(self.alloc, leaves, made)?)
+        Ok(root_over(maker, leaves)?)
     }
 }

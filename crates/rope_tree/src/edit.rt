@@ -1,22 +1,20 @@
 //! Edits of whole trees.
-ghost use Rattle.std.specs.Prelude.{◌≡◌, ◌+◌, ◌-◌, ◌*◌, ◌<◌, ◌≤◌, ◌^◌, ◌&&◌, true, false, length, drop, IfOk, OnOk, OnErr};
+ghost use Rattle.std.specs.Prelude.{◌≡◌, ◌+◌, ◌*◌, ◌<◌, ◌≤◌, ◌^◌, length, drop, OnOk, OnErr};
 ghost use Rattle.std.specs.Str.{chars};
 ghost use Rattle.rope_text.specs.declared.TheConstants.{MAX_SHORT_BYTES};
 ghost use Rattle.rope_text.specs.Text.{byte_len};
 ghost use Rattle.rope_text.specs.Breaks.{begins_with_lf};
 ghost use Rattle.rope_text.specs.Edit.{inserted};
 ghost use Rattle.rope_tree.specs.Tree.{text, IsTree};
-ghost use Rattle.rope_tree.specs.View.{trees_in};
-ghost use Rattle.rope_tree.specs.Insert.{MayInsert, IsInserted};
 
 use crate::counts::ends_in_cr;
 use crate::insert::insert;
 use crate::lookup::char_at;
-use crate::node::row::node_over;
-use crate::node::{Node, Nodes};
+use crate::maker::{Made, Maker};
+use crate::node::Node;
+use crate::node::row::root_of;
 use crate::short_text::ShortText;
 use rope_text::{Steps, TextInfo};
-use std::alloc::{AllocError, Global};
 
 /// Whether an LF stands at a place.
 pub fn is_lf(node: &Node, at: usize) -> bool
@@ -27,95 +25,10 @@ pub fn is_lf(node: &Node, at: usize) -> bool
     at < node.info().chars && char_at(node, at, &mut Steps::new()) == '\n'
 }
 
-/// Whether a text that is put in at a seam goes to the right of it: where it ends in CR, so that it can't part that CR from
-/// an LF there. No CR stands before the LF across a seam.
-fn goes_right(node: &Node, at: usize, added: &ShortText<'_>) -> bool
-    requires { at ≤ length (text node.now) }
-    ensures { MayInsert node.now at added.now result }
-{
-    ends_in_cr(added.as_str()) && is_lf(node, at)
-}
-
-/// Puts a text of at most 981 bytes before the character `at` where the nodes stand; returns whether it did.
-fn insert_in_place(
-    alloc: Global,
-    root: &mut Node,
-    at: usize,
-    added: &ShortText<'_>,
-    made: &mut u64,
-) -> Result<bool, AllocError>
-    requires within { at ≤ length (text root.old) }
-    requires some { 1 ≤ length added.now }
-    requires short { byte_len added.now ≤ MAX_SHORT_BYTES }
-    requires fits { byte_len (text root.old) + byte_len added.now < 2 ^ 63 }
-    ensures text { IfOk result (λ did. did ≡ true → text root.new ≡ inserted (text root.old) at added.now) }
-    ensures breaks { root.new.breaks ≡ root.old.breaks }
-    ensures tree { IfOk result (λ did. did ≡ true → IsTree root.new) }
-    ensures kept { IfOk result (λ did. did ≡ false → root.new ≡ root.old) }
-    ensures err { OnErr result (root.new ≡ root.old) }
-    ensures made { made.new ≤ made.old + root.old.height + 2 }
-{
-    let to_right = goes_right(root, at, added);
-    root.insert_in_place(alloc, at, added, to_right, true, &mut TextInfo::new(), made)
-}
-
-/// One tree over the nodes that an insert into `old` made.
-fn root_of(
-    alloc: Global,
-    old: &Node,
-    nodes: Nodes,
-    added: &ShortText<'_>,
-    at: usize,
-    made: &mut u64,
-) -> Result<Node, AllocError>
-    requires inserted { IsInserted old.now (trees_in nodes) (inserted (text old.now) at added.now) }
-    requires fits { byte_len (text old.now) + byte_len added.now < 2 ^ 63 }
-    ensures text { IfOk result (λ node. text node ≡ inserted (text old.now) at added.now) }
-    ensures breaks { IfOk result (λ node. node.breaks ≡ old.now.breaks) }
-    ensures made { made.new ≤ made.old + 1 }
-    ensures rises { made.old ≤ made.new }
-{
-    match nodes {
-        Nodes::One(node) => Ok(node),
-        Nodes::Two(first, second) => {
-            let node = node_over(alloc, &[first, second], made)?;
-            Ok(node)
-        }
-    }
-}
-
-/// The tree with a text of at most 981 bytes before its character `at`. The old tree stays as it is.
-pub fn insert_short(
-    alloc: Global,
-    node: &Node,
-    at: usize,
-    added: &ShortText<'_>,
-    made: &mut u64,
-) -> Result<Node, AllocError>
-    requires within { at ≤ length (text node.now) }
-    requires some { 1 ≤ length added.now }
-    requires short { byte_len added.now ≤ MAX_SHORT_BYTES }
-    requires fits { byte_len (text node.now) + byte_len added.now < 2 ^ 63 }
-    ensures text { IfOk result (λ new. text new ≡ inserted (text node.now) at added.now) }
-    ensures breaks { IfOk result (λ new. new.breaks ≡ node.now.breaks) }
-    ensures made { made.new ≤ made.old + 2 * node.now.height + 3 }
-    ensures some_made { made.old < 18446744073709551615 → made.old < made.new }
-{
-    let to_right = goes_right(node, at, added);
-    let nodes = insert(alloc, node, at, added, to_right, made)?;
-    Ok(root_of(alloc, node, nodes, added, at, made)?)
-}
-
 /// Puts a text of 1 to 981 bytes before the character `at`: where the nodes stand, if the leaf has room, or is cut into two below
 /// a node that has room for one more, which takes memory for copies of shared nodes and for the second part alone; and else in a
 /// tree that takes the old one's place last of all.
-pub fn insert_at(
-    alloc: Global,
-    root: &mut Node,
-    at: usize,
-    added: &str,
-    made: &mut u64,
-) -> Result<(), AllocError>
+pub fn insert_at(maker: &mut Maker, root: &mut Node, at: usize, added: &str) -> Made<()>
     requires within { at ≤ length (text root.old) }
     requires some { 1 ≤ length added.now }
     requires short { length added.now ≤ MAX_SHORT_BYTES }
@@ -124,15 +37,17 @@ pub fn insert_at(
     ensures breaks { root.new.breaks ≡ root.old.breaks }
     ensures tree { IsTree root.new }
     ensures err { OnErr result (root.new ≡ root.old) }
-    ensures made { made.new ≤ made.old + 3 * root.old.height + 5 }
+    ensures made { maker.new.made ≤ maker.old.made + 3 * root.old.height + 5 }
 {
     let _ = root.height();
     let added = ShortText::new(added);
-    if insert_in_place(alloc, root, at, &added, made)? {
+    // At a seam it goes to the right where it ends in CR, so that it can't part that CR from an LF there. No CR stands before the LF
+    // across a seam.
+    let to_right = ends_in_cr(added.as_str()) && is_lf(root, at);
+    if root.insert_in_place(maker, at, &added, to_right, true, &mut TextInfo::new())? {
         return Ok(());
     }
-    let new = insert_short(alloc, root, at, &added, made)?;
-    let _ = new.height();
-    *root = new;
+    let nodes = insert(maker, root, at, &added, to_right)?;
+    *root = root_of(maker, nodes)?;
     Ok(())
 }

@@ -9,99 +9,89 @@ ghost use Rattle.rope_tree.specs.Search.{count_of};
 ghost use Rattle.rope_tree.specs.Tree.{text, leaf_tree, IsTree};
 ghost use Rattle.rope_tree.specs.Totals.{HasTotals};
 ghost use Rattle.rope_tree.specs.View.{trees_in};
-ghost use Rattle.rope_tree.specs.Insert.{MayInsert, IsInserted};
+ghost use Rattle.rope_tree.specs.Insert.{TakesShort, MayInsert, IsInserted};
 
 use crate::counts::leaf_with;
 use crate::lookup::total_before;
+use crate::maker::{Made, Maker};
 use crate::node::row::{Row, pack};
 use crate::node::{Node, Nodes, View, make_leaf};
 use crate::node_text::halves_of;
 use crate::search::{Unit, char_to_hold, place_of};
 use crate::short_text::ShortText;
 use rope_text::{LineBreaks, MAX_BYTES, Steps, TextInfo};
-use std::alloc::{AllocError, Global};
 
 /// A leaf of its own with this text.
-pub fn leaf_of(
-    alloc: Global,
-    breaks: LineBreaks,
-    text: &str,
-    made: &mut u64,
-) -> Result<Node, AllocError>
+pub fn leaf_of(maker: &mut Maker, breaks: LineBreaks, text: &str) -> Made<Node>
     requires { length text.now ≤ MAX_BYTES }
     ensures ok { IfOk result (λ node. node ≡ leaf_tree breaks (chars text.now)) }
     ensures tree { IfOk result (λ node. IsTree node) }
-    ensures made { made.new ≤ made.old + 1 }
-    ensures added { made.old < 18446744073709551615 → made.new ≡ made.old + 1 }
+    ensures made { maker.new.made ≤ maker.old.made + 1 }
+    ensures added { maker.old.made < 18446744073709551615 → maker.new.made ≡ maker.old.made + 1 }
 {
     let info = TextInfo::from_str(text, breaks);
-    make_leaf(alloc, breaks, text, info, made)
+    make_leaf(maker, breaks, text, info)
 }
 
 /// The leaf with another text before its character `at`, or two leaves where one can't hold both. The counts of the leaf
 /// that was are not taken again: only the new text is counted, and of two leaves the first.
 fn insert_into_leaf(
-    alloc: Global,
+    maker: &mut Maker,
     node: &Node,
     leaf: &ShortText<'_>,
     at: usize,
     added: &ShortText<'_>,
-    made: &mut u64,
-) -> Result<Nodes, AllocError>
+) -> Made<Nodes>
     requires leaf { node.now ≡ leaf_tree node.now.breaks leaf.now }
     requires some { 1 ≤ length added.now }
     requires short { byte_len added.now ≤ MAX_SHORT_BYTES }
     ensures ok { IfOk result (λ nodes. IsInserted node.now (trees_in nodes) (inserted leaf.now at added.now)) }
-    ensures made { made.new ≤ made.old + 2 }
-    ensures some_made { made.old < 18446744073709551615 → made.old < made.new }
-    ensures rises { made.old ≤ made.new }
+    ensures made { maker.new.made ≤ maker.old.made + 2 }
+    ensures some_made { maker.old.made < 18446744073709551615 → maker.old.made < maker.new.made }
+    ensures rises { maker.old.made ≤ maker.new.made }
 {
     let breaks = node.line_breaks();
     let (grown, info) = leaf_with(node.info(), leaf, at, added, breaks);
     let text = grown.as_str();
     if text.len() <= MAX_BYTES {
-        let node = make_leaf(alloc, breaks, text, info, made)?;
+        let node = make_leaf(maker, breaks, text, info)?;
         return Ok(Nodes::One(node));
     }
     let halves = halves_of(text);
     let front_info = TextInfo::from_str(halves.front, breaks);
     let back_info = info.minus(front_info);
-    let first = make_leaf(alloc, breaks, halves.front, front_info, made)?;
-    let second = make_leaf(alloc, breaks, halves.back, back_info, made)?;
+    let first = make_leaf(maker, breaks, halves.front, front_info)?;
+    let second = make_leaf(maker, breaks, halves.back, back_info)?;
     Ok(Nodes::Two(first, second))
 }
 
 /// The tree with a text of at most 981 bytes before its character `at`, as one tree or two of the same height. The old
 /// tree stays as it is; what both have in common is shared.
 pub fn insert(
-    alloc: Global,
+    maker: &mut Maker,
     node: &Node,
     at: usize,
     added: &ShortText<'_>,
     to_right: bool,
-    made: &mut u64,
-) -> Result<Nodes, AllocError>
-    requires within { at ≤ length (text node.now) }
-    requires some { 1 ≤ length added.now }
-    requires short { byte_len added.now ≤ MAX_SHORT_BYTES }
-    requires fits { byte_len (text node.now) + byte_len added.now < 2 ^ 63 }
+) -> Made<Nodes>
+    requires takes { TakesShort node.now at added.now }
     requires side { MayInsert node.now at added.now to_right }
     ensures ok { IfOk result (λ nodes. IsInserted node.now (trees_in nodes) (inserted (text node.now) at added.now)) }
-    ensures made { made.new ≤ made.old + 2 * node.now.height + 2 }
-    ensures some_made { made.old < 18446744073709551615 → made.old < made.new }
-    ensures rises { made.old ≤ made.new }
+    ensures made { maker.new.made ≤ maker.old.made + 2 * node.now.height + 2 }
+    ensures some_made { maker.old.made < 18446744073709551615 → maker.old.made < maker.new.made }
+    ensures rises { maker.old.made ≤ maker.new.made }
 {
     let _ = node.height();
     match node.view() {
-        View::Leaf(leaf) => insert_into_leaf(alloc, node, &leaf, at, added, made),
+        View::Leaf(leaf) => insert_into_leaf(maker, node, &leaf, at, added),
         View::Inner(children, totals) => {
             let held = char_to_hold(at, to_right);
             let place = place_of(totals, Unit::Char, held, &mut Steps::new());
             let front = total_before(totals, place).chars;
-            let middle = insert(alloc, &children[place], at - front, added, to_right, made)?;
+            let middle = insert(maker, &children[place], at - front, added, to_right)?;
             let row = Row::of(children, totals);
             let (before, after) = (row.first(place), row.rest(place + 1));
-            Ok(pack(alloc, before, middle, after, made)?)
+            Ok(pack(maker, before, middle, after)?)
         }
     }
 }

@@ -1,9 +1,9 @@
 //! Leaves: a text with its counts and its set of line breaks.
 ghost use Rattle.std.specs.Prelude.{◌≡◌, ◌+◌, ◌<◌, ◌≤◌, [], ◌∷◌, true, false, length, IfOk, OnErr, IfSome, IfNone};
 ghost use Rattle.std.specs.Str.{chars};
-ghost use Rattle.rope_text.specs.declared.TheConstants.{MAX_BYTES, MAX_SHORT_BYTES};
 ghost use Rattle.rope_text.specs.Text.{byte_len};
 ghost use Rattle.rope_text.specs.TextInfo.{info_of};
+ghost use Rattle.rope_text.specs.declared.TheConstants.{MAX_BYTES, MAX_SHORT_BYTES};
 ghost use Rattle.rope_text.specs.Edit.{inserted};
 ghost use Rattle.rope_tree.specs.Tree.{text, leaf_tree};
 ghost use Rattle.rope_tree.specs.LeafTree.{IsLeafOf};
@@ -13,6 +13,7 @@ ghost use Rattle.rope_tree.specs.Removal.{IsRemoved};
 
 use crate::beside::Least;
 use crate::counts::{leaf_with, put_in, take_out};
+use crate::maker::{Made, Maker};
 use crate::node::{Node, make_leaf};
 use crate::node_text::{NodeText, halves_of};
 use crate::short_text::ShortText;
@@ -68,7 +69,7 @@ impl Leaf {
         breaks: LineBreaks,
         text: &str,
         info: TextInfo,
-    ) -> Result<Rc<Leaf>, AllocError>
+    ) -> Made<Rc<Leaf>>
         requires fits { length text.now ≤ MAX_BYTES }
         requires info { info ≡ info_of breaks (chars text.now) }
         ensures { IfOk result (λ leaf. leaf.value ≡ leaf_tree breaks (chars text.now)) }
@@ -86,7 +87,7 @@ impl Leaf {
     }
 
     /// The same leaf once more, with a copy of its text.
-    pub(crate) fn copied(&self, alloc: Global) -> Result<Rc<Leaf>, AllocError>
+    pub(crate) fn copied(&self, alloc: Global) -> Made<Rc<Leaf>>
         ensures { IfOk result (λ leaf. leaf.value ≡ self.now) }
     {
         let info = self.info();
@@ -159,18 +160,17 @@ impl Leaf {
     /// with the second. None, and nothing changed, where there is room. Where memory is refused, nothing is changed.
     pub(crate) fn cut(
         &mut self,
-        alloc: Global,
+        maker: &mut Maker,
         at: usize,
         added: &ShortText<'_>,
-        made: &mut u64,
-    ) -> Result<Option<Node>, AllocError>
+    ) -> Made<Option<Node>>
         requires some { 1 ≤ length added.now }
         requires short { byte_len added.now ≤ MAX_SHORT_BYTES }
         ensures cut { IfOk result (λ found. IfSome found (λ back. IsInserted self.old (self.new ∷ back ∷ []) (inserted (text self.old) at added.now))) }
         ensures kept { IfOk result (λ found. IfNone found (self.new ≡ self.old)) }
         ensures err { OnErr result (self.new ≡ self.old) }
-        ensures unmade { IfOk result (λ found. IfNone found (made.new ≡ made.old)) }
-        ensures made { made.new ≤ made.old + 1 }
+        ensures unmade { IfOk result (λ found. IfNone found (maker.new.made ≡ maker.old.made)) }
+        ensures made { maker.new.made ≤ maker.old.made + 1 }
     {
         let old = self.text();
         if old.len() + added.len() <= MAX_BYTES {
@@ -181,7 +181,7 @@ impl Leaf {
         let halves = halves_of(grown.as_str());
         let front_info = TextInfo::from_str(halves.front, breaks);
         let back_info = info.minus(front_info);
-        let behind = make_leaf(alloc, breaks, halves.back, back_info, made)?;
+        let behind = make_leaf(maker, breaks, halves.back, back_info)?;
         self.fill(breaks, halves.front, front_info);
         Ok(Some(behind))
     }

@@ -11,6 +11,7 @@ pub mod insert;
 mod leaf;
 mod leaf_bytes;
 pub mod lookup;
+pub mod maker;
 pub mod node;
 pub mod node_text;
 pub mod removal;

@@ -10,10 +10,10 @@ ghost use Rattle.rope_tree.specs.Flat.{IsFlat};
 ghost use Rattle.rope_tree.specs.View.{IsViewOf};
 
 use crate::leaf::Leaf;
+use crate::maker::{Made, Maker};
 use crate::search::Totals;
 use crate::short_text::ShortText;
 use rope_text::{LineBreaks, MAX_CHILDREN, TextInfo};
-use std::alloc::{AllocError, Global};
 use std::marker::Model;
 use std::rc::Rc;
 
@@ -199,7 +199,7 @@ impl Node {
     }
 
     /// The same node once more.
-    pub fn share(&self) -> Result<Node, AllocError>
+    pub fn share(&self) -> Made<Node>
         ensures { IfOk result (λ node. node ≡ self.now) }
     {
         let form = match &self.form {
@@ -225,36 +225,21 @@ pub enum Nodes {
     Two(Node, Node),
 }
 
-/// Counts a node that is made.
-fn add_made(made: &mut u64)
-    ensures most { made.new ≤ made.old + 1 }
-    ensures added { made.old < 18446744073709551615 → made.new ≡ made.old + 1 }
-    ensures rises { made.old ≤ made.new }
-{
-    *made = made.saturating_add(1);
-}
-
 /// A leaf with this text, whose counts the caller knows. An empty one takes no memory.
-pub fn make_leaf(
-    alloc: Global,
-    breaks: LineBreaks,
-    text: &str,
-    info: TextInfo,
-    made: &mut u64,
-) -> Result<Node, AllocError>
+pub fn make_leaf(maker: &mut Maker, breaks: LineBreaks, text: &str, info: TextInfo) -> Made<Node>
     requires fits { length text.now ≤ MAX_BYTES }
     requires info { info ≡ info_of breaks (chars text.now) }
     ensures ok { IfOk result (λ node. node ≡ leaf_tree breaks (chars text.now)) }
     ensures tree { IfOk result (λ node. IsTree node) }
-    ensures made { made.new ≤ made.old + 1 }
-    ensures added { made.old < 18446744073709551615 → made.new ≡ made.old + 1 }
-    ensures rises { made.old ≤ made.new }
+    ensures made { maker.new.made ≤ maker.old.made + 1 }
+    ensures added { maker.old.made < 18446744073709551615 → maker.new.made ≡ maker.old.made + 1 }
+    ensures rises { maker.old.made ≤ maker.new.made }
 {
-    add_made(made);
+    maker.add_made();
     let form = if info.bytes == 0 {
         Form::Empty(breaks)
     } else {
-        Form::Leaf(Leaf::with_text(alloc, breaks, text, info)?)
+        Form::Leaf(Leaf::with_text(maker.alloc, breaks, text, info)?)
     };
     let node = Node { form };
     let _ = node.height();

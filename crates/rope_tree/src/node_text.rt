@@ -222,26 +222,12 @@ impl NodeText {
         ensures to_boundary { IsCharBoundary (encode_utf8_all self.now) result.to }
     {
         let text = self.as_str();
-        if chars < text.len() {
-            return self.range_of_bytes(start, end, chars);
+        if chars == text.len() {
+            return ByteRange {
+                from: start.min(chars),
+                to: end.min(chars),
+            };
         }
-        ByteRange {
-            from: start.min(chars),
-            to: end.min(chars),
-        }
-    }
-
-    // The same, from the text's bytes.
-    fn range_of_bytes(&self, start: usize, end: usize, chars: usize) -> ByteRange
-        requires ordered { start ≤ end }
-        requires chars { chars ≡ length self.now }
-        ensures from { result.from ≡ byte_len (take start self.now) }
-        ensures to { result.to ≡ byte_len (take end self.now) }
-        ensures ordered { result.from ≤ result.to }
-        ensures from_boundary { IsCharBoundary (encode_utf8_all self.now) result.from }
-        ensures to_boundary { IsCharBoundary (encode_utf8_all self.now) result.to }
-    {
-        let text = self.as_str();
         let from = char_to_byte_idx_of(text, chars, start);
         let rest = chars.saturating_sub(start);
         let to = from + char_to_byte_idx_of(&text[from..], rest, end - start);

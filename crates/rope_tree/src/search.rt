@@ -7,6 +7,7 @@ ghost use Rattle.rope_tree.specs.declared.search.Unit.TheVariants.{Char};
 ghost use Rattle.rope_tree.specs.Search.{count_of, IsSmall, HasPart};
 ghost use Rattle.rope_tree.specs.Narrow.{IsBelow, IsNarrow, AreNarrow, FitsWith};
 
+use crate::maker::Made;
 use rope_text::{MIN_CHILDREN, Steps, TextInfo};
 use std::alloc::{AllocError, Global};
 use std::marker::Model;
@@ -67,7 +68,7 @@ impl Model for Totals {
 
 /// The same totals in words. It is kept out of the callers, which seldom come to it.
 #[inline(never)]
-fn widened(alloc: Global, totals: &CountRows<u32>) -> Result<Box<CountRows<usize>>, AllocError>
+fn widened(alloc: Global, totals: &CountRows<u32>) -> Made<Box<CountRows<usize>>>
     requires { length totals.now ≤ MAX_CHILDREN }
     ensures { IfOk result (λ wide. wide.value ≡ totals.now) }
 {
@@ -96,7 +97,7 @@ impl Totals {
     }
 
     /// The same totals once more. Wide ones take memory of their own.
-    pub(crate) fn copied(&self, alloc: Global) -> Result<Totals, AllocError>
+    pub(crate) fn copied(&self, alloc: Global) -> Made<Totals>
         ensures { IfOk result (λ copy. copy ≡ self.now) }
     {
         let width = match &self.width {
@@ -151,7 +152,7 @@ impl Totals {
 
     /// Puts the total of one child more behind the others.
     #[inline(always)]
-    pub(crate) fn push(&mut self, alloc: Global, total: TextInfo) -> Result<(), AllocError>
+    pub(crate) fn push(&mut self, alloc: Global, total: TextInfo) -> Made<()>
         requires room { length self.old < MAX_CHILDREN }
         requires small { IsSmall total }
         ensures ok { OnOk result (self.new ≡ self.old ++ total ∷ []) }
@@ -173,7 +174,7 @@ impl Totals {
     }
 
     /// The same totals in words.
-    fn widen(&mut self, alloc: Global) -> Result<(), AllocError>
+    fn widen(&mut self, alloc: Global) -> Made<()>
         requires { length self.old ≤ MAX_CHILDREN }
         ensures { self.new ≡ self.old }
     {
@@ -193,7 +194,7 @@ impl Totals {
         count: usize,
         old: TextInfo,
         new: TextInfo,
-    ) -> Result<bool, AllocError>
+    ) -> Made<bool>
         requires some { 1 ≤ count }
         requires within { from + count ≤ length others.now }
         requires few { length others.now ≤ MAX_CHILDREN }

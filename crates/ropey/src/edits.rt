@@ -13,6 +13,7 @@ use rope_join::cut::{back, front};
 use rope_join::edit::{append, remove};
 use rope_text::range::{IndexRange, char_bounds};
 use rope_text::{Error, MAX_TEXT_BYTES, Result, Steps};
+use rope_tree::maker::Maker;
 use std::mem;
 
 impl Rope {
@@ -70,8 +71,13 @@ impl Rope {
         ensures made { steps.new.made ≤ 16 * self.old.depth + 32 }
     {
         *steps = Steps::new();
-        let front = front(self.alloc, &self.root, char_idx, &mut steps.made)?;
-        let back = back(self.alloc, &self.root, char_idx, &mut steps.made)?;
+        let mut maker = Maker::new(self.alloc);
+        let front = front(&mut maker, &self.root, char_idx);
+        steps.made = maker.made;
+        let front = front?;
+        let back = back(&mut maker, &self.root, char_idx);
+        steps.made = maker.made;
+        let back = back?;
         let _ = front.height();
         let _ = back.height();
         self.root = front;
@@ -148,7 +154,10 @@ impl Rope {
         if start == end {
             return Ok(());
         }
-        Ok(remove(self.alloc, &mut self.root, start, end, &mut steps.made)?)
+        let mut maker = Maker::new(self.alloc);
+        let removed = remove(&mut maker, &mut self.root, start, end);
+        steps.made = maker.made;
+        Ok(removed?)
     }
 
     /// Puts the text of another rope behind this one's. The rope shares what it can of the other's tree.
@@ -203,7 +212,10 @@ impl Rope {
             mem::swap(&mut self.root, &mut other.root);
             return Ok(());
         }
-        self.root = append(self.alloc, &self.root, &other.root, &mut steps.made)?;
+        let mut maker = Maker::new(self.alloc);
+        let joined = append(&mut maker, &self.root, &other.root);
+        steps.made = maker.made;
+        self.root = joined?;
         let _ = self.root.height();
         Ok(())
     }

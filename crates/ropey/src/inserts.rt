@@ -13,16 +13,17 @@ use crate::rope::Rope;
 use rope_join::edit::insert;
 use rope_text::{Error, MAX_SHORT_BYTES, MAX_TEXT_BYTES, Result, Steps};
 use rope_tree::edit::insert_at;
+use rope_tree::maker::Maker;
 
 impl Rope {
     // Puts a text before a character, and counts the nodes that are made.
-    fn insert_made(&mut self, char_idx: usize, text: &str, made: &mut u64) -> Result<()>
+    fn insert_made(&mut self, char_idx: usize, text: &str, maker: &mut Maker) -> Result<()>
         ensures ok { OnOk result ((insert_error self.old.text char_idx (chars text.now) ≡ None) × (self.new.text ≡ inserted self.old.text char_idx (chars text.now))) }
         ensures refused { IfErr result (IsRefusal (insert_error self.old.text char_idx (chars text.now))) }
         ensures empty { length (chars text.now) ≡ 0 → insert_error self.old.text char_idx (chars text.now) ≡ None
             → IsOk result × (self.new ≡ self.old) }
         ensures kept { IsEdit result self.old self.new }
-        ensures made { length text.now ≤ MAX_SHORT_BYTES → made.new ≤ made.old + 3 * self.old.depth + 5 }
+        ensures made { length text.now ≤ MAX_SHORT_BYTES → maker.new.made ≤ maker.old.made + 3 * self.old.depth + 5 }
     {
         let bytes = self.len_bytes();
         let len = self.len_chars();
@@ -36,9 +37,9 @@ impl Rope {
             return Ok(());
         }
         if text.len() <= MAX_SHORT_BYTES {
-            return Ok(insert_at(self.alloc, &mut self.root, char_idx, text, made)?);
+            return Ok(insert_at(maker, &mut self.root, char_idx, text)?);
         }
-        self.root = insert(self.alloc, &self.root, char_idx, text, made)?;
+        self.root = insert(maker, &self.root, char_idx, text)?;
         let _ = self.root.height();
         Ok(())
     }
@@ -57,7 +58,7 @@ impl Rope {
             → IsOk result × (self.new ≡ self.old) }
         ensures kept { IsEdit result self.old self.new }
     {
-        self.insert_made(char_idx, text, &mut 0)
+        self.insert_made(char_idx, text, &mut Maker::new(self.alloc))
     }
 
     /// Inserts `text` before the character `char_idx`; for `len_chars()`, at the end.
@@ -132,6 +133,9 @@ impl Rope {
         ensures made { steps.new.made ≤ 8 * self.old.depth + 16 }
     {
         *steps = Steps::new();
-        self.insert_made(char_idx, c.encode_utf8(&mut [0; 4]), &mut steps.made)
+        let mut maker = Maker::new(self.alloc);
+        let inserted = self.insert_made(char_idx, c.encode_utf8(&mut [0; 4]), &mut maker);
+        steps.made = maker.made;
+        inserted
     }
 }

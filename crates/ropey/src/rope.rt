@@ -18,6 +18,7 @@ use rope_text::{LineBreaks, MAX_BYTES, Result};
 use rope_tree::build::build;
 use rope_tree::builder::Builder;
 use rope_tree::lookup::leaf_count;
+use rope_tree::maker::Maker;
 use rope_tree::node::Node;
 use std::alloc::{AllocError, Global};
 use std::marker::Model;
@@ -116,7 +117,7 @@ impl Rope {
         ensures kept { IfOk result (IsBuilt breaks) }
         ensures err { IfErr result (λ e. e ≡ OutOfMemory) }
     {
-        let root = build(alloc, text, breaks, &mut 0)?;
+        let root = build(&mut Maker::new(alloc), text, breaks)?;
         Ok(Rope { root, alloc })
     }
 
@@ -206,7 +207,7 @@ impl Rope {
             let _ = chunk.as_bytes();
             builder.append(chunk)?;
         }
-        self.root = builder.finish(&mut 0)?;
+        self.root = builder.finish(&mut Maker::new(self.alloc))?;
         Ok(())
     }
 

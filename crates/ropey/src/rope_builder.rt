@@ -12,6 +12,7 @@ use crate::rope::Rope;
 use rope_io::reading::append;
 use rope_text::{Error, LineBreaks, Result};
 use rope_tree::builder::Builder;
+use rope_tree::maker::Maker;
 use std::alloc::Global;
 use std::fmt;
 use std::marker::Model;
@@ -115,7 +116,7 @@ impl RopeBuilder {
         if let Some(error) = failed {
             return Err(error);
         }
-        let root = builder.finish(&mut 0)?;
+        let root = builder.finish(&mut Maker::new(alloc))?;
         Ok(Rope { root, alloc })
     }
 }

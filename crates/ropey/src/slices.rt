@@ -15,6 +15,7 @@ use rope_join::cut::between;
 use rope_part::Origin;
 use rope_slice::RopeSlice;
 use rope_text::{IndexRange, Result};
+use rope_tree::maker::Maker;
 use std::alloc::Global;
 
 impl Rope {
@@ -104,7 +105,7 @@ impl Rope {
     {
         match slice.origin() {
             Origin::Tree(node, start, end) => {
-                let root = between(alloc, node, start, end, &mut 0)?;
+                let root = between(&mut Maker::new(alloc), node, start, end)?;
                 Ok(Rope { root, alloc })
             }
             Origin::Text(text) => Rope::from_str_with(alloc, text, slice.line_breaks()),

@@ -1,20 +1,19 @@
 //! Inserts of short texts where the nodes stand: one way down, on which a node that is shared is copied.
-ghost use Rattle.std.specs.Prelude.{◌≡◌, ◌+◌, ◌<◌, ◌≤◌, ◌^◌, [], ◌∷◌, true, false, length, take, slice_index_or, IfOk, OnErr};
-ghost use Rattle.rope_text.specs.declared.TheConstants.{MAX_SHORT_BYTES};
-ghost use Rattle.rope_text.specs.Text.{byte_len};
+ghost use Rattle.std.specs.Prelude.{◌≡◌, ◌+◌, ◌<◌, ◌≤◌, [], ◌∷◌, true, false, length, take, slice_index_or, IfOk};
 ghost use Rattle.rope_text.specs.Edit.{inserted};
 ghost use Rattle.rope_tree.specs.Tree.{Tree, text, joined, breaks_of, height_of, tree_over, AreChildren};
 ghost use Rattle.rope_text.specs.TextInfo.{info_of};
 ghost use Rattle.rope_tree.specs.Change.{IsChange, no_counts};
-ghost use Rattle.rope_tree.specs.Insert.{MayInsert, GoesIn, IsInserted, AreGrown};
+ghost use Rattle.rope_tree.specs.Insert.{TakesShort, MayInsert, GoesIn, IsInserted, AreGrown};
+ghost use Rattle.rope_tree.specs.Tries.{IsTried};
 
 use super::own::own;
 use super::{Children, Form, Node};
 use crate::lookup::total_before;
+use crate::maker::{Made, Maker};
 use crate::search::{Totals, char_to_hold, try_place};
 use crate::short_text::ShortText;
 use rope_text::{MAX_CHILDREN, TextInfo};
-use std::alloc::{AllocError, Global};
 use std::rc::Rc;
 
 /// Where a text goes in a list of children: in which of them, before which character of it, and whether the way follows that of
@@ -79,25 +78,19 @@ impl Children {
     #[inline(never)]
     fn insert_in_place(
         &mut self,
-        alloc: Global,
+        maker: &mut Maker,
         at: usize,
         added: &ShortText<'_>,
         to_right: bool,
         follows: bool,
         more: &mut TextInfo,
-        made: &mut u64,
-    ) -> Result<bool, AllocError>
+    ) -> Made<bool>
         requires children { AreChildren (breaks_of self.old) (height_of self.old) self.old }
-        requires within { at ≤ length (joined self.old) }
-        requires some { 1 ≤ length added.now }
-        requires short { byte_len added.now ≤ MAX_SHORT_BYTES }
-        requires fits { byte_len (joined self.old) + byte_len added.now < 2 ^ 63 }
+        requires takes { TakesShort (tree_over self.old) at added.now }
         requires side { MayInsert (tree_over self.old) at added.now to_right }
-        ensures done { IfOk result (λ did. did ≡ true → AreGrown self.old self.new (inserted (joined self.old) at added.now)) }
         ensures change { IfOk result (λ did. did ≡ true → IsChange no_counts more.new (info_of (breaks_of self.old) (joined self.old)) (info_of (breaks_of self.old) (joined self.new))) }
-        ensures kept { IfOk result (λ did. did ≡ false → self.new ≡ self.old) }
-        ensures err { OnErr result (self.new ≡ self.old) }
-        ensures made { made.new ≤ made.old + height_of self.old + 2 }
+        ensures made { maker.new.made ≤ maker.old.made + height_of self.old + 2 }
+        ensures tried { IsTried result self.old self.new (AreGrown self.old self.new (inserted (joined self.old) at added.now)) }
     {
         if !follows && self.height == 1 && has_no_child(&self.nodes) {
             return Ok(false);
@@ -112,14 +105,14 @@ impl Children {
         }
         if self.nodes[way.place].lacks_room_for(added.len()) {
             let before = self.total();
-            if !self.cut_leaf(alloc, at, added, to_right, made)? {
+            if !self.cut_leaf(maker, at, added, to_right)? {
                 return Ok(false);
             }
             *more = self.total().minus(before);
             return Ok(true);
         }
         let node = &mut self.nodes[way.place];
-        if !node.insert_in_place(alloc, way.at, added, to_right, way.follows, more, made)? {
+        if !node.insert_in_place(maker, way.at, added, to_right, way.follows, more)? {
             return Ok(false);
         }
         self.totals.retotal(way.place, TextInfo::new(), *more);
@@ -164,26 +157,20 @@ impl Node {
     #[inline(always)]
     pub(crate) fn insert_in_place(
         &mut self,
-        alloc: Global,
+        maker: &mut Maker,
         at: usize,
         added: &ShortText<'_>,
         to_right: bool,
         follows: bool,
         more: &mut TextInfo,
-        made: &mut u64,
-    ) -> Result<bool, AllocError>
-        requires within { at ≤ length (text self.old) }
-        requires some { 1 ≤ length added.now }
-        requires short { byte_len added.now ≤ MAX_SHORT_BYTES }
-        requires fits { byte_len (text self.old) + byte_len added.now < 2 ^ 63 }
+    ) -> Made<bool>
+        requires takes { TakesShort self.old at added.now }
         requires side { MayInsert self.old at added.now to_right }
-        ensures done { IfOk result (λ did. did ≡ true → IsInserted self.old (self.new ∷ []) (inserted (text self.old) at added.now)) }
         ensures change { IfOk result (λ did. did ≡ true → IsChange no_counts more.new (info_of self.old.breaks (text self.old)) (info_of self.old.breaks (text self.new))) }
-        ensures kept { IfOk result (λ did. did ≡ false → self.new ≡ self.old) }
-        ensures err { OnErr result (self.new ≡ self.old) }
-        ensures made { made.new ≤ made.old + self.old.height + 2 }
+        ensures made { maker.new.made ≤ maker.old.made + self.old.height + 2 }
+        ensures tried { IsTried result self.old self.new (IsInserted self.old (self.new ∷ []) (inserted (text self.old) at added.now)) }
     {
-        own(&mut self.form, alloc, made)?;
+        own(&mut self.form, maker)?;
         match &mut self.form {
             Form::Empty(_) => Ok(false),
             Form::Leaf(leaf) => match Rc::get_mut(leaf) {
@@ -192,7 +179,7 @@ impl Node {
             },
             Form::Inner(children) => match Rc::get_mut(children) {
                 Some(children) => {
-                    children.insert_in_place(alloc, at, added, to_right, follows, more, made)
+                    children.insert_in_place(maker, at, added, to_right, follows, more)
                 }
                 None => Ok(false),
             },

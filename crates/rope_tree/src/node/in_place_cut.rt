@@ -1,18 +1,19 @@
 //! Inserts of short texts where the nodes stand, into a leaf that has no room: it is cut into two, of which the first stays.
-ghost use Rattle.std.specs.Prelude.{◌≡◌, ◌+◌, ◌<◌, ◌≤◌, ◌^◌, ◌-◌, [], ◌∷◌, true, false, length, take, IfOk, OnOk, OnErr, IfSome, IfNone};
+ghost use Rattle.std.specs.Prelude.{◌≡◌, ◌+◌, ◌<◌, ◌≤◌, ◌-◌, [], ◌∷◌, true, false, length, take, IfOk, OnErr, IfSome, IfNone};
 ghost use Rattle.std.specs.List.{insert};
 ghost use Rattle.rope_text.specs.declared.TheConstants.{MAX_SHORT_BYTES};
 ghost use Rattle.rope_text.specs.Text.{byte_len};
 ghost use Rattle.rope_text.specs.Edit.{inserted};
 ghost use Rattle.rope_tree.specs.Tree.{text, joined, breaks_of, height_of, tree_over, AreChildren};
-ghost use Rattle.rope_tree.specs.Insert.{MayInsert, IsInserted, AreGrown};
+ghost use Rattle.rope_tree.specs.Insert.{TakesShort, MayInsert, IsInserted, AreGrown};
+ghost use Rattle.rope_tree.specs.Tries.{IsTried};
 
 use super::own::own;
 use super::{Children, Form, Node};
 use crate::lookup::total_before;
+use crate::maker::{Made, Maker};
 use crate::short_text::ShortText;
 use rope_text::MAX_CHILDREN;
-use std::alloc::{AllocError, Global};
 use std::rc::Rc;
 
 impl Children {
@@ -21,22 +22,16 @@ impl Children {
     #[inline(never)]
     pub(super) fn cut_leaf(
         &mut self,
-        alloc: Global,
+        maker: &mut Maker,
         at: usize,
         added: &ShortText<'_>,
         to_right: bool,
-        made: &mut u64,
-    ) -> Result<bool, AllocError>
+    ) -> Made<bool>
         requires children { AreChildren (breaks_of self.old) (height_of self.old) self.old }
-        requires within { at ≤ length (joined self.old) }
-        requires some { 1 ≤ length added.now }
-        requires short { byte_len added.now ≤ MAX_SHORT_BYTES }
-        requires fits { byte_len (joined self.old) + byte_len added.now < 2 ^ 63 }
+        requires takes { TakesShort (tree_over self.old) at added.now }
         requires side { MayInsert (tree_over self.old) at added.now to_right }
-        ensures done { IfOk result (λ did. did ≡ true → AreGrown self.old self.new (inserted (joined self.old) at added.now)) }
-        ensures kept { IfOk result (λ did. did ≡ false → self.new ≡ self.old) }
-        ensures err { OnErr result (self.new ≡ self.old) }
-        ensures made { made.new ≤ made.old + 2 }
+        ensures made { maker.new.made ≤ maker.old.made + 2 }
+        ensures tried { IsTried result self.old self.new (AreGrown self.old self.new (inserted (joined self.old) at added.now)) }
     {
         let count = self.totals.len();
         if count >= MAX_CHILDREN || !self.totals.has_room_for(added.len()) {
@@ -45,7 +40,7 @@ impl Children {
         let way = self.way_in(at, to_right, false);
         let node = &mut self.nodes[way.place];
         let old = node.info();
-        let Some(back) = node.cut(alloc, way.at, added, made)? else {
+        let Some(back) = node.cut(maker, way.at, added)? else {
             return Ok(false);
         };
         let front = node.info();
@@ -70,26 +65,20 @@ fn put_behind(nodes: &mut [Node], place: usize, node: Node)
 impl Node {
     /// Puts a text before the character `at` of a leaf that has no room for it: leaves the first part here, and answers a leaf
     /// with the second. None, and nothing changed, where it has room or is no leaf.
-    fn cut(
-        &mut self,
-        alloc: Global,
-        at: usize,
-        added: &ShortText<'_>,
-        made: &mut u64,
-    ) -> Result<Option<Node>, AllocError>
+    fn cut(&mut self, maker: &mut Maker, at: usize, added: &ShortText<'_>) -> Made<Option<Node>>
         requires some { 1 ≤ length added.now }
         requires short { byte_len added.now ≤ MAX_SHORT_BYTES }
         ensures cut { IfOk result (λ found. IfSome found (λ back. IsInserted self.old (self.new ∷ back ∷ []) (inserted (text self.old) at added.now))) }
         ensures kept { IfOk result (λ found. IfNone found (self.new ≡ self.old)) }
         ensures err { OnErr result (self.new ≡ self.old) }
-        ensures made { made.new ≤ made.old + 2 }
+        ensures made { maker.new.made ≤ maker.old.made + 2 }
     {
-        own(&mut self.form, alloc, made)?;
+        own(&mut self.form, maker)?;
         let Form::Leaf(leaf) = &mut self.form else {
             return Ok(None);
         };
         match Rc::get_mut(leaf) {
-            Some(leaf) => leaf.cut(alloc, at, added, made),
+            Some(leaf) => leaf.cut(maker, at, added),
             None => Ok(None),
         }
     }

@@ -1,18 +1,19 @@
 //! Removals of characters from one leaf where the nodes stand: one way down, on which a node that is shared is copied.
-ghost use Rattle.std.specs.Prelude.{◌≡◌, ◌+◌, ◌<◌, ◌≤◌, true, false, length, IfOk, OnErr};
+ghost use Rattle.std.specs.Prelude.{◌≡◌, ◌+◌, ◌<◌, ◌≤◌, true, false, length, IfOk};
 ghost use Rattle.rope_tree.specs.Tree.{text, joined, breaks_of, height_of, AreChildren};
 ghost use Rattle.rope_text.specs.TextInfo.{info_of};
 ghost use Rattle.rope_tree.specs.Change.{IsChange, no_counts};
 ghost use Rattle.rope_tree.specs.Removal.{IsRemoved, AreRemoved};
+ghost use Rattle.rope_tree.specs.Tries.{IsTried};
 
 use super::in_place::{has_no_child, has_no_text};
 use super::own::own;
 use super::{Children, Form, Node};
 use crate::beside::{Least, least_at};
 use crate::lookup::total_before;
+use crate::maker::{Made, Maker};
 use crate::search::try_place;
 use rope_text::TextInfo;
-use std::alloc::{AllocError, Global};
 use std::rc::Rc;
 
 impl Children {
@@ -23,22 +24,19 @@ impl Children {
     #[inline(never)]
     fn remove_in_place(
         &mut self,
-        alloc: Global,
+        maker: &mut Maker,
         start: usize,
         end: usize,
         least: Least,
         follows: bool,
         less: &mut TextInfo,
-        made: &mut u64,
-    ) -> Result<bool, AllocError>
+    ) -> Made<bool>
         requires children { AreChildren (breaks_of self.old) (height_of self.old) self.old }
         requires ordered { start < end }
         requires within { end ≤ length (joined self.old) }
-        ensures done { IfOk result (λ did. did ≡ true → AreRemoved least.first least.last self.old self.new start end) }
         ensures change { IfOk result (λ did. did ≡ true → IsChange less.new no_counts (info_of (breaks_of self.old) (joined self.old)) (info_of (breaks_of self.old) (joined self.new))) }
-        ensures kept { IfOk result (λ did. did ≡ false → self.new ≡ self.old) }
-        ensures err { OnErr result (self.new ≡ self.old) }
-        ensures made { made.new ≤ made.old + height_of self.old + 1 }
+        ensures made { maker.new.made ≤ maker.old.made + height_of self.old + 1 }
+        ensures tried { IsTried result self.old self.new (AreRemoved least.first least.last self.old self.new start end) }
     {
         if !follows && self.height == 1 && has_no_child(&self.nodes) {
             return Ok(false);
@@ -57,13 +55,12 @@ impl Children {
         }
         let node = &mut self.nodes[place];
         if !node.remove_in_place(
-            alloc,
+            maker,
             start - before,
             end - before,
             least,
             child.follows,
             less,
-            made,
         )? {
             return Ok(false);
         }
@@ -82,23 +79,20 @@ impl Node {
     #[inline(always)]
     pub(crate) fn remove_in_place(
         &mut self,
-        alloc: Global,
+        maker: &mut Maker,
         start: usize,
         end: usize,
         least: Least,
         follows: bool,
         less: &mut TextInfo,
-        made: &mut u64,
-    ) -> Result<bool, AllocError>
+    ) -> Made<bool>
         requires ordered { start < end }
         requires within { end ≤ length (text self.old) }
-        ensures done { IfOk result (λ did. did ≡ true → IsRemoved least.first least.last self.old self.new start end) }
         ensures change { IfOk result (λ did. did ≡ true → IsChange less.new no_counts (info_of self.old.breaks (text self.old)) (info_of self.old.breaks (text self.new))) }
-        ensures kept { IfOk result (λ did. did ≡ false → self.new ≡ self.old) }
-        ensures err { OnErr result (self.new ≡ self.old) }
-        ensures made { made.new ≤ made.old + self.old.height + 1 }
+        ensures made { maker.new.made ≤ maker.old.made + self.old.height + 1 }
+        ensures tried { IsTried result self.old self.new (IsRemoved least.first least.last self.old self.new start end) }
     {
-        own(&mut self.form, alloc, made)?;
+        own(&mut self.form, maker)?;
         match &mut self.form {
             Form::Empty(_) => Ok(false),
             Form::Leaf(leaf) => match Rc::get_mut(leaf) {
@@ -107,7 +101,7 @@ impl Node {
             },
             Form::Inner(children) => match Rc::get_mut(children) {
                 Some(children) => {
-                    children.remove_in_place(alloc, start, end, least, follows, less, made)
+                    children.remove_in_place(maker, start, end, least, follows, less)
                 }
                 None => Ok(false),
             },

@@ -7,8 +7,9 @@ ghost use Rattle.rope_tree.specs.NewList.{new_list, nodes_in, IsNewList};
 ghost use Rattle.rope_tree.specs.Shape.{form_tree, IsForm};
 
 use super::row::{clear, empty_list, share_all};
-use super::{Children, Form, ListParts, Node, add_made};
+use super::{Children, Form, ListParts, Node};
 use crate::leaf::Leaf;
+use crate::maker::{Made, Maker};
 use crate::search::Totals;
 use std::alloc::{AllocError, Global};
 use std::rc::Rc;
@@ -21,7 +22,7 @@ fn share_list(
     places: &mut [Node],
     known: &Totals,
     nodes: &[Node],
-) -> Result<(), AllocError>
+) -> Made<()>
     requires list { IsNewList (new_list totals.old places.old) }
     requires none { nodes_in (new_list totals.old places.old) ≡ [] }
     requires known { HasTotals (breaks_of nodes.now) known.now nodes.now }
@@ -36,7 +37,7 @@ fn share_list(
 
 impl Children {
     /// Shares the nodes of another list, where it has none. Where memory is refused it has none again.
-    fn copy(&mut self, others: &Children, alloc: Global) -> Result<(), AllocError>
+    fn copy(&mut self, others: &Children, alloc: Global) -> Made<()>
         requires none { self.old ≡ [] }
         ensures { OnOk result (self.new ≡ others.now) }
     {
@@ -54,48 +55,42 @@ impl Children {
 
 /// Puts a copy of a leaf in its place.
 #[inline(never)]
-fn copy_leaf(leaf: &mut Rc<Leaf>, alloc: Global, made: &mut u64) -> Result<(), AllocError>
+fn copy_leaf(leaf: &mut Rc<Leaf>, maker: &mut Maker) -> Made<()>
     ensures same { leaf.new.value ≡ leaf.old.value }
-    ensures made { made.new ≤ made.old + 1 }
+    ensures made { maker.new.made ≤ maker.old.made + 1 }
 {
-    add_made(made);
-    *leaf = leaf.copied(alloc)?;
+    maker.add_made();
+    *leaf = leaf.copied(maker.alloc)?;
     Ok(())
 }
 
 /// Puts a copy of a list of children in its place.
 #[inline(never)]
-fn copy_children(
-    children: &mut Rc<Children>,
-    alloc: Global,
-    made: &mut u64,
-) -> Result<(), AllocError>
+fn copy_children(children: &mut Rc<Children>, maker: &mut Maker) -> Made<()>
     ensures same { children.new.value ≡ children.old.value }
-    ensures made { made.new ≤ made.old + 1 }
+    ensures made { maker.new.made ≤ maker.old.made + 1 }
 {
-    add_made(made);
-    let mut list = empty_list(alloc)?;
+    maker.add_made();
+    let mut list = empty_list(maker.alloc)?;
     // A list that was just made has no other owner, so that it can always be changed.
     let Some(copy) = Rc::get_mut(&mut list) else {
         return Err(AllocError);
     };
-    copy.copy(children, alloc)?;
+    copy.copy(children, maker.alloc)?;
     *children = list;
     Ok(())
 }
 
 /// Makes what a node has its own: where another node has it too, a copy takes its place.
 #[inline(always)]
-pub(super) fn own(form: &mut Form, alloc: Global, made: &mut u64) -> Result<(), AllocError>
+pub(super) fn own(form: &mut Form, maker: &mut Maker) -> Made<()>
     ensures same { form_tree form.new ≡ form_tree form.old }
     ensures kept { IsForm form.old → IsForm form.new }
-    ensures made { made.new ≤ made.old + 1 }
+    ensures made { maker.new.made ≤ maker.old.made + 1 }
 {
     match form {
-        Form::Leaf(leaf) if Rc::strong_count(leaf) > 1 => copy_leaf(leaf, alloc, made),
-        Form::Inner(children) if Rc::strong_count(children) > 1 => {
-            copy_children(children, alloc, made)
-        }
+        Form::Leaf(leaf) if Rc::strong_count(leaf) > 1 => copy_leaf(leaf, maker),
+        Form::Inner(children) if Rc::strong_count(children) > 1 => copy_children(children, maker),
         _ => Ok(()),
     }
 }

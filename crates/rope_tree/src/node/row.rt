@@ -4,12 +4,13 @@ ghost use Rattle.rope_text.specs.declared.TheConstants.{MAX_CHILDREN};
 ghost use Rattle.rope_tree.specs.Tree.{height_of, breaks_of, leaves_of, tree_over, AreChildren};
 ghost use Rattle.rope_tree.specs.Totals.{HasTotals, IsTotalOf};
 ghost use Rattle.rope_tree.specs.View.{trees_in};
-ghost use Rattle.rope_tree.specs.Siblings.{AreSiblings, AreParts};
+ghost use Rattle.rope_tree.specs.Siblings.{AreSiblings, AreParts, gathered};
 ghost use Rattle.rope_tree.specs.Rows.{IsPart, IsRow};
 ghost use Rattle.rope_tree.specs.NewList.{new_list, nodes_in, IsNewList};
 
-use super::{Children, Form, Node, Nodes, add_made};
+use super::{Children, Form, Node, Nodes};
 use crate::lookup::total_before;
+use crate::maker::{Made, Maker};
 use crate::search::Totals;
 use rope_text::{LineBreaks, MAX_CHILDREN, TextInfo};
 use std::alloc::{AllocError, Global};
@@ -27,7 +28,7 @@ pub struct Row<'a> {
 
 /// Shares nodes, and puts them in the places of as many others, from a place on.
 #[inline(always)]
-pub(super) fn share_all(places: &mut [Node], from: usize, nodes: &[Node]) -> Result<(), AllocError>
+pub(super) fn share_all(places: &mut [Node], from: usize, nodes: &[Node]) -> Made<()>
     requires { from + length nodes.now ≤ length places.old }
     ensures { OnOk result (places.new ≡ take from places.old ++ (nodes.now ++ drop (from + length nodes.now) places.old)) }
 {
@@ -38,32 +39,8 @@ pub(super) fn share_all(places: &mut [Node], from: usize, nodes: &[Node]) -> Res
     Ok(())
 }
 
-/// Puts a node behind the others of a list, whose counts the caller knows; returns the counts with it. So no total is read that
-/// was written just before.
-#[inline(always)]
-fn push(
-    alloc: Global,
-    totals: &mut Totals,
-    places: &mut [Node],
-    node: Node,
-    before: TextInfo,
-) -> Result<TextInfo, AllocError>
-    requires list { IsNewList (new_list totals.old places.old) }
-    requires room { length (nodes_in (new_list totals.old places.old)) < MAX_CHILDREN }
-    requires before { IsTotalOf (nodes_in (new_list totals.old places.old)) before }
-    requires siblings { let ts = nodes_in (new_list totals.old places.old) ++ node ∷ [] in AreSiblings (breaks_of ts) (height_of ts) ts }
-    ensures list { OnOk result (IsNewList (new_list totals.new places.new)) }
-    ensures nodes { OnOk result (nodes_in (new_list totals.new places.new) ≡ nodes_in (new_list totals.old places.old) ++ node ∷ []) }
-    ensures total { IfOk result (IsTotalOf (nodes_in (new_list totals.new places.new))) }
-{
-    let count = totals.len();
-    let total = before.plus(node.info());
-    totals.push(alloc, total)?;
-    places[count] = node;
-    Ok(total)
-}
-
-/// Shares the nodes, and puts them behind the others of a list, whose counts the caller knows; returns the counts with them.
+/// Shares the nodes, and puts them behind the others of a list, whose counts the caller knows; returns the counts with them. So no
+/// total is read that was written just before.
 #[inline(always)]
 fn push_all(
     alloc: Global,
@@ -71,7 +48,7 @@ fn push_all(
     places: &mut [Node],
     nodes: &[Node],
     before: TextInfo,
-) -> Result<TextInfo, AllocError>
+) -> Made<TextInfo>
     requires list { IsNewList (new_list totals.old places.old) }
     requires room { length (nodes_in (new_list totals.old places.old)) + length nodes.now ≤ MAX_CHILDREN }
     requires before { IsTotalOf (nodes_in (new_list totals.old places.old)) before }
@@ -82,49 +59,23 @@ fn push_all(
 {
     let mut total = before;
     for node in nodes {
-        total = push(alloc, totals, places, node.share()?, total)?;
+        let count = totals.len();
+        let shared = node.share()?;
+        total = total.plus(shared.info());
+        totals.push(alloc, total)?;
+        places[count] = shared;
     }
     Ok(total)
 }
 
-/// The same with a row that isn't empty, whose totals are known: they are moved in rows.
-fn push_known(
-    alloc: Global,
-    totals: &mut Totals,
-    places: &mut [Node],
-    row: Row<'_>,
-    known: &Totals,
-    before: TextInfo,
-) -> Result<TextInfo, AllocError>
-    requires list { IsNewList (new_list totals.old places.old) }
-    requires some { 1 ≤ length row.nodes.now }
-    requires room { length (nodes_in (new_list totals.old places.old)) + length row.nodes.now ≤ MAX_CHILDREN }
-    requires part { IsPart row.nodes.now known.now row.from }
-    requires before { IsTotalOf (nodes_in (new_list totals.old places.old)) before }
-    requires siblings { let ts = nodes_in (new_list totals.old places.old) ++ row.nodes.now in AreSiblings (breaks_of ts) (height_of ts) ts }
-    ensures list { OnOk result (IsNewList (new_list totals.new places.new)) }
-    ensures nodes { OnOk result (nodes_in (new_list totals.new places.new) ≡ nodes_in (new_list totals.old places.old) ++ row.entry.nodes.now) }
-    ensures total { IfOk result (IsTotalOf (nodes_in (new_list totals.new places.new))) }
-{
-    let Row { nodes, from, .. } = row;
-    let base = total_before(known, from);
-    let count = totals.len();
-    if !totals.append(alloc, known, from, nodes.len(), base, before)? {
-        return push_all(alloc, totals, places, nodes, before);
-    }
-    share_all(places, count, nodes)?;
-    Ok(totals.get(totals.len() - 1))
-}
-
-/// The same with any row.
-#[inline(always)]
+/// The same with a row: where its totals are known, they are moved in one piece.
 fn push_row(
     alloc: Global,
     totals: &mut Totals,
     places: &mut [Node],
     row: Row<'_>,
     before: TextInfo,
-) -> Result<TextInfo, AllocError>
+) -> Made<TextInfo>
     requires list { IsNewList (new_list totals.old places.old) }
     requires room { length (nodes_in (new_list totals.old places.old)) + length row.nodes.now ≤ MAX_CHILDREN }
     requires row { IsRow row }
@@ -134,11 +85,18 @@ fn push_row(
     ensures nodes { OnOk result (nodes_in (new_list totals.new places.new) ≡ nodes_in (new_list totals.old places.old) ++ row.entry.nodes.now) }
     ensures total { IfOk result (IsTotalOf (nodes_in (new_list totals.new places.new))) }
 {
+    let Row { nodes, from, .. } = row;
     match row.totals {
-        Some(known) if !row.nodes.is_empty() => {
-            push_known(alloc, totals, places, row, known, before)
+        Some(known) if !nodes.is_empty() => {
+            let base = total_before(known, from);
+            let count = totals.len();
+            if !totals.append(alloc, known, from, nodes.len(), base, before)? {
+                return push_all(alloc, totals, places, nodes, before);
+            }
+            share_all(places, count, nodes)?;
+            Ok(totals.get(totals.len() - 1))
         }
-        _ => push_all(alloc, totals, places, row.nodes, before),
+        _ => push_all(alloc, totals, places, nodes, before),
     }
 }
 
@@ -151,7 +109,7 @@ fn push_three(
     before: Row<'_>,
     middle: &[Node],
     after: Row<'_>,
-) -> Result<(), AllocError>
+) -> Made<()>
     requires list { IsNewList (new_list totals.old places.old) }
     requires none { nodes_in (new_list totals.old places.old) ≡ [] }
     requires before { IsRow before }
@@ -178,7 +136,7 @@ pub(super) fn clear(totals: &mut Totals, places: &mut [Node; MAX_CHILDREN])
 
 /// A list of no node.
 #[inline(always)]
-pub(super) fn empty_list(alloc: Global) -> Result<Rc<Children>, AllocError>
+pub(super) fn empty_list(alloc: Global) -> Made<Rc<Children>>
     ensures { IfOk result (λ list. list.value ≡ []) }
 {
     let none = Children {
@@ -200,13 +158,7 @@ pub(super) fn empty_list(alloc: Global) -> Result<Rc<Children>, AllocError>
 
 impl Children {
     /// Puts the nodes of three lists, which it shares, into a list that has none. Where memory is refused it has none again.
-    fn fill(
-        &mut self,
-        alloc: Global,
-        before: Row<'_>,
-        middle: &[Node],
-        after: Row<'_>,
-    ) -> Result<(), AllocError>
+    fn fill(&mut self, alloc: Global, before: Row<'_>, middle: &[Node], after: Row<'_>) -> Made<()>
         requires none { self.old ≡ [] }
         requires before { IsRow before }
         requires after { IsRow after }
@@ -233,41 +185,35 @@ impl Children {
 
 /// A node over the nodes of three lists, which it shares. The list is filled where it stays, so that no node is moved.
 #[inline(never)]
-fn make_over(
-    alloc: Global,
-    before: Row<'_>,
-    middle: &[Node],
-    after: Row<'_>,
-    made: &mut u64,
-) -> Result<Node, AllocError>
+fn make_over(maker: &mut Maker, before: Row<'_>, middle: &[Node], after: Row<'_>) -> Made<Node>
     requires before { IsRow before }
     requires after { IsRow after }
     requires children { let ts = before.nodes.now ++ (middle.now ++ after.nodes.now) in AreChildren (breaks_of ts) (height_of ts) ts }
     ensures ok { IfOk result (λ node. node ≡ tree_over (before.entry.nodes.now ++ (middle.now ++ after.entry.nodes.now))) }
-    ensures made { made.new ≤ made.old + 1 }
-    ensures added { made.old < 18446744073709551615 → made.new ≡ made.old + 1 }
-    ensures rises { made.old ≤ made.new }
+    ensures made { maker.new.made ≤ maker.old.made + 1 }
+    ensures added { maker.old.made < 18446744073709551615 → maker.new.made ≡ maker.old.made + 1 }
+    ensures rises { maker.old.made ≤ maker.new.made }
 {
-    add_made(made);
-    let mut list = empty_list(alloc)?;
+    maker.add_made();
+    let mut list = empty_list(maker.alloc)?;
     // A list that was just made has no other owner, so that it can always be changed.
     let Some(children) = Rc::get_mut(&mut list) else {
         return Err(AllocError);
     };
-    children.fill(alloc, before, middle, after)?;
+    children.fill(maker.alloc, before, middle, after)?;
     let form = Form::Inner(list);
     Ok(Node { form })
 }
 
 /// A node over nodes side by side, which it shares.
-pub fn node_over(alloc: Global, nodes: &[Node], made: &mut u64) -> Result<Node, AllocError>
+pub fn node_over(maker: &mut Maker, nodes: &[Node]) -> Made<Node>
     requires { AreChildren (breaks_of nodes.now) (height_of nodes.now) nodes.now }
     ensures ok { IfOk result (λ node. node ≡ tree_over nodes.now) }
-    ensures made { made.new ≤ made.old + 1 }
-    ensures added { made.old < 18446744073709551615 → made.new ≡ made.old + 1 }
-    ensures rises { made.old ≤ made.new }
+    ensures made { maker.new.made ≤ maker.old.made + 1 }
+    ensures added { maker.old.made < 18446744073709551615 → maker.new.made ≡ maker.old.made + 1 }
+    ensures rises { maker.old.made ≤ maker.new.made }
 {
-    make_over(alloc, Row::none(), nodes, Row::none(), made)
+    make_over(maker, Row::none(), nodes, Row::none())
 }
 
 impl<'a> Row<'a> {
@@ -338,13 +284,7 @@ impl<'a> Row<'a> {
 }
 
 /// A node over the nodes of three lists, or two over a half of them each where one can't hold them.
-pub fn pack_over(
-    alloc: Global,
-    before: Row<'_>,
-    middle: &[Node],
-    after: Row<'_>,
-    made: &mut u64,
-) -> Result<Nodes, AllocError>
+pub fn pack_over(maker: &mut Maker, before: Row<'_>, middle: &[Node], after: Row<'_>) -> Made<Nodes>
     requires before { IsRow before }
     requires after { IsRow after }
     requires siblings { let ts = before.nodes.now ++ (middle.now ++ after.nodes.now) in AreSiblings (breaks_of ts) (height_of ts) ts }
@@ -352,12 +292,12 @@ pub fn pack_over(
     requires at_most_48 { length (before.nodes.now ++ (middle.now ++ after.nodes.now)) ≤ 2 * MAX_CHILDREN }
     ensures leaves { IfOk result (λ p. leaves_of (trees_in p) ≡ leaves_of (before.entry.nodes.now ++ (middle.now ++ after.entry.nodes.now))) }
     ensures shape { let ts = before.entry.nodes.now ++ (middle.now ++ after.entry.nodes.now) in IfOk result (λ p. AreParts (breaks_of ts) (length ts) (length ts) (height_of ts + 1) (trees_in p)) }
-    ensures made { made.new ≤ made.old + 2 }
-    ensures rises { made.old ≤ made.new }
+    ensures made { maker.new.made ≤ maker.old.made + 2 }
+    ensures rises { maker.old.made ≤ maker.new.made }
 {
     let count = before.nodes.len() + middle.len() + after.nodes.len();
     if count <= MAX_CHILDREN {
-        let node = make_over(alloc, before, middle, after, made)?;
+        let node = make_over(maker, before, middle, after)?;
         return Ok(Nodes::One(node));
     }
     let half = count / 2;
@@ -365,20 +305,14 @@ pub fn pack_over(
     let most = more.saturating_sub(middle.len());
     let middle = Row::plain(middle);
     let (left, mid, right) = (before.first(half), middle.first(more), after.first(most));
-    let first = make_over(alloc, left, mid.nodes, right, made)?;
+    let first = make_over(maker, left, mid.nodes, right)?;
     let (left, mid, right) = (before.rest(half), middle.rest(more), after.rest(most));
-    let second = make_over(alloc, left, mid.nodes, right, made)?;
+    let second = make_over(maker, left, mid.nodes, right)?;
     Ok(Nodes::Two(first, second))
 }
 
 /// A node over the nodes before, one or two, and the nodes after, or two over a half of them each where one can't hold them.
-pub fn pack(
-    alloc: Global,
-    before: Row<'_>,
-    middle: Nodes,
-    after: Row<'_>,
-    made: &mut u64,
-) -> Result<Nodes, AllocError>
+pub fn pack(maker: &mut Maker, before: Row<'_>, middle: Nodes, after: Row<'_>) -> Made<Nodes>
     requires before { IsRow before }
     requires after { IsRow after }
     requires siblings { let ts = before.nodes.now ++ (trees_in middle ++ after.nodes.now) in AreSiblings (breaks_of ts) (height_of ts) ts }
@@ -386,11 +320,24 @@ pub fn pack(
     requires at_most_48 { length (before.nodes.now ++ (trees_in middle ++ after.nodes.now)) ≤ 2 * MAX_CHILDREN }
     ensures leaves { IfOk result (λ p. leaves_of (trees_in p) ≡ leaves_of (before.entry.nodes.now ++ (trees_in middle ++ after.entry.nodes.now))) }
     ensures shape { let ts = before.entry.nodes.now ++ (trees_in middle ++ after.entry.nodes.now) in IfOk result (λ p. AreParts (breaks_of ts) (length ts) (length ts) (height_of ts + 1) (trees_in p)) }
-    ensures made { made.new ≤ made.old + 2 }
-    ensures rises { made.old ≤ made.new }
+    ensures made { maker.new.made ≤ maker.old.made + 2 }
+    ensures rises { maker.old.made ≤ maker.new.made }
 {
     match middle {
-        Nodes::One(node) => Ok(pack_over(alloc, before, &[node], after, made)?),
-        Nodes::Two(first, second) => Ok(pack_over(alloc, before, &[first, second], after, made)?),
+        Nodes::One(node) => Ok(pack_over(maker, before, &[node], after)?),
+        Nodes::Two(first, second) => Ok(pack_over(maker, before, &[first, second], after)?),
+    }
+}
+
+/// One tree or two side by side as one: the only one, or a node over them.
+pub fn root_of(maker: &mut Maker, nodes: Nodes) -> Made<Node>
+    requires { let ts = trees_in nodes in length ts ≡ 2 → AreChildren (breaks_of ts) (height_of ts) ts }
+    ensures ok { IfOk result (λ node. node ≡ gathered (trees_in nodes)) }
+    ensures made { maker.new.made ≤ maker.old.made + 1 }
+    ensures rises { maker.old.made ≤ maker.new.made }
+{
+    match nodes {
+        Nodes::One(node) => Ok(node),
+        Nodes::Two(first, second) => node_over(maker, &[first, second]),
     }
 }

@@ -14,13 +14,13 @@ impl Cell for usize {
     ghost positive = { Prim.search rules };
 
     #[inline(always)]
-    fn of(count: usize) -> usize {
-        count
+    fn get(self) -> usize {
+        self
     }
 
     #[inline(always)]
-    fn get(self) -> usize {
-        self
+    fn of(count: usize) -> usize {
+        count
     }
 
     #[inline(always)]

@@ -8,10 +8,10 @@ use Rattle.rope_tree.proofs.NodeLaws.{small_totals}
 use Rattle.rope_tree.proofs.Descents.{Descends, descends}
 use Rattle.std.proofs.lemmas.Result.{IfOk-weaker}
 use Rattle.rope_join.specs.Cut.{IsBack}
-use Rattle.rope_join.specs.Join.{gathered}
+use Rattle.rope_tree.specs.Siblings.{gathered}
 use Rattle.rope_join.proofs.Cuts.{CutsAt, cuts_at, back_alone, after_siblings, some_back, back_can_join, back_near, back_joined, whole_back, after_height}
 use Rattle.rope_join.proofs.Empty.{empty_back}
-use Rattle.rope_join.proofs.Gathered.{IsGathered, is_gathered}
+use Rattle.rope_tree.proofs.Gathered.{IsGathered, is_gathered}
 use Rattle.rope_join.proofs.cut.+back.Goals.{After-index-children-place}
 use Rattle.rope_join.proofs.cut.+back.Goals as goal
 

@@ -8,10 +8,10 @@ use Rattle.rope_tree.specs.Tree.{text, joined, height_of, breaks_of, leaf_tree}
 use Rattle.rope_tree.proofs.NodeLaws.{small_totals}
 use Rattle.rope_tree.proofs.Descents.{Descends, descends}
 use Rattle.rope_join.specs.Cut.{IsFront}
-use Rattle.rope_join.specs.Join.{gathered}
+use Rattle.rope_tree.specs.Siblings.{gathered}
 use Rattle.rope_join.proofs.Empty.{empty_front}
 use Rattle.rope_join.proofs.Cuts.{CutsAt, cuts_at, front_alone, before_siblings, some_front, front_can_join, front_near, front_joined, before_height}
-use Rattle.rope_join.proofs.Gathered.{IsGathered, is_gathered}
+use Rattle.rope_tree.proofs.Gathered.{IsGathered, is_gathered}
 use Rattle.rope_join.proofs.cut.+front.Goals.{After-index-children-place}
 use Rattle.rope_join.proofs.cut.+front.Goals as goal
 

@@ -2,9 +2,10 @@ use Rattle.std.proofs.Common.{◌≡◌, ap, ◌≤◌, length, arith}
 use Rattle.std.proofs.lemmas.Result.{IfOk-weaker}
 use Rattle.rope_tree.specs.Tree.{Tree, height_of}
 use Rattle.rope_tree.specs.View.{trees_in}
-use Rattle.rope_join.specs.Join.{IsNear, IsUnion, IsJoin, gathered}
+use Rattle.rope_tree.specs.Siblings.{gathered}
+use Rattle.rope_join.specs.Join.{IsNear, IsUnion, IsJoin}
 use Rattle.rope_join.proofs.Whole.{join_root, root_siblings}
-use Rattle.rope_join.proofs.Gathered.{gathered_over}
+use Rattle.rope_tree.proofs.Gathered.{gathered_over}
 use Rattle.rope_join.proofs.Rows.{before_level, before_near, before_can_join, before_siblings, before_union}
 use Rattle.rope_join.proofs.join.join_before.Goals.{After-index-nodes-0-2, In_ok-parts}
 use Rattle.rope_join.proofs.join.join_before.Goals as goal

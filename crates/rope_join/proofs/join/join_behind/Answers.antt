@@ -3,9 +3,10 @@ use Rattle.std.proofs.lemmas.List.{append-nil}
 use Rattle.std.proofs.lemmas.Result.{IfOk-weaker}
 use Rattle.rope_tree.specs.Tree.{Tree, height_of}
 use Rattle.rope_tree.specs.View.{trees_in}
-use Rattle.rope_join.specs.Join.{IsNear, IsUnion, IsJoin, gathered}
+use Rattle.rope_tree.specs.Siblings.{gathered}
+use Rattle.rope_join.specs.Join.{IsNear, IsUnion, IsJoin}
 use Rattle.rope_join.proofs.Whole.{join_root, root_siblings}
-use Rattle.rope_join.proofs.Gathered.{gathered_over}
+use Rattle.rope_tree.proofs.Gathered.{gathered_over}
 use Rattle.rope_join.proofs.Rows.{behind_level, behind_near, behind_can_join, behind_siblings, behind_union}
 use Rattle.rope_join.proofs.join.join_behind.Goals.{After-index-nodes-last, In_ok-parts}
 use Rattle.rope_join.proofs.join.join_behind.Goals as goal

@@ -13,7 +13,7 @@ invariant-loop-rest l = record {
   some : 0 < length l.rest;
   nodes : AreFrontNodes l.fn.breaks (chars l.fn.whole) l.nodes.items (chars l.rest);
   long : 981 * length (leaves_of l.nodes.items) + length l.rest ≤ length l.fn.whole;
-  made : l.made ≤ l.fn.made + length l.nodes.items;
+  made : l.maker.made ≤ l.fn.maker.made + length l.nodes.items;
 }
 
 abbrev pub decreases-loop-rest : goal.decreases-loop-rest

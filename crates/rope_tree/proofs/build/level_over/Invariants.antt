@@ -10,7 +10,7 @@ invariant-loop-groups l = record {
   least : 12 * l.groups ≤ length l.rest;
   most : length l.rest ≤ 24 * l.groups;
   counted : length l.level.items + l.groups ≡ l.initial.groups;
-  made : l.made ≤ l.fn.made + length l.level.items;
+  made : l.maker.made ≤ l.fn.maker.made + length l.level.items;
 }
 
 abbrev pub decreases-loop-groups : goal.decreases-loop-groups

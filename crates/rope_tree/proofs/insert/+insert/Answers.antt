@@ -35,7 +35,7 @@ may t c =
     let d = down t c in
     let g = (goes t c).1 in
     child_may (breaks_of c.in-Inner.children.now) (height_of c.in-Inner.children.now) c.in-Inner.children.now c.place_of-place.result c.index-children-place.result d.children d.within d.child_is
-    c.args.node.now c.in-Inner.ensures.is c.args.at (c.args.at - c.total_before-front.result.chars) c.args.added.now c.requires.some (place t c) g.within c.args.to_right g.inside c.requires.side
+    c.args.node.now c.in-Inner.ensures.is c.args.at (c.args.at - c.total_before-front.result.chars) c.args.added.now c.requires.takes.some (place t c) g.within c.args.to_right g.inside c.requires.side
 
 pub place_of-place-requires-clause-small : goal.place_of-place-requires-clause-small
 place_of-place-requires-clause-small t c = small_totals _ c.in-Inner.totals.now c.in-Inner.children.now c.in-Inner.ensures.totals_right c.in-Inner.ensures.children.fits
@@ -45,7 +45,7 @@ place_of-place-requires-clause-last t c =
     let ts = c.in-Inner.children.now in
     let some = inner_some _ _ ts c.in-Inner.ensures.children in
     let whole = ap (λ u. length (text u)) c.in-Inner.ensures.is in
-    let held = held_within c.args.node.now c.args.at c.char_to_hold-held.result c.args.added.now c.args.to_right c.requires.within (omega (arith, whole, some)) c.requires.side
+    let held = held_within c.args.node.now c.args.at c.char_to_hold-held.result c.args.added.now c.args.to_right c.requires.takes.within (omega (arith, whole, some)) c.requires.side
     c.char_to_hold-held.ensures.right c.char_to_hold-held.ensures.first c.char_to_hold-held.ensures.left in
     λ d. rw (last_total (breaks_of ts) c.in-Inner.totals.now ts c.in-Inner.ensures.totals_right (omega (arith, c.in-Inner.ensures.children.at_least_two)) d) (omega (arith, whole, held))
 
@@ -66,10 +66,10 @@ insert-requires t c =
     let e = (goal.at.insert-requires t c).After-index-children-place in
     let d = down t e in
     let above = ap (λ u. u.height) c.in-Inner.ensures.is in
-    (omega (arith, c.decreases, above, d.own.at_height), ((goes t e).1.within, (c.requires.some, (c.requires.short, (omega (arith, c.requires.fits, child_fits t e), may t e)))))
+    (omega (arith, c.decreases, above, d.own.at_height), (record { within = (goes t e).1.within; some = c.requires.takes.some; short = c.requires.takes.short; fits = omega (arith, c.requires.takes.fits, child_fits t e) }, may t e))
 
 fits : (t : ℕ) (c : In_ok-middle-in-Inner t) → byte_len (text c.args.node.now) + byte_len c.args.added.now < 2 ^ 63
-fits t c = omega (arith, c.requires.fits)
+fits t c = omega (arith, c.requires.takes.fits)
 
 made_by : (t : ℕ) (c : After-index-children-place t) → c.index-children-place.result.height + 1 ≡ c.args.node.now.height
 made_by t c = omega (arith, ap (λ u. u.height) c.in-Inner.ensures.is, (down t c).own.at_height)
@@ -91,9 +91,9 @@ pack-requires-clause-siblings t c =
     let g = (goes t e).1 in
     let ts = c.in-Inner.children.now in
     let ps = trees_in c.in_ok-middle-in-Inner.middle in
-    let more = new_length (breaks_of ts) (height_of ts) ts c.place_of-place.result c.index-children-place.result d.children d.within d.child_is c.args.node.now c.in-Inner.ensures.is c.args.at (c.args.at - c.total_before-front.result.chars) c.args.added.now c.requires.some (place t e) g.within
+    let more = new_length (breaks_of ts) (height_of ts) ts c.place_of-place.result c.index-children-place.result d.children d.within d.child_is c.args.node.now c.in-Inner.ensures.is c.args.at (c.args.at - c.total_before-front.result.chars) c.args.added.now c.requires.takes.some (place t e) g.within
     ps c.args.to_right g.inside g.outside c.requires.side c.in_ok-middle-in-Inner.ensures.ok (fits t n) in
-    let s = new_siblings (breaks_of ts) (height_of ts) ts c.place_of-place.result c.index-children-place.result d.children d.within d.child_is c.args.node.now c.in-Inner.ensures.is c.args.at (c.args.at - c.total_before-front.result.chars) c.args.added.now c.requires.some (place t e) g.within
+    let s = new_siblings (breaks_of ts) (height_of ts) ts c.place_of-place.result c.index-children-place.result d.children d.within d.child_is c.args.node.now c.in-Inner.ensures.is c.args.at (c.args.at - c.total_before-front.result.chars) c.args.added.now c.requires.takes.some (place t e) g.within
     ps c.args.to_right g.inside g.outside c.requires.side c.in_ok-middle-in-Inner.ensures.ok (fits t n) in
     rw (c.first-before.ensures.nodes, c.rest-after.ensures.nodes, c.of-row.ensures.nodes) (siblings_of_first (breaks_of ts) (height_of ts) (take c.place_of-place.result ts ++ (ps ++ drop (c.place_of-place.result + 1) ts))
     (omega (arith, more, d.children.at_least_two, c.in_ok-middle-in-Inner.ensures.ok.parts.some)) s)
@@ -108,5 +108,5 @@ returns-in_ok-pack-in-Inner-clause-ok t c =
     let ps = trees_in c.in_ok-middle-in-Inner.middle in
     let leaves = c.in_ok-pack-in-Inner.ensures.leaves in
     let shape = c.in_ok-pack-in-Inner.ensures.shape in
-    new_node (breaks_of ts) (height_of ts) ts c.place_of-place.result c.index-children-place.result d.children d.within d.child_is c.args.node.now c.in-Inner.ensures.is c.args.at (c.args.at - c.total_before-front.result.chars) c.args.added.now c.requires.some (place t e) g.within
+    new_node (breaks_of ts) (height_of ts) ts c.place_of-place.result c.index-children-place.result d.children d.within d.child_is c.args.node.now c.in-Inner.ensures.is c.args.at (c.args.at - c.total_before-front.result.chars) c.args.added.now c.requires.takes.some (place t e) g.within
     ps c.args.to_right g.inside g.outside c.requires.side c.in_ok-middle-in-Inner.ensures.ok (fits t n) (trees_in c.in_ok-pack-in-Inner.field-0) (rw (c.first-before.ensures.nodes, c.rest-after.ensures.nodes, c.of-row.ensures.nodes) at leaves) (rw (c.first-before.ensures.nodes, c.rest-after.ensures.nodes, c.of-row.ensures.nodes) at shape)

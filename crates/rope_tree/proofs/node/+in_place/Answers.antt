@@ -10,11 +10,11 @@ use Rattle.rope_tree.specs.Tree.{text, joined, breaks_of, height_of, tree_over}
 use Rattle.rope_text.specs.TextInfo.{info_of}
 use Rattle.rope_tree.specs.Change.{IsChange, no_counts}
 use Rattle.rope_tree.specs.Search.{HasPart}
-use Rattle.rope_tree.specs.Insert.{MayInsert, IsInserted, AreGrown}
+use Rattle.rope_tree.specs.Insert.{TakesShort, MayInsert, IsInserted, AreGrown}
 use Rattle.rope_tree.proofs.NodeLaws.{small_totals}
 use Rattle.rope_tree.proofs.InsertDescents.{takes}
 use Rattle.rope_tree.proofs.GrownLaws.{tallest_above}
-use Rattle.rope_tree.proofs.FormLaws.{inner_of, inner_seen, leaf_seen, by_outcome, still_children, grown_children, grown_node}
+use Rattle.rope_tree.proofs.FormLaws.{inner_of, inner_seen, leaf_seen, by_outcome, not_tried, tried_in, still_children, grown_children, grown_node}
 use Rattle.rope_tree.proofs.ListedLaws.{seen_at}
 use Rattle.rope_tree.proofs.ChangeLaws.{change_from, change_seen}
 use Rattle.rope_tree.proofs.ChildLaws.{Finds, read, child_fits, may, change_part, change_narrow, fields_changed, all_changed, list_changed, list_has, list_grown}
@@ -24,7 +24,7 @@ use Rattle.rope_tree.proofs.node.+in_place.Goals as goal
 -- the counts where a leaf was cut
 cut_has : (t : ℕ) (c : Children::insert_in_place-After-total t) → HasPart c.total.result c.total-before.result
 cut_has t c =
-    list_has c.args.self.now c.cut_leaf.new.self c.args.added.now c.args.at c.requires.children (c.in_ok-cut_leaf.ensures.done c.if-not-branch.false) c.requires.some
+    list_has c.args.self.now c.cut_leaf.new.self c.args.added.now c.args.at c.requires.children (c.in_ok-cut_leaf.ensures.tried.done c.if-not-branch.false) c.requires.takes.some
     c.total-before.result c.total.result c.total-before.ensures c.total.ensures
 
 -- the child that takes the text
@@ -43,9 +43,9 @@ pub Children::insert_in_place-insert_in_place-requires :
 Children::insert_in_place-insert_in_place-requires t c =
     let f = found t (goal.at.Children::insert_in_place-insert_in_place-requires t c).After-index-self-way-2 in
     let low = rw f.taken.child_is at (tallest_above c.args.self.now c.way_in-way.result.place (get_or c.self.inside.nodes c.way_in-way.result.place c.index-self-way-2.result) f.taken.within) in
-    let fits = child_fits _ _ _ _ _ _ _ f c.args.added.now c.requires.some c.requires.side c.requires.fits in
-    let side = may _ _ _ _ _ _ _ f c.args.added.now c.requires.some c.requires.side c.requires.fits in
-    (omega (arith, c.decreases, low), (f.taken.goes.within, (c.requires.some, (c.requires.short, (fits, side)))))
+    let fits = child_fits _ _ _ _ _ _ _ f c.args.added.now c.requires.takes.some c.requires.side c.requires.takes.fits in
+    let side = may _ _ _ _ _ _ _ f c.args.added.now c.requires.takes.some c.requires.side c.requires.takes.fits in
+    (omega (arith, c.decreases, low), (record { within = f.taken.goes.within; some = c.requires.takes.some; short = c.requires.takes.short; fits = fits }, side))
 
 pub Children::insert_in_place-retotal-requires-clause-small :
     goal.Children::insert_in_place-retotal-requires-clause-small
@@ -56,8 +56,8 @@ Children::insert_in_place-retotal-requires-clause-small t c =
 pub Children::insert_in_place-retotal-requires-clause-part :
     goal.Children::insert_in_place-retotal-requires-clause-part
 Children::insert_in_place-retotal-requires-clause-part t c =
-    change_part _ _ _ _ _ _ _ (found t (goal.at.Children::insert_in_place-retotal-requires-clause-part t c).After-index-self-way-2) c.args.added.now c.requires.some c.requires.side c.requires.fits
-    c.insert_in_place.new.self (c.in_ok-insert_in_place.ensures.done c.if-not-branch-2.false) c.new.result c.insert_in_place.new.more (change_from c.new.result c.insert_in_place.new.more _ _ c.new.ensures (c.in_ok-insert_in_place.ensures.change c.if-not-branch-2.false)) c.self.inside.totals refl
+    change_part _ _ _ _ _ _ _ (found t (goal.at.Children::insert_in_place-retotal-requires-clause-part t c).After-index-self-way-2) c.args.added.now c.requires.takes.some c.requires.side c.requires.takes.fits
+    c.insert_in_place.new.self (c.in_ok-insert_in_place.ensures.tried.done c.if-not-branch-2.false) c.new.result c.insert_in_place.new.more (change_from c.new.result c.insert_in_place.new.more _ _ c.new.ensures (c.in_ok-insert_in_place.ensures.change c.if-not-branch-2.false)) c.self.inside.totals refl
 
 pub Children::insert_in_place-retotal-requires-clause-new :
     goal.Children::insert_in_place-retotal-requires-clause-new
@@ -66,29 +66,33 @@ Children::insert_in_place-retotal-requires-clause-new t c = (c.in_ok-insert_in_p
 pub Children::insert_in_place-retotal-requires-clause-fits :
     goal.Children::insert_in_place-retotal-requires-clause-fits
 Children::insert_in_place-retotal-requires-clause-fits t c =
-    change_narrow _ _ _ _ _ _ _ (found t (goal.at.Children::insert_in_place-retotal-requires-clause-fits t c).After-index-self-way-2) c.args.added.now c.requires.some c.requires.side c.requires.fits
-    c.insert_in_place.new.self (c.in_ok-insert_in_place.ensures.done c.if-not-branch-2.false) c.new.result c.insert_in_place.new.more (change_from c.new.result c.insert_in_place.new.more _ _ c.new.ensures (c.in_ok-insert_in_place.ensures.change c.if-not-branch-2.false)) c.self.inside.totals refl
+    change_narrow _ _ _ _ _ _ _ (found t (goal.at.Children::insert_in_place-retotal-requires-clause-fits t c).After-index-self-way-2) c.args.added.now c.requires.takes.some c.requires.side c.requires.takes.fits
+    c.insert_in_place.new.self (c.in_ok-insert_in_place.ensures.tried.done c.if-not-branch-2.false) c.new.result c.insert_in_place.new.more (change_from c.new.result c.insert_in_place.new.more _ _ c.new.ensures (c.in_ok-insert_in_place.ensures.change c.if-not-branch-2.false)) c.self.inside.totals refl
     (rw c.len.ensures.value at c.has_room_for.ensures c.if-not-has_room_for.false)
 
 pub Children::insert_in_place-invariant_of-self-2 :
     goal.Children::insert_in_place-invariant_of-self-2
 Children::insert_in_place-invariant_of-self-2 t c =
-    fields_changed _ _ _ _ _ _ _ (found t (goal.at.Children::insert_in_place-invariant_of-self-2 t c).After-index-self-way-2) c.args.added.now c.requires.some c.requires.side c.requires.fits
-    c.insert_in_place.new.self (c.in_ok-insert_in_place.ensures.done c.if-not-branch-2.false) c.new.result c.insert_in_place.new.more (change_from c.new.result c.insert_in_place.new.more _ _ c.new.ensures (c.in_ok-insert_in_place.ensures.change c.if-not-branch-2.false)) _ refl refl refl
+    fields_changed _ _ _ _ _ _ _ (found t (goal.at.Children::insert_in_place-invariant_of-self-2 t c).After-index-self-way-2) c.args.added.now c.requires.takes.some c.requires.side c.requires.takes.fits
+    c.insert_in_place.new.self (c.in_ok-insert_in_place.ensures.tried.done c.if-not-branch-2.false) c.new.result c.insert_in_place.new.more (change_from c.new.result c.insert_in_place.new.more _ _ c.new.ensures (c.in_ok-insert_in_place.ensures.change c.if-not-branch-2.false)) _ refl refl refl
     c.self.inside.totals c.retotal.new.self refl c.retotal.ensures.len c.retotal.ensures.before c.retotal.ensures.after refl
 
-pub Children::insert_in_place-returns-clause-done :
-    goal.Children::insert_in_place-returns-clause-done
-Children::insert_in_place-returns-clause-done t c = λ yes.
-    all_changed _ _ _ _ _ _ _ (found t (goal.at.Children::insert_in_place-returns-clause-done t c).After-index-self-way-2) c.args.added.now c.requires.some c.requires.side c.requires.fits
-    c.insert_in_place.new.self (c.in_ok-insert_in_place.ensures.done c.if-not-branch-2.false) c.new.result c.insert_in_place.new.more (change_from c.new.result c.insert_in_place.new.more _ _ c.new.ensures (c.in_ok-insert_in_place.ensures.change c.if-not-branch-2.false)) (record { height = _; breaks = _; last = c.self.inside.last; totals = _; nodes = _ }) refl refl refl
-    c.self.inside.totals c.retotal.new.self refl c.retotal.ensures.len c.retotal.ensures.before c.retotal.ensures.after refl
+pub Children::insert_in_place-returns-clause-tried :
+    goal.Children::insert_in_place-returns-clause-tried
+Children::insert_in_place-returns-clause-tried t c = record {
+  done = λ yes.
+      all_changed _ _ _ _ _ _ _ (found t (goal.at.Children::insert_in_place-returns-clause-tried t c).After-index-self-way-2) c.args.added.now c.requires.takes.some c.requires.side c.requires.takes.fits
+      c.insert_in_place.new.self (c.in_ok-insert_in_place.ensures.tried.done c.if-not-branch-2.false) c.new.result c.insert_in_place.new.more (change_from c.new.result c.insert_in_place.new.more _ _ c.new.ensures (c.in_ok-insert_in_place.ensures.change c.if-not-branch-2.false)) (record { height = _; breaks = _; last = c.self.inside.last; totals = _; nodes = _ }) refl refl refl
+      c.self.inside.totals c.retotal.new.self refl c.retotal.ensures.len c.retotal.ensures.before c.retotal.ensures.after refl;
+  kept = λ no. cc;
+  err = tt;
+}
 
 pub Children::insert_in_place-returns-clause-change :
     goal.Children::insert_in_place-returns-clause-change
 Children::insert_in_place-returns-clause-change t c = λ yes. change_seen c.new.result c.insert_in_place.new.more _ _ c.new.ensures
-    (list_changed _ _ _ _ _ _ _ (found t (goal.at.Children::insert_in_place-returns-clause-change t c).After-index-self-way-2) c.args.added.now c.requires.some c.requires.side c.requires.fits
-    c.insert_in_place.new.self (c.in_ok-insert_in_place.ensures.done c.if-not-branch-2.false) c.new.result c.insert_in_place.new.more (change_from c.new.result c.insert_in_place.new.more _ _ c.new.ensures (c.in_ok-insert_in_place.ensures.change c.if-not-branch-2.false)) (record { height = _; breaks = _; last = c.self.inside.last; totals = _; nodes = _ }) refl refl refl
+    (list_changed _ _ _ _ _ _ _ (found t (goal.at.Children::insert_in_place-returns-clause-change t c).After-index-self-way-2) c.args.added.now c.requires.takes.some c.requires.side c.requires.takes.fits
+    c.insert_in_place.new.self (c.in_ok-insert_in_place.ensures.tried.done c.if-not-branch-2.false) c.new.result c.insert_in_place.new.more (change_from c.new.result c.insert_in_place.new.more _ _ c.new.ensures (c.in_ok-insert_in_place.ensures.change c.if-not-branch-2.false)) (record { height = _; breaks = _; last = c.self.inside.last; totals = _; nodes = _ }) refl refl refl
     c.self.inside.totals c.retotal.new.self refl c.retotal.ensures.len c.retotal.ensures.before c.retotal.ensures.after refl)
 
 pub Children::insert_in_place-minus-requires-clause-bytes : goal.Children::insert_in_place-minus-requires-clause-bytes
@@ -106,7 +110,7 @@ Children::insert_in_place-minus-requires-clause-break_count t c = (cut_has t (go
 pub Children::insert_in_place-returns-then-lacks_room_for-clause-change :
     goal.Children::insert_in_place-returns-then-lacks_room_for-clause-change
 Children::insert_in_place-returns-then-lacks_room_for-clause-change t c = λ yes.
-    list_grown c.args.self.now c.cut_leaf.new.self c.args.added.now c.args.at c.requires.children (c.in_ok-cut_leaf.ensures.done c.if-not-branch.false) c.requires.some
+    list_grown c.args.self.now c.cut_leaf.new.self c.args.added.now c.args.at c.requires.children (c.in_ok-cut_leaf.ensures.tried.done c.if-not-branch.false) c.requires.takes.some
     c.total-before.result c.total.result c.total-before.ensures c.total.ensures c.minus.result c.minus.ensures.sum
 
 pub Children::insert_in_place-returns-in_err-insert_in_place-clause-made :
@@ -134,14 +138,13 @@ Node::insert_in_place-insert_in_place-requires-in-Some-get_mut t c =
     let ts = c.in-Some-get_mut.children.now in
     let is_node : IsNode (own_form c.own.new.form) = record { form = c.in_ok-own.ensures.kept c.self.invariant.form } in
     let i = inner_seen (own_form c.own.new.form) c.args.self.now c.in-Inner.children ts is_node c.in-Inner.is (c.in_ok-own.ensures.same ∙ c.self.view_is) c.in-Some-get_mut.ensures.value in
-    let low = tallest_below (breaks_of ts) (height_of ts) ts i.children.each in
-    let text_is = ap text i.is in (
+    let low = tallest_below (breaks_of ts) (height_of ts) ts i.children.each in (
       omega (arith, c.decreases, low, ap (λ x. x.height) i.is),
       (
         i.children,
         (
-          omega (arith, c.requires.within, ap length text_is),
-          (c.requires.some, (c.requires.short, (omega (arith, c.requires.fits, ap byte_len text_is), subst (λ x. MayInsert x c.args.at c.args.added.now c.args.to_right) i.is c.requires.side))),
+          subst (λ x. TakesShort x c.args.at c.args.added.now) i.is c.requires.takes,
+          subst (λ x. MayInsert x c.args.at c.args.added.now c.args.to_right) i.is c.requires.side,
         ),
       ),
     )
@@ -161,31 +164,34 @@ Node::insert_in_place-invariant_of-self-2 t c =
           let us = did.new.self in
           let i = inner_seen mine c.args.self.now w.in-Inner.children ts is_node w.in-Inner.is view w.in-Some-get_mut.ensures.value in
           rw w.self-inside-is (record {
-            form = by_outcome did.result did.ensures.done did.ensures.kept did.ensures.err (grown_children c.args.self.now ts us c.args.at c.args.added.now i) (still_children c.args.self.now ts us i);
+            form = by_outcome did.result ts us did.ensures.tried (grown_children c.args.self.now ts us c.args.at c.args.added.now i) (still_children c.args.self.now ts us i);
           })
       | Node::insert_in_place-in-Inner+in-None-get_mut w ↦
           rw w.self-inside-is (record { form = (inner_of mine c.args.self.now w.in-Inner.children is_node w.in-Inner.is view).children })
     ]
 
-pub Node::insert_in_place-returns-clause-done : goal.Node::insert_in_place-returns-clause-done
-Node::insert_in_place-returns-clause-done t c =
+pub Node::insert_in_place-returns-clause-tried : goal.Node::insert_in_place-returns-clause-tried
+Node::insert_in_place-returns-clause-tried t c =
     let mine = own_form c.own.new.form in
     let is_node : IsNode mine = record { form = c.in_ok-own.ensures.kept c.self.invariant.form } in
     let view = c.in_ok-own.ensures.same ∙ c.self.view_is in
     elim c.match-self.branch [
-      | Node::insert_in_place-in-Empty w ↦ rw w.result-is (λ no. cc)
+      | Node::insert_in_place-in-Empty w ↦ rw (w.result-is, w.self-inside-is) (not_tried c.args.self.now _ view)
       | Node::insert_in_place-in-Leaf+in-Some w ↦
           let same = leaf_seen mine c.args.self.now w.in-Leaf.leaf w.in-Some.leaf.now w.in-Leaf.is view w.in-Some.ensures.value in
-          rw (w.result-is, w.self-inside-is) (λ yes. subst (λ x. IsInserted x (w.insert_in_place.new.self ∷ []) (inserted (text x) c.args.at c.args.added.now)) (sym same) (w.insert_in_place.ensures.done yes))
-      | Node::insert_in_place-in-Leaf+in-None w ↦ rw w.result-is (λ no. cc)
+          rw (w.result-is, w.self-inside-is) (record {
+            done = λ yes. subst (λ x. IsInserted x (w.insert_in_place.new.self ∷ []) (inserted (text x) c.args.at c.args.added.now)) (sym same) (w.insert_in_place.ensures.done yes);
+            kept = λ no. w.insert_in_place.ensures.kept no ∙ sym same;
+            err = tt;
+          })
+      | Node::insert_in_place-in-Leaf+in-None w ↦ rw (w.result-is, w.self-inside-is) (not_tried c.args.self.now _ (sym (leaf_seen mine c.args.self.now w.in-Leaf.leaf _ w.in-Leaf.is view refl)))
       | Node::insert_in_place-in-Inner+in-Some-get_mut w ↦
           let did = w.insert_in_place-in-Some-get_mut in
           let ts = w.in-Some-get_mut.children.now in
           let us = did.new.self in
           let i = inner_seen mine c.args.self.now w.in-Inner.children ts is_node w.in-Inner.is view w.in-Some-get_mut.ensures.value in
-          rw (w.result-is, w.self-inside-is) (IfOk-weaker did.result (λ did. did ≡ true → AreGrown ts us (inserted (joined ts) c.args.at c.args.added.now))
-          (λ did. did ≡ true → IsInserted c.args.self.now (tree_over us ∷ []) (inserted (text c.args.self.now) c.args.at c.args.added.now)) (λ did g yes. grown_node c.args.self.now ts us c.args.at c.args.added.now i (g yes)) did.ensures.done)
-      | Node::insert_in_place-in-Inner+in-None-get_mut w ↦ rw w.result-is (λ no. cc)
+          rw (w.result-is, w.self-inside-is) (tried_in did.result tree_over ts us c.args.self.now (tree_over us) i.is refl (grown_node c.args.self.now ts us c.args.at c.args.added.now i) did.ensures.tried)
+      | Node::insert_in_place-in-Inner+in-None-get_mut w ↦ rw (w.result-is, w.self-inside-is) (not_tried c.args.self.now _ (sym (inner_of mine c.args.self.now w.in-Inner.children is_node w.in-Inner.is view).is))
     ]
 
 pub Node::insert_in_place-returns-clause-change : goal.Node::insert_in_place-returns-clause-change

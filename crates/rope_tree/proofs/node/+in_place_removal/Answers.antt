@@ -20,7 +20,7 @@ use Rattle.rope_tree.proofs.InsertDescents.{last_total}
 use Rattle.rope_tree.proofs.TotalLaws.{has_part, fits_after}
 use Rattle.rope_tree.proofs.GrownLaws.{totals_seen, tallest_above}
 use Rattle.rope_tree.proofs.ListedLaws.{seen_at, set_seen, set_listed, set_totals}
-use Rattle.rope_tree.proofs.FormLaws.{inner_of, inner_seen, leaf_seen, by_outcome, still_children, removed_children, removed_node}
+use Rattle.rope_tree.proofs.FormLaws.{inner_of, inner_seen, leaf_seen, by_outcome, not_tried, tried_in, still_children, removed_children, removed_node}
 use Rattle.rope_tree.proofs.RemovalLaws.{Holds, holds, byte_len-removed, children_removed}
 use Rattle.rope_tree.proofs.node.+in_place_removal.Goals as goal
 use Rattle.rope_tree.proofs.node.+in_place_removal.Goals.{Children::remove_in_place-After-index-self-place, Node::remove_in_place-in-Empty, Node::remove_in_place-in-Leaf+in-Some, Node::remove_in_place-in-Leaf+in-None, Node::remove_in_place-in-Inner+in-Some-get_mut, Node::remove_in_place-in-Inner+in-None-get_mut}
@@ -120,7 +120,7 @@ Children::remove_in_place-retotal-requires-clause-fits t c = λ narrow j e from 
     let d = down t i in
     let totals = totals_seen (listed c.self.inside) ts c.self.inside.totals c.self.inside.totals c.self.view_is refl c.self.invariant.totals_right in
     let inside : j < length ts = omega (arith, totals.as_many, within) in
-    let r = left t i u (c.in_ok-remove_in_place.ensures.done c.if-not-branch.false) in
+    let r = left t i u (c.in_ok-remove_in_place.ensures.tried.done c.if-not-branch.false) in
     let last = last_total (breaks_of ts) c.self.inside.totals ts totals (omega (arith, c.requires.children.at_least_two)) e in
     let few : byte_len (joined (set ts c.try_place-child.result.place u)) < 2 ^ 32 =
     omega (arith, (narrow (length c.self.inside.totals - 1) e (omega (arith, within))).bytes, ap (λ x. x.bytes) last, ap byte_len r.text_is, byte_len-removed (joined ts) c.args.start c.args.end (omega (arith, c.requires.ordered))) in
@@ -134,7 +134,7 @@ Children::remove_in_place-invariant_of-self-2 t c =
     let i = (goal.at.Children::remove_in_place-invariant_of-self-2 t c).After-index-self-place in
     let ts = c.args.self.now in
     let d = down t i in
-    let done = c.in_ok-remove_in_place.ensures.done c.if-not-branch.false in
+    let done = c.in_ok-remove_in_place.ensures.tried.done c.if-not-branch.false in
     let b = (left t i c.remove_in_place.new.self done).children in
     let seen = totals_seen (listed c.self.inside) ts c.self.inside.totals c.self.inside.totals c.self.view_is refl c.self.invariant.totals_right in
     let change = change_own (get_or c.self.inside.nodes c.try_place-child.result.place c.index-self-place.result) c.remove_in_place.new.self c.remove_in_place.new.less c.new.result done.same_breaks (change_to c.new.result c.remove_in_place.new.less _ _ c.new.ensures (c.in_ok-remove_in_place.ensures.change c.if-not-branch.false)) in
@@ -142,19 +142,23 @@ Children::remove_in_place-invariant_of-self-2 t c =
     c.retotal.ensures.len c.retotal.ensures.before (λ j e from within. whole_changed _ _ _ _ change _ _ (c.retotal.ensures.after j e from within)) in
     set_listed c.self.inside _ ts c.try_place-child.result.place c.remove_in_place.new.self c.self.invariant c.self.view_is d.within b refl refl refl totals
 
-pub Children::remove_in_place-returns-clause-done :
-    goal.Children::remove_in_place-returns-clause-done
-Children::remove_in_place-returns-clause-done t c = λ yes.
-    let i = (goal.at.Children::remove_in_place-returns-clause-done t c).After-index-self-place in
-    let ts = c.args.self.now in
-    let d = down t i in
-    let done = c.in_ok-remove_in_place.ensures.done c.if-not-branch.false in
-    let r = left t i c.remove_in_place.new.self done in
-    let seen = totals_seen (listed c.self.inside) ts c.self.inside.totals c.self.inside.totals c.self.view_is refl c.self.invariant.totals_right in
-    let change = change_own (get_or c.self.inside.nodes c.try_place-child.result.place c.index-self-place.result) c.remove_in_place.new.self c.remove_in_place.new.less c.new.result done.same_breaks (change_to c.new.result c.remove_in_place.new.less _ _ c.new.ensures (c.in_ok-remove_in_place.ensures.change c.if-not-branch.false)) in
-    let totals = set_totals _ _ _ _ _ _ _ _ _ d.children d.within d.child_is d.own.same_breaks r.children (done.same_breaks ∙ d.own.same_breaks) seen refl refl refl
-    c.retotal.ensures.len c.retotal.ensures.before (λ j e from within. whole_changed _ _ _ _ change _ _ (c.retotal.ensures.after j e from within)) in
-    rw (set_seen c.self.inside (record { height = _; breaks = _; last = c.self.inside.last; totals = _; nodes = _ }) ts c.try_place-child.result.place c.remove_in_place.new.self c.self.invariant c.self.view_is d.within r.children refl refl refl totals) r
+pub Children::remove_in_place-returns-clause-tried :
+    goal.Children::remove_in_place-returns-clause-tried
+Children::remove_in_place-returns-clause-tried t c = record {
+  done = λ yes.
+      let i = (goal.at.Children::remove_in_place-returns-clause-tried t c).After-index-self-place in
+      let ts = c.args.self.now in
+      let d = down t i in
+      let done = c.in_ok-remove_in_place.ensures.tried.done c.if-not-branch.false in
+      let r = left t i c.remove_in_place.new.self done in
+      let seen = totals_seen (listed c.self.inside) ts c.self.inside.totals c.self.inside.totals c.self.view_is refl c.self.invariant.totals_right in
+      let change = change_own (get_or c.self.inside.nodes c.try_place-child.result.place c.index-self-place.result) c.remove_in_place.new.self c.remove_in_place.new.less c.new.result done.same_breaks (change_to c.new.result c.remove_in_place.new.less _ _ c.new.ensures (c.in_ok-remove_in_place.ensures.change c.if-not-branch.false)) in
+      let totals = set_totals _ _ _ _ _ _ _ _ _ d.children d.within d.child_is d.own.same_breaks r.children (done.same_breaks ∙ d.own.same_breaks) seen refl refl refl
+      c.retotal.ensures.len c.retotal.ensures.before (λ j e from within. whole_changed _ _ _ _ change _ _ (c.retotal.ensures.after j e from within)) in
+      rw (set_seen c.self.inside (record { height = _; breaks = _; last = c.self.inside.last; totals = _; nodes = _ }) ts c.try_place-child.result.place c.remove_in_place.new.self c.self.invariant c.self.view_is d.within r.children refl refl refl totals) r;
+  kept = λ no. cc;
+  err = tt;
+}
 
 pub Children::remove_in_place-returns-clause-change :
     goal.Children::remove_in_place-returns-clause-change
@@ -164,7 +168,7 @@ Children::remove_in_place-returns-clause-change t c = λ yes.
     let child = get_or c.self.inside.nodes c.try_place-child.result.place c.index-self-place.result in
     let u = c.remove_in_place.new.self in
     let d = down t i in
-    let done = c.in_ok-remove_in_place.ensures.done c.if-not-branch.false in
+    let done = c.in_ok-remove_in_place.ensures.tried.done c.if-not-branch.false in
     let r = left t i u done in
     let seen = totals_seen (listed c.self.inside) ts c.self.inside.totals c.self.inside.totals c.self.view_is refl c.self.invariant.totals_right in
     let change = change_own child u c.remove_in_place.new.less c.new.result done.same_breaks (change_to c.new.result c.remove_in_place.new.less _ _ c.new.ensures (c.in_ok-remove_in_place.ensures.change c.if-not-branch.false)) in
@@ -215,31 +219,34 @@ Node::remove_in_place-invariant_of-self-2 t c =
           let us = did.new.self in
           let i = inner_seen mine c.args.self.now w.in-Inner.children ts is_node w.in-Inner.is view w.in-Some-get_mut.ensures.value in
           rw w.self-inside-is (record {
-            form = by_outcome did.result did.ensures.done did.ensures.kept did.ensures.err (removed_children c.args.least.first c.args.least.last c.args.self.now ts us c.args.start c.args.end i) (still_children c.args.self.now ts us i);
+            form = by_outcome did.result ts us did.ensures.tried (removed_children c.args.least.first c.args.least.last c.args.self.now ts us c.args.start c.args.end i) (still_children c.args.self.now ts us i);
           })
       | Node::remove_in_place-in-Inner+in-None-get_mut w ↦
           rw w.self-inside-is (record { form = (inner_of mine c.args.self.now w.in-Inner.children is_node w.in-Inner.is view).children })
     ]
 
-pub Node::remove_in_place-returns-clause-done : goal.Node::remove_in_place-returns-clause-done
-Node::remove_in_place-returns-clause-done t c =
+pub Node::remove_in_place-returns-clause-tried : goal.Node::remove_in_place-returns-clause-tried
+Node::remove_in_place-returns-clause-tried t c =
     let mine = own_form c.own.new.form in
     let is_node : IsNode mine = record { form = c.in_ok-own.ensures.kept c.self.invariant.form } in
     let view = c.in_ok-own.ensures.same ∙ c.self.view_is in
     elim c.match-self.branch [
-      | Node::remove_in_place-in-Empty w ↦ rw w.result-is (λ no. cc)
+      | Node::remove_in_place-in-Empty w ↦ rw (w.result-is, w.self-inside-is) (not_tried c.args.self.now _ view)
       | Node::remove_in_place-in-Leaf+in-Some w ↦
           let same = leaf_seen mine c.args.self.now w.in-Leaf.leaf w.in-Some.leaf.now w.in-Leaf.is view w.in-Some.ensures.value in
-          rw (w.result-is, w.self-inside-is) (λ yes. subst (λ x. IsRemoved c.args.least.first c.args.least.last x w.remove_in_place.new.self c.args.start c.args.end) (sym same) (w.remove_in_place.ensures.done yes))
-      | Node::remove_in_place-in-Leaf+in-None w ↦ rw w.result-is (λ no. cc)
+          rw (w.result-is, w.self-inside-is) (record {
+            done = λ yes. subst (λ x. IsRemoved c.args.least.first c.args.least.last x w.remove_in_place.new.self c.args.start c.args.end) (sym same) (w.remove_in_place.ensures.done yes);
+            kept = λ no. w.remove_in_place.ensures.kept no ∙ sym same;
+            err = tt;
+          })
+      | Node::remove_in_place-in-Leaf+in-None w ↦ rw (w.result-is, w.self-inside-is) (not_tried c.args.self.now _ (sym (leaf_seen mine c.args.self.now w.in-Leaf.leaf _ w.in-Leaf.is view refl)))
       | Node::remove_in_place-in-Inner+in-Some-get_mut w ↦
           let did = w.remove_in_place-in-Some-get_mut in
           let ts = w.in-Some-get_mut.children.now in
           let us = did.new.self in
           let i = inner_seen mine c.args.self.now w.in-Inner.children ts is_node w.in-Inner.is view w.in-Some-get_mut.ensures.value in
-          rw (w.result-is, w.self-inside-is) (IfOk-weaker did.result (λ did. did ≡ true → AreRemoved c.args.least.first c.args.least.last ts us c.args.start c.args.end)
-          (λ did. did ≡ true → IsRemoved c.args.least.first c.args.least.last c.args.self.now (tree_over us) c.args.start c.args.end) (λ did g yes. removed_node c.args.least.first c.args.least.last c.args.self.now ts us c.args.start c.args.end i (g yes)) did.ensures.done)
-      | Node::remove_in_place-in-Inner+in-None-get_mut w ↦ rw w.result-is (λ no. cc)
+          rw (w.result-is, w.self-inside-is) (tried_in did.result tree_over ts us c.args.self.now (tree_over us) i.is refl (removed_node c.args.least.first c.args.least.last c.args.self.now ts us c.args.start c.args.end i) did.ensures.tried)
+      | Node::remove_in_place-in-Inner+in-None-get_mut w ↦ rw (w.result-is, w.self-inside-is) (not_tried c.args.self.now _ (sym (inner_of mine c.args.self.now w.in-Inner.children is_node w.in-Inner.is view).is))
     ]
 
 pub Node::remove_in_place-returns-clause-change : goal.Node::remove_in_place-returns-clause-change

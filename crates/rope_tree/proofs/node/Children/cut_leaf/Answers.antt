@@ -51,8 +51,8 @@ parted c =
     let new = inserted (text (child c)) c.way_in-way.result.at c.args.added.now in
     let done = subst (λ o. IfSome o (λ back. IsInserted (child c) (u ∷ back ∷ []) new)) c.in-Some.is c.in_ok-back.ensures.cut in
     let few : length ts < 24 = omega (arith, c.if-count-ge-MAX_CHILDREN.false, c.len-count.ensures, c.self.invariant.totals_right.as_many, ap length c.self.view_is) in
-    grown_by_one (breaks_of ts) (height_of ts) ts k (child c) u c.in-Some.back d.children d.within d.child_is c.args.at c.way_in-way.result.at c.args.added.now c.requires.some
-    d.place g.within c.args.to_right g.inside g.outside c.requires.side done c.requires.fits refl refl few
+    grown_by_one (breaks_of ts) (height_of ts) ts k (child c) u c.in-Some.back d.children d.within d.child_is c.args.at c.way_in-way.result.at c.args.added.now c.requires.takes.some
+    d.place g.within c.args.to_right g.inside g.outside c.requires.side done c.requires.takes.fits refl refl few
 
 children : (c : After-info-front) → AreChildren (breaks_of c.args.self.now) (height_of c.args.self.now) (parts c)
 children c = children_grown c.args.self.now (parts c) _ c.requires.children (parted c)
@@ -231,15 +231,19 @@ invariant_of-self-2 c =
     more_listed c.self.inside _ c.args.self.now c.put_behind.new.nodes c.way_in-way.result.place c.cut.new.self c.len-count.result c.self.invariant c.self.view_is c.way_in-way.ensures.child (rw (placed e) (children f)) refl refl
     (as_many e) c.len-count.ensures refl (rw (placed e) right)
 
-pub returns-clause-done : goal.returns-clause-done
-returns-clause-done c = λ yes.
-    let e = (goal.at.returns-clause-done c).After-put_behind in
-    let f = (goal.at.returns-clause-done c).After-info-front in
-    let first = first_is f c.total_before.result c.plus-total.result (before_is f c.total_before.result c.total_before.ensures.first c.total_before.ensures.later) c.plus-total.ensures.sum in
-    let both = both_are f c.info.result c.plus.result c.info.ensures c.plus.ensures.sum in
-    let right = retotaled f c.plus-total.result c.info.result c.plus.result c.retotal.new.self c.insert.new.self first both c.retotal.ensures.len c.retotal.ensures.before c.retotal.ensures.after
-    c.insert.ensures.len c.insert.ensures.before c.insert.ensures.here c.insert.ensures.behind in
-    let now : HasTotals (breaks_of c.put_behind.new.nodes) c.insert.new.self c.put_behind.new.nodes = rw (placed e) right in
-    let seen = more_seen c.self.inside (record { height = _; breaks = _; last = c.self.inside.last; totals = _; nodes = _ }) c.args.self.now c.put_behind.new.nodes c.way_in-way.result.place c.cut.new.self c.len-count.result c.self.invariant c.self.view_is c.way_in-way.ensures.child (rw (placed e) (children f)) refl refl
-    (as_many e) c.len-count.ensures refl now in
-    rw (seen, placed e) (parted f)
+pub returns-clause-tried : goal.returns-clause-tried
+returns-clause-tried c = record {
+  done = λ yes.
+      let e = (goal.at.returns-clause-tried c).After-put_behind in
+      let f = (goal.at.returns-clause-tried c).After-info-front in
+      let first = first_is f c.total_before.result c.plus-total.result (before_is f c.total_before.result c.total_before.ensures.first c.total_before.ensures.later) c.plus-total.ensures.sum in
+      let both = both_are f c.info.result c.plus.result c.info.ensures c.plus.ensures.sum in
+      let right = retotaled f c.plus-total.result c.info.result c.plus.result c.retotal.new.self c.insert.new.self first both c.retotal.ensures.len c.retotal.ensures.before c.retotal.ensures.after
+      c.insert.ensures.len c.insert.ensures.before c.insert.ensures.here c.insert.ensures.behind in
+      let now : HasTotals (breaks_of c.put_behind.new.nodes) c.insert.new.self c.put_behind.new.nodes = rw (placed e) right in
+      let seen = more_seen c.self.inside (record { height = _; breaks = _; last = c.self.inside.last; totals = _; nodes = _ }) c.args.self.now c.put_behind.new.nodes c.way_in-way.result.place c.cut.new.self c.len-count.result c.self.invariant c.self.view_is c.way_in-way.ensures.child (rw (placed e) (children f)) refl refl
+      (as_many e) c.len-count.ensures refl now in
+      rw (seen, placed e) (parted f);
+  kept = λ no. cc;
+  err = tt;
+}

@@ -1,8 +1,12 @@
 -- Trees side by side as one.
-use Rattle.std.proofs.Common.{◌≡◌, ◌+◌, ◌≤◌, List, [], ◌∷◌, length, refl, sym, arith}
+use Rattle.std.proofs.Common.{◌≡◌, ℕ, ◌+◌, ◌≤◌, List, [], ◌∷◌, length, refl, sym, arith}
+use Rattle.std.specs.List.{All}
 use Rattle.std.proofs.lemmas.List.{append-nil}
-use Rattle.rope_tree.specs.Tree.{Tree, leaves_of, height_of, breaks_of, tree_over}
-use Rattle.rope_join.specs.Join.{gathered}
+use Rattle.std.proofs.lemmas.List.Elements.{All-head}
+use Rattle.rope_text.specs.declared.line_breaks.LineBreaks.{LineBreaks}
+use Rattle.rope_tree.specs.Tree.{Tree, leaves_of, height_of, breaks_of, tree_over, IsWide, IsTree, AreChildren}
+use Rattle.rope_tree.specs.Siblings.{gathered}
+use Rattle.rope_tree.proofs.TreeLaws.{is_tree_over}
 
 -- what holds of the one
 pub record IsGathered (ts : List Tree) (t : Tree) : Type 0 where
@@ -33,3 +37,8 @@ pub gathered_over : (ts : List Tree) → 2 ≤ length ts → gathered ts ≡ tre
 gathered_over [] many = absurd (omega arith)
 gathered_over (t ∷ []) many = absurd (omega arith)
 gathered_over (t ∷ u ∷ ts) many = refl
+
+pub gathered_tree : (breaks : LineBreaks) (w h : ℕ) (ts : List Tree) → 1 ≤ length ts → All (IsWide breaks w h) ts → (2 ≤ length ts → AreChildren (breaks_of ts) (height_of ts) ts) → IsTree (gathered ts)
+gathered_tree breaks w h [] some each over = absurd (omega arith)
+gathered_tree breaks w h (t ∷ []) some each over = (All-head (IsWide breaks w h) t [] each).tree
+gathered_tree breaks w h (t ∷ u ∷ ts) some each over = is_tree_over _ _ (t ∷ u ∷ ts) (over (omega arith))

@@ -1,0 +1,78 @@
+use Rattle.std.proofs.Common.{◌≡◌, ◌≤◌, length, take, IfSome, subst, refl, arith}
+use Rattle.std.proofs.lemmas.Grind.{common_steps}
+use Rattle.rope_text.specs.TextInfo.{info_of}
+use Rattle.rope_tree.specs.Tree.{joined, breaks_of}
+use Rattle.rope_tree.specs.NewList.{new_list, nodes_in}
+use Rattle.rope_tree.specs.Rows.{IsPart}
+use Rattle.rope_tree.proofs.NodeLaws.{small_totals}
+use Rattle.rope_tree.proofs.SiblingLaws.{byte_len-append}
+use Rattle.rope_tree.proofs.Descents.{front_is}
+use Rattle.rope_tree.proofs.PartLaws.{small_before, small_part, has_base, part_fits, part_in, is_new_list_part, part_counted}
+use Rattle.rope_tree.proofs.node.row.push_row.Goals.{After-total_before-base}
+use Rattle.rope_tree.proofs.node.row.push_row.Goals as goal
+
+-- the row's totals are those of a node of which it is a part
+part : (c : After-total_before-base) → IsPart c.args.row.nodes.now c.in-Some.known.now c.args.row.from
+part c = subst (λ o. IfSome o (λ totals. IsPart c.args.row.nodes.now totals.now c.args.row.from)) c.in-Some.is c.requires.row
+
+some : (c : After-total_before-base) → 1 ≤ length c.args.row.nodes.now
+some c = grind (arith, common_steps)
+
+base : (c : After-total_before-base) → c.total_before-base.result ≡ info_of (breaks_of (part c).whole) (joined (take c.args.row.from (part c).whole))
+base c =
+    let p = part c in
+    front_is (breaks_of p.whole) c.in-Some.known.now p.whole c.args.row.from c.total_before-base.result p.totals_right (omega (arith, p.within, p.totals_right.as_many)) c.total_before-base.ensures.first c.total_before-base.ensures.later
+
+pub append-requires-clause-small : goal.append-requires-clause-small
+append-requires-clause-small c =
+    let xs = nodes_in (new_list c.args.totals.now c.args.places.now) in
+    small_totals (breaks_of xs) c.args.totals.now xs c.requires.list.totals_right (omega (arith, byte_len-append xs c.args.row.nodes.now, c.requires.siblings.fits))
+
+pub append-requires-clause-small_others : goal.append-requires-clause-small_others
+append-requires-clause-small_others c =
+    let e = (goal.at.append-requires-clause-small_others c).After-total_before-base in
+    let b = base e in
+    small_part (nodes_in (new_list c.args.totals.now c.args.places.now)) c.args.row.nodes.now c.in-Some.known.now c.args.row.from (part e) (some e) c.requires.siblings c.total_before-base.result c.args.before b c.requires.before
+
+pub append-requires-clause-part : goal.append-requires-clause-part
+append-requires-clause-part c =
+    let e = (goal.at.append-requires-clause-part c).After-total_before-base in
+    let b = base e in
+    has_base (nodes_in (new_list c.args.totals.now c.args.places.now)) c.args.row.nodes.now c.in-Some.known.now c.args.row.from (part e) (some e) c.requires.siblings c.total_before-base.result c.args.before b c.requires.before
+
+pub append-requires-clause-new : goal.append-requires-clause-new
+append-requires-clause-new c =
+    let e = (goal.at.append-requires-clause-new c).After-total_before-base in
+    let b = base e in
+    small_before (nodes_in (new_list c.args.totals.now c.args.places.now)) c.args.row.nodes.now c.in-Some.known.now c.args.row.from (part e) (some e) c.requires.siblings c.total_before-base.result c.args.before b c.requires.before
+
+pub append-requires-clause-fits : goal.append-requires-clause-fits
+append-requires-clause-fits c =
+    let e = (goal.at.append-requires-clause-fits c).After-total_before-base in
+    let b = base e in
+    part_fits (nodes_in (new_list c.args.totals.now c.args.places.now)) c.args.row.nodes.now c.in-Some.known.now c.args.row.from (part e) (some e) c.requires.siblings c.total_before-base.result c.args.before b c.requires.before
+
+pub returns-in_ok-share_all-in-Some-clause-list : goal.returns-in_ok-share_all-in-Some-clause-list
+returns-in_ok-share_all-in-Some-clause-list c =
+    let e = (goal.at.returns-in_ok-share_all-in-Some-clause-list c).After-total_before-base in
+    let b = base e in
+    let did = c.if-not-branch.false in
+    is_new_list_part (nodes_in (new_list c.args.totals.now c.args.places.now)) c.args.row.nodes.now c.in-Some.known.now c.args.row.from (part e) (some e) c.requires.siblings c.total_before-base.result c.args.before b c.requires.before
+    (new_list c.args.totals.now c.args.places.now) _ c.requires.list refl c.len-count.result c.len-count.ensures (c.in_ok-append-in-Some.ensures.len did) (c.in_ok-append-in-Some.ensures.before did) (c.in_ok-append-in-Some.ensures.behind did) c.in_ok-share_all-in-Some.ensures c.requires.room
+
+pub returns-in_ok-share_all-in-Some-clause-nodes : goal.returns-in_ok-share_all-in-Some-clause-nodes
+returns-in_ok-share_all-in-Some-clause-nodes c =
+    let e = (goal.at.returns-in_ok-share_all-in-Some-clause-nodes c).After-total_before-base in
+    let b = base e in
+    let did = c.if-not-branch.false in
+    part_in (nodes_in (new_list c.args.totals.now c.args.places.now)) c.args.row.nodes.now c.in-Some.known.now c.args.row.from (part e) (some e) c.requires.siblings c.total_before-base.result c.args.before b c.requires.before
+    (new_list c.args.totals.now c.args.places.now) _ c.requires.list refl c.len-count.result c.len-count.ensures (c.in_ok-append-in-Some.ensures.len did) (c.in_ok-append-in-Some.ensures.before did) (c.in_ok-append-in-Some.ensures.behind did) c.in_ok-share_all-in-Some.ensures c.requires.room
+
+pub returns-in_ok-share_all-in-Some-clause-total : goal.returns-in_ok-share_all-in-Some-clause-total
+returns-in_ok-share_all-in-Some-clause-total c =
+    let e = (goal.at.returns-in_ok-share_all-in-Some-clause-total c).After-total_before-base in
+    let b = base e in
+    let did = c.if-not-branch.false in
+    part_counted (nodes_in (new_list c.args.totals.now c.args.places.now)) c.args.row.nodes.now c.in-Some.known.now c.args.row.from (part e) (some e) c.requires.siblings c.total_before-base.result c.args.before b c.requires.before
+    (new_list c.args.totals.now c.args.places.now) _ c.requires.list refl c.len-count.result c.len-count.ensures (c.in_ok-append-in-Some.ensures.len did) (c.in_ok-append-in-Some.ensures.before did) (c.in_ok-append-in-Some.ensures.behind did) c.in_ok-share_all-in-Some.ensures c.requires.room
+    c.get.result (λ d. rw (← c.len.ensures) (c.get.ensures d))

@@ -1,0 +1,33 @@
+//! What makes nodes.
+ghost use Rattle.std.specs.Prelude.{◌≡◌, ◌+◌, ◌<◌, ◌≤◌};
+
+use std::alloc::{AllocError, Global};
+
+/// What is made, unless memory for it is refused.
+pub type Made<T> = Result<T, AllocError>;
+
+/// What makes nodes: where their memory comes from, and how many it made.
+#[derive(Clone, Copy)]
+pub struct Maker {
+    pub alloc: Global,
+    pub made: u64,
+}
+
+impl Maker {
+    /// It has made none.
+    #[inline(always)]
+    pub fn new(alloc: Global) -> Maker
+        ensures { result.made ≡ 0 }
+    {
+        Maker { alloc, made: 0 }
+    }
+
+    /// Counts a node that is made.
+    pub(crate) fn add_made(&mut self)
+        ensures most { self.new.made ≤ self.old.made + 1 }
+        ensures added { self.old.made < 18446744073709551615 → self.new.made ≡ self.old.made + 1 }
+        ensures rises { self.old.made ≤ self.new.made }
+    {
+        self.made = self.made.saturating_add(1);
+    }
+}
