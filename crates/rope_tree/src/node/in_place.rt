@@ -1,5 +1,5 @@
 //! Inserts of short texts where the nodes stand: one way down, on which a node that is shared is copied.
-ghost use Rattle.std.specs.Prelude.{◌≡◌, ◌+◌, ◌<◌, ◌≤◌, [], ◌∷◌, true, false, length, take, slice_index_or, IfOk};
+ghost use Rattle.std.specs.Prelude.{◌≡◌, ◌+◌, ◌<◌, ◌≤◌, [], ◌∷◌, true, false, length, take, slice_index_or, Ok, IfOk};
 ghost use Rattle.rope_text.specs.Edit.{inserted};
 ghost use Rattle.rope_tree.specs.Tree.{Tree, text, joined, breaks_of, height_of, tree_over, AreChildren};
 ghost use Rattle.rope_text.specs.TextInfo.{info_of};
@@ -50,6 +50,15 @@ pub(super) fn has_no_text(totals: &Totals, nodes: &[Node], place: usize, at: usi
     nodes[place].is_no_text(from, bytes)
 }
 
+/// What an edit answers that changes nothing. It stands by itself, and is seldom called, so that the way of other edits lies straight.
+#[cold]
+#[inline(never)]
+pub(super) fn unchanged() -> Made<bool>
+    ensures { result ≡ Ok false }
+{
+    Ok(false)
+}
+
 impl Children {
     /// The child that takes a text before the character `at`. Where the way follows that of the edit before, its child is tried first.
     #[inline(always)]
@@ -93,27 +102,27 @@ impl Children {
         ensures tried { IsTried result self.old self.new (AreGrown self.old self.new (inserted (joined self.old) at added.now)) }
     {
         if !follows && self.height == 1 && has_no_child(&self.nodes) {
-            return Ok(false);
+            return unchanged();
         }
         if !self.totals.has_room_for(added.len()) {
-            return Ok(false);
+            return unchanged();
         }
         let way = self.way_in(at, to_right, follows);
         let is_ahead = !way.follows && self.height == 1;
         if is_ahead && has_no_text(&self.totals, &self.nodes, way.place, way.at) {
-            return Ok(false);
+            return unchanged();
         }
         if self.nodes[way.place].lacks_room_for(added.len()) {
             let before = self.total();
             if !self.cut_leaf(maker, at, added, to_right)? {
-                return Ok(false);
+                return unchanged();
             }
             *more = self.total().minus(before);
             return Ok(true);
         }
         let node = &mut self.nodes[way.place];
         if !node.insert_in_place(maker, way.at, added, to_right, way.follows, more)? {
-            return Ok(false);
+            return unchanged();
         }
         self.totals.retotal(way.place, TextInfo::new(), *more);
         self.last = way.place as u8;

@@ -19,6 +19,7 @@ use std::rc::Rc;
 impl Children {
     /// Puts a text before the character `at` of leaves, of which the one that takes it is cut into two, where one more fits in beside
     /// it; returns whether it did. Where memory is refused, nothing is changed.
+    #[cold]
     #[inline(never)]
     pub(super) fn cut_leaf(
         &mut self,

@@ -6,7 +6,7 @@ ghost use Rattle.rope_tree.specs.Change.{IsChange, no_counts};
 ghost use Rattle.rope_tree.specs.Removal.{IsRemoved, AreRemoved};
 ghost use Rattle.rope_tree.specs.Tries.{IsTried};
 
-use super::in_place::{has_no_child, has_no_text};
+use super::in_place::{has_no_child, has_no_text, unchanged};
 use super::own::own;
 use super::{Children, Form, Node};
 use crate::beside::{Least, least_at};
@@ -39,19 +39,19 @@ impl Children {
         ensures tried { IsTried result self.old self.new (AreRemoved least.first least.last self.old self.new start end) }
     {
         if !follows && self.height == 1 && has_no_child(&self.nodes) {
-            return Ok(false);
+            return unchanged();
         }
         let child = try_place(&self.totals, start, usize::from(self.last), follows);
         let place = child.place;
         if self.totals.get(place).chars < end {
-            return Ok(false);
+            return unchanged();
         }
         let before = total_before(&self.totals, place).chars;
         let least = least_at(usize::from(self.height), &self.totals, place, least);
         let at = start.saturating_sub(before);
         let is_ahead = !child.follows && self.height == 1;
         if is_ahead && has_no_text(&self.totals, &self.nodes, place, at) {
-            return Ok(false);
+            return unchanged();
         }
         let node = &mut self.nodes[place];
         if !node.remove_in_place(
@@ -62,7 +62,7 @@ impl Children {
             child.follows,
             less,
         )? {
-            return Ok(false);
+            return unchanged();
         }
         self.totals.retotal(place, *less, TextInfo::new());
         self.last = place as u8;

@@ -46,8 +46,7 @@ fn masked(number: u32, mask: u32) -> u32
 }
 
 /// Adds a number, modulo 2^32, to the counts from a place on. It goes over all places, four at once, and adds nothing before
-/// that place, so that it has no branch that depends on one; where nothing is added, as for the pairs and breaks of most edits,
-/// the counts are left alone.
+/// that place, so that it has no branch that depends on one.
 #[inline(always)]
 fn shift(counts: &mut [u32], from: usize, more: u32)
     requires len { length counts.old ≡ MAX_CHILDREN }
@@ -56,9 +55,6 @@ fn shift(counts: &mut [u32], from: usize, more: u32)
     ensures after { (j : ℕ) → from ≤ j → j < MAX_CHILDREN → slice_index counts.new j ≡ (slice_index counts.old j + more) % 2 ^ 32 }
     ensures len { length counts.new ≡ MAX_CHILDREN }
 {
-    if more == 0 {
-        return;
-    }
     let masks = masks_from(from);
     for j in 0..MAX_CHILDREN {
         counts[j] = counts[j].wrapping_add(masked(more, masks[j]));
@@ -88,7 +84,12 @@ impl Cell for u32 {
         let pairs = difference(old.utf16_surrogates, new.utf16_surrogates);
         shift(&mut rows.bytes, from, difference(old.bytes, new.bytes));
         shift(&mut rows.chars, from, difference(old.chars, new.chars));
-        shift(&mut rows.pairs, from, pairs);
-        shift(&mut rows.breaks, from, breaks);
+        // Most edits change neither.
+        if pairs != 0 {
+            shift(&mut rows.pairs, from, pairs);
+        }
+        if breaks != 0 {
+            shift(&mut rows.breaks, from, breaks);
+        }
     }
 }
