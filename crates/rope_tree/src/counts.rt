@@ -36,7 +36,7 @@ pub fn shared_breaks(first: &str, second: &str, breaks: LineBreaks) -> usize
 }
 
 /// The counts of a text with another between its front and its back, by the counts of the whole: only the new text is gone
-/// over, and the ends.
+/// over, and the ends. Where neither the front nor the new text ends in a CR, no CR meets an LF, and the sums are right.
 #[inline(always)]
 fn info_between(
     info: TextInfo,
