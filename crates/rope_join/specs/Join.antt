@@ -4,7 +4,7 @@ use Rattle.rope_text.specs.declared.TheConstants.{MAX_CHILDREN, MIN_PAIR_BYTES}
 use Rattle.rope_text.specs.Text.{byte_len}
 use Rattle.rope_text.specs.Dense.{IsDenseBehind, last_bytes}
 use Rattle.rope_tree.specs.Leaves.{IsSeam, Recuts}
-use Rattle.rope_tree.specs.Tree.{Tree, text, leaves_of, height_of, breaks_of, leaf_tree, tree_over, AreChildren}
+use Rattle.rope_tree.specs.Tree.{Tree, text, leaves_of, height_of, breaks_of, tree_over, AreChildren}
 use Rattle.rope_tree.specs.Siblings.{AreSiblings, AreParts}
 
 -- two trees that may stand side by side: of one set of line breaks, no CR at the end of the one before an LF of the other

@@ -1,7 +1,6 @@
-use Rattle.std.proofs.Common.{◌≡◌, ℕ, true, [], ◌∷◌, length, get_or, ap, sym, subst, refl, ◌∙◌, arith}
+use Rattle.std.proofs.Common.{◌≡◌, ℕ, true, [], ◌∷◌, get_or, ap, sym, subst, refl, ◌∙◌, arith}
 use Rattle.std.proofs.lemmas.Result.{IfOk-weaker}
 use Rattle.rope_text.specs.Edit.{inserted}
-use Rattle.rope_text.specs.Text.{byte_len}
 use Rattle.rope_tree.specs.declared.node.Form.{Form}
 use Rattle.rope_tree.specs.declared.node.Node.TheInside.{Inside}
 use Rattle.rope_tree.specs.Shape.{IsNode}
@@ -10,7 +9,7 @@ use Rattle.rope_tree.specs.Tree.{text, joined, breaks_of, height_of, tree_over}
 use Rattle.rope_text.specs.TextInfo.{info_of}
 use Rattle.rope_tree.specs.Change.{IsChange, no_counts}
 use Rattle.rope_tree.specs.Search.{HasPart}
-use Rattle.rope_tree.specs.Insert.{TakesShort, MayInsert, IsInserted, AreGrown}
+use Rattle.rope_tree.specs.Insert.{TakesShort, MayInsert, IsInserted}
 use Rattle.rope_tree.proofs.NodeLaws.{small_totals}
 use Rattle.rope_tree.proofs.InsertDescents.{takes}
 use Rattle.rope_tree.proofs.GrownLaws.{tallest_above}
