@@ -6,6 +6,7 @@ use Rattle.rope_text.specs.declared.text_info.TextInfo.{TextInfo}
 use Rattle.rope_text.specs.Text.{byte_len}
 use Rattle.rope_text.specs.TextInfo.{info_of}
 use Rattle.rope_text.specs.Conversions.{char_to_line}
+use Rattle.rope_text.specs.Lookup.{chunk_place_at_byte, chunk_place_at_char}
 use Rattle.rope_tree.specs.declared.search.Unit.{Unit}
 use Rattle.rope_tree.specs.declared.search.Unit.TheVariants.{Byte, Char, CodeUnit, LineBreak}
 use Rattle.rope_part.specs.declared.stretch.Stretch.{Stretch}
@@ -24,6 +25,13 @@ size_in Byte text = byte_len text
 size_in Char text = length text
 size_in CodeUnit text = 0
 size_in LineBreak text = 0
+
+-- before which chunk a cursor starts: the one that holds the byte or the character, and at the end past the last
+abbrev pub chunk_place : Unit → List (List ℕ) → ℕ → ℕ
+chunk_place Byte chunks idx = chunk_place_at_byte chunks idx
+chunk_place Char chunks idx = chunk_place_at_char chunks idx
+chunk_place CodeUnit chunks idx = 0
+chunk_place LineBreak chunks idx = 0
 
 -- the bytes, the characters and the line breaks of a text that lie in its first chunks; only breaks that end there are counted
 pub record AreBefore (breaks : LineBreaks) (text : List ℕ) (chunks : List (List ℕ)) (bytes chars count : ℕ) : Type 0 where
