@@ -1,5 +1,5 @@
 -- Where a cursor over chunks starts.
-use Rattle.std.proofs.Common.{◌≡◌, ℕ, suc, ◌+◌, ◌-◌, ◌<◌, ◌≤◌, ◌==◌, Bool, true, false, List, [], ◌∷◌, ◌++◌, length, get_or, refl, sym, ap, ◌∙◌, arith, inl, inr, All, append_assoc, subst}
+use Rattle.std.proofs.Common.{◌≡◌, ℕ, suc, ◌+◌, ◌-◌, ◌<◌, ◌≤◌, ◌==◌, true, false, List, [], ◌∷◌, ◌++◌, length, get_or, refl, sym, ap, ◌∙◌, arith, inl, inr, All, append_assoc, subst}
 use Rattle.std.specs.Prelude.{if◌then◌else◌}
 use Rattle.std.specs.List.{concat}
 use Rattle.std.proofs.lemmas.Bool.Decides.{nat_tests}
@@ -13,7 +13,6 @@ use Rattle.rope_text.specs.TextInfo.{info_of}
 use Rattle.rope_text.specs.Text.{byte_len}
 use Rattle.rope_text.specs.Breaks.{break_count}
 use Rattle.rope_text.specs.Cutting.{IsCutting}
-use Rattle.rope_text.specs.Sides.{Sides}
 use Rattle.rope_text.specs.Lookup.{StandsAt, LieBefore, found_chunk, front_chunks, chunk_index_at_byte, chunk_index_at_char, chunk_index_at_line_break, chunk_place_at_char, chunk_place_at_line_break}
 use Rattle.rope_text.proofs.SidesPlaces.{sides_at}
 use Rattle.rope_text.proofs.ConversionLaws.{char_to_line_end}

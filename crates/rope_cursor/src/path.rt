@@ -98,27 +98,6 @@ fn enter<'a>(
     }
 }
 
-// What `enter` does. Most nodes that a step reaches are leaves, and for these it is kept where it is called, and its answer in
-// registers: so it takes apart what `enter` answers, which comes through memory.
-#[inline(always)]
-fn reach<'a>(
-    frames: &mut [Frame<'a>; MAX_HEIGHT],
-    level: usize,
-    node: &'a Node,
-    is_backward: bool,
-) -> (usize, &'a str)
-    requires frames { AreFrames frames.old level (around frames.old level node.now.leaves) }
-    requires low { IsLow node.now (MAX_HEIGHT - level) }
-    ensures leads { LeadsTo frames.new result.0 (chars result.1.now) (around frames.old level node.now.leaves) }
-    ensures behind { beyond (not is_backward) (take result.0 frames.new) ≡ beyond (not is_backward) (take level frames.old) }
-{
-    if let View::Leaf(leaf) = node.view() {
-        return (level, leaf.as_str());
-    }
-    let (depth, text) = enter(frames, level, node, is_backward);
-    (depth, text)
-}
-
 // Goes down from a node at a level to the leaf that holds a place of its text; `before` are the counts of the text before
 // the node. Answers how many frames lead there, the leaf's text, and the counts of the text before it.
 fn enter_at<'a>(
@@ -222,7 +201,14 @@ impl<'a> Path<'a> {
             if at != end {
                 let at = if is_backward { at - 1 } else { at + 1 };
                 frames[level] = Frame { children, at };
-                let (depth, leaf) = reach(frames, level + 1, &children[at], is_backward);
+                let child: &Node = &children[at];
+                // Most nodes that a step comes to are leaves: their text is in registers, and what `enter` answers in memory.
+                if let View::Leaf(leaf) = child.view() {
+                    self.depth = level + 1;
+                    self.leaf = leaf.as_str();
+                    return true;
+                }
+                let (depth, leaf) = enter(frames, level + 1, child, is_backward);
                 self.depth = depth;
                 self.leaf = leaf;
                 return true;

@@ -1,7 +1,5 @@
-use Rattle.std.proofs.Common.{◌≡◌, ◌-◌, ℕ, ap, sym, ◌∙◌, subst, length, arith}
-use Rattle.std.specs.List.{concat}
-use Rattle.rope_text.specs.Lines.{line_count, line_start}
-use Rattle.rope_text.specs.Lookup.{StandsAt, chunk_place_at_line_break, chunk_place_at_char, chunk_index_at_char, chunk_index_at_line_break}
+use Rattle.std.proofs.Common.{◌≡◌, ◌-◌, ℕ, ap, ◌∙◌, subst, arith}
+use Rattle.rope_text.specs.Lookup.{StandsAt, chunk_place_at_line_break, chunk_place_at_char}
 use Rattle.rope_text.proofs.LineLaws.{line_start-le-length}
 use Rattle.rope_part.specs.Part.{text_of, chunks_of, breaks_of}
 use Rattle.rope_cursor.proofs.ChunkStarts.{line_break_place, line_break_end}
