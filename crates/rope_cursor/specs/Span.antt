@@ -52,3 +52,7 @@ pub record IsSpan (p : Place) (start : ℕ) (from to : Edge) : Type 0 where
   pub some : from.chars < to.chars → IsWithin p start from to
   pub none : to.chars ≤ from.chars → IsNothing p start from to
   pub ordered : from.chars ≤ to.chars
+
+-- the same, of the part from one byte up to another
+abbrev pub IsSpanFrom : Place → ℕ → ℕ → ℕ → Type 0
+IsSpanFrom p start from to = IsSpan p start (edge_at (leaves p) from) (edge_at (leaves p) to)

@@ -1,12 +1,12 @@
 //! A cursor over the bytes of a part.
-ghost use Rattle.std.specs.Prelude.{◌≡◌, ℕ, ◌≤◌, length, false, ⊤, IfSome, Some};
+ghost use Rattle.std.specs.Prelude.{◌≡◌, ℕ, ◌≤◌, ⊤};
 ghost use Rattle.std.specs.Bool.{MatchBool};
 ghost use Rattle.std.specs.Str.{encode_utf8_all};
-ghost use Rattle.std.specs.Iterator.{YieldsFirstBy, item_count, UpTo};
-ghost use Rattle.std.specs.Iterator.SizeHint.{IsWithinCount};
+ghost use Rattle.std.specs.Iterator.{YieldsFirstBy, item_count};
 ghost use Rattle.rope_text.specs.Text.{byte_len};
 ghost use Rattle.rope_text.specs.Sides.{ahead, at_place, turned, GoesRight, GoesLeft, GoesAhead, StepsBack};
 ghost use Rattle.rope_part.specs.Part.{text_of};
+ghost use Rattle.rope_cursor.specs.Hints.{CountsAhead};
 
 use crate::point::{end_of, step_chunk};
 use crate::span::Span;
@@ -135,10 +135,7 @@ impl<'a> Iterator for Bytes<'a> {
 
     /// How many bytes it still gives, which is exact.
     fn size_hint(&self) -> (usize, Option<usize>)
-        ensures lower { IsWithinCount result.0 (item_count ahead self.now) }
-        ensures upper { IfSome result.1 (UpTo (item_count ahead self.now)) }
-        ensures exact { result.0 ≡ length (ahead self.now) }
-        ensures exact_upper { result.1 ≡ Some (length (ahead self.now)) }
+        ensures { CountsAhead self.now result.0 result.1 }
     {
         let count = self.len();
         (count, Some(count))

@@ -1,12 +1,12 @@
 //! A cursor over the lines of a part.
-ghost use Rattle.std.specs.Prelude.{◌≡◌, ◌+◌, ◌≤◌, ◌<◌, ℕ, ⊤, false, length, Some, IfSome};
+ghost use Rattle.std.specs.Prelude.{◌≡◌, ◌≤◌, ◌<◌, ⊤};
 ghost use Rattle.std.specs.Bool.{MatchBool};
-ghost use Rattle.std.specs.Iterator.{YieldsFirstBy, UpTo, item_count};
-ghost use Rattle.std.specs.Iterator.SizeHint.{IsWithinCount};
+ghost use Rattle.std.specs.Iterator.{YieldsFirstBy, item_count};
 ghost use Rattle.rope_text.specs.Lines.{line_count};
 ghost use Rattle.rope_text.specs.LineParts.{line_of, lines_of};
 ghost use Rattle.rope_text.specs.Sides.{ahead, at_place, turned, GoesRight, GoesLeft, GoesAhead, StepsBack};
 ghost use Rattle.rope_part.specs.Part.{content_of, text_of, breaks_of};
+ghost use Rattle.rope_cursor.specs.Hints.{CountsAhead};
 
 use crate::between::between;
 use crate::gap::Gap;
@@ -138,10 +138,7 @@ impl<'a> Iterator for Lines<'a> {
 
     /// How many lines are still to come, twice.
     fn size_hint(&self) -> (usize, Option<usize>)
-        ensures lower { IsWithinCount result.0 (item_count ahead self.now) }
-        ensures upper { IfSome result.1 (UpTo (item_count ahead self.now)) }
-        ensures exact { result.0 ≡ length (ahead self.now) }
-        ensures exact_upper { result.1 ≡ Some (length (ahead self.now)) }
+        ensures { CountsAhead self.now result.0 result.1 }
     {
         let count = self.len();
         (count, Some(count))

@@ -28,14 +28,14 @@ pub struct Span<'a> {
 }
 
 impl<'a> Model for Span<'a> {
-    ghost use Rattle.rope_cursor.specs.Path.{Place, leaves};
-    ghost use Rattle.rope_cursor.specs.Span.{clipped_at, edge_at, IsSpan};
+    ghost use Rattle.rope_cursor.specs.Path.{Place};
+    ghost use Rattle.rope_cursor.specs.Span.{clipped_at, IsSpanFrom};
 
     ghost Value = { Place };
 
     ghost view = { λ a. clipped_at a.path a.from a.to };
 
-    ghost invariant = { λ a. IsSpan a.path a.start (edge_at (leaves a.path) a.from) (edge_at (leaves a.path) a.to) };
+    ghost invariant = { λ a. IsSpanFrom a.path a.start a.from a.to };
 }
 
 impl<'a> Span<'a> {
