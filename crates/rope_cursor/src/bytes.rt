@@ -13,19 +13,23 @@ use crate::span::Span;
 use rope_part::Part;
 use rope_tree::search::Unit;
 use std::alloc::AllocError;
-use std::fmt;
 use std::iter::ExactSizeIterator;
 use std::marker::Model;
 
 /// A cursor over the bytes of a part, between two of them. It takes no memory.
+///
+/// As `Debug` it shows where it stands and which way it faces, and no text.
 #[derive(Drop)]
+#[derive_where(Debug)]
 pub struct Bytes<'a> {
+    #[derive_where(skip)]
     span: Span<'a>,
     // the span's chunk, kept here so that a step within it is one read
+    #[derive_where(skip)]
     chunk: &'a str,
-    // the bytes of the chunk behind it, those before the chunk, and all of them
-    at: usize,
+    // the bytes before the chunk, those of the chunk behind the cursor, and all of them
     before: usize,
+    at: usize,
     total: usize,
     is_backward: bool,
 }
@@ -163,17 +167,5 @@ impl<'a> Clone for Bytes<'a> {
     fn clone(&self) -> Result<Bytes<'a>, AllocError> {
         let span = self.span.copy();
         Ok(Bytes { span, ..*self })
-    }
-}
-
-/// Shows where it stands and which way it faces; no text.
-impl<'a> fmt::Debug for Bytes<'a> {
-    fn fmt<W: fmt::Write>(&self, f: &mut fmt::Formatter<W>) -> fmt::Result {
-        f.debug_struct("Bytes")
-            .field("before", &self.before)
-            .field("at", &self.at)
-            .field("total", &self.total)
-            .field("is_backward", &self.is_backward)
-            .finish()
     }
 }

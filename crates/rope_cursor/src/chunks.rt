@@ -14,14 +14,17 @@ use crate::span::Span;
 use rope_part::Part;
 use rope_tree::search::{Unit, count};
 use std::alloc::AllocError;
-use std::fmt;
 use std::marker::Model;
 
 /// A cursor over the chunks of a part. It takes no memory.
 ///
 /// It stands at a chunk, before it or past it. An empty part has no chunk: its cursor stands at a text that it never gives.
+///
+/// As `Debug` it shows whether it stands past its chunk and which way it faces, and no text.
 #[derive(Drop)]
+#[derive_where(Debug)]
 pub struct Chunks<'a> {
+    #[derive_where(skip)]
     span: Span<'a>,
     is_empty: bool,
     is_past: bool,
@@ -156,16 +159,5 @@ impl<'a> Clone for Chunks<'a> {
     fn clone(&self) -> Result<Chunks<'a>, AllocError> {
         let span = self.span.copy();
         Ok(Chunks { span, ..*self })
-    }
-}
-
-/// Shows whether it stands past its chunk and which way it faces; no text.
-impl<'a> fmt::Debug for Chunks<'a> {
-    fn fmt<W: fmt::Write>(&self, f: &mut fmt::Formatter<W>) -> fmt::Result {
-        f.debug_struct("Chunks")
-            .field("is_empty", &self.is_empty)
-            .field("is_past", &self.is_past)
-            .field("is_backward", &self.is_backward)
-            .finish()
     }
 }

@@ -14,18 +14,23 @@ use crate::point::end_of;
 use rope_part::Part;
 use rope_text::TextInfo;
 use std::alloc::AllocError;
-use std::fmt;
 use std::iter::ExactSizeIterator;
 use std::marker::Model;
 
 /// A cursor over the lines of a part, each with its break. It takes no memory.
 ///
 /// A part has one line more than it has line breaks: after a break at its end there is an empty line.
+///
+/// As `Debug` it shows where it stands and which way it faces, and no text.
 #[derive(Drop)]
+#[derive_where(Debug)]
 pub struct Lines<'a> {
+    #[derive_where(skip)]
     part: Part<'a>,
+    #[derive_where(skip)]
     gap: Gap<'a>,
     // the counts of the text before the line
+    #[derive_where(skip)]
     before: TextInfo,
     line: usize,
     total: usize,
@@ -164,16 +169,5 @@ impl<'a> Clone for Lines<'a> {
     fn clone(&self) -> Result<Lines<'a>, AllocError> {
         let gap = self.gap.copy();
         Ok(Lines { gap, ..*self })
-    }
-}
-
-/// Shows where it stands and which way it faces; no text.
-impl<'a> fmt::Debug for Lines<'a> {
-    fn fmt<W: fmt::Write>(&self, f: &mut fmt::Formatter<W>) -> fmt::Result {
-        f.debug_struct("Lines")
-            .field("line", &self.line)
-            .field("total", &self.total)
-            .field("is_backward", &self.is_backward)
-            .finish()
     }
 }

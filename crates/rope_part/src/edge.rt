@@ -1,10 +1,8 @@
 //! The counts of a tree's text up to a place: one way down to the leaf that holds it.
-ghost use Rattle.std.specs.Prelude.{◌≡◌, ◌<◌, ◌≤◌, ◌+◌, length, take, IfSome};
+ghost use Rattle.std.specs.Prelude.{◌≡◌, ◌<◌, ◌≤◌, ◌+◌, length, take};
 ghost use Rattle.rope_text.specs.Text.{surrogate_count};
 ghost use Rattle.rope_text.specs.TextInfo.{info_of};
-ghost use Rattle.rope_text.specs.Breaks.{break_count};
 ghost use Rattle.rope_text.specs.Lines.{line_start, line_count};
-ghost use Rattle.rope_text.specs.LineParts.{first_line};
 ghost use Rattle.std.specs.Str.{chars};
 ghost use Rattle.rope_tree.specs.Tree.{text};
 ghost use Rattle.rope_part.specs.Edge.{start_info, end_info, IsLeafFrom};
