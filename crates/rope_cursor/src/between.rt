@@ -26,6 +26,7 @@ pub(crate) fn between<'a>(part: &Part<'a>, from: TextInfo, to: TextInfo) -> Part
     match part {
         Part::InTree(stretch) => {
             let node = stretch.node;
+            // a proof needs what `height` says of every node: how long its text may be
             let _ = node.height();
             let start = stretch.start.plus(from);
             let end = stretch.start.plus(to);

@@ -6,7 +6,8 @@ ghost use Rattle.std.specs.Str.{chars};
 ghost use Rattle.rope_text.specs.LineParts.{first_line, last_start};
 ghost use Rattle.rope_text.specs.Text.{byte_len};
 ghost use Rattle.rope_text.specs.TextInfo.{info_of};
-ghost use Rattle.rope_part.specs.Part.{text_of};
+ghost use Rattle.rope_part.specs.Part.{content_of, text_of, breaks_of};
+ghost use Rattle.rope_part.specs.Kept.{IsPart};
 ghost use Rattle.rope_cursor.specs.Gap.{before_byte, after_byte, AreChunks, IsBetween, PassesLine, PassesBack};
 
 use crate::span::Span;
@@ -87,6 +88,7 @@ fn find_last(
         ≡ info_of breaks (drop (last_start breaks (before_byte (chars text.now) end) skip) (before_byte (chars text.now) end))) }
     ensures far { IfNone result (near < end) }
 {
+    // a proof needs how long a text in memory may be
     let _ = byte_len_of(text);
     // so many bytes before the end or more, in no CR LF
     let cut = prev_break(end.saturating_sub(near), text.as_bytes());
@@ -162,13 +164,15 @@ fn pass_chunks_back(span: &mut Span<'_>, skip: usize, breaks: LineBreaks) -> (us
 }
 
 impl<'a> Gap<'a> {
-    /// The place before a character; at the end of the text its end.
-    pub fn at(part: &Part<'a>, char_idx: usize) -> Gap<'a>
-        requires { char_idx ≤ length (text_of part.now) }
+    /// The place before a character; at the end of the text its end. The part's counts are handed in by who has them.
+    pub fn at(part: &Part<'a>, info: TextInfo, char_idx: usize) -> Gap<'a>
+        requires info { info ≡ info_of (breaks_of part.now) (text_of part.now) }
+        requires kept { IsPart (content_of part.now) }
+        requires within { char_idx ≤ length (text_of part.now) }
         ensures front { result.front ≡ take char_idx (text_of part.now) }
         ensures back { result.back ≡ drop char_idx (text_of part.now) }
     {
-        let (span, inside) = Span::at(part, part.info(), char_idx);
+        let (span, inside) = Span::at(part, info, char_idx);
         Gap {
             span,
             inside,

@@ -65,11 +65,11 @@ impl<'a> Lines<'a> {
         requires { line_idx ≤ line_count (breaks_of part.now) (text_of part.now) }
         ensures { result ≡ at_place (lines_of (content_of part.now)) line_idx }
     {
-        let _ = part.info();
+        let info = part.info();
         let before = part.before_line(line_idx);
         Lines {
             part: *part,
-            gap: Gap::at(part, before.chars),
+            gap: Gap::at(part, info, before.chars),
             before,
             line: line_idx,
             total: part.len_lines(),

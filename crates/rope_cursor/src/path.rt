@@ -142,6 +142,7 @@ impl<'a> Path<'a> {
         ensures leaves { leaves result.0 ≡ node.now.leaves }
         ensures holds { HoldsPlace unit node.now.breaks at result.0.before result.0.here result.1 }
     {
+        // a proof needs what `height` says of every node: how high it may be
         let _ = node.height();
         let mut path = Path::text("");
         let (depth, leaf, before) = enter_at(&mut path.frames, 0, node, TextInfo::new(), unit, at);

@@ -48,6 +48,7 @@ impl<'a> Pieces<'a> {
     {
         match part {
             Part::InTree(stretch) => {
+                // a proof needs what `height` says of every node: no leaf is empty
                 let _ = stretch.node.height();
                 let start = stretch.start.bytes;
                 let size = stretch.end.bytes - start;

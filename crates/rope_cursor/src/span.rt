@@ -50,6 +50,7 @@ impl<'a> Span<'a> {
     {
         match part {
             Part::InTree(stretch) => {
+                // a proof needs what `height` says of every node
                 let _ = stretch.node.height();
                 let start = stretch.start;
                 let place = (count(start, unit) + idx).min(count(stretch.end, unit) - 1);
