@@ -4,11 +4,10 @@ ghost use Rattle.rope_text.specs.Cutting.{parts_crlf};
 ghost use Rattle.std.specs.List.{concat};
 ghost use Rattle.std.specs.Str.{chars};
 ghost use Rattle.rope_text.specs.LineParts.{first_line, last_start};
-ghost use Rattle.rope_text.specs.Text.{byte_len};
 ghost use Rattle.rope_text.specs.TextInfo.{info_of};
 ghost use Rattle.rope_part.specs.Part.{content_of, text_of, breaks_of};
 ghost use Rattle.rope_part.specs.Kept.{IsPart};
-ghost use Rattle.rope_cursor.specs.Gap.{before_byte, after_byte, AreChunks, IsBetween, PassesLine, PassesBack};
+ghost use Rattle.rope_cursor.specs.Gap.{before_byte, after_byte, last_line_byte, last_line_info, AreChunks, IsBetween, PassesLine, PassesBack};
 
 use crate::span::Span;
 use rope_part::Part;
@@ -82,10 +81,8 @@ fn find_last(
 ) -> Option<(usize, TextInfo)>
     requires between { IsBetween (chars text.now) end }
     requires apart { parts_crlf (before_byte (chars text.now) end) (after_byte (chars text.now) end) ≡ false }
-    ensures start { IfSome result (λ found. found.0
-        ≡ byte_len (take (last_start breaks (before_byte (chars text.now) end) skip) (before_byte (chars text.now) end))) }
-    ensures counts { IfSome result (λ found. found.1
-        ≡ info_of breaks (drop (last_start breaks (before_byte (chars text.now) end) skip) (before_byte (chars text.now) end))) }
+    ensures start { IfSome result (λ found. found.0 ≡ last_line_byte breaks (chars text.now) end skip) }
+    ensures counts { IfSome result (λ found. found.1 ≡ last_line_info breaks (chars text.now) end skip) }
     ensures far { IfNone result (near < end) }
 {
     // a proof needs how long a text in memory may be
@@ -130,8 +127,8 @@ fn count_last(
     requires between { IsBetween (chars text.now) end }
     requires apart { parts_crlf (before_byte (chars text.now) end) (after_byte (chars text.now) end) ≡ false }
     requires more { 1 < times }
-    ensures start { result.0 ≡ byte_len (take (last_start breaks (before_byte (chars text.now) end) skip) (before_byte (chars text.now) end)) }
-    ensures counts { result.1 ≡ info_of breaks (drop (last_start breaks (before_byte (chars text.now) end) skip) (before_byte (chars text.now) end)) }
+    ensures start { result.0 ≡ last_line_byte breaks (chars text.now) end skip }
+    ensures counts { result.1 ≡ last_line_info breaks (chars text.now) end skip }
 {
     let mut near = first.max(NEAR_BYTES);
     loop {

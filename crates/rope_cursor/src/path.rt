@@ -203,7 +203,8 @@ impl<'a> Path<'a> {
                 let at = if is_backward { at - 1 } else { at + 1 };
                 frames[level] = Frame { children, at };
                 let child: &Node = &children[at];
-                // Most nodes that a step comes to are leaves: their text is in registers, and what `enter` answers in memory.
+                // Most nodes that a step comes to are leaves. These are taken here: what `enter` answers comes through memory, and
+                // has to be waited for.
                 if let View::Leaf(leaf) = child.view() {
                     self.depth = level + 1;
                     self.leaf = leaf.as_str();
