@@ -18,14 +18,20 @@ module _ {H : Type 0} (write : H → List ℕ → H) where
   }
 
   -- a block is handed over that was held in part
-  pub held_block : (now : H) (old block front back bytes rest : List ℕ) (held : ℕ) → length block ≡ 256 → block ≡ take held old ++ front → bytes ≡ front ++ back
-      → fold write (write now block) (blocks (back ++ rest)) ≡ fold write now (blocks (take held old ++ (bytes ++ rest)))
-  held_block now old block front back bytes rest held size e f =
-      sym (ap (fold write now) (blocks_full block (back ++ rest) size))
-      ∙ ap (λ x. fold write now (blocks x)) (
-      ap (λ x. x ++ (back ++ rest)) e ∙ append_assoc (take held old) front (back ++ rest)
-      ∙ ap (λ x. take held old ++ x) (sym (append_assoc front back rest) ∙ ap (λ x. x ++ rest) (sym f))
-      )
+  pub held_block : (now : H) (old block front back bytes : List ℕ) (held : ℕ) → length block ≡ 256 → block ≡ take held old ++ front → bytes ≡ front ++ back
+      → IsFeeding now (write now block) (take held old ++ bytes) back
+  held_block now old block front back bytes held size e f = record {
+    writes = λ rest.
+        sym (ap (fold write now) (blocks_full block (back ++ rest) size))
+        ∙ ap (λ x. fold write now (blocks x)) (
+        ap (λ x. x ++ (back ++ rest)) e ∙ sym (append_assoc (take held old ++ front) back rest)
+        ∙ ap (λ x. x ++ rest) (append_assoc (take held old) front back ∙ ap (λ x. take held old ++ x) (sym f))
+        );
+  }
+
+  -- or none was held
+  pub none_held : (now : H) (old bytes : List ℕ) (held : ℕ) → held ≡ 0 → IsFeeding now now (take held old ++ bytes) bytes
+  none_held now old bytes held none = record { writes = λ rest. ap (λ n. fold write now (blocks ((take n old ++ bytes) ++ rest))) (sym none) }
 
   -- a chunk goes from what is ahead to what is held or handed over
   pub feed_chunk : (start now next : H) (all held kept bytes ahead left : List ℕ) → IsFeeding start now all (held ++ ahead) → ahead ≡ bytes ++ left

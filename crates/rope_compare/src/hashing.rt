@@ -3,7 +3,7 @@ ghost use Rattle.std.specs.Prelude.{◌≡◌, ℕ, ◌+◌, ◌<◌, ◌≤◌,
 ghost use Rattle.rope_text.specs.Compare.{blocks, hash_writes};
 ghost use Rattle.rope_part.specs.Part.{text_of};
 
-use crate::pieces::chunks_of;
+use rope_cursor::Chunks;
 use rope_cursor::pieces::bytes_of;
 use rope_part::Part;
 use std::hash::Hasher;
@@ -18,7 +18,7 @@ pub fn feed<H: Hasher>(part: &Part<'_>, state: &mut H)
 {
     let mut block = [0u8; BLOCK_BYTES];
     let mut held = 0;
-    for chunk in chunks_of(part) {
+    for chunk in Chunks::new(part) {
         held = feed_piece(state, &mut block, held, bytes_of(chunk));
     }
     if held > 0 {
@@ -27,7 +27,8 @@ pub fn feed<H: Hasher>(part: &Part<'_>, state: &mut H)
     state.write_u8(0xff);
 }
 
-// Puts the bytes behind the held ones of the block, hands over each block that is full, and answers how many are held then.
+// Puts the bytes behind the held ones of the block, hands over each block that is full, and answers how many are held then. Where
+// none is held, whole blocks are handed over from where they lie.
 fn feed_piece<H: Hasher>(state: &mut H, block: &mut [u8], held: usize, bytes: &[u8]) -> usize
     requires size { length block.old ≡ 256 }
     requires room { held < 256 }
@@ -36,45 +37,24 @@ fn feed_piece<H: Hasher>(state: &mut H, block: &mut [u8], held: usize, bytes: &[
     ensures writes { (rest : List ℕ) → fold H.write state.new (blocks (take result block.new ++ rest))
         ≡ fold H.write state.old (blocks (take held block.old ++ (bytes.now ++ rest))) }
 {
-    if held == 0 {
-        return feed_aligned(state, block, bytes);
-    }
-    let count = bytes.len().min(BLOCK_BYTES - held);
-    let (front, rest) = bytes.split_at(count);
-    put(block, held, front);
-    if held + count < BLOCK_BYTES {
-        return held + count;
-    }
-    state.write(block);
-    feed_aligned(state, block, rest)
-}
-
-// The same where no byte is held: whole blocks are handed over from where they lie.
-fn feed_aligned<H: Hasher>(state: &mut H, block: &mut [u8], bytes: &[u8]) -> usize
-    requires size { length block.old ≡ 256 }
-    ensures size { length block.new ≡ 256 }
-    ensures room { result < 256 }
-    ensures writes { (rest : List ℕ) → fold H.write state.new (blocks (take result block.new ++ rest))
-        ≡ fold H.write state.old (blocks (bytes.now ++ rest)) }
-{
-    let rest = feed_blocks(state, bytes);
-    put(block, 0, rest);
-    rest.len()
-}
-
-// Hands over the whole blocks, and answers the bytes that are left.
-fn feed_blocks<'a, H: Hasher>(state: &mut H, bytes: &'a [u8]) -> &'a [u8]
-    ensures room { length result.now < 256 }
-    ensures writes { (rest : List ℕ) → fold H.write state.new (blocks (result.now ++ rest))
-        ≡ fold H.write state.old (blocks (bytes.now ++ rest)) }
-{
     let mut rest = bytes;
+    if held > 0 {
+        let count = bytes.len().min(BLOCK_BYTES - held);
+        let (front, back) = bytes.split_at(count);
+        put(block, held, front);
+        if held + count < BLOCK_BYTES {
+            return held + count;
+        }
+        state.write(block);
+        rest = back;
+    }
     while rest.len() >= BLOCK_BYTES {
         let (front, back) = rest.split_at(BLOCK_BYTES);
         state.write(front);
         rest = back;
     }
-    rest
+    put(block, 0, rest);
+    rest.len()
 }
 
 // Puts the bytes behind the first `held` ones of the block.

@@ -3,7 +3,5 @@
 
 pub mod hashing;
 pub mod order;
-mod pair;
-mod pieces;
 mod same_bytes;
 pub mod text_out;

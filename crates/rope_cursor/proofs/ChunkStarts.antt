@@ -1,5 +1,5 @@
 -- Where a cursor over chunks starts.
-use Rattle.std.proofs.Common.{◌≡◌, ℕ, suc, ◌+◌, ◌-◌, ◌<◌, ◌≤◌, ◌==◌, Bool, true, false, List, [], ◌∷◌, ◌++◌, length, get_or, refl, sym, ap, ◌∙◌, arith, inl, inr, All, append_assoc}
+use Rattle.std.proofs.Common.{◌≡◌, ℕ, suc, ◌+◌, ◌-◌, ◌<◌, ◌≤◌, ◌==◌, true, false, List, [], ◌∷◌, ◌++◌, length, get_or, refl, sym, ap, ◌∙◌, arith, inl, inr, All, append_assoc, subst}
 use Rattle.std.specs.Prelude.{if◌then◌else◌}
 use Rattle.std.specs.List.{concat}
 use Rattle.std.proofs.lemmas.Bool.Decides.{nat_tests}
@@ -13,32 +13,29 @@ use Rattle.rope_text.specs.TextInfo.{info_of}
 use Rattle.rope_text.specs.Text.{byte_len}
 use Rattle.rope_text.specs.Breaks.{break_count}
 use Rattle.rope_text.specs.Cutting.{IsCutting}
-use Rattle.rope_text.specs.Sides.{Sides, all_items, at_start, place}
-use Rattle.rope_text.specs.Lookup.{LieBefore, found_chunk, front_chunks, chunk_index_at_byte, chunk_index_at_char}
+use Rattle.rope_text.specs.Lookup.{StandsAt, LieBefore, found_chunk, front_chunks, chunk_index_at_byte, chunk_index_at_char, chunk_index_at_line_break, chunk_place_at_char, chunk_place_at_line_break}
+use Rattle.rope_text.proofs.SidesPlaces.{sides_at}
 use Rattle.rope_text.proofs.ConversionLaws.{char_to_line_end}
 use Rattle.rope_cursor.specs.Chunks.{at_chunk}
 use Rattle.rope_text.proofs.CuttingLaws.{concat-append}
 use Rattle.rope_text.proofs.ChunkLaws.{before_more}
-use Rattle.rope_text.proofs.LookupLaws.{chunk_index_at_byte_is, chunk_index_at_char_is}
+use Rattle.rope_text.proofs.LookupLaws.{chunk_index_at_byte_is, chunk_index_at_char_is, chunk_index_at_line_break-le}
+use Rattle.rope_text.specs.Lines.{line_count, line_start}
+use Rattle.rope_text.proofs.LineLaws.{line_start-le-length}
+use Rattle.rope_tree.proofs.FoundLaws.{line_start_past}
+use Rattle.rope_part.proofs.Lookups.{line_break_index}
 use Rattle.rope_text.proofs.Measures.{IsMeasure-byte_len}
 use Rattle.rope_text.specs.Conversions.{char_to_line}
-use Rattle.rope_tree.proofs.LeafLaws.{all_left}
-use Rattle.rope_cursor.specs.Starts.{AreBefore}
+use Rattle.rope_tree.specs.declared.search.Unit.{Unit}
+use Rattle.rope_tree.specs.declared.search.Unit.TheVariants.{Byte, Char, CodeUnit, LineBreak}
+use Rattle.rope_tree.specs.Search.{count_of}
+use Rattle.rope_cursor.specs.Starts.{AreBefore, IsItem, size_in, chunk_place}
 use Rattle.rope_part.proofs.ClippedChunks.{front_less}
 use Rattle.rope_cursor.specs.Path.{Place, leaves}
 
 no_chunks : (chunks : List (List ℕ)) → All (λ chunk. 0 < length chunk) chunks → length (concat chunks) ≡ 0 → length chunks ≡ 0
 no_chunks [] full none = refl
 no_chunks (chunk ∷ chunks) full none = absurd (omega (arith, full 0 [] (omega arith), length-append chunk (concat chunks)))
-
--- a cursor at place 0 that faces forward is at the start
-pub is_start : {X : Type 0} (s : Sides X) (items : List X) → all_items s ≡ items → place s ≡ 0 → s.is_backward ≡ false → s ≡ at_start items
-is_start {X = X} s items all none forward =
-    let left : s.left ≡ [] = nil_from_length s.left none in
-    let right : s.right ≡ items = ap (λ xs. xs ++ s.right) (sym left) ∙ all in
-    ap (λ (xs : List X). (let r : Sides X = record { left = xs; right = s.right; is_backward = s.is_backward } in r)) left
-    ∙ ap (λ (xs : List X). (let r : Sides X = record { left = []; right = xs; is_backward = s.is_backward } in r)) right
-    ∙ ap (λ (b : Bool). (let r : Sides X = record { left = []; right = items; is_backward = b } in r)) forward
 
 module _ (p : Place) (chunks : List (List ℕ)) (same : leaves p ≡ chunks) (full : All (λ chunk. 0 < length chunk) chunks) where
   front_here : front_chunks chunks (length p.before) ≡ concat p.before
@@ -70,146 +67,19 @@ module _ (p : Place) (chunks : List (List ℕ)) (same : leaves p ≡ chunks) (fu
       chunk_index_at_byte_is chunks b (length p.before) within_here (omega (arith, ap byte_len front_here))
       (λ _. omega (arith, ap byte_len upto_here, IsMeasure-byte_len.joined (concat p.before) p.here))
 
--- a cursor before the k-th chunk, and what lies before that
-pub record IsPlaced (breaks : LineBreaks) (chunks : List (List ℕ)) (k : ℕ) (s : Sides (List ℕ)) (bytes chars count : ℕ) : Type 0 where
-  pub place_is : place s ≡ k
-  pub before : LieBefore (found_chunk breaks chunks k) bytes chars count
+-- a text with a character has a chunk, and the first one has one
+some_chunk : (chunks : List (List ℕ)) → 0 < length (concat chunks) → 0 < length chunks
+some_chunk [] some = absurd (omega arith)
+some_chunk (chunk ∷ chunks) some = omega arith
 
--- the chunk that a span stands at
-module _ (p : Place) (text : List ℕ) (chunks : List (List ℕ)) (cut : IsCutting text chunks) (whole : concat (leaves p) ≡ text) (same : 0 < length text → leaves p ≡ chunks) (chars : ℕ) (all : chars ≡ length text) where
-  -- with no text nothing lies before it
-  none_before : length text ≡ 0 → concat p.before ≡ []
-  none_before none =
-      let parts = ap length (sym whole ∙ concat-append p.before (p.here ∷ p.after)) ∙ length-append (concat p.before) (p.here ++ concat p.after) in
-      nil_from_length (concat p.before) (omega arith)
+first_full : (chunks : List (List ℕ)) → All (λ chunk. 0 < length chunk) chunks → 0 < length (concat chunks) → 0 < length (front_chunks chunks 1)
+first_full [] full some = absurd (omega arith)
+first_full (chunk ∷ chunks) full some = omega (arith, full 0 [] (omega arith), length-append chunk [])
 
-  pub is_placed : (breaks : LineBreaks) (k bytes cs count : ℕ) → AreBefore breaks text p.before bytes cs count → k ≤ length chunks - 1 → (0 < length text → k ≡ length p.before)
-      → IsPlaced breaks chunks k (at_chunk p (chars == 0) false false) bytes cs count
-  unfolding found_chunk
-  is_placed breaks k bytes cs count a least here = elim (cases_eq chars 0) [
-    | inl none ↦
-        let empty : (chars == 0) ≡ true = grind (arith, nat_tests) in
-        let first : k ≡ 0 = omega (arith, no_chunks chunks cut.nonempty (omega (arith, ap length cut.joined))) in
-        let nothing = none_before (omega arith) in
-        rw (first, empty) record {
-          place_is = refl;
-          before = record {
-            bytes_are = a.bytes_are ∙ ap byte_len nothing;
-            chars_are = a.chars_are ∙ ap length nothing;
-            count_is = a.count_is ∙ ap (char_to_line breaks text) (a.chars_are ∙ ap length nothing) ∙ ap (λ t. char_to_line breaks t 0) (sym cut.joined);
-          };
-        }
-    | inr some ↦
-        let other : (chars == 0) ≡ false = grind (arith, nat_tests) in
-        let parts = same (omega arith) in
-        let front : concat p.before ≡ front_chunks chunks k = sym (ap (front_chunks chunks) (here (omega arith)) ∙ front_here p chunks parts cut.nonempty) in
-        rw other record {
-          place_is = sym (here (omega arith));
-          before = record {
-            bytes_are = a.bytes_are ∙ ap byte_len front;
-            chars_are = a.chars_are ∙ ap length front;
-            count_is = a.count_is ∙ ap (char_to_line breaks text) (a.chars_are ∙ ap length front) ∙ ap (λ t. char_to_line breaks t (length (front_chunks chunks k))) (sym cut.joined);
-          };
-        }
-  ]
-
-  pub items_here : all_items (at_chunk p (chars == 0) false false) ≡ chunks
-  items_here = elim (cases_eq chars 0) [
-    | inl none ↦
-        let empty : (chars == 0) ≡ true = grind (arith, nat_tests) in
-        rw empty (sym (nil_from_length chunks (no_chunks chunks cut.nonempty (omega (arith, ap length cut.joined)))))
-    | inr some ↦
-        let other : (chars == 0) ≡ false = grind (arith, nat_tests) in
-        rw other (same (omega arith))
-  ]
-
-  pub items_past : all_items (at_chunk p (chars == 0) true false) ≡ chunks
-  items_past = elim (cases_eq chars 0) [
-    | inl none ↦
-        let empty : (chars == 0) ≡ true = grind (arith, nat_tests) in
-        rw empty (sym (nil_from_length chunks (no_chunks chunks cut.nonempty (omega (arith, ap length cut.joined)))))
-    | inr some ↦
-        let other : (chars == 0) ≡ false = grind (arith, nat_tests) in
-        rw other (append_assoc p.before (p.here ∷ []) p.after ∙ same (omega arith))
-  ]
-
-  pub items_by : (past : Bool) → all_items (at_chunk p (chars == 0) past false) ≡ chunks
-  items_by true = items_past
-  items_by false = items_here
-
-  -- it is the first one, where nothing lies before it
-  pub first_here : length (concat p.before) ≡ 0 → at_chunk p (chars == 0) false false ≡ at_start chunks
-  first_here nothing = elim (cases_eq chars 0) [
-    | inl none ↦
-        let empty : (chars == 0) ≡ true = grind (arith, nat_tests) in
-        let no = nil_from_length chunks (no_chunks chunks cut.nonempty (omega (arith, ap length cut.joined))) in
-        rw (empty, no) refl
-    | inr some ↦
-        let other : (chars == 0) ≡ false = grind (arith, nat_tests) in
-        let parts = same (omega arith) in
-        let full : All (λ chunk. 0 < length chunk) p.before = all_left (λ chunk. 0 < length chunk) p.before (p.here ∷ p.after) (rw parts cut.nonempty) in
-        rw other (is_start (record { left = p.before; right = p.here ∷ p.after; is_backward = false }) chunks parts (no_chunks p.before full nothing) refl)
-  ]
-
-  -- it is the last one, where it has the end of the text
-  pub ends_here : (at : ℕ) → length (concat p.before) + at ≡ length text → at ≤ length p.here → place (at_chunk p (chars == 0) true false) ≡ length chunks
-  ends_here at at_is within = elim (cases_eq chars 0) [
-    | inl none ↦
-        let empty : (chars == 0) ≡ true = grind (arith, nat_tests) in
-        rw empty (sym (no_chunks chunks cut.nonempty (omega (arith, ap length cut.joined))))
-    | inr some ↦
-        let other : (chars == 0) ≡ false = grind (arith, nat_tests) in
-        rw other (last_place p chunks (same (omega arith)) cut.nonempty at within (at_is ∙ ap length (sym cut.joined)))
-  ]
-
--- the counts of the whole text lie before its end
-pub all_before : (breaks : LineBreaks) (chunks : List (List ℕ)) (bytes chars count : ℕ) → bytes ≡ byte_len (concat chunks) → chars ≡ length (concat chunks) → count ≡ break_count breaks (concat chunks)
-    → LieBefore (found_chunk breaks chunks (length chunks)) bytes chars count
-unfolding found_chunk
-all_before breaks chunks bytes chars count b c l =
-    let all : front_chunks chunks (length chunks) ≡ concat chunks = ap concat (take_all (length chunks) chunks (omega arith)) in
-    rw all (record { bytes_are = b; chars_are = c; count_is = l ∙ sym (char_to_line_end breaks (concat chunks)) })
-
--- before the end of the text the place is that of the chunk that is found
-pub placed_inside : (breaks : LineBreaks) (chunks : List (List ℕ)) (i n k : ℕ) (s : Sides (List ℕ)) (bytes chars count : ℕ) → (i ≡ n → ⊥) → IsPlaced breaks chunks k s bytes chars count
-    → IsPlaced breaks chunks (if i == n then length chunks else k) s bytes chars count
-placed_inside breaks chunks i n k s bytes chars count other placed =
-    let e : (i == n) ≡ false = grind (arith, nat_tests) in
-    rw e placed
-
--- and at the end it is past the last chunk
-pub place_at_end : (chunks : List (List ℕ)) (i n k : ℕ) → i ≡ n → (if i == n then length chunks else k) ≡ length chunks
-place_at_end chunks i n k at_end =
-    let e : (i == n) ≡ true = grind (arith, nat_tests) in
-    rw e refl
-
-module _ (breaks : LineBreaks) (p : Place) (text : List ℕ) (chunks : List (List ℕ)) (cut : IsCutting text chunks) (whole : concat (leaves p) ≡ text) (same : 0 < length text → leaves p ≡ chunks) (info : TextInfo) (info_is : info ≡ info_of breaks text)
-    (i m n k : ℕ) (end_is : m ≡ n) (bytes chars count b c l : ℕ)
-    (past : (i == m) ≡ true → (bytes ≡ info.bytes) × (chars ≡ info.chars) × (count ≡ info.break_count)) (here : (i == m) ≡ false → (bytes ≡ b) × (chars ≡ c) × (count ≡ l))
-    (ends : i ≡ n → length text ≤ length (concat p.before) + length p.here) (found : (i ≡ n → ⊥) → IsPlaced breaks chunks k (at_chunk p (info.chars == 0) false false) b c l) where
-  all_chars : info.chars ≡ length text
-  all_chars = ap (λ i. i.chars) info_is
-
-  pub placed_by : IsPlaced breaks chunks (if i == n then length chunks else k) (at_chunk p (info.chars == 0) (i == m) false) bytes chars count
-  placed_by = elim (cases_eq i n) [
-    | inl at_end ↦
-        let e : (i == n) ≡ true = grind (arith, nat_tests) in
-        let f : (i == m) ≡ true = grind (arith, nat_tests) in
-        let parts = ap length (sym whole ∙ concat-append p.before (p.here ∷ p.after)) ∙ length-append (concat p.before) (p.here ++ concat p.after) in
-        let at = past f in
-        let joined = sym cut.joined in
-        rw (e, f) (record {
-          place_is = ends_here p text chunks cut whole same info.chars all_chars (length p.here) (omega (arith, parts, ends at_end, length-append p.here (concat p.after))) (omega arith);
-          before = all_before breaks chunks bytes chars count
-              (at.0 ∙ ap (λ i. i.bytes) info_is ∙ ap byte_len joined) (at.1 ∙ all_chars ∙ ap length joined) (at.2 ∙ ap (λ i. i.break_count) info_is ∙ ap (break_count breaks) joined);
-        })
-    | inr inside ↦
-        let e : (i == n) ≡ false = grind (arith, nat_tests) in
-        let f : (i == m) ≡ false = grind (arith, nat_tests) in
-        let at = here f in
-        let q = found inside in
-        rw (e, f, at.0, at.1, at.2) q
-  ]
+-- a text with a byte has a character
+some_byte : (text : List ℕ) → 0 < byte_len text → 0 < length text
+some_byte [] some = absurd (omega arith)
+some_byte (c ∷ cs) some = omega arith
 
 -- a chunk that has the last byte has the last character
 pub ends_by_bytes : (p : Place) (text : List ℕ) → concat (leaves p) ≡ text → byte_len text ≤ byte_len (concat p.before) + byte_len p.here → length text ≤ length (concat p.before) + length p.here
@@ -225,3 +95,140 @@ ends_by_bytes p text whole le =
       length-append (concat p.before) (p.here ++ concat p.after),
       length-append p.here (concat p.after),
     )
+
+-- the counts of the whole text lie before its end
+all_before : (breaks : LineBreaks) (chunks : List (List ℕ)) (bytes chars count : ℕ) → bytes ≡ byte_len (concat chunks) → chars ≡ length (concat chunks) → count ≡ break_count breaks (concat chunks)
+    → LieBefore (found_chunk breaks chunks (length chunks)) bytes chars count
+unfolding found_chunk
+all_before breaks chunks bytes chars count b c l =
+    let all : front_chunks chunks (length chunks) ≡ concat chunks = ap concat (take_all (length chunks) chunks (omega arith)) in
+    rw all (record { bytes_are = b; chars_are = c; count_is = l ∙ sym (char_to_line_end breaks (concat chunks)) })
+
+-- before the end of the text the place is that of the chunk that is found
+pub place_inside : (chunks : List (List ℕ)) (i n k : ℕ) → (i ≡ n → ⊥) → (if i == n then length chunks else k) ≡ k
+place_inside chunks i n k other =
+    let e : (i == n) ≡ false = grind (arith, nat_tests) in
+    rw e refl
+
+-- and at the end it is past the last chunk
+pub place_at_end : (chunks : List (List ℕ)) (i n k : ℕ) → i ≡ n → (if i == n then length chunks else k) ≡ length chunks
+place_at_end chunks i n k at_end =
+    let e : (i == n) ≡ true = grind (arith, nat_tests) in
+    rw e refl
+
+-- the place of the first character is the start
+pub first_place : (text : List ℕ) (chunks : List (List ℕ)) → IsCutting text chunks → chunk_place_at_char chunks 0 ≡ 0
+first_place text chunks cut = elim (cases_eq 0 (length (concat chunks))) [
+  | inl none ↦ place_at_end chunks 0 (length (concat chunks)) _ none ∙ no_chunks chunks cut.nonempty (sym none)
+  | inr some ↦
+      place_inside chunks 0 (length (concat chunks)) _ some
+      ∙ chunk_index_at_char_is chunks 0 0 (some_chunk chunks (omega (arith, some))) (omega arith) (λ _. first_full chunks cut.nonempty (omega (arith, some)))
+]
+
+-- a cursor that starts at a chunk, or past the last
+module _ (breaks : LineBreaks) (p : Place) (text : List ℕ) (chunks : List (List ℕ)) (cut : IsCutting text chunks) (whole : concat (leaves p) ≡ text) (same : 0 < length text → leaves p ≡ chunks)
+    (info : TextInfo) (info_is : info ≡ info_of breaks text) where
+  all_chars : info.chars ≡ length text
+  all_chars = ap (λ i. i.chars) info_is
+
+  stands_before : (k bytes chars count : ℕ) → 0 < length text → k ≡ length p.before → AreBefore breaks text p.before bytes chars count → StandsAt breaks chunks k (at_chunk p (info.chars == 0) false false) bytes chars count
+  unfolding found_chunk
+  stands_before k bytes chars count some here a =
+      let other : (info.chars == 0) ≡ false = grind (arith, nat_tests, all_chars) in
+      let parts = same some in
+      let front : concat p.before ≡ front_chunks chunks k = sym (ap (front_chunks chunks) here ∙ front_here p chunks parts cut.nonempty) in
+      rw other record {
+        cursor_is = sides_at (record { left = p.before; right = p.here ∷ p.after; is_backward = false }) chunks k parts (sym here) refl;
+        before = record {
+          bytes_are = a.bytes_are ∙ ap byte_len front;
+          chars_are = a.chars_are ∙ ap length front;
+          count_is = a.count_is ∙ ap (char_to_line breaks text) (a.chars_are ∙ ap length front) ∙ ap (λ t. char_to_line breaks t (length (front_chunks chunks k))) (sym cut.joined);
+        };
+      }
+
+  -- where the chunk has the end of the text
+  stands_past : length text ≤ length (concat p.before) + length p.here → StandsAt breaks chunks (length chunks) (at_chunk p (info.chars == 0) true false) info.bytes info.chars info.break_count
+  stands_past ends =
+      let joined = sym cut.joined in
+      let before = all_before breaks chunks info.bytes info.chars info.break_count
+      (ap (λ i. i.bytes) info_is ∙ ap byte_len joined) (all_chars ∙ ap length joined) (ap (λ i. i.break_count) info_is ∙ ap (break_count breaks) joined) in
+      elim (cases_eq info.chars 0) [
+        | inl none ↦
+            let empty : (info.chars == 0) ≡ true = grind (arith, nat_tests) in
+            let no = nil_from_length chunks (no_chunks chunks cut.nonempty (omega (arith, all_chars, ap length cut.joined))) in
+            rw empty record { cursor_is = sides_at (record { left = []; right = []; is_backward = false }) chunks (length chunks) (sym no) (sym (ap length no)) refl; before = before }
+        | inr some ↦
+            let other : (info.chars == 0) ≡ false = grind (arith, nat_tests) in
+            let parts = same (omega (arith, all_chars)) in
+            let text_is = ap length (sym whole ∙ concat-append p.before (p.here ∷ p.after)) ∙ length-append (concat p.before) (p.here ++ concat p.after) in
+            rw other record {
+              cursor_is = sides_at (record { left = p.before ++ p.here ∷ []; right = p.after; is_backward = false }) chunks (length chunks) (append_assoc p.before (p.here ∷ []) p.after ∙ parts)
+                  (last_place p chunks parts cut.nonempty (length p.here) (omega arith) (omega (arith, text_is, ends, length-append p.here (concat p.after), ap length cut.joined))) refl;
+              before = before;
+            }
+      ]
+
+  -- counted in bytes or in characters
+  module _ (idx : ℕ) where
+    pub size_is : (unit : Unit) → IsItem unit → count_of unit info ≡ size_in unit text
+    size_is Byte i = ap (λ i. i.bytes) info_is
+    size_is Char i = all_chars
+    size_is CodeUnit i = absurd i
+    size_is LineBreak i = absurd i
+
+    pub starts_before : (unit : Unit) → IsItem unit → (bytes chars count : ℕ) → AreBefore breaks text p.before bytes chars count → idx < size_in unit text
+        → size_in unit (concat p.before) ≤ idx → idx < size_in unit (concat p.before) + size_in unit p.here
+        → StandsAt breaks chunks (chunk_place unit chunks idx) (at_chunk p (info.chars == 0) false false) bytes chars count
+    starts_before Byte i bytes chars count a less low high =
+        let some : 0 < length text = some_byte text (omega arith) in
+        let all : byte_len (concat chunks) ≡ byte_len text = ap byte_len cut.joined in
+        let k : ℕ = chunk_index_at_byte chunks idx in
+        subst (λ (n : ℕ). StandsAt breaks chunks n (at_chunk p (info.chars == 0) false false) bytes chars count)
+        (sym (place_inside chunks idx (byte_len (concat chunks)) k (λ e. omega (arith, e, all, less))))
+        (stands_before k bytes chars count some (index_of_byte p chunks (same some) cut.nonempty idx low high) a)
+    starts_before Char i bytes chars count a less low high =
+        let some : 0 < length text = omega arith in
+        let all : length (concat chunks) ≡ length text = ap length cut.joined in
+        let k : ℕ = chunk_index_at_char chunks idx in
+        subst (λ (n : ℕ). StandsAt breaks chunks n (at_chunk p (info.chars == 0) false false) bytes chars count)
+        (sym (place_inside chunks idx (length (concat chunks)) k (λ e. omega (arith, e, all, less))))
+        (stands_before k bytes chars count some (index_of_char p chunks (same some) cut.nonempty idx low high) a)
+    starts_before CodeUnit i bytes chars count a less low high = absurd i
+    starts_before LineBreak i bytes chars count a less low high = absurd i
+
+    pub starts_past : (unit : Unit) → IsItem unit → idx ≡ size_in unit text → idx ≤ size_in unit (concat p.before) + size_in unit p.here
+        → StandsAt breaks chunks (chunk_place unit chunks idx) (at_chunk p (info.chars == 0) true false) info.bytes info.chars info.break_count
+    starts_past Byte i at_end within =
+        subst (λ (n : ℕ). StandsAt breaks chunks n (at_chunk p (info.chars == 0) true false) info.bytes info.chars info.break_count)
+        (sym (place_at_end chunks idx (byte_len (concat chunks)) _ (at_end ∙ ap byte_len (sym cut.joined))))
+        (stands_past (ends_by_bytes p text whole (omega arith)))
+    starts_past Char i at_end within =
+        subst (λ (n : ℕ). StandsAt breaks chunks n (at_chunk p (info.chars == 0) true false) info.bytes info.chars info.break_count)
+        (sym (place_at_end chunks idx (length (concat chunks)) _ (at_end ∙ ap length (sym cut.joined))))
+        (stands_past (omega arith))
+    starts_past CodeUnit i at_end within = absurd i
+    starts_past LineBreak i at_end within = absurd i
+
+-- the place of a line break is that of the character that ends it
+module _ (breaks : LineBreaks) (text : List ℕ) (chunks : List (List ℕ)) (cut : IsCutting text chunks) (k i : ℕ) where
+  lines_are : line_count breaks (concat chunks) ≡ line_count breaks text
+  lines_are = ap (line_count breaks) cut.joined
+
+  pub line_break_end : k ≡ line_count breaks text → i ≡ line_start breaks text k → chunk_place_at_char chunks i ≡ chunk_place_at_line_break breaks chunks k
+  line_break_end past at =
+      place_at_end chunks i (length (concat chunks)) _ (at ∙ line_start_past breaks text k (omega (arith, past)) ∙ ap length (sym cut.joined))
+      ∙ sym (place_at_end chunks k (line_count breaks (concat chunks)) _ (past ∙ sym lines_are))
+
+  pub line_break_place : k < line_count breaks text → i ≡ line_start breaks text k - 1 → chunk_place_at_char chunks i ≡ chunk_place_at_line_break breaks chunks k
+  line_break_place less at =
+      let here : chunk_index_at_line_break breaks chunks k ≡ chunk_index_at_char chunks i =
+      line_break_index breaks chunks k cut.nonempty ∙ ap (λ t. chunk_index_at_char chunks (line_start breaks t k - 1)) cut.joined ∙ ap (chunk_index_at_char chunks) (sym at) in
+      let own = place_inside chunks k (line_count breaks (concat chunks)) (chunk_index_at_line_break breaks chunks k) (λ e. omega (arith, e, lines_are, less)) in
+      elim (cases_eq i (length (concat chunks))) [
+        | inl at_end ↦
+            let start = line_start-le-length breaks text k in
+            let none : length (concat chunks) ≡ 0 = omega (arith, at_end, at, start, ap length cut.joined) in
+            let no = no_chunks chunks cut.nonempty none in
+            place_at_end chunks i (length (concat chunks)) _ at_end ∙ no ∙ sym (own ∙ omega (arith, chunk_index_at_line_break-le breaks chunks k, no))
+        | inr inside ↦ place_inside chunks i (length (concat chunks)) _ inside ∙ sym (own ∙ here)
+      ]

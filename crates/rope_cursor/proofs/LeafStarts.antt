@@ -2,7 +2,7 @@
 use Rattle.std.proofs.Common.{◌≤◌, ◌^◌, ◌≡◌, ℕ, suc, ◌+◌, ◌-◌, ◌<◌, min, List, [], ◌∷◌, ◌++◌, length, take, get_or, refl, sym, ap, ◌∙◌, subst, arith, inl, inr, All, append_assoc}
 use Rattle.std.specs.List.{concat, slice_range}
 use Rattle.std.proofs.lemmas.Bool.{cases_lt}
-use Rattle.std.proofs.lemmas.List.{length-append, take_all, take_at, take-append-le}
+use Rattle.std.proofs.lemmas.List.{append-nil, length-append, take_all, take_at, take-append-le}
 use Rattle.std.proofs.Math.Seq.{get_or-append_seam}
 use Rattle.rope_text.specs.declared.text_info.TextInfo.{TextInfo}
 use Rattle.rope_text.specs.Text.{byte_len}
@@ -21,13 +21,17 @@ use Rattle.rope_tree.specs.declared.search.Unit.{Unit}
 use Rattle.rope_tree.specs.declared.search.Unit.TheVariants.{Byte, Char, CodeUnit, LineBreak}
 use Rattle.rope_tree.specs.Search.{count_of}
 use Rattle.rope_part.specs.Edge.{IsStretch}
-use Rattle.rope_part.proofs.ClippedChunks.{size_of_part}
+use Rattle.rope_part.proofs.ClippedChunks.{size_of_part, cons_some}
 use Rattle.rope_part.proofs.Measured.{Measured, measured}
 use Rattle.rope_part.proofs.LeafParts.{leaf_in, meets_byte, meets_char}
 use Rattle.rope_cursor.specs.Path.{Place, leaves, HoldsPlace}
-use Rattle.rope_cursor.specs.Span.{IsWithin}
-use Rattle.rope_cursor.specs.Starts.{AreBefore, IsItem, size_in}
-use Rattle.rope_cursor.proofs.Spans.{bytes_before_within, leaves_clipped, some_leaf}
+use Rattle.rope_cursor.specs.Span.{edge_at, clipped_place, clipped_at, IsWithin, IsSpan}
+use Rattle.rope_cursor.specs.Starts.{AreBefore, IsItem, IsHolding, size_in}
+use Rattle.rope_cursor.proofs.Spans.{alone, bytes_before_within, leaves_clipped, some_leaf}
+use Rattle.rope_text.specs.declared.line_breaks.LineBreaks.{LineBreaks}
+use Rattle.rope_text.specs.Conversions.{byte_to_char}
+use Rattle.rope_text.specs.Cutting.{single_chunk}
+use Rattle.rope_text.proofs.ConversionLaws.{byte_to_char-char_to_byte, char_to_line_start}
 
 -- the place of a leaf among the leaves of a tree
 module _ (p : Place) (t : Tree) (e : leaves p ≡ t.leaves) where
@@ -91,6 +95,18 @@ module _ (t : Tree) (start end : TextInfo) (p : Place) (info : TextInfo) (tree :
         starts = omega (arith, chars_are);
         ends = omega (arith, chars_are);
       }
+
+  start_chars : byte_to_char (concat (leaves p)) start.bytes ≡ start.chars
+  start_chars = ap (byte_to_char (concat (leaves p))) within.from_bytes ∙ byte_to_char-char_to_byte (concat (leaves p)) start.chars (omega (arith, within.some, within.within))
+
+  end_chars : byte_to_char (concat (leaves p)) end.bytes ≡ end.chars
+  end_chars = ap (byte_to_char (concat (leaves p))) within.to_bytes ∙ byte_to_char-char_to_byte (concat (leaves p)) end.chars within.within
+
+  pub is_span : IsSpan p info.bytes (edge_at (leaves p) start.bytes) (edge_at (leaves p) end.bytes)
+  is_span = rw (start_chars, end_chars) record { some = λ _. within; none = λ none. absurd (omega (arith, s.some)); ordered = omega (arith, s.some) }
+
+  pub clipped_is : clipped_at p start.bytes end.bytes ≡ clipped_place p start.chars end.chars
+  clipped_is = rw (start_chars, end_chars) refl
 
   lines_before : info.break_count - start.break_count ≡ char_to_line t.breaks (slice_range (text t) start.chars end.chars) (info.chars - start.chars)
   unfolding found_chunk
@@ -179,6 +195,12 @@ module _ (t : Tree) (start end : TextInfo) (s : IsStretch t.breaks (text t) star
     module _ (front : List (List ℕ)) (here : List ℕ) (bytes_before : byte_len (concat front) ≡ info.bytes - start.bytes) (chars_before : length (concat front) ≡ info.chars - start.chars)
         (chars : length (concat front) + length here ≡ min (length (concat p.before) + length p.here) end.chars - start.chars)
         (bytes : byte_len (concat front) + byte_len here ≡ min (byte_len (concat p.before) + byte_len p.here) end.bytes - start.bytes) where
+      pub starts_in : (unit : Unit) → IsItem unit → place ≡ min (count_of unit start + idx) (count_of unit end - 1) → HoldsPlace unit t.breaks place p.before p.here info → size_in unit (concat front) ≤ idx
+      starts_in Byte i at h = omega (arith, at, h.not_past, bytes_before)
+      starts_in Char i at h = omega (arith, at, h.not_past, chars_before)
+      starts_in CodeUnit i at h = absurd i
+      starts_in LineBreak i at h = absurd i
+
       pub within_in : (unit : Unit) → IsItem unit → place ≡ min (count_of unit start + idx) (count_of unit end - 1) → HoldsPlace unit t.breaks place p.before p.here info
           → idx ≤ size_in unit (slice_range (text t) start.chars end.chars) → idx ≤ size_in unit (concat front) + size_in unit here
       within_in Byte i at h l = omega (arith, at, h.past, l, bytes, m.bytes, m.some_bytes, IsMeasure-byte_len.joined (concat p.before) p.here)
@@ -192,3 +214,50 @@ module _ (t : Tree) (start end : TextInfo) (s : IsStretch t.breaks (text t) star
       inside_in Char i at h l = omega (arith, at, h.past, l, chars, m.chars, m.some, length-append (concat p.before) p.here)
       inside_in CodeUnit i at h l = absurd i
       inside_in LineBreak i at h l = absurd i
+
+-- what a search for a byte or a character of the stretch finds
+module _ (t : Tree) (start end : TextInfo) (tree : IsTree t) (s : IsStretch t.breaks (text t) start end) (idx place : ℕ) (unit : Unit) (i : IsItem unit)
+    (at : place ≡ min (count_of unit start + idx) (count_of unit end - 1)) (p : Place) (info : TextInfo) (e : leaves p ≡ t.leaves) (h : HoldsPlace unit t.breaks place p.before p.here info) where
+  meets : (info.chars < end.chars) × (start.chars < info.chars + length p.here)
+  meets = meets_in t start end s idx place p info e unit i at h
+
+  pub span_here : IsSpan p info.bytes (edge_at (leaves p) start.bytes) (edge_at (leaves p) end.bytes)
+  span_here = is_span t start end p info tree s e h.info_is meets.0 meets.1
+
+  pub holds_here : idx ≤ size_in unit (slice_range (text t) start.chars end.chars)
+      → IsHolding unit idx (record { text = slice_range (text t) start.chars end.chars; chunks = clip t.leaves start.chars end.chars; breaks = t.breaks }) (clipped_at p start.bytes end.bytes)
+      (info.bytes - start.bytes) (info.chars - start.chars) (info.break_count - start.break_count)
+  holds_here l =
+      let q : Place = clipped_place p start.chars end.chars in
+      let a = are_before t start end p info tree s e h.info_is meets.0 meets.1 in
+      let chunks = chunks_are t start end p info tree s e h.info_is meets.0 meets.1 in
+      let chars = chars_upto t start end p info tree s e h.info_is meets.0 meets.1 in
+      let bytes = bytes_upto t start end p info tree s e h.info_is meets.0 meets.1 in
+      subst (λ (r : Place). IsHolding unit idx (record { text = slice_range (text t) start.chars end.chars; chunks = clip t.leaves start.chars end.chars; breaks = t.breaks }) r (info.bytes - start.bytes) (info.chars - start.chars) (info.break_count - start.break_count))
+      (sym (clipped_is t start end p info tree s e h.info_is meets.0 meets.1))
+      (record {
+        text = ap concat chunks ∙ concat-clip t.leaves start.chars end.chars;
+        chunks = λ _. chunks;
+        before = a;
+        starts = starts_in t start end s idx place p info e q.before q.here (sym a.bytes_are) (sym a.chars_are) chars bytes unit i at h;
+        within = within_in t start end s idx place p info e q.before q.here (sym a.bytes_are) (sym a.chars_are) chars bytes unit i at h l;
+        inside = inside_in t start end s idx place p info e q.before q.here (sym a.bytes_are) (sym a.chars_are) chars bytes unit i at h;
+      })
+
+size_none : (unit : Unit) → size_in unit [] ≡ 0
+size_none Byte = refl
+size_none Char = refl
+size_none CodeUnit = refl
+size_none LineBreak = refl
+
+-- a plain text is its only chunk
+pub holds_alone : (breaks : LineBreaks) (own : List ℕ) (idx : ℕ) (unit : Unit) → IsItem unit → idx ≤ size_in unit own
+    → IsHolding unit idx (record { text = own; chunks = single_chunk own; breaks = breaks }) (alone own) 0 0 0
+holds_alone breaks own idx unit i l = record {
+  text = append-nil own;
+  chunks = λ some. sym (cons_some own [] some);
+  before = record { bytes_are = refl; chars_are = refl; count_is = sym (char_to_line_start breaks own) };
+  starts = omega (arith, size_none unit);
+  within = omega (arith, size_none unit, l);
+  inside = λ less. omega (arith, size_none unit, less);
+}

@@ -328,6 +328,11 @@ beside_is true frames depth i f at child leaf h n e at_is w new size here b a =
 beside_is false frames depth i f at child leaf h n e at_is w new size here b a =
     next_is frames depth i f child child leaf h n e (rw at_is at w) refl (place_of new size here) (rw at_is at b) (rw at_is at a)
 
+-- what a leaf with a text shows
+pub leaf_here : (t : Tree) (breaks : LineBreaks) (text : List ℕ) → t ≡ leaf_tree breaks text → 0 < length t.leaves → t.leaves ≡ text ∷ []
+leaf_here t breaks [] e some = absurd (omega (arith, ap (λ u. length u.leaves) e))
+leaf_here t breaks (c ∷ cs) e some = ap (λ u. u.leaves) e
+
 -- leaves among others: no CR LF is parted where their text begins
 seam_at : (before own after : List (List ℕ)) (front rest : List ℕ) → AreLeaves (before ++ (own ++ after)) → concat own ≡ front ++ rest → parts_crlf (concat before) front ≡ false
 seam_at before own after front rest a e =

@@ -2,16 +2,18 @@
 use Rattle.std.proofs.Common.{◌≡◌, ℕ, ◌+◌, ◌-◌, ◌<◌, ◌≤◌, min, List, [], ◌∷◌, ◌++◌, length, take, refl, sym, ap, subst, ◌∙◌, arith, inl, inr, All, append_assoc}
 use Rattle.std.specs.List.{concat, slice_range}
 use Rattle.std.proofs.lemmas.Bool.{cases_lt}
-use Rattle.std.proofs.lemmas.List.{append-nil, length-append, take_all, take_at, take-append-le}
+use Rattle.std.proofs.lemmas.List.{append-nil, length-append, nil_from_length, take_all, take_at, take-append-le}
 use Rattle.std.proofs.Math.Seq.{take-append-add, take-nil, get_or-append_seam}
 use Rattle.rope_text.specs.Text.{byte_len}
+use Rattle.rope_text.specs.Conversions.{byte_to_char}
+use Rattle.rope_text.proofs.ConversionLaws.{byte_to_char-char_to_byte}
+use Rattle.rope_tree.proofs.FoundLaws.{byte_to_char_end}
 use Rattle.rope_text.specs.Cutting.{clip, cons_nonempty}
 use Rattle.rope_text.proofs.Measures.{IsMeasure-byte_len, size_le, size_lt, size_le_all}
 use Rattle.rope_text.proofs.CuttingLaws.{concat-append}
 use Rattle.rope_text.proofs.ClipLaws.{clip_empty, concat-clip, length-slice_range, slice_range_past}
-use Rattle.rope_cursor.specs.declared.span.Edge.{Edge}
 use Rattle.rope_cursor.specs.Path.{Place, IsNext, leaves}
-use Rattle.rope_cursor.specs.Span.{clipped_place, IsWithin, IsSpan}
+use Rattle.rope_cursor.specs.Span.{Edge, edge_at, clipped_place, clipped_at, IsWithin, IsSpan}
 use Rattle.rope_part.proofs.ClippedChunks.{clip-append, cons_some, size_of_part}
 
 -- the bytes of a text's middle part up to a place of the text
@@ -194,6 +196,10 @@ module _ (p q : Place) (n : IsNext p q) where
         ends = omega (arith, chars_next, starts_before start from to w l);
       }
 
+-- one leaf that has a character
+one_leaf : (text : List ℕ) → 0 < length text → All (λ leaf. 0 < length leaf) (text ∷ [])
+one_leaf text some k d l = let first : k ≡ 0 = omega arith in rw first some
+
 -- a part that may be empty
 module _ (p : Place) (start : ℕ) (from to : Edge) (h : IsSpan p start from to) where
   pub in_order : start ≤ to.bytes
@@ -244,31 +250,87 @@ pub cut : (p : Place) (start : ℕ) (from to : Edge) → IsSpan p start from to 
 cut p start from to h = record { in_order = in_order p start from to h; ordered = omega (arith, h.ordered); low = low_here p start from to h; high = high_here p start from to h }
 
 -- a step to the next leaf, or to the one before
-pub record Steps (p q : Place) (start : ℕ) (from to : Edge) : Type 0 where
-  pub is_span : IsSpan q start from to
-  pub moved : IsNext (clipped_place p from.chars to.chars) (clipped_place q from.chars to.chars)
+pub record Steps (p q : Place) (start from to : ℕ) : Type 0 where
+  pub is_span : IsSpan q start (edge_at (leaves q) from) (edge_at (leaves q) to)
+  pub moved : IsNext (clipped_at p from to) (clipped_at q from to)
 
-pub record StepsBack (p q : Place) (start len : ℕ) (from to : Edge) : Type 0 where
+pub record StepsBack (p q : Place) (start len from to : ℕ) : Type 0 where
   pub room : len ≤ start
-  pub is_span : IsSpan p (start - len) from to
-  pub moved : IsNext (clipped_place p from.chars to.chars) (clipped_place q from.chars to.chars)
+  pub is_span : IsSpan p (start - len) (edge_at (leaves p) from) (edge_at (leaves p) to)
+  pub moved : IsNext (clipped_at p from to) (clipped_at q from to)
 
-pub span_next : (p q : Place) (start len : ℕ) (from to : Edge) → IsSpan p start from to → len ≡ byte_len p.here → IsNext p q → len < to.bytes - start → Steps p q (start + len) from to
+pub span_next : (p q : Place) (start len from to : ℕ) → IsSpan p start (edge_at (leaves p) from) (edge_at (leaves p) to) → len ≡ byte_len p.here → IsNext p q → len < to - start → Steps p q (start + len) from to
 span_next p q start len from to h e n l =
-    let w = within_span p start from to h (omega arith) in
-    let more = ends_later p start from to w (omega arith) in
-    let v = within_next p q n start from to w more in
+    let a = edge_at (leaves p) from in
+    let b = edge_at (leaves p) to in
+    let w = within_span p start a b h (omega arith) in
+    let more = ends_later p start a b w (omega arith) in
+    let v = within_next p q n start a b w more in
+    let is_span : IsSpan q (start + len) a b = record { some = λ _. rw e v; none = λ none. absurd (omega (arith, w.some)); ordered = h.ordered } in
+    let moved = clipped_next p q n a.chars b.chars w.ends v.starts (some_leaf p w.solid) (some_leaf q v.solid) in
+    let same = sym (leaves_next p q n) in
     record {
-      is_span = record { some = λ _. rw e v; none = λ none. absurd (omega (arith, w.some)); ordered = h.ordered };
-      moved = clipped_next p q n from.chars to.chars w.ends v.starts (some_leaf p w.solid) (some_leaf q v.solid);
+      is_span = subst (λ (ls : List (List ℕ)). IsSpan q (start + len) (edge_at ls from) (edge_at ls to)) same is_span;
+      moved = subst (λ (ls : List (List ℕ)). IsNext (clipped_at p from to) (clipped_place q (edge_at ls from).chars (edge_at ls to).chars)) same moved;
     }
 
-pub span_prev : (p q : Place) (start len : ℕ) (from to : Edge) → IsSpan q start from to → len ≡ byte_len p.here → IsNext p q → from.bytes < start → StepsBack p q start len from to
+pub span_prev : (p q : Place) (start len from to : ℕ) → IsSpan q start (edge_at (leaves q) from) (edge_at (leaves q) to) → len ≡ byte_len p.here → IsNext p q → from < start → StepsBack p q start len from to
 span_prev p q start len from to h e n l =
-    let w = within_span q start from to h (omega arith) in
-    let v = within_prev p q n start from to w l in
+    let a = edge_at (leaves q) from in
+    let b = edge_at (leaves q) to in
+    let w = within_span q start a b h (omega arith) in
+    let v = within_prev p q n start a b w l in
+    let is_span : IsSpan p (start - len) a b = record { some = λ _. rw e v; none = λ none. absurd (omega (arith, w.some)); ordered = h.ordered } in
+    let moved = clipped_next p q n a.chars b.chars v.ends w.starts (some_leaf p v.solid) (some_leaf q w.solid) in
+    let same = leaves_next p q n in
     record {
       room = omega (arith, bytes_next p q n, w.start_is);
-      is_span = record { some = λ _. rw e v; none = λ none. absurd (omega (arith, w.some)); ordered = h.ordered };
-      moved = clipped_next p q n from.chars to.chars v.ends w.starts (some_leaf p v.solid) (some_leaf q w.solid);
+      is_span = subst (λ (ls : List (List ℕ)). IsSpan p (start - len) (edge_at ls from) (edge_at ls to)) same is_span;
+      moved = subst (λ (ls : List (List ℕ)). IsNext (clipped_place p (edge_at ls from).chars (edge_at ls to).chars) (clipped_at q from to)) same moved;
     }
+
+-- a text as the only leaf
+abbrev pub alone : List ℕ → Place
+alone text = record { before = []; here = text; after = [] }
+
+alone_by : (before after : List (List ℕ)) (here text : List ℕ) → before ≡ [] → here ≡ text → after ≡ [] → record { before = before; here = here; after = after } ≡ alone text
+alone_by before after here text b h a = cc
+
+pub alone_is : (p : Place) (text : List ℕ) → p.before ≡ [] → p.here ≡ text → p.after ≡ [] → p ≡ alone text
+alone_is p text before here after = alone_by p.before p.after p.here text before here after
+
+module _ (text : List ℕ) where
+  joined : concat (leaves (alone text)) ≡ text
+  joined = append-nil text
+
+  alone_start : byte_to_char (concat (leaves (alone text))) 0 ≡ 0
+  alone_start = byte_to_char-char_to_byte (concat (leaves (alone text))) 0 (omega arith)
+
+  alone_end : byte_to_char (concat (leaves (alone text))) (byte_len text) ≡ length text
+  alone_end = ap (λ s. byte_to_char s (byte_len text)) joined ∙ byte_to_char_end text
+
+  pub alone_span : IsSpan (alone text) 0 (edge_at (leaves (alone text)) 0) (edge_at (leaves (alone text)) (byte_len text))
+  alone_span = rw (alone_start, alone_end) record {
+    some = λ some. record {
+      solid = one_leaf text some;
+      some = some;
+      within = omega (arith, ap length joined);
+      start_is = refl;
+      from_bytes = refl;
+      to_bytes = ap byte_len (sym (take_all (length text) text (omega arith)) ∙ ap (take (length text)) (sym joined));
+      starts = some;
+      ends = omega arith;
+    };
+    none = λ none. record {
+      before = refl;
+      here = nil_from_length text (omega arith);
+      after = refl;
+      start_is = refl;
+      from_is = refl;
+      to_is = ap byte_len (nil_from_length text (omega arith));
+    };
+    ordered = omega arith;
+  }
+
+  pub alone_whole : clipped_at (alone text) 0 (byte_len text) ≡ alone text
+  alone_whole = rw (alone_start, alone_end) (ap alone (take_all (length text - 0 - 0) text (omega arith)))

@@ -26,6 +26,13 @@ after_byte text b = drop (byte_to_char text b) text
 abbrev pub IsBetween : List ℕ → ℕ → Type 0
 IsBetween text b = byte_len (before_byte text b) ≡ b
 
+-- of the text before the byte `end`, where its last line starts, or the one so many breaks before it: the byte, and the counts from there on
+abbrev pub last_line_byte : LineBreaks → List ℕ → ℕ → ℕ → ℕ
+last_line_byte breaks text end skip = byte_len (take (last_start breaks (before_byte text end) skip) (before_byte text end))
+
+abbrev pub last_line_info : LineBreaks → List ℕ → ℕ → ℕ → TextInfo
+last_line_info breaks text end skip = info_of breaks (drop (last_start breaks (before_byte text end) skip) (before_byte text end))
+
 -- before the byte b of the chunk here, and from it on
 abbrev pub halves_at : Place → ℕ → Halves
 halves_at p b = record { front = concat p.before ++ before_byte p.here b; back = after_byte p.here b ++ concat p.after }

@@ -7,3 +7,4 @@ pub mod Span
 pub mod Lines
 pub mod Starts
 pub mod Gap
+pub mod Hints

@@ -1,10 +1,19 @@
 -- A way to a leaf within a part of the text of all the leaves.
-use Rattle.std.specs.Prelude.{◌≡◌, ℕ, ◌+◌, ◌-◌, ◌<◌, ◌≤◌, [], length, take, All}
+use Rattle.std.specs.Prelude.{◌≡◌, ℕ, ◌+◌, ◌-◌, ◌<◌, ◌≤◌, List, [], length, take, All}
 use Rattle.std.specs.List.{concat, slice_range}
 use Rattle.rope_text.specs.Text.{byte_len}
+use Rattle.rope_text.specs.Conversions.{byte_to_char}
 use Rattle.rope_text.specs.Cutting.{clip}
-use Rattle.rope_cursor.specs.declared.span.Edge.{Edge}
 use Rattle.rope_cursor.specs.Path.{Place, leaves}
+
+-- a place of the text: the bytes and the characters before it
+pub record Edge : Type 0 where
+  pub bytes : ℕ
+  pub chars : ℕ
+
+-- that with so many bytes of all the leaves before it
+abbrev pub edge_at : List (List ℕ) → ℕ → Edge
+edge_at all bytes = record { bytes = bytes; chars = byte_to_char (concat all) bytes }
 
 -- the leaves, clipped from character a of their text up to b
 abbrev pub clipped_place : Place → ℕ → ℕ → Place
@@ -13,6 +22,10 @@ clipped_place p a b = record {
   here = slice_range p.here (a - length (concat p.before)) (b - length (concat p.before));
   after = clip p.after (a - length (concat p.before) - length p.here) (b - length (concat p.before) - length p.here);
 }
+
+-- the same from one byte up to another
+abbrev pub clipped_at : Place → ℕ → ℕ → Place
+clipped_at p from to = clipped_place p (edge_at (leaves p) from).chars (edge_at (leaves p) to).chars
 
 -- the leaf has a character of the part, and starts at the byte `start`
 pub record IsWithin (p : Place) (start : ℕ) (from to : Edge) : Type 0 where
@@ -39,3 +52,7 @@ pub record IsSpan (p : Place) (start : ℕ) (from to : Edge) : Type 0 where
   pub some : from.chars < to.chars → IsWithin p start from to
   pub none : to.chars ≤ from.chars → IsNothing p start from to
   pub ordered : from.chars ≤ to.chars
+
+-- the same, of the part from one byte up to another
+abbrev pub IsSpanFrom : Place → ℕ → ℕ → ℕ → Type 0
+IsSpanFrom p start from to = IsSpan p start (edge_at (leaves p) from) (edge_at (leaves p) to)

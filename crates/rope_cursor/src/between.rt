@@ -1,7 +1,6 @@
 //! Parts between two places whose counts are known: no text is read.
-ghost use Rattle.std.specs.Prelude.{◌≡◌, ◌≤◌, ◌<◌, false, length, take, drop};
-ghost use Rattle.std.specs.List.{slice_range};
-ghost use Rattle.rope_text.specs.Cutting.{clip, parts_crlf};
+ghost use Rattle.std.specs.Prelude.{◌≡◌, ◌≤◌, false, length, take, drop};
+ghost use Rattle.rope_text.specs.Cutting.{parts_crlf};
 ghost use Rattle.rope_text.specs.LineParts.{part_between};
 ghost use Rattle.rope_text.specs.TextInfo.{info_of};
 ghost use Rattle.rope_part.specs.Part.{content_of, text_of, breaks_of};
@@ -27,6 +26,7 @@ pub(crate) fn between<'a>(part: &Part<'a>, from: TextInfo, to: TextInfo) -> Part
     match part {
         Part::InTree(stretch) => {
             let node = stretch.node;
+            // a proof needs what `height` says of every node: how long its text may be
             let _ = node.height();
             let start = stretch.start.plus(from);
             let end = stretch.start.plus(to);

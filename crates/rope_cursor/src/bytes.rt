@@ -1,31 +1,35 @@
 //! A cursor over the bytes of a part.
-ghost use Rattle.std.specs.Prelude.{◌≡◌, ℕ, ◌≤◌, length, false, ⊤, IfSome, Some};
+ghost use Rattle.std.specs.Prelude.{◌≡◌, ℕ, ◌≤◌, ⊤};
 ghost use Rattle.std.specs.Bool.{MatchBool};
 ghost use Rattle.std.specs.Str.{encode_utf8_all};
-ghost use Rattle.std.specs.Iterator.{YieldsFirstBy, item_count, UpTo};
-ghost use Rattle.std.specs.Iterator.SizeHint.{IsWithinCount};
+ghost use Rattle.std.specs.Iterator.{YieldsFirstBy, item_count};
 ghost use Rattle.rope_text.specs.Text.{byte_len};
 ghost use Rattle.rope_text.specs.Sides.{ahead, at_place, turned, GoesRight, GoesLeft, GoesAhead, StepsBack};
 ghost use Rattle.rope_part.specs.Part.{text_of};
+ghost use Rattle.rope_cursor.specs.Hints.{CountsAhead};
 
 use crate::point::{end_of, step_chunk};
 use crate::span::Span;
 use rope_part::Part;
 use rope_tree::search::Unit;
 use std::alloc::AllocError;
-use std::fmt;
 use std::iter::ExactSizeIterator;
 use std::marker::Model;
 
 /// A cursor over the bytes of a part, between two of them. It takes no memory.
+///
+/// As `Debug` it shows where it stands and which way it faces, and no text.
 #[derive(Drop)]
+#[derive_where(Debug)]
 pub struct Bytes<'a> {
+    #[derive_where(skip)]
     span: Span<'a>,
     // the span's chunk, kept here so that a step within it is one read
+    #[derive_where(skip)]
     chunk: &'a str,
-    // the bytes of the chunk behind it, those before the chunk, and all of them
-    at: usize,
+    // the bytes before the chunk, those of the chunk behind the cursor, and all of them
     before: usize,
+    at: usize,
     total: usize,
     is_backward: bool,
 }
@@ -135,10 +139,7 @@ impl<'a> Iterator for Bytes<'a> {
 
     /// How many bytes it still gives, which is exact.
     fn size_hint(&self) -> (usize, Option<usize>)
-        ensures lower { IsWithinCount result.0 (item_count ahead self.now) }
-        ensures upper { IfSome result.1 (UpTo (item_count ahead self.now)) }
-        ensures exact { result.0 ≡ length (ahead self.now) }
-        ensures exact_upper { result.1 ≡ Some (length (ahead self.now)) }
+        ensures { CountsAhead self.now result.0 result.1 }
     {
         let count = self.len();
         (count, Some(count))
@@ -166,17 +167,5 @@ impl<'a> Clone for Bytes<'a> {
     fn clone(&self) -> Result<Bytes<'a>, AllocError> {
         let span = self.span.copy();
         Ok(Bytes { span, ..*self })
-    }
-}
-
-/// Shows where it stands and which way it faces; no text.
-impl<'a> fmt::Debug for Bytes<'a> {
-    fn fmt<W: fmt::Write>(&self, f: &mut fmt::Formatter<W>) -> fmt::Result {
-        f.debug_struct("Bytes")
-            .field("before", &self.before)
-            .field("at", &self.at)
-            .field("total", &self.total)
-            .field("is_backward", &self.is_backward)
-            .finish()
     }
 }

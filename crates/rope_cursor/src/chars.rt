@@ -1,25 +1,30 @@
 //! A cursor over the characters of a part.
-ghost use Rattle.std.specs.Prelude.{◌≡◌, ℕ, ◌≤◌, length, false, ⊤, IfSome, Some};
-ghost use Rattle.std.specs.Iterator.{YieldsFirstBy, item_count, UpTo};
-ghost use Rattle.std.specs.Iterator.SizeHint.{IsWithinCount};
+ghost use Rattle.std.specs.Prelude.{◌≡◌, ℕ, ◌≤◌, length, ⊤};
+ghost use Rattle.std.specs.Iterator.{YieldsFirstBy, item_count};
 ghost use Rattle.rope_text.specs.Sides.{ahead, at_place, turned, GoesRight, GoesLeft, GoesAhead, StepsBack};
 ghost use Rattle.rope_part.specs.Part.{text_of};
+ghost use Rattle.rope_cursor.specs.Hints.{CountsAhead};
 
 use crate::point::{char_after, char_before, step_chunk};
 use crate::span::Span;
 use rope_part::Part;
 use std::alloc::AllocError;
-use std::fmt;
 use std::iter::ExactSizeIterator;
 use std::marker::Model;
 
 /// A cursor over the characters of a part, between two of them. It takes no memory.
+///
+/// As `Debug` it shows where it stands and which way it faces, and no text.
 #[derive(Drop)]
+#[derive_where(Debug)]
 pub struct Chars<'a> {
+    #[derive_where(skip)]
     span: Span<'a>,
     // the span's chunk, kept here so that a step within it reads no more than the character
+    #[derive_where(skip)]
     chunk: &'a str,
     // the bytes of the chunk behind it; the characters of the text behind it, and all of them
+    #[derive_where(skip)]
     at: usize,
     passed: usize,
     total: usize,
@@ -154,10 +159,7 @@ impl<'a> Iterator for Chars<'a> {
 
     /// How many characters it still gives, which is exact.
     fn size_hint(&self) -> (usize, Option<usize>)
-        ensures lower { IsWithinCount result.0 (item_count ahead self.now) }
-        ensures upper { IfSome result.1 (UpTo (item_count ahead self.now)) }
-        ensures exact { result.0 ≡ length (ahead self.now) }
-        ensures exact_upper { result.1 ≡ Some (length (ahead self.now)) }
+        ensures { CountsAhead self.now result.0 result.1 }
     {
         let count = self.len();
         (count, Some(count))
@@ -183,16 +185,5 @@ impl<'a> Clone for Chars<'a> {
     fn clone(&self) -> Result<Chars<'a>, AllocError> {
         let span = self.span.copy();
         Ok(Chars { span, ..*self })
-    }
-}
-
-/// Shows where it stands and which way it faces; no text.
-impl<'a> fmt::Debug for Chars<'a> {
-    fn fmt<W: fmt::Write>(&self, f: &mut fmt::Formatter<W>) -> fmt::Result {
-        f.debug_struct("Chars")
-            .field("passed", &self.passed)
-            .field("total", &self.total)
-            .field("is_backward", &self.is_backward)
-            .finish()
     }
 }

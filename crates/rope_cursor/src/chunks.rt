@@ -1,28 +1,30 @@
 //! A cursor over the chunks of a part.
-ghost use Rattle.std.specs.Prelude.{◌≡◌, ◌≤◌, ◌==◌, List, ⊤, true, false, length};
+ghost use Rattle.std.specs.Prelude.{◌≡◌, ◌≤◌, List, ⊤};
 ghost use Rattle.std.specs.Bool.{MatchBool};
 ghost use Rattle.std.specs.Str.{chars};
 ghost use Rattle.std.specs.Iterator.{YieldsFirstBy, item_count};
-ghost use Rattle.rope_text.specs.Text.{byte_len};
+ghost use Rattle.rope_text.specs.Cutting.{IsCutting};
 ghost use Rattle.rope_text.specs.Lines.{line_count};
-ghost use Rattle.rope_text.specs.Lookup.{LieBefore, found_chunk, chunk_place_at_byte, chunk_place_at_char, chunk_place_at_line_break};
-ghost use Rattle.rope_text.specs.Sides.{Sides, ahead, all_items, at_start, place, turned, GoesRight, GoesLeft, GoesAhead, StepsBack};
+ghost use Rattle.rope_text.specs.Lookup.{StandsAt, chunk_place_at_line_break};
+ghost use Rattle.rope_text.specs.Sides.{ahead, at_start, turned, GoesRight, GoesLeft, GoesAhead, StepsBack};
 ghost use Rattle.rope_part.specs.Part.{text_of, chunks_of, breaks_of};
-ghost use Rattle.rope_cursor.specs.Chunks.{at_chunk};
+ghost use Rattle.rope_cursor.specs.Starts.{IsItem, size_in, chunk_place};
 
 use crate::span::Span;
 use rope_part::Part;
-use rope_text::TextInfo;
-use rope_tree::search::Unit;
+use rope_tree::search::{Unit, count};
 use std::alloc::AllocError;
-use std::fmt;
 use std::marker::Model;
 
 /// A cursor over the chunks of a part. It takes no memory.
 ///
 /// It stands at a chunk, before it or past it. An empty part has no chunk: its cursor stands at a text that it never gives.
+///
+/// As `Debug` it shows whether it stands past its chunk and which way it faces, and no text.
 #[derive(Drop)]
+#[derive_where(Debug)]
 pub struct Chunks<'a> {
+    #[derive_where(skip)]
     span: Span<'a>,
     is_empty: bool,
     is_past: bool,
@@ -40,20 +42,28 @@ impl<'a> Model for Chunks<'a> {
 }
 
 impl<'a> Chunks<'a> {
-    // A cursor before the chunk of a span, or past it where that is the last, facing forward, and the bytes, the characters and
-    // the line breaks of the text before its place.
-    // Expanded where it is called: a way is half a kilobyte, and is then moved once less.
-    #[inline(always)]
-    fn found(
-        info: TextInfo,
-        span: (Span<'a>, usize, usize, usize),
-        is_past: bool,
-    ) -> (Chunks<'a>, usize, usize, usize)
-        ensures chunk { result.0 ≡ at_chunk span.entry.0 (info.chars == 0) is_past false }
-        ensures here { is_past ≡ false → (result.1 ≡ span.entry.1) × (result.2 ≡ span.entry.2) × (result.3 ≡ span.entry.3) }
-        ensures past { is_past ≡ true → (result.1 ≡ info.bytes) × (result.2 ≡ info.chars) × (result.3 ≡ info.break_count) }
+    /// A cursor before the first chunk, facing forward.
+    pub fn new(part: &Part<'a>) -> Chunks<'a>
+        ensures start { result ≡ at_start (chunks_of part.now) }
+        ensures cut { IsCutting (text_of part.now) (chunks_of part.now) }
     {
-        let (span, bytes, chars, break_count) = span;
+        Chunks::at(part, Unit::Char, 0).0
+    }
+
+    /// A cursor before the chunk that holds a byte or a character, facing forward; at the end of the text past the last chunk.
+    /// With it the bytes, the characters and the line breaks of the text before its place.
+    // Expanded where it is called, by a constant: a way is half a kilobyte, and is then moved once less.
+    #[inline(always)]
+    pub fn at(part: &Part<'a>, unit: Unit, idx: usize) -> (Chunks<'a>, usize, usize, usize)
+        requires unit { IsItem unit }
+        requires within { idx ≤ size_in unit (text_of part.now) }
+        ensures stands { StandsAt (breaks_of part.now) (chunks_of part.now) (chunk_place unit (chunks_of part.now) idx)
+            result.0 result.1 result.2 result.3 }
+        ensures cut { IsCutting (text_of part.now) (chunks_of part.now) }
+    {
+        let info = part.info();
+        let (span, bytes, chars, break_count) = Span::holding(part, unit, idx);
+        let is_past = idx == count(info, unit);
         let chunks = Chunks {
             span,
             is_empty: info.chars == 0,
@@ -66,45 +76,6 @@ impl<'a> Chunks<'a> {
         (chunks, bytes, chars, break_count)
     }
 
-    /// A cursor before the first chunk, facing forward.
-    pub fn new(part: &Part<'a>) -> Chunks<'a>
-        ensures { result ≡ at_start (chunks_of part.now) }
-    {
-        let span = Span::holding(part, Unit::Char, 0);
-        let (chunks, _, _, _) = Chunks::found(part.info(), span, false);
-        chunks
-    }
-
-    /// A cursor before the chunk that holds a byte, facing forward; at the end of the text past the last chunk. With it the
-    /// bytes, the characters and the line breaks of the text before its place.
-    pub fn at_byte(part: &Part<'a>, byte_idx: usize) -> (Chunks<'a>, usize, usize, usize)
-        requires { byte_idx ≤ byte_len (text_of part.now) }
-        ensures items { all_items result.0 ≡ chunks_of part.now }
-        ensures place { place result.0 ≡ chunk_place_at_byte (chunks_of part.now) byte_idx }
-        ensures forward { result.0.is_backward ≡ false }
-        ensures before { LieBefore (found_chunk (breaks_of part.now) (chunks_of part.now)
-            (chunk_place_at_byte (chunks_of part.now) byte_idx)) result.1 result.2 result.3 }
-    {
-        let info = part.info();
-        let span = Span::holding(part, Unit::Byte, byte_idx);
-        Chunks::found(info, span, byte_idx == info.bytes)
-    }
-
-    /// A cursor before the chunk that holds a character, facing forward; at the end of the text past the last chunk. With it
-    /// the bytes, the characters and the line breaks of the text before its place.
-    pub fn at_char(part: &Part<'a>, char_idx: usize) -> (Chunks<'a>, usize, usize, usize)
-        requires { char_idx ≤ length (text_of part.now) }
-        ensures items { all_items result.0 ≡ chunks_of part.now }
-        ensures place { place result.0 ≡ chunk_place_at_char (chunks_of part.now) char_idx }
-        ensures forward { result.0.is_backward ≡ false }
-        ensures before { LieBefore (found_chunk (breaks_of part.now) (chunks_of part.now)
-            (chunk_place_at_char (chunks_of part.now) char_idx)) result.1 result.2 result.3 }
-    {
-        let info = part.info();
-        let span = Span::holding(part, Unit::Char, char_idx);
-        Chunks::found(info, span, char_idx == info.chars)
-    }
-
     /// A cursor before the first chunk by whose end so many line breaks have ended, facing forward; one more than there are
     /// line breaks is past the last chunk. With it the bytes, the characters and the line breaks of the text before its place.
     pub fn at_line_break(
@@ -112,19 +83,19 @@ impl<'a> Chunks<'a> {
         line_break_idx: usize,
     ) -> (Chunks<'a>, usize, usize, usize)
         requires { line_break_idx ≤ line_count (breaks_of part.now) (text_of part.now) }
-        ensures items { all_items result.0 ≡ chunks_of part.now }
-        ensures place { place result.0 ≡ chunk_place_at_line_break (breaks_of part.now) (chunks_of part.now) line_break_idx }
-        ensures forward { result.0.is_backward ≡ false }
-        ensures before { LieBefore (found_chunk (breaks_of part.now) (chunks_of part.now)
-            (chunk_place_at_line_break (breaks_of part.now) (chunks_of part.now) line_break_idx)) result.1 result.2 result.3 }
+        ensures { StandsAt (breaks_of part.now) (chunks_of part.now)
+            (chunk_place_at_line_break (breaks_of part.now) (chunks_of part.now) line_break_idx)
+            result.0 result.1 result.2 result.3 }
     {
-        let info = part.info();
-        if line_break_idx == part.len_lines() {
-            return Chunks::at_char(part, info.chars);
-        }
-        let end = part.convert(Unit::LineBreak, Unit::Char, line_break_idx);
-        let span = Span::holding(part, Unit::Char, end.saturating_sub(1));
-        Chunks::found(info, span, false)
+        let start = part.convert(Unit::LineBreak, Unit::Char, line_break_idx);
+        let is_past = line_break_idx == part.len_lines();
+        // the last of these breaks ends right before the line that starts there
+        let char_idx = if is_past {
+            start
+        } else {
+            start.saturating_sub(1)
+        };
+        Chunks::at(part, Unit::Char, char_idx)
     }
 
     // One chunk to the right, or to the left.
@@ -188,16 +159,5 @@ impl<'a> Clone for Chunks<'a> {
     fn clone(&self) -> Result<Chunks<'a>, AllocError> {
         let span = self.span.copy();
         Ok(Chunks { span, ..*self })
-    }
-}
-
-/// Shows whether it stands past its chunk and which way it faces; no text.
-impl<'a> fmt::Debug for Chunks<'a> {
-    fn fmt<W: fmt::Write>(&self, f: &mut fmt::Formatter<W>) -> fmt::Result {
-        f.debug_struct("Chunks")
-            .field("is_empty", &self.is_empty)
-            .field("is_past", &self.is_past)
-            .field("is_backward", &self.is_backward)
-            .finish()
     }
 }

@@ -3,12 +3,11 @@ ghost use Rattle.std.specs.Prelude.{◌≡◌, ◌<◌, ◌≤◌, ◌++◌, fal
 ghost use Rattle.rope_text.specs.Cutting.{parts_crlf};
 ghost use Rattle.std.specs.List.{concat};
 ghost use Rattle.std.specs.Str.{chars};
-ghost use Rattle.rope_text.specs.Breaks.{break_count};
 ghost use Rattle.rope_text.specs.LineParts.{first_line, last_start};
-ghost use Rattle.rope_text.specs.Text.{byte_len};
 ghost use Rattle.rope_text.specs.TextInfo.{info_of};
-ghost use Rattle.rope_part.specs.Part.{text_of};
-ghost use Rattle.rope_cursor.specs.Gap.{before_byte, after_byte, AreChunks, IsBetween, PassesLine, PassesBack};
+ghost use Rattle.rope_part.specs.Part.{content_of, text_of, breaks_of};
+ghost use Rattle.rope_part.specs.Kept.{IsPart};
+ghost use Rattle.rope_cursor.specs.Gap.{before_byte, after_byte, last_line_byte, last_line_info, AreChunks, IsBetween, PassesLine, PassesBack};
 
 use crate::span::Span;
 use rope_part::Part;
@@ -82,12 +81,11 @@ fn find_last(
 ) -> Option<(usize, TextInfo)>
     requires between { IsBetween (chars text.now) end }
     requires apart { parts_crlf (before_byte (chars text.now) end) (after_byte (chars text.now) end) ≡ false }
-    ensures start { IfSome result (λ found. found.0
-        ≡ byte_len (take (last_start breaks (before_byte (chars text.now) end) skip) (before_byte (chars text.now) end))) }
-    ensures counts { IfSome result (λ found. found.1
-        ≡ info_of breaks (drop (last_start breaks (before_byte (chars text.now) end) skip) (before_byte (chars text.now) end))) }
+    ensures start { IfSome result (λ found. found.0 ≡ last_line_byte breaks (chars text.now) end skip) }
+    ensures counts { IfSome result (λ found. found.1 ≡ last_line_info breaks (chars text.now) end skip) }
     ensures far { IfNone result (near < end) }
 {
+    // a proof needs how long a text in memory may be
     let _ = byte_len_of(text);
     // so many bytes before the end or more, in no CR LF
     let cut = prev_break(end.saturating_sub(near), text.as_bytes());
@@ -129,8 +127,8 @@ fn count_last(
     requires between { IsBetween (chars text.now) end }
     requires apart { parts_crlf (before_byte (chars text.now) end) (after_byte (chars text.now) end) ≡ false }
     requires more { 1 < times }
-    ensures start { result.0 ≡ byte_len (take (last_start breaks (before_byte (chars text.now) end) skip) (before_byte (chars text.now) end)) }
-    ensures counts { result.1 ≡ info_of breaks (drop (last_start breaks (before_byte (chars text.now) end) skip) (before_byte (chars text.now) end)) }
+    ensures start { result.0 ≡ last_line_byte breaks (chars text.now) end skip }
+    ensures counts { result.1 ≡ last_line_info breaks (chars text.now) end skip }
 {
     let mut near = first.max(NEAR_BYTES);
     loop {
@@ -163,13 +161,15 @@ fn pass_chunks_back(span: &mut Span<'_>, skip: usize, breaks: LineBreaks) -> (us
 }
 
 impl<'a> Gap<'a> {
-    /// The place before a character; at the end of the text its end.
-    pub fn at(part: &Part<'a>, char_idx: usize) -> Gap<'a>
-        requires { char_idx ≤ length (text_of part.now) }
+    /// The place before a character; at the end of the text its end. The part's counts are handed in by who has them.
+    pub fn at(part: &Part<'a>, info: TextInfo, char_idx: usize) -> Gap<'a>
+        requires info { info ≡ info_of (breaks_of part.now) (text_of part.now) }
+        requires kept { IsPart (content_of part.now) }
+        requires within { char_idx ≤ length (text_of part.now) }
         ensures front { result.front ≡ take char_idx (text_of part.now) }
         ensures back { result.back ≡ drop char_idx (text_of part.now) }
     {
-        let (span, inside) = Span::at(part, part.info(), char_idx);
+        let (span, inside) = Span::at(part, info, char_idx);
         Gap {
             span,
             inside,

@@ -1,12 +1,12 @@
 //! A cursor over the lines of a part.
-ghost use Rattle.std.specs.Prelude.{◌≡◌, ◌+◌, ◌≤◌, ◌<◌, ℕ, ⊤, false, length, Some, IfSome};
+ghost use Rattle.std.specs.Prelude.{◌≡◌, ◌≤◌, ◌<◌, ⊤};
 ghost use Rattle.std.specs.Bool.{MatchBool};
-ghost use Rattle.std.specs.Iterator.{YieldsFirstBy, UpTo, item_count};
-ghost use Rattle.std.specs.Iterator.SizeHint.{IsWithinCount};
+ghost use Rattle.std.specs.Iterator.{YieldsFirstBy, item_count};
 ghost use Rattle.rope_text.specs.Lines.{line_count};
 ghost use Rattle.rope_text.specs.LineParts.{line_of, lines_of};
 ghost use Rattle.rope_text.specs.Sides.{ahead, at_place, turned, GoesRight, GoesLeft, GoesAhead, StepsBack};
 ghost use Rattle.rope_part.specs.Part.{content_of, text_of, breaks_of};
+ghost use Rattle.rope_cursor.specs.Hints.{CountsAhead};
 
 use crate::between::between;
 use crate::gap::Gap;
@@ -14,18 +14,23 @@ use crate::point::end_of;
 use rope_part::Part;
 use rope_text::TextInfo;
 use std::alloc::AllocError;
-use std::fmt;
 use std::iter::ExactSizeIterator;
 use std::marker::Model;
 
 /// A cursor over the lines of a part, each with its break. It takes no memory.
 ///
 /// A part has one line more than it has line breaks: after a break at its end there is an empty line.
+///
+/// As `Debug` it shows where it stands and which way it faces, and no text.
 #[derive(Drop)]
+#[derive_where(Debug)]
 pub struct Lines<'a> {
+    #[derive_where(skip)]
     part: Part<'a>,
+    #[derive_where(skip)]
     gap: Gap<'a>,
     // the counts of the text before the line
+    #[derive_where(skip)]
     before: TextInfo,
     line: usize,
     total: usize,
@@ -60,11 +65,11 @@ impl<'a> Lines<'a> {
         requires { line_idx ≤ line_count (breaks_of part.now) (text_of part.now) }
         ensures { result ≡ at_place (lines_of (content_of part.now)) line_idx }
     {
-        let _ = part.info();
+        let info = part.info();
         let before = part.before_line(line_idx);
         Lines {
             part: *part,
-            gap: Gap::at(part, before.chars),
+            gap: Gap::at(part, info, before.chars),
             before,
             line: line_idx,
             total: part.len_lines(),
@@ -138,10 +143,7 @@ impl<'a> Iterator for Lines<'a> {
 
     /// How many lines are still to come, twice.
     fn size_hint(&self) -> (usize, Option<usize>)
-        ensures lower { IsWithinCount result.0 (item_count ahead self.now) }
-        ensures upper { IfSome result.1 (UpTo (item_count ahead self.now)) }
-        ensures exact { result.0 ≡ length (ahead self.now) }
-        ensures exact_upper { result.1 ≡ Some (length (ahead self.now)) }
+        ensures { CountsAhead self.now result.0 result.1 }
     {
         let count = self.len();
         (count, Some(count))
@@ -167,16 +169,5 @@ impl<'a> Clone for Lines<'a> {
     fn clone(&self) -> Result<Lines<'a>, AllocError> {
         let gap = self.gap.copy();
         Ok(Lines { gap, ..*self })
-    }
-}
-
-/// Shows where it stands and which way it faces; no text.
-impl<'a> fmt::Debug for Lines<'a> {
-    fn fmt<W: fmt::Write>(&self, f: &mut fmt::Formatter<W>) -> fmt::Result {
-        f.debug_struct("Lines")
-            .field("line", &self.line)
-            .field("total", &self.total)
-            .field("is_backward", &self.is_backward)
-            .finish()
     }
 }

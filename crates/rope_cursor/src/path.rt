@@ -1,5 +1,5 @@
 //! A way from the root of a tree to one of its leaves, kept in place. No step takes memory.
-ghost use Rattle.std.specs.Prelude.{◌≡◌, ◌+◌, ◌-◌, ◌<◌, ◌^◌, ◌∷◌, ◌++◌, not, take, [], length, IfSome, IfNone};
+ghost use Rattle.std.specs.Prelude.{◌≡◌, ◌+◌, ◌-◌, ◌<◌, ◌^◌, ◌∷◌, ◌++◌, not, take, []};
 ghost use Rattle.std.specs.Bool.{OnTrue, OnFalse};
 ghost use Rattle.std.specs.List.{concat, All};
 ghost use Rattle.std.specs.Str.{chars};
@@ -9,7 +9,7 @@ ghost use Rattle.rope_text.specs.TextInfo.{info_of};
 ghost use Rattle.rope_tree.specs.Search.{count_of};
 ghost use Rattle.rope_tree.specs.Leaves.{AreLeaves};
 ghost use Rattle.rope_tree.specs.Tree.{text};
-ghost use Rattle.rope_cursor.specs.Path.{before_of, after_of, beyond, around, place_of, AreFrames, LeadsTo, IsLow, IsBeside, IsLast, HoldsPlace, leaves, leaves_below};
+ghost use Rattle.rope_cursor.specs.Path.{before_of, beyond, around, place_of, AreFrames, LeadsTo, IsLow, IsBeside, IsLast, HoldsPlace, leaves, leaves_below};
 
 use rope_text::{MAX_HEIGHT, Steps, TextInfo};
 use rope_tree::lookup::total_before;
@@ -98,27 +98,6 @@ fn enter<'a>(
     }
 }
 
-// What `enter` does. Most nodes that a step reaches are leaves, and for these it is kept where it is called, and its answer in
-// registers: so it takes apart what `enter` answers, which comes through memory.
-#[inline(always)]
-fn reach<'a>(
-    frames: &mut [Frame<'a>; MAX_HEIGHT],
-    level: usize,
-    node: &'a Node,
-    is_backward: bool,
-) -> (usize, &'a str)
-    requires frames { AreFrames frames.old level (around frames.old level node.now.leaves) }
-    requires low { IsLow node.now (MAX_HEIGHT - level) }
-    ensures leads { LeadsTo frames.new result.0 (chars result.1.now) (around frames.old level node.now.leaves) }
-    ensures behind { beyond (not is_backward) (take result.0 frames.new) ≡ beyond (not is_backward) (take level frames.old) }
-{
-    if let View::Leaf(leaf) = node.view() {
-        return (level, leaf.as_str());
-    }
-    let (depth, text) = enter(frames, level, node, is_backward);
-    (depth, text)
-}
-
 // Goes down from a node at a level to the leaf that holds a place of its text; `before` are the counts of the text before
 // the node. Answers how many frames lead there, the leaf's text, and the counts of the text before it.
 fn enter_at<'a>(
@@ -163,6 +142,7 @@ impl<'a> Path<'a> {
         ensures leaves { leaves result.0 ≡ node.now.leaves }
         ensures holds { HoldsPlace unit node.now.breaks at result.0.before result.0.here result.1 }
     {
+        // a proof needs what `height` says of every node: how high it may be
         let _ = node.height();
         let mut path = Path::text("");
         let (depth, leaf, before) = enter_at(&mut path.frames, 0, node, TextInfo::new(), unit, at);
@@ -222,7 +202,15 @@ impl<'a> Path<'a> {
             if at != end {
                 let at = if is_backward { at - 1 } else { at + 1 };
                 frames[level] = Frame { children, at };
-                let (depth, leaf) = reach(frames, level + 1, &children[at], is_backward);
+                let child: &Node = &children[at];
+                // Most nodes that a step comes to are leaves. These are taken here: what `enter` answers comes through memory, and
+                // has to be waited for.
+                if let View::Leaf(leaf) = child.view() {
+                    self.depth = level + 1;
+                    self.leaf = leaf.as_str();
+                    return true;
+                }
+                let (depth, leaf) = enter(frames, level + 1, child, is_backward);
                 self.depth = depth;
                 self.leaf = leaf;
                 return true;

@@ -48,6 +48,7 @@ impl<'a> Pieces<'a> {
     {
         match part {
             Part::InTree(stretch) => {
+                // a proof needs what `height` says of every node: no leaf is empty
                 let _ = stretch.node.height();
                 let start = stretch.start.bytes;
                 let size = stretch.end.bytes - start;
@@ -59,11 +60,17 @@ impl<'a> Pieces<'a> {
                 let left = size - count;
                 (piece, Pieces { walk, left })
             }
-            Part::Alone(plain) => {
-                let walk = Walk::after(Path::text(plain.text));
-                (bytes_of(plain.text), Pieces { walk, left: 0 })
-            }
+            Part::Alone(plain) => Pieces::of_text(plain.text),
         }
+    }
+
+    /// A plain text as the first piece, with none after it.
+    pub fn of_text(text: &'a str) -> (&'a [u8], Pieces<'a>)
+        ensures bytes { result.0.now ++ result.1 ≡ encode_utf8_all (chars text.now) }
+        ensures some { length result.0.now ≡ 0 → result.1 ≡ [] }
+    {
+        let walk = Walk::after(Path::text(text));
+        (bytes_of(text), Pieces { walk, left: 0 })
     }
 
     /// The next piece; an empty one only at the end, where it stays.

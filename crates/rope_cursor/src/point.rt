@@ -1,8 +1,6 @@
 //! Steps from a point of a chunk: over a character, or to the chunk beside it.
-ghost use Rattle.std.specs.Prelude.{if◌then◌else◌, ◌≡◌, ◌<◌, ◌≤◌, [], length, IfSome, IfNone};
-ghost use Rattle.std.specs.Str.{chars, IsCharBoundary};
-ghost use Rattle.rope_text.specs.Text.{byte_len};
-ghost use Rattle.rope_text.specs.Conversions.{char_to_byte};
+ghost use Rattle.std.specs.Prelude.{if◌then◌else◌, ◌≡◌, ◌<◌, length, IfSome, IfNone};
+ghost use Rattle.std.specs.Str.{IsCharBoundary};
 ghost use Rattle.rope_cursor.specs.Path.{IsBeside, IsLast};
 ghost use Rattle.rope_cursor.specs.Point.{IsChunkAt, IsCharBetween};
 

@@ -1,30 +1,20 @@
 //! A way to a leaf within a part of a tree's text: the leaves are seen clipped.
-ghost use Rattle.std.specs.Prelude.{◌≡◌, ◌+◌, ◌-◌, ◌<◌, ◌≤◌, min, [], length};
+ghost use Rattle.std.specs.Prelude.{◌≡◌, ◌+◌, ◌-◌, ◌<◌, ◌≤◌, length};
 ghost use Rattle.std.specs.Bool.{OnTrue, OnFalse};
-ghost use Rattle.std.specs.List.{concat, slice_range};
+ghost use Rattle.std.specs.List.{concat};
 ghost use Rattle.std.specs.Str.{chars};
 ghost use Rattle.rope_text.specs.Conversions.{char_to_byte};
-ghost use Rattle.rope_text.specs.Text.{byte_len};
-ghost use Rattle.rope_text.specs.Cutting.{clip};
 ghost use Rattle.rope_text.specs.TextInfo.{info_of};
-ghost use Rattle.rope_tree.specs.Tree.{text};
 ghost use Rattle.rope_cursor.specs.Path.{IsBeside, IsLast, leaves};
-ghost use Rattle.rope_cursor.specs.Starts.{AreBefore, IsItem, MeetsLeaf, size_in};
-ghost use Rattle.rope_part.specs.Part.{text_of, chunks_of, breaks_of};
+ghost use Rattle.rope_cursor.specs.Starts.{IsItem, IsHolding, size_in};
+ghost use Rattle.rope_part.specs.Part.{content_of, text_of, chunks_of, breaks_of};
 
 use crate::path::Path;
-use rope_part::{Part, Plain, Stretch};
+use rope_part::Part;
 use rope_text::TextInfo;
 use rope_text::str_utils::char_to_byte_idx;
 use rope_tree::search::{Unit, count};
 use std::marker::Model;
-
-/// The bytes and the characters before a place of a text.
-#[derive(Clone, Copy)]
-struct Edge {
-    bytes: usize,
-    chars: usize,
-}
 
 /// A chunk of a part, seen as the chunks before it, the chunk, and the chunks after it.
 #[derive(Drop)]
@@ -32,80 +22,23 @@ pub struct Span<'a> {
     path: Path<'a>,
     // the bytes of the text before the leaf, of which the chunk is a part
     start: usize,
-    from: Edge,
-    to: Edge,
+    // those before the part's start, and before its end
+    from: usize,
+    to: usize,
 }
 
 impl<'a> Model for Span<'a> {
     ghost use Rattle.rope_cursor.specs.Path.{Place};
-    ghost use Rattle.rope_cursor.specs.Span.{clipped_place, IsSpan};
+    ghost use Rattle.rope_cursor.specs.Span.{clipped_at, IsSpanFrom};
 
     ghost Value = { Place };
 
-    ghost view = { λ a. clipped_place a.path a.from.chars a.to.chars };
+    ghost view = { λ a. clipped_at a.path a.from a.to };
 
-    ghost invariant = { λ a. IsSpan a.path a.start a.from a.to };
+    ghost invariant = { λ a. IsSpanFrom a.path a.start a.from a.to };
 }
 
 impl<'a> Span<'a> {
-    // The chunk of a part of a tree that lies in a leaf, and the bytes, the characters and the line breaks of the part before
-    // that chunk. `before` are the counts of the tree's text before the leaf.
-    fn in_leaf(
-        stretch: &Stretch<'a>,
-        path: Path<'a>,
-        before: TextInfo,
-    ) -> (Span<'a>, usize, usize, usize)
-        requires { MeetsLeaf stretch.now path before }
-        ensures chunks { leaves result.0 ≡ clip stretch.now.node.now.leaves stretch.now.start.chars stretch.now.end.chars }
-        ensures before { AreBefore stretch.now.node.now.breaks
-            (slice_range (text stretch.now.node.now) stretch.now.start.chars stretch.now.end.chars)
-            result.0.before result.1 result.2 result.3 }
-        ensures from_bytes { result.1 ≡ before.bytes - stretch.now.start.bytes }
-        ensures from_chars { result.2 ≡ before.chars - stretch.now.start.chars }
-        ensures chars { length (concat result.0.before) + length result.0.here
-            ≡ min (length (concat path.entry.before) + length path.entry.here) stretch.now.end.chars - stretch.now.start.chars }
-        ensures bytes { byte_len (concat result.0.before) + byte_len result.0.here
-            ≡ min (byte_len (concat path.entry.before) + byte_len path.entry.here) stretch.now.end.bytes - stretch.now.start.bytes }
-    {
-        let _ = stretch.node.height();
-        let start = stretch.start;
-        let span = Span {
-            path,
-            start: before.bytes,
-            from: Edge {
-                bytes: start.bytes,
-                chars: start.chars,
-            },
-            to: Edge {
-                bytes: stretch.end.bytes,
-                chars: stretch.end.chars,
-            },
-        };
-        (
-            span,
-            before.bytes.saturating_sub(start.bytes),
-            before.chars.saturating_sub(start.chars),
-            before.break_count.saturating_sub(start.break_count),
-        )
-    }
-
-    // A plain text as the only chunk.
-    fn of_text(plain: &Plain<'a>) -> Span<'a>
-        ensures before { result.before ≡ [] }
-        ensures here { result.here ≡ chars plain.now.text.now }
-        ensures after { result.after ≡ [] }
-    {
-        Span {
-            path: Path::text(plain.text),
-            start: 0,
-            from: Edge { bytes: 0, chars: 0 },
-            to: Edge {
-                bytes: plain.info.bytes,
-                chars: plain.info.chars,
-            },
-        }
-    }
-
     /// The chunk of a part that holds a byte or a character; at the end of the text the last chunk. With it the bytes, the
     /// characters and the line breaks of the text before it. An empty part has no chunk: then it is the empty text.
     // Expanded where it is called, by a constant: a way is half a kilobyte, and is then moved once less.
@@ -113,23 +46,36 @@ impl<'a> Span<'a> {
     pub fn holding(part: &Part<'a>, unit: Unit, idx: usize) -> (Span<'a>, usize, usize, usize)
         requires unit { IsItem unit }
         requires within { idx ≤ size_in unit (text_of part.now) }
-        ensures text { concat (leaves result.0) ≡ text_of part.now }
-        ensures chunks { 0 < length (text_of part.now) → leaves result.0 ≡ chunks_of part.now }
-        ensures before { AreBefore (breaks_of part.now) (text_of part.now) result.0.before result.1 result.2 result.3 }
-        ensures starts { size_in unit (concat result.0.before) ≤ idx }
-        ensures within { idx ≤ size_in unit (concat result.0.before) + size_in unit result.0.here }
-        ensures inside { idx < size_in unit (text_of part.now) → idx < size_in unit (concat result.0.before) + size_in unit result.0.here }
+        ensures { IsHolding unit idx (content_of part.now) result.0 result.1 result.2 result.3 }
     {
         match part {
             Part::InTree(stretch) => {
+                // a proof needs what `height` says of every node
                 let _ = stretch.node.height();
-                let place = (count(stretch.start, unit) + idx).min(count(stretch.end, unit) - 1);
+                let start = stretch.start;
+                let place = (count(start, unit) + idx).min(count(stretch.end, unit) - 1);
                 let (path, before) = Path::at(stretch.node, unit, place);
-                Span::in_leaf(stretch, path, before)
+                let span = Span {
+                    path,
+                    start: before.bytes,
+                    from: start.bytes,
+                    to: stretch.end.bytes,
+                };
+                (
+                    span,
+                    before.bytes.saturating_sub(start.bytes),
+                    before.chars.saturating_sub(start.chars),
+                    before.break_count.saturating_sub(start.break_count),
+                )
             }
             Part::Alone(plain) => {
-                let _ = plain.info();
-                (Span::of_text(plain), 0, 0, 0)
+                let span = Span {
+                    path: Path::text(plain.text),
+                    start: 0,
+                    from: 0,
+                    to: plain.info().bytes,
+                };
+                (span, 0, 0, 0)
             }
         }
     }
@@ -174,8 +120,8 @@ impl<'a> Span<'a> {
         ensures { chars result.now ≡ self.now.here }
     {
         let leaf = self.path.leaf();
-        let low = self.from.bytes.saturating_sub(self.start);
-        let high = (self.to.bytes - self.start).min(leaf.len());
+        let low = self.from.saturating_sub(self.start);
+        let high = (self.to - self.start).min(leaf.len());
         &leaf[low..high]
     }
 
@@ -186,14 +132,14 @@ impl<'a> Span<'a> {
         ensures ended { OnFalse result (IsLast is_backward self.old) }
     {
         if is_backward {
-            if self.start <= self.from.bytes || !self.path.step(true) {
+            if self.start <= self.from || !self.path.step(true) {
                 return false;
             }
             self.start -= self.path.leaf().len();
             return true;
         }
         let len = self.path.leaf().len();
-        if self.to.bytes - self.start <= len || !self.path.step(false) {
+        if self.to - self.start <= len || !self.path.step(false) {
             return false;
         }
         self.start += len;

@@ -45,8 +45,6 @@ pub fn write_part<S: Sink>(part: &Part<'_>, sink: &mut S) -> io::Result<()>
     ensures failure { IsCounted (failure_of result) (S.failure sink.new) (S.failures sink.old) (S.failures sink.new) }
 {
     sink.clear();
-    // This opens what every part keeps: its chunks join to its text.
-    let _ = part.info();
     for chunk in Chunks::new(part) {
         write_bytes(sink, chunk.as_bytes())?;
     }

@@ -5,6 +5,7 @@ use Rattle.rope_text.specs.declared.line_breaks.LineBreaks.{LineBreaks}
 use Rattle.rope_text.specs.declared.text_info.TextInfo.{TextInfo}
 use Rattle.rope_text.specs.Text.{byte_len, surrogate_count}
 use Rattle.rope_text.specs.TextInfo.{info_of}
+use Rattle.rope_text.specs.Lines.{line_start}
 use Rattle.rope_text.specs.Conversions.{char_to_line}
 use Rattle.rope_text.specs.Cutting.{parts_crlf}
 use Rattle.rope_tree.specs.Tree.{Tree, text}
@@ -23,6 +24,10 @@ start_info breaks text i = record {
 -- end lies in is one of them, since it is a break of the part
 abbrev pub end_info : LineBreaks → List ℕ → ℕ → TextInfo
 end_info breaks text i = info_of breaks (take i text)
+
+-- the counts of the text before a line
+abbrev pub line_info : LineBreaks → List ℕ → ℕ → TextInfo
+line_info breaks text l = info_of breaks (take (line_start breaks text l) text)
 
 -- characters of a text, one at least, with the counts up to their start and up to their end
 pub record IsStretch (breaks : LineBreaks) (text : List ℕ) (start end : TextInfo) : Type 0 where

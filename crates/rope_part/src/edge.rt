@@ -1,13 +1,10 @@
 //! The counts of a tree's text up to a place: one way down to the leaf that holds it.
-ghost use Rattle.std.specs.Prelude.{◌≡◌, ◌<◌, ◌≤◌, ◌+◌, length, take, IfSome};
+ghost use Rattle.std.specs.Prelude.{◌≡◌, ◌<◌, ◌≤◌, ◌+◌, length};
 ghost use Rattle.rope_text.specs.Text.{surrogate_count};
-ghost use Rattle.rope_text.specs.TextInfo.{info_of};
-ghost use Rattle.rope_text.specs.Breaks.{break_count};
 ghost use Rattle.rope_text.specs.Lines.{line_start, line_count};
-ghost use Rattle.rope_text.specs.LineParts.{first_line};
 ghost use Rattle.std.specs.Str.{chars};
 ghost use Rattle.rope_tree.specs.Tree.{text};
-ghost use Rattle.rope_part.specs.Edge.{start_info, end_info, IsLeafFrom};
+ghost use Rattle.rope_part.specs.Edge.{start_info, end_info, line_info, IsLeafFrom};
 
 use rope_text::str_utils::count_surrogates;
 use rope_text::{Steps, TextInfo};
@@ -33,6 +30,7 @@ pub fn start_at(node: &Node, char_idx: usize) -> TextInfo
     requires { char_idx < length (text node.now) }
     ensures { result ≡ start_info node.now.breaks (text node.now) char_idx }
 {
+    // a proof needs what `height` says of every node
     let _ = node.height();
     let found = leaf_at(node, Unit::Char, char_idx, &mut Steps::new());
     let leaf = found.leaf.as_str();
@@ -52,6 +50,7 @@ pub fn end_at(node: &Node, char_idx: usize) -> TextInfo
     requires { char_idx ≤ length (text node.now) }
     ensures { result ≡ end_info node.now.breaks (text node.now) char_idx }
 {
+    // a proof needs what `height` says of every node
     let _ = node.height();
     let info = node.info();
     if char_idx == info.chars {
@@ -68,9 +67,10 @@ pub fn end_at(node: &Node, char_idx: usize) -> TextInfo
 fn line_start_at(node: &Node, line_idx: usize) -> (TextInfo, &str)
     requires later { 0 < line_idx }
     requires within { line_idx < line_count node.now.breaks (text node.now) }
-    ensures before { result.0 ≡ info_of node.now.breaks (take (line_start node.now.breaks (text node.now) line_idx) (text node.now)) }
+    ensures before { result.0 ≡ line_info node.now.breaks (text node.now) line_idx }
     ensures rest { IsLeafFrom node.now (line_start node.now.breaks (text node.now) line_idx) (chars result.1.now) }
 {
+    // a proof needs what `height` says of every node
     let _ = node.height();
     let found = leaf_at(node, Unit::LineBreak, line_idx - 1, &mut Steps::new());
     let leaf = found.leaf.as_str();
@@ -89,7 +89,7 @@ fn line_start_at(node: &Node, line_idx: usize) -> (TextInfo, &str)
 pub fn before_line(node: &Node, line_idx: usize) -> TextInfo
     requires later { 0 < line_idx }
     requires within { line_idx ≤ line_count node.now.breaks (text node.now) }
-    ensures { result ≡ info_of node.now.breaks (take (line_start node.now.breaks (text node.now) line_idx) (text node.now)) }
+    ensures { result ≡ line_info node.now.breaks (text node.now) line_idx }
 {
     let info = node.info();
     if line_idx > info.break_count {
@@ -103,9 +103,10 @@ pub fn before_line(node: &Node, line_idx: usize) -> TextInfo
 pub fn around_line(node: &Node, line_idx: usize) -> (TextInfo, TextInfo)
     requires later { 0 < line_idx }
     requires within { line_idx < line_count node.now.breaks (text node.now) }
-    ensures start { result.0 ≡ info_of node.now.breaks (take (line_start node.now.breaks (text node.now) line_idx) (text node.now)) }
-    ensures end { result.1 ≡ info_of node.now.breaks (take (line_start node.now.breaks (text node.now) (line_idx + 1)) (text node.now)) }
+    ensures start { result.0 ≡ line_info node.now.breaks (text node.now) line_idx }
+    ensures end { result.1 ≡ line_info node.now.breaks (text node.now) (line_idx + 1) }
 {
+    // a proof needs what `height` says of every node
     let _ = node.height();
     let (start, rest) = line_start_at(node, line_idx);
     let line = TextInfo::of_first_line(rest, node.line_breaks());

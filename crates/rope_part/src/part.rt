@@ -1,13 +1,14 @@
 //! A part of a text.
-ghost use Rattle.std.specs.Prelude.{◌≡◌, ◌≤◌, ◌<◌, ◌+◌, length, take};
+ghost use Rattle.std.specs.Prelude.{◌≡◌, ◌≤◌, ◌<◌, ◌+◌, length};
 ghost use Rattle.std.specs.List.{slice_range};
 ghost use Rattle.std.specs.Str.{chars};
 ghost use Rattle.rope_text.specs.Text.{byte_len, utf16_len};
 ghost use Rattle.rope_text.specs.TextInfo.{info_of};
-ghost use Rattle.rope_text.specs.Lines.{line_start, line_count};
+ghost use Rattle.rope_text.specs.Lines.{line_count};
 ghost use Rattle.rope_text.specs.Conversions.{byte_to_char};
 ghost use Rattle.rope_text.specs.Cutting.{clip, single_chunk};
 ghost use Rattle.rope_tree.specs.Tree.{text};
+ghost use Rattle.rope_part.specs.Edge.{line_info};
 
 use crate::plain::Plain;
 use crate::stretch::Stretch;
@@ -142,7 +143,7 @@ impl<'a> Part<'a> {
     /// The counts of its text before a line; past the last line those of all of it. One look-up in a rope's text.
     pub fn before_line(&self, line_idx: usize) -> TextInfo
         requires { line_idx ≤ line_count (breaks_of self.now) (text_of self.now) }
-        ensures { result ≡ info_of (breaks_of self.now) (take (line_start (breaks_of self.now) (text_of self.now) line_idx) (text_of self.now)) }
+        ensures { result ≡ line_info (breaks_of self.now) (text_of self.now) line_idx }
     {
         match self {
             Part::InTree(stretch) => stretch.before_line(line_idx),
@@ -154,8 +155,8 @@ impl<'a> Part<'a> {
     /// rope's text where the line lies in one chunk, and doesn't end it.
     pub fn around_line(&self, line_idx: usize) -> (TextInfo, TextInfo)
         requires { line_idx < line_count (breaks_of self.now) (text_of self.now) }
-        ensures start { result.0 ≡ info_of (breaks_of self.now) (take (line_start (breaks_of self.now) (text_of self.now) line_idx) (text_of self.now)) }
-        ensures end { result.1 ≡ info_of (breaks_of self.now) (take (line_start (breaks_of self.now) (text_of self.now) (line_idx + 1)) (text_of self.now)) }
+        ensures start { result.0 ≡ line_info (breaks_of self.now) (text_of self.now) line_idx }
+        ensures end { result.1 ≡ line_info (breaks_of self.now) (text_of self.now) (line_idx + 1) }
     {
         // a proof needs what `info` says of every part: there is a number for the line past the last
         let _ = self.info();

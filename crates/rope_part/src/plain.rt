@@ -1,11 +1,9 @@
 //! A plain text as a part.
-ghost use Rattle.std.specs.Prelude.{◌≡◌, ◌≤◌, ◌<◌, length, take, slice_get, Some};
+ghost use Rattle.std.specs.Prelude.{◌≡◌, ◌≤◌};
 ghost use Rattle.std.specs.List.{slice_range};
-ghost use Rattle.std.specs.Str.{chars, encode_utf8_all};
+ghost use Rattle.std.specs.Str.{chars};
 ghost use Rattle.rope_text.specs.TextInfo.{info_of};
-ghost use Rattle.rope_text.specs.Text.{byte_len};
-ghost use Rattle.rope_text.specs.Lines.{line_start};
-ghost use Rattle.rope_part.specs.Edge.{IsInfo-prop};
+ghost use Rattle.rope_part.specs.Edge.{line_info, IsInfo-prop};
 
 use rope_text::str_utils::{char_to_byte_idx, line_to_byte_with};
 use rope_text::{LineBreaks, TextInfo};
@@ -41,6 +39,7 @@ impl<'a> Plain<'a> {
         ensures kept { IsPart (content_of self.now) }
     {
         let text = self.as_str();
+        // a proof needs how long a text in memory may be
         let _ = text.as_bytes();
         self.info
     }
@@ -66,7 +65,7 @@ impl<'a> Plain<'a> {
 
     /// The counts of the text before a line; past the last line those of all of it.
     pub fn before_line(&self, line_idx: usize) -> TextInfo
-        ensures { result ≡ info_of self.now.breaks (take (line_start self.now.breaks (text_of self.now) line_idx) (text_of self.now)) }
+        ensures { result ≡ line_info self.now.breaks (text_of self.now) line_idx }
     {
         let text = self.as_str();
         let bytes = line_to_byte_with(text, line_idx, self.breaks);

@@ -3,12 +3,12 @@ ghost use Rattle.std.specs.Prelude.{◌≡◌, ◌+◌, ◌-◌, ◌≤◌, ◌<
 ghost use Rattle.std.specs.List.{slice_range};
 ghost use Rattle.std.specs.Str.{chars};
 ghost use Rattle.rope_text.specs.TextInfo.{info_of};
-ghost use Rattle.rope_text.specs.Lines.{line_start, line_count};
+ghost use Rattle.rope_text.specs.Lines.{line_count};
 ghost use Rattle.rope_text.specs.Cutting.{clip};
 ghost use Rattle.rope_text.specs.Lookup.{found_chunk, chunk_index_at_char};
 ghost use Rattle.rope_tree.specs.Search.{count_of};
 ghost use Rattle.rope_tree.specs.Tree.{IsTree, text};
-ghost use Rattle.rope_part.specs.Edge.{start_info, end_info, IsStretch, IsStretch-prop};
+ghost use Rattle.rope_part.specs.Edge.{start_info, end_info, line_info, IsStretch, IsStretch-prop};
 
 use crate::edge::{around_line, before_line, end_at, start_at};
 use rope_text::TextInfo;
@@ -43,6 +43,7 @@ impl<'a> Stretch<'a> {
         ensures low { self.now.node.now.height ≤ MAX_HEIGHT }
         ensures tree { IsTree self.now.node.now }
     {
+        // a proof needs what `height` says of every node
         let _ = self.node.height();
         count(self.start, unit) + idx
     }
@@ -131,7 +132,7 @@ impl<'a> Stretch<'a> {
     /// The counts of its text before a line; past the last line those of all of it.
     pub fn before_line(&self, line_idx: usize) -> TextInfo
         requires { line_idx ≤ line_count (breaks_of self.now) (text_of self.now) }
-        ensures { result ≡ info_of (breaks_of self.now) (take (line_start (breaks_of self.now) (text_of self.now) line_idx) (text_of self.now)) }
+        ensures { result ≡ line_info (breaks_of self.now) (text_of self.now) line_idx }
     {
         if line_idx == 0 {
             return TextInfo::new();
@@ -142,8 +143,8 @@ impl<'a> Stretch<'a> {
     /// The counts of its text before a line, and before the next one; past the last line those of all of it.
     pub fn around_line(&self, line_idx: usize) -> (TextInfo, TextInfo)
         requires { line_idx < line_count (breaks_of self.now) (text_of self.now) }
-        ensures start { result.0 ≡ info_of (breaks_of self.now) (take (line_start (breaks_of self.now) (text_of self.now) line_idx) (text_of self.now)) }
-        ensures end { result.1 ≡ info_of (breaks_of self.now) (take (line_start (breaks_of self.now) (text_of self.now) (line_idx + 1)) (text_of self.now)) }
+        ensures start { result.0 ≡ line_info (breaks_of self.now) (text_of self.now) line_idx }
+        ensures end { result.1 ≡ line_info (breaks_of self.now) (text_of self.now) (line_idx + 1) }
     {
         if line_idx == 0 {
             return (TextInfo::new(), self.before_line(1));

@@ -13,6 +13,7 @@ ghost use Rattle.rope_slice.specs.Slice.{text_of, chunks_of, breaks_of};
 use crate::bounds::within;
 use crate::slice::RopeSlice;
 use rope_cursor::{Bytes, Chars, Chunks};
+use rope_tree::search::Unit;
 
 impl<'a> RopeSlice<'a> {
     /// A cursor over the bytes, before the first, facing forward. Costs one or two look-ups; takes no memory.
@@ -86,7 +87,7 @@ impl<'a> RopeSlice<'a> {
         ensures { StandsAt (breaks_of self.now) (chunks_of self.now) (chunk_place_at_byte (chunks_of self.now) byte_idx)
             result.0 result.1 result.2 result.3 }
     {
-        Chunks::at_byte(&self.part, byte_idx)
+        Chunks::at(&self.part, Unit::Byte, byte_idx)
     }
 
     /// As `chunks_at_byte`, or `None` exactly where the index is past `len_bytes()`. Costs one or two look-ups;
@@ -109,7 +110,7 @@ impl<'a> RopeSlice<'a> {
         ensures { StandsAt (breaks_of self.now) (chunks_of self.now) (chunk_place_at_char (chunks_of self.now) char_idx)
             result.0 result.1 result.2 result.3 }
     {
-        Chunks::at_char(&self.part, char_idx)
+        Chunks::at(&self.part, Unit::Char, char_idx)
     }
 
     /// As `chunks_at_char`, or `None` exactly where the index is past `len_chars()`. Costs one or two look-ups;

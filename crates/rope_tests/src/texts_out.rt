@@ -130,20 +130,20 @@ fn shown_builder(rt: HostRuntime) -> std::result::Result<(), Fail> {
 fn shows_chars_and_bytes(alloc: Global, rope: &Rope) -> bool {
     shows(
         format!(in alloc; "{:?}", rope.chars()),
-        "Chars { passed: 0, total: 3, is_backward: false }",
+        "Chars { passed: 0, total: 3, is_backward: false, .. }",
     ) && shows(
         format!(in alloc; "{:?}", rope.bytes()),
-        "Bytes { before: 0, at: 0, total: 4, is_backward: false }",
+        "Bytes { before: 0, at: 0, total: 4, is_backward: false, .. }",
     )
 }
 
 fn shows_lines_and_chunks(alloc: Global, rope: &Rope) -> bool {
     shows(
         format!(in alloc; "{:?}", rope.lines().reversed()),
-        "Lines { line: 0, total: 2, is_backward: true }",
+        "Lines { line: 0, total: 2, is_backward: true, .. }",
     ) && shows(
         format!(in alloc; "{:?}", rope.chunks()),
-        "Chunks { is_empty: false, is_past: false, is_backward: false }",
+        "Chunks { is_empty: false, is_past: false, is_backward: false, .. }",
     )
 }
 

@@ -1,6 +1,6 @@
 use Rattle.rope_part.specs.Part.{text_of}
-use Rattle.rope_compare.proofs.Comparing.{texts_same}
+use Rattle.rope_compare.proofs.Comparing.{ties_tell}
 use Rattle.rope_compare.proofs.order.is_same.Goals as goal
 
-pub returns : goal.returns
-returns c = texts_same c.is_same.result (text_of c.args.left.now) (text_of c.args.right.now) _ _ c.of.ensures.left c.of.ensures.right c.is_same.ensures
+pub returns-then-len_bytes : goal.returns-then-len_bytes
+returns-then-len_bytes c = ties_tell (text_of c.args.left.now) (text_of c.args.right.now) c.order.result c.is_eq.result c.order.ensures c.is_eq.ensures

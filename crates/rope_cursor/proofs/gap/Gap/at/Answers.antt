@@ -9,18 +9,18 @@ invariant_of-result c =
     let e = c.at-span.ensures in
     let p = c.at-span.result.0 in
     let within : ℕ = c.args.char_idx - length (concat p.before) in
-    gap_at (content_of c.args.part.now) p within c.args.char_idx c.at-span.result.1 c.info.ensures.kept e.text e.chunks (omega (arith, e.starts)) (omega (arith, e.within)) e.byte
+    gap_at (content_of c.args.part.now) p within c.args.char_idx c.at-span.result.1 c.requires.kept e.text e.chunks (omega (arith, e.starts)) (omega (arith, e.within)) e.byte
 
 pub returns-clause-front : goal.returns-clause-front
 returns-clause-front c =
     let e = c.at-span.ensures in
     let p = c.at-span.result.0 in
     let within : ℕ = c.args.char_idx - length (concat p.before) in
-    front_at (content_of c.args.part.now) p within c.args.char_idx c.at-span.result.1 c.info.ensures.kept e.text e.chunks (omega (arith, e.starts)) (omega (arith, e.within)) e.byte
+    front_at (content_of c.args.part.now) p within c.args.char_idx c.at-span.result.1 c.requires.kept e.text e.chunks (omega (arith, e.starts)) (omega (arith, e.within)) e.byte
 
 pub returns-clause-back : goal.returns-clause-back
 returns-clause-back c =
     let e = c.at-span.ensures in
     let p = c.at-span.result.0 in
     let within : ℕ = c.args.char_idx - length (concat p.before) in
-    back_at (content_of c.args.part.now) p within c.args.char_idx c.at-span.result.1 c.info.ensures.kept e.text e.chunks (omega (arith, e.starts)) (omega (arith, e.within)) e.byte
+    back_at (content_of c.args.part.now) p within c.args.char_idx c.at-span.result.1 c.requires.kept e.text e.chunks (omega (arith, e.starts)) (omega (arith, e.within)) e.byte

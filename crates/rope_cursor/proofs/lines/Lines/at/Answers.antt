@@ -5,8 +5,8 @@ use Rattle.rope_part.specs.Part.{text_of, breaks_of}
 use Rattle.rope_cursor.proofs.LineMoves.{counts_at}
 use Rattle.rope_cursor.proofs.lines.Lines.at.Goals as goal
 
-pub at-requires : goal.at-requires
-at-requires c =
+pub at-requires-clause-within : goal.at-requires-clause-within
+at-requires-clause-within c =
     let breaks = breaks_of c.args.part.now in
     let t = text_of c.args.part.now in
     let short = line_start-le-length breaks t c.args.line_idx in
@@ -23,5 +23,5 @@ invariant_of-result c =
       front_is = c.at.ensures.front ∙ ap (λ n. take n t) e;
       back_is = c.at.ensures.back ∙ ap (λ n. drop n t) e;
       before_is = c.before_line-before.ensures;
-      fits = c.info.ensures.kept.fits;
+      fits = c.info-info.ensures.kept.fits;
     }

@@ -1,12 +1,15 @@
-use Rattle.std.proofs.Common.{◌≡◌, min, refl, sym, ap, ◌∙◌, ◌+◌, ◌-◌, arith}
-use Rattle.std.specs.List.{concat}
-use Rattle.rope_text.proofs.ClipLaws.{concat-clip}
-use Rattle.rope_text.proofs.ConversionLaws.{char_to_line_start}
+use Rattle.std.proofs.Common.{◌≡◌, ℕ, List, min, ◌+◌, ◌-◌, ap, subst, sym, ◌∙◌, arith}
+use Rattle.std.specs.Str.{chars}
+use Rattle.rope_text.specs.Text.{byte_len}
+use Rattle.rope_text.specs.Cutting.{single_chunk}
 use Rattle.rope_tree.specs.Search.{count_of}
-use Rattle.rope_part.specs.Part.{text_of, breaks_of}
 use Rattle.rope_part.proofs.Places.{small_start, small_end}
-use Rattle.rope_cursor.proofs.LeafStarts.{some_in, fits_in, place_in, meets_in, within_in, inside_in}
-use Rattle.rope_cursor.proofs.span.Span.holding.Goals.{After-min-place}
+use Rattle.rope_cursor.specs.Path.{Place, leaves}
+use Rattle.rope_cursor.specs.Span.{edge_at, clipped_at, IsSpan}
+use Rattle.rope_cursor.specs.Starts.{IsHolding}
+use Rattle.rope_cursor.proofs.Spans.{alone, alone_is, alone_span, alone_whole}
+use Rattle.rope_cursor.proofs.LeafStarts.{some_in, fits_in, place_in, span_here, holds_here, holds_alone}
+use Rattle.rope_cursor.proofs.span.Span.holding.Goals.{After-min-place, After-info}
 use Rattle.rope_cursor.proofs.span.Span.holding.Goals as goal
 
 pub count-requires : goal.count-requires
@@ -36,33 +39,38 @@ at-path-requires c =
     let s = c.in-InTree.stretch in
     place_in s.node.now s.start s.end s.is_stretch c.args.idx c.min-place.result c.args.unit c.requires.unit (place_is (goal.at.at-path-requires c).After-min-place)
 
-pub in_leaf-requires : goal.in_leaf-requires
-in_leaf-requires c =
+pub invariant_of-span : goal.invariant_of-span
+invariant_of-span c =
     let s = c.in-InTree.stretch in
-    let h = c.at-path.ensures.holds in
-    let meets = meets_in s.node.now s.start s.end s.is_stretch c.args.idx c.min-place.result c.at-path.result.0 c.at-path.result.1 c.at-path.ensures.leaves c.args.unit c.requires.unit
-    (place_is (goal.at.in_leaf-requires c).After-min-place) h in
-    record { leaves_are = c.at-path.ensures.leaves; before_is = h.info_is; starts = meets.0; ends = meets.1 }
+    span_here s.node.now s.start s.end c.height.ensures.tree s.is_stretch c.args.idx c.min-place.result c.args.unit c.requires.unit (place_is (goal.at.invariant_of-span c).After-min-place)
+    c.at-path.result.0 c.at-path.result.1 c.at-path.ensures.leaves c.at-path.ensures.holds
 
-pub returns-in-InTree-clause-within : goal.returns-in-InTree-clause-within
-returns-in-InTree-clause-within c =
+pub returns-in-InTree : goal.returns-in-InTree
+returns-in-InTree c =
     let s = c.in-InTree.stretch in
-    let e = c.in_leaf.ensures in
-    within_in s.node.now s.start s.end s.is_stretch c.args.idx c.min-place.result c.at-path.result.0 c.at-path.result.1 c.at-path.ensures.leaves c.in_leaf.result.0.before c.in_leaf.result.0.here
-    (sym e.before.bytes_are ∙ e.from_bytes) (sym e.before.chars_are ∙ e.from_chars) e.chars e.bytes c.args.unit c.requires.unit (place_is (goal.at.returns-in-InTree-clause-within c).After-min-place) c.at-path.ensures.holds (rw c.in-InTree.is at c.requires.within)
+    rw (c.in-InTree.is, c.saturating_sub.ensures, c.saturating_sub-in-InTree.ensures, c.saturating_sub-in-InTree-2.ensures)
+    (holds_here s.node.now s.start s.end c.height.ensures.tree s.is_stretch c.args.idx c.min-place.result c.args.unit c.requires.unit (place_is (goal.at.returns-in-InTree c).After-min-place)
+    c.at-path.result.0 c.at-path.result.1 c.at-path.ensures.leaves c.at-path.ensures.holds (rw c.in-InTree.is at c.requires.within))
 
-pub returns-in-InTree-clause-inside : goal.returns-in-InTree-clause-inside
-returns-in-InTree-clause-inside c =
-    let s = c.in-InTree.stretch in
-    let e = c.in_leaf.ensures in
-    rw c.in-InTree.is (inside_in s.node.now s.start s.end s.is_stretch c.args.idx c.min-place.result c.at-path.result.0 c.at-path.result.1 c.at-path.ensures.leaves c.in_leaf.result.0.before c.in_leaf.result.0.here
-    (sym e.before.bytes_are ∙ e.from_bytes) (sym e.before.chars_are ∙ e.from_chars) e.chars e.bytes c.args.unit c.requires.unit (place_is (goal.at.returns-in-InTree-clause-inside c).After-min-place) c.at-path.ensures.holds)
+-- of a plain text
+alone_here : (c : After-info) → c.text.result ≡ alone (chars c.in-Alone.plain.text.now)
+alone_here c = alone_is c.text.result (chars c.in-Alone.plain.text.now) c.text.ensures.before c.text.ensures.here c.text.ensures.after
 
-pub returns-in-InTree-clause-text : goal.returns-in-InTree-clause-text
-returns-in-InTree-clause-text c =
-    let s = c.in-InTree.stretch in
-    rw c.in-InTree.is (ap concat c.in_leaf.ensures.chunks ∙ concat-clip s.node.now.leaves s.start.chars s.end.chars)
+bytes_are : (c : After-info) → c.info.result.bytes ≡ byte_len (chars c.in-Alone.plain.text.now)
+bytes_are c = ap (λ x. x.bytes) c.info.ensures.value
 
-pub returns-in-Alone-clause-before : goal.returns-in-Alone-clause-before
-returns-in-Alone-clause-before c =
-    rw c.of_text.ensures.before (record { bytes_are = refl; chars_are = refl; count_is = sym (char_to_line_start (breaks_of c.args.part.now) (text_of c.args.part.now)) })
+pub invariant_of-span-in-Alone : goal.invariant_of-span-in-Alone
+invariant_of-span-in-Alone c =
+    let d = (goal.at.invariant_of-span-in-Alone c).After-info in
+    let own = alone (chars c.in-Alone.plain.text.now) in
+    subst (λ (p : Place). IsSpan p 0 (edge_at (leaves p) 0) (edge_at (leaves p) c.info.result.bytes)) (sym (alone_here d))
+    (subst (λ (n : ℕ). IsSpan own 0 (edge_at (leaves own) 0) (edge_at (leaves own) n)) (sym (bytes_are d)) (alone_span (chars c.in-Alone.plain.text.now)))
+
+pub returns-in-Alone : goal.returns-in-Alone
+returns-in-Alone c =
+    let d = (goal.at.returns-in-Alone c).After-info in
+    let own : List ℕ = chars c.in-Alone.plain.text.now in
+    let here = ap (λ p. clipped_at p 0 c.info.result.bytes) (alone_here d) ∙ ap (clipped_at (alone own) 0) (bytes_are d) ∙ alone_whole own in
+    rw c.in-Alone.is
+    (subst (λ (q : Place). IsHolding c.args.unit c.args.idx (record { text = own; chunks = single_chunk own; breaks = c.in-Alone.plain.breaks }) q 0 0 0) (sym here)
+    (holds_alone c.in-Alone.plain.breaks own c.args.idx c.args.unit c.requires.unit (rw c.in-Alone.is at c.requires.within)))

@@ -15,7 +15,7 @@ pub returns-then-self-clause-ended : goal.returns-then-self-clause-ended
 returns-then-self-clause-ended c =
     let s = c.self.inside in
     rw (c.if-is_backward.true, ← c.self.view_is) elim c.then-self.branch [
-      | then-self-via-then-self w ↦ no_prev s.path s.start s.from s.to c.self.invariant w.if-self.true
+      | then-self-via-then-self w ↦ no_prev s.path s.start _ _ c.self.invariant w.if-self.true
       | then-self-via-else-self+then-not-step w ↦ rw w.if-not-step.ensures.ended refl
     ]
 
@@ -36,7 +36,7 @@ on c =
     span_next s.path c.step-else-self-len.new.self s.start (length c.leaf-len.result.now) s.from s.to c.self.invariant size c.if-not-step-2.ensures.moved c.if-self-len.false
 
 pub overflow_sub-self-inside : goal.overflow_sub-self-inside
-overflow_sub-self-inside c = in_order c.self.inside.path c.self.inside.start c.self.inside.from c.self.inside.to c.self.invariant
+overflow_sub-self-inside c = in_order c.self.inside.path c.self.inside.start _ _ c.self.invariant
 
 pub returns-then-self-len-clause-ended : goal.returns-then-self-len-clause-ended
 returns-then-self-len-clause-ended c =
@@ -44,7 +44,7 @@ returns-then-self-len-clause-ended c =
     rw (c.if-is_backward.false, ← c.self.view_is) elim c.then-self-len.branch [
       | then-self-len-via-then-self-len w ↦
           let size : length c.leaf-len.result.now ≡ byte_len s.path.here = sym (byte_len-chars c.leaf-len.result.now c.leaf-len.utf8) ∙ ap byte_len c.leaf-len.ensures in
-          no_next s.path s.start s.from s.to c.self.invariant (omega (arith, w.if-self-len.true))
+          no_next s.path s.start _ _ c.self.invariant (omega (arith, w.if-self-len.true))
       | then-self-len-via-else-self-len+then-not-step-2 w ↦ rw w.if-not-step-2.ensures.ended refl
     ]
 

@@ -4,8 +4,8 @@ use Rattle.std.specs.Cmp.Lexicographic.{slice_cmp}
 use Rattle.std.proofs.lemmas.Map.Lookups.{exact_bytes}
 use Rattle.rope_text.proofs.ByteOrder.{slice_cmp_ends, slice_cmp_same, decided, left_open}
 use Rattle.rope_compare.proofs.Comparing.{untied}
-use Rattle.rope_compare.proofs.order.order.Goals.{After-are_same}
-use Rattle.rope_compare.proofs.order.order.Goals as goal
+use Rattle.rope_compare.proofs.order.order_of_pieces.Goals.{After-are_same}
+use Rattle.rope_compare.proofs.order.order_of_pieces.Goals as goal
 
 pub returns-then-n-eq0 : goal.returns-then-n-eq0
 returns-then-n-eq0 c =
