@@ -1,8 +1,9 @@
 //! Whether an index lies in a text, and the bounds of a range of bytes.
-ghost use Rattle.std.specs.Prelude.{◌≡◌, ◌≤◌, ◌<◌, ℕ, not, false, nat_lt, Ok, Err, IfOk, IfErr, MatchOption};
+ghost use Rattle.std.specs.Prelude.{◌≡◌, ◌≤◌, ◌<◌, not, false, nat_lt, Ok, Err, IfOk, IfErr, MatchOption};
 ghost use Rattle.rope_text.specs.Text.{byte_len};
 ghost use Rattle.rope_text.specs.Edit.{range_start, range_end, given, is_char_boundary, byte_range_error};
 ghost use Rattle.rope_slice.specs.Slice.{text_of};
+ghost use Rattle.rope_slice.specs.Found.{GivesWithin};
 
 use crate::slice::RopeSlice;
 use rope_text::{Error, IndexRange, Result};
@@ -17,7 +18,7 @@ pub(crate) fn check(idx: usize, len: usize, error: Error) -> Result<()>
 
 /// The index, or none where it is past the end.
 pub(crate) fn within(idx: usize, len: usize) -> Option<usize>
-    ensures { MatchOption result (len < idx) (λ same. (idx ≤ len) × (same ≡ idx)) }
+    ensures { GivesWithin idx len result (λ same. same ≡ idx) }
 {
     (idx <= len).then_some(idx)
 }

@@ -8,6 +8,7 @@ ghost use Rattle.rope_text.specs.Lines.{line_count};
 ghost use Rattle.rope_text.specs.LineParts.{line_of, lines_of};
 ghost use Rattle.rope_text.specs.Sides.{ahead, at_start, at_place, turned, GoesAhead, StepsBack};
 ghost use Rattle.rope_slice.specs.Slice.{content_of, text_of, breaks_of};
+ghost use Rattle.rope_slice.specs.Found.{GivesWithin};
 
 use crate::bounds::within;
 use crate::slice::RopeSlice;
@@ -80,9 +81,8 @@ impl<'a> RopeSlice<'a> {
     /// As `lines_at`, or `None` exactly where the index is past `len_lines()`. Costs one or two look-ups; takes no
     /// memory.
     pub fn get_lines_at(&self, line_idx: usize) -> Option<Lines<'a>>
-        ensures { MatchOption result (line_count (breaks_of self.now) (text_of self.now) < line_idx)
-            (λ lines. (line_idx ≤ line_count (breaks_of self.now) (text_of self.now))
-            × (lines ≡ at_place (lines_of (content_of self.now)) line_idx)) }
+        ensures { GivesWithin line_idx (line_count (breaks_of self.now) (text_of self.now)) result
+            (λ lines. lines ≡ at_place (lines_of (content_of self.now)) line_idx) }
     {
         Some(self.lines_at(within(line_idx, self.len_lines())?))
     }

@@ -5,9 +5,9 @@ ghost use Rattle.std.specs.Str.{chars, encode_utf8_all};
 ghost use Rattle.rope_text.specs.Text.{byte_len};
 ghost use Rattle.rope_text.specs.Lines.{line_count};
 ghost use Rattle.rope_text.specs.Edit.{byte_index_error};
-ghost use Rattle.rope_text.specs.Lookup.{found_chunk, chunk_index_at_byte, chunk_index_at_char, chunk_index_at_line_break};
-ghost use Rattle.rope_part.specs.Found.{IsFoundChunk};
-ghost use Rattle.rope_slice.specs.Slice.{text_of, chunks_of, breaks_of};
+ghost use Rattle.rope_text.specs.Lookup.{chunk_index_at_byte, chunk_index_at_char, chunk_index_at_line_break};
+ghost use Rattle.rope_slice.specs.Slice.{content_of, text_of, chunks_of, breaks_of};
+ghost use Rattle.rope_slice.specs.Found.{GivesWithin, ShowsChunk};
 
 use crate::bounds::{check, within};
 use crate::slice::RopeSlice;
@@ -65,9 +65,7 @@ impl<'a> RopeSlice<'a> {
     /// The index is at most `len_bytes()`. Costs one or two look-ups; takes no memory.
     pub fn chunk_at_byte(&self, byte_idx: usize) -> (&'a str, usize, usize, usize)
         requires { byte_idx ≤ byte_len (text_of self.now) }
-        ensures { IsFoundChunk (found_chunk (breaks_of self.now) (chunks_of self.now)
-            (chunk_index_at_byte (chunks_of self.now) byte_idx))
-            (chars result.0.now) result.1 result.2 result.3 }
+        ensures { ShowsChunk (content_of self.now) (chunk_index_at_byte (chunks_of self.now) byte_idx) result }
     {
         self.part.chunk_at(Unit::Byte, byte_idx)
     }
@@ -80,9 +78,7 @@ impl<'a> RopeSlice<'a> {
     /// `len_bytes()`.
     pub fn try_chunk_at_byte(&self, byte_idx: usize) -> Result<(&'a str, usize, usize, usize)>
         ensures { MatchOption (byte_index_error byte_idx (byte_len (text_of self.now)))
-            (IsOkAnd result (λ found. IsFoundChunk (found_chunk (breaks_of self.now) (chunks_of self.now)
-            (chunk_index_at_byte (chunks_of self.now) byte_idx))
-            (chars found.0.now) found.1 found.2 found.3))
+            (IsOkAnd result (ShowsChunk (content_of self.now) (chunk_index_at_byte (chunks_of self.now) byte_idx)))
             (λ fault. result ≡ Err fault) }
     {
         let len = self.len_bytes();
@@ -97,9 +93,7 @@ impl<'a> RopeSlice<'a> {
     /// The index is at most `len_chars()`. Costs one or two look-ups; takes no memory.
     pub fn chunk_at_char(&self, char_idx: usize) -> (&'a str, usize, usize, usize)
         requires { char_idx ≤ length (text_of self.now) }
-        ensures { IsFoundChunk (found_chunk (breaks_of self.now) (chunks_of self.now)
-            (chunk_index_at_char (chunks_of self.now) char_idx))
-            (chars result.0.now) result.1 result.2 result.3 }
+        ensures { ShowsChunk (content_of self.now) (chunk_index_at_char (chunks_of self.now) char_idx) result }
     {
         self.part.chunk_at(Unit::Char, char_idx)
     }
@@ -107,11 +101,8 @@ impl<'a> RopeSlice<'a> {
     /// As `chunk_at_char`, or `None` exactly where the index is past `len_chars()`. Costs one or two look-ups;
     /// takes no memory.
     pub fn get_chunk_at_char(&self, char_idx: usize) -> Option<(&'a str, usize, usize, usize)>
-        ensures { MatchOption result (length (text_of self.now) < char_idx)
-            (λ found. (char_idx ≤ length (text_of self.now))
-            × IsFoundChunk (found_chunk (breaks_of self.now) (chunks_of self.now)
-            (chunk_index_at_char (chunks_of self.now) char_idx))
-            (chars found.0.now) found.1 found.2 found.3) }
+        ensures { GivesWithin char_idx (length (text_of self.now)) result
+            (ShowsChunk (content_of self.now) (chunk_index_at_char (chunks_of self.now) char_idx)) }
     {
         Some(self.chunk_at_char(within(char_idx, self.len_chars())?))
     }
@@ -123,9 +114,7 @@ impl<'a> RopeSlice<'a> {
     /// The index is at most `len_lines()`. Costs one or two look-ups; takes no memory.
     pub fn chunk_at_line_break(&self, line_break_idx: usize) -> (&'a str, usize, usize, usize)
         requires { line_break_idx ≤ line_count (breaks_of self.now) (text_of self.now) }
-        ensures { IsFoundChunk (found_chunk (breaks_of self.now) (chunks_of self.now)
-            (chunk_index_at_line_break (breaks_of self.now) (chunks_of self.now) line_break_idx))
-            (chars result.0.now) result.1 result.2 result.3 }
+        ensures { ShowsChunk (content_of self.now) (chunk_index_at_line_break (breaks_of self.now) (chunks_of self.now) line_break_idx) result }
     {
         self.part.chunk_at_line_break(line_break_idx)
     }
@@ -136,11 +125,8 @@ impl<'a> RopeSlice<'a> {
         &self,
         line_break_idx: usize,
     ) -> Option<(&'a str, usize, usize, usize)>
-        ensures { MatchOption result (line_count (breaks_of self.now) (text_of self.now) < line_break_idx)
-            (λ found. (line_break_idx ≤ line_count (breaks_of self.now) (text_of self.now))
-            × IsFoundChunk (found_chunk (breaks_of self.now) (chunks_of self.now)
-            (chunk_index_at_line_break (breaks_of self.now) (chunks_of self.now) line_break_idx))
-            (chars found.0.now) found.1 found.2 found.3) }
+        ensures { GivesWithin line_break_idx (line_count (breaks_of self.now) (text_of self.now)) result
+            (ShowsChunk (content_of self.now) (chunk_index_at_line_break (breaks_of self.now) (chunks_of self.now) line_break_idx)) }
     {
         Some(self.chunk_at_line_break(within(line_break_idx, self.len_lines())?))
     }

@@ -2,12 +2,11 @@
 //!
 //! The slice `2..9` of `"hello world"` is `"llo wor"`, and of that the slice `1..4` is `"lo "`. No call takes
 //! memory.
-ghost use Rattle.std.specs.Prelude.{◌≡◌, ◌≢◌, length, None, Some, IfOk, IfErr, MatchOption};
-ghost use Rattle.rope_text.specs.Text.{byte_len};
-ghost use Rattle.rope_text.specs.Conversions.{byte_to_char};
-ghost use Rattle.rope_text.specs.Edit.{range_start, range_end, char_range_error, byte_range_error};
-ghost use Rattle.rope_slice.specs.Sliced.{IsSlice};
+ghost use Rattle.std.specs.Prelude.{◌≡◌, length, None, Some, IfOk, IfErr};
+ghost use Rattle.rope_text.specs.Edit.{char_range_error, byte_range_error};
+ghost use Rattle.rope_slice.specs.Sliced.{IsCharRange, IsByteRange};
 ghost use Rattle.rope_slice.specs.Slice.{content_of, text_of};
+ghost use Rattle.rope_slice.specs.Found.{GivesUnless};
 
 use crate::slice::RopeSlice;
 use rope_text::range::char_bounds;
@@ -21,8 +20,7 @@ impl<'a> RopeSlice<'a> {
     /// count of the text where it is plain; takes no memory.
     pub fn slice<R: IndexRange + Drop>(&self, range: R) -> RopeSlice<'a>
         requires { char_range_error (R.given_start range) (R.given_end range) (length (text_of self.now)) ≡ None }
-        ensures { IsSlice (content_of self.now) (range_start (R.given_start range)) (range_end (R.given_end range) (length (text_of self.now)))
-            (content_of result) }
+        ensures { IsCharRange (content_of self.now) (R.given_start range) (R.given_end range) (content_of result) }
     {
         self.get_slice(range).unwrap()
     }
@@ -30,10 +28,8 @@ impl<'a> RopeSlice<'a> {
     /// As `slice`, or `None` exactly where a bound is past `len_chars()` or the range's start is past its end.
     /// Costs a few look-ups, or a count of the text where it is plain; takes no memory.
     pub fn get_slice<R: IndexRange + Drop>(&self, range: R) -> Option<RopeSlice<'a>>
-        ensures { MatchOption result (char_range_error (R.given_start range) (R.given_end range) (length (text_of self.now)) ≢ None)
-            (λ slice. (char_range_error (R.given_start range) (R.given_end range) (length (text_of self.now)) ≡ None)
-            × IsSlice (content_of self.now) (range_start (R.given_start range)) (range_end (R.given_end range) (length (text_of self.now)))
-            (content_of slice)) }
+        ensures { GivesUnless (char_range_error (R.given_start range) (R.given_end range) (length (text_of self.now))) result
+            (λ slice. IsCharRange (content_of self.now) (R.given_start range) (R.given_end range) (content_of slice)) }
     {
         let (start, end) = char_bounds(&range, self.len_chars()).ok()?;
         Some(RopeSlice {
@@ -51,8 +47,7 @@ impl<'a> RopeSlice<'a> {
     /// given bound lies inside a character.
     pub fn try_byte_slice<R: IndexRange + Drop>(&self, range: R) -> Result<RopeSlice<'a>>
         ensures ok { IfOk result (λ slice. (byte_range_error (text_of self.now) (R.given_start range) (R.given_end range) ≡ None)
-            × IsSlice (content_of self.now) (byte_to_char (text_of self.now) (range_start (R.given_start range)))
-            (byte_to_char (text_of self.now) (range_end (R.given_end range) (byte_len (text_of self.now)))) (content_of slice)) }
+            × IsByteRange (content_of self.now) (R.given_start range) (R.given_end range) (content_of slice)) }
         ensures refused { IfErr result (λ fault. byte_range_error (text_of self.now) (R.given_start range) (R.given_end range) ≡ Some fault) }
     {
         let (start, end) = self.byte_bounds(&range)?;
@@ -64,10 +59,8 @@ impl<'a> RopeSlice<'a> {
     /// As `byte_slice`, or `None` exactly where `try_byte_slice` returns an error. Costs a few look-ups, or a count
     /// of the text where it is plain; takes no memory.
     pub fn get_byte_slice<R: IndexRange + Drop>(&self, range: R) -> Option<RopeSlice<'a>>
-        ensures { MatchOption result (byte_range_error (text_of self.now) (R.given_start range) (R.given_end range) ≢ None)
-            (λ slice. (byte_range_error (text_of self.now) (R.given_start range) (R.given_end range) ≡ None)
-            × IsSlice (content_of self.now) (byte_to_char (text_of self.now) (range_start (R.given_start range)))
-            (byte_to_char (text_of self.now) (range_end (R.given_end range) (byte_len (text_of self.now)))) (content_of slice)) }
+        ensures { GivesUnless (byte_range_error (text_of self.now) (R.given_start range) (R.given_end range)) result
+            (λ slice. IsByteRange (content_of self.now) (R.given_start range) (R.given_end range) (content_of slice)) }
     {
         self.try_byte_slice(range).ok()
     }
@@ -78,8 +71,7 @@ impl<'a> RopeSlice<'a> {
     /// character. Costs a few look-ups, or a count of the text where it is plain; takes no memory.
     pub fn byte_slice<R: IndexRange + Drop>(&self, range: R) -> RopeSlice<'a>
         requires { byte_range_error (text_of self.now) (R.given_start range) (R.given_end range) ≡ None }
-        ensures { IsSlice (content_of self.now) (byte_to_char (text_of self.now) (range_start (R.given_start range)))
-            (byte_to_char (text_of self.now) (range_end (R.given_end range) (byte_len (text_of self.now)))) (content_of result) }
+        ensures { IsByteRange (content_of self.now) (R.given_start range) (R.given_end range) (content_of result) }
     {
         self.try_byte_slice(range).unwrap()
     }

@@ -2,12 +2,12 @@
 //!
 //! A rope of `"one\ntwo"` has one chunk, and `chunk_at_char(5)` is `("one\ntwo", 0, 0, 0)`. A caller that reads a
 //! text around a place takes the chunk there, and goes on with `chunks_at_char`.
-ghost use Rattle.std.specs.Prelude.{◌≡◌, ◌<◌, ◌≤◌, length, MatchOption};
-ghost use Rattle.std.specs.Str.{chars};
+ghost use Rattle.std.specs.Prelude.{◌≤◌, length};
 ghost use Rattle.rope_text.specs.Text.{byte_len};
 ghost use Rattle.rope_text.specs.Lines.{line_count};
-ghost use Rattle.rope_text.specs.Lookup.{found_chunk, chunk_index_at_byte, chunk_index_at_char, chunk_index_at_line_break};
-ghost use Rattle.rope_part.specs.Found.{IsFoundChunk};
+ghost use Rattle.rope_text.specs.Lookup.{chunk_index_at_byte, chunk_index_at_char, chunk_index_at_line_break};
+ghost use Rattle.rope_slice.specs.Found.{GivesWithin, ShowsChunk};
+ghost use Rattle.ropey.specs.View.{content};
 
 use crate::rope::Rope;
 
@@ -18,9 +18,7 @@ impl Rope {
     /// The index is at most `len_bytes()`. Costs one look-up; takes no memory.
     pub fn chunk_at_byte(&self, byte_idx: usize) -> (&str, usize, usize, usize)
         requires { byte_idx ≤ byte_len self.now.text }
-        ensures { IsFoundChunk (found_chunk self.now.breaks self.now.chunks
-            (chunk_index_at_byte self.now.chunks byte_idx))
-            (chars result.0.now) result.1 result.2 result.3 }
+        ensures { ShowsChunk (content self.now) (chunk_index_at_byte self.now.chunks byte_idx) result }
     {
         self.whole().chunk_at_byte(byte_idx)
     }
@@ -28,11 +26,8 @@ impl Rope {
     /// As `chunk_at_byte`, or `None` exactly where the index is past `len_bytes()`. Costs one look-up; takes no
     /// memory.
     pub fn get_chunk_at_byte(&self, byte_idx: usize) -> Option<(&str, usize, usize, usize)>
-        ensures { MatchOption result (byte_len self.now.text < byte_idx)
-            (λ found. (byte_idx ≤ byte_len self.now.text)
-            × IsFoundChunk (found_chunk self.now.breaks self.now.chunks
-            (chunk_index_at_byte self.now.chunks byte_idx))
-            (chars found.0.now) found.1 found.2 found.3) }
+        ensures { GivesWithin byte_idx (byte_len self.now.text) result
+            (ShowsChunk (content self.now) (chunk_index_at_byte self.now.chunks byte_idx)) }
     {
         self.whole().try_chunk_at_byte(byte_idx).ok()
     }
@@ -44,9 +39,7 @@ impl Rope {
     /// The index is at most `len_chars()`. Costs one look-up; takes no memory.
     pub fn chunk_at_char(&self, char_idx: usize) -> (&str, usize, usize, usize)
         requires { char_idx ≤ length self.now.text }
-        ensures { IsFoundChunk (found_chunk self.now.breaks self.now.chunks
-            (chunk_index_at_char self.now.chunks char_idx))
-            (chars result.0.now) result.1 result.2 result.3 }
+        ensures { ShowsChunk (content self.now) (chunk_index_at_char self.now.chunks char_idx) result }
     {
         self.whole().chunk_at_char(char_idx)
     }
@@ -54,11 +47,8 @@ impl Rope {
     /// As `chunk_at_char`, or `None` exactly where the index is past `len_chars()`. Costs one look-up; takes no
     /// memory.
     pub fn get_chunk_at_char(&self, char_idx: usize) -> Option<(&str, usize, usize, usize)>
-        ensures { MatchOption result (length self.now.text < char_idx)
-            (λ found. (char_idx ≤ length self.now.text)
-            × IsFoundChunk (found_chunk self.now.breaks self.now.chunks
-            (chunk_index_at_char self.now.chunks char_idx))
-            (chars found.0.now) found.1 found.2 found.3) }
+        ensures { GivesWithin char_idx (length self.now.text) result
+            (ShowsChunk (content self.now) (chunk_index_at_char self.now.chunks char_idx)) }
     {
         self.whole().get_chunk_at_char(char_idx)
     }
@@ -70,9 +60,7 @@ impl Rope {
     /// The index is at most `len_lines()`. Costs one look-up; takes no memory.
     pub fn chunk_at_line_break(&self, line_break_idx: usize) -> (&str, usize, usize, usize)
         requires { line_break_idx ≤ line_count self.now.breaks self.now.text }
-        ensures { IsFoundChunk (found_chunk self.now.breaks self.now.chunks
-            (chunk_index_at_line_break self.now.breaks self.now.chunks line_break_idx))
-            (chars result.0.now) result.1 result.2 result.3 }
+        ensures { ShowsChunk (content self.now) (chunk_index_at_line_break self.now.breaks self.now.chunks line_break_idx) result }
     {
         self.whole().chunk_at_line_break(line_break_idx)
     }
@@ -83,11 +71,8 @@ impl Rope {
         &self,
         line_break_idx: usize,
     ) -> Option<(&str, usize, usize, usize)>
-        ensures { MatchOption result (line_count self.now.breaks self.now.text < line_break_idx)
-            (λ found. (line_break_idx ≤ line_count self.now.breaks self.now.text)
-            × IsFoundChunk (found_chunk self.now.breaks self.now.chunks
-            (chunk_index_at_line_break self.now.breaks self.now.chunks line_break_idx))
-            (chars found.0.now) found.1 found.2 found.3) }
+        ensures { GivesWithin line_break_idx (line_count self.now.breaks self.now.text) result
+            (ShowsChunk (content self.now) (chunk_index_at_line_break self.now.breaks self.now.chunks line_break_idx)) }
     {
         self.whole().get_chunk_at_line_break(line_break_idx)
     }
