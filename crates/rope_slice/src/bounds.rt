@@ -1,5 +1,5 @@
 //! Whether an index lies in a text, and the bounds of a range of bytes.
-ghost use Rattle.std.specs.Prelude.{◌≡◌, ◌≤◌, ◌<◌, not, false, nat_lt, Ok, Err, IfOk, IfErr, MatchOption};
+ghost use Rattle.std.specs.Prelude.{◌≡◌, not, false, nat_lt, Ok, Err, MatchOption};
 ghost use Rattle.rope_text.specs.Text.{byte_len};
 ghost use Rattle.rope_text.specs.Edit.{range_start, range_end, given, is_char_boundary, byte_range_error};
 ghost use Rattle.rope_slice.specs.Slice.{text_of};
@@ -7,14 +7,6 @@ ghost use Rattle.rope_slice.specs.Found.{GivesWithin};
 
 use crate::slice::RopeSlice;
 use rope_text::{Error, IndexRange, Result};
-
-/// Refuses an index past the end, with this error.
-pub(crate) fn check(idx: usize, len: usize, error: Error) -> Result<()>
-    ensures ok { IfOk result (λ _. idx ≤ len) }
-    ensures refused { IfErr result (λ e. (len < idx) × (e ≡ error)) }
-{
-    if idx > len { Err(error) } else { Ok(()) }
-}
 
 /// The index, or none where it is past the end.
 pub(crate) fn within(idx: usize, len: usize) -> Option<usize>

@@ -9,7 +9,7 @@ ghost use Rattle.rope_text.specs.Lookup.{chunk_index_at_byte, chunk_index_at_cha
 ghost use Rattle.rope_slice.specs.Slice.{content_of, text_of, chunks_of, breaks_of};
 ghost use Rattle.rope_slice.specs.Found.{GivesWithin, ShowsChunk};
 
-use crate::bounds::{check, within};
+use crate::bounds::within;
 use crate::slice::RopeSlice;
 use rope_text::{Error, Result};
 use rope_tree::search::Unit;
@@ -82,8 +82,8 @@ impl<'a> RopeSlice<'a> {
             (λ fault. result ≡ Err fault) }
     {
         let len = self.len_bytes();
-        check(byte_idx, len, Error::ByteIndexOutOfBounds(byte_idx, len))?;
-        Ok(self.chunk_at_byte(byte_idx))
+        let idx = within(byte_idx, len).ok_or(Error::ByteIndexOutOfBounds(byte_idx, len))?;
+        Ok(self.chunk_at_byte(idx))
     }
 
     /// The chunk that holds the character `char_idx`, and at the end of the text the last chunk. With it the
