@@ -117,8 +117,5 @@ pub fn read_tree<S: Source>(alloc: Global, source: &mut S, breaks: LineBreaks) -
     source.clear();
     let mut builder = Builder::new(alloc, breaks);
     read_texts(source, &mut builder)?;
-    match builder.finish(&mut 0) {
-        Ok(root) => Ok(root),
-        Err(_) => Err(ReadError::Rope(Error::OutOfMemory)),
-    }
+    Ok(builder.finish(&mut 0).map_err(Error::from)?)
 }
