@@ -1,12 +1,12 @@
 //! Counts over the bytes of a text, 32 bytes at once.
-ghost use Rattle.std.specs.Prelude.{◌≡◌, ◌+◌, ◌-◌, ◌*◌, ◌%◌, ◌<◌, ◌≤◌, length, cond, count_by, drop, slice_index, List, ℕ};
+ghost use Rattle.std.specs.Prelude.{◌≡◌, ◌+◌, ◌-◌, ◌*◌, ◌%◌, ◌<◌, ◌≤◌, length, cond, count_by, drop, List, ℕ};
 ghost use Rattle.rope_text.specs.Bits.{ones_below};
 ghost use Rattle.rope_text.specs.Bytes.{begins_char, begins_pair};
 ghost use Rattle.rope_text.specs.ByteBreaks.{byte_break_count, unit_count};
 ghost use Rattle.rope_text.specs.Marks.{IsLanes, narrow_mark, mark_at, marks, ahead};
 
 use crate::bits::{ones_before, ones_between};
-use crate::line_breaks::LineBreaks;
+use crate::line_breaks::{LineBreaks, known_set};
 use crate::runs::{count_run, is_wide_break};
 use crate::text_info::TextInfo;
 use std::simd::prelude::*;
@@ -135,13 +135,6 @@ pub(crate) fn marks_in(bytes: &[u8], at: usize, mark: Mark) -> usize
     ones_before(known_mask(bytes, at, mark), 32)
 }
 
-#[inline(always)]
-fn byte_or_zero(bytes: &[u8], at: usize) -> u8
-    ensures { result ≡ slice_index bytes.now at }
-{
-    if at < bytes.len() { bytes[at] } else { 0 }
-}
-
 /// Whether a mark begins with the byte `at`.
 #[inline(always)]
 pub(crate) fn is_mark(bytes: &[u8], at: usize, mark: Mark) -> bool
@@ -158,8 +151,8 @@ pub(crate) fn is_mark(bytes: &[u8], at: usize, mark: Mark) -> bool
     if x >= 0x0E && x != 0xC2 && x != 0xE2 {
         return false;
     }
-    let y = byte_or_zero(bytes, at + 1);
-    let z = byte_or_zero(bytes, at + 2);
+    let y = bytes.get(at + 1).copied().unwrap_or(0);
+    let z = bytes.get(at + 2).copied().unwrap_or(0);
     let is_lone_cr = x == b'\r' && y != b'\n';
     match breaks {
         LineBreaks::Lf => x == b'\n',
@@ -233,11 +226,7 @@ fn breaks_in_quarters(bytes: &[u8], to: usize, breaks: LineBreaks) -> (usize, us
     ensures bound { result.0 ≤ to }
     ensures counted { byte_break_count breaks bytes.now ≡ result.1 + byte_break_count breaks (drop result.0 bytes.now) }
 {
-    match breaks {
-        LineBreaks::Lf => marks_in_quarters(bytes, to, Mark::Break(LineBreaks::Lf)),
-        LineBreaks::CrLf => marks_in_quarters(bytes, to, Mark::Break(LineBreaks::CrLf)),
-        LineBreaks::Unicode => marks_in_quarters(bytes, to, Mark::Break(LineBreaks::Unicode)),
-    }
+    known_set!(breaks => marks_in_quarters(bytes, to, Mark::Break(breaks)))
 }
 
 /// How many marks begin from the byte `from` on and before `to`. The mark is known where this is expanded.
@@ -305,7 +294,7 @@ pub(crate) fn count_units(bytes: &[u8]) -> usize
     chars + blocks.utf16_surrogates + marks_between(bytes, blocks.bytes, end, Mark::Pair)
 }
 
-// The set is known where this is expanded.
+// How many breaks of the set begin before the byte `to`. The set is known where this is expanded.
 #[tactic(auto, using(crate::proofs::Blocks::byte_break_count_le))]
 #[inline(always)]
 fn known_breaks_before(bytes: &[u8], to: usize, breaks: LineBreaks) -> usize
@@ -326,14 +315,10 @@ pub(crate) fn count_breaks_before(bytes: &[u8], to: usize, breaks: LineBreaks) -
     requires { to ≤ length bytes.now }
     ensures { byte_break_count breaks bytes.now ≡ result + byte_break_count breaks (drop to bytes.now) }
 {
-    match breaks {
-        LineBreaks::Lf => known_breaks_before(bytes, to, LineBreaks::Lf),
-        LineBreaks::CrLf => known_breaks_before(bytes, to, LineBreaks::CrLf),
-        LineBreaks::Unicode => known_breaks_before(bytes, to, LineBreaks::Unicode),
-    }
+    known_set!(breaks => known_breaks_before(bytes, to, breaks))
 }
 
-// The set is known where this is expanded.
+// What the bytes count, in blocks. The set is known where this is expanded.
 #[tactic(auto, using(crate::proofs::Blocks::begins_le, crate::proofs::Blocks::pairs_le, crate::proofs::Blocks::byte_break_count_le))]
 #[inline(always)]
 fn count_known(bytes: &[u8], breaks: LineBreaks) -> TextInfo
@@ -401,11 +386,7 @@ fn count_many(bytes: &[u8], breaks: LineBreaks) -> TextInfo
     ensures pairs { result.utf16_surrogates ≡ count_by begins_pair bytes.now }
     ensures break_count { byte_break_count breaks bytes.now ≡ result.break_count + byte_break_count breaks (drop (length bytes.now) bytes.now) }
 {
-    match breaks {
-        LineBreaks::Lf => count_known(bytes, LineBreaks::Lf),
-        LineBreaks::CrLf => count_known(bytes, LineBreaks::CrLf),
-        LineBreaks::Unicode => count_known(bytes, LineBreaks::Unicode),
-    }
+    known_set!(breaks => count_known(bytes, breaks))
 }
 
 /// What the bytes of a text count, by one pass.

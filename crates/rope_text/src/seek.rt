@@ -8,7 +8,7 @@ ghost use Rattle.rope_text.specs.Marks.{marks, ahead, IsMark};
 
 use crate::bits::{ones_before, place_of_mark};
 use crate::lanes::{Mark, ahead, is_mark, known_mask, marks_between, marks_in, mask};
-use crate::line_breaks::LineBreaks;
+use crate::line_breaks::{LineBreaks, known_set};
 use crate::text_info::TextInfo;
 
 // The byte with which the mark `n` begins, counted from the byte `from` on, byte by byte.
@@ -236,11 +236,7 @@ fn skip_breaks(bytes: &[u8], n: usize, breaks: LineBreaks) -> (usize, TextInfo)
     ensures chars { count_by begins_char bytes.now ≡ result.1.chars + count_by begins_char (drop result.1.bytes bytes.now) }
     ensures pairs { count_by begins_pair bytes.now ≡ result.1.utf16_surrogates + count_by begins_pair (drop result.1.bytes bytes.now) }
 {
-    match breaks {
-        LineBreaks::Lf => skip_known(bytes, n, LineBreaks::Lf),
-        LineBreaks::CrLf => skip_known(bytes, n, LineBreaks::CrLf),
-        LineBreaks::Unicode => skip_known(bytes, n, LineBreaks::Unicode),
-    }
+    known_set!(breaks => skip_known(bytes, n, breaks))
 }
 
 /// What the bytes before the last character of the break `n` count, the breaks counted from 0 and the count of them left out.
