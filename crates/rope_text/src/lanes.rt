@@ -1,5 +1,5 @@
 //! Counts over the bytes of a text, 32 bytes at once.
-ghost use Rattle.std.specs.Prelude.{◌≡◌, ◌+◌, ◌-◌, ◌*◌, ◌%◌, ◌<◌, ◌≤◌, length, cond, count_by, drop, List, ℕ};
+ghost use Rattle.std.specs.Prelude.{◌≡◌, ◌+◌, ◌-◌, ◌*◌, ◌%◌, ◌<◌, ◌≤◌, length, cond, if◌then◌else◌, count_by, drop, List, ℕ};
 ghost use Rattle.rope_text.specs.Bits.{ones_below};
 ghost use Rattle.rope_text.specs.Bytes.{begins_char, begins_pair};
 ghost use Rattle.rope_text.specs.ByteBreaks.{byte_break_count, unit_count};
@@ -96,21 +96,17 @@ pub(crate) fn known_mask(bytes: &[u8], at: usize, mark: Mark) -> u64
     ones(x, y, mark).simd_eq(u8x32::splat(1)).to_bitmask()
 }
 
-// Two of the masks are not expanded where they are chosen: the compiler would take all three apart, bit by bit.
+// The masks of two sets are not expanded where they are chosen: the compiler would take all three apart, bit by bit.
 #[inline(never)]
-fn lf_mask_apart(bytes: &[u8], at: usize) -> u64
-    requires { at + 32 ≤ length bytes.now }
-    ensures { (n : ℕ) → n ≤ 32 → byte_break_count LineBreaks.Lf (drop at bytes.now) ≡ ones_below result n + byte_break_count LineBreaks.Lf (drop (at + n) bytes.now) }
+fn mask_apart<const HAS_CR: bool>(bytes: &[u8], at: usize) -> u64
+    requires { (at + 32) + ahead (Mark.Break (if HAS_CR then LineBreaks.CrLf else LineBreaks.Lf)) ≤ length bytes.now }
+    ensures { (n : ℕ) → n ≤ 32 → marks (Mark.Break (if HAS_CR then LineBreaks.CrLf else LineBreaks.Lf)) (drop at bytes.now) ≡ ones_below result n + marks (Mark.Break (if HAS_CR then LineBreaks.CrLf else LineBreaks.Lf)) (drop (at + n) bytes.now) }
 {
-    known_mask(bytes, at, Mark::Break(LineBreaks::Lf))
-}
-
-#[inline(never)]
-fn cr_lf_mask_apart(bytes: &[u8], at: usize) -> u64
-    requires { at + 33 ≤ length bytes.now }
-    ensures { (n : ℕ) → n ≤ 32 → byte_break_count LineBreaks.CrLf (drop at bytes.now) ≡ ones_below result n + byte_break_count LineBreaks.CrLf (drop (at + n) bytes.now) }
-{
-    known_mask(bytes, at, Mark::Break(LineBreaks::CrLf))
+    if HAS_CR {
+        known_mask(bytes, at, Mark::Break(LineBreaks::CrLf))
+    } else {
+        known_mask(bytes, at, Mark::Break(LineBreaks::Lf))
+    }
 }
 
 /// The same mask, where the set of breaks is not known.
@@ -120,8 +116,8 @@ pub(crate) fn mask(bytes: &[u8], at: usize, mark: Mark) -> u64
     ensures { (n : ℕ) → n ≤ 32 → marks mark (drop at bytes.now) ≡ ones_below result n + marks mark (drop (at + n) bytes.now) }
 {
     match mark {
-        Mark::Break(LineBreaks::Lf) => lf_mask_apart(bytes, at),
-        Mark::Break(LineBreaks::CrLf) => cr_lf_mask_apart(bytes, at),
+        Mark::Break(LineBreaks::Lf) => mask_apart::<false>(bytes, at),
+        Mark::Break(LineBreaks::CrLf) => mask_apart::<true>(bytes, at),
         _ => known_mask(bytes, at, mark),
     }
 }

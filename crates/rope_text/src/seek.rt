@@ -228,17 +228,6 @@ fn skip_known(bytes: &[u8], n: usize, breaks: LineBreaks) -> (usize, TextInfo)
     (left, counts)
 }
 
-// The same for each set.
-#[inline(always)]
-fn skip_breaks(bytes: &[u8], n: usize, breaks: LineBreaks) -> (usize, TextInfo)
-    ensures bound { result.1.bytes ≤ length bytes.now }
-    ensures counted { byte_break_count breaks bytes.now + result.0 ≡ n + byte_break_count breaks (drop result.1.bytes bytes.now) }
-    ensures chars { count_by begins_char bytes.now ≡ result.1.chars + count_by begins_char (drop result.1.bytes bytes.now) }
-    ensures pairs { count_by begins_pair bytes.now ≡ result.1.utf16_surrogates + count_by begins_pair (drop result.1.bytes bytes.now) }
-{
-    known_set!(breaks => skip_known(bytes, n, breaks))
-}
-
 /// What the bytes before the last character of the break `n` count, the breaks counted from 0 and the count of them left out.
 /// What a caller takes no count of isn't counted, since this is expanded there.
 #[tactic(auto, using(crate::proofs::Blocks::begins_le, crate::proofs::Blocks::pairs_le))]
@@ -250,7 +239,7 @@ pub(crate) fn before_break(bytes: &[u8], n: usize, breaks: LineBreaks) -> TextIn
     ensures chars { count_by begins_char bytes.now ≡ result.chars + count_by begins_char (drop result.bytes bytes.now) }
     ensures pairs { count_by begins_pair bytes.now ≡ result.utf16_surrogates + count_by begins_pair (drop result.bytes bytes.now) }
 {
-    let (left, mut counts) = skip_breaks(bytes, n, breaks);
+    let (left, mut counts) = known_set!(breaks => skip_known(bytes, n, breaks));
     let from = counts.bytes;
     let to = find_from(bytes, from, left, Mark::Break(breaks));
     counts.chars += marks_between(bytes, from, to, Mark::Char);
