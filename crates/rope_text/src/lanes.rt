@@ -1,9 +1,8 @@
 //! Counts over the bytes of a text, 32 bytes at once.
-ghost use Rattle.std.specs.Prelude.{◌≡◌, ◌+◌, ◌-◌, ◌*◌, ◌%◌, ◌<◌, ◌≤◌, length, cond, if◌then◌else◌, count_by, drop, List, ℕ};
-ghost use Rattle.rope_text.specs.Bits.{ones_below};
+ghost use Rattle.std.specs.Prelude.{◌≡◌, ◌+◌, ◌-◌, ◌*◌, ◌%◌, ◌<◌, ◌≤◌, length, cond, count_by, drop, List, ℕ};
 ghost use Rattle.rope_text.specs.Bytes.{begins_char, begins_pair};
-ghost use Rattle.rope_text.specs.ByteBreaks.{byte_break_count, unit_count};
-ghost use Rattle.rope_text.specs.Marks.{IsLanes, narrow_mark, mark_at, marks, ahead};
+ghost use Rattle.rope_text.specs.ByteBreaks.{byte_break_count, unit_count, AreCounts};
+ghost use Rattle.rope_text.specs.Marks.{IsLanes, IsBlockMask, narrow_mark, mark_at, marks, ahead, lf_or_cr_lf};
 
 use crate::bits::{ones_before, ones_between};
 use crate::line_breaks::{LineBreaks, known_set};
@@ -62,7 +61,7 @@ pub(crate) fn ones<const N: usize>(x: Simd<u8, N>, y: Simd<u8, N>, mark: Mark) -
 #[inline(never)]
 fn unicode_mask(bytes: &[u8], at: usize) -> u64
     requires { at + 34 ≤ length bytes.now }
-    ensures { (n : ℕ) → n ≤ 32 → byte_break_count LineBreaks.Unicode (drop at bytes.now) ≡ ones_below result n + byte_break_count LineBreaks.Unicode (drop (at + n) bytes.now) }
+    ensures { IsBlockMask (Mark.Break LineBreaks.Unicode) bytes.now at result }
 {
     let x = u8x32::from_slice(&bytes[at..]);
     let y = u8x32::from_slice(&bytes[at + 1..]);
@@ -79,7 +78,7 @@ fn unicode_mask(bytes: &[u8], at: usize) -> u64
 #[inline(always)]
 pub(crate) fn known_mask(bytes: &[u8], at: usize, mark: Mark) -> u64
     requires { (at + 32) + ahead mark ≤ length bytes.now }
-    ensures { (n : ℕ) → n ≤ 32 → marks mark (drop at bytes.now) ≡ ones_below result n + marks mark (drop (at + n) bytes.now) }
+    ensures { IsBlockMask mark bytes.now at result }
 {
     let x = u8x32::from_slice(&bytes[at..]);
     let mut y = x;
@@ -99,8 +98,8 @@ pub(crate) fn known_mask(bytes: &[u8], at: usize, mark: Mark) -> u64
 // The masks of two sets are not expanded where they are chosen: the compiler would take all three apart, bit by bit.
 #[inline(never)]
 fn mask_apart<const HAS_CR: bool>(bytes: &[u8], at: usize) -> u64
-    requires { (at + 32) + ahead (Mark.Break (if HAS_CR then LineBreaks.CrLf else LineBreaks.Lf)) ≤ length bytes.now }
-    ensures { (n : ℕ) → n ≤ 32 → marks (Mark.Break (if HAS_CR then LineBreaks.CrLf else LineBreaks.Lf)) (drop at bytes.now) ≡ ones_below result n + marks (Mark.Break (if HAS_CR then LineBreaks.CrLf else LineBreaks.Lf)) (drop (at + n) bytes.now) }
+    requires { (at + 32) + ahead (Mark.Break (lf_or_cr_lf HAS_CR)) ≤ length bytes.now }
+    ensures { IsBlockMask (Mark.Break (lf_or_cr_lf HAS_CR)) bytes.now at result }
 {
     if HAS_CR {
         known_mask(bytes, at, Mark::Break(LineBreaks::CrLf))
@@ -113,7 +112,7 @@ fn mask_apart<const HAS_CR: bool>(bytes: &[u8], at: usize) -> u64
 #[inline(always)]
 pub(crate) fn mask(bytes: &[u8], at: usize, mark: Mark) -> u64
     requires { (at + 32) + ahead mark ≤ length bytes.now }
-    ensures { (n : ℕ) → n ≤ 32 → marks mark (drop at bytes.now) ≡ ones_below result n + marks mark (drop (at + n) bytes.now) }
+    ensures { IsBlockMask mark bytes.now at result }
 {
     match mark {
         Mark::Break(LineBreaks::Lf) => mask_apart::<false>(bytes, at),
@@ -318,10 +317,7 @@ pub(crate) fn count_breaks_before(bytes: &[u8], to: usize, breaks: LineBreaks) -
 #[tactic(auto, using(crate::proofs::Blocks::begins_le, crate::proofs::Blocks::pairs_le, crate::proofs::Blocks::byte_break_count_le))]
 #[inline(always)]
 fn count_known(bytes: &[u8], breaks: LineBreaks) -> TextInfo
-    ensures bytes { result.bytes ≡ length bytes.now }
-    ensures chars { result.chars ≡ count_by begins_char bytes.now }
-    ensures pairs { result.utf16_surrogates ≡ count_by begins_pair bytes.now }
-    ensures break_count { byte_break_count breaks bytes.now ≡ result.break_count + byte_break_count breaks (drop (length bytes.now) bytes.now) }
+    ensures { AreCounts breaks bytes.now result }
 {
     let end = bytes.len();
     let last = end.saturating_sub(2);
@@ -341,10 +337,7 @@ fn count_known(bytes: &[u8], breaks: LineBreaks) -> TextInfo
 #[inline(always)]
 fn count_one(bytes: &[u8], breaks: LineBreaks) -> TextInfo
     requires { length bytes.now ≡ 1 }
-    ensures bytes { result.bytes ≡ length bytes.now }
-    ensures chars { result.chars ≡ count_by begins_char bytes.now }
-    ensures pairs { result.utf16_surrogates ≡ count_by begins_pair bytes.now }
-    ensures break_count { byte_break_count breaks bytes.now ≡ result.break_count + byte_break_count breaks (drop (length bytes.now) bytes.now) }
+    ensures { AreCounts breaks bytes.now result }
 {
     TextInfo {
         bytes: 1,
@@ -358,10 +351,7 @@ fn count_one(bytes: &[u8], breaks: LineBreaks) -> TextInfo
 #[inline(always)]
 fn count_few(bytes: &[u8], breaks: LineBreaks) -> TextInfo
     requires { length bytes.now ≤ 32 }
-    ensures bytes { result.bytes ≡ length bytes.now }
-    ensures chars { result.chars ≡ count_by begins_char bytes.now }
-    ensures pairs { result.utf16_surrogates ≡ count_by begins_pair bytes.now }
-    ensures break_count { byte_break_count breaks bytes.now ≡ result.break_count + byte_break_count breaks (drop (length bytes.now) bytes.now) }
+    ensures { AreCounts breaks bytes.now result }
 {
     let len = bytes.len();
     let mut block = [0; 34];
@@ -377,10 +367,7 @@ fn count_few(bytes: &[u8], breaks: LineBreaks) -> TextInfo
 // The same in blocks. It stands by itself, since where it is expanded the few would wait for what it answers through memory.
 #[inline(never)]
 fn count_many(bytes: &[u8], breaks: LineBreaks) -> TextInfo
-    ensures bytes { result.bytes ≡ length bytes.now }
-    ensures chars { result.chars ≡ count_by begins_char bytes.now }
-    ensures pairs { result.utf16_surrogates ≡ count_by begins_pair bytes.now }
-    ensures break_count { byte_break_count breaks bytes.now ≡ result.break_count + byte_break_count breaks (drop (length bytes.now) bytes.now) }
+    ensures { AreCounts breaks bytes.now result }
 {
     known_set!(breaks => count_known(bytes, breaks))
 }
@@ -388,10 +375,7 @@ fn count_many(bytes: &[u8], breaks: LineBreaks) -> TextInfo
 /// What the bytes of a text count, by one pass.
 #[inline(always)]
 pub(crate) fn count_all(bytes: &[u8], breaks: LineBreaks) -> TextInfo
-    ensures bytes { result.bytes ≡ length bytes.now }
-    ensures chars { result.chars ≡ count_by begins_char bytes.now }
-    ensures pairs { result.utf16_surrogates ≡ count_by begins_pair bytes.now }
-    ensures break_count { byte_break_count breaks bytes.now ≡ result.break_count + byte_break_count breaks (drop (length bytes.now) bytes.now) }
+    ensures { AreCounts breaks bytes.now result }
 {
     if bytes.len() == 1 {
         count_one(bytes, breaks)

@@ -4,7 +4,7 @@
 ghost use Rattle.std.specs.Prelude.{◌≡◌, ◌+◌, ◌<◌, ◌≤◌, length, count_by, drop, slice_index, IsTrue};
 ghost use Rattle.rope_text.specs.Bytes.{begins_char, begins_pair};
 ghost use Rattle.rope_text.specs.ByteBreaks.{byte_break_count, unit_count};
-ghost use Rattle.rope_text.specs.Marks.{marks, ahead, IsMark};
+ghost use Rattle.rope_text.specs.Marks.{IsPlaceOf, IsPassed};
 
 use crate::bits::{ones_before, place_of_mark};
 use crate::lanes::{Mark, ahead, is_mark, known_mask, marks_between, marks_in, mask};
@@ -15,10 +15,7 @@ use crate::text_info::TextInfo;
 #[inline(always)]
 fn find(bytes: &[u8], from: usize, n: usize, mark: Mark) -> usize
     requires { from ≤ length bytes.now }
-    ensures from { from ≤ result }
-    ensures bound { result ≤ length bytes.now }
-    ensures inside { result < length bytes.now → IsMark mark bytes.now from n result }
-    ensures end { result ≡ length bytes.now → marks mark (drop from bytes.now) ≤ n }
+    ensures { IsPlaceOf mark bytes.now from n result }
 {
     let mut left = n;
     for at in from..bytes.len() {
@@ -36,10 +33,7 @@ fn find(bytes: &[u8], from: usize, n: usize, mark: Mark) -> usize
 #[inline(always)]
 fn find_from(bytes: &[u8], from: usize, n: usize, mark: Mark) -> usize
     requires { from ≤ length bytes.now }
-    ensures from { from ≤ result }
-    ensures bound { result ≤ length bytes.now }
-    ensures inside { result < length bytes.now → IsMark mark bytes.now from n result }
-    ensures end { result ≡ length bytes.now → marks mark (drop from bytes.now) ≤ n }
+    ensures { IsPlaceOf mark bytes.now from n result }
 {
     let mut at = from;
     let mut left = n;
@@ -58,8 +52,7 @@ fn find_from(bytes: &[u8], from: usize, n: usize, mark: Mark) -> usize
 // The pairs of blocks before the character `n`: their end, and which character it is from there on.
 #[inline(always)]
 fn skip_chars(bytes: &[u8], n: usize) -> (usize, usize)
-    ensures bound { result.0 ≤ length bytes.now }
-    ensures counted { count_by begins_char bytes.now + result.1 ≡ n + count_by begins_char (drop result.0 bytes.now) }
+    ensures { IsPassed Mark.Char bytes.now n result.0 result.1 }
 {
     let mut at = 0;
     let mut left = n;
@@ -80,8 +73,7 @@ fn skip_chars(bytes: &[u8], n: usize) -> (usize, usize)
 fn skip_chars_back(bytes: &[u8], n: usize, chars: usize) -> (usize, usize)
     requires within { n ≤ chars }
     requires chars { chars ≡ count_by begins_char bytes.now }
-    ensures bound { result.0 ≤ length bytes.now }
-    ensures counted { count_by begins_char bytes.now + result.1 ≡ n + count_by begins_char (drop result.0 bytes.now) }
+    ensures { IsPassed Mark.Char bytes.now n result.0 result.1 }
 {
     let mut at = bytes.len();
     // The characters from `n` on that begin before `at`.
@@ -99,9 +91,7 @@ fn skip_chars_back(bytes: &[u8], n: usize, chars: usize) -> (usize, usize)
 
 /// The byte at which the character `n` begins.
 pub(crate) fn place_of_char(bytes: &[u8], n: usize) -> usize
-    ensures bound { result ≤ length bytes.now }
-    ensures inside { result < length bytes.now → IsMark Mark.Char bytes.now 0 n result }
-    ensures end { result ≡ length bytes.now → count_by begins_char bytes.now ≤ n }
+    ensures { IsPlaceOf Mark.Char bytes.now 0 n result }
 {
     let (from, left) = skip_chars(bytes, n);
     find_from(bytes, from, left, Mark::Char)
@@ -110,9 +100,7 @@ pub(crate) fn place_of_char(bytes: &[u8], n: usize) -> usize
 /// The same, where it is known how many characters there are: the side of it that has fewer of them is gone over.
 pub(crate) fn place_of_char_of(bytes: &[u8], n: usize, chars: usize) -> usize
     requires { chars ≡ count_by begins_char bytes.now }
-    ensures bound { result ≤ length bytes.now }
-    ensures inside { result < length bytes.now → IsMark Mark.Char bytes.now 0 n result }
-    ensures end { result ≡ length bytes.now → count_by begins_char bytes.now ≤ n }
+    ensures { IsPlaceOf Mark.Char bytes.now 0 n result }
 {
     if n >= chars {
         return bytes.len();
@@ -180,9 +168,7 @@ pub(crate) fn place_of_unit(bytes: &[u8], n: usize) -> (usize, usize)
 #[tactic(auto, using(crate::proofs::Blocks::byte_break_count_le))]
 #[inline(always)]
 pub(crate) fn line_of_char(bytes: &[u8], n: usize, breaks: LineBreaks) -> (usize, usize)
-    ensures bound { result.0 ≤ length bytes.now }
-    ensures inside { result.0 < length bytes.now → IsMark Mark.Char bytes.now 0 n result.0 }
-    ensures end { result.0 ≡ length bytes.now → count_by begins_char bytes.now ≤ n }
+    ensures place { IsPlaceOf Mark.Char bytes.now 0 n result.0 }
     ensures break_count { byte_break_count breaks bytes.now ≡ result.1 + byte_break_count breaks (drop result.0 bytes.now) }
 {
     let mut at = 0;
@@ -207,8 +193,7 @@ pub(crate) fn line_of_char(bytes: &[u8], n: usize, breaks: LineBreaks) -> (usize
 #[tactic(auto, using(crate::proofs::Blocks::begins_le, crate::proofs::Blocks::pairs_le))]
 #[inline(always)]
 fn skip_known(bytes: &[u8], n: usize, breaks: LineBreaks) -> (usize, TextInfo)
-    ensures bound { result.1.bytes ≤ length bytes.now }
-    ensures counted { byte_break_count breaks bytes.now + result.0 ≡ n + byte_break_count breaks (drop result.1.bytes bytes.now) }
+    ensures passed { IsPassed (Mark.Break breaks) bytes.now n result.1.bytes result.0 }
     ensures chars { count_by begins_char bytes.now ≡ result.1.chars + count_by begins_char (drop result.1.bytes bytes.now) }
     ensures pairs { count_by begins_pair bytes.now ≡ result.1.utf16_surrogates + count_by begins_pair (drop result.1.bytes bytes.now) }
 {
@@ -233,9 +218,7 @@ fn skip_known(bytes: &[u8], n: usize, breaks: LineBreaks) -> (usize, TextInfo)
 #[tactic(auto, using(crate::proofs::Blocks::begins_le, crate::proofs::Blocks::pairs_le))]
 #[inline(always)]
 pub(crate) fn before_break(bytes: &[u8], n: usize, breaks: LineBreaks) -> TextInfo
-    ensures bound { result.bytes ≤ length bytes.now }
-    ensures inside { result.bytes < length bytes.now → IsMark (Mark.Break breaks) bytes.now 0 n result.bytes }
-    ensures end { result.bytes ≡ length bytes.now → byte_break_count breaks bytes.now ≤ n }
+    ensures place { IsPlaceOf (Mark.Break breaks) bytes.now 0 n result.bytes }
     ensures chars { count_by begins_char bytes.now ≡ result.chars + count_by begins_char (drop result.bytes bytes.now) }
     ensures pairs { count_by begins_pair bytes.now ≡ result.utf16_surrogates + count_by begins_pair (drop result.bytes bytes.now) }
 {
