@@ -20,6 +20,14 @@ pub enum ReadError {
 /// What a call that reads a text returns.
 pub type ReadResult<T> = Result<T, ReadError>;
 
+impl From<Error> for ReadError {
+    ghost from_gives = { λ e r. r ≡ Rope e };
+
+    fn from(error: Error) -> ReadError {
+        ReadError::Rope(error)
+    }
+}
+
 impl fmt::Display for ReadError {
     ghost output = { λ e. Some (read_error_text e) };
 
@@ -41,11 +49,3 @@ impl fmt::Debug for ReadError {
 }
 
 impl std::error::Error for ReadError {}
-
-impl From<Error> for ReadError {
-    ghost from_gives = { λ e r. r ≡ Rope e };
-
-    fn from(error: Error) -> ReadError {
-        ReadError::Rope(error)
-    }
-}

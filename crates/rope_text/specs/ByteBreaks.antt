@@ -1,5 +1,5 @@
 -- Line breaks, code units and widths over the bytes of a text. Private working definitions: only clauses of private functions cite them.
-use Rattle.std.specs.Prelude.{◌≡◌, ℕ, ◌+◌, Bool, cond, not, count_by, nat_lt, if◌then◌else◌, ◌&&◌, ◌||◌, ◌==◌, List, [], ◌∷◌, length, drop, get_or}
+use Rattle.std.specs.Prelude.{◌≡◌, ℕ, ◌+◌, ◌<◌, ◌≤◌, Bool, IsTrue, slice_index, cond, not, count_by, nat_lt, if◌then◌else◌, ◌&&◌, ◌||◌, ◌==◌, List, [], ◌∷◌, length, drop, get_or}
 use Rattle.std.specs.Int.{is_in_range}
 use Rattle.rope_text.specs.Bytes.{begins_char, begins_pair}
 use Rattle.rope_text.specs.declared.line_breaks.LineBreaks.{LineBreaks}
@@ -36,6 +36,15 @@ pub record AreCounts (breaks : LineBreaks) (bytes : List ℕ) (counts : TextInfo
 -- how many code units the bytes take in UTF-16
 abbrev pub unit_count : List ℕ → ℕ
 unit_count bytes = count_by begins_char bytes + count_by begins_pair bytes
+
+-- where the character begins that holds the code unit n, counted from the byte `from` on: there, or at the end where there are no
+-- more than n
+pub record IsUnitPlaceOf (bytes : List ℕ) (from n place : ℕ) : Type 0 where
+  pub not_before : from ≤ place
+  pub bound : place ≤ length bytes
+  pub begins : place < length bytes → IsTrue (begins_char (slice_index bytes place))
+  pub before : unit_count (drop from bytes) ≤ n + unit_count (drop place bytes)
+  pub after : place < length bytes → n + unit_count (drop (place + 1) bytes) < unit_count (drop from bytes)
 
 -- how many bytes the character has that begins with the byte
 abbrev pub char_width : ℕ → ℕ

@@ -1,9 +1,9 @@
 //! Searches for places in the bytes of a text: whole blocks of 32 bytes are counted until the one that holds
 //! the place, and that one is halved. What is left behind the last block is gone through byte by byte.
 //! A place that isn't there is the end.
-ghost use Rattle.std.specs.Prelude.{◌≡◌, ◌+◌, ◌<◌, ◌≤◌, length, count_by, drop, slice_index, IsTrue};
+ghost use Rattle.std.specs.Prelude.{◌≡◌, ◌+◌, ◌≤◌, length, count_by, drop};
 ghost use Rattle.rope_text.specs.Bytes.{begins_char, begins_pair};
-ghost use Rattle.rope_text.specs.ByteBreaks.{byte_break_count, unit_count};
+ghost use Rattle.rope_text.specs.ByteBreaks.{byte_break_count, IsUnitPlaceOf};
 ghost use Rattle.rope_text.specs.Marks.{IsPlaceOf, IsPassed};
 
 use crate::bits::{ones_before, place_of_mark};
@@ -116,11 +116,7 @@ pub(crate) fn place_of_char_of(bytes: &[u8], n: usize, chars: usize) -> usize
 // The byte at which the character begins that holds the code unit `n`, counted from the byte `from` on, byte by byte.
 fn find_unit(bytes: &[u8], from: usize, n: usize) -> usize
     requires { from ≤ length bytes.now }
-    ensures from { from ≤ result }
-    ensures bound { result ≤ length bytes.now }
-    ensures begins { result < length bytes.now → IsTrue (begins_char (slice_index bytes.now result)) }
-    ensures before { unit_count (drop from bytes.now) ≤ n + unit_count (drop result bytes.now) }
-    ensures after { result < length bytes.now → n + unit_count (drop (result + 1) bytes.now) < unit_count (drop from bytes.now) }
+    ensures { IsUnitPlaceOf bytes.now from n result }
 {
     let mut left = n;
     for at in from..bytes.len() {
@@ -138,10 +134,7 @@ fn find_unit(bytes: &[u8], from: usize, n: usize) -> usize
 /// The byte at which the character begins that holds the code unit `n`, and how many characters begin before it.
 #[tactic(auto, using(crate::proofs::Blocks::begins_le))]
 pub(crate) fn place_of_unit(bytes: &[u8], n: usize) -> (usize, usize)
-    ensures bound { result.0 ≤ length bytes.now }
-    ensures begins { result.0 < length bytes.now → IsTrue (begins_char (slice_index bytes.now result.0)) }
-    ensures before { unit_count bytes.now ≤ n + unit_count (drop result.0 bytes.now) }
-    ensures after { result.0 < length bytes.now → n + unit_count (drop (result.0 + 1) bytes.now) < unit_count bytes.now }
+    ensures place { IsUnitPlaceOf bytes.now 0 n result.0 }
     ensures chars { count_by begins_char bytes.now ≡ result.1 + count_by begins_char (drop result.0 bytes.now) }
 {
     let mut at = 0;
