@@ -1,7 +1,7 @@
 //! Cursors over the bytes, the characters and the chunks of a slice. No call takes memory.
 //!
 //! A cursor stands between two items. Over the characters of the slice `1..3` of `"abcd"`, `chars()` gives `b`,
-//! then `c`, then none.
+//! then `c`, then none. The calls that test their index stand last.
 ghost use Rattle.std.specs.Prelude.{◌≡◌, ◌≤◌, length};
 ghost use Rattle.std.specs.Str.{encode_utf8_all};
 ghost use Rattle.rope_text.specs.Text.{byte_len};
@@ -34,14 +34,6 @@ impl<'a> RopeSlice<'a> {
         Bytes::at(&self.part, byte_idx)
     }
 
-    /// As `bytes_at`, or `None` exactly where the index is past `len_bytes()`. Costs one or two look-ups; takes no
-    /// memory.
-    pub fn get_bytes_at(&self, byte_idx: usize) -> Option<Bytes<'a>>
-        ensures { GivesWithin byte_idx (byte_len (text_of self.now)) result (λ bytes. bytes ≡ at_place (encode_utf8_all (text_of self.now)) byte_idx) }
-    {
-        Some(self.bytes_at(within(byte_idx, self.len_bytes())?))
-    }
-
     /// A cursor over the characters, before the first, facing forward. Costs one or two look-ups; takes no memory.
     pub fn chars(&self) -> Chars<'a>
         ensures { result ≡ at_start (text_of self.now) }
@@ -58,14 +50,6 @@ impl<'a> RopeSlice<'a> {
         ensures { result ≡ at_place (text_of self.now) char_idx }
     {
         Chars::at(&self.part, char_idx)
-    }
-
-    /// As `chars_at`, or `None` exactly where the index is past `len_chars()`. Costs one or two look-ups; takes no
-    /// memory.
-    pub fn get_chars_at(&self, char_idx: usize) -> Option<Chars<'a>>
-        ensures { GivesWithin char_idx (length (text_of self.now)) result (λ chars. chars ≡ at_place (text_of self.now) char_idx) }
-    {
-        Some(self.chars_at(within(char_idx, self.len_chars())?))
     }
 
     /// A cursor over the chunks, before the first, facing forward. Costs one or two look-ups; takes no memory.
@@ -87,15 +71,6 @@ impl<'a> RopeSlice<'a> {
         Chunks::at_byte(&self.part, byte_idx)
     }
 
-    /// As `chunks_at_byte`, or `None` exactly where the index is past `len_bytes()`. Costs one or two look-ups;
-    /// takes no memory.
-    pub fn get_chunks_at_byte(&self, byte_idx: usize) -> Option<(Chunks<'a>, usize, usize, usize)>
-        ensures { GivesWithin byte_idx (byte_len (text_of self.now)) result
-            (StandsBefore (content_of self.now) (chunk_place_at_byte (chunks_of self.now) byte_idx)) }
-    {
-        Some(self.chunks_at_byte(within(byte_idx, self.len_bytes())?))
-    }
-
     /// A cursor over the chunks, before the chunk that holds the character `char_idx`, facing forward; for
     /// `len_chars()` it stands past the last chunk. With it the numbers of bytes, of characters and of line breaks
     /// that end before the cursor.
@@ -108,15 +83,6 @@ impl<'a> RopeSlice<'a> {
         Chunks::at_char(&self.part, char_idx)
     }
 
-    /// As `chunks_at_char`, or `None` exactly where the index is past `len_chars()`. Costs one or two look-ups;
-    /// takes no memory.
-    pub fn get_chunks_at_char(&self, char_idx: usize) -> Option<(Chunks<'a>, usize, usize, usize)>
-        ensures { GivesWithin char_idx (length (text_of self.now)) result
-            (StandsBefore (content_of self.now) (chunk_place_at_char (chunks_of self.now) char_idx)) }
-    {
-        Some(self.chunks_at_char(within(char_idx, self.len_chars())?))
-    }
-
     /// A cursor over the chunks, before the first chunk by whose end `line_break_idx` line breaks have ended, or
     /// else before the last, facing forward; for `len_lines()` it stands past the last chunk. With it the numbers
     /// of bytes, of characters and of line breaks that end before the cursor.
@@ -127,6 +93,40 @@ impl<'a> RopeSlice<'a> {
         ensures { StandsBefore (content_of self.now) (chunk_place_at_line_break (breaks_of self.now) (chunks_of self.now) line_break_idx) result }
     {
         Chunks::at_line_break(&self.part, line_break_idx)
+    }
+
+    /// As `bytes_at`, or `None` exactly where the index is past `len_bytes()`. Costs one or two look-ups; takes no
+    /// memory.
+    pub fn get_bytes_at(&self, byte_idx: usize) -> Option<Bytes<'a>>
+        ensures { GivesWithin byte_idx (byte_len (text_of self.now)) result (λ bytes. bytes ≡ at_place (encode_utf8_all (text_of self.now)) byte_idx) }
+    {
+        Some(self.bytes_at(within(byte_idx, self.len_bytes())?))
+    }
+
+    /// As `chars_at`, or `None` exactly where the index is past `len_chars()`. Costs one or two look-ups; takes no
+    /// memory.
+    pub fn get_chars_at(&self, char_idx: usize) -> Option<Chars<'a>>
+        ensures { GivesWithin char_idx (length (text_of self.now)) result (λ chars. chars ≡ at_place (text_of self.now) char_idx) }
+    {
+        Some(self.chars_at(within(char_idx, self.len_chars())?))
+    }
+
+    /// As `chunks_at_byte`, or `None` exactly where the index is past `len_bytes()`. Costs one or two look-ups;
+    /// takes no memory.
+    pub fn get_chunks_at_byte(&self, byte_idx: usize) -> Option<(Chunks<'a>, usize, usize, usize)>
+        ensures { GivesWithin byte_idx (byte_len (text_of self.now)) result
+            (StandsBefore (content_of self.now) (chunk_place_at_byte (chunks_of self.now) byte_idx)) }
+    {
+        Some(self.chunks_at_byte(within(byte_idx, self.len_bytes())?))
+    }
+
+    /// As `chunks_at_char`, or `None` exactly where the index is past `len_chars()`. Costs one or two look-ups;
+    /// takes no memory.
+    pub fn get_chunks_at_char(&self, char_idx: usize) -> Option<(Chunks<'a>, usize, usize, usize)>
+        ensures { GivesWithin char_idx (length (text_of self.now)) result
+            (StandsBefore (content_of self.now) (chunk_place_at_char (chunks_of self.now) char_idx)) }
+    {
+        Some(self.chunks_at_char(within(char_idx, self.len_chars())?))
     }
 
     /// As `chunks_at_line_break`, or `None` exactly where the index is past `len_lines()`. Costs one or two

@@ -1,5 +1,5 @@
 //! Bytes, characters and chunks of a slice by their index, counted from the slice's start. Of the slice `1..3` of
-//! `"héllo"`, `char(0)` is `é`, and `chunk_at_char(1)` is `("él", 0, 0, 0)`.
+//! `"héllo"`, `char(0)` is `é`, and `chunk_at_char(1)` is `("él", 0, 0, 0)`. The calls that test their index stand last.
 ghost use Rattle.std.specs.Prelude.{◌≡◌, ◌<◌, ◌≤◌, length, slice_get, Some, Err, MatchOption, IsOkAnd, OnSome, IfSome, IfNone};
 ghost use Rattle.std.specs.Str.{chars, encode_utf8_all};
 ghost use Rattle.rope_text.specs.Text.{byte_len};
@@ -25,6 +25,61 @@ impl<'a> RopeSlice<'a> {
         self.part.byte(byte_idx)
     }
 
+    /// The character `char_idx`, counted from 0.
+    ///
+    /// The index is below `len_chars()`. Costs one or two look-ups; takes no memory.
+    pub fn char(&self, char_idx: usize) -> char
+        requires { char_idx < length (text_of self.now) }
+        ensures { slice_get (text_of self.now) char_idx ≡ Some result }
+    {
+        self.part.char(char_idx)
+    }
+
+    /// The chunk that holds the byte `byte_idx`, and at the end of the text the last chunk. With it the numbers of
+    /// bytes, of characters and of line breaks that end before the chunk; with no chunk at all `("", 0, 0, 0)`.
+    ///
+    /// The index is at most `len_bytes()`. Costs one or two look-ups; takes no memory.
+    pub fn chunk_at_byte(&self, byte_idx: usize) -> (&'a str, usize, usize, usize)
+        requires { byte_idx ≤ byte_len (text_of self.now) }
+        ensures { ShowsChunk (content_of self.now) (chunk_index_at_byte (chunks_of self.now) byte_idx) result }
+    {
+        self.part.chunk_at(Unit::Byte, byte_idx)
+    }
+
+    /// The chunk that holds the character `char_idx`, and at the end of the text the last chunk. With it the
+    /// numbers of bytes, of characters and of line breaks that end before the chunk; with no chunk at all `("", 0,
+    /// 0, 0)`.
+    ///
+    /// The index is at most `len_chars()`. Costs one or two look-ups; takes no memory.
+    pub fn chunk_at_char(&self, char_idx: usize) -> (&'a str, usize, usize, usize)
+        requires { char_idx ≤ length (text_of self.now) }
+        ensures { ShowsChunk (content_of self.now) (chunk_index_at_char (chunks_of self.now) char_idx) result }
+    {
+        self.part.chunk_at(Unit::Char, char_idx)
+    }
+
+    /// The first chunk by whose end `line_break_idx` line breaks have ended, and the last chunk where there is none
+    /// such. With it the numbers of bytes, of characters and of line breaks that end before the chunk; with no
+    /// chunk at all `("", 0, 0, 0)`.
+    ///
+    /// The index is at most `len_lines()`. Costs one or two look-ups; takes no memory.
+    pub fn chunk_at_line_break(&self, line_break_idx: usize) -> (&'a str, usize, usize, usize)
+        requires { line_break_idx ≤ line_count (breaks_of self.now) (text_of self.now) }
+        ensures { ShowsChunk (content_of self.now) (chunk_index_at_line_break (breaks_of self.now) (chunks_of self.now) line_break_idx) result }
+    {
+        self.part.chunk_at_line_break(line_break_idx)
+    }
+
+    /// The whole text, exactly where the slice has at most one chunk, and else `None`. Costs at most two look-ups;
+    /// takes no memory.
+    pub fn as_str(&self) -> Option<&'a str>
+        ensures one { OnSome result (length (chunks_of self.now) ≤ 1) }
+        ensures more { IfNone result (1 < length (chunks_of self.now)) }
+        ensures value { IfSome result (λ s. chars s.now ≡ text_of self.now) }
+    {
+        self.part.as_str()
+    }
+
     /// The byte `byte_idx`, counted from 0, or `None` exactly where the index is `len_bytes()` or past it. Costs
     /// one or two look-ups; takes no memory.
     pub fn get_byte(&self, byte_idx: usize) -> Option<u8>
@@ -37,16 +92,6 @@ impl<'a> RopeSlice<'a> {
         }
     }
 
-    /// The character `char_idx`, counted from 0.
-    ///
-    /// The index is below `len_chars()`. Costs one or two look-ups; takes no memory.
-    pub fn char(&self, char_idx: usize) -> char
-        requires { char_idx < length (text_of self.now) }
-        ensures { slice_get (text_of self.now) char_idx ≡ Some result }
-    {
-        self.part.char(char_idx)
-    }
-
     /// The character `char_idx`, counted from 0, or `None` exactly where the index is `len_chars()` or past it.
     /// Costs one or two look-ups; takes no memory.
     pub fn get_char(&self, char_idx: usize) -> Option<char>
@@ -57,17 +102,6 @@ impl<'a> RopeSlice<'a> {
         } else {
             None
         }
-    }
-
-    /// The chunk that holds the byte `byte_idx`, and at the end of the text the last chunk. With it the numbers of
-    /// bytes, of characters and of line breaks that end before the chunk; with no chunk at all `("", 0, 0, 0)`.
-    ///
-    /// The index is at most `len_bytes()`. Costs one or two look-ups; takes no memory.
-    pub fn chunk_at_byte(&self, byte_idx: usize) -> (&'a str, usize, usize, usize)
-        requires { byte_idx ≤ byte_len (text_of self.now) }
-        ensures { ShowsChunk (content_of self.now) (chunk_index_at_byte (chunks_of self.now) byte_idx) result }
-    {
-        self.part.chunk_at(Unit::Byte, byte_idx)
     }
 
     /// As `chunk_at_byte`, for any index. Costs one or two look-ups; takes no memory.
@@ -86,18 +120,6 @@ impl<'a> RopeSlice<'a> {
         Ok(self.chunk_at_byte(idx))
     }
 
-    /// The chunk that holds the character `char_idx`, and at the end of the text the last chunk. With it the
-    /// numbers of bytes, of characters and of line breaks that end before the chunk; with no chunk at all `("", 0,
-    /// 0, 0)`.
-    ///
-    /// The index is at most `len_chars()`. Costs one or two look-ups; takes no memory.
-    pub fn chunk_at_char(&self, char_idx: usize) -> (&'a str, usize, usize, usize)
-        requires { char_idx ≤ length (text_of self.now) }
-        ensures { ShowsChunk (content_of self.now) (chunk_index_at_char (chunks_of self.now) char_idx) result }
-    {
-        self.part.chunk_at(Unit::Char, char_idx)
-    }
-
     /// As `chunk_at_char`, or `None` exactly where the index is past `len_chars()`. Costs one or two look-ups;
     /// takes no memory.
     pub fn get_chunk_at_char(&self, char_idx: usize) -> Option<(&'a str, usize, usize, usize)>
@@ -105,18 +127,6 @@ impl<'a> RopeSlice<'a> {
             (ShowsChunk (content_of self.now) (chunk_index_at_char (chunks_of self.now) char_idx)) }
     {
         Some(self.chunk_at_char(within(char_idx, self.len_chars())?))
-    }
-
-    /// The first chunk by whose end `line_break_idx` line breaks have ended, and the last chunk where there is none
-    /// such. With it the numbers of bytes, of characters and of line breaks that end before the chunk; with no
-    /// chunk at all `("", 0, 0, 0)`.
-    ///
-    /// The index is at most `len_lines()`. Costs one or two look-ups; takes no memory.
-    pub fn chunk_at_line_break(&self, line_break_idx: usize) -> (&'a str, usize, usize, usize)
-        requires { line_break_idx ≤ line_count (breaks_of self.now) (text_of self.now) }
-        ensures { ShowsChunk (content_of self.now) (chunk_index_at_line_break (breaks_of self.now) (chunks_of self.now) line_break_idx) result }
-    {
-        self.part.chunk_at_line_break(line_break_idx)
     }
 
     /// As `chunk_at_line_break`, or `None` exactly where the index is past `len_lines()`. Costs one or two
@@ -129,15 +139,5 @@ impl<'a> RopeSlice<'a> {
             (ShowsChunk (content_of self.now) (chunk_index_at_line_break (breaks_of self.now) (chunks_of self.now) line_break_idx)) }
     {
         Some(self.chunk_at_line_break(within(line_break_idx, self.len_lines())?))
-    }
-
-    /// The whole text, exactly where the slice has at most one chunk, and else `None`. Costs at most two look-ups;
-    /// takes no memory.
-    pub fn as_str(&self) -> Option<&'a str>
-        ensures one { OnSome result (length (chunks_of self.now) ≤ 1) }
-        ensures more { IfNone result (1 < length (chunks_of self.now)) }
-        ensures value { IfSome result (λ s. chars s.now ≡ text_of self.now) }
-    {
-        self.part.as_str()
     }
 }

@@ -1,5 +1,5 @@
 //! Counts over the bytes of a text, 32 bytes at once.
-ghost use Rattle.std.specs.Prelude.{◌≡◌, ◌+◌, ◌-◌, ◌*◌, ◌%◌, ◌<◌, ◌≤◌, length, cond, count_by, drop, List, ℕ};
+ghost use Rattle.std.specs.Prelude.{◌≡◌, ◌+◌, ◌-◌, ◌*◌, ◌<◌, ◌≤◌, length, cond, count_by, drop, List, ℕ};
 ghost use Rattle.rope_text.specs.Bytes.{begins_char, begins_pair};
 ghost use Rattle.rope_text.specs.ByteBreaks.{byte_break_count, unit_count, AreCounts};
 ghost use Rattle.rope_text.specs.Marks.{IsLanes, IsBlockMask, narrow_mark, mark_at, marks, ahead, lf_or_cr_lf};
