@@ -13,8 +13,7 @@ ghost use Rattle.rope_tree.specs.Conversions.{end_index, are_converted, converte
 ghost use Rattle.rope_slice.specs.Slice.{text_of, breaks_of};
 ghost use Rattle.rope_slice.specs.Refusals.{index_error};
 
-use crate::bounds::within;
-use crate::slice::RopeSlice;
+use crate::slice::{RopeSlice, within};
 use rope_text::{Error, Result};
 use rope_tree::conversions::first_sought;
 use rope_tree::search::{Unit, count};

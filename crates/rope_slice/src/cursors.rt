@@ -11,8 +11,7 @@ ghost use Rattle.rope_text.specs.Sides.{at_start, at_place};
 ghost use Rattle.rope_slice.specs.Slice.{content_of, text_of, chunks_of, breaks_of};
 ghost use Rattle.rope_slice.specs.Found.{GivesWithin, StandsBefore};
 
-use crate::bounds::within;
-use crate::slice::RopeSlice;
+use crate::slice::{RopeSlice, within};
 use rope_cursor::{Bytes, Chars, Chunks};
 
 impl<'a> RopeSlice<'a> {

@@ -9,8 +9,7 @@ ghost use Rattle.rope_text.specs.Lookup.{chunk_index_at_byte, chunk_index_at_cha
 ghost use Rattle.rope_slice.specs.Slice.{content_of, text_of, chunks_of, breaks_of};
 ghost use Rattle.rope_slice.specs.Found.{GivesWithin, ShowsChunk};
 
-use crate::bounds::within;
-use crate::slice::RopeSlice;
+use crate::slice::{RopeSlice, within};
 use rope_text::{Error, Result};
 use rope_tree::search::Unit;
 
