@@ -1,5 +1,7 @@
 //! Why no rope was read.
 ghost use Rattle.std.specs.Prelude.{◌≡◌, Some};
+ghost use Rattle.rope_io.specs.ReadErrorText.{read_error_text};
+ghost use Rattle.rope_io.specs.declared.error.ReadError.TheVariants.{Rope};
 
 use rope_text::Error;
 use std::{fmt, io};
@@ -18,10 +20,15 @@ pub enum ReadError {
 /// What a call that reads a text returns.
 pub type ReadResult<T> = Result<T, ReadError>;
 
-impl fmt::Display for ReadError {
-    ghost use Rattle.std.specs.Prelude.{Some};
-    ghost use Rattle.rope_io.specs.ReadErrorText.{read_error_text};
+impl From<Error> for ReadError {
+    ghost from_gives = { λ e r. r ≡ Rope e };
 
+    fn from(error: Error) -> ReadError {
+        ReadError::Rope(error)
+    }
+}
+
+impl fmt::Display for ReadError {
     ghost output = { λ e. Some (read_error_text e) };
 
     fn fmt<W: fmt::Write>(&self, f: &mut fmt::Formatter<W>) -> fmt::Result {
@@ -34,9 +41,6 @@ impl fmt::Display for ReadError {
 }
 
 impl fmt::Debug for ReadError {
-    ghost use Rattle.std.specs.Prelude.{Some};
-    ghost use Rattle.rope_io.specs.ReadErrorText.{read_error_text};
-
     ghost debug_output = { λ e. Some (read_error_text e) };
 
     fn fmt<W: fmt::Write>(&self, f: &mut fmt::Formatter<W>) -> fmt::Result {
@@ -45,14 +49,3 @@ impl fmt::Debug for ReadError {
 }
 
 impl std::error::Error for ReadError {}
-
-impl From<Error> for ReadError {
-    ghost use Rattle.std.specs.Prelude.{◌≡◌};
-    ghost use Rattle.rope_io.specs.declared.error.ReadError.TheVariants.{Rope};
-
-    ghost from_gives = { λ e r. r ≡ Rope e };
-
-    fn from(error: Error) -> ReadError {
-        ReadError::Rope(error)
-    }
-}

@@ -1,5 +1,5 @@
 //! Texts read to the reader's end.
-ghost use Rattle.std.specs.Prelude.{◌≡◌, ◌+◌, ◌-◌, ◌^◌, ◌<◌, ◌≤◌, ◌*◌, ◌/◌, ◌++◌, false, [], length, take, None, IsOk, OnOk, IfOk, IfErr};
+ghost use Rattle.std.specs.Prelude.{◌≡◌, ◌+◌, ◌-◌, ◌^◌, ◌<◌, ◌≤◌, ◌/◌, ◌++◌, false, [], length, take, None, IsOk, OnOk, IfOk, IfErr};
 ghost use Rattle.std.specs.Str.{IsUtf8, chars, encode_utf8_all};
 ghost use Rattle.rope_text.specs.declared.TheConstants.{MIN_CUT_BYTES};
 ghost use Rattle.rope_text.specs.Text.{byte_len};
@@ -118,8 +118,5 @@ pub fn read_tree<S: Source>(alloc: Global, source: &mut S, breaks: LineBreaks) -
     source.clear();
     let mut builder = Builder::new(alloc, breaks);
     read_texts(source, &mut builder)?;
-    match builder.finish(&mut Maker::new(alloc)) {
-        Ok(root) => Ok(root),
-        Err(_) => Err(ReadError::Rope(Error::OutOfMemory)),
-    }
+    Ok(builder.finish(&mut Maker::new(alloc)).map_err(Error::from)?)
 }

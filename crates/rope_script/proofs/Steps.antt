@@ -1,9 +1,8 @@
 -- Steps of code, as those of the cursor that a walk speaks of.
-use Rattle.std.proofs.Common.{◌≡◌, ℕ, zero, suc, ◌+◌, ◌-◌, ◌==◌, ◌≤◌, nat_le, List, ◌∷◌, ◌++◌, length, take, drop, Bool, true, false, cond, MatchBool, Option, ap, sym, subst, ◌∙◌, arith}
+use Rattle.std.proofs.Common.{◌≡◌, ℕ, ◌==◌, ◌≤◌, List, ◌∷◌, length, take, Bool, true, false, cond, MatchBool, Option, ap, sym, subst, ◌∙◌, arith}
 use Rattle.std.specs.Option.{option_map}
 use Rattle.std.proofs.lemmas.List.{take-append-drop, length-take-le}
 use Rattle.std.specs.List.{concat}
-use Rattle.rope_text.specs.declared.line_breaks.LineBreaks.{LineBreaks}
 use Rattle.rope_text.specs.Content.{Content}
 use Rattle.rope_text.specs.Lines.{line_count}
 use Rattle.rope_text.specs.Text.{byte_len}

@@ -1,5 +1,5 @@
 -- One command on a list of ropes, and runs of commands.
-use Rattle.std.specs.Prelude.{◌≡◌, ℕ, Bool, ◌==◌, ◌⊎◌, ⊤, List, [], ◌∷◌, ◌++◌, length, take, drop, All, slice_get, slice_set, MatchOption, MatchBool, Option, Some, None, Result, Ok, Err}
+use Rattle.std.specs.Prelude.{◌≡◌, ℕ, Bool, ◌==◌, ◌⊎◌, ⊤, List, [], ◌∷◌, ◌++◌, length, take, drop, All, slice_get, slice_set, MatchOption, MatchBool, Option, Result, Ok, Err}
 use Rattle.std.specs.Str.{chars}
 use Rattle.std.specs.String.{string_bytes}
 use Rattle.rope_text.specs.declared.error.Error.{Error}

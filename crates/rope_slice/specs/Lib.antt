@@ -1,3 +1,4 @@
 pub mod Sliced
 pub mod Slice
 pub mod Refusals
+pub mod Found

@@ -1,8 +1,10 @@
 //! Slices compared and hashed by their texts, however they are cut. No call takes memory.
 //!
 //! The slice `1..3` of `"abc"` equals the slice of the plain text `"bc"`.
-ghost use Rattle.std.specs.Prelude.{◌≡◌, IsTrue, ◌↔◌};
-ghost use Rattle.std.specs.Str.{chars};
+ghost use Rattle.std.proofs.Common.{rules};
+ghost use Rattle.std.specs.Cmp.Rules.{comparing};
+ghost use Rattle.std.specs.Ordering.{on};
+ghost use Rattle.rope_text.specs.Compare.{text_cmp};
 ghost use Rattle.rope_slice.specs.Slice.{text_of};
 
 use crate::slice::RopeSlice;
@@ -12,6 +14,9 @@ use std::cmp::Ordering;
 use std::hash::{Hash, Hasher};
 
 impl<'a> RopeSlice<'a> {
+    ghost use Rattle.std.specs.Prelude.{◌≡◌, IsTrue, ◌↔◌};
+    ghost use Rattle.std.specs.Str.{chars};
+
     /// Whether the text is this one. Reads both texts up to where they differ; takes no memory.
     pub fn eq_str(&self, other: &str) -> bool
         ensures { IsTrue result ↔ (text_of self.now ≡ chars other.now) }
@@ -23,9 +28,6 @@ impl<'a> RopeSlice<'a> {
 /// Slices are equal exactly if their texts are, however they are cut and whatever their sets of line breaks.
 impl<'a> PartialEq for RopeSlice<'a> {
     ghost use Rattle.std.specs.Prelude.{◌==◌};
-    ghost use Rattle.std.proofs.Common.{rules};
-    ghost use Rattle.std.specs.Cmp.Rules.{comparing};
-    ghost use Rattle.std.specs.Ordering.{on};
     ghost use lib.Pointwise.{pointwise};
     ghost use Rattle.rope_slice.specs.Slice.{bytes_of};
 
@@ -39,20 +41,11 @@ impl<'a> PartialEq for RopeSlice<'a> {
 }
 
 impl<'a> Eq for RopeSlice<'a> {
-    ghost use Rattle.std.proofs.Common.{rules};
-    ghost use Rattle.std.specs.Cmp.Rules.{comparing};
-
     ghost laws = { Prim.search (comparing, rules) };
 }
 
 /// The lexicographic order of the bytes of the texts, however they are cut.
 impl<'a> Ord for RopeSlice<'a> {
-    ghost use Rattle.std.proofs.Common.{rules};
-    ghost use Rattle.std.specs.Cmp.Rules.{comparing};
-    ghost use Rattle.std.specs.Ordering.{on};
-    ghost use Rattle.rope_text.specs.Compare.{text_cmp};
-    ghost use Rattle.rope_slice.specs.Slice.{text_of};
-
     ghost cmp = { on text_of text_cmp };
 
     ghost total = { Prim.search (comparing, rules) };
@@ -67,12 +60,8 @@ impl<'a> Ord for RopeSlice<'a> {
 }
 
 impl<'a> PartialOrd for RopeSlice<'a> {
-    ghost use Rattle.std.proofs.Common.{rules};
     ghost use Rattle.std.specs.Cmp.{partial_order_from_own_ties};
-    ghost use Rattle.std.specs.Cmp.Rules.{comparing};
-    ghost use Rattle.std.specs.Ordering.{on, as_partial_cmp};
-    ghost use Rattle.rope_text.specs.Compare.{text_cmp};
-    ghost use Rattle.rope_slice.specs.Slice.{text_of};
+    ghost use Rattle.std.specs.Ordering.{as_partial_cmp};
 
     ghost partial_cmp = { as_partial_cmp (on text_of text_cmp) };
 
@@ -86,8 +75,7 @@ impl<'a> PartialOrd for RopeSlice<'a> {
 /// A hasher is handed the bytes of the text in blocks of 256, the last one shorter where need be, and then 0xff: however it
 /// is cut.
 impl<'a> Hash for RopeSlice<'a> {
-    ghost use Rattle.std.proofs.Common.{rules};
-    ghost use Rattle.std.specs.Cmp.Rules.{comparing, hashing};
+    ghost use Rattle.std.specs.Cmp.Rules.{hashing};
     ghost use Rattle.rope_slice.specs.Slice.{writes_of};
 
     ghost hash_input = { writes_of };

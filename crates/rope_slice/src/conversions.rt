@@ -13,8 +13,7 @@ ghost use Rattle.rope_tree.specs.Conversions.{end_index, are_converted, converte
 ghost use Rattle.rope_slice.specs.Slice.{text_of, breaks_of};
 ghost use Rattle.rope_slice.specs.Refusals.{index_error};
 
-use crate::bounds::check;
-use crate::slice::RopeSlice;
+use crate::slice::{RopeSlice, within};
 use rope_text::{Error, Result};
 use rope_tree::conversions::first_sought;
 use rope_tree::search::{Unit, count};
@@ -34,8 +33,7 @@ impl<'a> RopeSlice<'a> {
             Unit::CodeUnit => Error::Utf16IndexOutOfBounds(idx, len),
             Unit::LineBreak => Error::LineIndexOutOfBounds(idx, len),
         };
-        check(idx, len, error)?;
-        Ok(self.part.convert(from, to, idx))
+        Ok(self.part.convert(from, to, within(idx, len).ok_or(error)?))
     }
 
     /// The character, counted from 0, that holds the byte `byte_idx`, also where the byte is inside the character;

@@ -1,17 +1,17 @@
 //! Cursors over the bytes, the characters and the chunks of a slice. No call takes memory.
 //!
 //! A cursor stands between two items. Over the characters of the slice `1..3` of `"abcd"`, `chars()` gives `b`,
-//! then `c`, then none.
-ghost use Rattle.std.specs.Prelude.{◌≡◌, ◌≤◌, ◌<◌, length, MatchOption};
+//! then `c`, then none. The calls that test their index stand last.
+ghost use Rattle.std.specs.Prelude.{◌≡◌, ◌≤◌, length};
 ghost use Rattle.std.specs.Str.{encode_utf8_all};
 ghost use Rattle.rope_text.specs.Text.{byte_len};
 ghost use Rattle.rope_text.specs.Lines.{line_count};
-ghost use Rattle.rope_text.specs.Lookup.{StandsAt, chunk_place_at_byte, chunk_place_at_char, chunk_place_at_line_break};
+ghost use Rattle.rope_text.specs.Lookup.{chunk_place_at_byte, chunk_place_at_char, chunk_place_at_line_break};
 ghost use Rattle.rope_text.specs.Sides.{at_start, at_place};
-ghost use Rattle.rope_slice.specs.Slice.{text_of, chunks_of, breaks_of};
+ghost use Rattle.rope_slice.specs.Slice.{content_of, text_of, chunks_of, breaks_of};
+ghost use Rattle.rope_slice.specs.Found.{GivesWithin, StandsBefore};
 
-use crate::bounds::within;
-use crate::slice::RopeSlice;
+use crate::slice::{RopeSlice, within};
 use rope_cursor::{Bytes, Chars, Chunks};
 use rope_tree::search::Unit;
 
@@ -34,15 +34,6 @@ impl<'a> RopeSlice<'a> {
         Bytes::at(&self.part, byte_idx)
     }
 
-    /// As `bytes_at`, or `None` exactly where the index is past `len_bytes()`. Costs one or two look-ups; takes no
-    /// memory.
-    pub fn get_bytes_at(&self, byte_idx: usize) -> Option<Bytes<'a>>
-        ensures { MatchOption result (byte_len (text_of self.now) < byte_idx)
-            (λ bytes. (byte_idx ≤ byte_len (text_of self.now)) × (bytes ≡ at_place (encode_utf8_all (text_of self.now)) byte_idx)) }
-    {
-        Some(self.bytes_at(within(byte_idx, self.len_bytes())?))
-    }
-
     /// A cursor over the characters, before the first, facing forward. Costs one or two look-ups; takes no memory.
     pub fn chars(&self) -> Chars<'a>
         ensures { result ≡ at_start (text_of self.now) }
@@ -61,15 +52,6 @@ impl<'a> RopeSlice<'a> {
         Chars::at(&self.part, char_idx)
     }
 
-    /// As `chars_at`, or `None` exactly where the index is past `len_chars()`. Costs one or two look-ups; takes no
-    /// memory.
-    pub fn get_chars_at(&self, char_idx: usize) -> Option<Chars<'a>>
-        ensures { MatchOption result (length (text_of self.now) < char_idx)
-            (λ chars. (char_idx ≤ length (text_of self.now)) × (chars ≡ at_place (text_of self.now) char_idx)) }
-    {
-        Some(self.chars_at(within(char_idx, self.len_chars())?))
-    }
-
     /// A cursor over the chunks, before the first, facing forward. Costs one or two look-ups; takes no memory.
     pub fn chunks(&self) -> Chunks<'a>
         ensures { result ≡ at_start (chunks_of self.now) }
@@ -84,20 +66,9 @@ impl<'a> RopeSlice<'a> {
     /// The index is at most `len_bytes()`. Costs one or two look-ups; takes no memory.
     pub fn chunks_at_byte(&self, byte_idx: usize) -> (Chunks<'a>, usize, usize, usize)
         requires { byte_idx ≤ byte_len (text_of self.now) }
-        ensures { StandsAt (breaks_of self.now) (chunks_of self.now) (chunk_place_at_byte (chunks_of self.now) byte_idx)
-            result.0 result.1 result.2 result.3 }
+        ensures { StandsBefore (content_of self.now) (chunk_place_at_byte (chunks_of self.now) byte_idx) result }
     {
         Chunks::at(&self.part, Unit::Byte, byte_idx)
-    }
-
-    /// As `chunks_at_byte`, or `None` exactly where the index is past `len_bytes()`. Costs one or two look-ups;
-    /// takes no memory.
-    pub fn get_chunks_at_byte(&self, byte_idx: usize) -> Option<(Chunks<'a>, usize, usize, usize)>
-        ensures { MatchOption result (byte_len (text_of self.now) < byte_idx)
-            (λ found. (byte_idx ≤ byte_len (text_of self.now)) × StandsAt (breaks_of self.now) (chunks_of self.now)
-            (chunk_place_at_byte (chunks_of self.now) byte_idx) found.0 found.1 found.2 found.3) }
-    {
-        Some(self.chunks_at_byte(within(byte_idx, self.len_bytes())?))
     }
 
     /// A cursor over the chunks, before the chunk that holds the character `char_idx`, facing forward; for
@@ -107,20 +78,9 @@ impl<'a> RopeSlice<'a> {
     /// The index is at most `len_chars()`. Costs one or two look-ups; takes no memory.
     pub fn chunks_at_char(&self, char_idx: usize) -> (Chunks<'a>, usize, usize, usize)
         requires { char_idx ≤ length (text_of self.now) }
-        ensures { StandsAt (breaks_of self.now) (chunks_of self.now) (chunk_place_at_char (chunks_of self.now) char_idx)
-            result.0 result.1 result.2 result.3 }
+        ensures { StandsBefore (content_of self.now) (chunk_place_at_char (chunks_of self.now) char_idx) result }
     {
         Chunks::at(&self.part, Unit::Char, char_idx)
-    }
-
-    /// As `chunks_at_char`, or `None` exactly where the index is past `len_chars()`. Costs one or two look-ups;
-    /// takes no memory.
-    pub fn get_chunks_at_char(&self, char_idx: usize) -> Option<(Chunks<'a>, usize, usize, usize)>
-        ensures { MatchOption result (length (text_of self.now) < char_idx)
-            (λ found. (char_idx ≤ length (text_of self.now)) × StandsAt (breaks_of self.now) (chunks_of self.now)
-            (chunk_place_at_char (chunks_of self.now) char_idx) found.0 found.1 found.2 found.3) }
-    {
-        Some(self.chunks_at_char(within(char_idx, self.len_chars())?))
     }
 
     /// A cursor over the chunks, before the first chunk by whose end `line_break_idx` line breaks have ended, or
@@ -130,10 +90,43 @@ impl<'a> RopeSlice<'a> {
     /// The index is at most `len_lines()`. Costs one or two look-ups; takes no memory.
     pub fn chunks_at_line_break(&self, line_break_idx: usize) -> (Chunks<'a>, usize, usize, usize)
         requires { line_break_idx ≤ line_count (breaks_of self.now) (text_of self.now) }
-        ensures { StandsAt (breaks_of self.now) (chunks_of self.now) (chunk_place_at_line_break (breaks_of self.now) (chunks_of self.now) line_break_idx)
-            result.0 result.1 result.2 result.3 }
+        ensures { StandsBefore (content_of self.now) (chunk_place_at_line_break (breaks_of self.now) (chunks_of self.now) line_break_idx) result }
     {
         Chunks::at_line_break(&self.part, line_break_idx)
+    }
+
+    /// As `bytes_at`, or `None` exactly where the index is past `len_bytes()`. Costs one or two look-ups; takes no
+    /// memory.
+    pub fn get_bytes_at(&self, byte_idx: usize) -> Option<Bytes<'a>>
+        ensures { GivesWithin byte_idx (byte_len (text_of self.now)) result (λ bytes. bytes ≡ at_place (encode_utf8_all (text_of self.now)) byte_idx) }
+    {
+        Some(self.bytes_at(within(byte_idx, self.len_bytes())?))
+    }
+
+    /// As `chars_at`, or `None` exactly where the index is past `len_chars()`. Costs one or two look-ups; takes no
+    /// memory.
+    pub fn get_chars_at(&self, char_idx: usize) -> Option<Chars<'a>>
+        ensures { GivesWithin char_idx (length (text_of self.now)) result (λ chars. chars ≡ at_place (text_of self.now) char_idx) }
+    {
+        Some(self.chars_at(within(char_idx, self.len_chars())?))
+    }
+
+    /// As `chunks_at_byte`, or `None` exactly where the index is past `len_bytes()`. Costs one or two look-ups;
+    /// takes no memory.
+    pub fn get_chunks_at_byte(&self, byte_idx: usize) -> Option<(Chunks<'a>, usize, usize, usize)>
+        ensures { GivesWithin byte_idx (byte_len (text_of self.now)) result
+            (StandsBefore (content_of self.now) (chunk_place_at_byte (chunks_of self.now) byte_idx)) }
+    {
+        Some(self.chunks_at_byte(within(byte_idx, self.len_bytes())?))
+    }
+
+    /// As `chunks_at_char`, or `None` exactly where the index is past `len_chars()`. Costs one or two look-ups;
+    /// takes no memory.
+    pub fn get_chunks_at_char(&self, char_idx: usize) -> Option<(Chunks<'a>, usize, usize, usize)>
+        ensures { GivesWithin char_idx (length (text_of self.now)) result
+            (StandsBefore (content_of self.now) (chunk_place_at_char (chunks_of self.now) char_idx)) }
+    {
+        Some(self.chunks_at_char(within(char_idx, self.len_chars())?))
     }
 
     /// As `chunks_at_line_break`, or `None` exactly where the index is past `len_lines()`. Costs one or two
@@ -142,9 +135,8 @@ impl<'a> RopeSlice<'a> {
         &self,
         line_break_idx: usize,
     ) -> Option<(Chunks<'a>, usize, usize, usize)>
-        ensures { MatchOption result (line_count (breaks_of self.now) (text_of self.now) < line_break_idx)
-            (λ found. (line_break_idx ≤ line_count (breaks_of self.now) (text_of self.now)) × StandsAt (breaks_of self.now) (chunks_of self.now)
-            (chunk_place_at_line_break (breaks_of self.now) (chunks_of self.now) line_break_idx) found.0 found.1 found.2 found.3) }
+        ensures { GivesWithin line_break_idx (line_count (breaks_of self.now) (text_of self.now)) result
+            (StandsBefore (content_of self.now) (chunk_place_at_line_break (breaks_of self.now) (chunks_of self.now) line_break_idx)) }
     {
         Some(self.chunks_at_line_break(within(line_break_idx, self.len_lines())?))
     }

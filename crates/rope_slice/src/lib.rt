@@ -8,7 +8,6 @@
 //!     let second = slice.line(1);  // "two"
 #![tactic(auto)]
 
-mod bounds;
 mod compare;
 mod conversions;
 mod cursors;

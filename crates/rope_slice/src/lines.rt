@@ -8,9 +8,9 @@ ghost use Rattle.rope_text.specs.Lines.{line_count};
 ghost use Rattle.rope_text.specs.LineParts.{line_of, lines_of};
 ghost use Rattle.rope_text.specs.Sides.{ahead, at_start, at_place, turned, GoesAhead, StepsBack};
 ghost use Rattle.rope_slice.specs.Slice.{content_of, text_of, breaks_of};
+ghost use Rattle.rope_slice.specs.Found.{GivesWithin};
 
-use crate::bounds::within;
-use crate::slice::RopeSlice;
+use crate::slice::{RopeSlice, within};
 use rope_cursor::lines;
 use std::alloc::AllocError;
 use std::fmt;
@@ -42,9 +42,8 @@ impl<'a> RopeSlice<'a> {
         requires { line_idx < line_count (breaks_of self.now) (text_of self.now) }
         ensures { content_of result ≡ line_of (content_of self.now) line_idx }
     {
-        RopeSlice {
-            part: lines::line(&self.part, line_idx),
-        }
+        let part = lines::line(&self.part, line_idx);
+        RopeSlice { part }
     }
 
     /// The line `line_idx`, counted from 0, with its line break, or `None` exactly where the index is `len_lines()`
@@ -72,17 +71,15 @@ impl<'a> RopeSlice<'a> {
         requires { line_idx ≤ line_count (breaks_of self.now) (text_of self.now) }
         ensures { result ≡ at_place (lines_of (content_of self.now)) line_idx }
     {
-        Lines {
-            parts: lines::Lines::at(&self.part, line_idx),
-        }
+        let parts = lines::Lines::at(&self.part, line_idx);
+        Lines { parts }
     }
 
     /// As `lines_at`, or `None` exactly where the index is past `len_lines()`. Costs one or two look-ups; takes no
     /// memory.
     pub fn get_lines_at(&self, line_idx: usize) -> Option<Lines<'a>>
-        ensures { MatchOption result (line_count (breaks_of self.now) (text_of self.now) < line_idx)
-            (λ lines. (line_idx ≤ line_count (breaks_of self.now) (text_of self.now))
-            × (lines ≡ at_place (lines_of (content_of self.now)) line_idx)) }
+        ensures { GivesWithin line_idx (line_count (breaks_of self.now) (text_of self.now)) result
+            (λ lines. lines ≡ at_place (lines_of (content_of self.now)) line_idx) }
     {
         Some(self.lines_at(within(line_idx, self.len_lines())?))
     }
@@ -153,9 +150,8 @@ impl<'a> Clone for Lines<'a> {
     ghost is_infallible = { λ _. ⊤ };
 
     fn clone(&self) -> Result<Lines<'a>, AllocError> {
-        Ok(Lines {
-            parts: self.parts.clone()?,
-        })
+        let parts = self.parts.clone()?;
+        Ok(Lines { parts })
     }
 }
 

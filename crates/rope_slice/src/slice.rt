@@ -10,10 +10,18 @@ ghost use Rattle.rope_text.specs.Cutting.{single_chunk};
 ghost use Rattle.rope_tree.specs.Tree.{text};
 ghost use Rattle.rope_part.specs.Kept.{IsPart};
 ghost use Rattle.rope_part.specs.Origin.{IsOrigin};
+ghost use Rattle.rope_slice.specs.Found.{GivesWithin};
 
 use rope_part::{Origin, Part};
 use rope_text::LineBreaks;
 use rope_tree::node::Node;
+
+/// The index, or none where it is past the end.
+pub(crate) fn within(idx: usize, len: usize) -> Option<usize>
+    ensures { GivesWithin idx len result (λ same. same ≡ idx) }
+{
+    (idx <= len).then_some(idx)
+}
 
 /// A part of a rope's text, or a plain text, borrowed for `'a`.
 ///
@@ -36,9 +44,8 @@ impl<'a> RopeSlice<'a> {
         ensures chunks { chunks_of result ≡ single_chunk (chars text.now) }
         ensures breaks { breaks_of result ≡ breaks }
     {
-        RopeSlice {
-            part: Part::from_str_with(text, breaks),
-        }
+        let part = Part::from_str_with(text, breaks);
+        RopeSlice { part }
     }
 
     /// A slice of the whole text of a tree. Takes constant time and no memory.
@@ -47,9 +54,8 @@ impl<'a> RopeSlice<'a> {
         ensures chunks { chunks_of result ≡ node.now.leaves }
         ensures breaks { breaks_of result ≡ node.now.breaks }
     {
-        RopeSlice {
-            part: Part::of_node(node),
-        }
+        let part = Part::of_node(node);
+        RopeSlice { part }
     }
 
     /// What it is a slice of: a tree or a plain text, and the place in it. Takes constant time and no memory.

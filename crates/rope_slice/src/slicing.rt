@@ -2,18 +2,58 @@
 //!
 //! The slice `2..9` of `"hello world"` is `"llo wor"`, and of that the slice `1..4` is `"lo "`. No call takes
 //! memory.
-ghost use Rattle.std.specs.Prelude.{◌≡◌, ◌≢◌, length, None, Some, IfOk, IfErr, MatchOption};
+ghost use Rattle.std.specs.Prelude.{◌≡◌, not, false, nat_lt, length, None, Some, Ok, Err, IfOk, IfErr, MatchOption};
 ghost use Rattle.rope_text.specs.Text.{byte_len};
-ghost use Rattle.rope_text.specs.Conversions.{byte_to_char};
-ghost use Rattle.rope_text.specs.Edit.{range_start, range_end, char_range_error, byte_range_error};
-ghost use Rattle.rope_slice.specs.Sliced.{IsSlice};
+ghost use Rattle.rope_text.specs.Edit.{range_start, range_end, given, is_char_boundary, char_range_error, byte_range_error};
+ghost use Rattle.rope_slice.specs.Sliced.{IsCharRange, IsByteRange};
 ghost use Rattle.rope_slice.specs.Slice.{content_of, text_of};
+ghost use Rattle.rope_slice.specs.Found.{GivesUnless};
 
 use crate::slice::RopeSlice;
 use rope_text::range::char_bounds;
-use rope_text::{IndexRange, Result};
+use rope_text::{Error, IndexRange, Result};
+
+// Whether a given bound is past the end.
+fn is_past(bound: Option<usize>, len: usize) -> bool
+    ensures { result ≡ given (nat_lt len) bound }
+{
+    bound.is_some_and(|b| b > len)
+}
 
 impl<'a> RopeSlice<'a> {
+    // Whether a given bound lies inside a character.
+    fn is_in_char(&self, bound: Option<usize>) -> bool
+        requires { given (nat_lt (byte_len (text_of self.now))) bound ≡ false }
+        ensures { result ≡ given (λ b. not (is_char_boundary (text_of self.now) b)) bound }
+    {
+        match bound {
+            Some(b) => !self.part.is_char_boundary(b),
+            None => false,
+        }
+    }
+
+    // The bounds of a range of bytes, or what is wrong with it.
+    fn byte_bounds<R: IndexRange>(&self, range: &R) -> Result<(usize, usize)>
+        ensures { MatchOption (byte_range_error (text_of self.now) (R.given_start range.now) (R.given_end range.now))
+            (result ≡ Ok (range_start (R.given_start range.now), range_end (R.given_end range.now) (byte_len (text_of self.now))))
+            (λ fault. result ≡ Err fault) }
+    {
+        let start = range.start();
+        let end = range.end();
+        let len = self.len_bytes();
+        match (start, end) {
+            (Some(a), Some(b)) if a > b => return Err(Error::ByteRangeInvalid(a, b)),
+            _ => {}
+        }
+        if is_past(start, len) || is_past(end, len) {
+            return Err(Error::ByteRangeOutOfBounds(start, end, len));
+        }
+        if self.is_in_char(start) || self.is_in_char(end) {
+            return Err(Error::ByteRangeNotCharBoundary(start, end));
+        }
+        Ok((start.unwrap_or(0), end.unwrap_or(len)))
+    }
+
     /// The characters of a range, as a slice that borrows them: their text, the chunks clipped to them, and the
     /// same set of line breaks. Nothing is copied.
     ///
@@ -21,8 +61,7 @@ impl<'a> RopeSlice<'a> {
     /// count of the text where it is plain; takes no memory.
     pub fn slice<R: IndexRange + Drop>(&self, range: R) -> RopeSlice<'a>
         requires { char_range_error (R.given_start range) (R.given_end range) (length (text_of self.now)) ≡ None }
-        ensures { IsSlice (content_of self.now) (range_start (R.given_start range)) (range_end (R.given_end range) (length (text_of self.now)))
-            (content_of result) }
+        ensures { IsCharRange (content_of self.now) (R.given_start range) (R.given_end range) (content_of result) }
     {
         self.get_slice(range).unwrap()
     }
@@ -30,15 +69,12 @@ impl<'a> RopeSlice<'a> {
     /// As `slice`, or `None` exactly where a bound is past `len_chars()` or the range's start is past its end.
     /// Costs a few look-ups, or a count of the text where it is plain; takes no memory.
     pub fn get_slice<R: IndexRange + Drop>(&self, range: R) -> Option<RopeSlice<'a>>
-        ensures { MatchOption result (char_range_error (R.given_start range) (R.given_end range) (length (text_of self.now)) ≢ None)
-            (λ slice. (char_range_error (R.given_start range) (R.given_end range) (length (text_of self.now)) ≡ None)
-            × IsSlice (content_of self.now) (range_start (R.given_start range)) (range_end (R.given_end range) (length (text_of self.now)))
-            (content_of slice)) }
+        ensures { GivesUnless (char_range_error (R.given_start range) (R.given_end range) (length (text_of self.now))) result
+            (λ slice. IsCharRange (content_of self.now) (R.given_start range) (R.given_end range) (content_of slice)) }
     {
         let (start, end) = char_bounds(&range, self.len_chars()).ok()?;
-        Some(RopeSlice {
-            part: self.part.char_range(start, end),
-        })
+        let part = self.part.char_range(start, end);
+        Some(RopeSlice { part })
     }
 
     /// As `byte_slice`, for any range. Costs a few look-ups, or a count of the text where it is plain; takes no
@@ -51,23 +87,19 @@ impl<'a> RopeSlice<'a> {
     /// given bound lies inside a character.
     pub fn try_byte_slice<R: IndexRange + Drop>(&self, range: R) -> Result<RopeSlice<'a>>
         ensures ok { IfOk result (λ slice. (byte_range_error (text_of self.now) (R.given_start range) (R.given_end range) ≡ None)
-            × IsSlice (content_of self.now) (byte_to_char (text_of self.now) (range_start (R.given_start range)))
-            (byte_to_char (text_of self.now) (range_end (R.given_end range) (byte_len (text_of self.now)))) (content_of slice)) }
+            × IsByteRange (content_of self.now) (R.given_start range) (R.given_end range) (content_of slice)) }
         ensures refused { IfErr result (λ fault. byte_range_error (text_of self.now) (R.given_start range) (R.given_end range) ≡ Some fault) }
     {
         let (start, end) = self.byte_bounds(&range)?;
-        Ok(RopeSlice {
-            part: self.part.byte_range(start, end),
-        })
+        let part = self.part.byte_range(start, end);
+        Ok(RopeSlice { part })
     }
 
     /// As `byte_slice`, or `None` exactly where `try_byte_slice` returns an error. Costs a few look-ups, or a count
     /// of the text where it is plain; takes no memory.
     pub fn get_byte_slice<R: IndexRange + Drop>(&self, range: R) -> Option<RopeSlice<'a>>
-        ensures { MatchOption result (byte_range_error (text_of self.now) (R.given_start range) (R.given_end range) ≢ None)
-            (λ slice. (byte_range_error (text_of self.now) (R.given_start range) (R.given_end range) ≡ None)
-            × IsSlice (content_of self.now) (byte_to_char (text_of self.now) (range_start (R.given_start range)))
-            (byte_to_char (text_of self.now) (range_end (R.given_end range) (byte_len (text_of self.now)))) (content_of slice)) }
+        ensures { GivesUnless (byte_range_error (text_of self.now) (R.given_start range) (R.given_end range)) result
+            (λ slice. IsByteRange (content_of self.now) (R.given_start range) (R.given_end range) (content_of slice)) }
     {
         self.try_byte_slice(range).ok()
     }
@@ -78,8 +110,7 @@ impl<'a> RopeSlice<'a> {
     /// character. Costs a few look-ups, or a count of the text where it is plain; takes no memory.
     pub fn byte_slice<R: IndexRange + Drop>(&self, range: R) -> RopeSlice<'a>
         requires { byte_range_error (text_of self.now) (R.given_start range) (R.given_end range) ≡ None }
-        ensures { IsSlice (content_of self.now) (byte_to_char (text_of self.now) (range_start (R.given_start range)))
-            (byte_to_char (text_of self.now) (range_end (R.given_end range) (byte_len (text_of self.now)))) (content_of result) }
+        ensures { IsByteRange (content_of self.now) (R.given_start range) (R.given_end range) (content_of result) }
     {
         self.try_byte_slice(range).unwrap()
     }

@@ -1,8 +1,9 @@
 -- Line breaks, code units and widths over the bytes of a text. Private working definitions: only clauses of private functions cite them.
-use Rattle.std.specs.Prelude.{ℕ, ◌+◌, Bool, cond, not, count_by, nat_lt, if◌then◌else◌, ◌&&◌, ◌||◌, ◌==◌, List, [], ◌∷◌, get_or}
+use Rattle.std.specs.Prelude.{◌≡◌, ℕ, ◌+◌, ◌<◌, ◌≤◌, Bool, IsTrue, slice_index, cond, not, count_by, nat_lt, if◌then◌else◌, ◌&&◌, ◌||◌, ◌==◌, List, [], ◌∷◌, length, drop, get_or}
 use Rattle.std.specs.Int.{is_in_range}
 use Rattle.rope_text.specs.Bytes.{begins_char, begins_pair}
 use Rattle.rope_text.specs.declared.line_breaks.LineBreaks.{LineBreaks}
+use Rattle.rope_text.specs.declared.text_info.TextInfo.{TextInfo}
 use Rattle.rope_text.specs.declared.line_breaks.LineBreaks.TheVariants.{Lf, CrLf, Unicode}
 
 -- whether the byte x is CR and the next byte y isn't LF
@@ -25,9 +26,25 @@ abbrev pub byte_break_count : LineBreaks → List ℕ → ℕ
 byte_break_count breaks [] = 0
 byte_break_count breaks (x ∷ xs) = cond (break_at breaks x (get_or xs 0 0) (get_or xs 1 0)) 1 0 + byte_break_count breaks xs
 
+-- what the bytes count, by one pass: of line breaks those that begin before the end
+pub record AreCounts (breaks : LineBreaks) (bytes : List ℕ) (counts : TextInfo) : Type 0 where
+  pub bytes_are : counts.bytes ≡ length bytes
+  pub chars : counts.chars ≡ count_by begins_char bytes
+  pub pairs : counts.utf16_surrogates ≡ count_by begins_pair bytes
+  pub break_count : byte_break_count breaks bytes ≡ counts.break_count + byte_break_count breaks (drop (length bytes) bytes)
+
 -- how many code units the bytes take in UTF-16
 abbrev pub unit_count : List ℕ → ℕ
 unit_count bytes = count_by begins_char bytes + count_by begins_pair bytes
+
+-- where the character begins that holds the code unit n, counted from the byte `from` on: there, or at the end where there are no
+-- more than n
+pub record IsUnitPlaceOf (bytes : List ℕ) (from n place : ℕ) : Type 0 where
+  pub not_before : from ≤ place
+  pub bound : place ≤ length bytes
+  pub begins : place < length bytes → IsTrue (begins_char (slice_index bytes place))
+  pub before : unit_count (drop from bytes) ≤ n + unit_count (drop place bytes)
+  pub after : place < length bytes → n + unit_count (drop (place + 1) bytes) < unit_count (drop from bytes)
 
 -- how many bytes the character has that begins with the byte
 abbrev pub char_width : ℕ → ℕ

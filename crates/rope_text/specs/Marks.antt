@@ -1,10 +1,11 @@
 -- What begins with a byte and is counted: characters, characters of two code units, and line breaks. Private working definitions: only clauses of private functions cite them.
-use Rattle.std.specs.Prelude.{◌≡◌, ℕ, ◌+◌, Bool, cond, List, map, drop, get_or, count_by, IsTrue, ◌==◌, ◌||◌}
+use Rattle.std.specs.Prelude.{◌≡◌, ℕ, ◌+◌, ◌<◌, ◌≤◌, Bool, cond, if◌then◌else◌, List, length, map, drop, get_or, count_by, IsTrue, ◌==◌, ◌||◌}
 use Rattle.rope_text.specs.declared.line_breaks.LineBreaks.{LineBreaks}
 use Rattle.rope_text.specs.declared.line_breaks.LineBreaks.TheVariants.{Lf, CrLf, Unicode}
 use Rattle.rope_text.specs.declared.lanes.Mark.{Mark}
 use Rattle.rope_text.specs.declared.lanes.Mark.TheVariants.{Char, Pair, Break}
 use Rattle.std.specs.Int.{is_in_range}
+use Rattle.rope_text.specs.Bits.{ones_below}
 use Rattle.rope_text.specs.Bytes.{begins_char, begins_pair}
 use Rattle.rope_text.specs.ByteBreaks.{lone_cr, breaks_at, byte_break_count}
 
@@ -23,6 +24,26 @@ marks (Break breaks) bytes = byte_break_count breaks bytes
 -- the mark n begins with the byte `at`, counted from the byte `from` on
 abbrev pub IsMark : Mark → List ℕ → ℕ → ℕ → ℕ → Type 0
 IsMark mark bytes from n at = (marks mark (drop from bytes) ≡ n + marks mark (drop at bytes)) × IsTrue (mark_at mark bytes at)
+
+-- where the mark n begins, counted from the byte `from` on: there, or at the end where there are no more than n
+pub record IsPlaceOf (mark : Mark) (bytes : List ℕ) (from n place : ℕ) : Type 0 where
+  pub not_before : from ≤ place
+  pub bound : place ≤ length bytes
+  pub inside : place < length bytes → IsMark mark bytes from n place
+  pub end : place ≡ length bytes → marks mark (drop from bytes) ≤ n
+
+-- the bytes before the byte `at` are passed on the way to the mark n, which is the mark `left` from there on
+pub record IsPassed (mark : Mark) (bytes : List ℕ) (n at left : ℕ) : Type 0 where
+  pub bound : at ≤ length bytes
+  pub counted : marks mark bytes + left ≡ n + marks mark (drop at bytes)
+
+-- the bits of the mask say with which of the 32 bytes from the byte `at` on a mark begins
+abbrev pub IsBlockMask : Mark → List ℕ → ℕ → ℕ → Type 0
+IsBlockMask mark bytes at mask = (n : ℕ) → n ≤ 32 → marks mark (drop at bytes) ≡ ones_below mask n + marks mark (drop (at + n) bytes)
+
+-- LF alone, or with CR
+abbrev pub lf_or_cr_lf : Bool → LineBreaks
+lf_or_cr_lf has_cr = if has_cr then CrLf else Lf
 
 -- how many bytes behind a block say with it which marks begin there
 abbrev pub ahead : Mark → ℕ

@@ -2,7 +2,7 @@
 //! memory.
 //!
 //! Of the bytes of `"a\r\nb"`, the places 0, 1, 3 and 4 may be cut, and 2 may not.
-ghost use Rattle.std.specs.Prelude.{◌≡◌, ℕ, ◌-◌, ◌<◌, ◌≤◌, true, false, length, ◌++◌, IsTrue, slice_index};
+ghost use Rattle.std.specs.Prelude.{◌≡◌, ℕ, ◌-◌, ◌<◌, ◌≤◌, false, length, ◌++◌, IsTrue};
 ghost use Rattle.std.specs.Str.{IsUtf8, IsCharBoundary};
 ghost use Rattle.rope_text.specs.Cuts.{is_cut, is_cut_between, distance};
 

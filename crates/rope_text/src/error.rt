@@ -4,6 +4,7 @@
 //! 5`.
 ghost use Rattle.std.specs.Prelude.{◌≡◌, Some};
 ghost use Rattle.rope_text.specs.declared.error.Error.TheVariants.{OutOfMemory};
+ghost use Rattle.rope_text.specs.ErrorText.{error_text, range_text};
 
 use std::alloc::{AllocError, AllocFailed};
 use std::fmt;
@@ -50,9 +51,6 @@ pub type Result<T> = std::result::Result<T, Error>;
 struct Bounds(Option<usize>, Option<usize>);
 
 impl fmt::Display for Bounds {
-    ghost use Rattle.std.specs.Prelude.{Some};
-    ghost use Rattle.rope_text.specs.ErrorText.{range_text};
-
     ghost output = { λ b. Some (range_text b.0 b.1) };
 
     fn fmt<W: fmt::Write>(&self, f: &mut fmt::Formatter<W>) -> fmt::Result {
@@ -66,9 +64,6 @@ impl fmt::Display for Bounds {
 }
 
 impl fmt::Display for Error {
-    ghost use Rattle.std.specs.Prelude.{Some};
-    ghost use Rattle.rope_text.specs.ErrorText.{error_text};
-
     ghost output = { λ e. Some (error_text e) };
 
     fn fmt<W: fmt::Write>(&self, f: &mut fmt::Formatter<W>) -> fmt::Result {
@@ -122,9 +117,6 @@ impl fmt::Display for Error {
 }
 
 impl fmt::Debug for Error {
-    ghost use Rattle.std.specs.Prelude.{Some};
-    ghost use Rattle.rope_text.specs.ErrorText.{error_text};
-
     ghost debug_output = { λ e. Some (error_text e) };
 
     fn fmt<W: fmt::Write>(&self, f: &mut fmt::Formatter<W>) -> fmt::Result {

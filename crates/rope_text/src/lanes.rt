@@ -1,12 +1,11 @@
 //! Counts over the bytes of a text, 32 bytes at once.
-ghost use Rattle.std.specs.Prelude.{◌≡◌, ◌+◌, ◌-◌, ◌*◌, ◌%◌, ◌<◌, ◌≤◌, length, cond, count_by, drop, slice_index, List, ℕ};
-ghost use Rattle.rope_text.specs.Bits.{ones_below};
+ghost use Rattle.std.specs.Prelude.{◌≡◌, ◌+◌, ◌-◌, ◌*◌, ◌<◌, ◌≤◌, length, cond, count_by, drop, List, ℕ};
 ghost use Rattle.rope_text.specs.Bytes.{begins_char, begins_pair};
-ghost use Rattle.rope_text.specs.ByteBreaks.{byte_break_count, unit_count};
-ghost use Rattle.rope_text.specs.Marks.{IsLanes, narrow_mark, mark_at, marks, ahead};
+ghost use Rattle.rope_text.specs.ByteBreaks.{byte_break_count, unit_count, AreCounts};
+ghost use Rattle.rope_text.specs.Marks.{IsLanes, IsBlockMask, narrow_mark, mark_at, marks, ahead, lf_or_cr_lf};
 
 use crate::bits::{ones_before, ones_between};
-use crate::line_breaks::LineBreaks;
+use crate::line_breaks::{LineBreaks, known_set};
 use crate::runs::{count_run, is_wide_break};
 use crate::text_info::TextInfo;
 use std::simd::prelude::*;
@@ -62,7 +61,7 @@ pub(crate) fn ones<const N: usize>(x: Simd<u8, N>, y: Simd<u8, N>, mark: Mark) -
 #[inline(never)]
 fn unicode_mask(bytes: &[u8], at: usize) -> u64
     requires { at + 34 ≤ length bytes.now }
-    ensures { (n : ℕ) → n ≤ 32 → byte_break_count LineBreaks.Unicode (drop at bytes.now) ≡ ones_below result n + byte_break_count LineBreaks.Unicode (drop (at + n) bytes.now) }
+    ensures { IsBlockMask (Mark.Break LineBreaks.Unicode) bytes.now at result }
 {
     let x = u8x32::from_slice(&bytes[at..]);
     let y = u8x32::from_slice(&bytes[at + 1..]);
@@ -79,7 +78,7 @@ fn unicode_mask(bytes: &[u8], at: usize) -> u64
 #[inline(always)]
 pub(crate) fn known_mask(bytes: &[u8], at: usize, mark: Mark) -> u64
     requires { (at + 32) + ahead mark ≤ length bytes.now }
-    ensures { (n : ℕ) → n ≤ 32 → marks mark (drop at bytes.now) ≡ ones_below result n + marks mark (drop (at + n) bytes.now) }
+    ensures { IsBlockMask mark bytes.now at result }
 {
     let x = u8x32::from_slice(&bytes[at..]);
     let mut y = x;
@@ -96,32 +95,28 @@ pub(crate) fn known_mask(bytes: &[u8], at: usize, mark: Mark) -> u64
     ones(x, y, mark).simd_eq(u8x32::splat(1)).to_bitmask()
 }
 
-// Two of the masks are not expanded where they are chosen: the compiler would take all three apart, bit by bit.
+// The masks of two sets are not expanded where they are chosen: the compiler would take all three apart, bit by bit.
 #[inline(never)]
-fn lf_mask_apart(bytes: &[u8], at: usize) -> u64
-    requires { at + 32 ≤ length bytes.now }
-    ensures { (n : ℕ) → n ≤ 32 → byte_break_count LineBreaks.Lf (drop at bytes.now) ≡ ones_below result n + byte_break_count LineBreaks.Lf (drop (at + n) bytes.now) }
+fn mask_apart<const HAS_CR: bool>(bytes: &[u8], at: usize) -> u64
+    requires { (at + 32) + ahead (Mark.Break (lf_or_cr_lf HAS_CR)) ≤ length bytes.now }
+    ensures { IsBlockMask (Mark.Break (lf_or_cr_lf HAS_CR)) bytes.now at result }
 {
-    known_mask(bytes, at, Mark::Break(LineBreaks::Lf))
-}
-
-#[inline(never)]
-fn cr_lf_mask_apart(bytes: &[u8], at: usize) -> u64
-    requires { at + 33 ≤ length bytes.now }
-    ensures { (n : ℕ) → n ≤ 32 → byte_break_count LineBreaks.CrLf (drop at bytes.now) ≡ ones_below result n + byte_break_count LineBreaks.CrLf (drop (at + n) bytes.now) }
-{
-    known_mask(bytes, at, Mark::Break(LineBreaks::CrLf))
+    if HAS_CR {
+        known_mask(bytes, at, Mark::Break(LineBreaks::CrLf))
+    } else {
+        known_mask(bytes, at, Mark::Break(LineBreaks::Lf))
+    }
 }
 
 /// The same mask, where the set of breaks is not known.
 #[inline(always)]
 pub(crate) fn mask(bytes: &[u8], at: usize, mark: Mark) -> u64
     requires { (at + 32) + ahead mark ≤ length bytes.now }
-    ensures { (n : ℕ) → n ≤ 32 → marks mark (drop at bytes.now) ≡ ones_below result n + marks mark (drop (at + n) bytes.now) }
+    ensures { IsBlockMask mark bytes.now at result }
 {
     match mark {
-        Mark::Break(LineBreaks::Lf) => lf_mask_apart(bytes, at),
-        Mark::Break(LineBreaks::CrLf) => cr_lf_mask_apart(bytes, at),
+        Mark::Break(LineBreaks::Lf) => mask_apart::<false>(bytes, at),
+        Mark::Break(LineBreaks::CrLf) => mask_apart::<true>(bytes, at),
         _ => known_mask(bytes, at, mark),
     }
 }
@@ -133,13 +128,6 @@ pub(crate) fn marks_in(bytes: &[u8], at: usize, mark: Mark) -> usize
     ensures { marks mark (drop at bytes.now) ≡ result + marks mark (drop (at + 32) bytes.now) }
 {
     ones_before(known_mask(bytes, at, mark), 32)
-}
-
-#[inline(always)]
-fn byte_or_zero(bytes: &[u8], at: usize) -> u8
-    ensures { result ≡ slice_index bytes.now at }
-{
-    if at < bytes.len() { bytes[at] } else { 0 }
 }
 
 /// Whether a mark begins with the byte `at`.
@@ -158,8 +146,8 @@ pub(crate) fn is_mark(bytes: &[u8], at: usize, mark: Mark) -> bool
     if x >= 0x0E && x != 0xC2 && x != 0xE2 {
         return false;
     }
-    let y = byte_or_zero(bytes, at + 1);
-    let z = byte_or_zero(bytes, at + 2);
+    let y = bytes.get(at + 1).copied().unwrap_or(0);
+    let z = bytes.get(at + 2).copied().unwrap_or(0);
     let is_lone_cr = x == b'\r' && y != b'\n';
     match breaks {
         LineBreaks::Lf => x == b'\n',
@@ -227,19 +215,6 @@ fn marks_in_quarters(bytes: &[u8], to: usize, mark: Mark) -> (usize, usize)
     (4 * quarter, first + second + third + fourth)
 }
 
-// The same of breaks, for each set. Not expanded where it is called: it is long.
-fn breaks_in_quarters(bytes: &[u8], to: usize, breaks: LineBreaks) -> (usize, usize)
-    requires { to ≤ length bytes.now - 2 }
-    ensures bound { result.0 ≤ to }
-    ensures counted { byte_break_count breaks bytes.now ≡ result.1 + byte_break_count breaks (drop result.0 bytes.now) }
-{
-    match breaks {
-        LineBreaks::Lf => marks_in_quarters(bytes, to, Mark::Break(LineBreaks::Lf)),
-        LineBreaks::CrLf => marks_in_quarters(bytes, to, Mark::Break(LineBreaks::CrLf)),
-        LineBreaks::Unicode => marks_in_quarters(bytes, to, Mark::Break(LineBreaks::Unicode)),
-    }
-}
-
 /// How many marks begin from the byte `from` on and before `to`. The mark is known where this is expanded.
 #[tactic(auto, using(crate::proofs::Blocks::marks_le))]
 #[inline(always)]
@@ -305,7 +280,7 @@ pub(crate) fn count_units(bytes: &[u8]) -> usize
     chars + blocks.utf16_surrogates + marks_between(bytes, blocks.bytes, end, Mark::Pair)
 }
 
-// The set is known where this is expanded.
+// How many breaks of the set begin before the byte `to`. The set is known where this is expanded.
 #[tactic(auto, using(crate::proofs::Blocks::byte_break_count_le))]
 #[inline(always)]
 fn known_breaks_before(bytes: &[u8], to: usize, breaks: LineBreaks) -> usize
@@ -315,7 +290,7 @@ fn known_breaks_before(bytes: &[u8], to: usize, breaks: LineBreaks) -> usize
     // A block is read two bytes past its end.
     let end = to.min(bytes.len().saturating_sub(2));
     let mark = Mark::Break(breaks);
-    let (from, before) = breaks_in_quarters(bytes, end, breaks);
+    let (from, before) = marks_in_quarters(bytes, end, mark);
     let blocks = count_blocks(bytes, from, end, breaks);
     let more = marks_between(bytes, from + blocks.bytes, end, mark);
     before + blocks.break_count + more + marks_byte_by_byte(bytes, end, to, mark)
@@ -326,21 +301,14 @@ pub(crate) fn count_breaks_before(bytes: &[u8], to: usize, breaks: LineBreaks) -
     requires { to ≤ length bytes.now }
     ensures { byte_break_count breaks bytes.now ≡ result + byte_break_count breaks (drop to bytes.now) }
 {
-    match breaks {
-        LineBreaks::Lf => known_breaks_before(bytes, to, LineBreaks::Lf),
-        LineBreaks::CrLf => known_breaks_before(bytes, to, LineBreaks::CrLf),
-        LineBreaks::Unicode => known_breaks_before(bytes, to, LineBreaks::Unicode),
-    }
+    known_set!(breaks => known_breaks_before(bytes, to, breaks))
 }
 
-// The set is known where this is expanded.
+// What the bytes count, in blocks. The set is known where this is expanded.
 #[tactic(auto, using(crate::proofs::Blocks::begins_le, crate::proofs::Blocks::pairs_le, crate::proofs::Blocks::byte_break_count_le))]
 #[inline(always)]
 fn count_known(bytes: &[u8], breaks: LineBreaks) -> TextInfo
-    ensures bytes { result.bytes ≡ length bytes.now }
-    ensures chars { result.chars ≡ count_by begins_char bytes.now }
-    ensures pairs { result.utf16_surrogates ≡ count_by begins_pair bytes.now }
-    ensures break_count { byte_break_count breaks bytes.now ≡ result.break_count + byte_break_count breaks (drop (length bytes.now) bytes.now) }
+    ensures { AreCounts breaks bytes.now result }
 {
     let end = bytes.len();
     let last = end.saturating_sub(2);
@@ -360,10 +328,7 @@ fn count_known(bytes: &[u8], breaks: LineBreaks) -> TextInfo
 #[inline(always)]
 fn count_one(bytes: &[u8], breaks: LineBreaks) -> TextInfo
     requires { length bytes.now ≡ 1 }
-    ensures bytes { result.bytes ≡ length bytes.now }
-    ensures chars { result.chars ≡ count_by begins_char bytes.now }
-    ensures pairs { result.utf16_surrogates ≡ count_by begins_pair bytes.now }
-    ensures break_count { byte_break_count breaks bytes.now ≡ result.break_count + byte_break_count breaks (drop (length bytes.now) bytes.now) }
+    ensures { AreCounts breaks bytes.now result }
 {
     TextInfo {
         bytes: 1,
@@ -377,10 +342,7 @@ fn count_one(bytes: &[u8], breaks: LineBreaks) -> TextInfo
 #[inline(always)]
 fn count_few(bytes: &[u8], breaks: LineBreaks) -> TextInfo
     requires { length bytes.now ≤ 32 }
-    ensures bytes { result.bytes ≡ length bytes.now }
-    ensures chars { result.chars ≡ count_by begins_char bytes.now }
-    ensures pairs { result.utf16_surrogates ≡ count_by begins_pair bytes.now }
-    ensures break_count { byte_break_count breaks bytes.now ≡ result.break_count + byte_break_count breaks (drop (length bytes.now) bytes.now) }
+    ensures { AreCounts breaks bytes.now result }
 {
     let len = bytes.len();
     let mut block = [0; 34];
@@ -396,25 +358,15 @@ fn count_few(bytes: &[u8], breaks: LineBreaks) -> TextInfo
 // The same in blocks. It stands by itself, since where it is expanded the few would wait for what it answers through memory.
 #[inline(never)]
 fn count_many(bytes: &[u8], breaks: LineBreaks) -> TextInfo
-    ensures bytes { result.bytes ≡ length bytes.now }
-    ensures chars { result.chars ≡ count_by begins_char bytes.now }
-    ensures pairs { result.utf16_surrogates ≡ count_by begins_pair bytes.now }
-    ensures break_count { byte_break_count breaks bytes.now ≡ result.break_count + byte_break_count breaks (drop (length bytes.now) bytes.now) }
+    ensures { AreCounts breaks bytes.now result }
 {
-    match breaks {
-        LineBreaks::Lf => count_known(bytes, LineBreaks::Lf),
-        LineBreaks::CrLf => count_known(bytes, LineBreaks::CrLf),
-        LineBreaks::Unicode => count_known(bytes, LineBreaks::Unicode),
-    }
+    known_set!(breaks => count_known(bytes, breaks))
 }
 
 /// What the bytes of a text count, by one pass.
 #[inline(always)]
 pub(crate) fn count_all(bytes: &[u8], breaks: LineBreaks) -> TextInfo
-    ensures bytes { result.bytes ≡ length bytes.now }
-    ensures chars { result.chars ≡ count_by begins_char bytes.now }
-    ensures pairs { result.utf16_surrogates ≡ count_by begins_pair bytes.now }
-    ensures break_count { byte_break_count breaks bytes.now ≡ result.break_count + byte_break_count breaks (drop (length bytes.now) bytes.now) }
+    ensures { AreCounts breaks bytes.now result }
 {
     if bytes.len() == 1 {
         count_one(bytes, breaks)

@@ -1,5 +1,5 @@
 //! Ranges of indices: the six kinds of Rust. `2..5`, `2..=4` and, in a text of 5 characters, `2..` are the same.
-ghost use Rattle.std.specs.Prelude.{◌≡◌, ℕ, ◌+◌, ◌-◌, ◌^◌, ◌<◌, None, Some, Option, MatchOption, Ok, Err};
+ghost use Rattle.std.specs.Prelude.{◌≡◌, ℕ, ◌-◌, ◌<◌, None, Some, Option, MatchOption, Ok, Err};
 ghost use Rattle.std.specs.Range.{range_inclusive_start, range_inclusive_end};
 ghost use Rattle.rope_text.specs.Range.{excluded_end};
 ghost use Rattle.rope_text.specs.Edit.{range_start, range_end, char_range_error};

@@ -5,7 +5,7 @@ ghost use Rattle.rope_text.specs.Scan.{IsFront};
 
 use crate::bits::{first_mark, first_mark_before, ones_before, ones_between};
 use crate::lanes::{Mark, is_mark, known_mask, mask};
-use crate::line_breaks::LineBreaks;
+use crate::line_breaks::{LineBreaks, known_set};
 
 /// The bytes of a text before a place in its first line, and what they count.
 // The counts stand apart: side by side, the compiler would add them up in one vector register, which takes longer a byte.
@@ -94,9 +94,5 @@ pub(crate) fn to_first_break(bytes: &[u8], breaks: LineBreaks) -> Front
     ensures front { IsFront breaks bytes.now result }
     ensures inside { result.bytes < length bytes.now → IsTrue (breaks_at breaks bytes.now result.bytes) }
 {
-    match breaks {
-        LineBreaks::Lf => go_by_blocks(bytes, LineBreaks::Lf),
-        LineBreaks::CrLf => go_by_blocks(bytes, LineBreaks::CrLf),
-        LineBreaks::Unicode => go_by_blocks(bytes, LineBreaks::Unicode),
-    }
+    known_set!(breaks => go_by_blocks(bytes, breaks))
 }

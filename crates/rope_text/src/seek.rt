@@ -1,24 +1,21 @@
 //! Searches for places in the bytes of a text: whole blocks of 32 bytes are counted until the one that holds
 //! the place, and that one is halved. What is left behind the last block is gone through byte by byte.
 //! A place that isn't there is the end.
-ghost use Rattle.std.specs.Prelude.{◌≡◌, ◌+◌, ◌<◌, ◌≤◌, length, count_by, drop, slice_index, IsTrue};
+ghost use Rattle.std.specs.Prelude.{◌≡◌, ◌+◌, ◌≤◌, length, count_by, drop};
 ghost use Rattle.rope_text.specs.Bytes.{begins_char, begins_pair};
-ghost use Rattle.rope_text.specs.ByteBreaks.{byte_break_count, unit_count};
-ghost use Rattle.rope_text.specs.Marks.{marks, ahead, IsMark};
+ghost use Rattle.rope_text.specs.ByteBreaks.{byte_break_count, IsUnitPlaceOf};
+ghost use Rattle.rope_text.specs.Marks.{IsPlaceOf, IsPassed};
 
 use crate::bits::{ones_before, place_of_mark};
 use crate::lanes::{Mark, ahead, is_mark, known_mask, marks_between, marks_in, mask};
-use crate::line_breaks::LineBreaks;
+use crate::line_breaks::{LineBreaks, known_set};
 use crate::text_info::TextInfo;
 
 // The byte with which the mark `n` begins, counted from the byte `from` on, byte by byte.
 #[inline(always)]
 fn find(bytes: &[u8], from: usize, n: usize, mark: Mark) -> usize
     requires { from ≤ length bytes.now }
-    ensures from { from ≤ result }
-    ensures bound { result ≤ length bytes.now }
-    ensures inside { result < length bytes.now → IsMark mark bytes.now from n result }
-    ensures end { result ≡ length bytes.now → marks mark (drop from bytes.now) ≤ n }
+    ensures { IsPlaceOf mark bytes.now from n result }
 {
     let mut left = n;
     for at in from..bytes.len() {
@@ -36,10 +33,7 @@ fn find(bytes: &[u8], from: usize, n: usize, mark: Mark) -> usize
 #[inline(always)]
 fn find_from(bytes: &[u8], from: usize, n: usize, mark: Mark) -> usize
     requires { from ≤ length bytes.now }
-    ensures from { from ≤ result }
-    ensures bound { result ≤ length bytes.now }
-    ensures inside { result < length bytes.now → IsMark mark bytes.now from n result }
-    ensures end { result ≡ length bytes.now → marks mark (drop from bytes.now) ≤ n }
+    ensures { IsPlaceOf mark bytes.now from n result }
 {
     let mut at = from;
     let mut left = n;
@@ -58,8 +52,7 @@ fn find_from(bytes: &[u8], from: usize, n: usize, mark: Mark) -> usize
 // The pairs of blocks before the character `n`: their end, and which character it is from there on.
 #[inline(always)]
 fn skip_chars(bytes: &[u8], n: usize) -> (usize, usize)
-    ensures bound { result.0 ≤ length bytes.now }
-    ensures counted { count_by begins_char bytes.now + result.1 ≡ n + count_by begins_char (drop result.0 bytes.now) }
+    ensures { IsPassed Mark.Char bytes.now n result.0 result.1 }
 {
     let mut at = 0;
     let mut left = n;
@@ -80,8 +73,7 @@ fn skip_chars(bytes: &[u8], n: usize) -> (usize, usize)
 fn skip_chars_back(bytes: &[u8], n: usize, chars: usize) -> (usize, usize)
     requires within { n ≤ chars }
     requires chars { chars ≡ count_by begins_char bytes.now }
-    ensures bound { result.0 ≤ length bytes.now }
-    ensures counted { count_by begins_char bytes.now + result.1 ≡ n + count_by begins_char (drop result.0 bytes.now) }
+    ensures { IsPassed Mark.Char bytes.now n result.0 result.1 }
 {
     let mut at = bytes.len();
     // The characters from `n` on that begin before `at`.
@@ -99,9 +91,7 @@ fn skip_chars_back(bytes: &[u8], n: usize, chars: usize) -> (usize, usize)
 
 /// The byte at which the character `n` begins.
 pub(crate) fn place_of_char(bytes: &[u8], n: usize) -> usize
-    ensures bound { result ≤ length bytes.now }
-    ensures inside { result < length bytes.now → IsMark Mark.Char bytes.now 0 n result }
-    ensures end { result ≡ length bytes.now → count_by begins_char bytes.now ≤ n }
+    ensures { IsPlaceOf Mark.Char bytes.now 0 n result }
 {
     let (from, left) = skip_chars(bytes, n);
     find_from(bytes, from, left, Mark::Char)
@@ -110,9 +100,7 @@ pub(crate) fn place_of_char(bytes: &[u8], n: usize) -> usize
 /// The same, where it is known how many characters there are: the side of it that has fewer of them is gone over.
 pub(crate) fn place_of_char_of(bytes: &[u8], n: usize, chars: usize) -> usize
     requires { chars ≡ count_by begins_char bytes.now }
-    ensures bound { result ≤ length bytes.now }
-    ensures inside { result < length bytes.now → IsMark Mark.Char bytes.now 0 n result }
-    ensures end { result ≡ length bytes.now → count_by begins_char bytes.now ≤ n }
+    ensures { IsPlaceOf Mark.Char bytes.now 0 n result }
 {
     if n >= chars {
         return bytes.len();
@@ -128,11 +116,7 @@ pub(crate) fn place_of_char_of(bytes: &[u8], n: usize, chars: usize) -> usize
 // The byte at which the character begins that holds the code unit `n`, counted from the byte `from` on, byte by byte.
 fn find_unit(bytes: &[u8], from: usize, n: usize) -> usize
     requires { from ≤ length bytes.now }
-    ensures from { from ≤ result }
-    ensures bound { result ≤ length bytes.now }
-    ensures begins { result < length bytes.now → IsTrue (begins_char (slice_index bytes.now result)) }
-    ensures before { unit_count (drop from bytes.now) ≤ n + unit_count (drop result bytes.now) }
-    ensures after { result < length bytes.now → n + unit_count (drop (result + 1) bytes.now) < unit_count (drop from bytes.now) }
+    ensures { IsUnitPlaceOf bytes.now from n result }
 {
     let mut left = n;
     for at in from..bytes.len() {
@@ -150,10 +134,7 @@ fn find_unit(bytes: &[u8], from: usize, n: usize) -> usize
 /// The byte at which the character begins that holds the code unit `n`, and how many characters begin before it.
 #[tactic(auto, using(crate::proofs::Blocks::begins_le))]
 pub(crate) fn place_of_unit(bytes: &[u8], n: usize) -> (usize, usize)
-    ensures bound { result.0 ≤ length bytes.now }
-    ensures begins { result.0 < length bytes.now → IsTrue (begins_char (slice_index bytes.now result.0)) }
-    ensures before { unit_count bytes.now ≤ n + unit_count (drop result.0 bytes.now) }
-    ensures after { result.0 < length bytes.now → n + unit_count (drop (result.0 + 1) bytes.now) < unit_count bytes.now }
+    ensures place { IsUnitPlaceOf bytes.now 0 n result.0 }
     ensures chars { count_by begins_char bytes.now ≡ result.1 + count_by begins_char (drop result.0 bytes.now) }
 {
     let mut at = 0;
@@ -180,9 +161,7 @@ pub(crate) fn place_of_unit(bytes: &[u8], n: usize) -> (usize, usize)
 #[tactic(auto, using(crate::proofs::Blocks::byte_break_count_le))]
 #[inline(always)]
 pub(crate) fn line_of_char(bytes: &[u8], n: usize, breaks: LineBreaks) -> (usize, usize)
-    ensures bound { result.0 ≤ length bytes.now }
-    ensures inside { result.0 < length bytes.now → IsMark Mark.Char bytes.now 0 n result.0 }
-    ensures end { result.0 ≡ length bytes.now → count_by begins_char bytes.now ≤ n }
+    ensures place { IsPlaceOf Mark.Char bytes.now 0 n result.0 }
     ensures break_count { byte_break_count breaks bytes.now ≡ result.1 + byte_break_count breaks (drop result.0 bytes.now) }
 {
     let mut at = 0;
@@ -207,8 +186,7 @@ pub(crate) fn line_of_char(bytes: &[u8], n: usize, breaks: LineBreaks) -> (usize
 #[tactic(auto, using(crate::proofs::Blocks::begins_le, crate::proofs::Blocks::pairs_le))]
 #[inline(always)]
 fn skip_known(bytes: &[u8], n: usize, breaks: LineBreaks) -> (usize, TextInfo)
-    ensures bound { result.1.bytes ≤ length bytes.now }
-    ensures counted { byte_break_count breaks bytes.now + result.0 ≡ n + byte_break_count breaks (drop result.1.bytes bytes.now) }
+    ensures passed { IsPassed (Mark.Break breaks) bytes.now n result.1.bytes result.0 }
     ensures chars { count_by begins_char bytes.now ≡ result.1.chars + count_by begins_char (drop result.1.bytes bytes.now) }
     ensures pairs { count_by begins_pair bytes.now ≡ result.1.utf16_surrogates + count_by begins_pair (drop result.1.bytes bytes.now) }
 {
@@ -228,33 +206,16 @@ fn skip_known(bytes: &[u8], n: usize, breaks: LineBreaks) -> (usize, TextInfo)
     (left, counts)
 }
 
-// The same for each set.
-#[inline(always)]
-fn skip_breaks(bytes: &[u8], n: usize, breaks: LineBreaks) -> (usize, TextInfo)
-    ensures bound { result.1.bytes ≤ length bytes.now }
-    ensures counted { byte_break_count breaks bytes.now + result.0 ≡ n + byte_break_count breaks (drop result.1.bytes bytes.now) }
-    ensures chars { count_by begins_char bytes.now ≡ result.1.chars + count_by begins_char (drop result.1.bytes bytes.now) }
-    ensures pairs { count_by begins_pair bytes.now ≡ result.1.utf16_surrogates + count_by begins_pair (drop result.1.bytes bytes.now) }
-{
-    match breaks {
-        LineBreaks::Lf => skip_known(bytes, n, LineBreaks::Lf),
-        LineBreaks::CrLf => skip_known(bytes, n, LineBreaks::CrLf),
-        LineBreaks::Unicode => skip_known(bytes, n, LineBreaks::Unicode),
-    }
-}
-
 /// What the bytes before the last character of the break `n` count, the breaks counted from 0 and the count of them left out.
 /// What a caller takes no count of isn't counted, since this is expanded there.
 #[tactic(auto, using(crate::proofs::Blocks::begins_le, crate::proofs::Blocks::pairs_le))]
 #[inline(always)]
 pub(crate) fn before_break(bytes: &[u8], n: usize, breaks: LineBreaks) -> TextInfo
-    ensures bound { result.bytes ≤ length bytes.now }
-    ensures inside { result.bytes < length bytes.now → IsMark (Mark.Break breaks) bytes.now 0 n result.bytes }
-    ensures end { result.bytes ≡ length bytes.now → byte_break_count breaks bytes.now ≤ n }
+    ensures place { IsPlaceOf (Mark.Break breaks) bytes.now 0 n result.bytes }
     ensures chars { count_by begins_char bytes.now ≡ result.chars + count_by begins_char (drop result.bytes bytes.now) }
     ensures pairs { count_by begins_pair bytes.now ≡ result.utf16_surrogates + count_by begins_pair (drop result.bytes bytes.now) }
 {
-    let (left, mut counts) = skip_breaks(bytes, n, breaks);
+    let (left, mut counts) = known_set!(breaks => skip_known(bytes, n, breaks));
     let from = counts.bytes;
     let to = find_from(bytes, from, left, Mark::Break(breaks));
     counts.chars += marks_between(bytes, from, to, Mark::Char);

@@ -1,8 +1,8 @@
 //! The counts of a text: bytes, characters, surrogate pairs and line breaks.
 //!
 //! Of `"é\r\n"`, with a set that has CR, they are 4 bytes, 3 characters, no surrogate pair and 1 line break.
-ghost use Rattle.std.specs.Prelude.{◌≡◌, ◌+◌, ◌<◌, ◌≤◌, ◌^◌, [], ◌++◌, false, length, take, drop, List, ℕ};
-ghost use Rattle.std.specs.Str.{chars, IsCharBoundary};
+ghost use Rattle.std.specs.Prelude.{◌≡◌, ◌+◌, ◌<◌, ◌≤◌, ◌^◌, [], ◌++◌, false, take, List, ℕ};
+ghost use Rattle.std.specs.Str.{chars};
 ghost use Rattle.rope_text.specs.Breaks.{break_count};
 ghost use Rattle.rope_text.specs.LineParts.{first_line};
 ghost use Rattle.rope_text.specs.Lines.{line_start};

@@ -3,6 +3,9 @@ use Rattle.std.specs.Prelude.{◌≡◌, ℕ, List, map, Option}
 use Rattle.std.specs.List.{concat}
 use Rattle.std.specs.Str.{chars}
 use Rattle.std.specs.Iterator.{Yields, Drains}
+use Rattle.rope_text.specs.declared.error.Error.{Error}
+use Rattle.rope_text.specs.Text.{byte_len}
+use Rattle.rope_text.specs.Edit.{size_error, IsRefusal}
 
 -- the characters of texts, one text after the other
 abbrev pub joined_texts : {A : Type 0} → (A → List ℕ) → List A → List ℕ
@@ -16,3 +19,7 @@ module _ {U S A : Type 0} (becomes : U → S → Type 0) (steps : S → Option A
   -- what the source gives up to some point
   abbrev pub IsBeginningOf : U → List ℕ → Type 0
   IsBeginningOf source text = (it : S) × (texts : List A) × (rest : S) × becomes source it × Yields steps it texts rest × (text ≡ joined_texts bytes texts)
+
+  -- what the source gives up to some point is refused so, for its size or for memory
+  abbrev pub IsRefusedOf : U → Error → Type 0
+  IsRefusedOf source error = (text : List ℕ) × IsBeginningOf source text × IsRefusal (size_error (byte_len text)) error

@@ -1,14 +1,20 @@
 //! Ropes compared and hashed by their texts, however they are cut. No call takes memory.
 //!
 //! A rope of `"ab"` made at once equals one made of `"a"` and then `"b"`, and comes before one of `"b"`.
-ghost use Rattle.std.specs.Prelude.{◌≡◌, IsTrue, ◌↔◌};
-ghost use Rattle.std.specs.Str.{chars};
+ghost use Rattle.std.proofs.Common.{rules};
+ghost use Rattle.std.specs.Cmp.Rules.{comparing};
+ghost use Rattle.std.specs.Ordering.{on};
+ghost use Rattle.rope_text.specs.Compare.{text_cmp};
+ghost use Rattle.ropey.specs.View.{text_of};
 
 use crate::rope::Rope;
 use std::cmp::Ordering;
 use std::hash::{Hash, Hasher};
 
 impl Rope {
+    ghost use Rattle.std.specs.Prelude.{◌≡◌, IsTrue, ◌↔◌};
+    ghost use Rattle.std.specs.Str.{chars};
+
     /// Whether the text is this one. Reads both texts up to where they differ; takes no memory.
     pub fn eq_str(&self, other: &str) -> bool
         ensures { IsTrue result ↔ (self.now.text ≡ chars other.now) }
@@ -21,9 +27,6 @@ impl Rope {
 /// both texts up to where they differ.
 impl PartialEq for Rope {
     ghost use Rattle.std.specs.Prelude.{◌==◌};
-    ghost use Rattle.std.proofs.Common.{rules};
-    ghost use Rattle.std.specs.Cmp.Rules.{comparing};
-    ghost use Rattle.std.specs.Ordering.{on};
     ghost use lib.Pointwise.{pointwise};
     ghost use Rattle.ropey.specs.Compared.{bytes_of};
 
@@ -37,21 +40,12 @@ impl PartialEq for Rope {
 }
 
 impl Eq for Rope {
-    ghost use Rattle.std.proofs.Common.{rules};
-    ghost use Rattle.std.specs.Cmp.Rules.{comparing};
-
     ghost laws = { Prim.search (comparing, rules) };
 }
 
 /// The lexicographic order of the bytes of the texts, however they are cut. Reads both texts up to where they
 /// differ.
 impl Ord for Rope {
-    ghost use Rattle.std.proofs.Common.{rules};
-    ghost use Rattle.std.specs.Cmp.Rules.{comparing};
-    ghost use Rattle.std.specs.Ordering.{on};
-    ghost use Rattle.rope_text.specs.Compare.{text_cmp};
-    ghost use Rattle.ropey.specs.View.{text_of};
-
     ghost cmp = { on text_of text_cmp };
 
     ghost total = { Prim.search (comparing, rules) };
@@ -66,12 +60,8 @@ impl Ord for Rope {
 }
 
 impl PartialOrd for Rope {
-    ghost use Rattle.std.proofs.Common.{rules};
     ghost use Rattle.std.specs.Cmp.{partial_order_from_own_ties};
-    ghost use Rattle.std.specs.Cmp.Rules.{comparing};
-    ghost use Rattle.std.specs.Ordering.{on, as_partial_cmp};
-    ghost use Rattle.rope_text.specs.Compare.{text_cmp};
-    ghost use Rattle.ropey.specs.View.{text_of};
+    ghost use Rattle.std.specs.Ordering.{as_partial_cmp};
 
     ghost partial_cmp = { as_partial_cmp (on text_of text_cmp) };
 
@@ -85,8 +75,7 @@ impl PartialOrd for Rope {
 /// A hasher is given the bytes of the text in blocks of 256, the last one shorter where need be, and then 0xff,
 /// however the rope is cut.
 impl Hash for Rope {
-    ghost use Rattle.std.proofs.Common.{rules};
-    ghost use Rattle.std.specs.Cmp.Rules.{comparing, hashing};
+    ghost use Rattle.std.specs.Cmp.Rules.{hashing};
     ghost use Rattle.ropey.specs.Compared.{writes_of};
 
     ghost hash_input = { writes_of };

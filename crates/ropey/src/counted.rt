@@ -9,7 +9,7 @@ ghost use Rattle.rope_text.specs.Text.{byte_len, utf16_len};
 ghost use Rattle.rope_text.specs.Lines.{line_count};
 ghost use Rattle.rope_text.specs.Conversions.{byte_to_char, byte_to_line, char_to_byte, char_to_line, char_to_utf16, line_to_byte, line_to_char, utf16_to_char};
 ghost use Rattle.rope_tree.specs.Tree.{text};
-ghost use Rattle.ropey.specs.Counted.{IsLookUp, WentDown, StayedOut};
+ghost use Rattle.ropey.specs.Counted.{IsLookUp, WentDown, IsLookUpAt, IsLineLookUp};
 
 use crate::rope::Rope;
 use rope_text::Steps;
@@ -36,9 +36,7 @@ impl Rope {
     pub fn byte_to_char_counted(&self, byte_idx: usize, steps: &mut Steps) -> usize
         requires { byte_idx ≤ byte_len self.now.text }
         ensures value { result ≡ byte_to_char self.now.text byte_idx }
-        ensures steps { IsLookUp self.now.depth steps.new }
-        ensures inside { byte_idx < byte_len self.now.text → WentDown self.now.depth steps.new }
-        ensures at_end { byte_idx ≡ byte_len self.now.text → StayedOut steps.new }
+        ensures steps { IsLookUpAt byte_idx (byte_len self.now.text) self.now.depth steps.new }
     {
         convert(self.begin(steps), Byte, Char, byte_idx, steps)
     }
@@ -48,9 +46,7 @@ impl Rope {
     pub fn byte_to_line_counted(&self, byte_idx: usize, steps: &mut Steps) -> usize
         requires { byte_idx ≤ byte_len self.now.text }
         ensures value { result ≡ byte_to_line self.now.breaks self.now.text byte_idx }
-        ensures steps { IsLookUp self.now.depth steps.new }
-        ensures inside { byte_idx < byte_len self.now.text → WentDown self.now.depth steps.new }
-        ensures at_end { byte_idx ≡ byte_len self.now.text → StayedOut steps.new }
+        ensures steps { IsLookUpAt byte_idx (byte_len self.now.text) self.now.depth steps.new }
     {
         convert(self.begin(steps), Byte, LineBreak, byte_idx, steps)
     }
@@ -60,9 +56,7 @@ impl Rope {
     pub fn char_to_byte_counted(&self, char_idx: usize, steps: &mut Steps) -> usize
         requires { char_idx ≤ length self.now.text }
         ensures value { result ≡ char_to_byte self.now.text char_idx }
-        ensures steps { IsLookUp self.now.depth steps.new }
-        ensures inside { char_idx < length self.now.text → WentDown self.now.depth steps.new }
-        ensures at_end { char_idx ≡ length self.now.text → StayedOut steps.new }
+        ensures steps { IsLookUpAt char_idx (length self.now.text) self.now.depth steps.new }
     {
         convert(self.begin(steps), Char, Byte, char_idx, steps)
     }
@@ -72,9 +66,7 @@ impl Rope {
     pub fn char_to_line_counted(&self, char_idx: usize, steps: &mut Steps) -> usize
         requires { char_idx ≤ length self.now.text }
         ensures value { result ≡ char_to_line self.now.breaks self.now.text char_idx }
-        ensures steps { IsLookUp self.now.depth steps.new }
-        ensures inside { char_idx < length self.now.text → WentDown self.now.depth steps.new }
-        ensures at_end { char_idx ≡ length self.now.text → StayedOut steps.new }
+        ensures steps { IsLookUpAt char_idx (length self.now.text) self.now.depth steps.new }
     {
         convert(self.begin(steps), Char, LineBreak, char_idx, steps)
     }
@@ -84,9 +76,7 @@ impl Rope {
     pub fn char_to_utf16_cu_counted(&self, char_idx: usize, steps: &mut Steps) -> usize
         requires { char_idx ≤ length self.now.text }
         ensures value { result ≡ char_to_utf16 self.now.text char_idx }
-        ensures steps { IsLookUp self.now.depth steps.new }
-        ensures inside { char_idx < length self.now.text → WentDown self.now.depth steps.new }
-        ensures at_end { char_idx ≡ length self.now.text → StayedOut steps.new }
+        ensures steps { IsLookUpAt char_idx (length self.now.text) self.now.depth steps.new }
     {
         convert(self.begin(steps), Char, CodeUnit, char_idx, steps)
     }
@@ -96,9 +86,7 @@ impl Rope {
     pub fn utf16_cu_to_char_counted(&self, utf16_cu_idx: usize, steps: &mut Steps) -> usize
         requires { utf16_cu_idx ≤ utf16_len self.now.text }
         ensures value { result ≡ utf16_to_char self.now.text utf16_cu_idx }
-        ensures steps { IsLookUp self.now.depth steps.new }
-        ensures inside { utf16_cu_idx < utf16_len self.now.text → WentDown self.now.depth steps.new }
-        ensures at_end { utf16_cu_idx ≡ utf16_len self.now.text → StayedOut steps.new }
+        ensures steps { IsLookUpAt utf16_cu_idx (utf16_len self.now.text) self.now.depth steps.new }
     {
         convert(self.begin(steps), CodeUnit, Char, utf16_cu_idx, steps)
     }
@@ -108,10 +96,7 @@ impl Rope {
     pub fn line_to_byte_counted(&self, line_idx: usize, steps: &mut Steps) -> usize
         requires { line_idx ≤ line_count self.now.breaks self.now.text }
         ensures value { result ≡ line_to_byte self.now.breaks self.now.text line_idx }
-        ensures steps { IsLookUp self.now.depth steps.new }
-        ensures inside { 0 < line_idx → line_idx < line_count self.now.breaks self.now.text → WentDown self.now.depth steps.new }
-        ensures at_start { line_idx ≡ 0 → StayedOut steps.new }
-        ensures at_end { line_idx ≡ line_count self.now.breaks self.now.text → StayedOut steps.new }
+        ensures steps { IsLineLookUp line_idx (line_count self.now.breaks self.now.text) self.now.depth steps.new }
     {
         convert(self.begin(steps), LineBreak, Byte, line_idx, steps)
     }
@@ -121,10 +106,7 @@ impl Rope {
     pub fn line_to_char_counted(&self, line_idx: usize, steps: &mut Steps) -> usize
         requires { line_idx ≤ line_count self.now.breaks self.now.text }
         ensures value { result ≡ line_to_char self.now.breaks self.now.text line_idx }
-        ensures steps { IsLookUp self.now.depth steps.new }
-        ensures inside { 0 < line_idx → line_idx < line_count self.now.breaks self.now.text → WentDown self.now.depth steps.new }
-        ensures at_start { line_idx ≡ 0 → StayedOut steps.new }
-        ensures at_end { line_idx ≡ line_count self.now.breaks self.now.text → StayedOut steps.new }
+        ensures steps { IsLineLookUp line_idx (line_count self.now.breaks self.now.text) self.now.depth steps.new }
     {
         convert(self.begin(steps), LineBreak, Char, line_idx, steps)
     }

@@ -1,15 +1,16 @@
 //! Cursors over the bytes, the characters, the chunks and the lines of a rope. No call takes memory.
 //!
 //! A cursor stands between two items. Over the characters of `"abc"`, `chars_at(1)` gives `b` by `next`, and then
-//! `b` again by `prev`.
-ghost use Rattle.std.specs.Prelude.{◌≡◌, ◌≤◌, ◌<◌, ◌^◌, length, MatchOption};
+//! `b` again by `prev`. The calls that test their index stand last.
+ghost use Rattle.std.specs.Prelude.{◌≡◌, ◌≤◌, ◌<◌, length, MatchOption};
 ghost use Rattle.std.specs.Str.{encode_utf8_all};
 ghost use Rattle.rope_text.specs.Text.{byte_len};
 ghost use Rattle.rope_text.specs.Lines.{line_count};
 ghost use Rattle.rope_text.specs.LineParts.{line_of, lines_of};
-ghost use Rattle.rope_text.specs.Lookup.{StandsAt, chunk_place_at_byte, chunk_place_at_char, chunk_place_at_line_break};
+ghost use Rattle.rope_text.specs.Lookup.{chunk_place_at_byte, chunk_place_at_char, chunk_place_at_line_break};
 ghost use Rattle.rope_text.specs.Sides.{at_start, at_place};
 ghost use Rattle.rope_slice.specs.Slice.{content_of};
+ghost use Rattle.rope_slice.specs.Found.{GivesWithin, StandsBefore};
 ghost use Rattle.ropey.specs.View.{content};
 
 use crate::rope::Rope;
@@ -35,14 +36,6 @@ impl Rope {
         self.whole().bytes_at(byte_idx)
     }
 
-    /// As `bytes_at`, or `None` exactly where the index is past `len_bytes()`. Costs one look-up; takes no memory.
-    pub fn get_bytes_at(&self, byte_idx: usize) -> Option<Bytes<'_>>
-        ensures { MatchOption result (byte_len self.now.text < byte_idx)
-            (λ bytes. (byte_idx ≤ byte_len self.now.text) × (bytes ≡ at_place (encode_utf8_all self.now.text) byte_idx)) }
-    {
-        self.whole().get_bytes_at(byte_idx)
-    }
-
     /// A cursor over the characters, before the first, facing forward. Costs one look-up; takes no memory.
     pub fn chars(&self) -> Chars<'_>
         ensures { result ≡ at_start self.now.text }
@@ -61,14 +54,6 @@ impl Rope {
         self.whole().chars_at(char_idx)
     }
 
-    /// As `chars_at`, or `None` exactly where the index is past `len_chars()`. Costs one look-up; takes no memory.
-    pub fn get_chars_at(&self, char_idx: usize) -> Option<Chars<'_>>
-        ensures { MatchOption result (length self.now.text < char_idx)
-            (λ chars. (char_idx ≤ length self.now.text) × (chars ≡ at_place self.now.text char_idx)) }
-    {
-        self.whole().get_chars_at(char_idx)
-    }
-
     /// A cursor over the chunks, before the chunk that holds the byte `byte_idx`, facing forward; for `len_bytes()`
     /// it stands past the last chunk. With it the numbers of bytes, of characters and of line breaks that end
     /// before the cursor.
@@ -76,20 +61,9 @@ impl Rope {
     /// The index is at most `len_bytes()`. Costs one look-up; takes no memory.
     pub fn chunks_at_byte(&self, byte_idx: usize) -> (Chunks<'_>, usize, usize, usize)
         requires { byte_idx ≤ byte_len self.now.text }
-        ensures { StandsAt self.now.breaks self.now.chunks (chunk_place_at_byte self.now.chunks byte_idx)
-            result.0 result.1 result.2 result.3 }
+        ensures { StandsBefore (content self.now) (chunk_place_at_byte self.now.chunks byte_idx) result }
     {
         self.whole().chunks_at_byte(byte_idx)
-    }
-
-    /// As `chunks_at_byte`, or `None` exactly where the index is past `len_bytes()`. Costs one look-up; takes no
-    /// memory.
-    pub fn get_chunks_at_byte(&self, byte_idx: usize) -> Option<(Chunks<'_>, usize, usize, usize)>
-        ensures { MatchOption result (byte_len self.now.text < byte_idx)
-            (λ found. (byte_idx ≤ byte_len self.now.text) × StandsAt self.now.breaks self.now.chunks
-            (chunk_place_at_byte self.now.chunks byte_idx) found.0 found.1 found.2 found.3) }
-    {
-        self.whole().get_chunks_at_byte(byte_idx)
     }
 
     /// A cursor over the chunks, before the chunk that holds the character `char_idx`, facing forward; for
@@ -99,20 +73,9 @@ impl Rope {
     /// The index is at most `len_chars()`. Costs one look-up; takes no memory.
     pub fn chunks_at_char(&self, char_idx: usize) -> (Chunks<'_>, usize, usize, usize)
         requires { char_idx ≤ length self.now.text }
-        ensures { StandsAt self.now.breaks self.now.chunks (chunk_place_at_char self.now.chunks char_idx)
-            result.0 result.1 result.2 result.3 }
+        ensures { StandsBefore (content self.now) (chunk_place_at_char self.now.chunks char_idx) result }
     {
         self.whole().chunks_at_char(char_idx)
-    }
-
-    /// As `chunks_at_char`, or `None` exactly where the index is past `len_chars()`. Costs one look-up; takes no
-    /// memory.
-    pub fn get_chunks_at_char(&self, char_idx: usize) -> Option<(Chunks<'_>, usize, usize, usize)>
-        ensures { MatchOption result (length self.now.text < char_idx)
-            (λ found. (char_idx ≤ length self.now.text) × StandsAt self.now.breaks self.now.chunks
-            (chunk_place_at_char self.now.chunks char_idx) found.0 found.1 found.2 found.3) }
-    {
-        self.whole().get_chunks_at_char(char_idx)
     }
 
     /// A cursor over the chunks, before the first chunk by whose end `line_break_idx` line breaks have ended, or
@@ -122,23 +85,9 @@ impl Rope {
     /// The index is at most `len_lines()`. Costs one look-up; takes no memory.
     pub fn chunks_at_line_break(&self, line_break_idx: usize) -> (Chunks<'_>, usize, usize, usize)
         requires { line_break_idx ≤ line_count self.now.breaks self.now.text }
-        ensures { StandsAt self.now.breaks self.now.chunks (chunk_place_at_line_break self.now.breaks self.now.chunks line_break_idx)
-            result.0 result.1 result.2 result.3 }
+        ensures { StandsBefore (content self.now) (chunk_place_at_line_break self.now.breaks self.now.chunks line_break_idx) result }
     {
         self.whole().chunks_at_line_break(line_break_idx)
-    }
-
-    /// As `chunks_at_line_break`, or `None` exactly where the index is past `len_lines()`. Costs one look-up; takes
-    /// no memory.
-    pub fn get_chunks_at_line_break(
-        &self,
-        line_break_idx: usize,
-    ) -> Option<(Chunks<'_>, usize, usize, usize)>
-        ensures { MatchOption result (line_count self.now.breaks self.now.text < line_break_idx)
-            (λ found. (line_break_idx ≤ line_count self.now.breaks self.now.text) × StandsAt self.now.breaks self.now.chunks
-            (chunk_place_at_line_break self.now.breaks self.now.chunks line_break_idx) found.0 found.1 found.2 found.3) }
-    {
-        self.whole().get_chunks_at_line_break(line_break_idx)
     }
 
     /// The line `line_idx`, counted from 0, with its line break, as a slice.
@@ -149,16 +98,6 @@ impl Rope {
         ensures { content_of result ≡ line_of (content self.now) line_idx }
     {
         self.whole().line(line_idx)
-    }
-
-    /// The line `line_idx`, counted from 0, with its line break, or `None` exactly where the index is `len_lines()`
-    /// or past it. Costs two look-ups, and counts the line; takes no memory.
-    pub fn get_line(&self, line_idx: usize) -> Option<RopeSlice<'_>>
-        ensures { MatchOption result (line_count self.now.breaks self.now.text ≤ line_idx)
-            (λ slice. (line_idx < line_count self.now.breaks self.now.text)
-            × (content_of slice ≡ line_of (content self.now) line_idx)) }
-    {
-        self.whole().get_line(line_idx)
     }
 
     /// A cursor over the lines, before the first, facing forward. Costs one look-up; takes no memory.
@@ -179,11 +118,63 @@ impl Rope {
         self.whole().lines_at(line_idx)
     }
 
+    /// As `bytes_at`, or `None` exactly where the index is past `len_bytes()`. Costs one look-up; takes no memory.
+    pub fn get_bytes_at(&self, byte_idx: usize) -> Option<Bytes<'_>>
+        ensures { GivesWithin byte_idx (byte_len self.now.text) result (λ bytes. bytes ≡ at_place (encode_utf8_all self.now.text) byte_idx) }
+    {
+        self.whole().get_bytes_at(byte_idx)
+    }
+
+    /// As `chars_at`, or `None` exactly where the index is past `len_chars()`. Costs one look-up; takes no memory.
+    pub fn get_chars_at(&self, char_idx: usize) -> Option<Chars<'_>>
+        ensures { GivesWithin char_idx (length self.now.text) result (λ chars. chars ≡ at_place self.now.text char_idx) }
+    {
+        self.whole().get_chars_at(char_idx)
+    }
+
+    /// As `chunks_at_byte`, or `None` exactly where the index is past `len_bytes()`. Costs one look-up; takes no
+    /// memory.
+    pub fn get_chunks_at_byte(&self, byte_idx: usize) -> Option<(Chunks<'_>, usize, usize, usize)>
+        ensures { GivesWithin byte_idx (byte_len self.now.text) result
+            (StandsBefore (content self.now) (chunk_place_at_byte self.now.chunks byte_idx)) }
+    {
+        self.whole().get_chunks_at_byte(byte_idx)
+    }
+
+    /// As `chunks_at_char`, or `None` exactly where the index is past `len_chars()`. Costs one look-up; takes no
+    /// memory.
+    pub fn get_chunks_at_char(&self, char_idx: usize) -> Option<(Chunks<'_>, usize, usize, usize)>
+        ensures { GivesWithin char_idx (length self.now.text) result
+            (StandsBefore (content self.now) (chunk_place_at_char self.now.chunks char_idx)) }
+    {
+        self.whole().get_chunks_at_char(char_idx)
+    }
+
+    /// As `chunks_at_line_break`, or `None` exactly where the index is past `len_lines()`. Costs one look-up; takes
+    /// no memory.
+    pub fn get_chunks_at_line_break(
+        &self,
+        line_break_idx: usize,
+    ) -> Option<(Chunks<'_>, usize, usize, usize)>
+        ensures { GivesWithin line_break_idx (line_count self.now.breaks self.now.text) result
+            (StandsBefore (content self.now) (chunk_place_at_line_break self.now.breaks self.now.chunks line_break_idx)) }
+    {
+        self.whole().get_chunks_at_line_break(line_break_idx)
+    }
+
+    /// The line `line_idx`, counted from 0, with its line break, or `None` exactly where the index is `len_lines()`
+    /// or past it. Costs two look-ups, and counts the line; takes no memory.
+    pub fn get_line(&self, line_idx: usize) -> Option<RopeSlice<'_>>
+        ensures { MatchOption result (line_count self.now.breaks self.now.text ≤ line_idx)
+            (λ slice. (line_idx < line_count self.now.breaks self.now.text)
+            × (content_of slice ≡ line_of (content self.now) line_idx)) }
+    {
+        self.whole().get_line(line_idx)
+    }
+
     /// As `lines_at`, or `None` exactly where the index is past `len_lines()`. Costs one look-up; takes no memory.
     pub fn get_lines_at(&self, line_idx: usize) -> Option<Lines<'_>>
-        ensures { MatchOption result (line_count self.now.breaks self.now.text < line_idx)
-            (λ lines. (line_idx ≤ line_count self.now.breaks self.now.text)
-            × (lines ≡ at_place (lines_of (content self.now)) line_idx)) }
+        ensures { GivesWithin line_idx (line_count self.now.breaks self.now.text) result (λ lines. lines ≡ at_place (lines_of (content self.now)) line_idx) }
     {
         self.whole().get_lines_at(line_idx)
     }

@@ -2,9 +2,8 @@
 //!
 //! With the text `"hello world"`, `remove(5..)` leaves `"hello"`; `split_off(6)` leaves `"hello "` and returns a
 //! rope of `"world"`, and an `append` of that puts it back.
-ghost use Rattle.std.specs.Prelude.{◌≡◌, ℕ, ◌+◌, ◌*◌, ◌≤◌, ◌<◌, ◌^◌, ◌++◌, length, max, None, IsOk, IfOk, IfErr, OnOk};
+ghost use Rattle.std.specs.Prelude.{◌≡◌, ◌+◌, ◌*◌, ◌≤◌, ◌<◌, ◌++◌, length, max, None, IsOk, IfOk, IfErr, OnOk};
 ghost use Rattle.rope_text.specs.declared.error.Error.TheVariants.{OutOfMemory};
-ghost use Rattle.rope_text.specs.Text.{byte_len};
 ghost use Rattle.rope_text.specs.Edit.{char_index_error, char_range_error, range_start, range_end, removed, append_error, IsRefusal};
 ghost use Rattle.ropey.specs.Edited.{IsEdit, IsCutAt};
 

@@ -23,13 +23,12 @@
 //!     rope.insert(5, ", you")?;          // "hello, you"
 //!     let start = rope.line_to_char(0);  // 0
 //!
-//! *Where to look.* `rope` makes and measures ropes; `inserts` and `edits` change them; `conversions`, `lookups`
-//! and `chunks_at` answer about a place; `slices` borrows parts; `cursors` and `iter` step through bytes,
-//! characters, lines and chunks; `compare`, `text_out` and `io` read whole texts; `counted` has twins that count
-//! their steps; `laws` says what the definitions of the contracts have in common.
+//! *Where to look.* `rope` makes and measures ropes; `inserts` and `edits` change them; `conversions` and `lookups`
+//! answer about a place; `slices` borrows parts; `cursors` and `iter` step through bytes, characters, lines and
+//! chunks; `compare`, `text_out` and `io` read whole texts; `counted` has twins that count their steps; `laws` says
+//! what the definitions of the contracts have in common.
 #![tactic(auto)]
 
-mod chunks_at;
 mod compare;
 mod conversions;
 mod counted;

@@ -1,13 +1,12 @@
 //! Slices of a rope, and ropes of slices.
 //!
 //! With the text `"hello world"`, `slice(6..)` has the text `"world"`, and `byte_slice(..5)` has `"hello"`.
-ghost use Rattle.std.specs.Prelude.{◌≡◌, ◌≢◌, length, None, Some, IfOk, IfErr, MatchOption};
-ghost use Rattle.rope_text.specs.Text.{byte_len};
-ghost use Rattle.rope_text.specs.Conversions.{byte_to_char};
-ghost use Rattle.rope_text.specs.Edit.{range_start, range_end, char_range_error, byte_range_error};
-ghost use Rattle.rope_slice.specs.Sliced.{IsSlice};
+ghost use Rattle.std.specs.Prelude.{◌≡◌, length, None, Some, IfOk, IfErr};
+ghost use Rattle.rope_text.specs.Edit.{char_range_error, byte_range_error};
 ghost use Rattle.rope_text.specs.declared.error.Error.TheVariants.{OutOfMemory};
+ghost use Rattle.rope_slice.specs.Sliced.{IsCharRange, IsByteRange};
 ghost use Rattle.rope_slice.specs.Slice.{content_of, text_of, breaks_of};
+ghost use Rattle.rope_slice.specs.Found.{GivesUnless};
 ghost use Rattle.ropey.specs.View.{content, IsRope};
 
 use crate::rope::Rope;
@@ -33,8 +32,7 @@ impl Rope {
     /// memory.
     pub fn slice<R: IndexRange + Drop>(&self, range: R) -> RopeSlice<'_>
         requires { char_range_error (R.given_start range) (R.given_end range) (length self.now.text) ≡ None }
-        ensures { IsSlice (content self.now) (range_start (R.given_start range)) (range_end (R.given_end range) (length self.now.text))
-            (content_of result) }
+        ensures { IsCharRange (content self.now) (R.given_start range) (R.given_end range) (content_of result) }
     {
         self.whole().slice(range)
     }
@@ -42,10 +40,8 @@ impl Rope {
     /// As `slice`, or `None` exactly where a bound is past `len_chars()` or the range's start is past its end.
     /// Costs two look-ups; takes no memory.
     pub fn get_slice<R: IndexRange + Drop>(&self, range: R) -> Option<RopeSlice<'_>>
-        ensures { MatchOption result (char_range_error (R.given_start range) (R.given_end range) (length self.now.text) ≢ None)
-            (λ slice. (char_range_error (R.given_start range) (R.given_end range) (length self.now.text) ≡ None)
-            × IsSlice (content self.now) (range_start (R.given_start range)) (range_end (R.given_end range) (length self.now.text))
-            (content_of slice)) }
+        ensures { GivesUnless (char_range_error (R.given_start range) (R.given_end range) (length self.now.text)) result
+            (λ slice. IsCharRange (content self.now) (R.given_start range) (R.given_end range) (content_of slice)) }
     {
         self.whole().get_slice(range)
     }
@@ -56,8 +52,7 @@ impl Rope {
     /// character. Costs two look-ups; takes no memory.
     pub fn byte_slice<R: IndexRange + Drop>(&self, range: R) -> RopeSlice<'_>
         requires { byte_range_error self.now.text (R.given_start range) (R.given_end range) ≡ None }
-        ensures { IsSlice (content self.now) (byte_to_char self.now.text (range_start (R.given_start range)))
-            (byte_to_char self.now.text (range_end (R.given_end range) (byte_len self.now.text))) (content_of result) }
+        ensures { IsByteRange (content self.now) (R.given_start range) (R.given_end range) (content_of result) }
     {
         self.whole().byte_slice(range)
     }
@@ -71,8 +66,7 @@ impl Rope {
     /// given bound lies inside a character.
     pub fn try_byte_slice<R: IndexRange + Drop>(&self, range: R) -> Result<RopeSlice<'_>>
         ensures ok { IfOk result (λ slice. (byte_range_error self.now.text (R.given_start range) (R.given_end range) ≡ None)
-            × IsSlice (content self.now) (byte_to_char self.now.text (range_start (R.given_start range)))
-            (byte_to_char self.now.text (range_end (R.given_end range) (byte_len self.now.text))) (content_of slice)) }
+            × IsByteRange (content self.now) (R.given_start range) (R.given_end range) (content_of slice)) }
         ensures refused { IfErr result (λ fault. byte_range_error self.now.text (R.given_start range) (R.given_end range) ≡ Some fault) }
     {
         self.whole().try_byte_slice(range)
@@ -81,10 +75,8 @@ impl Rope {
     /// As `byte_slice`, or `None` exactly where `try_byte_slice` returns an error. Costs two look-ups; takes no
     /// memory.
     pub fn get_byte_slice<R: IndexRange + Drop>(&self, range: R) -> Option<RopeSlice<'_>>
-        ensures { MatchOption result (byte_range_error self.now.text (R.given_start range) (R.given_end range) ≢ None)
-            (λ slice. (byte_range_error self.now.text (R.given_start range) (R.given_end range) ≡ None)
-            × IsSlice (content self.now) (byte_to_char self.now.text (range_start (R.given_start range)))
-            (byte_to_char self.now.text (range_end (R.given_end range) (byte_len self.now.text))) (content_of slice)) }
+        ensures { GivesUnless (byte_range_error self.now.text (R.given_start range) (R.given_end range)) result
+            (λ slice. IsByteRange (content self.now) (R.given_start range) (R.given_end range) (content_of slice)) }
     {
         self.whole().get_byte_slice(range)
     }

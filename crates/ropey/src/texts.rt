@@ -1,17 +1,15 @@
 //! Ropes of owned texts, and of texts that an iterator gives.
 //!
 //! `from_str_iter(alloc, ["one\n", "two"])` returns a rope of `"one\ntwo"`.
-ghost use Rattle.std.specs.Prelude.{◌≡◌, List, ℕ, IfOk, IfErr};
+ghost use Rattle.std.specs.Prelude.{◌≡◌, IfOk, IfErr};
 ghost use Rattle.std.specs.Str.{chars};
 ghost use Rattle.std.specs.String.{string_bytes};
 ghost use Rattle.std.specs.Cow.{cow_str_bytes};
 ghost use Rattle.std.specs.Iterator.{IsFiniteIterable};
 ghost use Rattle.rope_text.specs.declared.error.Error.TheVariants.{OutOfMemory};
 ghost use Rattle.rope_text.specs.declared.line_breaks.LineBreaks.TheVariants.{Unicode};
-ghost use Rattle.rope_text.specs.Text.{byte_len};
-ghost use Rattle.rope_text.specs.Edit.{size_error, IsRefusal};
 ghost use Rattle.ropey.specs.View.{IsBuilt};
-ghost use Rattle.ropey.specs.Texts.{IsAllOf, IsBeginningOf};
+ghost use Rattle.ropey.specs.Texts.{IsAllOf, IsRefusedOf};
 
 use crate::rope::Rope;
 use crate::rope_builder::RopeBuilder;
@@ -67,7 +65,7 @@ impl Rope {
         requires ends { IsFiniteIterable I.into_iter_gives I.IntoIter.can_next I.IntoIter.remaining iter }
         ensures text { IfOk result (λ rope. IsAllOf I.into_iter_gives I.IntoIter.next_gives (λ x. x.now) iter rope.text) }
         ensures kept { IfOk result (IsBuilt Unicode) }
-        ensures refused { IfErr result (λ e. (text : List ℕ) × IsBeginningOf I.into_iter_gives I.IntoIter.next_gives (λ x. x.now) iter text × IsRefusal (size_error (byte_len text)) e) }
+        ensures refused { IfErr result (IsRefusedOf I.into_iter_gives I.IntoIter.next_gives (λ x. x.now) iter) }
     {
         from_texts(alloc, iter)
     }
@@ -83,7 +81,7 @@ impl Rope {
         requires ends { IsFiniteIterable I.into_iter_gives I.IntoIter.can_next I.IntoIter.remaining iter }
         ensures text { IfOk result (λ rope. IsAllOf I.into_iter_gives I.IntoIter.next_gives string_bytes iter rope.text) }
         ensures kept { IfOk result (IsBuilt Unicode) }
-        ensures refused { IfErr result (λ e. (text : List ℕ) × IsBeginningOf I.into_iter_gives I.IntoIter.next_gives string_bytes iter text × IsRefusal (size_error (byte_len text)) e) }
+        ensures refused { IfErr result (IsRefusedOf I.into_iter_gives I.IntoIter.next_gives string_bytes iter) }
     {
         from_texts(alloc, iter)
     }
@@ -102,7 +100,7 @@ impl Rope {
         requires ends { IsFiniteIterable I.into_iter_gives I.IntoIter.can_next I.IntoIter.remaining iter }
         ensures text { IfOk result (λ rope. IsAllOf I.into_iter_gives I.IntoIter.next_gives cow_str_bytes iter rope.text) }
         ensures kept { IfOk result (IsBuilt Unicode) }
-        ensures refused { IfErr result (λ e. (text : List ℕ) × IsBeginningOf I.into_iter_gives I.IntoIter.next_gives cow_str_bytes iter text × IsRefusal (size_error (byte_len text)) e) }
+        ensures refused { IfErr result (IsRefusedOf I.into_iter_gives I.IntoIter.next_gives cow_str_bytes iter) }
     {
         from_texts(alloc, iter)
     }
@@ -113,7 +111,7 @@ fn from_texts<T: AsStr + Drop, I: IntoIterator<Item = T>>(alloc: Global, iter: I
     requires ends { IsFiniteIterable I.into_iter_gives I.IntoIter.can_next I.IntoIter.remaining iter }
     ensures text { IfOk result (λ rope. IsAllOf I.into_iter_gives I.IntoIter.next_gives T.text iter rope.text) }
     ensures kept { IfOk result (IsBuilt Unicode) }
-    ensures refused { IfErr result (λ e. (text : List ℕ) × IsBeginningOf I.into_iter_gives I.IntoIter.next_gives T.text iter text × IsRefusal (size_error (byte_len text)) e) }
+    ensures refused { IfErr result (IsRefusedOf I.into_iter_gives I.IntoIter.next_gives T.text iter) }
 {
     let mut builder = RopeBuilder::new(alloc).unwrap();
     for text in iter {

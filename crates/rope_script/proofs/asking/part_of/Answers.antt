@@ -1,4 +1,4 @@
-use Rattle.std.proofs.Common.{◌≡◌, Option, Some, ap, sym, ◌∙◌}
+use Rattle.std.proofs.Common.{Some, ap, sym, ◌∙◌}
 use Rattle.ropey.specs.View.{content}
 use Rattle.rope_slice.specs.Slice.{content_of}
 use Rattle.rope_script.specs.Part.{part_of}

@@ -1,4 +1,3 @@
-use Rattle.std.proofs.Common.{nat_le, arith}
 use Rattle.rope_slice.specs.Slice.{content_of, chunks_of}
 use Rattle.rope_script.specs.Ask.{is_inside, chunk_place}
 use Rattle.rope_script.specs.Walk.{IsTextItem}

@@ -18,17 +18,17 @@ pub returns-then-last-bytes-clause-value : goal.returns-then-last-bytes-clause-v
 returns-then-last-bytes-clause-value c =
     let bytes = c.as_bytes-bytes in
     let next : suc (c.args.line_idx - 1) ≡ c.args.line_idx = omega arith in
-    c.if-last-bytes.true ∙ sym (no_break_place c.args.breaks bytes.result.now (c.args.line_idx - 1) bytes.ensures.utf8 (c.before_break-last.ensures.end c.if-last-bytes.true))
+    c.if-last-bytes.true ∙ sym (no_break_place c.args.breaks bytes.result.now (c.args.line_idx - 1) bytes.ensures.utf8 (c.before_break-last.ensures.place.end c.if-last-bytes.true))
     ∙ ap (line_to_byte c.args.breaks (chars bytes.result.now)) next ∙ ap (λ bs. line_to_byte c.args.breaks (chars bs) c.args.line_idx) bytes.ensures.value
 
 pub returns-clause-value : goal.returns-clause-value
 returns-clause-value c =
     let bytes = c.as_bytes-bytes in
     let p = c.before_break-last in
-    let inside : p.result.bytes < length bytes.result.now = omega (arith, p.ensures.bound, c.if-last-bytes.false) in
+    let inside : p.result.bytes < length bytes.result.now = omega (arith, p.ensures.place.bound, c.if-last-bytes.false) in
     let next : suc (c.args.line_idx - 1) ≡ c.args.line_idx = omega arith in
     ap (λ w. p.result.bytes + w) c.width_of.ensures
-    ∙ break_place c.args.breaks bytes.result.now (c.args.line_idx - 1) p.result.bytes bytes.ensures.utf8 inside (p.ensures.inside inside).0 (p.ensures.inside inside).1
+    ∙ break_place c.args.breaks bytes.result.now (c.args.line_idx - 1) p.result.bytes bytes.ensures.utf8 inside (p.ensures.place.inside inside).0 (p.ensures.place.inside inside).1
     ∙ ap (line_to_byte c.args.breaks (chars bytes.result.now)) next ∙ ap (λ bs. line_to_byte c.args.breaks (chars bs) c.args.line_idx) bytes.ensures.value
 
 pub returns-clause-boundary : goal.returns-clause-boundary

@@ -24,4 +24,4 @@ returns c =
     let whole = break_count-chars breaks bs utf8 in
     let same = ap (λ xs. break_count breaks (chars xs)) value in
     let all_breaks : counted.result.break_count ≡ break_count breaks (chars text) = omega (arith, counted.ensures.break_count) in
-    same_info counted.result (info_of breaks (chars text)) (omega (arith, counted.ensures.bytes, bytes, ap length value)) all_chars all_pairs all_breaks
+    same_info counted.result (info_of breaks (chars text)) (omega (arith, counted.ensures.bytes_are, bytes, ap length value)) all_chars all_pairs all_breaks
