@@ -215,6 +215,15 @@ fn marks_in_quarters(bytes: &[u8], to: usize, mark: Mark) -> (usize, usize)
     (4 * quarter, first + second + third + fourth)
 }
 
+// The same of breaks, for each set. Not expanded where it is called: it is long.
+fn breaks_in_quarters(bytes: &[u8], to: usize, breaks: LineBreaks) -> (usize, usize)
+    requires { to ≤ length bytes.now - 2 }
+    ensures bound { result.0 ≤ to }
+    ensures counted { byte_break_count breaks bytes.now ≡ result.1 + byte_break_count breaks (drop result.0 bytes.now) }
+{
+    known_set!(breaks => marks_in_quarters(bytes, to, Mark::Break(breaks)))
+}
+
 /// How many marks begin from the byte `from` on and before `to`. The mark is known where this is expanded.
 #[tactic(auto, using(crate::proofs::Blocks::marks_le))]
 #[inline(always)]
@@ -290,7 +299,7 @@ fn known_breaks_before(bytes: &[u8], to: usize, breaks: LineBreaks) -> usize
     // A block is read two bytes past its end.
     let end = to.min(bytes.len().saturating_sub(2));
     let mark = Mark::Break(breaks);
-    let (from, before) = marks_in_quarters(bytes, end, mark);
+    let (from, before) = breaks_in_quarters(bytes, end, breaks);
     let blocks = count_blocks(bytes, from, end, breaks);
     let more = marks_between(bytes, from + blocks.bytes, end, mark);
     before + blocks.break_count + more + marks_byte_by_byte(bytes, end, to, mark)
