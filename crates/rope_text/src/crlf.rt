@@ -2,6 +2,8 @@
 //! memory.
 //!
 //! Of the bytes of `"a\r\nb"`, the places 0, 1, 3 and 4 may be cut, and 2 may not.
+#![tactic(auto, using(crate::proofs::CutFacts::boundary_of_cut))]
+
 ghost use Rattle.std.specs.Prelude.{◌≡◌, ℕ, ◌-◌, ◌<◌, ◌≤◌, false, length, ◌++◌, IsTrue};
 ghost use Rattle.std.specs.Str.{IsUtf8, IsCharBoundary};
 ghost use Rattle.rope_text.specs.Cuts.{is_cut, is_cut_between, distance};
@@ -33,7 +35,6 @@ pub fn is_break(at: usize, text: &[u8]) -> bool
 
 /// The last place before the byte `at` where the text may be cut, or 0 where `at` is 0. `at` is at most the length.
 /// Reads the bytes around the place; takes no memory.
-#[tactic(auto, using(crate::proofs::CutFacts::boundary_of_cut))]
 pub fn prev_break(at: usize, text: &[u8]) -> usize
     requires { at ≤ length text.now }
     ensures boundary { IsUtf8 text.now → IsCharBoundary text.now result }
@@ -54,7 +55,6 @@ pub fn prev_break(at: usize, text: &[u8]) -> usize
 
 /// The first place after the byte `at` where the text may be cut, or the end where `at` is the end. `at` is at most
 /// the length. Reads the bytes around the place; takes no memory.
-#[tactic(auto, using(crate::proofs::CutFacts::boundary_of_cut))]
 pub fn next_break(at: usize, text: &[u8]) -> usize
     requires { at ≤ length text.now }
     ensures boundary { IsUtf8 text.now → IsCharBoundary text.now result }

@@ -1,4 +1,6 @@
 //! Counts over the bytes of a text, 32 bytes at once.
+#![tactic(auto, using(crate::proofs::Blocks::begins_le, crate::proofs::Blocks::pairs_le, crate::proofs::Blocks::byte_break_count_le, crate::proofs::Blocks::marks_le))]
+
 ghost use Rattle.std.specs.Prelude.{◌≡◌, ◌+◌, ◌-◌, ◌*◌, ◌<◌, ◌≤◌, length, cond, count_by, drop, List, ℕ};
 ghost use Rattle.rope_text.specs.Bytes.{begins_char, begins_pair};
 ghost use Rattle.rope_text.specs.ByteBreaks.{byte_break_count, unit_count, AreCounts};
@@ -192,7 +194,6 @@ pub(crate) fn marks_between(bytes: &[u8], from: usize, to: usize, mark: Mark) ->
 const LONG_BYTES: usize = 65_536;
 
 // The first whole blocks of a long text, none of a shorter one: their end, and how many marks begin in them.
-#[tactic(auto, using(crate::proofs::Blocks::marks_le))]
 #[inline(always)]
 fn marks_in_quarters(bytes: &[u8], to: usize, mark: Mark) -> (usize, usize)
     requires { to ≤ length bytes.now - ahead mark }
@@ -215,8 +216,17 @@ fn marks_in_quarters(bytes: &[u8], to: usize, mark: Mark) -> (usize, usize)
     (4 * quarter, first + second + third + fourth)
 }
 
+// The same of breaks, for each set. It stands by itself: expanded where it is called, it would make that too long to be expanded
+// for each set.
+fn breaks_in_quarters(bytes: &[u8], to: usize, breaks: LineBreaks) -> (usize, usize)
+    requires { to ≤ length bytes.now - 2 }
+    ensures bound { result.0 ≤ to }
+    ensures counted { byte_break_count breaks bytes.now ≡ result.1 + byte_break_count breaks (drop result.0 bytes.now) }
+{
+    known_set!(breaks => marks_in_quarters(bytes, to, Mark::Break(breaks)))
+}
+
 /// How many marks begin from the byte `from` on and before `to`. The mark is known where this is expanded.
-#[tactic(auto, using(crate::proofs::Blocks::marks_le))]
 #[inline(always)]
 pub(crate) fn count_marks(bytes: &[u8], from: usize, to: usize, mark: Mark) -> usize
     requires from { from ≤ to }
@@ -233,7 +243,6 @@ pub(crate) fn count_marks(bytes: &[u8], from: usize, to: usize, mark: Mark) -> u
 }
 
 /// How many marks begin before the byte `to`. The mark is known where this is expanded.
-#[tactic(auto, using(crate::proofs::Blocks::marks_le))]
 #[inline(always)]
 pub(crate) fn count_before(bytes: &[u8], to: usize, mark: Mark) -> usize
     requires { to ≤ length bytes.now - ahead mark }
@@ -245,7 +254,6 @@ pub(crate) fn count_before(bytes: &[u8], to: usize, mark: Mark) -> usize
 
 // The counts of whole blocks from `from` on and before `to`, behind which two more bytes are read: fewer bytes than a block are
 // left. What a caller takes no count of isn't counted, since this is expanded there.
-#[tactic(auto, using(crate::proofs::Blocks::begins_le, crate::proofs::Blocks::pairs_le, crate::proofs::Blocks::byte_break_count_le))]
 #[inline(always)]
 fn count_blocks(bytes: &[u8], from: usize, to: usize, breaks: LineBreaks) -> TextInfo
     requires from { from ≤ to }
@@ -270,7 +278,6 @@ fn count_blocks(bytes: &[u8], from: usize, to: usize, breaks: LineBreaks) -> Tex
 }
 
 /// How many code units the bytes take in UTF-16.
-#[tactic(auto, using(crate::proofs::Blocks::begins_le, crate::proofs::Blocks::pairs_le))]
 pub(crate) fn count_units(bytes: &[u8]) -> usize
     ensures { result ≡ unit_count bytes.now }
 {
@@ -281,7 +288,6 @@ pub(crate) fn count_units(bytes: &[u8]) -> usize
 }
 
 // How many breaks of the set begin before the byte `to`. The set is known where this is expanded.
-#[tactic(auto, using(crate::proofs::Blocks::byte_break_count_le))]
 #[inline(always)]
 fn known_breaks_before(bytes: &[u8], to: usize, breaks: LineBreaks) -> usize
     requires { to ≤ length bytes.now }
@@ -290,7 +296,7 @@ fn known_breaks_before(bytes: &[u8], to: usize, breaks: LineBreaks) -> usize
     // A block is read two bytes past its end.
     let end = to.min(bytes.len().saturating_sub(2));
     let mark = Mark::Break(breaks);
-    let (from, before) = marks_in_quarters(bytes, end, mark);
+    let (from, before) = breaks_in_quarters(bytes, end, breaks);
     let blocks = count_blocks(bytes, from, end, breaks);
     let more = marks_between(bytes, from + blocks.bytes, end, mark);
     before + blocks.break_count + more + marks_byte_by_byte(bytes, end, to, mark)
@@ -305,7 +311,6 @@ pub(crate) fn count_breaks_before(bytes: &[u8], to: usize, breaks: LineBreaks) -
 }
 
 // What the bytes count, in blocks. The set is known where this is expanded.
-#[tactic(auto, using(crate::proofs::Blocks::begins_le, crate::proofs::Blocks::pairs_le, crate::proofs::Blocks::byte_break_count_le))]
 #[inline(always)]
 fn count_known(bytes: &[u8], breaks: LineBreaks) -> TextInfo
     ensures { AreCounts breaks bytes.now result }

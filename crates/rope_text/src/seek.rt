@@ -1,6 +1,8 @@
 //! Searches for places in the bytes of a text: whole blocks of 32 bytes are counted until the one that holds
 //! the place, and that one is halved. What is left behind the last block is gone through byte by byte.
 //! A place that isn't there is the end.
+#![tactic(auto, using(crate::proofs::Blocks::begins_le, crate::proofs::Blocks::pairs_le, crate::proofs::Blocks::byte_break_count_le))]
+
 ghost use Rattle.std.specs.Prelude.{◌≡◌, ◌+◌, ◌≤◌, length, count_by, drop};
 ghost use Rattle.rope_text.specs.Bytes.{begins_char, begins_pair};
 ghost use Rattle.rope_text.specs.ByteBreaks.{byte_break_count, IsUnitPlaceOf};
@@ -132,7 +134,6 @@ fn find_unit(bytes: &[u8], from: usize, n: usize) -> usize
 }
 
 /// The byte at which the character begins that holds the code unit `n`, and how many characters begin before it.
-#[tactic(auto, using(crate::proofs::Blocks::begins_le))]
 pub(crate) fn place_of_unit(bytes: &[u8], n: usize) -> (usize, usize)
     ensures place { IsUnitPlaceOf bytes.now 0 n result.0 }
     ensures chars { count_by begins_char bytes.now ≡ result.1 + count_by begins_char (drop result.0 bytes.now) }
@@ -158,7 +159,6 @@ pub(crate) fn place_of_unit(bytes: &[u8], n: usize) -> (usize, usize)
 }
 
 /// The byte at which the character `n` begins, and how many breaks begin before it. The set is known where this is expanded.
-#[tactic(auto, using(crate::proofs::Blocks::byte_break_count_le))]
 #[inline(always)]
 pub(crate) fn line_of_char(bytes: &[u8], n: usize, breaks: LineBreaks) -> (usize, usize)
     ensures place { IsPlaceOf Mark.Char bytes.now 0 n result.0 }
@@ -183,7 +183,6 @@ pub(crate) fn line_of_char(bytes: &[u8], n: usize, breaks: LineBreaks) -> (usize
 
 // The blocks before the break `n`: which break it is from their end on, and what they count but for breaks. What a caller takes
 // no count of isn't counted, since this is expanded there, where the set is known.
-#[tactic(auto, using(crate::proofs::Blocks::begins_le, crate::proofs::Blocks::pairs_le))]
 #[inline(always)]
 fn skip_known(bytes: &[u8], n: usize, breaks: LineBreaks) -> (usize, TextInfo)
     ensures passed { IsPassed (Mark.Break breaks) bytes.now n result.1.bytes result.0 }
@@ -208,7 +207,6 @@ fn skip_known(bytes: &[u8], n: usize, breaks: LineBreaks) -> (usize, TextInfo)
 
 /// What the bytes before the last character of the break `n` count, the breaks counted from 0 and the count of them left out.
 /// What a caller takes no count of isn't counted, since this is expanded there.
-#[tactic(auto, using(crate::proofs::Blocks::begins_le, crate::proofs::Blocks::pairs_le))]
 #[inline(always)]
 pub(crate) fn before_break(bytes: &[u8], n: usize, breaks: LineBreaks) -> TextInfo
     ensures place { IsPlaceOf (Mark.Break breaks) bytes.now 0 n result.bytes }
