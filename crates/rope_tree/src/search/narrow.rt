@@ -21,8 +21,9 @@ const ALL: u32 = 4_294_967_295;
 
 /// 24 times no bit, and then 24 times all.
 static MASKS: [u32; 2 * MAX_CHILDREN] = [
-    0, 0, 0, 0, 0, 0, 0, 0, 0, 0, 0, 0, 0, 0, 0, 0, 0, 0, 0, 0, 0, 0, 0, 0, ALL, ALL, ALL, ALL, ALL,
+    0, 0, 0, 0, 0, 0, 0, 0, 0, 0, 0, 0, 0, 0, 0, 0, 0, 0, 0, 0, 0, 0, 0, 0, ALL, ALL, ALL, ALL,
     ALL, ALL, ALL, ALL, ALL, ALL, ALL, ALL, ALL, ALL, ALL, ALL, ALL, ALL, ALL, ALL, ALL, ALL, ALL,
+    ALL,
 ];
 
 /// For each of 24 places all bits where it is `from` or behind it, and none before.
