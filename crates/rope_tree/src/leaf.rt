@@ -114,7 +114,15 @@ impl Leaf {
     pub(crate) fn text(&self) -> ShortText<'_>
         ensures { IsLeafOf self.now result }
     {
-        let info = self.info();
+        self.known_text(self.info())
+    }
+
+    /// The same by its counts, which the caller knows: nothing of the leaf is read.
+    #[inline(always)]
+    pub(crate) fn known_text(&self, info: TextInfo) -> ShortText<'_>
+        requires { info ≡ info_of self.now.breaks (text self.now) }
+        ensures { IsLeafOf self.now result }
+    {
         ShortText::with_chars(self.text.as_str_of_len(info.bytes), info.chars)
     }
 

@@ -54,15 +54,17 @@ pub fn leaf_at<'a>(node: &'a Node, unit: Unit, at: usize, steps: &mut Steps) -> 
 {
     let _ = node.height();
     let mut here = node;
+    // A leaf's counts are told by its list's totals, so that no look-up has to wait for the leaf's own.
+    let mut inside = node.info();
     let mut rest = at;
     let mut before = TextInfo::new();
     'down: loop {
         steps.nodes += 1;
-        match here.view() {
+        match here.known_view(inside) {
             View::Leaf(leaf) => {
                 return Found {
                     leaf,
-                    inside: here.info(),
+                    inside,
                     before,
                 };
             }
@@ -72,6 +74,7 @@ pub fn leaf_at<'a>(node: &'a Node, unit: Unit, at: usize, steps: &mut Steps) -> 
                 let front = total_before(totals, place);
                 rest -= count(front, unit);
                 before = before.plus(front);
+                inside = totals.get(place).minus(front);
                 here = child;
             }
         }

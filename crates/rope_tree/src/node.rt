@@ -188,9 +188,18 @@ impl Node {
     pub fn view(&self) -> View<'_>
         ensures { IsViewOf self.now result }
     {
+        self.known_view(self.info())
+    }
+
+    /// The same by the counts of its text, which the caller knows: nothing of a leaf is read.
+    #[inline(always)]
+    pub fn known_view(&self, info: TextInfo) -> View<'_>
+        requires { info ≡ info_of self.now.breaks (text self.now) }
+        ensures { IsViewOf self.now result }
+    {
         match &self.form {
             Form::Empty(_) => View::Leaf(ShortText::new("")),
-            Form::Leaf(leaf) => View::Leaf(leaf.text()),
+            Form::Leaf(leaf) => View::Leaf(leaf.known_text(info)),
             Form::Inner(children) => {
                 let parts = children.parts();
                 View::Inner(parts.nodes, parts.totals)

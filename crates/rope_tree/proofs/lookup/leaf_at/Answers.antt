@@ -1,8 +1,10 @@
-use Rattle.std.proofs.Common.{ap, ap₂, refl, ◌∙◌, arith}
-use Rattle.rope_tree.specs.Tree.{breaks_of}
-use Rattle.rope_tree.specs.Search.{IsSmall}
+use Rattle.std.proofs.Common.{◌≡◌, get_or, sym, ap, ap₂, refl, ◌∙◌, arith}
+use Rattle.rope_text.specs.declared.text_info.TextInfo.{TextInfo}
+use Rattle.rope_tree.specs.Tree.{text, height_of, breaks_of}
+use Rattle.rope_tree.specs.Search.{IsSmall, HasPart}
 use Rattle.rope_text.specs.TextInfo.{info_of, info_sum}
-use Rattle.rope_tree.proofs.NodeLaws.{small_totals}
+use Rattle.rope_tree.proofs.NodeLaws.{small_totals, more_at}
+use Rattle.rope_tree.proofs.TotalLaws.{same_counts}
 use Rattle.rope_tree.proofs.InsertLeaves.{text_of_leaf}
 use Rattle.rope_tree.proofs.Descents.{Descends, descends}
 use Rattle.rope_tree.proofs.OnTheWay.{at_start, at_end, further, small_more}
@@ -21,10 +23,43 @@ small c =
     small_more c.args.unit c.args.at c.args.node.now c.down.here.now c.down.rest c.down.before c.in-Inner.children.now c.place_of-place.result
     c.index-children-place.result c.total_before-front.result c.height.ensures.tree c.down.invariant.0 c.in-Inner.ensures.is (down c)
 
+-- the totals up to the child, less those before it
+total : (c : After-total_before-front) (d : TextInfo) → get_or c.in-Inner.totals.now c.place_of-place.result d ≡ info_sum c.total_before-front.result (info_of c.index-children-place.result.breaks (text c.index-children-place.result))
+total c d =
+    let ts = c.in-Inner.children.now in
+    let child = c.index-children-place.result in
+    let w = down c in
+    c.in-Inner.ensures.totals_right.total_at c.place_of-place.result d w.within ∙ more_at (breaks_of ts) (height_of ts) ts c.place_of-place.result child w.children w.within w.child_is
+    ∙ ap₂ info_sum (sym w.front_is) (ap (λ b. info_of b (text child)) (sym w.own.same_breaks))
+
+-- what is left of a sum
+counts_are : (x y front : TextInfo) → info_sum front x ≡ info_sum front y → x ≡ y
+counts_are x y front e =
+    same_counts x y (omega (arith, ap (λ i. i.bytes) e)) (omega (arith, ap (λ i. i.chars) e)) (omega (arith, ap (λ i. i.utf16_surrogates) e)) (omega (arith, ap (λ i. i.break_count) e))
+
+-- so the front is in them
+has_front : (c : After-total_before-front) (all : TextInfo) → ((d : TextInfo) → all ≡ get_or c.in-Inner.totals.now c.place_of-place.result d) → HasPart all c.total_before-front.result
+has_front c all is =
+    let e = is all ∙ total c all in
+    record { bytes = omega (arith, ap (λ i. i.bytes) e); chars = omega (arith, ap (λ i. i.chars) e); surrogates = omega (arith, ap (λ i. i.utf16_surrogates) e); count = omega (arith, ap (λ i. i.break_count) e) }
+
+pub minus-inside-requires-clause-bytes : goal.minus-inside-requires-clause-bytes
+minus-inside-requires-clause-bytes c = (has_front (goal.at.minus-inside-requires-clause-bytes c).After-total_before-front c.get.result c.get.ensures).bytes
+
+pub minus-inside-requires-clause-chars : goal.minus-inside-requires-clause-chars
+minus-inside-requires-clause-chars c = (has_front (goal.at.minus-inside-requires-clause-chars c).After-total_before-front c.get.result c.get.ensures).chars
+
+pub minus-inside-requires-clause-utf16_surrogates : goal.minus-inside-requires-clause-utf16_surrogates
+minus-inside-requires-clause-utf16_surrogates c = (has_front (goal.at.minus-inside-requires-clause-utf16_surrogates c).After-total_before-front c.get.result c.get.ensures).surrogates
+
+pub minus-inside-requires-clause-break_count : goal.minus-inside-requires-clause-break_count
+minus-inside-requires-clause-break_count c = (has_front (goal.at.minus-inside-requires-clause-break_count c).After-total_before-front c.get.result c.get.ensures).count
+
 pub down-init : goal.down-init
 down-init c = (
   at_start c.args.unit c.args.at c.args.node.now c.new-before.result c.new-before.ensures c.requires.within,
   record { nodes = refl; compares = omega arith; counted = omega arith; made = refl },
+  c.info-inside.ensures,
 )
 
 pub place_of-place-requires-clause-small : goal.place_of-place-requires-clause-small
@@ -71,6 +106,7 @@ down-preserved c =
         counted = omega (arith, above, d.own.at_height, steps.counted, c.place_of-place.ensures.counted, c.in-Inner.ensures.children.at_least_two, c.in-Inner.ensures.totals_right.as_many);
         made = omega (arith, steps.made, c.place_of-place.ensures.made);
       },
+      counts_are c.minus-inside.result (info_of child.breaks (text child)) c.total_before-front.result (c.minus-inside.ensures.sum ∙ rw (c.get.ensures c.minus-inside.result) (total before c.minus-inside.result)),
     )
 
 pub returns-in-Leaf-clause-found : goal.returns-in-Leaf-clause-found
@@ -79,4 +115,4 @@ returns-in-Leaf-clause-found c = at_end c.args.unit c.args.at c.args.node.now c.
 pub returns-in-Leaf-clause-inside : goal.returns-in-Leaf-clause-inside
 returns-in-Leaf-clause-inside c =
     let here = c.down.here.now in
-    c.info.ensures ∙ ap₂ info_of c.down.invariant.0.same_breaks (text_of_leaf here.breaks here c.in-Leaf.leaf c.in-Leaf.ensures.is)
+    c.down.invariant.2 ∙ ap₂ info_of c.down.invariant.0.same_breaks (text_of_leaf here.breaks here c.in-Leaf.leaf c.in-Leaf.ensures.is)

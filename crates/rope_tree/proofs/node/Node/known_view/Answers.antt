@@ -2,7 +2,7 @@ use Rattle.std.proofs.Common.{◌≡◌, [], sym, ap, ◌∙◌, arith, refl}
 use Rattle.std.proofs.lemmas.Str.{chars-nil}
 use Rattle.rope_tree.specs.Tree.{leaf_tree}
 use Rattle.rope_tree.specs.Shape.{form_tree}
-use Rattle.rope_tree.proofs.node.Node.view.Goals as goal
+use Rattle.rope_tree.proofs.node.Node.known_view.Goals as goal
 
 pub returns-in-Empty : goal.returns-in-Empty
 returns-in-Empty c =
