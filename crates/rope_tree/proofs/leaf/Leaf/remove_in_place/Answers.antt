@@ -3,7 +3,7 @@ use Rattle.rope_text.specs.TextInfo.{info_of}
 use Rattle.rope_text.specs.Edit.{removed}
 use Rattle.rope_tree.specs.Search.{HasPart}
 use Rattle.rope_tree.proofs.CountLaws.{counts_fall}
-use Rattle.rope_tree.proofs.Infos.{IsLow, low_info, small_info}
+use Rattle.rope_tree.proofs.Infos.{IsLow, low_info}
 use Rattle.rope_tree.proofs.NodeLaws.{leaf_text}
 use Rattle.rope_tree.proofs.ChangeLaws.{fallen_change}
 use Rattle.rope_tree.proofs.RemovalLaws.{leaf_left}
