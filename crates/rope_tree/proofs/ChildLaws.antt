@@ -76,7 +76,7 @@ module _ (a : Inside) (ts : List Tree) (k : ℕ) (child : Tree) (at i : ℕ) (to
           let wide = child_grown (breaks_of ts) (height_of ts) child u _ f.taken.own done in
           rw is (small_info u.breaks (text u) wide.tree.fits)
 
-      -- the counts fit in 16 bits where all did, and the text has room
+      -- the counts fit in 32 bits where all did, and the text has room
       pub still_narrow : (seen : List TextInfo) → seen ≡ a.totals → (AreNarrow seen → (d : TextInfo) → (get_or seen (length seen - 1) d).bytes + byte_len s < 2 ^ 32) → (old new : TextInfo) → old ≡ info_of child.breaks (text child) → new ≡ info_of u.breaks (text u)
           → AreNarrow seen → (j : ℕ) (d : TextInfo) → k ≤ j → j < length seen → FitsWith (get_or seen j d) old new
       still_narrow seen is room old new old_is new_is narrow j d from within =

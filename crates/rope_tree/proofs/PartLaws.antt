@@ -150,7 +150,7 @@ module _ (xs ts : List Tree) (totals : List TextInfo) (from : ℕ) (p : IsPart t
   pub has_base : (k : ℕ) (d : TextInfo) → k < length ts → HasPart (get_or totals (from + k) d) base
   has_base k d lt = rw (total_is k d lt) (record { bytes = omega arith; chars = omega arith; surrogates = omega arith; count = omega arith })
 
-  -- where the last total has room in 16 bits, all have
+  -- where the last total has room in 32 bits, all have
   pub part_fits : (k : ℕ) (d : TextInfo) → k < length ts → (get_or totals (from + length ts - 1) d).bytes + before.bytes < 2 ^ 32 + base.bytes → FitsWith (get_or totals (from + k) d) base before
   part_fits k d lt room =
       let n : from + length ts - 1 ≡ from + (length ts - 1) = omega arith in
