@@ -11,7 +11,7 @@ ghost use Rattle.rope_cursor.specs.Hints.{CountsAhead};
 use crate::point::{end_of, step_chunk};
 use crate::span::Span;
 use rope_part::Part;
-use rope_tree::search::Unit;
+use rope_tree::Unit;
 use std::alloc::AllocError;
 use std::iter::ExactSizeIterator;
 use std::marker::Model;

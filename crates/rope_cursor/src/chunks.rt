@@ -12,7 +12,7 @@ ghost use Rattle.rope_cursor.specs.Starts.{IsItem, size_in, chunk_place};
 
 use crate::span::Span;
 use rope_part::Part;
-use rope_tree::search::{Unit, count};
+use rope_tree::{Unit, count};
 use std::alloc::AllocError;
 use std::marker::Model;
 

@@ -12,9 +12,7 @@ ghost use Rattle.rope_tree.specs.Tree.{text};
 ghost use Rattle.rope_cursor.specs.Path.{before_of, beyond, around, place_of, AreFrames, LeadsTo, IsLow, IsBeside, IsLast, HoldsPlace, leaves, leaves_below};
 
 use rope_text::{MAX_HEIGHT, Steps, TextInfo};
-use rope_tree::lookup::total_before;
-use rope_tree::node::{Node, View};
-use rope_tree::search::{Unit, count, place_of};
+use rope_tree::{Node, Unit, View, count, place_of, total_before};
 use std::marker::Model;
 
 /// The children of an inner node, and the one that the path goes to.

@@ -7,7 +7,7 @@ use crate::path::Path;
 use crate::walk::Walk;
 use rope_part::Part;
 use rope_text::MAX_BYTES;
-use rope_tree::search::Unit;
+use rope_tree::Unit;
 use std::marker::Model;
 
 // Of so many bytes it pays to read the heads of more leaves than the next one side by side; of fewer most may not be needed.

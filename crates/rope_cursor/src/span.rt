@@ -13,7 +13,7 @@ use crate::path::Path;
 use rope_part::Part;
 use rope_text::TextInfo;
 use rope_text::str_utils::char_to_byte_idx;
-use rope_tree::search::{Unit, count};
+use rope_tree::{Unit, count};
 use std::marker::Model;
 
 /// A chunk of a part, seen as the chunks before it, the chunk, and the chunks after it.

@@ -4,7 +4,7 @@ ghost use Rattle.std.specs.Str.{chars};
 ghost use Rattle.rope_cursor.specs.Path.{leaves_below, IsLow};
 
 use crate::path::{Path, lowest_text};
-use rope_tree::node::Node;
+use rope_tree::Node;
 use std::marker::Model;
 
 /// The leaves after a path, forward only.

@@ -12,9 +12,7 @@ ghost use Rattle.rope_io.specs.Reading.{Reads};
 use crate::device::Source;
 use crate::error::{ReadError, ReadResult};
 use rope_text::{BUFFER_BYTES, Error, LineBreaks, MAX_TEXT_BYTES, Result};
-use rope_tree::builder::Builder;
-use rope_tree::maker::Maker;
-use rope_tree::node::Node;
+use rope_tree::{Builder, Maker, Node};
 use std::alloc::Global;
 
 // The longest front of the bytes that is a text.

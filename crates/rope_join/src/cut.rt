@@ -7,12 +7,7 @@ ghost use Rattle.rope_join.specs.Cut.{IsFront, IsBack};
 use crate::join::{join_before, join_behind};
 use crate::leaf_cut::{Side, leaf_part};
 use rope_text::Steps;
-use rope_tree::insert::leaf_of;
-use rope_tree::lookup::total_before;
-use rope_tree::maker::{Made, Maker};
-use rope_tree::node::row::Row;
-use rope_tree::node::{Node, View};
-use rope_tree::search::{Unit, place_of};
+use rope_tree::{Made, Maker, Node, Row, Unit, View, leaf_of, place_of, total_before};
 
 /// The first `at` characters, perhaps none.
 pub fn front(maker: &mut Maker, node: &Node, at: usize) -> Made<Node>

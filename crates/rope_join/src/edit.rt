@@ -11,12 +11,7 @@ use crate::cut::{back, front};
 use crate::join::join;
 use rope_text::Steps;
 use rope_tree::build::build;
-use rope_tree::edit::is_lf;
-use rope_tree::insert::leaf_of;
-use rope_tree::lookup::char_at;
-use rope_tree::maker::{Made, Maker};
-use rope_tree::node::Node;
-use rope_tree::removal::remove_at;
+use rope_tree::{Made, Maker, Node, char_at, is_lf, leaf_of, remove_at};
 
 /// Whether CR is the last of the first `at` characters.
 fn is_cr_before(node: &Node, at: usize) -> bool

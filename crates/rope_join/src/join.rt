@@ -9,10 +9,9 @@ ghost use Rattle.rope_join.specs.Join.{CanGather, CanJoin, CanMerge, EndsIn, Beg
 
 use crate::near::can_merge;
 use rope_text::{MAX_BYTES, MAX_CHILDREN, MIN_BYTES, MIN_CHILDREN};
-use rope_tree::maker::{Made, Maker};
-use rope_tree::node::row::{Row, pack, pack_over, root_of};
-use rope_tree::node::{Node, Nodes, View, make_leaf};
-use rope_tree::node_text::NodeText;
+use rope_tree::{
+    Made, Maker, Node, NodeText, Nodes, Row, View, make_leaf, pack, pack_over, root_of,
+};
 
 /// Whether two leaves of so many bytes become one: they fit in it, and one of them is short.
 fn become_one(first: usize, second: usize) -> bool

@@ -6,10 +6,7 @@ ghost use Rattle.rope_tree.specs.Tree.{leaf_tree, IsTree};
 ghost use Rattle.rope_join.specs.Cut.{side_of};
 
 use rope_text::{LineBreaks, TextInfo};
-use rope_tree::counts::shared_breaks;
-use rope_tree::maker::{Made, Maker};
-use rope_tree::node::{Node, make_leaf};
-use rope_tree::short_text::ShortText;
+use rope_tree::{Made, Maker, Node, ShortText, make_leaf, shared_breaks};
 
 /// The two sides of a place at which a text is cut.
 #[derive(Clone, Copy)]

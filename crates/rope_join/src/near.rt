@@ -5,7 +5,7 @@ ghost use Rattle.rope_text.specs.Dense.{IsDenseBehind, last_bytes};
 ghost use Rattle.rope_join.specs.Join.{CanMerge};
 
 use rope_text::MIN_PAIR_BYTES;
-use rope_tree::node::{Node, View};
+use rope_tree::{Node, View};
 
 /// The bytes of a tree's last leaf.
 fn last_leaf_len(node: &Node) -> usize

@@ -7,8 +7,7 @@ ghost use Rattle.rope_tree.specs.Conversions.{end_index, are_converted, converte
 use crate::part::Part;
 use crate::stretch::Stretch;
 use rope_text::Steps;
-use rope_tree::conversions::{convert, convert_in, first_sought};
-use rope_tree::search::{Unit, count};
+use rope_tree::{Unit, convert, convert_in, count, first_sought};
 
 impl<'a> Stretch<'a> {
     ghost use Rattle.rope_part.specs.Stretch.{text_of, breaks_of};

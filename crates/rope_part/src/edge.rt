@@ -8,9 +8,7 @@ ghost use Rattle.rope_part.specs.Edge.{start_info, end_info, line_info, IsLeafFr
 
 use rope_text::str_utils::count_surrogates;
 use rope_text::{Steps, TextInfo};
-use rope_tree::lookup::leaf_at;
-use rope_tree::node::Node;
-use rope_tree::search::Unit;
+use rope_tree::{Node, Unit, leaf_at};
 
 // How many characters of a text take two code units, where it is known how many characters it has: none where it has as many
 // bytes.

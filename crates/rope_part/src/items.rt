@@ -10,8 +10,7 @@ ghost use Rattle.rope_part.specs.Part.{text_of, chunks_of, breaks_of};
 use crate::part::Part;
 use rope_text::Steps;
 use rope_text::str_utils::{byte_len_of, char_to_byte_idx, first_char};
-use rope_tree::lookup::{byte_at, char_at, leaf_at};
-use rope_tree::search::{Unit, count};
+use rope_tree::{Unit, byte_at, char_at, count, leaf_at};
 
 impl<'a> Part<'a> {
     /// The byte at a place.

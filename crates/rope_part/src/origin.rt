@@ -3,7 +3,7 @@ ghost use Rattle.rope_part.specs.Part.{content_of};
 ghost use Rattle.rope_part.specs.Origin.{IsOrigin};
 
 use crate::part::Part;
-use rope_tree::node::Node;
+use rope_tree::Node;
 
 /// What a part is a part of.
 #[derive(Clone, Copy)]

@@ -13,8 +13,7 @@ ghost use Rattle.rope_part.specs.Edge.{line_info};
 use crate::plain::Plain;
 use crate::stretch::Stretch;
 use rope_text::{LineBreaks, TextInfo};
-use rope_tree::node::Node;
-use rope_tree::search::Unit;
+use rope_tree::{Node, Unit};
 
 /// A part of a rope's text, or of a plain text. It counts its own text: one that ends after the CR of a CR LF has that CR
 /// as a line break, and one that starts at the LF has that LF, where they are breaks of its set.

@@ -12,9 +12,7 @@ ghost use Rattle.rope_part.specs.Edge.{start_info, end_info, line_info, IsStretc
 
 use crate::edge::{around_line, before_line, end_at, start_at};
 use rope_text::TextInfo;
-use rope_tree::lookup::Found;
-use rope_tree::node::Node;
-use rope_tree::search::{Unit, count};
+use rope_tree::{Found, Node, Unit, count};
 
 /// Characters of a tree's text, one at least. It keeps the counts of the text before their start and before their end, so
 /// that a length is a difference of two of them, and a conversion is one of the tree's.

@@ -15,8 +15,7 @@ ghost use Rattle.rope_slice.specs.Refusals.{index_error};
 
 use crate::slice::{RopeSlice, within};
 use rope_text::{Error, Result};
-use rope_tree::conversions::first_sought;
-use rope_tree::search::{Unit, count};
+use rope_tree::{Unit, count, first_sought};
 
 impl<'a> RopeSlice<'a> {
     // The index in the unit `to` of the place that any index in the unit `from` names, or the refusal of the index.

@@ -13,7 +13,7 @@ ghost use Rattle.rope_slice.specs.Found.{GivesWithin, StandsBefore};
 
 use crate::slice::{RopeSlice, within};
 use rope_cursor::{Bytes, Chars, Chunks};
-use rope_tree::search::Unit;
+use rope_tree::Unit;
 
 impl<'a> RopeSlice<'a> {
     /// A cursor over the bytes, before the first, facing forward. Costs one or two look-ups; takes no memory.

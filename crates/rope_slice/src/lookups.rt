@@ -11,7 +11,7 @@ ghost use Rattle.rope_slice.specs.Found.{GivesWithin, ShowsChunk};
 
 use crate::slice::{RopeSlice, within};
 use rope_text::{Error, Result};
-use rope_tree::search::Unit;
+use rope_tree::Unit;
 
 impl<'a> RopeSlice<'a> {
     /// The byte `byte_idx`, counted from 0.

@@ -14,7 +14,7 @@ ghost use Rattle.rope_slice.specs.Found.{GivesWithin};
 
 use rope_part::{Origin, Part};
 use rope_text::LineBreaks;
-use rope_tree::node::Node;
+use rope_tree::Node;
 
 /// The index, or none where it is past the end.
 pub(crate) fn within(idx: usize, len: usize) -> Option<usize>

@@ -1,7 +1,7 @@
 //! Trees of texts.
 use rope_text::LineBreaks;
+use rope_tree::Maker;
 use rope_tree::build::build;
-use rope_tree::maker::Maker;
 use std::alloc::{AllocError, Global};
 
 /// How many nodes a tree of the text took, its height, and its bytes, characters and line breaks.

@@ -6,11 +6,7 @@ ghost use Rattle.std.specs.Str.{chars};
 use rope_text::str_utils::{byte_to_char_idx_of, char_to_byte_idx_of, count_chars};
 use rope_text::{LineBreaks, Steps};
 use rope_tree::build::build;
-use rope_tree::conversions::convert;
-use rope_tree::maker::Maker;
-use rope_tree::node::Node;
-use rope_tree::node_text::NodeText;
-use rope_tree::search::Unit;
+use rope_tree::{Maker, Node, NodeText, Unit, convert};
 use std::alloc::{AllocError, Global};
 
 /// Whether these bytes belong to the character `idx`.

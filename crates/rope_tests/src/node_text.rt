@@ -3,7 +3,7 @@ ghost use Rattle.std.specs.Prelude.{◌≡◌};
 ghost use Rattle.rope_text.specs.Text.{byte_len};
 
 use rope_text::str_utils::count_chars;
-use rope_tree::node_text::NodeText;
+use rope_tree::NodeText;
 
 fn hello() -> NodeText
     ensures { byte_len result ≡ 6 }

@@ -1,9 +1,7 @@
 //! Characters taken out of one leaf.
 use rope_text::LineBreaks;
 use rope_tree::build::build;
-use rope_tree::maker::{Made, Maker};
-use rope_tree::node::Node;
-use rope_tree::removal::remove_at;
+use rope_tree::{Made, Maker, Node, remove_at};
 use std::alloc::Global;
 
 /// Removes where the characters are there.

@@ -1,7 +1,6 @@
 //! Trees of texts that are passed in one after the other.
 use rope_text::LineBreaks;
-use rope_tree::builder::Builder;
-use rope_tree::maker::Maker;
+use rope_tree::{Builder, Maker};
 use std::alloc::Global;
 
 const PIECES: [&str; 5] = ["a\r", "\nbä", "", "日本", "𝄞"];

@@ -6,8 +6,7 @@ ghost use Rattle.rope_tree.specs.Leaves.{IsEnoughBehind, IsEnoughAhead};
 ghost use Rattle.rope_tree.specs.Tree.{Tree, leaves_of};
 ghost use Rattle.rope_tree.specs.Totals.{AreBelow};
 
-use crate::lookup::total_before;
-use crate::search::Totals;
+use crate::{Totals, total_before};
 use rope_text::MIN_PAIR_BYTES;
 
 /// How many bytes the leaves at the two ends of a node have to keep: the first beside what stands before the node, and the last

@@ -5,11 +5,8 @@ ghost use Rattle.rope_text.specs.declared.TheConstants.{FRESH_CHILDREN, MAX_CHIL
 ghost use Rattle.rope_tree.specs.Tree.{text, joined, leaves_of, height_of, breaks_of, IsTree};
 ghost use Rattle.rope_tree.specs.Siblings.{AreSiblings};
 
-use crate::insert::leaf_of;
-use crate::maker::{Made, Maker};
-use crate::node::Node;
-use crate::node::row::node_over;
 use crate::node_text::first_leaf_len;
+use crate::{Made, Maker, Node, leaf_of, node_over};
 use rope_text::{FRESH_CHILDREN, LineBreaks, MAX_BYTES, MAX_CHILDREN};
 
 /// The leaves of a text that is not empty, in order, each but the last of 981 bytes or more.

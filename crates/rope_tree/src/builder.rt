@@ -8,10 +8,8 @@ ghost use Rattle.rope_tree.specs.Tree.{text, joined, leaves_of, IsTree};
 ghost use Rattle.rope_tree.specs.Fronts.{AreFrontNodes};
 
 use crate::build::root_over;
-use crate::insert::leaf_of;
-use crate::maker::{Made, Maker};
-use crate::node::Node;
-use crate::node_text::{NodeText, first_leaf_len, join_parts};
+use crate::node_text::{first_leaf_len, join_parts};
+use crate::{Made, Maker, Node, NodeText, leaf_of};
 use rope_text::crlf::prev_break;
 use rope_text::{LineBreaks, MAX_BYTES, MIN_CUT_BYTES};
 use std::alloc::Global;

@@ -6,10 +6,8 @@ ghost use Rattle.rope_tree.specs.Conversions.{end_index, first_sought, are_conve
 ghost use Rattle.rope_tree.specs.Tree.{text};
 ghost use Rattle.rope_tree.specs.StepBounds.{HaveRoom, LooksUp, WentDown};
 
-use crate::lookup::leaf_at;
-use crate::node::Node;
 use crate::search::Unit::{Byte, Char, CodeUnit, LineBreak};
-use crate::search::{Unit, count};
+use crate::{Node, Unit, count, leaf_at};
 use rope_text::{LineBreaks, Steps, TextInfo, str_utils};
 
 /// The first index for which a tree is entered: where the first line starts is known.

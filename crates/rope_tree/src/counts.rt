@@ -8,8 +8,8 @@ ghost use Rattle.rope_text.specs.Edit.{inserted, removed};
 ghost use Rattle.rope_text.specs.Breaks.{begins_with_lf, ends_in_cr};
 ghost use Rattle.rope_tree.specs.Removal.{KeepsEnds};
 
-use crate::node_text::{NodeText, join_parts};
-use crate::short_text::ShortText;
+use crate::node_text::join_parts;
+use crate::{NodeText, ShortText};
 use arrayvec::ArrayString;
 use rope_text::{LineBreaks, MAX_JOINED_BYTES, TextInfo};
 

@@ -9,11 +9,7 @@ ghost use Rattle.rope_tree.specs.Tree.{text, IsTree};
 
 use crate::counts::ends_in_cr;
 use crate::insert::insert;
-use crate::lookup::char_at;
-use crate::maker::{Made, Maker};
-use crate::node::Node;
-use crate::node::row::root_of;
-use crate::short_text::ShortText;
+use crate::{Made, Maker, Node, ShortText, char_at, root_of};
 use rope_text::{Steps, TextInfo};
 
 /// Whether an LF stands at a place.

@@ -12,13 +12,11 @@ ghost use Rattle.rope_tree.specs.View.{trees_in};
 ghost use Rattle.rope_tree.specs.Insert.{TakesShort, MayInsert, IsInserted};
 
 use crate::counts::leaf_with;
-use crate::lookup::total_before;
-use crate::maker::{Made, Maker};
-use crate::node::row::{Row, pack};
-use crate::node::{Node, Nodes, View, make_leaf};
 use crate::node_text::halves_of;
-use crate::search::{Unit, char_to_hold, place_of};
-use crate::short_text::ShortText;
+use crate::search::char_to_hold;
+use crate::{
+    Made, Maker, Node, Nodes, Row, ShortText, Unit, View, make_leaf, pack, place_of, total_before,
+};
 use rope_text::{LineBreaks, MAX_BYTES, Steps, TextInfo};
 
 /// A leaf of its own with this text.

@@ -13,11 +13,9 @@ ghost use Rattle.rope_tree.specs.Removal.{IsRemoved};
 
 use crate::beside::Least;
 use crate::counts::{leaf_with, put_in, take_out};
-use crate::maker::{Made, Maker};
-use crate::node::{Node, make_leaf};
-use crate::node_text::{NodeText, halves_of};
-use crate::short_text::ShortText;
+use crate::node_text::halves_of;
 use crate::summary::Summary;
+use crate::{Made, Maker, Node, NodeText, ShortText, make_leaf};
 use rope_text::{LineBreaks, MAX_BYTES, TextInfo};
 use std::alloc::{AllocError, Global};
 use std::marker::Model;

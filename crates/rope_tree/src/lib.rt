@@ -18,3 +18,17 @@ pub mod removal;
 pub mod search;
 pub mod short_text;
 mod summary;
+
+pub use builder::Builder;
+pub use conversions::{convert, convert_in, first_sought};
+pub use counts::shared_breaks;
+pub use edit::{insert_at, is_lf};
+pub use insert::leaf_of;
+pub use lookup::{Found, byte_at, char_at, leaf_at, leaf_count, total_before};
+pub use maker::{Made, Maker};
+pub use node::row::{Row, node_over, pack, pack_over, root_of};
+pub use node::{Node, Nodes, View, make_leaf};
+pub use node_text::NodeText;
+pub use removal::remove_at;
+pub use search::{Totals, Unit, count, place_of};
+pub use short_text::ShortText;

@@ -10,9 +10,7 @@ ghost use Rattle.rope_tree.specs.Tree.{text};
 ghost use Rattle.rope_tree.specs.Found.{IsFound};
 ghost use Rattle.rope_tree.specs.StepBounds.{HaveRoom, LooksUp};
 
-use crate::node::{Node, View};
-use crate::search::{Totals, Unit, count, place_of};
-use crate::short_text::ShortText;
+use crate::{Node, ShortText, Totals, Unit, View, count, place_of};
 use rope_text::str_utils::first_char;
 use rope_text::{Steps, TextInfo};
 

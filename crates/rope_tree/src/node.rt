@@ -10,9 +10,7 @@ ghost use Rattle.rope_tree.specs.Flat.{IsFlat};
 ghost use Rattle.rope_tree.specs.View.{IsViewOf};
 
 use crate::leaf::Leaf;
-use crate::maker::{Made, Maker};
-use crate::search::Totals;
-use crate::short_text::ShortText;
+use crate::{Made, Maker, ShortText, Totals};
 use rope_text::{LineBreaks, MAX_CHILDREN, TextInfo};
 use std::marker::Model;
 use std::rc::Rc;

@@ -6,8 +6,7 @@ ghost use Rattle.rope_tree.specs.Tree.{text, IsTree};
 ghost use Rattle.rope_tree.specs.Tries.{IsTried};
 
 use crate::beside::Least;
-use crate::maker::{Made, Maker};
-use crate::node::Node;
+use crate::{Made, Maker, Node};
 use rope_text::TextInfo;
 
 /// At the ends of a tree nothing stands beside a leaf, and it may be as short as it will.

@@ -7,7 +7,7 @@ ghost use Rattle.rope_tree.specs.declared.search.Unit.TheVariants.{Char};
 ghost use Rattle.rope_tree.specs.Search.{count_of, IsSmall, HasPart};
 ghost use Rattle.rope_tree.specs.Narrow.{IsBelow, IsNarrow, AreNarrow, FitsWith};
 
-use crate::maker::Made;
+use crate::Made;
 use rope_text::{MIN_CHILDREN, Steps, TextInfo};
 use std::alloc::{AllocError, Global};
 use std::marker::Model;

@@ -13,10 +13,8 @@ ghost use Rattle.ropey.specs.Counted.{IsLookUp, WentDown, IsLookUpAt, IsLineLook
 
 use crate::rope::Rope;
 use rope_text::Steps;
-use rope_tree::conversions::convert;
-use rope_tree::lookup::{byte_at, char_at};
-use rope_tree::node::Node;
 use rope_tree::search::Unit::{Byte, Char, CodeUnit, LineBreak};
+use rope_tree::{Node, byte_at, char_at, convert};
 
 impl Rope {
     // The root of the tree, where the counts begin with 0.

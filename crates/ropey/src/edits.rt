@@ -12,7 +12,7 @@ use rope_join::cut::{back, front};
 use rope_join::edit::{append, remove};
 use rope_text::range::{IndexRange, char_bounds};
 use rope_text::{Error, MAX_TEXT_BYTES, Result, Steps};
-use rope_tree::maker::Maker;
+use rope_tree::Maker;
 use std::mem;
 
 impl Rope {

@@ -10,8 +10,7 @@ ghost use Rattle.ropey.specs.Edited.{IsEdit};
 use crate::rope::Rope;
 use rope_join::edit::insert;
 use rope_text::{Error, MAX_SHORT_BYTES, MAX_TEXT_BYTES, Result, Steps};
-use rope_tree::edit::insert_at;
-use rope_tree::maker::Maker;
+use rope_tree::{Maker, insert_at};
 
 impl Rope {
     // Puts a text before a character, and counts the nodes that are made.

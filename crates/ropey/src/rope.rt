@@ -15,10 +15,7 @@ ghost use Rattle.ropey.specs.View.{IsRope, HasFewChunks, IsBuilt};
 use crate::iter::Chunks;
 use rope_text::{LineBreaks, MAX_BYTES, Result};
 use rope_tree::build::build;
-use rope_tree::builder::Builder;
-use rope_tree::lookup::leaf_count;
-use rope_tree::maker::Maker;
-use rope_tree::node::Node;
+use rope_tree::{Builder, Maker, Node, leaf_count};
 use std::alloc::{AllocError, Global};
 use std::marker::Model;
 

@@ -14,7 +14,7 @@ use rope_join::cut::between;
 use rope_part::Origin;
 use rope_slice::RopeSlice;
 use rope_text::{IndexRange, Result};
-use rope_tree::maker::Maker;
+use rope_tree::Maker;
 use std::alloc::Global;
 
 impl Rope {

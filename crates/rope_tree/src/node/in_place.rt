@@ -9,10 +9,8 @@ ghost use Rattle.rope_tree.specs.Tries.{IsTried};
 
 use super::own::own;
 use super::{Children, Form, Node};
-use crate::lookup::total_before;
-use crate::maker::{Made, Maker};
-use crate::search::{Totals, char_to_hold, try_place};
-use crate::short_text::ShortText;
+use crate::search::{char_to_hold, try_place};
+use crate::{Made, Maker, ShortText, Totals, total_before};
 use rope_text::{MAX_CHILDREN, TextInfo};
 use std::rc::Rc;
 

@@ -10,9 +10,7 @@ ghost use Rattle.rope_tree.specs.Tries.{IsTried};
 
 use super::own::own;
 use super::{Children, Form, Node};
-use crate::lookup::total_before;
-use crate::maker::{Made, Maker};
-use crate::short_text::ShortText;
+use crate::{Made, Maker, ShortText, total_before};
 use rope_text::MAX_CHILDREN;
 use std::rc::Rc;
 

@@ -10,9 +10,8 @@ use super::in_place::{has_no_child, has_no_text, unchanged};
 use super::own::own;
 use super::{Children, Form, Node};
 use crate::beside::{Least, least_at};
-use crate::lookup::total_before;
-use crate::maker::{Made, Maker};
 use crate::search::try_place;
+use crate::{Made, Maker, total_before};
 use rope_text::TextInfo;
 use std::rc::Rc;
 

@@ -9,8 +9,7 @@ ghost use Rattle.rope_tree.specs.Shape.{form_tree, IsForm};
 use super::row::{clear, empty_list, share_all};
 use super::{Children, Form, ListParts, Node};
 use crate::leaf::Leaf;
-use crate::maker::{Made, Maker};
-use crate::search::Totals;
+use crate::{Made, Maker, Totals};
 use std::alloc::{AllocError, Global};
 use std::rc::Rc;
 

@@ -9,9 +9,7 @@ ghost use Rattle.rope_tree.specs.Rows.{IsPart, IsRow};
 ghost use Rattle.rope_tree.specs.NewList.{new_list, nodes_in, IsNewList};
 
 use super::{Children, Form, Node, Nodes};
-use crate::lookup::total_before;
-use crate::maker::{Made, Maker};
-use crate::search::Totals;
+use crate::{Made, Maker, Totals, total_before};
 use rope_text::{LineBreaks, MAX_CHILDREN, TextInfo};
 use std::alloc::{AllocError, Global};
 use std::mem;
