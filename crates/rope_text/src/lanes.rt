@@ -7,9 +7,8 @@ ghost use Rattle.rope_text.specs.ByteBreaks.{byte_break_count, unit_count, AreCo
 ghost use Rattle.rope_text.specs.Marks.{IsLanes, IsBlockMask, narrow_mark, mark_at, marks, ahead, lf_or_cr_lf};
 
 use crate::bits::{ones_before, ones_between};
-use crate::line_breaks::{LineBreaks, known_set};
 use crate::runs::{count_run, is_wide_break};
-use crate::text_info::TextInfo;
+use crate::{LineBreaks, TextInfo, known_set};
 use std::simd::prelude::*;
 
 /// What begins with a byte, and is counted.

@@ -18,6 +18,7 @@ pub mod text_info;
 
 pub use error::{Error, Result};
 pub use line_breaks::LineBreaks;
+pub(crate) use line_breaks::known_set;
 pub use range::IndexRange;
 pub use steps::Steps;
 pub use text_info::TextInfo;

@@ -4,7 +4,7 @@ ghost use Rattle.std.specs.Range.{range_inclusive_start, range_inclusive_end};
 ghost use Rattle.rope_text.specs.Range.{excluded_end};
 ghost use Rattle.rope_text.specs.Edit.{range_start, range_end, char_range_error};
 
-use crate::error::{Error, Result};
+use crate::{Error, Result};
 use std::ops::{Range, RangeFrom, RangeFull, RangeInclusive, RangeTo, RangeToInclusive};
 
 /// A range of indices, given by its start and its excluded end, each `None` where it is open.

@@ -8,8 +8,7 @@ ghost use Rattle.rope_text.specs.Runs.{IsSum, IsRun, count_of, wide_of, wide_at,
 
 use crate::bits::first_mark;
 use crate::lanes::{Mark, ahead, ones};
-use crate::line_breaks::LineBreaks;
-use crate::text_info::TextInfo;
+use crate::{LineBreaks, TextInfo};
 use std::simd::prelude::*;
 
 // The blocks of a run at the most: a lane gets four at each, and holds 255.

@@ -5,7 +5,7 @@ ghost use Rattle.rope_text.specs.Scan.{IsFront};
 
 use crate::bits::{first_mark, first_mark_before, ones_before, ones_between};
 use crate::lanes::{Mark, is_mark, known_mask, mask};
-use crate::line_breaks::{LineBreaks, known_set};
+use crate::{LineBreaks, known_set};
 
 /// The bytes of a text before a place in its first line, and what they count.
 // The counts stand apart: side by side, the compiler would add them up in one vector register, which takes longer a byte.

@@ -10,8 +10,7 @@ ghost use Rattle.rope_text.specs.Marks.{IsPlaceOf, IsPassed};
 
 use crate::bits::{ones_before, place_of_mark};
 use crate::lanes::{Mark, ahead, is_mark, known_mask, marks_between, marks_in, mask};
-use crate::line_breaks::{LineBreaks, known_set};
-use crate::text_info::TextInfo;
+use crate::{LineBreaks, TextInfo, known_set};
 
 // The byte with which the mark `n` begins, counted from the byte `from` on, byte by byte.
 #[inline(always)]

@@ -8,8 +8,8 @@ ghost use Rattle.rope_text.specs.LineParts.{first_line};
 ghost use Rattle.rope_text.specs.Lines.{line_start};
 ghost use Rattle.rope_text.specs.TextInfo.{info_of, info_sum};
 
+use crate::LineBreaks;
 use crate::lanes::count_all;
-use crate::line_breaks::LineBreaks;
 use crate::scan::to_first_break;
 use crate::seek::before_break;
 use crate::str_utils::width_of;
