@@ -8,15 +8,12 @@
 //!     let second = slice.line(1);  // "two"
 #![tactic(auto)]
 
-mod compare;
-mod conversions;
 mod cursors;
 pub mod laws;
 pub mod lines;
 mod lookups;
 pub mod slice;
-mod slicing;
-mod text_out;
+mod text;
 
 pub use lines::Lines;
 pub use slice::RopeSlice;

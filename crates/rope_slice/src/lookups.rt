@@ -1,17 +1,24 @@
-//! Bytes, characters and chunks of a slice by their index, counted from the slice's start. Of the slice `1..3` of
-//! `"héllo"`, `char(0)` is `é`, and `chunk_at_char(1)` is `("él", 0, 0, 0)`. The calls that test their index stand last.
-ghost use Rattle.std.specs.Prelude.{◌≡◌, ◌<◌, ◌≤◌, length, slice_get, Some, Err, MatchOption, IsOkAnd, OnSome, IfSome, IfNone};
+//! Bytes, characters and chunks of a slice by their index, and conversions between indices of bytes, characters, UTF-16
+//! code units and lines: all counted from 0 at the slice's start.
+//!
+//! Of the slice `1..3` of `"héllo"`, `char(0)` is `é`, and `chunk_at_char(1)` is `("él", 0, 0, 0)`. For the slice `3..`
+//! of `"one\ntwo"`, `char_to_line(1)` is 1 and `line_to_char(1)` is 1: the slice starts with the line break.
+ghost use Rattle.std.specs.Prelude.{◌≡◌, ◌<◌, ◌≤◌, length, slice_get, Some, Err, MatchOption, IsOkAnd, OnSome, IfSome, IfNone, true};
 ghost use Rattle.std.specs.Str.{chars, encode_utf8_all};
-ghost use Rattle.rope_text.specs.Text.{byte_len};
+ghost use Rattle.rope_text.specs.Text.{byte_len, utf16_len};
 ghost use Rattle.rope_text.specs.Lines.{line_count};
-ghost use Rattle.rope_text.specs.Edit.{byte_index_error};
+ghost use Rattle.rope_text.specs.Edit.{byte_index_error, char_index_error, line_index_error, utf16_index_error};
 ghost use Rattle.rope_text.specs.Lookup.{chunk_index_at_byte, chunk_index_at_char, chunk_index_at_line_break};
 ghost use Rattle.rope_slice.specs.Slice.{content_of, text_of, chunks_of, breaks_of};
 ghost use Rattle.rope_slice.specs.Found.{GivesWithin, ShowsChunk};
+ghost use Rattle.rope_text.specs.Conversions.{byte_to_char, byte_to_line, char_to_byte, char_to_line, char_to_utf16, line_to_byte, line_to_char, utf16_to_char};
+ghost use Rattle.rope_text.specs.Answer.{checked};
+ghost use Rattle.rope_tree.specs.Conversions.{end_index, are_converted, converted};
+ghost use Rattle.rope_slice.specs.Refusals.{index_error};
 
 use crate::slice::{RopeSlice, within};
 use rope_text::{Error, Result};
-use rope_tree::Unit;
+use rope_tree::{Unit, count, first_sought};
 
 impl<'a> RopeSlice<'a> {
     /// The byte `byte_idx`, counted from 0.
@@ -138,5 +145,212 @@ impl<'a> RopeSlice<'a> {
             (ShowsChunk (content_of self.now) (chunk_index_at_line_break (breaks_of self.now) (chunks_of self.now) line_break_idx)) }
     {
         Some(self.chunk_at_line_break(within(line_break_idx, self.len_lines())?))
+    }
+
+    // The index in the unit `to` of the place that any index in the unit `from` names, or the refusal of the index.
+    #[inline(always)]
+    fn try_convert(&self, from: Unit, to: Unit, idx: usize) -> Result<usize>
+        requires { are_converted from to ≡ true }
+        ensures { result ≡ checked (index_error from idx (end_index from (breaks_of self.now) (text_of self.now)))
+            (converted from to (breaks_of self.now) (text_of self.now) idx) }
+    {
+        let len = count(self.part.info(), from) + first_sought(from);
+        let error = match from {
+            Unit::Byte => Error::ByteIndexOutOfBounds(idx, len),
+            Unit::Char => Error::CharIndexOutOfBounds(idx, len),
+            Unit::CodeUnit => Error::Utf16IndexOutOfBounds(idx, len),
+            Unit::LineBreak => Error::LineIndexOutOfBounds(idx, len),
+        };
+        Ok(self.part.convert(from, to, within(idx, len).ok_or(error)?))
+    }
+
+    /// The character, counted from 0, that holds the byte `byte_idx`, also where the byte is inside the character;
+    /// at the end of the text, the number of characters.
+    ///
+    /// The index is at most `len_bytes()`. Costs one or two look-ups; takes no memory.
+    pub fn byte_to_char(&self, byte_idx: usize) -> usize
+        requires { byte_idx ≤ byte_len (text_of self.now) }
+        ensures { result ≡ byte_to_char (text_of self.now) byte_idx }
+    {
+        self.part.convert(Unit::Byte, Unit::Char, byte_idx)
+    }
+
+    /// As `byte_to_char`, for any index. Costs one or two look-ups; takes no memory.
+    ///
+    /// # Errors
+    ///
+    /// `ByteIndexOutOfBounds`, with the index and the number of bytes, exactly where the index is past
+    /// `len_bytes()`.
+    pub fn try_byte_to_char(&self, byte_idx: usize) -> Result<usize>
+        ensures { result ≡ checked (byte_index_error byte_idx (byte_len (text_of self.now)))
+            (byte_to_char (text_of self.now) byte_idx) }
+    {
+        self.try_convert(Unit::Byte, Unit::Char, byte_idx)
+    }
+
+    /// The line, counted from 0, on which the byte `byte_idx` lies: how many line breaks end at or before it. A
+    /// byte inside a break of several bytes, as between CR and LF, lies on the line that the break ends.
+    ///
+    /// The index is at most `len_bytes()`. Costs one or two look-ups; takes no memory.
+    pub fn byte_to_line(&self, byte_idx: usize) -> usize
+        requires { byte_idx ≤ byte_len (text_of self.now) }
+        ensures { result ≡ byte_to_line (breaks_of self.now) (text_of self.now) byte_idx }
+    {
+        self.part.convert(Unit::Byte, Unit::LineBreak, byte_idx)
+    }
+
+    /// As `byte_to_line`, for any index. Costs one or two look-ups; takes no memory.
+    ///
+    /// # Errors
+    ///
+    /// `ByteIndexOutOfBounds`, with the index and the number of bytes, exactly where the index is past
+    /// `len_bytes()`.
+    pub fn try_byte_to_line(&self, byte_idx: usize) -> Result<usize>
+        ensures { result ≡ checked (byte_index_error byte_idx (byte_len (text_of self.now)))
+            (byte_to_line (breaks_of self.now) (text_of self.now) byte_idx) }
+    {
+        self.try_convert(Unit::Byte, Unit::LineBreak, byte_idx)
+    }
+
+    /// The byte, counted from 0, at which the character `char_idx` starts; at the end of the text, the number of
+    /// bytes.
+    ///
+    /// The index is at most `len_chars()`. Costs one or two look-ups; takes no memory.
+    pub fn char_to_byte(&self, char_idx: usize) -> usize
+        requires { char_idx ≤ length (text_of self.now) }
+        ensures { result ≡ char_to_byte (text_of self.now) char_idx }
+    {
+        self.part.convert(Unit::Char, Unit::Byte, char_idx)
+    }
+
+    /// As `char_to_byte`, for any index. Costs one or two look-ups; takes no memory.
+    ///
+    /// # Errors
+    ///
+    /// `CharIndexOutOfBounds`, with the index and the number of characters, exactly where the index is past
+    /// `len_chars()`.
+    pub fn try_char_to_byte(&self, char_idx: usize) -> Result<usize>
+        ensures { result ≡ checked (char_index_error char_idx (length (text_of self.now)))
+            (char_to_byte (text_of self.now) char_idx) }
+    {
+        self.try_convert(Unit::Char, Unit::Byte, char_idx)
+    }
+
+    /// The line, counted from 0, on which the character `char_idx` lies: how many line breaks end at or before it.
+    /// The place between CR and LF lies on the line that the pair ends.
+    ///
+    /// The index is at most `len_chars()`. Costs one or two look-ups; takes no memory.
+    pub fn char_to_line(&self, char_idx: usize) -> usize
+        requires { char_idx ≤ length (text_of self.now) }
+        ensures { result ≡ char_to_line (breaks_of self.now) (text_of self.now) char_idx }
+    {
+        self.part.convert(Unit::Char, Unit::LineBreak, char_idx)
+    }
+
+    /// As `char_to_line`, for any index. Costs one or two look-ups; takes no memory.
+    ///
+    /// # Errors
+    ///
+    /// `CharIndexOutOfBounds`, with the index and the number of characters, exactly where the index is past
+    /// `len_chars()`.
+    pub fn try_char_to_line(&self, char_idx: usize) -> Result<usize>
+        ensures { result ≡ checked (char_index_error char_idx (length (text_of self.now)))
+            (char_to_line (breaks_of self.now) (text_of self.now) char_idx) }
+    {
+        self.try_convert(Unit::Char, Unit::LineBreak, char_idx)
+    }
+
+    /// The UTF-16 code unit, counted from 0, at which the character `char_idx` starts; at the end of the text, the
+    /// number of code units.
+    ///
+    /// The index is at most `len_chars()`. Costs one or two look-ups; takes no memory.
+    pub fn char_to_utf16_cu(&self, char_idx: usize) -> usize
+        requires { char_idx ≤ length (text_of self.now) }
+        ensures { result ≡ char_to_utf16 (text_of self.now) char_idx }
+    {
+        self.part.convert(Unit::Char, Unit::CodeUnit, char_idx)
+    }
+
+    /// As `char_to_utf16_cu`, for any index. Costs one or two look-ups; takes no memory.
+    ///
+    /// # Errors
+    ///
+    /// `CharIndexOutOfBounds`, with the index and the number of characters, exactly where the index is past
+    /// `len_chars()`.
+    pub fn try_char_to_utf16_cu(&self, char_idx: usize) -> Result<usize>
+        ensures { result ≡ checked (char_index_error char_idx (length (text_of self.now)))
+            (char_to_utf16 (text_of self.now) char_idx) }
+    {
+        self.try_convert(Unit::Char, Unit::CodeUnit, char_idx)
+    }
+
+    /// The character, counted from 0, that holds the UTF-16 code unit `utf16_cu_idx`, also where that is the second
+    /// half of a surrogate pair; at the end of the text, the number of characters.
+    ///
+    /// The index is at most `len_utf16_cu()`. Costs one or two look-ups; takes no memory.
+    pub fn utf16_cu_to_char(&self, utf16_cu_idx: usize) -> usize
+        requires { utf16_cu_idx ≤ utf16_len (text_of self.now) }
+        ensures { result ≡ utf16_to_char (text_of self.now) utf16_cu_idx }
+    {
+        self.part.convert(Unit::CodeUnit, Unit::Char, utf16_cu_idx)
+    }
+
+    /// As `utf16_cu_to_char`, for any index. Costs one or two look-ups; takes no memory.
+    ///
+    /// # Errors
+    ///
+    /// `Utf16IndexOutOfBounds`, with the index and the number of code units, exactly where the index is past
+    /// `len_utf16_cu()`.
+    pub fn try_utf16_cu_to_char(&self, utf16_cu_idx: usize) -> Result<usize>
+        ensures { result ≡ checked (utf16_index_error utf16_cu_idx (utf16_len (text_of self.now)))
+            (utf16_to_char (text_of self.now) utf16_cu_idx) }
+    {
+        self.try_convert(Unit::CodeUnit, Unit::Char, utf16_cu_idx)
+    }
+
+    /// The byte, counted from 0, at which the line `line_idx` starts; for `len_lines()`, the end of the text.
+    ///
+    /// The index is at most `len_lines()`. Costs one or two look-ups; takes no memory.
+    pub fn line_to_byte(&self, line_idx: usize) -> usize
+        requires { line_idx ≤ line_count (breaks_of self.now) (text_of self.now) }
+        ensures { result ≡ line_to_byte (breaks_of self.now) (text_of self.now) line_idx }
+    {
+        self.part.convert(Unit::LineBreak, Unit::Byte, line_idx)
+    }
+
+    /// As `line_to_byte`, for any index. Costs one or two look-ups; takes no memory.
+    ///
+    /// # Errors
+    ///
+    /// `LineIndexOutOfBounds`, with the index and the number of lines, exactly where the index is past
+    /// `len_lines()`.
+    pub fn try_line_to_byte(&self, line_idx: usize) -> Result<usize>
+        ensures { result ≡ checked (line_index_error line_idx (line_count (breaks_of self.now) (text_of self.now)))
+            (line_to_byte (breaks_of self.now) (text_of self.now) line_idx) }
+    {
+        self.try_convert(Unit::LineBreak, Unit::Byte, line_idx)
+    }
+
+    /// The character, counted from 0, at which the line `line_idx` starts; for `len_lines()`, the end of the text.
+    ///
+    /// The index is at most `len_lines()`. Costs one or two look-ups; takes no memory.
+    pub fn line_to_char(&self, line_idx: usize) -> usize
+        requires { line_idx ≤ line_count (breaks_of self.now) (text_of self.now) }
+        ensures { result ≡ line_to_char (breaks_of self.now) (text_of self.now) line_idx }
+    {
+        self.part.convert(Unit::LineBreak, Unit::Char, line_idx)
+    }
+
+    /// As `line_to_char`, for any index. Costs one or two look-ups; takes no memory.
+    ///
+    /// # Errors
+    ///
+    /// `LineIndexOutOfBounds`, with the index and the number of lines, exactly where the index is past
+    /// `len_lines()`.
+    pub fn try_line_to_char(&self, line_idx: usize) -> Result<usize>
+        ensures { result ≡ checked (line_index_error line_idx (line_count (breaks_of self.now) (text_of self.now)))
+            (line_to_char (breaks_of self.now) (text_of self.now) line_idx) }
+    {
+        self.try_convert(Unit::LineBreak, Unit::Char, line_idx)
     }
 }

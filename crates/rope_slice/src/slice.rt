@@ -1,7 +1,8 @@
-//! The slice, and its lengths.
+//! The slice, its lengths, and slices of it.
 //!
-//! `RopeSlice::from("one\ntwo")` is a slice of a plain text: it has 7 characters, 2 lines and one chunk.
-ghost use Rattle.std.specs.Prelude.{◌≡◌, length};
+//! `RopeSlice::from("one\ntwo")` is a slice of a plain text: it has 7 characters, 2 lines and one chunk. The slice `2..9`
+//! of `"hello world"` is `"llo wor"`, and of that the slice `1..4` is `"lo "`. No call takes memory.
+ghost use Rattle.std.specs.Prelude.{◌≡◌, length, not, false, nat_lt, None, Some, Ok, Err, IfOk, IfErr, MatchOption};
 ghost use Rattle.std.specs.Str.{chars};
 ghost use Rattle.rope_text.specs.declared.line_breaks.LineBreaks.TheVariants.{Unicode};
 ghost use Rattle.rope_text.specs.Text.{byte_len, utf16_len};
@@ -10,10 +11,13 @@ ghost use Rattle.rope_text.specs.Cutting.{single_chunk};
 ghost use Rattle.rope_tree.specs.Tree.{text};
 ghost use Rattle.rope_part.specs.Kept.{IsPart};
 ghost use Rattle.rope_part.specs.Origin.{IsOrigin};
-ghost use Rattle.rope_slice.specs.Found.{GivesWithin};
+ghost use Rattle.rope_slice.specs.Found.{GivesWithin, GivesUnless};
+ghost use Rattle.rope_text.specs.Edit.{range_start, range_end, given, is_char_boundary, char_range_error, byte_range_error};
+ghost use Rattle.rope_slice.specs.Sliced.{IsCharRange, IsByteRange};
 
 use rope_part::{Origin, Part};
-use rope_text::LineBreaks;
+use rope_text::range::char_bounds;
+use rope_text::{Error, IndexRange, LineBreaks, Result};
 use rope_tree::Node;
 
 /// The index, or none where it is past the end.
@@ -100,6 +104,100 @@ impl<'a> RopeSlice<'a> {
     {
         self.part.len_utf16_cu()
     }
+
+    // Whether a given bound lies inside a character.
+    fn is_in_char(&self, bound: Option<usize>) -> bool
+        requires { given (nat_lt (byte_len (text_of self.now))) bound ≡ false }
+        ensures { result ≡ given (λ b. not (is_char_boundary (text_of self.now) b)) bound }
+    {
+        match bound {
+            Some(b) => !self.part.is_char_boundary(b),
+            None => false,
+        }
+    }
+
+    // The bounds of a range of bytes, or what is wrong with it.
+    fn byte_bounds<R: IndexRange>(&self, range: &R) -> Result<(usize, usize)>
+        ensures { MatchOption (byte_range_error (text_of self.now) (R.given_start range.now) (R.given_end range.now))
+            (result ≡ Ok (range_start (R.given_start range.now), range_end (R.given_end range.now) (byte_len (text_of self.now))))
+            (λ fault. result ≡ Err fault) }
+    {
+        let start = range.start();
+        let end = range.end();
+        let len = self.len_bytes();
+        match (start, end) {
+            (Some(a), Some(b)) if a > b => return Err(Error::ByteRangeInvalid(a, b)),
+            _ => {}
+        }
+        if is_past(start, len) || is_past(end, len) {
+            return Err(Error::ByteRangeOutOfBounds(start, end, len));
+        }
+        if self.is_in_char(start) || self.is_in_char(end) {
+            return Err(Error::ByteRangeNotCharBoundary(start, end));
+        }
+        Ok((start.unwrap_or(0), end.unwrap_or(len)))
+    }
+
+    /// The characters of a range, as a slice that borrows them: their text, the chunks clipped to them, and the
+    /// same set of line breaks. Nothing is copied.
+    ///
+    /// The range's bounds are at most `len_chars()`, and its start is at most its end. Costs a few look-ups, or a
+    /// count of the text where it is plain; takes no memory.
+    pub fn slice<R: IndexRange + Drop>(&self, range: R) -> RopeSlice<'a>
+        requires { char_range_error (R.given_start range) (R.given_end range) (length (text_of self.now)) ≡ None }
+        ensures { IsCharRange (content_of self.now) (R.given_start range) (R.given_end range) (content_of result) }
+    {
+        self.get_slice(range).unwrap()
+    }
+
+    /// As `slice`, or `None` exactly where a bound is past `len_chars()` or the range's start is past its end.
+    /// Costs a few look-ups, or a count of the text where it is plain; takes no memory.
+    pub fn get_slice<R: IndexRange + Drop>(&self, range: R) -> Option<RopeSlice<'a>>
+        ensures { GivesUnless (char_range_error (R.given_start range) (R.given_end range) (length (text_of self.now))) result
+            (λ slice. IsCharRange (content_of self.now) (R.given_start range) (R.given_end range) (content_of slice)) }
+    {
+        let (start, end) = char_bounds(&range, self.len_chars()).ok()?;
+        let part = self.part.char_range(start, end);
+        Some(RopeSlice { part })
+    }
+
+    /// As `byte_slice`, for any range. Costs a few look-ups, or a count of the text where it is plain; takes no
+    /// memory.
+    ///
+    /// # Errors
+    ///
+    /// First `ByteRangeInvalid`, where both bounds are given and the start is past the end; then
+    /// `ByteRangeOutOfBounds`, where a given bound is past `len_bytes()`; then `ByteRangeNotCharBoundary`, where a
+    /// given bound lies inside a character.
+    pub fn try_byte_slice<R: IndexRange + Drop>(&self, range: R) -> Result<RopeSlice<'a>>
+        ensures ok { IfOk result (λ slice. (byte_range_error (text_of self.now) (R.given_start range) (R.given_end range) ≡ None)
+            × IsByteRange (content_of self.now) (R.given_start range) (R.given_end range) (content_of slice)) }
+        ensures refused { IfErr result (λ fault. byte_range_error (text_of self.now) (R.given_start range) (R.given_end range) ≡ Some fault) }
+    {
+        let (start, end) = self.byte_bounds(&range)?;
+        let part = self.part.byte_range(start, end);
+        Ok(RopeSlice { part })
+    }
+
+    /// As `byte_slice`, or `None` exactly where `try_byte_slice` returns an error. Costs a few look-ups, or a count
+    /// of the text where it is plain; takes no memory.
+    pub fn get_byte_slice<R: IndexRange + Drop>(&self, range: R) -> Option<RopeSlice<'a>>
+        ensures { GivesUnless (byte_range_error (text_of self.now) (R.given_start range) (R.given_end range)) result
+            (λ slice. IsByteRange (content_of self.now) (R.given_start range) (R.given_end range) (content_of slice)) }
+    {
+        self.try_byte_slice(range).ok()
+    }
+
+    /// The bytes of a range, as a slice that borrows them, as `slice` does.
+    ///
+    /// The range's bounds are at most `len_bytes()`, its start is at most its end, and no bound lies inside a
+    /// character. Costs a few look-ups, or a count of the text where it is plain; takes no memory.
+    pub fn byte_slice<R: IndexRange + Drop>(&self, range: R) -> RopeSlice<'a>
+        requires { byte_range_error (text_of self.now) (R.given_start range) (R.given_end range) ≡ None }
+        ensures { IsByteRange (content_of self.now) (R.given_start range) (R.given_end range) (content_of result) }
+    {
+        self.try_byte_slice(range).unwrap()
+    }
 }
 
 impl<'a> From<&'a str> for RopeSlice<'a> {
@@ -116,4 +214,11 @@ impl<'a> From<&'a str> for RopeSlice<'a> {
     {
         RopeSlice::from_str_with(text, LineBreaks::Unicode)
     }
+}
+
+// Whether a given bound is past the end.
+fn is_past(bound: Option<usize>, len: usize) -> bool
+    ensures { result ≡ given (nat_lt len) bound }
+{
+    bound.is_some_and(|b| b > len)
 }

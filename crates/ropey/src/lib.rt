@@ -30,11 +30,7 @@
 #![tactic(auto)]
 
 mod compare;
-mod conversions;
-mod counted;
-mod cursors;
 mod edits;
-mod inserts;
 pub mod io;
 pub mod iter;
 pub mod laws;
@@ -43,7 +39,6 @@ mod rope;
 mod rope_builder;
 mod slices;
 pub mod str_utils;
-mod text_out;
 mod texts;
 
 pub use rope::Rope;
