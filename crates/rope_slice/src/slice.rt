@@ -105,37 +105,25 @@ impl<'a> RopeSlice<'a> {
         self.part.len_utf16_cu()
     }
 
-    // Whether a given bound lies inside a character.
-    fn is_in_char(&self, bound: Option<usize>) -> bool
-        requires { given (nat_lt (byte_len (text_of self.now))) bound ≡ false }
-        ensures { result ≡ given (λ b. not (is_char_boundary (text_of self.now) b)) bound }
-    {
-        match bound {
-            Some(b) => !self.part.is_char_boundary(b),
-            None => false,
-        }
-    }
-
     // The bounds of a range of bytes, or what is wrong with it.
     fn byte_bounds<R: IndexRange>(&self, range: &R) -> Result<(usize, usize)>
         ensures { MatchOption (byte_range_error (text_of self.now) (R.given_start range.now) (R.given_end range.now))
             (result ≡ Ok (range_start (R.given_start range.now), range_end (R.given_end range.now) (byte_len (text_of self.now))))
             (λ fault. result ≡ Err fault) }
     {
-        let start = range.start();
-        let end = range.end();
-        let len = self.len_bytes();
+        let (start, end, len) = (range.start(), range.end(), self.len_bytes());
         match (start, end) {
             (Some(a), Some(b)) if a > b => return Err(Error::ByteRangeInvalid(a, b)),
             _ => {}
         }
-        if is_past(start, len) || is_past(end, len) {
+        let (from, to) = (start.unwrap_or(0), end.unwrap_or(len));
+        if from.max(to) > len {
             return Err(Error::ByteRangeOutOfBounds(start, end, len));
         }
-        if self.is_in_char(start) || self.is_in_char(end) {
+        if !self.part.is_char_boundary(from) || !self.part.is_char_boundary(to) {
             return Err(Error::ByteRangeNotCharBoundary(start, end));
         }
-        Ok((start.unwrap_or(0), end.unwrap_or(len)))
+        Ok((from, to))
     }
 
     /// The characters of a range, as a slice that borrows them: their text, the chunks clipped to them, and the
@@ -214,11 +202,4 @@ impl<'a> From<&'a str> for RopeSlice<'a> {
     {
         RopeSlice::from_str_with(text, LineBreaks::Unicode)
     }
-}
-
-// Whether a given bound is past the end.
-fn is_past(bound: Option<usize>, len: usize) -> bool
-    ensures { result ≡ given (nat_lt len) bound }
-{
-    bound.is_some_and(|b| b > len)
 }

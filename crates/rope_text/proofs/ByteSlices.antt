@@ -1,5 +1,5 @@
 -- Slices by bytes of slices by bytes.
-use Rattle.std.proofs.Common.{◌≡◌, ℕ, ◌+◌, ◌-◌, ◌≤◌, Bool, true, false, not, ◌||◌, List, ◌++◌, length, take, drop, nat_lt, Some, None, refl, ap, sym, ◌∙◌, arith, inl, inr, if◌then◌else◌}
+use Rattle.std.proofs.Common.{◌≡◌, ℕ, ◌+◌, ◌-◌, ◌≤◌, Bool, true, false, not, ◌||◌, List, ◌++◌, length, take, drop, nat_lt, Option, Some, None, refl, ap, sym, ◌∙◌, arith, inl, inr, if◌then◌else◌}
 use Rattle.std.specs.List.{slice_range}
 use Rattle.std.proofs.lemmas.Bool.{cases_lt}
 use Rattle.std.proofs.lemmas.Bool.Decides.{nat_tests}
@@ -10,7 +10,7 @@ use Rattle.rope_text.specs.declared.error.Error.TheVariants.{ByteRangeInvalid, B
 use Rattle.rope_text.specs.Text.{byte_len}
 use Rattle.rope_text.specs.Conversions.{byte_to_char}
 use Rattle.rope_text.specs.Cutting.{clip}
-use Rattle.rope_text.specs.Edit.{or_else, is_char_boundary, byte_range_error}
+use Rattle.rope_text.specs.Edit.{or_else, is_char_boundary, invalid_range, byte_range_error, range_start, range_end}
 use Rattle.rope_text.specs.Laws.{ByteSlicesNest, part_of_bytes, chunks_of_bytes}
 use Rattle.rope_text.proofs.Measures.{IsMeasure-byte_len, front_greatest, front_fits, front-le-length}
 use Rattle.rope_text.proofs.ConversionLaws.{byte_to_char-char_to_byte, byte_to_char-le-length}
@@ -62,6 +62,37 @@ boundary_is text b h = grind (arith, nat_tests)
 
 is_boundary : (text : List ℕ) (b : ℕ) → byte_len (take (byte_to_char text b) text) ≡ b → is_char_boundary text b ≡ true
 is_boundary text b h = grind (arith, nat_tests)
+
+pub start_is_boundary : (text : List ℕ) → is_char_boundary text 0 ≡ true
+start_is_boundary text = is_boundary text 0 (ap (λ i. byte_len (take i text)) (byte_to_char-char_to_byte text 0 (omega arith)))
+
+pub end_is_boundary : (text : List ℕ) → is_char_boundary text (byte_len text) ≡ true
+end_is_boundary text =
+    let whole : take (length text) text ≡ text = take_all (length text) text (omega arith) in
+    let last : byte_to_char text (byte_len text) ≡ length text =
+        ap (λ s. byte_to_char text (byte_len s)) (sym whole) ∙ byte_to_char-char_to_byte text (length text) (omega arith) in
+    is_boundary text (byte_len text) (ap (λ i. byte_len (take i text)) last ∙ ap byte_len whole)
+
+-- a range whose bounds are in order and within the text, of which one lies inside a character
+pub split_char : (text : List ℕ) (start end : Option ℕ) → invalid_range start end ≡ None → range_start start ≤ byte_len text → range_end end (byte_len text) ≤ byte_len text
+    → (not (is_char_boundary text (range_start start)) || not (is_char_boundary text (range_end end (byte_len text)))) ≡ true
+    → byte_range_error text start end ≡ Some (ByteRangeNotCharBoundary start end)
+split_char text None None valid low high inside =
+    let start = start_is_boundary text in
+    let end = end_is_boundary text in
+    absurd (cc)
+split_char text None (Some b) valid low high inside =
+    let start = start_is_boundary text in
+    let within : nat_lt (byte_len text) b ≡ false = grind (arith, nat_tests) in
+    cc
+split_char text (Some a) None valid low high inside =
+    let end = end_is_boundary text in
+    let within : nat_lt (byte_len text) a ≡ false = grind (arith, nat_tests) in
+    cc
+split_char text (Some a) (Some b) valid low high inside =
+    let starts : nat_lt (byte_len text) a ≡ false = grind (arith, nat_tests) in
+    let ends : nat_lt (byte_len text) b ≡ false = grind (arith, nat_tests) in
+    cc
 
 byte_to_char-mono : (text : List ℕ) (m n : ℕ) → m ≤ n → byte_to_char text m ≤ byte_to_char text n
 unfolding byte_to_char
