@@ -15,6 +15,9 @@ use crate::slice::{RopeSlice, within};
 use rope_cursor::{Bytes, Chars, Chunks};
 use rope_tree::Unit;
 
+/// A cursor over chunks, and how many bytes, characters and line breaks stand before its place.
+pub type ChunksAt<'a> = (Chunks<'a>, usize, usize, usize);
+
 impl<'a> RopeSlice<'a> {
     /// A cursor over the bytes, before the first, facing forward. Costs one or two look-ups; takes no memory.
     pub fn bytes(&self) -> Bytes<'a>
@@ -64,7 +67,7 @@ impl<'a> RopeSlice<'a> {
     /// before the cursor.
     ///
     /// The index is at most `len_bytes()`. Costs one or two look-ups; takes no memory.
-    pub fn chunks_at_byte(&self, byte_idx: usize) -> (Chunks<'a>, usize, usize, usize)
+    pub fn chunks_at_byte(&self, byte_idx: usize) -> ChunksAt<'a>
         requires { byte_idx ≤ byte_len (text_of self.now) }
         ensures { StandsBefore (content_of self.now) (chunk_place_at_byte (chunks_of self.now) byte_idx) result }
     {
@@ -76,7 +79,7 @@ impl<'a> RopeSlice<'a> {
     /// that end before the cursor.
     ///
     /// The index is at most `len_chars()`. Costs one or two look-ups; takes no memory.
-    pub fn chunks_at_char(&self, char_idx: usize) -> (Chunks<'a>, usize, usize, usize)
+    pub fn chunks_at_char(&self, char_idx: usize) -> ChunksAt<'a>
         requires { char_idx ≤ length (text_of self.now) }
         ensures { StandsBefore (content_of self.now) (chunk_place_at_char (chunks_of self.now) char_idx) result }
     {
@@ -88,7 +91,7 @@ impl<'a> RopeSlice<'a> {
     /// of bytes, of characters and of line breaks that end before the cursor.
     ///
     /// The index is at most `len_lines()`. Costs one or two look-ups; takes no memory.
-    pub fn chunks_at_line_break(&self, line_break_idx: usize) -> (Chunks<'a>, usize, usize, usize)
+    pub fn chunks_at_line_break(&self, line_break_idx: usize) -> ChunksAt<'a>
         requires { line_break_idx ≤ line_count (breaks_of self.now) (text_of self.now) }
         ensures { StandsBefore (content_of self.now) (chunk_place_at_line_break (breaks_of self.now) (chunks_of self.now) line_break_idx) result }
     {
@@ -113,7 +116,7 @@ impl<'a> RopeSlice<'a> {
 
     /// As `chunks_at_byte`, or `None` exactly where the index is past `len_bytes()`. Costs one or two look-ups;
     /// takes no memory.
-    pub fn get_chunks_at_byte(&self, byte_idx: usize) -> Option<(Chunks<'a>, usize, usize, usize)>
+    pub fn get_chunks_at_byte(&self, byte_idx: usize) -> Option<ChunksAt<'a>>
         ensures { GivesWithin byte_idx (byte_len (text_of self.now)) result
             (StandsBefore (content_of self.now) (chunk_place_at_byte (chunks_of self.now) byte_idx)) }
     {
@@ -122,7 +125,7 @@ impl<'a> RopeSlice<'a> {
 
     /// As `chunks_at_char`, or `None` exactly where the index is past `len_chars()`. Costs one or two look-ups;
     /// takes no memory.
-    pub fn get_chunks_at_char(&self, char_idx: usize) -> Option<(Chunks<'a>, usize, usize, usize)>
+    pub fn get_chunks_at_char(&self, char_idx: usize) -> Option<ChunksAt<'a>>
         ensures { GivesWithin char_idx (length (text_of self.now)) result
             (StandsBefore (content_of self.now) (chunk_place_at_char (chunks_of self.now) char_idx)) }
     {
@@ -131,10 +134,7 @@ impl<'a> RopeSlice<'a> {
 
     /// As `chunks_at_line_break`, or `None` exactly where the index is past `len_lines()`. Costs one or two
     /// look-ups; takes no memory.
-    pub fn get_chunks_at_line_break(
-        &self,
-        line_break_idx: usize,
-    ) -> Option<(Chunks<'a>, usize, usize, usize)>
+    pub fn get_chunks_at_line_break(&self, line_break_idx: usize) -> Option<ChunksAt<'a>>
         ensures { GivesWithin line_break_idx (line_count (breaks_of self.now) (text_of self.now)) result
             (StandsBefore (content_of self.now) (chunk_place_at_line_break (breaks_of self.now) (chunks_of self.now) line_break_idx)) }
     {

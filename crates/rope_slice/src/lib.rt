@@ -15,5 +15,7 @@ mod lookups;
 pub mod slice;
 mod text;
 
+pub use cursors::ChunksAt;
 pub use lines::Lines;
+pub use lookups::ChunkAt;
 pub use slice::RopeSlice;

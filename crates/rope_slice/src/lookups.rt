@@ -20,6 +20,9 @@ use crate::slice::{RopeSlice, within};
 use rope_text::{Error, Result};
 use rope_tree::{Unit, count, first_sought};
 
+/// A chunk, and how many bytes, characters and line breaks stand before it.
+pub type ChunkAt<'a> = (&'a str, usize, usize, usize);
+
 impl<'a> RopeSlice<'a> {
     /// The byte `byte_idx`, counted from 0.
     ///
@@ -45,7 +48,7 @@ impl<'a> RopeSlice<'a> {
     /// bytes, of characters and of line breaks that end before the chunk; with no chunk at all `("", 0, 0, 0)`.
     ///
     /// The index is at most `len_bytes()`. Costs one or two look-ups; takes no memory.
-    pub fn chunk_at_byte(&self, byte_idx: usize) -> (&'a str, usize, usize, usize)
+    pub fn chunk_at_byte(&self, byte_idx: usize) -> ChunkAt<'a>
         requires { byte_idx ≤ byte_len (text_of self.now) }
         ensures { ShowsChunk (content_of self.now) (chunk_index_at_byte (chunks_of self.now) byte_idx) result }
     {
@@ -57,7 +60,7 @@ impl<'a> RopeSlice<'a> {
     /// 0, 0)`.
     ///
     /// The index is at most `len_chars()`. Costs one or two look-ups; takes no memory.
-    pub fn chunk_at_char(&self, char_idx: usize) -> (&'a str, usize, usize, usize)
+    pub fn chunk_at_char(&self, char_idx: usize) -> ChunkAt<'a>
         requires { char_idx ≤ length (text_of self.now) }
         ensures { ShowsChunk (content_of self.now) (chunk_index_at_char (chunks_of self.now) char_idx) result }
     {
@@ -69,7 +72,7 @@ impl<'a> RopeSlice<'a> {
     /// chunk at all `("", 0, 0, 0)`.
     ///
     /// The index is at most `len_lines()`. Costs one or two look-ups; takes no memory.
-    pub fn chunk_at_line_break(&self, line_break_idx: usize) -> (&'a str, usize, usize, usize)
+    pub fn chunk_at_line_break(&self, line_break_idx: usize) -> ChunkAt<'a>
         requires { line_break_idx ≤ line_count (breaks_of self.now) (text_of self.now) }
         ensures { ShowsChunk (content_of self.now) (chunk_index_at_line_break (breaks_of self.now) (chunks_of self.now) line_break_idx) result }
     {
@@ -91,11 +94,8 @@ impl<'a> RopeSlice<'a> {
     pub fn get_byte(&self, byte_idx: usize) -> Option<u8>
         ensures { result ≡ slice_get (encode_utf8_all (text_of self.now)) byte_idx }
     {
-        if byte_idx < self.len_bytes() {
-            Some(self.byte(byte_idx))
-        } else {
-            None
-        }
+        let last = self.len_bytes().checked_sub(1)?;
+        Some(self.byte(within(byte_idx, last)?))
     }
 
     /// The character `char_idx`, counted from 0, or `None` exactly where the index is `len_chars()` or past it.
@@ -103,11 +103,8 @@ impl<'a> RopeSlice<'a> {
     pub fn get_char(&self, char_idx: usize) -> Option<char>
         ensures { result ≡ slice_get (text_of self.now) char_idx }
     {
-        if char_idx < self.len_chars() {
-            Some(self.char(char_idx))
-        } else {
-            None
-        }
+        let last = self.len_chars().checked_sub(1)?;
+        Some(self.char(within(char_idx, last)?))
     }
 
     /// As `chunk_at_byte`, for any index. Costs one or two look-ups; takes no memory.
@@ -116,7 +113,7 @@ impl<'a> RopeSlice<'a> {
     ///
     /// `ByteIndexOutOfBounds`, with the index and the number of bytes, exactly where the index is past
     /// `len_bytes()`.
-    pub fn try_chunk_at_byte(&self, byte_idx: usize) -> Result<(&'a str, usize, usize, usize)>
+    pub fn try_chunk_at_byte(&self, byte_idx: usize) -> Result<ChunkAt<'a>>
         ensures { MatchOption (byte_index_error byte_idx (byte_len (text_of self.now)))
             (IsOkAnd result (ShowsChunk (content_of self.now) (chunk_index_at_byte (chunks_of self.now) byte_idx)))
             (λ fault. result ≡ Err fault) }
@@ -128,7 +125,7 @@ impl<'a> RopeSlice<'a> {
 
     /// As `chunk_at_char`, or `None` exactly where the index is past `len_chars()`. Costs one or two look-ups;
     /// takes no memory.
-    pub fn get_chunk_at_char(&self, char_idx: usize) -> Option<(&'a str, usize, usize, usize)>
+    pub fn get_chunk_at_char(&self, char_idx: usize) -> Option<ChunkAt<'a>>
         ensures { GivesWithin char_idx (length (text_of self.now)) result
             (ShowsChunk (content_of self.now) (chunk_index_at_char (chunks_of self.now) char_idx)) }
     {
@@ -137,10 +134,7 @@ impl<'a> RopeSlice<'a> {
 
     /// As `chunk_at_line_break`, or `None` exactly where the index is past `len_lines()`. Costs one or two
     /// look-ups; takes no memory.
-    pub fn get_chunk_at_line_break(
-        &self,
-        line_break_idx: usize,
-    ) -> Option<(&'a str, usize, usize, usize)>
+    pub fn get_chunk_at_line_break(&self, line_break_idx: usize) -> Option<ChunkAt<'a>>
         ensures { GivesWithin line_break_idx (line_count (breaks_of self.now) (text_of self.now)) result
             (ShowsChunk (content_of self.now) (chunk_index_at_line_break (breaks_of self.now) (chunks_of self.now) line_break_idx)) }
     {

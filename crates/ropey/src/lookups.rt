@@ -27,6 +27,7 @@ ghost use Rattle.rope_tree.specs.Tree.{text};
 ghost use Rattle.ropey.specs.Counted.{IsLookUp, WentDown, IsLookUpAt, IsLineLookUp};
 
 use crate::rope::Rope;
+use rope_slice::ChunkAt;
 use rope_text::{Result, Steps};
 use rope_tree::search::Unit::{Byte, Char, CodeUnit, LineBreak};
 use rope_tree::{Node, byte_at, char_at, convert};
@@ -56,7 +57,7 @@ impl Rope {
     /// bytes, of characters and of line breaks that end before the chunk; with no chunk at all `("", 0, 0, 0)`.
     ///
     /// The index is at most `len_bytes()`. Costs one look-up; takes no memory.
-    pub fn chunk_at_byte(&self, byte_idx: usize) -> (&str, usize, usize, usize)
+    pub fn chunk_at_byte(&self, byte_idx: usize) -> ChunkAt<'_>
         requires { byte_idx ≤ byte_len self.now.text }
         ensures { ShowsChunk (content self.now) (chunk_index_at_byte self.now.chunks byte_idx) result }
     {
@@ -68,7 +69,7 @@ impl Rope {
     /// 0, 0)`.
     ///
     /// The index is at most `len_chars()`. Costs one look-up; takes no memory.
-    pub fn chunk_at_char(&self, char_idx: usize) -> (&str, usize, usize, usize)
+    pub fn chunk_at_char(&self, char_idx: usize) -> ChunkAt<'_>
         requires { char_idx ≤ length self.now.text }
         ensures { ShowsChunk (content self.now) (chunk_index_at_char self.now.chunks char_idx) result }
     {
@@ -80,7 +81,7 @@ impl Rope {
     /// chunk at all `("", 0, 0, 0)`.
     ///
     /// The index is at most `len_lines()`. Costs one look-up; takes no memory.
-    pub fn chunk_at_line_break(&self, line_break_idx: usize) -> (&str, usize, usize, usize)
+    pub fn chunk_at_line_break(&self, line_break_idx: usize) -> ChunkAt<'_>
         requires { line_break_idx ≤ line_count self.now.breaks self.now.text }
         ensures { ShowsChunk (content self.now) (chunk_index_at_line_break self.now.breaks self.now.chunks line_break_idx) result }
     {
@@ -105,7 +106,7 @@ impl Rope {
 
     /// As `chunk_at_byte`, or `None` exactly where the index is past `len_bytes()`. Costs one look-up; takes no
     /// memory.
-    pub fn get_chunk_at_byte(&self, byte_idx: usize) -> Option<(&str, usize, usize, usize)>
+    pub fn get_chunk_at_byte(&self, byte_idx: usize) -> Option<ChunkAt<'_>>
         ensures { GivesWithin byte_idx (byte_len self.now.text) result
             (ShowsChunk (content self.now) (chunk_index_at_byte self.now.chunks byte_idx)) }
     {
@@ -114,7 +115,7 @@ impl Rope {
 
     /// As `chunk_at_char`, or `None` exactly where the index is past `len_chars()`. Costs one look-up; takes no
     /// memory.
-    pub fn get_chunk_at_char(&self, char_idx: usize) -> Option<(&str, usize, usize, usize)>
+    pub fn get_chunk_at_char(&self, char_idx: usize) -> Option<ChunkAt<'_>>
         ensures { GivesWithin char_idx (length self.now.text) result
             (ShowsChunk (content self.now) (chunk_index_at_char self.now.chunks char_idx)) }
     {
@@ -123,10 +124,7 @@ impl Rope {
 
     /// As `chunk_at_line_break`, or `None` exactly where the index is past `len_lines()`. Costs one look-up; takes
     /// no memory.
-    pub fn get_chunk_at_line_break(
-        &self,
-        line_break_idx: usize,
-    ) -> Option<(&str, usize, usize, usize)>
+    pub fn get_chunk_at_line_break(&self, line_break_idx: usize) -> Option<ChunkAt<'_>>
         ensures { GivesWithin line_break_idx (line_count self.now.breaks self.now.text) result
             (ShowsChunk (content self.now) (chunk_index_at_line_break self.now.breaks self.now.chunks line_break_idx)) }
     {

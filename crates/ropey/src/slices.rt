@@ -19,10 +19,10 @@ ghost use Rattle.rope_text.specs.Lookup.{chunk_place_at_byte, chunk_place_at_cha
 ghost use Rattle.rope_text.specs.Sides.{at_start, at_place};
 
 use crate::rope::Rope;
-use rope_cursor::{Bytes, Chars, Chunks};
+use rope_cursor::{Bytes, Chars};
 use rope_join::cut::between;
 use rope_part::Origin;
-use rope_slice::{Lines, RopeSlice};
+use rope_slice::{ChunksAt, Lines, RopeSlice};
 use rope_text::{IndexRange, Result};
 use rope_tree::Maker;
 use std::alloc::Global;
@@ -155,7 +155,7 @@ impl Rope {
     /// before the cursor.
     ///
     /// The index is at most `len_bytes()`. Costs one look-up; takes no memory.
-    pub fn chunks_at_byte(&self, byte_idx: usize) -> (Chunks<'_>, usize, usize, usize)
+    pub fn chunks_at_byte(&self, byte_idx: usize) -> ChunksAt<'_>
         requires { byte_idx ≤ byte_len self.now.text }
         ensures { StandsBefore (content self.now) (chunk_place_at_byte self.now.chunks byte_idx) result }
     {
@@ -167,7 +167,7 @@ impl Rope {
     /// that end before the cursor.
     ///
     /// The index is at most `len_chars()`. Costs one look-up; takes no memory.
-    pub fn chunks_at_char(&self, char_idx: usize) -> (Chunks<'_>, usize, usize, usize)
+    pub fn chunks_at_char(&self, char_idx: usize) -> ChunksAt<'_>
         requires { char_idx ≤ length self.now.text }
         ensures { StandsBefore (content self.now) (chunk_place_at_char self.now.chunks char_idx) result }
     {
@@ -179,7 +179,7 @@ impl Rope {
     /// of bytes, of characters and of line breaks that end before the cursor.
     ///
     /// The index is at most `len_lines()`. Costs one look-up; takes no memory.
-    pub fn chunks_at_line_break(&self, line_break_idx: usize) -> (Chunks<'_>, usize, usize, usize)
+    pub fn chunks_at_line_break(&self, line_break_idx: usize) -> ChunksAt<'_>
         requires { line_break_idx ≤ line_count self.now.breaks self.now.text }
         ensures { StandsBefore (content self.now) (chunk_place_at_line_break self.now.breaks self.now.chunks line_break_idx) result }
     {
@@ -230,7 +230,7 @@ impl Rope {
 
     /// As `chunks_at_byte`, or `None` exactly where the index is past `len_bytes()`. Costs one look-up; takes no
     /// memory.
-    pub fn get_chunks_at_byte(&self, byte_idx: usize) -> Option<(Chunks<'_>, usize, usize, usize)>
+    pub fn get_chunks_at_byte(&self, byte_idx: usize) -> Option<ChunksAt<'_>>
         ensures { GivesWithin byte_idx (byte_len self.now.text) result
             (StandsBefore (content self.now) (chunk_place_at_byte self.now.chunks byte_idx)) }
     {
@@ -239,7 +239,7 @@ impl Rope {
 
     /// As `chunks_at_char`, or `None` exactly where the index is past `len_chars()`. Costs one look-up; takes no
     /// memory.
-    pub fn get_chunks_at_char(&self, char_idx: usize) -> Option<(Chunks<'_>, usize, usize, usize)>
+    pub fn get_chunks_at_char(&self, char_idx: usize) -> Option<ChunksAt<'_>>
         ensures { GivesWithin char_idx (length self.now.text) result
             (StandsBefore (content self.now) (chunk_place_at_char self.now.chunks char_idx)) }
     {
@@ -248,10 +248,7 @@ impl Rope {
 
     /// As `chunks_at_line_break`, or `None` exactly where the index is past `len_lines()`. Costs one look-up; takes
     /// no memory.
-    pub fn get_chunks_at_line_break(
-        &self,
-        line_break_idx: usize,
-    ) -> Option<(Chunks<'_>, usize, usize, usize)>
+    pub fn get_chunks_at_line_break(&self, line_break_idx: usize) -> Option<ChunksAt<'_>>
         ensures { GivesWithin line_break_idx (line_count self.now.breaks self.now.text) result
             (StandsBefore (content self.now) (chunk_place_at_line_break self.now.breaks self.now.chunks line_break_idx)) }
     {
