@@ -123,6 +123,6 @@ impl Rope {
         ensures failed { IsErr result ↔ (S.marked sink.new ≡ true) }
         ensures failure { IsCounted (failure_of result) (S.failure sink.new) (S.failures sink.old) (S.failures sink.new) }
     {
-        write_part(&Part::of_node(self.root()), sink)
+        write_part(&Part::of_node(&self.root), sink)
     }
 }

@@ -334,7 +334,7 @@ impl Rope {
         ensures zero { steps.new ≡ record { nodes = 0; compares = 0; made = 0 } }
     {
         *steps = Steps::new();
-        self.root()
+        &self.root
     }
 
     /// As `byte_to_char`, under the same condition, and sets `steps` to what it did: at most one node a level

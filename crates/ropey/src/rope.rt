@@ -117,17 +117,6 @@ impl Rope {
         Ok(Rope { root, alloc })
     }
 
-    // The root of the tree.
-    pub(crate) fn root(&self) -> &Node
-        ensures text { text result.now ≡ self.now.text }
-        ensures leaves { result.now.leaves ≡ self.now.chunks }
-        ensures breaks { result.now.breaks ≡ self.now.breaks }
-        ensures depth { result.now.height ≡ self.now.depth }
-        ensures low { result.now.height ≤ MAX_HEIGHT }
-    {
-        &self.root
-    }
-
     /// The set of line breaks by which lines are counted. Takes constant time and no memory.
     pub fn line_breaks(&self) -> LineBreaks
         ensures { result ≡ self.now.breaks }
