@@ -18,21 +18,11 @@ use std::marker::Model;
 
 /// Makes a rope of texts that are passed in one after the other, with no second copy of the whole text. Contracts
 /// see it as the text so far, the set of line breaks, and the error with which it was refused, if there was one.
+#[derive(Drop)]
 pub struct RopeBuilder {
     builder: Builder,
     failed: Option<Error>,
     alloc: Global,
-}
-
-// By hand, as for a rope.
-impl Drop for RopeBuilder {
-    fn drop(self) {
-        let RopeBuilder {
-            builder: _,
-            failed: _,
-            alloc: _,
-        } = self;
-    }
 }
 
 impl Model for RopeBuilder {
@@ -107,15 +97,11 @@ impl RopeBuilder {
         ensures whole { IfOk result (λ _. self.failed ≡ None) }
         ensures refused { IfErr result (IsRefusal self.failed) }
     {
-        let RopeBuilder {
-            builder,
-            failed,
-            alloc,
-        } = self;
-        if let Some(error) = failed {
+        if let Some(error) = self.failed {
             return Err(error);
         }
-        let root = builder.finish(&mut Maker::new(alloc))?;
+        let alloc = self.alloc;
+        let root = self.builder.finish(&mut Maker::new(alloc))?;
         Ok(Rope { root, alloc })
     }
 }
