@@ -153,7 +153,6 @@ impl Rope {
         ensures kept { IsEdit result self.old self.new }
     {
         let len = self.len_chars();
-        let _ = self.len_bytes();
         if char_idx > len {
             return Err(Error::CharIndexOutOfBounds(char_idx, len));
         }
@@ -226,7 +225,6 @@ impl Rope {
             → range_start (R.given_start range) ≡ range_end (R.given_end range) (length self.old.text) → IsOk result × (self.new ≡ self.old) }
         ensures kept { IsEdit result self.old self.new }
     {
-        let _ = self.len_bytes();
         let (start, end) = char_bounds(&range, self.len_chars())?;
         self.remove(start..end)
     }
@@ -273,7 +271,6 @@ impl Rope {
         ensures made { steps.new.made ≤ 16 * self.old.depth + 32 }
     {
         *steps = Steps::new();
-        let _ = self.len_bytes();
         let (start, end) = char_bounds(&range, self.len_chars()).unwrap();
         if start == end {
             return Ok(());

@@ -134,7 +134,8 @@ impl Rope {
 
     /// The length in characters. Takes constant time and no memory.
     pub fn len_chars(&self) -> usize
-        ensures { result ≡ length self.now.text }
+        ensures value { result ≡ length self.now.text }
+        ensures kept { IsRope self.now }
     {
         self.root.info().chars
     }
