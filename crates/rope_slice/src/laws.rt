@@ -10,21 +10,14 @@ ghost use Rattle.rope_slice.specs.Slice.{content_of, text_of};
 use crate::slice::RopeSlice;
 use std::hash::Hash;
 
-/// Two slices are equal exactly if their texts are, however they are cut.
-pub fn equal_texts()
-    ensures { (a b : RopeSlice) → (IsTrue (⟦<RopeSlice<'static> as PartialEq>⟧.eq a b) ↔ (text_of a ≡ text_of b)) }
-{}
-
-/// The order of slices is total, and ties equal slices alone.
-pub fn order_is_total()
+/// Two slices are equal exactly if their texts are, however they are cut; their order is total, and ties equal slices alone;
+/// equal slices hand any hasher the same writes.
+pub fn texts_are_compared()
+    ensures equal { (a b : RopeSlice) → (IsTrue (⟦<RopeSlice<'static> as PartialEq>⟧.eq a b) ↔ (text_of a ≡ text_of b)) }
     ensures total { IsTotalOrder ⟦<RopeSlice<'static> as Ord>⟧.cmp }
     ensures ties { (a b : RopeSlice) →
         ((⟦<RopeSlice<'static> as Ord>⟧.cmp a b ≡ Equal) ↔ IsTrue (⟦<RopeSlice<'static> as PartialEq>⟧.eq a b)) }
-{}
-
-/// Equal slices hand any hasher the same writes.
-pub fn equal_slices_hash_alike()
-    ensures { (a b : RopeSlice) → IsTrue (⟦<RopeSlice<'static> as PartialEq>⟧.eq a b) →
+    ensures hash { (a b : RopeSlice) → IsTrue (⟦<RopeSlice<'static> as PartialEq>⟧.eq a b) →
         ⟦<RopeSlice<'static> as Hash>⟧.hash_input a ≡ ⟦<RopeSlice<'static> as Hash>⟧.hash_input b }
 {}
 

@@ -2,7 +2,10 @@ use Rattle.std.specs.Cmp.{on_total}
 use Rattle.rope_text.proofs.CompareLaws.{text_cmp_total, same_from_text_cmp, text_cmp_same}
 use Rattle.rope_compare.proofs.Comparing.{bytes_tell}
 use Rattle.rope_slice.specs.Slice.{text_of}
-use Rattle.rope_slice.proofs.laws.order_is_total.Goals as goal
+use Rattle.rope_slice.proofs.laws.texts_are_compared.Goals as goal
+
+pub returns-clause-equal : goal.returns-clause-equal
+returns-clause-equal c = λ a b. bytes_tell (text_of a) (text_of b)
 
 pub returns-clause-total : goal.returns-clause-total
 returns-clause-total c = on_total text_of text_cmp_total
