@@ -105,27 +105,6 @@ impl<'a> RopeSlice<'a> {
         self.part.len_utf16_cu()
     }
 
-    // The bounds of a range of bytes, or what is wrong with it.
-    fn byte_bounds<R: IndexRange>(&self, range: &R) -> Result<(usize, usize)>
-        ensures { MatchOption (byte_range_error (text_of self.now) (R.given_start range.now) (R.given_end range.now))
-            (result ≡ Ok (range_start (R.given_start range.now), range_end (R.given_end range.now) (byte_len (text_of self.now))))
-            (λ fault. result ≡ Err fault) }
-    {
-        let (start, end, len) = (range.start(), range.end(), self.len_bytes());
-        match (start, end) {
-            (Some(a), Some(b)) if a > b => return Err(Error::ByteRangeInvalid(a, b)),
-            _ => {}
-        }
-        let (from, to) = (start.unwrap_or(0), end.unwrap_or(len));
-        if from.max(to) > len {
-            return Err(Error::ByteRangeOutOfBounds(start, end, len));
-        }
-        if !self.part.is_char_boundary(from) || !self.part.is_char_boundary(to) {
-            return Err(Error::ByteRangeNotCharBoundary(start, end));
-        }
-        Ok((from, to))
-    }
-
     /// The characters of a range, as a slice that borrows them: their text, the chunks clipped to them, and the
     /// same set of line breaks. Nothing is copied.
     ///
@@ -162,8 +141,19 @@ impl<'a> RopeSlice<'a> {
             × IsByteRange (content_of self.now) (R.given_start range) (R.given_end range) (content_of slice)) }
         ensures refused { IfErr result (λ fault. byte_range_error (text_of self.now) (R.given_start range) (R.given_end range) ≡ Some fault) }
     {
-        let (start, end) = self.byte_bounds(&range)?;
-        let part = self.part.byte_range(start, end);
+        let (start, end, len) = (range.start(), range.end(), self.len_bytes());
+        match (start, end) {
+            (Some(a), Some(b)) if a > b => return Err(Error::ByteRangeInvalid(a, b)),
+            _ => {}
+        }
+        let (from, to) = (start.unwrap_or(0), end.unwrap_or(len));
+        if from.max(to) > len {
+            return Err(Error::ByteRangeOutOfBounds(start, end, len));
+        }
+        if !self.part.is_char_boundary(from) || !self.part.is_char_boundary(to) {
+            return Err(Error::ByteRangeNotCharBoundary(start, end));
+        }
+        let part = self.part.byte_range(from, to);
         Ok(RopeSlice { part })
     }
 
