@@ -110,7 +110,7 @@ impl<'a> RopeSlice<'a> {
     ///
     /// The range's bounds are at most `len_chars()`, and its start is at most its end. Costs a few look-ups, or a
     /// count of the text where it is plain; takes no memory.
-    pub fn slice<R: IndexRange + Drop>(&self, range: R) -> RopeSlice<'a>
+    pub fn slice<R: IndexRange>(&self, range: R) -> RopeSlice<'a>
         requires { char_range_error (R.given_start range) (R.given_end range) (length (text_of self.now)) ≡ None }
         ensures { IsCharRange (content_of self.now) (R.given_start range) (R.given_end range) (content_of result) }
     {
@@ -119,7 +119,7 @@ impl<'a> RopeSlice<'a> {
 
     /// As `slice`, or `None` exactly where a bound is past `len_chars()` or the range's start is past its end.
     /// Costs a few look-ups, or a count of the text where it is plain; takes no memory.
-    pub fn get_slice<R: IndexRange + Drop>(&self, range: R) -> Option<RopeSlice<'a>>
+    pub fn get_slice<R: IndexRange>(&self, range: R) -> Option<RopeSlice<'a>>
         ensures { GivesUnless (char_range_error (R.given_start range) (R.given_end range) (length (text_of self.now))) result
             (λ slice. IsCharRange (content_of self.now) (R.given_start range) (R.given_end range) (content_of slice)) }
     {
@@ -136,7 +136,7 @@ impl<'a> RopeSlice<'a> {
     /// First `ByteRangeInvalid`, where both bounds are given and the start is past the end; then
     /// `ByteRangeOutOfBounds`, where a given bound is past `len_bytes()`; then `ByteRangeNotCharBoundary`, where a
     /// given bound lies inside a character.
-    pub fn try_byte_slice<R: IndexRange + Drop>(&self, range: R) -> Result<RopeSlice<'a>>
+    pub fn try_byte_slice<R: IndexRange>(&self, range: R) -> Result<RopeSlice<'a>>
         ensures ok { IfOk result (λ slice. (byte_range_error (text_of self.now) (R.given_start range) (R.given_end range) ≡ None)
             × IsByteRange (content_of self.now) (R.given_start range) (R.given_end range) (content_of slice)) }
         ensures refused { IfErr result (λ fault. byte_range_error (text_of self.now) (R.given_start range) (R.given_end range) ≡ Some fault) }
@@ -159,7 +159,7 @@ impl<'a> RopeSlice<'a> {
 
     /// As `byte_slice`, or `None` exactly where `try_byte_slice` returns an error. Costs a few look-ups, or a count
     /// of the text where it is plain; takes no memory.
-    pub fn get_byte_slice<R: IndexRange + Drop>(&self, range: R) -> Option<RopeSlice<'a>>
+    pub fn get_byte_slice<R: IndexRange>(&self, range: R) -> Option<RopeSlice<'a>>
         ensures { GivesUnless (byte_range_error (text_of self.now) (R.given_start range) (R.given_end range)) result
             (λ slice. IsByteRange (content_of self.now) (R.given_start range) (R.given_end range) (content_of slice)) }
     {
@@ -170,7 +170,7 @@ impl<'a> RopeSlice<'a> {
     ///
     /// The range's bounds are at most `len_bytes()`, its start is at most its end, and no bound lies inside a
     /// character. Costs a few look-ups, or a count of the text where it is plain; takes no memory.
-    pub fn byte_slice<R: IndexRange + Drop>(&self, range: R) -> RopeSlice<'a>
+    pub fn byte_slice<R: IndexRange>(&self, range: R) -> RopeSlice<'a>
         requires { byte_range_error (text_of self.now) (R.given_start range) (R.given_end range) ≡ None }
         ensures { IsByteRange (content_of self.now) (R.given_start range) (R.given_end range) (content_of result) }
     {

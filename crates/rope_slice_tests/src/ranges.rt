@@ -32,7 +32,7 @@ const BOUNDS: [usize; 12] = [
 ];
 
 /// A removal of the range is refused by its error and changes nothing, or else takes its characters out.
-fn is_removed<R: IndexRange + Drop>(rope: &mut Rope, range: R, told: Told) -> bool {
+fn is_removed<R: IndexRange>(rope: &mut Rope, range: R, told: Told) -> bool {
     let answer = rope.try_remove(range);
     let left = match told.char_error(CHARS) {
         Some(error) if answer == Err(error) => CHARS,
@@ -42,7 +42,7 @@ fn is_removed<R: IndexRange + Drop>(rope: &mut Rope, range: R, told: Told) -> bo
     rope.len_chars() == left && (left != CHARS || rope.eq_str(TEXT))
 }
 
-fn removes<R: IndexRange + Drop>(alloc: Global, range: R, told: Told) -> bool {
+fn removes<R: IndexRange>(alloc: Global, range: R, told: Told) -> bool {
     match Rope::from_str(alloc, TEXT) {
         Ok(mut rope) => is_removed(&mut rope, range, told),
         Err(_) => false,

@@ -70,7 +70,7 @@ pub end_is_boundary : (text : List ℕ) → is_char_boundary text (byte_len text
 end_is_boundary text =
     let whole : take (length text) text ≡ text = take_all (length text) text (omega arith) in
     let last : byte_to_char text (byte_len text) ≡ length text =
-        ap (λ s. byte_to_char text (byte_len s)) (sym whole) ∙ byte_to_char-char_to_byte text (length text) (omega arith) in
+    ap (λ s. byte_to_char text (byte_len s)) (sym whole) ∙ byte_to_char-char_to_byte text (length text) (omega arith) in
     is_boundary text (byte_len text) (ap (λ i. byte_len (take i text)) last ∙ ap byte_len whole)
 
 -- a range whose bounds are in order and within the text, of which one lies inside a character

@@ -8,7 +8,7 @@ use crate::{Error, Result};
 use std::ops::{Range, RangeFrom, RangeFull, RangeInclusive, RangeTo, RangeToInclusive};
 
 /// A range of indices, given by its start and its excluded end, each `None` where it is open.
-pub trait IndexRange {
+pub trait IndexRange: Drop {
     ghost given_start: { Self → Option ℕ };
 
     ghost given_end: { Self → Option ℕ };

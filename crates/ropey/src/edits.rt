@@ -217,7 +217,7 @@ impl Rope {
     /// First `CharRangeOutOfBounds`, with the bounds and the number of characters, where a bound is past
     /// `len_chars()`; then `CharRangeInvalid`, where the start is past the end; then `OutOfMemory`. A refused call
     /// leaves the rope as it was.
-    pub fn try_remove<R: IndexRange + Drop>(&mut self, range: R) -> Result<()>
+    pub fn try_remove<R: IndexRange>(&mut self, range: R) -> Result<()>
         ensures ok { OnOk result ((char_range_error (R.given_start range) (R.given_end range) (length self.old.text) ≡ None)
             × (self.new.text ≡ removed self.old.text (range_start (R.given_start range)) (range_end (R.given_end range) (length self.old.text)))) }
         ensures refused { IfErr result (IsRefusal (char_range_error (R.given_start range) (R.given_end range) (length self.old.text))) }
@@ -239,7 +239,7 @@ impl Rope {
     /// # Errors
     ///
     /// `OutOfMemory`. A refused call leaves the rope as it was.
-    pub fn remove<R: IndexRange + Drop>(&mut self, range: R) -> Result<()>
+    pub fn remove<R: IndexRange>(&mut self, range: R) -> Result<()>
         requires { char_range_error (R.given_start range) (R.given_end range) (length self.old.text) ≡ None }
         ensures ok { OnOk result (self.new.text ≡ removed self.old.text (range_start (R.given_start range)) (range_end (R.given_end range) (length self.old.text))) }
         ensures refused { IfErr result (λ e. e ≡ OutOfMemory) }
@@ -258,11 +258,7 @@ impl Rope {
     /// # Errors
     ///
     /// `OutOfMemory`. A refused call leaves the rope as it was.
-    pub fn remove_counted<R: IndexRange + Drop>(
-        &mut self,
-        range: R,
-        steps: &mut Steps,
-    ) -> Result<()>
+    pub fn remove_counted<R: IndexRange>(&mut self, range: R, steps: &mut Steps) -> Result<()>
         requires { char_range_error (R.given_start range) (R.given_end range) (length self.old.text) ≡ None }
         ensures ok { OnOk result (self.new.text ≡ removed self.old.text (range_start (R.given_start range)) (range_end (R.given_end range) (length self.old.text))) }
         ensures refused { IfErr result (λ e. e ≡ OutOfMemory) }

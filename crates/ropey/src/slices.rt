@@ -40,7 +40,7 @@ impl Rope {
     ///
     /// The range's bounds are at most `len_chars()`, and its start is at most its end. Costs two look-ups; takes no
     /// memory.
-    pub fn slice<R: IndexRange + Drop>(&self, range: R) -> RopeSlice<'_>
+    pub fn slice<R: IndexRange>(&self, range: R) -> RopeSlice<'_>
         requires { char_range_error (R.given_start range) (R.given_end range) (length self.now.text) ≡ None }
         ensures { IsCharRange (content self.now) (R.given_start range) (R.given_end range) (content_of result) }
     {
@@ -49,7 +49,7 @@ impl Rope {
 
     /// As `slice`, or `None` exactly where a bound is past `len_chars()` or the range's start is past its end.
     /// Costs two look-ups; takes no memory.
-    pub fn get_slice<R: IndexRange + Drop>(&self, range: R) -> Option<RopeSlice<'_>>
+    pub fn get_slice<R: IndexRange>(&self, range: R) -> Option<RopeSlice<'_>>
         ensures { GivesUnless (char_range_error (R.given_start range) (R.given_end range) (length self.now.text)) result
             (λ slice. IsCharRange (content self.now) (R.given_start range) (R.given_end range) (content_of slice)) }
     {
@@ -60,7 +60,7 @@ impl Rope {
     ///
     /// The range's bounds are at most `len_bytes()`, its start is at most its end, and no bound lies inside a
     /// character. Costs two look-ups; takes no memory.
-    pub fn byte_slice<R: IndexRange + Drop>(&self, range: R) -> RopeSlice<'_>
+    pub fn byte_slice<R: IndexRange>(&self, range: R) -> RopeSlice<'_>
         requires { byte_range_error self.now.text (R.given_start range) (R.given_end range) ≡ None }
         ensures { IsByteRange (content self.now) (R.given_start range) (R.given_end range) (content_of result) }
     {
@@ -74,7 +74,7 @@ impl Rope {
     /// First `ByteRangeInvalid`, where both bounds are given and the start is past the end; then
     /// `ByteRangeOutOfBounds`, where a given bound is past `len_bytes()`; then `ByteRangeNotCharBoundary`, where a
     /// given bound lies inside a character.
-    pub fn try_byte_slice<R: IndexRange + Drop>(&self, range: R) -> Result<RopeSlice<'_>>
+    pub fn try_byte_slice<R: IndexRange>(&self, range: R) -> Result<RopeSlice<'_>>
         ensures ok { IfOk result (λ slice. (byte_range_error self.now.text (R.given_start range) (R.given_end range) ≡ None)
             × IsByteRange (content self.now) (R.given_start range) (R.given_end range) (content_of slice)) }
         ensures refused { IfErr result (λ fault. byte_range_error self.now.text (R.given_start range) (R.given_end range) ≡ Some fault) }
@@ -84,7 +84,7 @@ impl Rope {
 
     /// As `byte_slice`, or `None` exactly where `try_byte_slice` returns an error. Costs two look-ups; takes no
     /// memory.
-    pub fn get_byte_slice<R: IndexRange + Drop>(&self, range: R) -> Option<RopeSlice<'_>>
+    pub fn get_byte_slice<R: IndexRange>(&self, range: R) -> Option<RopeSlice<'_>>
         ensures { GivesUnless (byte_range_error self.now.text (R.given_start range) (R.given_end range)) result
             (λ slice. IsByteRange (content self.now) (R.given_start range) (R.given_end range) (content_of slice)) }
     {
