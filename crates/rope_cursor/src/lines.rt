@@ -15,7 +15,18 @@ use rope_part::Part;
 use rope_text::TextInfo;
 use std::alloc::AllocError;
 use std::iter::ExactSizeIterator;
-use std::marker::Model;
+use std::marker::{Model, PhantomData};
+
+/// What a cursor over lines gives: it is made of a part.
+pub trait OfPart<'a> {
+    ghost use Rattle.rope_text.specs.Content.{Content};
+
+    ghost content: { Self → Content };
+
+    /// What shows that part.
+    fn of_part(part: Part<'a>) -> Self
+        ensures { content result ≡ content_of part.entry };
+}
 
 /// A cursor over the lines of a part, each with its break. It takes no memory.
 ///
@@ -24,7 +35,7 @@ use std::marker::Model;
 /// As `Debug` it shows where it stands and which way it faces, and no text.
 #[derive(Drop)]
 #[derive_where(Debug)]
-pub struct Lines<'a> {
+pub struct Lines<'a, T> {
     #[derive_where(skip)]
     part: Part<'a>,
     #[derive_where(skip)]
@@ -35,9 +46,11 @@ pub struct Lines<'a> {
     line: usize,
     total: usize,
     is_backward: bool,
+    #[derive_where(skip)]
+    item: PhantomData<T>,
 }
 
-impl<'a> Model for Lines<'a> {
+impl<'a, T> Model for Lines<'a, T> {
     ghost use Rattle.rope_text.specs.Content.{Content};
     ghost use Rattle.rope_text.specs.Sides.{Sides};
     ghost use Rattle.rope_part.specs.Part.{content_of};
@@ -59,9 +72,9 @@ pub fn line<'a>(part: &Part<'a>, line_idx: usize) -> Part<'a>
     between(part, start, end)
 }
 
-impl<'a> Lines<'a> {
+impl<'a, T: OfPart<'a>> Lines<'a, T> {
     /// A cursor before a line, facing forward; for the number of lines it stands past the last.
-    pub fn at(part: &Part<'a>, line_idx: usize) -> Lines<'a>
+    pub fn at(part: &Part<'a>, line_idx: usize) -> Lines<'a, T>
         requires { line_idx ≤ line_count (breaks_of part.now) (text_of part.now) }
         ensures { result ≡ at_place (lines_of (content_of part.now)) line_idx }
     {
@@ -74,6 +87,7 @@ impl<'a> Lines<'a> {
             line: line_idx,
             total: part.len_lines(),
             is_backward: false,
+            item: PhantomData,
         }
     }
 
@@ -101,12 +115,12 @@ impl<'a> Lines<'a> {
         Some(between(&self.part, here, self.before))
     }
 
-    /// The item behind, to which it steps back; or none at that end, where it stays.
+    /// The line behind, to which it steps back; or none at that end, where it stays. Takes no memory.
     #[inline(always)]
-    pub fn prev(&mut self) -> Option<Part<'a>>
-        ensures { StepsBack (λ x. content_of x) self.old result self.new }
+    pub fn prev(&mut self) -> Option<T>
+        ensures { StepsBack (λ x. T.content x) self.old result self.new }
     {
-        self.step(!self.is_backward)
+        Some(T::of_part(self.step(!self.is_backward)?))
     }
 
     /// Turns it round where it stands: `next` and `prev` change places.
@@ -117,7 +131,7 @@ impl<'a> Lines<'a> {
     }
 
     /// The same cursor turned round.
-    pub fn reversed(mut self) -> Lines<'a>
+    pub fn reversed(mut self) -> Lines<'a, T>
         ensures { result ≡ turned self.entry }
     {
         self.reverse();
@@ -125,20 +139,20 @@ impl<'a> Lines<'a> {
     }
 }
 
-impl<'a> Iterator for Lines<'a> {
-    type Item = Part<'a>;
+impl<'a, T: OfPart<'a>> Iterator for Lines<'a, T> {
+    type Item = T;
 
-    ghost next_gives = { YieldsFirstBy (λ x. content_of x) ahead };
+    ghost next_gives = { YieldsFirstBy (λ x. T.content x) ahead };
 
     ghost remaining = { item_count ahead };
 
     /// The next line, or none at the end, where it stays.
     #[inline(always)]
-    fn next(&mut self) -> Option<Part<'a>>
-        ensures steps { YieldsFirstBy (λ x. content_of x) ahead self.old result self.new }
-        ensures goes { GoesAhead (λ x. content_of x) self.old result self.new }
+    fn next(&mut self) -> Option<T>
+        ensures steps { YieldsFirstBy (λ x. T.content x) ahead self.old result self.new }
+        ensures goes { GoesAhead (λ x. T.content x) self.old result self.new }
     {
-        self.step(self.is_backward)
+        Some(T::of_part(self.step(self.is_backward)?))
     }
 
     /// How many lines are still to come, twice.
@@ -150,7 +164,7 @@ impl<'a> Iterator for Lines<'a> {
     }
 }
 
-impl<'a> ExactSizeIterator for Lines<'a> {
+impl<'a, T: OfPart<'a>> ExactSizeIterator for Lines<'a, T> {
     /// How many lines are still to come.
     fn len(&self) -> usize {
         if self.is_backward {
@@ -161,12 +175,12 @@ impl<'a> ExactSizeIterator for Lines<'a> {
     }
 }
 
-impl<'a> Clone for Lines<'a> {
+impl<'a, T> Clone for Lines<'a, T> {
     ghost is_clone = { λ a b. b ≡ a };
 
     ghost is_infallible = { λ _. ⊤ };
 
-    fn clone(&self) -> Result<Lines<'a>, AllocError> {
+    fn clone(&self) -> Result<Lines<'a, T>, AllocError> {
         let gap = self.gap.copy();
         Ok(Lines { gap, ..*self })
     }

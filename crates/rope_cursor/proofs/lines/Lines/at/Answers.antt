@@ -6,14 +6,14 @@ use Rattle.rope_cursor.proofs.LineMoves.{counts_at}
 use Rattle.rope_cursor.proofs.lines.Lines.at.Goals as goal
 
 pub at-requires-clause-within : goal.at-requires-clause-within
-at-requires-clause-within c =
+at-requires-clause-within g c =
     let breaks = breaks_of c.args.part.now in
     let t = text_of c.args.part.now in
     let short = line_start-le-length breaks t c.args.line_idx in
     rw (counts_at breaks t (line_start breaks t c.args.line_idx) c.before_line-before.result short c.before_line-before.ensures).0 short
 
 pub invariant_of-result : goal.invariant_of-result
-invariant_of-result c =
+invariant_of-result g c =
     let breaks = breaks_of c.args.part.now in
     let t = text_of c.args.part.now in
     let e = (counts_at breaks t (line_start breaks t c.args.line_idx) c.before_line-before.result (line_start-le-length breaks t c.args.line_idx) c.before_line-before.ensures).0 in
