@@ -2,14 +2,11 @@
 #![tactic(auto)]
 
 mod conversions;
-mod edge;
 mod items;
-pub mod origin;
 pub mod part;
 pub mod plain;
 pub mod stretch;
 
-pub use origin::Origin;
 pub use part::Part;
 pub use plain::Plain;
 pub use stretch::Stretch;

@@ -2,7 +2,7 @@
 ghost use Rattle.std.specs.Prelude.{◌≡◌, ◌≤◌, ◌<◌, ◌+◌, length};
 ghost use Rattle.std.specs.List.{slice_range};
 ghost use Rattle.std.specs.Str.{chars};
-ghost use Rattle.rope_text.specs.Text.{byte_len, utf16_len};
+ghost use Rattle.rope_text.specs.Text.{byte_len};
 ghost use Rattle.rope_text.specs.TextInfo.{info_of};
 ghost use Rattle.rope_text.specs.Lines.{line_count};
 ghost use Rattle.rope_text.specs.Conversions.{byte_to_char};
@@ -12,6 +12,7 @@ ghost use Rattle.rope_part.specs.Edge.{line_info};
 
 use crate::plain::Plain;
 use crate::stretch::Stretch;
+use rope_text::str_utils::char_to_byte_idx;
 use rope_text::{LineBreaks, TextInfo};
 use rope_tree::{Node, Unit};
 
@@ -37,7 +38,8 @@ impl<'a> Part<'a> {
         ensures chunks { chunks_of result ≡ single_chunk (chars text.now) }
         ensures breaks { breaks_of result ≡ breaks }
     {
-        Part::Alone(Plain::new(text, breaks))
+        let info = TextInfo::from_str(text, breaks);
+        Part::Alone(Plain { text, info, breaks })
     }
 
     /// The whole text of a tree.
@@ -73,22 +75,12 @@ impl<'a> Part<'a> {
     {
         match self {
             Part::InTree(stretch) => stretch.info(),
-            Part::Alone(plain) => plain.info(),
+            Part::Alone(plain) => {
+                // a proof needs how long a text in memory may be
+                let _ = plain.as_str().as_bytes();
+                plain.info
+            }
         }
-    }
-
-    /// The length in bytes. No text is read.
-    pub fn len_bytes(&self) -> usize
-        ensures { result ≡ byte_len (text_of self.now) }
-    {
-        self.info().bytes
-    }
-
-    /// The length in characters. No text is read.
-    pub fn len_chars(&self) -> usize
-        ensures { result ≡ length (text_of self.now) }
-    {
-        self.info().chars
     }
 
     /// The number of lines: one more than there are line breaks. No text is read.
@@ -96,14 +88,6 @@ impl<'a> Part<'a> {
         ensures { result ≡ line_count (breaks_of self.now) (text_of self.now) }
     {
         self.info().break_count + 1
-    }
-
-    /// The length in code units of UTF-16. No text is read.
-    pub fn len_utf16_cu(&self) -> usize
-        ensures { result ≡ utf16_len (text_of self.now) }
-    {
-        let info = self.info();
-        info.chars + info.utf16_surrogates
     }
 
     /// Its characters from `start` up to `end`, with its set of line breaks: its text and its chunks, clipped.
@@ -118,8 +102,17 @@ impl<'a> Part<'a> {
             return Part::from_str_with("", self.line_breaks());
         }
         match self {
-            Part::InTree(stretch) => Part::InTree(stretch.range(start, end)),
-            Part::Alone(plain) => Part::Alone(plain.range(start, end)),
+            Part::InTree(stretch) => Part::InTree(Stretch {
+                node: stretch.node,
+                start: stretch.start_of(start),
+                end: stretch.end_of(end),
+            }),
+            Part::Alone(plain) => {
+                let text = plain.as_str();
+                let rest = &text[char_to_byte_idx(text, start)..];
+                let len = char_to_byte_idx(rest, end - start);
+                Part::from_str_with(&rest[..len], plain.breaks)
+            }
         }
     }
 

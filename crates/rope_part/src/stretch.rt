@@ -1,18 +1,83 @@
 //! Characters of a tree's text, one at least.
 ghost use Rattle.std.specs.Prelude.{◌≡◌, ◌+◌, ◌-◌, ◌≤◌, ◌<◌, length, take};
-ghost use Rattle.std.specs.List.{slice_range};
 ghost use Rattle.std.specs.Str.{chars};
 ghost use Rattle.rope_text.specs.TextInfo.{info_of};
-ghost use Rattle.rope_text.specs.Lines.{line_count};
-ghost use Rattle.rope_text.specs.Cutting.{clip};
+ghost use Rattle.rope_text.specs.Text.{surrogate_count};
+ghost use Rattle.rope_text.specs.Lines.{line_start, line_count};
 ghost use Rattle.rope_text.specs.Lookup.{found_chunk, chunk_index_at_char};
 ghost use Rattle.rope_tree.specs.Search.{count_of};
 ghost use Rattle.rope_tree.specs.Tree.{IsTree, text};
-ghost use Rattle.rope_part.specs.Edge.{start_info, end_info, line_info, IsStretch, IsStretch-prop};
+ghost use Rattle.rope_part.specs.Edge.{start_info, end_info, line_info, IsLeafFrom, IsStretch, IsStretch-prop};
 
-use crate::edge::{around_line, before_line, end_at, start_at};
-use rope_text::TextInfo;
-use rope_tree::{Found, Node, Unit, count};
+use rope_text::str_utils::count_surrogates;
+use rope_text::{Steps, TextInfo};
+use rope_tree::{Found, Node, Unit, count, leaf_at};
+
+// How many characters of a text take two code units, where it is known how many characters it has: none where it has as many
+// bytes.
+fn pairs_in(text: &str, count: usize) -> usize
+    requires { count ≡ length (chars text.now) }
+    ensures { result ≡ surrogate_count (chars text.now) }
+{
+    if count == text.len() {
+        0
+    } else {
+        count_surrogates(text)
+    }
+}
+
+// The counts of the text before a line that is not the first, and from there on the leaf in which the break before it ends.
+fn line_start_at(node: &Node, line_idx: usize) -> (TextInfo, &str)
+    requires later { 0 < line_idx }
+    requires within { line_idx < line_count node.now.breaks (text node.now) }
+    ensures before { result.0 ≡ line_info node.now.breaks (text node.now) line_idx }
+    ensures rest { IsLeafFrom node.now (line_start node.now.breaks (text node.now) line_idx) (chars result.1.now) }
+{
+    // a proof needs what `height` says of every node
+    let _ = node.height();
+    let found = leaf_at(node, Unit::LineBreak, line_idx - 1, &mut Steps::new());
+    let leaf = found.leaf.as_str();
+    let line = line_idx - found.before.break_count;
+    let front = TextInfo::before_line(leaf, line, node.line_breaks());
+    let before = TextInfo {
+        bytes: found.before.bytes + front.bytes,
+        chars: found.before.chars + front.chars,
+        utf16_surrogates: found.before.utf16_surrogates + front.utf16_surrogates,
+        break_count: line_idx,
+    };
+    (before, &leaf[front.bytes..])
+}
+
+// The counts of the text before a line that is not the first; past the last line those of all the text.
+fn before_line(node: &Node, line_idx: usize) -> TextInfo
+    requires later { 0 < line_idx }
+    requires within { line_idx ≤ line_count node.now.breaks (text node.now) }
+    ensures { result ≡ line_info node.now.breaks (text node.now) line_idx }
+{
+    let info = node.info();
+    if line_idx > info.break_count {
+        return info;
+    }
+    line_start_at(node, line_idx).0
+}
+
+// The counts of the text before a line that is not the first, and before the next one. It is one look-up where the line
+// ends before the leaf does.
+fn around_line(node: &Node, line_idx: usize) -> (TextInfo, TextInfo)
+    requires later { 0 < line_idx }
+    requires within { line_idx < line_count node.now.breaks (text node.now) }
+    ensures start { result.0 ≡ line_info node.now.breaks (text node.now) line_idx }
+    ensures end { result.1 ≡ line_info node.now.breaks (text node.now) (line_idx + 1) }
+{
+    // a proof needs what `height` says of every node
+    let _ = node.height();
+    let (start, rest) = line_start_at(node, line_idx);
+    let line = TextInfo::of_first_line(rest, node.line_breaks());
+    if line.break_count == 0 {
+        return (start, before_line(node, line_idx + 1));
+    }
+    (start, start.plus(line))
+}
 
 /// Characters of a tree's text, one at least. It keeps the counts of the text before their start and before their end, so
 /// that a length is a difference of two of them, and a conversion is one of the tree's.
@@ -56,19 +121,30 @@ impl<'a> Stretch<'a> {
         self.end.minus(self.start)
     }
 
-    // The counts before the start of its part from a character on.
-    fn start_of(&self, char_idx: usize) -> TextInfo
+    /// The counts before the start of its part from a character on.
+    pub(crate) fn start_of(&self, char_idx: usize) -> TextInfo
         requires { char_idx < length (text_of self.now) }
         ensures { result ≡ start_info self.now.node.now.breaks (text self.now.node.now) (self.now.start.chars + char_idx) }
     {
         if char_idx == 0 {
             return self.start;
         }
-        start_at(self.node, self.place(Unit::Char, char_idx))
+        let place = self.place(Unit::Char, char_idx);
+        let found = leaf_at(self.node, Unit::Char, place, &mut Steps::new());
+        let leaf = found.leaf.as_str();
+        let chars = place - found.before.chars;
+        let bytes = found.leaf.char_to_byte_idx(chars);
+        let lines = found.leaf.char_to_line_with(chars, self.node.line_breaks());
+        TextInfo {
+            bytes: found.before.bytes + bytes,
+            chars: place,
+            utf16_surrogates: found.before.utf16_surrogates + pairs_in(&leaf[..bytes], chars),
+            break_count: found.before.break_count + lines,
+        }
     }
 
-    // The counts before the end of its part up to a character.
-    fn end_of(&self, char_idx: usize) -> TextInfo
+    /// The counts before the end of its part up to a character.
+    pub(crate) fn end_of(&self, char_idx: usize) -> TextInfo
         requires { char_idx ≤ length (text_of self.now) }
         ensures { result ≡ end_info self.now.node.now.breaks (text self.now.node.now) (self.now.start.chars + char_idx) }
     {
@@ -76,22 +152,11 @@ impl<'a> Stretch<'a> {
         if place == self.end.chars {
             return self.end;
         }
-        end_at(self.node, place)
-    }
-
-    /// Its characters from `start` up to `end`.
-    pub fn range(&self, start: usize, end: usize) -> Stretch<'a>
-        requires some { start < end }
-        requires within { end ≤ length (text_of self.now) }
-        ensures text { text_of result ≡ slice_range (text_of self.now) start end }
-        ensures chunks { chunks_of result ≡ clip (chunks_of self.now) start end }
-        ensures breaks { breaks_of result ≡ breaks_of self.now }
-    {
-        Stretch {
-            node: self.node,
-            start: self.start_of(start),
-            end: self.end_of(end),
-        }
+        let found = leaf_at(self.node, Unit::Char, place, &mut Steps::new());
+        let leaf = found.leaf.as_str();
+        let bytes = found.leaf.char_to_byte_idx(place - found.before.chars);
+        let front = TextInfo::from_str(&leaf[..bytes], self.node.line_breaks());
+        found.before.plus(front)
     }
 
     /// What of a leaf lies in it, and the counts of its text before that.

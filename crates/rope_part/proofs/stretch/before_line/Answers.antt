@@ -3,7 +3,7 @@ use Rattle.std.proofs.lemmas.List.{take_all}
 use Rattle.rope_text.specs.TextInfo.{info_of}
 use Rattle.rope_tree.specs.Tree.{text}
 use Rattle.rope_tree.proofs.FoundLaws.{line_start_past}
-use Rattle.rope_part.proofs.edge.before_line.Goals as goal
+use Rattle.rope_part.proofs.stretch.before_line.Goals as goal
 
 pub returns-then-line_idx-info : goal.returns-then-line_idx-info
 returns-then-line_idx-info c =

@@ -12,8 +12,8 @@ use Rattle.rope_tree.specs.Tree.{text}
 use Rattle.rope_tree.specs.Search.{IsSmall}
 use Rattle.rope_tree.proofs.Infos.{small_info}
 use Rattle.rope_part.proofs.LeafLines.{line_in_leaf}
-use Rattle.rope_part.proofs.edge.around_line.Goals.{Else-line-eq0}
-use Rattle.rope_part.proofs.edge.around_line.Goals as goal
+use Rattle.rope_part.proofs.stretch.around_line.Goals.{Else-line-eq0}
+use Rattle.rope_part.proofs.stretch.around_line.Goals as goal
 
 sum_is : (c : Else-line-eq0) → info_sum c.line_start_at.result.0 c.of_first_line-line.result ≡ info_of c.args.node.now.breaks (take (line_start c.args.node.now.breaks (text c.args.node.now) (c.args.line_idx + 1)) (text c.args.node.now))
 sum_is c =
