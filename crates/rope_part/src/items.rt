@@ -61,7 +61,18 @@ impl<'a> Part<'a> {
         match self {
             Part::InTree(stretch) => {
                 let place = stretch.place(unit, idx).min(count(stretch.end, unit) - 1);
-                stretch.chunk_in(leaf_at(stretch.node, unit, place, &mut Steps::new()))
+                let found = leaf_at(stretch.node, unit, place, &mut Steps::new());
+                let leaf = found.leaf.as_str();
+                let before = found.before;
+                let start = stretch.start;
+                let from = start.bytes.saturating_sub(before.bytes);
+                let to = (stretch.end.bytes - before.bytes).min(leaf.len());
+                (
+                    &leaf[from..to],
+                    before.bytes.saturating_sub(start.bytes),
+                    before.chars.saturating_sub(start.chars),
+                    before.break_count.saturating_sub(start.break_count),
+                )
             }
             Part::Alone(plain) => (plain.text, 0, 0, 0),
         }

@@ -4,7 +4,6 @@ ghost use Rattle.std.specs.Str.{chars};
 ghost use Rattle.rope_text.specs.TextInfo.{info_of};
 ghost use Rattle.rope_text.specs.Text.{surrogate_count};
 ghost use Rattle.rope_text.specs.Lines.{line_start, line_count};
-ghost use Rattle.rope_text.specs.Lookup.{found_chunk, chunk_index_at_char};
 ghost use Rattle.rope_tree.specs.Search.{count_of};
 ghost use Rattle.rope_tree.specs.Tree.{IsTree, text};
 ghost use Rattle.rope_part.specs.Edge.{start_info, end_info, line_info, IsLeafFrom, IsStretch, IsStretch-prop};
@@ -94,9 +93,8 @@ pub struct Stretch<'a> {
 
 impl<'a> Stretch<'a> {
     ghost use Rattle.rope_text.specs.declared.TheConstants.{MAX_HEIGHT};
-    ghost use Rattle.rope_part.specs.Found.{IsFoundChunk, MeetsLeaf, first_in};
     ghost use Rattle.rope_part.specs.Kept.{IsPart};
-    ghost use Rattle.rope_part.specs.Stretch.{content_of, text_of, chunks_of, breaks_of};
+    ghost use Rattle.rope_part.specs.Stretch.{content_of, text_of, breaks_of};
 
     /// A place of its text, as one of the tree's. Of lines it may be the one past the last.
     #[inline(always)]
@@ -157,26 +155,6 @@ impl<'a> Stretch<'a> {
         let bytes = found.leaf.char_to_byte_idx(place - found.before.chars);
         let front = TextInfo::from_str(&leaf[..bytes], self.node.line_breaks());
         found.before.plus(front)
-    }
-
-    /// What of a leaf lies in it, and the counts of its text before that.
-    pub(crate) fn chunk_in(&self, found: Found<'a>) -> (&'a str, usize, usize, usize)
-        requires tree { IsTree self.now.node.now }
-        requires meets { MeetsLeaf self.now found.leaf found.before }
-        ensures { IsFoundChunk (found_chunk (breaks_of self.now) (chunks_of self.now)
-            (chunk_index_at_char (chunks_of self.now) (first_in self.now found.entry.before)))
-            (chars result.0.now) result.1 result.2 result.3 }
-    {
-        let leaf = found.leaf.as_str();
-        let before = found.before;
-        let from = self.start.bytes.saturating_sub(before.bytes);
-        let to = (self.end.bytes - before.bytes).min(leaf.len());
-        (
-            &leaf[from..to],
-            before.bytes.saturating_sub(self.start.bytes),
-            before.chars.saturating_sub(self.start.chars),
-            before.break_count.saturating_sub(self.start.break_count),
-        )
     }
 
     // The counts of its text up to a place of the tree's text behind its start; past its end those of all of it.
