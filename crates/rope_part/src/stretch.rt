@@ -60,24 +60,6 @@ fn before_line(node: &Node, line_idx: usize) -> TextInfo
     line_start_at(node, line_idx).0
 }
 
-// The counts of the text before a line that is not the first, and before the next one. It is one look-up where the line
-// ends before the leaf does.
-fn around_line(node: &Node, line_idx: usize) -> (TextInfo, TextInfo)
-    requires later { 0 < line_idx }
-    requires within { line_idx < line_count node.now.breaks (text node.now) }
-    ensures start { result.0 ≡ line_info node.now.breaks (text node.now) line_idx }
-    ensures end { result.1 ≡ line_info node.now.breaks (text node.now) (line_idx + 1) }
-{
-    // a proof needs what `height` says of every node
-    let _ = node.height();
-    let (start, rest) = line_start_at(node, line_idx);
-    let line = TextInfo::of_first_line(rest, node.line_breaks());
-    if line.break_count == 0 {
-        return (start, before_line(node, line_idx + 1));
-    }
-    (start, start.plus(line))
-}
-
 /// Characters of a tree's text, one at least. It keeps the counts of the text before their start and before their end, so
 /// that a length is a difference of two of them, and a conversion is one of the tree's.
 ///
@@ -181,7 +163,8 @@ impl<'a> Stretch<'a> {
         self.counts_to(before_line(self.node, self.place(Unit::LineBreak, line_idx)))
     }
 
-    /// The counts of its text before a line, and before the next one; past the last line those of all of it.
+    /// The counts of its text before a line, and before the next one; past the last line those of all of it. It is one look-up
+    /// where the line ends before the leaf does.
     pub fn around_line(&self, line_idx: usize) -> (TextInfo, TextInfo)
         requires { line_idx < line_count (breaks_of self.now) (text_of self.now) }
         ensures start { result.0 ≡ line_info (breaks_of self.now) (text_of self.now) line_idx }
@@ -190,7 +173,12 @@ impl<'a> Stretch<'a> {
         if line_idx == 0 {
             return (TextInfo::new(), self.before_line(1));
         }
-        let (start, end) = around_line(self.node, self.place(Unit::LineBreak, line_idx));
-        (self.counts_to(start), self.counts_to(end))
+        let (start, rest) = line_start_at(self.node, self.place(Unit::LineBreak, line_idx));
+        let line = TextInfo::of_first_line(rest, self.node.line_breaks());
+        let before = self.counts_to(start);
+        if line.break_count == 0 {
+            return (before, self.before_line(line_idx + 1));
+        }
+        (before, self.counts_to(start.plus(line)))
     }
 }
