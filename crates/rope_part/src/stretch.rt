@@ -47,19 +47,6 @@ fn line_start_at(node: &Node, line_idx: usize) -> (TextInfo, &str)
     (before, &leaf[front.bytes..])
 }
 
-// The counts of the text before a line that is not the first; past the last line those of all the text.
-fn before_line(node: &Node, line_idx: usize) -> TextInfo
-    requires later { 0 < line_idx }
-    requires within { line_idx ≤ line_count node.now.breaks (text node.now) }
-    ensures { result ≡ line_info node.now.breaks (text node.now) line_idx }
-{
-    let info = node.info();
-    if line_idx > info.break_count {
-        return info;
-    }
-    line_start_at(node, line_idx).0
-}
-
 /// Characters of a tree's text, one at least. It keeps the counts of the text before their start and before their end, so
 /// that a length is a difference of two of them, and a conversion is one of the tree's.
 ///
@@ -160,7 +147,12 @@ impl<'a> Stretch<'a> {
         if line_idx == 0 {
             return TextInfo::new();
         }
-        self.counts_to(before_line(self.node, self.place(Unit::LineBreak, line_idx)))
+        let info = self.info();
+        if line_idx > info.break_count {
+            return info;
+        }
+        let place = self.place(Unit::LineBreak, line_idx);
+        self.counts_to(line_start_at(self.node, place).0)
     }
 
     /// The counts of its text before a line, and before the next one; past the last line those of all of it. It is one look-up
