@@ -59,13 +59,13 @@ pub fn order(left: &Part<'_>, right: &Part<'_>) -> Ordering
 pub fn is_same(left: &Part<'_>, right: &Part<'_>) -> bool
     ensures { IsTrue result ↔ (text_of left.now ≡ text_of right.now) }
 {
-    left.len_bytes() == right.len_bytes() && order(left, right).is_eq()
+    left.info().bytes == right.info().bytes && order(left, right).is_eq()
 }
 
 /// Whether the text is this one. No memory is taken, and no text is read where the lengths differ.
 pub fn is_text(part: &Part<'_>, text: &str) -> bool
     ensures { IsTrue result ↔ (text_of part.now ≡ chars text.now) }
 {
-    part.len_bytes() == text.len()
+    part.info().bytes == text.len()
         && order_of_pieces(Pieces::of(part), Pieces::of_text(text)).is_eq()
 }

@@ -88,7 +88,7 @@ impl<'a> Chunks<'a> {
             result.0 result.1 result.2 result.3 }
     {
         let start = part.convert(Unit::LineBreak, Unit::Char, line_break_idx);
-        let is_past = line_break_idx == part.len_lines();
+        let is_past = line_break_idx > part.info().break_count;
         // the last of these breaks ends right before the line that starts there
         let char_idx = if is_past {
             start

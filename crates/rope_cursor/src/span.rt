@@ -73,7 +73,7 @@ impl<'a> Span<'a> {
                     path: Path::text(plain.text),
                     start: 0,
                     from: 0,
-                    to: plain.info().bytes,
+                    to: plain.info.bytes,
                 };
                 (span, 0, 0, 0)
             }

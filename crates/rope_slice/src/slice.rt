@@ -9,10 +9,9 @@ ghost use Rattle.rope_text.specs.Lines.{line_count};
 ghost use Rattle.rope_text.specs.Cutting.{single_chunk};
 ghost use Rattle.rope_tree.specs.Tree.{text};
 ghost use Rattle.rope_part.specs.Kept.{IsPart};
-ghost use Rattle.rope_part.specs.Origin.{IsOrigin};
 ghost use Rattle.rope_slice.specs.Found.{GivesWithin};
 
-use rope_part::{Origin, Part};
+use rope_part::Part;
 use rope_text::LineBreaks;
 use rope_tree::Node;
 
@@ -58,11 +57,11 @@ impl<'a> RopeSlice<'a> {
         RopeSlice { part }
     }
 
-    /// What it is a slice of: a tree or a plain text, and the place in it. Takes constant time and no memory.
-    pub fn origin(&self) -> Origin<'a>
-        ensures { IsOrigin (content_of self.now) result }
+    /// The part that it shows: of a tree's text, or a plain text. Takes constant time and no memory.
+    pub fn part(&self) -> Part<'a>
+        ensures { result ≡ self.now.part }
     {
-        self.part.origin()
+        self.part
     }
 
     /// The set of line breaks by which lines are counted. Takes constant time and no memory.
@@ -84,7 +83,7 @@ impl<'a> RopeSlice<'a> {
     pub fn len_chars(&self) -> usize
         ensures { result ≡ length (text_of self.now) }
     {
-        self.part.len_chars()
+        self.part.info().chars
     }
 
     /// The number of lines: one more than there are line breaks. Takes constant time and no memory.
@@ -98,7 +97,8 @@ impl<'a> RopeSlice<'a> {
     pub fn len_utf16_cu(&self) -> usize
         ensures { result ≡ utf16_len (text_of self.now) }
     {
-        self.part.len_utf16_cu()
+        let info = self.part.info();
+        info.chars + info.utf16_surrogates
     }
 }
 

@@ -19,8 +19,8 @@ place_is c =
     let part = c.args.part.now in
     let cut = c.at.ensures.cut in
     elim c.if-is_past.branch [
-      | then-is_past w ↦ line_break_end (breaks_of part) (text_of part) (chunks_of part) cut c.args.line_break_idx c.if-is_past.char_idx (omega (arith, w.if-is_past.true, c.len_lines.ensures)) (w.char_idx-is ∙ c.convert-start.ensures)
-      | else-is_past w ↦ line_break_place (breaks_of part) (text_of part) (chunks_of part) cut c.args.line_break_idx c.if-is_past.char_idx (omega (arith, c.requires, w.if-is_past.false, c.len_lines.ensures)) (w.char_idx-is ∙ w.saturating_sub-char_idx.ensures ∙ ap (λ n. n - 1) c.convert-start.ensures)
+      | then-is_past w ↦ line_break_end (breaks_of part) (text_of part) (chunks_of part) cut c.args.line_break_idx c.if-is_past.char_idx (omega (arith, w.if-is_past.true, ap (λ x. x.break_count) c.info.ensures.value)) (w.char_idx-is ∙ c.convert-start.ensures)
+      | else-is_past w ↦ line_break_place (breaks_of part) (text_of part) (chunks_of part) cut c.args.line_break_idx c.if-is_past.char_idx (omega (arith, c.requires, w.if-is_past.false, ap (λ x. x.break_count) c.info.ensures.value)) (w.char_idx-is ∙ w.saturating_sub-char_idx.ensures ∙ ap (λ n. n - 1) c.convert-start.ensures)
     ]
 
 pub returns : goal.returns

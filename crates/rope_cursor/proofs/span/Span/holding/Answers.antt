@@ -9,7 +9,7 @@ use Rattle.rope_cursor.specs.Span.{edge_at, clipped_at, IsSpan}
 use Rattle.rope_cursor.specs.Starts.{IsHolding}
 use Rattle.rope_cursor.proofs.Spans.{alone, alone_is, alone_span, alone_whole}
 use Rattle.rope_cursor.proofs.LeafStarts.{some_in, fits_in, place_in, span_here, holds_here, holds_alone}
-use Rattle.rope_cursor.proofs.span.Span.holding.Goals.{After-min-place, After-info}
+use Rattle.rope_cursor.proofs.span.Span.holding.Goals.{After-min-place, After-text}
 use Rattle.rope_cursor.proofs.span.Span.holding.Goals as goal
 
 pub count-requires : goal.count-requires
@@ -53,24 +53,24 @@ returns-in-InTree c =
     c.at-path.result.0 c.at-path.result.1 c.at-path.ensures.leaves c.at-path.ensures.holds (rw c.in-InTree.is at c.requires.within))
 
 -- of a plain text
-alone_here : (c : After-info) → c.text.result ≡ alone (chars c.in-Alone.plain.text.now)
+alone_here : (c : After-text) → c.text.result ≡ alone (chars c.in-Alone.plain.text.now)
 alone_here c = alone_is c.text.result (chars c.in-Alone.plain.text.now) c.text.ensures.before c.text.ensures.here c.text.ensures.after
 
-bytes_are : (c : After-info) → c.info.result.bytes ≡ byte_len (chars c.in-Alone.plain.text.now)
-bytes_are c = ap (λ x. x.bytes) c.info.ensures.value
+bytes_are : (c : After-text) → c.in-Alone.plain.info.bytes ≡ byte_len (chars c.in-Alone.plain.text.now)
+bytes_are c = ap (λ x. x.bytes) c.in-Alone.plain.counted
 
 pub invariant_of-span-in-Alone : goal.invariant_of-span-in-Alone
 invariant_of-span-in-Alone c =
-    let d = (goal.at.invariant_of-span-in-Alone c).After-info in
+    let d = (goal.at.invariant_of-span-in-Alone c).After-text in
     let own = alone (chars c.in-Alone.plain.text.now) in
-    subst (λ (p : Place). IsSpan p 0 (edge_at (leaves p) 0) (edge_at (leaves p) c.info.result.bytes)) (sym (alone_here d))
+    subst (λ (p : Place). IsSpan p 0 (edge_at (leaves p) 0) (edge_at (leaves p) c.in-Alone.plain.info.bytes)) (sym (alone_here d))
     (subst (λ (n : ℕ). IsSpan own 0 (edge_at (leaves own) 0) (edge_at (leaves own) n)) (sym (bytes_are d)) (alone_span (chars c.in-Alone.plain.text.now)))
 
 pub returns-in-Alone : goal.returns-in-Alone
 returns-in-Alone c =
-    let d = (goal.at.returns-in-Alone c).After-info in
+    let d = (goal.at.returns-in-Alone c).After-text in
     let own : List ℕ = chars c.in-Alone.plain.text.now in
-    let here = ap (λ p. clipped_at p 0 c.info.result.bytes) (alone_here d) ∙ ap (clipped_at (alone own) 0) (bytes_are d) ∙ alone_whole own in
+    let here = ap (λ p. clipped_at p 0 c.in-Alone.plain.info.bytes) (alone_here d) ∙ ap (clipped_at (alone own) 0) (bytes_are d) ∙ alone_whole own in
     rw c.in-Alone.is
     (subst (λ (q : Place). IsHolding c.args.unit c.args.idx (record { text = own; chunks = single_chunk own; breaks = c.in-Alone.plain.breaks }) q 0 0 0) (sym here)
     (holds_alone c.in-Alone.plain.breaks own c.args.idx c.args.unit c.requires.unit (rw c.in-Alone.is at c.requires.within)))
