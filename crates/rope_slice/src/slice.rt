@@ -30,7 +30,8 @@ pub(crate) fn within(idx: usize, len: usize) -> Option<usize>
 /// memory.
 #[derive(Clone, Copy)]
 pub struct RopeSlice<'a> {
-    pub(crate) part: Part<'a>,
+    /// What it shows: a part of a tree's text, or a plain text.
+    pub part: Part<'a>,
 }
 
 impl<'a> RopeSlice<'a> {
@@ -55,13 +56,6 @@ impl<'a> RopeSlice<'a> {
     {
         let part = Part::of_node(node);
         RopeSlice { part }
-    }
-
-    /// The part that it shows: of a tree's text, or a plain text. Takes constant time and no memory.
-    pub fn part(&self) -> Part<'a>
-        ensures { result ≡ self.now.part }
-    {
-        self.part
     }
 
     /// The set of line breaks by which lines are counted. Takes constant time and no memory.

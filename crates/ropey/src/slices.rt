@@ -95,7 +95,7 @@ impl Rope {
         ensures kept { IfOk result IsRope }
         ensures err { IfErr result (λ e. e ≡ OutOfMemory) }
     {
-        match slice.part() {
+        match slice.part {
             Part::InTree(Stretch { node, start, end }) => {
                 let root = between(&mut Maker::new(alloc), node, start.chars, end.chars)?;
                 Ok(Rope { root, alloc })
