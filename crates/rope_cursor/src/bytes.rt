@@ -141,21 +141,16 @@ impl<'a> Iterator for Bytes<'a> {
     fn size_hint(&self) -> (usize, Option<usize>)
         ensures { CountsAhead self.now result.0 result.1 }
     {
-        let count = self.len();
-        (count, Some(count))
+        (self.len(), Some(self.len()))
     }
 }
 
 impl<'a> ExactSizeIterator for Bytes<'a> {
     /// How many bytes it still gives.
     fn len(&self) -> usize {
-        let total = self.total;
-        let passed = self.before + self.at;
-        if self.is_backward {
-            passed
-        } else {
-            total - passed
-        }
+        let left = self.total - self.before - self.at;
+        let passed = self.total - left;
+        if self.is_backward { passed } else { left }
     }
 }
 

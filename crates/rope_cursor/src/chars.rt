@@ -161,19 +161,15 @@ impl<'a> Iterator for Chars<'a> {
     fn size_hint(&self) -> (usize, Option<usize>)
         ensures { CountsAhead self.now result.0 result.1 }
     {
-        let count = self.len();
-        (count, Some(count))
+        (self.len(), Some(self.len()))
     }
 }
 
 impl<'a> ExactSizeIterator for Chars<'a> {
     /// How many characters it still gives.
     fn len(&self) -> usize {
-        if self.is_backward {
-            self.passed
-        } else {
-            self.total - self.passed
-        }
+        let left = self.total - self.passed;
+        if self.is_backward { self.passed } else { left }
     }
 }
 

@@ -90,11 +90,8 @@ impl<'a> Chunks<'a> {
         let start = part.convert(Unit::LineBreak, Unit::Char, line_break_idx);
         let is_past = line_break_idx > part.info().break_count;
         // the last of these breaks ends right before the line that starts there
-        let char_idx = if is_past {
-            start
-        } else {
-            start.saturating_sub(1)
-        };
+        let before = start.saturating_sub(1);
+        let char_idx = if is_past { start } else { before };
         Chunks::at(part, Unit::Char, char_idx)
     }
 

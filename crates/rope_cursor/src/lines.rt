@@ -159,19 +159,15 @@ impl<'a, T: OfPart<'a>> Iterator for Lines<'a, T> {
     fn size_hint(&self) -> (usize, Option<usize>)
         ensures { CountsAhead self.now result.0 result.1 }
     {
-        let count = self.len();
-        (count, Some(count))
+        (self.len(), Some(self.len()))
     }
 }
 
 impl<'a, T: OfPart<'a>> ExactSizeIterator for Lines<'a, T> {
     /// How many lines are still to come.
     fn len(&self) -> usize {
-        if self.is_backward {
-            self.line
-        } else {
-            self.total - self.line
-        }
+        let left = self.total - self.line;
+        if self.is_backward { self.line } else { left }
     }
 }
 

@@ -1,8 +1,6 @@
 //! Parts of a rope's text, or of a plain text: borrowed, with lengths, lines and chunks of their own. No call takes memory.
 #![tactic(auto)]
 
-mod conversions;
-mod items;
 pub mod part;
 pub mod plain;
 pub mod stretch;
