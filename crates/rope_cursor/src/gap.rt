@@ -70,52 +70,9 @@ const NEAR_BYTES: usize = 64;
 const FAR_BYTES: usize = 256;
 
 // The byte at which the last line of a text's front starts, or the one so many line breaks before it, and the counts from there
-// on; or none, where they are not found in so many bytes before the front's end. What follows the front helps to count, since
-// whole blocks are counted at once.
-fn find_last(
-    text: &str,
-    end: usize,
-    near: usize,
-    skip: usize,
-    breaks: LineBreaks,
-) -> Option<(usize, TextInfo)>
-    requires between { IsBetween (chars text.now) end }
-    requires apart { parts_crlf (before_byte (chars text.now) end) (after_byte (chars text.now) end) ≡ false }
-    ensures start { IfSome result (λ found. found.0 ≡ last_line_byte breaks (chars text.now) end skip) }
-    ensures counts { IfSome result (λ found. found.1 ≡ last_line_info breaks (chars text.now) end skip) }
-    ensures far { IfNone result (near < end) }
-{
-    // a proof needs how long a text in memory may be
-    let _ = byte_len_of(text);
-    // so many bytes before the end or more, in no CR LF
-    let cut = prev_break(end.saturating_sub(near), text.as_bytes());
-    let near = text_after(text, cut);
-    let len = end - cut;
-    let break_count = byte_to_line_with(near, len, breaks);
-    if break_count <= skip && cut > 0 {
-        return None;
-    }
-    let skip = skip.min(break_count);
-    // mostly it is the second line, since so little text is looked at
-    let line_idx = break_count - skip;
-    let start = if line_idx == 1 {
-        TextInfo::of_first_line(near, breaks).bytes
-    } else {
-        line_to_byte_with(near, line_idx, breaks)
-    };
-    let rest = text_after(near, start);
-    let bytes = len - start;
-    let info = TextInfo {
-        bytes,
-        chars: byte_to_char_idx(rest, bytes),
-        utf16_surrogates: byte_to_surrogates(rest, bytes),
-        break_count: skip,
-    };
-    Some((cut + start, info))
-}
-
-// What `find_last` answers. It is looked for in so many bytes before the front's end, and then in `times` as many, until it is
-// found: so a line costs its own length, however long the text is before it.
+// on. It is looked for in so many bytes before the front's end, and then in `times` as many, until it is found: so a line costs
+// its own length, however long the text is before it. What follows the front helps to count, since whole blocks are counted at
+// once.
 fn count_last(
     text: &str,
     end: usize,
@@ -130,12 +87,36 @@ fn count_last(
     ensures start { result.0 ≡ last_line_byte breaks (chars text.now) end skip }
     ensures counts { result.1 ≡ last_line_info breaks (chars text.now) end skip }
 {
-    let mut near = first.max(NEAR_BYTES);
+    // a proof needs how long a text in memory may be
+    let _ = byte_len_of(text);
+    let mut back = first.max(NEAR_BYTES);
     loop {
-        if let Some(found) = find_last(text, end, near, skip, breaks) {
-            return found;
+        // so many bytes before the end or more, in no CR LF
+        let cut = prev_break(end.saturating_sub(back), text.as_bytes());
+        let near = text_after(text, cut);
+        let len = end - cut;
+        let break_count = byte_to_line_with(near, len, breaks);
+        if break_count <= skip && cut > 0 {
+            back = back.saturating_mul(times);
+            continue;
         }
-        near = near.saturating_mul(times);
+        let skip = skip.min(break_count);
+        // mostly it is the second line, since so little text is looked at
+        let line_idx = break_count - skip;
+        let start = if line_idx == 1 {
+            TextInfo::of_first_line(near, breaks).bytes
+        } else {
+            line_to_byte_with(near, line_idx, breaks)
+        };
+        let rest = text_after(near, start);
+        let bytes = len - start;
+        let info = TextInfo {
+            bytes,
+            chars: byte_to_char_idx(rest, bytes),
+            utf16_surrogates: byte_to_surrogates(rest, bytes),
+            break_count: skip,
+        };
+        return (cut + start, info);
     }
 }
 

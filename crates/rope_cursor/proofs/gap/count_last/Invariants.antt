@@ -1,8 +1,8 @@
 use Rattle.std.proofs.Common.{◌≤◌, ◌-◌}
 use Rattle.rope_cursor.proofs.gap.count_last.Given as goal
 
-abbrev pub invariant-loop-found : goal.invariant-loop-found
-invariant-loop-found l = 64 ≤ l.near
+abbrev pub invariant-loop-near : goal.invariant-loop-near
+invariant-loop-near l = 64 ≤ l.back
 
-abbrev pub decreases-loop-found : goal.decreases-loop-found
-decreases-loop-found l = l.end - l.near
+abbrev pub decreases-loop-near : goal.decreases-loop-near
+decreases-loop-near l = l.end - l.back

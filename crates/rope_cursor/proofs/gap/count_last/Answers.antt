@@ -9,8 +9,8 @@ use Rattle.rope_cursor.specs.Gap.{before_byte, IsBetween}
 use Rattle.rope_cursor.proofs.Gaps.{size_front}
 use Rattle.rope_cursor.proofs.LineCounts.{cut_at}
 use Rattle.rope_cursor.proofs.LineNear.{few_left, more_left, same_start, start_between, start_inside, found_start, found_fits, rest_between, rest_breaks, found_counts, front_counts}
-use Rattle.rope_cursor.proofs.gap.find_last.Goals.{After-prev_break-cut, Joined-line_idx-eq1, then-line_idx-eq1, else-line_idx-eq1}
-use Rattle.rope_cursor.proofs.gap.find_last.Goals as goal
+use Rattle.rope_cursor.proofs.gap.count_last.Goals.{After-prev_break-cut, Joined-line_idx-eq1, then-line_idx-eq1, else-line_idx-eq1}
+use Rattle.rope_cursor.proofs.gap.count_last.Goals as goal
 
 end_within : (text : List ℕ) (end : ℕ) → IsUtf8 text → IsBetween (chars text) end → end ≤ length text
 end_within text end utf8 between = omega (arith, between, size_front (byte_to_char (chars text) end) (chars text), byte_len-chars text utf8)
@@ -58,10 +58,10 @@ overflow_add-result c =
     (start_is e) in
     omega (arith, fits, c.byte_len_of.ensures)
 
-pub returns-clause-start : goal.returns-clause-start
-returns-clause-start c =
-    let d = (goal.at.returns-clause-start c).After-prev_break-cut in
-    let e = (goal.at.returns-clause-start c).Joined-line_idx-eq1 in
+pub returns-in-loop-near-clause-start : goal.returns-in-loop-near-clause-start
+returns-in-loop-near-clause-start c =
+    let d = (goal.at.returns-in-loop-near-clause-start c).After-prev_break-cut in
+    let e = (goal.at.returns-in-loop-near-clause-start c).Joined-line_idx-eq1 in
     found_start c.args.breaks (chars c.args.text.now) (chars c.text_after-near.result.now) c.min-skip.result c.args.end c.prev_break-cut.result c.byte_to_line_with-break_count.result c.if-line_idx-eq1.start
     c.requires.between (cut_here d).0 (before_end d) (cut_here d).1 c.requires.apart c.text_after-near.ensures c.byte_to_line_with-break_count.ensures (omega (arith, c.min-skip.ensures)) (few_left c.else-break_count-skip.either c.min-skip.ensures)
     (start_is e)
@@ -69,10 +69,10 @@ returns-clause-start c =
     c.requires.between (cut_here d).0 (before_end d) (cut_here d).1 c.requires.apart c.text_after-near.ensures c.byte_to_line_with-break_count.ensures (omega (arith, c.min-skip.ensures)) (few_left c.else-break_count-skip.either c.min-skip.ensures)
     (start_is e) c.args.skip c.min-skip.ensures (more_left c.else-break_count-skip.either))
 
-pub returns-clause-counts : goal.returns-clause-counts
-returns-clause-counts c =
-    let d = (goal.at.returns-clause-counts c).After-prev_break-cut in
-    let e = (goal.at.returns-clause-counts c).Joined-line_idx-eq1 in
+pub returns-in-loop-near-clause-counts : goal.returns-in-loop-near-clause-counts
+returns-in-loop-near-clause-counts c =
+    let d = (goal.at.returns-in-loop-near-clause-counts c).After-prev_break-cut in
+    let e = (goal.at.returns-in-loop-near-clause-counts c).Joined-line_idx-eq1 in
     let counts = front_counts c.args.breaks (chars c.text_after-rest.result.now) _
     (rest_between c.args.breaks (chars c.args.text.now) (chars c.text_after-near.result.now) c.min-skip.result c.args.end c.prev_break-cut.result c.byte_to_line_with-break_count.result c.if-line_idx-eq1.start
     c.requires.between (cut_here d).0 (before_end d) (cut_here d).1 c.requires.apart c.text_after-near.ensures c.byte_to_line_with-break_count.ensures (omega (arith, c.min-skip.ensures)) (few_left c.else-break_count-skip.either c.min-skip.ensures)
