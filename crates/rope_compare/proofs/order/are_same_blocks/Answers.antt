@@ -1,7 +1,7 @@
 use Rattle.std.proofs.Common.{arith}
 use Rattle.std.proofs.lemmas.Bool.{eqb-true, eq-eqb}
 use Rattle.rope_compare.proofs.Lanes.{first_same, second_same, same_blocks}
-use Rattle.rope_compare.proofs.same_bytes.are_same_blocks.Goals as goal
+use Rattle.rope_compare.proofs.order.are_same_blocks.Goals as goal
 
 pub returns-clause-first : goal.returns-clause-first
 returns-clause-first c = λ h. first_same c.args.left.now c.args.right.now c.args.at c.args.next 64 (omega arith) c.requires.size c.requires.first c.requires.second (eqb-true _ 0 h)

@@ -1,7 +1,7 @@
 -- What is passed is the same.
 use Rattle.std.proofs.Common.{◌-◌, ◌≤◌}
 use Rattle.rope_compare.specs.Same.{IsSameFrom}
-use Rattle.rope_compare.proofs.same_bytes.are_same.Given as goal
+use Rattle.rope_compare.proofs.order.are_same.Given as goal
 
 abbrev pub invariant-loop-at : goal.invariant-loop-at
 invariant-loop-at l = IsSameFrom l.left l.right 0 l.at × (l.at ≤ l.size)
