@@ -13,7 +13,6 @@ mod path;
 pub mod pieces;
 mod point;
 mod span;
-mod walk;
 
 pub use bytes::Bytes;
 pub use chars::Chars;
