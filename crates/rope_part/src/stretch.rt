@@ -2,7 +2,6 @@
 ghost use Rattle.std.specs.Prelude.{◌≡◌, ◌+◌, ◌-◌, ◌≤◌, ◌<◌, length, take};
 ghost use Rattle.std.specs.Str.{chars};
 ghost use Rattle.rope_text.specs.TextInfo.{info_of};
-ghost use Rattle.rope_text.specs.Text.{surrogate_count};
 ghost use Rattle.rope_text.specs.Lines.{line_start, line_count};
 ghost use Rattle.rope_tree.specs.Search.{count_of};
 ghost use Rattle.rope_tree.specs.Tree.{IsTree, text};
@@ -11,19 +10,6 @@ ghost use Rattle.rope_part.specs.Edge.{start_info, end_info, line_info, IsLeafFr
 use rope_text::str_utils::count_surrogates;
 use rope_text::{Steps, TextInfo};
 use rope_tree::{Found, Node, Unit, count, leaf_at};
-
-// How many characters of a text take two code units, where it is known how many characters it has: none where it has as many
-// bytes.
-fn pairs_in(text: &str, count: usize) -> usize
-    requires { count ≡ length (chars text.now) }
-    ensures { result ≡ surrogate_count (chars text.now) }
-{
-    if count == text.len() {
-        0
-    } else {
-        count_surrogates(text)
-    }
-}
 
 // The counts of the text before a line that is not the first, and from there on the leaf in which the break before it ends.
 fn line_start_at(node: &Node, line_idx: usize) -> (TextInfo, &str)
@@ -38,13 +24,7 @@ fn line_start_at(node: &Node, line_idx: usize) -> (TextInfo, &str)
     let leaf = found.leaf.as_str();
     let line = line_idx - found.before.break_count;
     let front = TextInfo::before_line(leaf, line, node.line_breaks());
-    let before = TextInfo {
-        bytes: found.before.bytes + front.bytes,
-        chars: found.before.chars + front.chars,
-        utf16_surrogates: found.before.utf16_surrogates + front.utf16_surrogates,
-        break_count: line_idx,
-    };
-    (before, &leaf[front.bytes..])
+    (found.before.plus(front), &leaf[front.bytes..])
 }
 
 /// Characters of a tree's text, one at least. It keeps the counts of the text before their start and before their end, so
@@ -102,10 +82,12 @@ impl<'a> Stretch<'a> {
         let chars = place - found.before.chars;
         let bytes = found.leaf.char_to_byte_idx(chars);
         let lines = found.leaf.char_to_line_with(chars, self.node.line_breaks());
+        // a front with as many bytes as characters has no pairs
+        let wide = if chars == bytes { "" } else { &leaf[..bytes] };
         TextInfo {
             bytes: found.before.bytes + bytes,
             chars: place,
-            utf16_surrogates: found.before.utf16_surrogates + pairs_in(&leaf[..bytes], chars),
+            utf16_surrogates: found.before.utf16_surrogates + count_surrogates(wide),
             break_count: found.before.break_count + lines,
         }
     }
