@@ -18,7 +18,7 @@ use std::marker::Model;
 /// The children of an inner node, and the one that the path goes to.
 #[derive(Clone, Copy)]
 struct Frame<'a> {
-    children: &'a [Node],
+    nodes: &'a [Node],
     at: usize,
 }
 
@@ -84,11 +84,11 @@ fn enter<'a>(
 {
     match node.view() {
         View::Leaf(leaf) => (level, leaf.as_str()),
-        View::Inner(children, _) => {
-            let at = if is_backward { children.len() - 1 } else { 0 };
-            frames[level] = Frame { children, at };
-            let child: &Node = &children[at];
-            if !is_backward && are_leaves(children) {
+        View::Inner(nodes, _) => {
+            let at = if is_backward { nodes.len() - 1 } else { 0 };
+            frames[level] = Frame { nodes, at };
+            let child: &Node = &nodes[at];
+            if !is_backward && are_leaves(nodes) {
                 return (level + 1, lowest_text(child));
             }
             enter(frames, level + 1, child, is_backward)
@@ -118,11 +118,11 @@ fn enter_at<'a>(
 {
     match node.view() {
         View::Leaf(leaf) => (level, leaf.as_str(), before),
-        View::Inner(children, totals) => {
+        View::Inner(nodes, totals) => {
             let at = place_of(totals, unit, idx, &mut Steps::new());
             let front = total_before(totals, at);
-            frames[level] = Frame { children, at };
-            let child = &children[at];
+            frames[level] = Frame { nodes, at };
+            let child = &nodes[at];
             let before = before.plus(front);
             let rest = idx - count(front, unit);
             enter_at(frames, level + 1, child, before, unit, rest)
@@ -158,10 +158,7 @@ impl<'a> Path<'a> {
         Path {
             leaf: text,
             depth: 0,
-            frames: [Frame {
-                children: &[],
-                at: 0,
-            }; MAX_HEIGHT],
+            frames: [Frame { nodes: &[], at: 0 }; MAX_HEIGHT],
         }
     }
 
@@ -195,12 +192,12 @@ impl<'a> Path<'a> {
         while level > 0 {
             level -= 1;
             let frame = slots[level];
-            let Frame { children, at } = frame;
-            let end = if is_backward { 0 } else { children.len() - 1 };
+            let Frame { nodes, at } = frame;
+            let end = if is_backward { 0 } else { nodes.len() - 1 };
             if at != end {
                 let at = if is_backward { at - 1 } else { at + 1 };
-                frames[level] = Frame { children, at };
-                let child: &Node = &children[at];
+                frames[level] = Frame { nodes, at };
+                let child: &Node = &nodes[at];
                 // Most nodes that a step comes to are leaves. These are taken here: what `enter` answers comes through memory, and
                 // has to be waited for.
                 if let View::Leaf(leaf) = child.view() {
@@ -230,14 +227,14 @@ impl<'a> Path<'a> {
         let frames = &mut self.frames;
         let slots = &frames[..];
         let frame = slots[level];
-        let children = frame.children;
-        let siblings = &children[frame.at + 1..];
+        let nodes = frame.nodes;
+        let siblings = &nodes[frame.at + 1..];
         if siblings.is_empty() || !are_leaves(siblings) {
             return &[];
         }
-        let at = children.len() - 1;
-        frames[level] = Frame { children, at };
-        self.leaf = lowest_text(&children[at]);
+        let at = nodes.len() - 1;
+        frames[level] = Frame { nodes, at };
+        self.leaf = lowest_text(&nodes[at]);
         siblings
     }
 }
