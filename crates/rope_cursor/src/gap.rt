@@ -151,11 +151,8 @@ impl<'a> Gap<'a> {
         ensures back { result.back ≡ drop char_idx (text_of part.now) }
     {
         let (span, inside) = Span::at(part, info, char_idx);
-        Gap {
-            span,
-            inside,
-            near: NEAR_BYTES,
-        }
+        let near = NEAR_BYTES;
+        Gap { span, inside, near }
     }
 
     /// The same place.

@@ -21,7 +21,7 @@ use std::marker::Model;
 pub struct Span<'a> {
     path: Path<'a>,
     // the bytes of the text before the leaf, of which the chunk is a part
-    start: usize,
+    at: usize,
     // those before the part's start, and before its end
     from: usize,
     to: usize,
@@ -35,7 +35,7 @@ impl<'a> Model for Span<'a> {
 
     ghost view = { λ a. clipped_at a.path a.from a.to };
 
-    ghost invariant = { λ a. IsSpanFrom a.path a.start a.from a.to };
+    ghost invariant = { λ a. IsSpanFrom a.path a.at a.from a.to };
 }
 
 impl<'a> Span<'a> {
@@ -50,17 +50,11 @@ impl<'a> Span<'a> {
     {
         match part {
             Part::InTree(stretch) => {
-                // a proof needs what `height` says of every node
-                let _ = stretch.node.height();
                 let start = stretch.start;
-                let place = (count(start, unit) + idx).min(count(stretch.end, unit) - 1);
+                let place = stretch.place(unit, idx).min(count(stretch.end, unit) - 1);
                 let (path, before) = Path::at(stretch.node, unit, place);
-                let span = Span {
-                    path,
-                    start: before.bytes,
-                    from: start.bytes,
-                    to: stretch.end.bytes,
-                };
+                let (at, from, to) = (before.bytes, start.bytes, stretch.end.bytes);
+                let span = Span { path, at, from, to };
                 (
                     span,
                     before.bytes.saturating_sub(start.bytes),
@@ -69,13 +63,9 @@ impl<'a> Span<'a> {
                 )
             }
             Part::Alone(plain) => {
-                let span = Span {
-                    path: Path::text(plain.text),
-                    start: 0,
-                    from: 0,
-                    to: plain.info.bytes,
-                };
-                (span, 0, 0, 0)
+                let path = Path::text(plain.text);
+                let (at, from, to) = (0, 0, plain.info.bytes);
+                (Span { path, at, from, to }, 0, 0, 0)
             }
         }
     }
@@ -120,8 +110,8 @@ impl<'a> Span<'a> {
         ensures { chars result.now ≡ self.now.here }
     {
         let leaf = self.path.leaf();
-        let low = self.from.saturating_sub(self.start);
-        let high = (self.to - self.start).min(leaf.len());
+        let low = self.from.saturating_sub(self.at);
+        let high = (self.to - self.at).min(leaf.len());
         &leaf[low..high]
     }
 
@@ -132,17 +122,17 @@ impl<'a> Span<'a> {
         ensures ended { OnFalse result (IsLast is_backward self.old) }
     {
         if is_backward {
-            if self.start <= self.from || !self.path.step(true) {
+            if self.at <= self.from || !self.path.step(true) {
                 return false;
             }
-            self.start -= self.path.leaf().len();
+            self.at -= self.path.leaf().len();
             return true;
         }
         let len = self.path.leaf().len();
-        if self.to - self.start <= len || !self.path.step(false) {
+        if self.to - self.at <= len || !self.path.step(false) {
             return false;
         }
-        self.start += len;
+        self.at += len;
         true
     }
 }

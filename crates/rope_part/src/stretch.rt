@@ -47,7 +47,7 @@ impl<'a> Stretch<'a> {
 
     /// A place of its text, as one of the tree's. Of lines it may be the one past the last.
     #[inline(always)]
-    pub(crate) fn place(&self, unit: Unit, idx: usize) -> usize
+    pub fn place(&self, unit: Unit, idx: usize) -> usize
         requires { idx ≤ count_of unit (info_of (breaks_of self.now) (text_of self.now)) + 1 }
         ensures value { result ≡ count_of unit self.now.start + idx }
         ensures low { self.now.node.now.height ≤ MAX_HEIGHT }

@@ -13,8 +13,8 @@ use Rattle.rope_cursor.proofs.span.Span.chunk.Goals as goal
 abbrev chars_at : Place → ℕ → ℕ
 chars_at p bytes = (edge_at (leaves p) bytes).chars
 
-here : (c : After-leaf-leaf) → IsCut c.self.inside.path c.self.inside.start (edge_at (leaves c.self.inside.path) c.self.inside.from) (edge_at (leaves c.self.inside.path) c.self.inside.to)
-here c = cut c.self.inside.path c.self.inside.start _ _ c.self.invariant
+here : (c : After-leaf-leaf) → IsCut c.self.inside.path c.self.inside.at (edge_at (leaves c.self.inside.path) c.self.inside.from) (edge_at (leaves c.self.inside.path) c.self.inside.to)
+here c = cut c.self.inside.path c.self.inside.at _ _ c.self.invariant
 
 size : (c : After-leaf-leaf) → length c.leaf-leaf.result.now ≡ byte_len c.self.inside.path.here
 size c = sym (byte_len-chars c.leaf-leaf.result.now c.leaf-leaf.utf8) ∙ ap byte_len c.leaf-leaf.ensures
