@@ -2,7 +2,6 @@
 //! only. No call takes memory.
 #![tactic(auto)]
 
-mod between;
 pub mod bytes;
 pub mod chars;
 pub mod chunks;

@@ -1,14 +1,13 @@
 //! A cursor over the lines of a part.
-ghost use Rattle.std.specs.Prelude.{◌≡◌, ◌≤◌, ◌<◌, ⊤};
+ghost use Rattle.std.specs.Prelude.{◌≡◌, ◌≤◌, ⊤};
 ghost use Rattle.std.specs.Bool.{MatchBool};
 ghost use Rattle.std.specs.Iterator.{YieldsFirstBy, item_count};
 ghost use Rattle.rope_text.specs.Lines.{line_count};
-ghost use Rattle.rope_text.specs.LineParts.{line_of, lines_of};
+ghost use Rattle.rope_text.specs.LineParts.{lines_of};
 ghost use Rattle.rope_text.specs.Sides.{ahead, at_place, turned, GoesRight, GoesLeft, GoesAhead, StepsBack};
 ghost use Rattle.rope_part.specs.Part.{content_of, text_of, breaks_of};
 ghost use Rattle.rope_cursor.specs.Hints.{CountsAhead};
 
-use crate::between::between;
 use crate::gap::Gap;
 use crate::point::end_of;
 use rope_part::Part;
@@ -63,15 +62,6 @@ impl<'a, T> Model for Lines<'a, T> {
     ghost invariant = { λ a. IsLineStart (content_of a.part) a.gap a.before a.line a.total };
 }
 
-/// A line of a part, its break among its characters.
-pub fn line<'a>(part: &Part<'a>, line_idx: usize) -> Part<'a>
-    requires { line_idx < line_count (breaks_of part.now) (text_of part.now) }
-    ensures { content_of result ≡ line_of (content_of part.now) line_idx }
-{
-    let (start, end) = part.around_line(line_idx);
-    between(part, start, end)
-}
-
 impl<'a, T: OfPart<'a>> Lines<'a, T> {
     /// A cursor before a line, facing forward; for the number of lines it stands past the last.
     pub fn at(part: &Part<'a>, line_idx: usize) -> Lines<'a, T>
@@ -107,12 +97,12 @@ impl<'a, T: OfPart<'a>> Lines<'a, T> {
             let passed = self.gap.pass_line_back(here.break_count - line, breaks);
             self.before = here.minus(passed);
             self.line = line;
-            return Some(between(&self.part, self.before, here));
+            return Some(self.part.between(self.before, here));
         }
         let passed = self.gap.pass_line(breaks);
         self.before = here.plus(passed);
         self.line += 1;
-        Some(between(&self.part, here, self.before))
+        Some(self.part.between(here, self.before))
     }
 
     /// The line behind, to which it steps back; or none at that end, where it stays. Takes no memory.

@@ -1,12 +1,13 @@
 //! A part of a text.
-ghost use Rattle.std.specs.Prelude.{◌≡◌, ◌≤◌, ◌<◌, ◌+◌, length, slice_get, true, Some, OnSome, IfSome, IfNone};
+ghost use Rattle.std.specs.Prelude.{◌≡◌, ◌≤◌, ◌<◌, ◌+◌, length, slice_get, take, drop, true, false, Some, OnSome, IfSome, IfNone};
 ghost use Rattle.std.specs.List.{slice_range};
 ghost use Rattle.std.specs.Str.{chars, encode_utf8_all};
 ghost use Rattle.rope_text.specs.Text.{byte_len};
 ghost use Rattle.rope_text.specs.TextInfo.{info_of};
 ghost use Rattle.rope_text.specs.Lines.{line_count};
 ghost use Rattle.rope_text.specs.Conversions.{byte_to_char};
-ghost use Rattle.rope_text.specs.Cutting.{clip, single_chunk};
+ghost use Rattle.rope_text.specs.Cutting.{clip, single_chunk, parts_crlf};
+ghost use Rattle.rope_text.specs.LineParts.{part_between, line_of};
 ghost use Rattle.rope_text.specs.Edit.{is_char_boundary};
 ghost use Rattle.rope_text.specs.Lookup.{found_chunk, chunk_index_at_line_break};
 ghost use Rattle.rope_tree.specs.Conversions.{end_index, are_converted, converted};
@@ -147,9 +148,8 @@ impl<'a> Part<'a> {
         }
     }
 
-    /// The counts of its text before a line, and before the next one; past the last line those of all of it. One look-up in a
-    /// rope's text where the line lies in one chunk, and doesn't end it.
-    pub fn around_line(&self, line_idx: usize) -> (TextInfo, TextInfo)
+    // The counts of its text before a line, and before the next one; past the last line those of all of it.
+    fn around_line(&self, line_idx: usize) -> (TextInfo, TextInfo)
         requires { line_idx < line_count (breaks_of self.now) (text_of self.now) }
         ensures start { result.0 ≡ line_info (breaks_of self.now) (text_of self.now) line_idx }
         ensures end { result.1 ≡ line_info (breaks_of self.now) (text_of self.now) (line_idx + 1) }
@@ -160,6 +160,46 @@ impl<'a> Part<'a> {
             Part::InTree(stretch) => stretch.around_line(line_idx),
             Part::Alone(plain) => (plain.before_line(line_idx), plain.before_line(line_idx + 1)),
         }
+    }
+
+    /// The part between two of its places, by the counts of its text up to them. The first lies in no CR LF.
+    #[inline(always)]
+    pub fn between(&self, from: TextInfo, to: TextInfo) -> Part<'a>
+        requires from_is { from ≡ info_of (breaks_of self.now) (take from.chars (text_of self.now)) }
+        requires to_is { to ≡ info_of (breaks_of self.now) (take to.chars (text_of self.now)) }
+        requires ordered { from.chars ≤ to.chars }
+        requires within { to.chars ≤ length (text_of self.now) }
+        requires apart { parts_crlf (take from.chars (text_of self.now)) (drop from.chars (text_of self.now)) ≡ false }
+        ensures { content_of result ≡ part_between (content_of self.now) from.chars to.chars }
+    {
+        if from.chars == to.chars {
+            return Part::from_str_with("", self.line_breaks());
+        }
+        match self {
+            Part::InTree(stretch) => {
+                let node = stretch.node;
+                // a proof needs what `height` says of every node: how long its text may be
+                let _ = node.height();
+                let start = stretch.start.plus(from);
+                let end = stretch.start.plus(to);
+                Part::InTree(Stretch { node, start, end })
+            }
+            Part::Alone(plain) => {
+                let text = &plain.as_str()[from.bytes..to.bytes];
+                let info = to.minus(from);
+                let breaks = plain.breaks;
+                Part::Alone(Plain { text, info, breaks })
+            }
+        }
+    }
+
+    /// A line, its break among its characters. One look-up in a rope's text where it lies in one chunk, and doesn't end it.
+    pub fn line(&self, line_idx: usize) -> Part<'a>
+        requires { line_idx < line_count (breaks_of self.now) (text_of self.now) }
+        ensures { content_of result ≡ line_of (content_of self.now) line_idx }
+    {
+        let (start, end) = self.around_line(line_idx);
+        self.between(start, end)
     }
 
     /// The byte at a place.

@@ -9,7 +9,7 @@ ghost use Rattle.rope_slice.specs.Slice.{content_of, text_of, breaks_of};
 ghost use Rattle.rope_slice.specs.Found.{GivesWithin};
 
 use crate::slice::{RopeSlice, within};
-use rope_cursor::lines::{self, OfPart, line};
+use rope_cursor::lines::{self, OfPart};
 use rope_part::Part;
 
 /// A cursor over the lines of a slice, each a slice with its break. It steps both ways and takes no memory.
@@ -33,7 +33,7 @@ impl<'a> RopeSlice<'a> {
         requires { line_idx < line_count (breaks_of self.now) (text_of self.now) }
         ensures { content_of result ≡ line_of (content_of self.now) line_idx }
     {
-        let part = line(&self.part, line_idx);
+        let part = self.part.line(line_idx);
         RopeSlice { part }
     }
 

@@ -2,7 +2,7 @@ use Rattle.std.proofs.Common.{◌∙◌, ap, take, drop, arith}
 use Rattle.rope_text.specs.Lines.{line_start}
 use Rattle.rope_text.proofs.LineLaws.{line_start-le-length}
 use Rattle.rope_part.specs.Part.{text_of, breaks_of}
-use Rattle.rope_cursor.proofs.LineMoves.{counts_at}
+use Rattle.rope_part.proofs.PartsBetween.{counts_at}
 use Rattle.rope_cursor.proofs.lines.Lines.at.Goals as goal
 
 pub at-requires-clause-within : goal.at-requires-clause-within

@@ -4,7 +4,8 @@ use Rattle.rope_part.specs.Part.{content_of}
 use Rattle.rope_cursor.specs.Lines.{at_line}
 use Rattle.rope_cursor.proofs.Points.{stays_put}
 use Rattle.rope_cursor.proofs.LineSteps.{left_of_line, right_of_line, no_line}
-use Rattle.rope_cursor.proofs.LineMoves.{start_apart, breaks_enough, inside_back, before_sum, before_up, start_is, prev_start, line_from, inside, after_is, next_start, next_half, line_to, line_apart, line_is}
+use Rattle.rope_part.proofs.PartsBetween.{line_from, line_to, line_apart, line_is}
+use Rattle.rope_cursor.proofs.LineMoves.{start_apart, breaks_enough, inside_back, before_sum, before_up, start_is, prev_start, inside, after_is, next_start, next_half}
 use Rattle.rope_cursor.proofs.lines.Lines.step.Goals.{Then-is_left, Else-is_left}
 use Rattle.rope_cursor.proofs.lines.Lines.step.Goals as goal
 

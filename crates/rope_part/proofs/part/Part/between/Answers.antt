@@ -11,7 +11,7 @@ use Rattle.rope_part.specs.Stretch as of_stretch
 use Rattle.rope_part.proofs.Measured.{measured}
 use Rattle.rope_part.proofs.Stretches.{length_part}
 use Rattle.rope_part.proofs.Clips.{part_of_part, clip_of_clip, single_chunk-clip}
-use Rattle.rope_cursor.proofs.PartsBetween.{between_sum, same_content, stretch_between, small_between, AreSmall}
+use Rattle.rope_part.proofs.PartsBetween.{between_sum, same_content, stretch_between, small_between, AreSmall}
 use Rattle.rope_part.specs.Part.{content_of, text_of, chunks_of}
 use Rattle.std.specs.List.{slice_range}
 use Rattle.std.specs.Str.{chars}
@@ -20,8 +20,8 @@ use Rattle.rope_text.proofs.LineSeams.{parts_crlf-take}
 use Rattle.rope_part.specs.Plain as of_plain
 use Rattle.rope_part.proofs.ChunkParts.{chars_of_part, boundary_of}
 use Rattle.rope_part.proofs.Stretches.{front_and_part}
-use Rattle.rope_cursor.proofs.between.between.Goals.{After-height, In-Alone, After-range-text}
-use Rattle.rope_cursor.proofs.between.between.Goals as goal
+use Rattle.rope_part.proofs.part.Part.between.Goals.{After-height, In-Alone, After-range-text}
+use Rattle.rope_part.proofs.part.Part.between.Goals as goal
 
 kept : (c : After-height)
     → IsStretch c.in-InTree.stretch.node.now.breaks (text c.in-InTree.stretch.node.now) (info_sum c.in-InTree.stretch.start c.args.from) (info_sum c.in-InTree.stretch.start c.args.to)
@@ -81,10 +81,10 @@ pub returns-then-from-to : goal.returns-then-from-to
 returns-then-from-to c =
     let i = c.args.from.chars in
     let j = c.args.to.chars in
-    let text = c.from_str_with.ensures.text ∙ chars-nil ∙ sym (slice_range_empty (text_of c.args.part.now) i j (omega (arith, c.if-from-to.true))) in
-    let chunks = c.from_str_with.ensures.chunks ∙ ap single_chunk chars-nil ∙ sym (clip_empty (chunks_of c.args.part.now) i j (omega (arith, c.if-from-to.true))) in
+    let text = c.from_str_with.ensures.text ∙ chars-nil ∙ sym (slice_range_empty (text_of c.args.self.now) i j (omega (arith, c.if-from-to.true))) in
+    let chunks = c.from_str_with.ensures.chunks ∙ ap single_chunk chars-nil ∙ sym (clip_empty (chunks_of c.args.self.now) i j (omega (arith, c.if-from-to.true))) in
     let breaks = c.from_str_with.ensures.breaks ∙ c.line_breaks.ensures in
-    same_content (content_of c.from_str_with.result) (part_between (content_of c.args.part.now) i j) text chunks breaks
+    same_content (content_of c.from_str_with.result) (part_between (content_of c.args.self.now) i j) text chunks breaks
 
 -- the part of a plain text
 sum_is : (c : In-Alone) → c.args.to ≡ info_sum c.args.from (info_of c.in-Alone.plain.breaks (slice_range (of_plain.text_of c.in-Alone.plain) c.args.from.chars c.args.to.chars))
