@@ -5,7 +5,6 @@
 pub mod bytes;
 pub mod chars;
 pub mod chunks;
-mod gap;
 pub mod laws;
 pub mod lines;
 mod path;

@@ -6,7 +6,7 @@ use Rattle.rope_text.specs.TextInfo.{info_of}
 use Rattle.rope_text.specs.Conversions.{byte_to_char}
 use Rattle.rope_text.specs.LineParts.{first_line}
 use Rattle.rope_cursor.proofs.GapSteps.{info_half, place_fits, pass_inside, more_half, pass_over}
-use Rattle.rope_cursor.proofs.gap.Gap.pass_line.Goals as goal
+use Rattle.rope_cursor.proofs.lines.Gap.pass_line.Goals as goal
 
 first_is : (breaks : LineBreaks) (here chunk rest : List ℕ) (b : ℕ) (first : TextInfo) → chunk ≡ here → rest ≡ drop (byte_to_char chunk b) chunk → first ≡ info_of breaks (first_line breaks rest)
     → first ≡ info_of breaks (first_line breaks (drop (byte_to_char here b) here))

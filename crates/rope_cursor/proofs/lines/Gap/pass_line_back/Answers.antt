@@ -7,7 +7,7 @@ use Rattle.rope_text.specs.TextInfo.{info_of}
 use Rattle.rope_text.specs.Conversions.{byte_to_char}
 use Rattle.rope_text.specs.LineParts.{last_start}
 use Rattle.rope_cursor.proofs.GapsBack.{gap_apart, gap_found, gap_left, gap_half, other_half, gap_composed}
-use Rattle.rope_cursor.proofs.gap.Gap.pass_line_back.Goals as goal
+use Rattle.rope_cursor.proofs.lines.Gap.pass_line_back.Goals as goal
 
 start_is : (breaks : LineBreaks) (skip : ℕ) (here chunk : List ℕ) (b start : ℕ) → chunk ≡ here → start ≡ byte_len (take (last_start breaks (take (byte_to_char chunk b) chunk) skip) (take (byte_to_char chunk b) chunk))
     → start ≡ byte_len (take (last_start breaks (take (byte_to_char here b) here) skip) (take (byte_to_char here b) here))

@@ -1,5 +1,5 @@
 use Rattle.std.proofs.Common.{◌≤◌, ◌-◌}
-use Rattle.rope_cursor.proofs.gap.count_last.Given as goal
+use Rattle.rope_cursor.proofs.lines.count_last.Given as goal
 
 abbrev pub invariant-loop-near : goal.invariant-loop-near
 invariant-loop-near l = 64 ≤ l.back

@@ -3,7 +3,7 @@ use Rattle.rope_text.specs.TextInfo.{info_of}
 use Rattle.rope_text.specs.LineParts.{first_line}
 use Rattle.rope_text.specs.Text.{byte_len}
 use Rattle.rope_cursor.proofs.Gaps.{passed_none, passed_more, passes_line, passes_end, more_fits}
-use Rattle.rope_cursor.proofs.gap.pass_chunks.Goals as goal
+use Rattle.rope_cursor.proofs.lines.pass_chunks.Goals as goal
 
 pub loop-breaks-init : goal.loop-breaks-init
 loop-breaks-init c = passed_none c.args.breaks c.args.span.now c.new-passed.result c.requires (c.new-passed.ensures c.args.breaks)

@@ -9,8 +9,8 @@ use Rattle.rope_cursor.specs.Gap.{before_byte, IsBetween}
 use Rattle.rope_cursor.proofs.Gaps.{size_front}
 use Rattle.rope_cursor.proofs.LineCounts.{cut_at}
 use Rattle.rope_cursor.proofs.LineNear.{few_left, more_left, same_start, start_between, start_inside, found_start, found_fits, rest_between, rest_breaks, found_counts, front_counts}
-use Rattle.rope_cursor.proofs.gap.count_last.Goals.{After-prev_break-cut, Joined-line_idx-eq1, then-line_idx-eq1, else-line_idx-eq1}
-use Rattle.rope_cursor.proofs.gap.count_last.Goals as goal
+use Rattle.rope_cursor.proofs.lines.count_last.Goals.{After-prev_break-cut, Joined-line_idx-eq1, then-line_idx-eq1, else-line_idx-eq1}
+use Rattle.rope_cursor.proofs.lines.count_last.Goals as goal
 
 end_within : (text : List ℕ) (end : ℕ) → IsUtf8 text → IsBetween (chars text) end → end ≤ length text
 end_within text end utf8 between = omega (arith, between, size_front (byte_to_char (chars text) end) (chars text), byte_len-chars text utf8)
