@@ -10,7 +10,6 @@ pub mod lines;
 mod path;
 pub mod pieces;
 mod point;
-mod span;
 
 pub use bytes::Bytes;
 pub use chars::Chars;

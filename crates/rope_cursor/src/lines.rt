@@ -13,8 +13,8 @@ ghost use Rattle.rope_part.specs.Part.{content_of, text_of, breaks_of};
 ghost use Rattle.rope_cursor.specs.Gap.{before_byte, after_byte, last_line_byte, last_line_info, AreChunks, IsBetween, PassesLine, PassesBack};
 ghost use Rattle.rope_cursor.specs.Hints.{CountsAhead};
 
+use crate::path::Span;
 use crate::point::end_of;
-use crate::span::Span;
 use rope_part::Part;
 use rope_text::crlf::prev_break;
 use rope_text::str_utils::{

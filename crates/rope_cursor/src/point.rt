@@ -4,7 +4,7 @@ ghost use Rattle.std.specs.Str.{IsCharBoundary};
 ghost use Rattle.rope_cursor.specs.Path.{IsBeside, IsLast};
 ghost use Rattle.rope_cursor.specs.Point.{IsChunkAt, IsCharBetween};
 
-use crate::span::Span;
+use crate::path::Span;
 
 // The end of so many places, to the left or to the right.
 #[inline(always)]

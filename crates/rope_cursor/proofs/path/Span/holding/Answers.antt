@@ -9,8 +9,8 @@ use Rattle.rope_cursor.specs.Span.{edge_at, clipped_at, IsSpan}
 use Rattle.rope_cursor.specs.Starts.{IsHolding}
 use Rattle.rope_cursor.proofs.Spans.{alone, alone_is, alone_span, alone_whole}
 use Rattle.rope_cursor.proofs.LeafStarts.{some_in, place_in, span_here, holds_here, holds_alone}
-use Rattle.rope_cursor.proofs.span.Span.holding.Goals.{After-min-place, After-text-path}
-use Rattle.rope_cursor.proofs.span.Span.holding.Goals as goal
+use Rattle.rope_cursor.proofs.path.Span.holding.Goals.{After-min-place, After-text-path}
+use Rattle.rope_cursor.proofs.path.Span.holding.Goals as goal
 
 pub count-requires : goal.count-requires
 count-requires c = small_end _ _ _ _ c.in-InTree.stretch.is_stretch c.place.ensures.tree.fits
