@@ -3,5 +3,4 @@
 
 pub mod hashing;
 pub mod order;
-mod same_bytes;
 pub mod text_out;

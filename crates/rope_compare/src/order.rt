@@ -1,15 +1,54 @@
 //! The order of two texts, and whether they are the same.
-ghost use Rattle.std.specs.Prelude.{◌≡◌, ◌++◌, [], IsTrue, ◌↔◌, length};
+ghost use Rattle.std.specs.Prelude.{◌≡◌, ◌++◌, ◌+◌, ◌≤◌, [], IsTrue, ◌↔◌, length};
 ghost use Rattle.std.specs.Cmp.Lexicographic.{slice_cmp};
 ghost use Rattle.std.specs.Ordering.{nat_cmp};
 ghost use Rattle.std.specs.Str.{chars};
 ghost use Rattle.rope_text.specs.Compare.{text_cmp};
 ghost use Rattle.rope_part.specs.Part.{text_of};
+ghost use Rattle.rope_compare.specs.Same.{IsSameFrom};
 
-use crate::same_bytes::are_same;
 use rope_cursor::Pieces;
 use rope_part::Part;
 use std::cmp::Ordering;
+use std::simd::prelude::*;
+
+// Whether the 64 bytes from `at` on, and those from `next` on, are the same in both, by one test.
+#[inline(always)]
+fn are_same_blocks(left: &[u8], right: &[u8], at: usize, next: usize) -> bool
+    requires size { length left.now ≡ length right.now }
+    requires first { at + 64 ≤ length left.now }
+    requires second { next + 64 ≤ length left.now }
+    ensures first { IsTrue result → IsSameFrom left.now right.now at 64 }
+    ensures second { IsTrue result → IsSameFrom left.now right.now next 64 }
+    ensures other { left.now ≡ right.now → IsTrue result }
+{
+    let x = u8x64::from_slice(&left[at..]);
+    let y = u8x64::from_slice(&right[at..]);
+    let z = u8x64::from_slice(&left[next..]);
+    let w = u8x64::from_slice(&right[next..]);
+    (x.simd_ne(y) | z.simd_ne(w)).to_bitmask() == 0
+}
+
+// Whether two pieces of as many bytes are the same. The last blocks may overlap: so no byte is compared by itself, but in
+// pieces of fewer bytes than a block has.
+fn are_same(left: &[u8], right: &[u8]) -> bool
+    requires { length left.now ≡ length right.now }
+    ensures { IsTrue result ↔ (left.now ≡ right.now) }
+{
+    let size = left.len();
+    if size < 64 {
+        return left == right;
+    }
+    let mut at = 0;
+    while size - at >= 128 {
+        if !are_same_blocks(left, right, at, at + 64) {
+            return false;
+        }
+        at += 128;
+    }
+    let last = size - 64;
+    are_same_blocks(left, right, at.min(last), last)
+}
 
 // The bytes of a piece, or those of the next one where it has none: so they are none only at the end.
 #[inline(always)]
@@ -59,13 +98,13 @@ pub fn order(left: &Part<'_>, right: &Part<'_>) -> Ordering
 pub fn is_same(left: &Part<'_>, right: &Part<'_>) -> bool
     ensures { IsTrue result ↔ (text_of left.now ≡ text_of right.now) }
 {
-    left.len_bytes() == right.len_bytes() && order(left, right).is_eq()
+    left.info().bytes == right.info().bytes && order(left, right).is_eq()
 }
 
 /// Whether the text is this one. No memory is taken, and no text is read where the lengths differ.
 pub fn is_text(part: &Part<'_>, text: &str) -> bool
     ensures { IsTrue result ↔ (text_of part.now ≡ chars text.now) }
 {
-    part.len_bytes() == text.len()
+    part.info().bytes == text.len()
         && order_of_pieces(Pieces::of(part), Pieces::of_text(text)).is_eq()
 }

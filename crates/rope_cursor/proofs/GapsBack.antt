@@ -23,7 +23,7 @@ use Rattle.rope_text.proofs.SliceLaws.{char_to_line_early}
 use Rattle.rope_text.proofs.LineSeams.{never, break_count-apart, last_start-left, last_start-right}
 use Rattle.rope_text.proofs.InfoLaws.{same_info}
 use Rattle.rope_cursor.specs.Path.{Place, IsNext}
-use Rattle.rope_cursor.proofs.PartsBetween.{char_at_byte}
+use Rattle.rope_part.proofs.PartsBetween.{char_at_byte}
 use Rattle.rope_cursor.specs.Gap.{before_byte, after_byte, halves_at, AreChunks, IsGap, PassesBack, PassedBack, PassedBackTo}
 use Rattle.rope_cursor.proofs.Spans.{leaves_next}
 use Rattle.rope_cursor.proofs.Gaps.{apart_joined, apart_front, here_apart, front_place, half_of, AreHalf, size_two, whole_text}

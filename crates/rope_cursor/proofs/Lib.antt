@@ -8,7 +8,6 @@ pub mod Siblings
 pub mod Spans
 pub mod LineSteps
 pub mod LineMoves
-pub mod PartsBetween
 pub mod PiecesAhead
 pub mod Gaps
 pub mod GapSteps

@@ -21,7 +21,7 @@ use Rattle.rope_text.specs.Conversions.{byte_to_char}
 use Rattle.rope_text.specs.LineParts.{last_start}
 use Rattle.rope_text.proofs.LineLaws.{line_start-le-length}
 use Rattle.rope_text.proofs.LineSeams.{last_start-right}
-use Rattle.rope_cursor.proofs.PartsBetween.{char_at_byte}
+use Rattle.rope_part.proofs.PartsBetween.{char_at_byte}
 
 -- the breaks from a line's start on
 pub last_breaks : (breaks : LineBreaks) (text : List ℕ) (k : ℕ) → break_count breaks (drop (last_start breaks text k) text) ≡ min k (break_count breaks text)

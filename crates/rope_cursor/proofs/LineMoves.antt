@@ -18,39 +18,7 @@ use Rattle.rope_part.proofs.Stretches.{front_and_part, part_of_front, length_par
 use Rattle.rope_cursor.specs.Gap.{Halves}
 use Rattle.rope_cursor.specs.Lines.{IsLineStart}
 use Rattle.rope_cursor.proofs.Gaps.{AreHalf, half_of, size_front}
-
--- counts up to a place, told by their own number of characters
-pub counts_at : (breaks : LineBreaks) (text : List ℕ) (n : ℕ) (info : TextInfo) → n ≤ length text → info ≡ info_of breaks (take n text) → (info.chars ≡ n) × (info ≡ info_of breaks (take info.chars text))
-counts_at breaks text n info within e =
-    let chars : info.chars ≡ n = ap (λ x. x.chars) e ∙ length-take-le n text within in
-    (chars, e ∙ ap (λ k. info_of breaks (take k text)) (sym chars))
-
--- from one line's start to the next
-module _ (c : Content) (l : ℕ) (within : l < line_count c.breaks c.text) (from to : TextInfo) (from_is : from ≡ info_of c.breaks (take (line_start c.breaks c.text l) c.text))
-    (to_is : to ≡ info_of c.breaks (take (line_start c.breaks c.text (l + 1)) c.text)) where
-  start_chars : from.chars ≡ line_start c.breaks c.text l
-  start_chars = (counts_at c.breaks c.text (line_start c.breaks c.text l) from (line_start-le-length c.breaks c.text l) from_is).0
-
-  end_chars : to.chars ≡ line_start c.breaks c.text (l + 1)
-  end_chars = (counts_at c.breaks c.text (line_start c.breaks c.text (l + 1)) to (line_start-le-length c.breaks c.text (l + 1)) to_is).0
-
-  pub line_from : from ≡ info_of c.breaks (take from.chars c.text)
-  line_from = (counts_at c.breaks c.text (line_start c.breaks c.text l) from (line_start-le-length c.breaks c.text l) from_is).1
-
-  pub line_to : to ≡ info_of c.breaks (take to.chars c.text)
-  line_to = (counts_at c.breaks c.text (line_start c.breaks c.text (l + 1)) to (line_start-le-length c.breaks c.text (l + 1)) to_is).1
-
-  pub line_ordered : from.chars ≤ to.chars
-  line_ordered = omega (arith, start_chars, end_chars, line_start_mono c.breaks c.text l (l + 1) (omega arith))
-
-  pub line_within : to.chars ≤ length c.text
-  line_within = omega (arith, end_chars, line_start-le-length c.breaks c.text (l + 1))
-
-  pub line_apart : parts_crlf (take from.chars c.text) (drop from.chars c.text) ≡ false
-  line_apart = ap (λ n. parts_crlf (take n c.text) (drop n c.text)) start_chars ∙ line_start_apart c.breaks c.text l
-
-  pub line_is : part_between c from.chars to.chars ≡ line_of c l
-  line_is = ap (λ n. part_between c n to.chars) start_chars ∙ ap (part_between c (line_start c.breaks c.text l)) end_chars
+use Rattle.rope_part.proofs.PartsBetween.{counts_at, line_from}
 
 -- a step forward
 module _ (c : Content) (h new : Halves) (before passed : TextInfo) (l total : ℕ) (breaks : LineBreaks) (s : IsLineStart c h before l total) (less : l < total) (same : breaks ≡ c.breaks)

@@ -19,7 +19,7 @@ use Rattle.rope_text.proofs.SliceLaws.{line_start-take}
 use Rattle.rope_part.proofs.Clips.{byte_to_char-mono}
 use Rattle.rope_text.proofs.InfoLaws.{same_info}
 use Rattle.rope_part.proofs.Stretches.{front_and_part, part_of_front, size_part}
-use Rattle.rope_cursor.proofs.PartsBetween.{breaks_apart, char_at_byte, byte_of_char}
+use Rattle.rope_part.proofs.PartsBetween.{breaks_apart, char_at_byte, byte_of_char}
 use Rattle.rope_cursor.proofs.Gaps.{size_front, front_place}
 use Rattle.rope_cursor.proofs.GapSteps.{apart_back}
 use Rattle.rope_cursor.proofs.LineCounts.{last_breaks, near_size, near_rest}

@@ -58,25 +58,25 @@ parted_at rcs i rc rest l e =
 pub before_of-append : (xs ys : List Frame) → before_of (xs ++ ys) ≡ before_of xs ++ before_of ys
 before_of-append [] ys = refl
 before_of-append (f ∷ xs) ys =
-    ap (λ r. leaves_below (take f.at f.children.now) ++ r) (before_of-append xs ys) ∙ sym (append_assoc (leaves_below (take f.at f.children.now)) (before_of xs) (before_of ys))
+    ap (λ r. leaves_below (take f.at f.nodes.now) ++ r) (before_of-append xs ys) ∙ sym (append_assoc (leaves_below (take f.at f.nodes.now)) (before_of xs) (before_of ys))
 
 pub after_of-append : (xs ys : List Frame) → after_of (xs ++ ys) ≡ after_of ys ++ after_of xs
 after_of-append [] ys = sym (append-nil (after_of ys))
 after_of-append (f ∷ xs) ys =
-    ap (λ r. r ++ leaves_below (drop (f.at + 1) f.children.now)) (after_of-append xs ys) ∙ append_assoc (after_of ys) (after_of xs) (leaves_below (drop (f.at + 1) f.children.now))
+    ap (λ r. r ++ leaves_below (drop (f.at + 1) f.nodes.now)) (after_of-append xs ys) ∙ append_assoc (after_of ys) (after_of xs) (leaves_below (drop (f.at + 1) f.nodes.now))
 
 -- the frames up to a level, and one more there
 module _ (frames : List Frame) (level : ℕ) (f : Frame) (l : level < length frames) where
-  pub before_of_more : before_of (take (level + 1) (set frames level f)) ≡ before_of (take level frames) ++ leaves_below (take f.at f.children.now)
+  pub before_of_more : before_of (take (level + 1) (set frames level f)) ≡ before_of (take level frames) ++ leaves_below (take f.at f.nodes.now)
   before_of_more =
-      ap before_of (take_more_set frames level f l) ∙ before_of-append (take level frames) (f ∷ []) ∙ ap (λ r. before_of (take level frames) ++ r) (append-nil (leaves_below (take f.at f.children.now)))
+      ap before_of (take_more_set frames level f l) ∙ before_of-append (take level frames) (f ∷ []) ∙ ap (λ r. before_of (take level frames) ++ r) (append-nil (leaves_below (take f.at f.nodes.now)))
 
-  pub after_of_more : after_of (take (level + 1) (set frames level f)) ≡ leaves_below (drop (f.at + 1) f.children.now) ++ after_of (take level frames)
+  pub after_of_more : after_of (take (level + 1) (set frames level f)) ≡ leaves_below (drop (f.at + 1) f.nodes.now) ++ after_of (take level frames)
   after_of_more = ap after_of (take_more_set frames level f l) ∙ after_of-append (take level frames) (f ∷ [])
 
 -- one more frame, which parts the whole at its own level
 pub AreFrames_more : (frames : List Frame) (level : ℕ) (f : Frame) (whole : List (List ℕ)) → AreFrames frames level whole → level < 18 → IsFrame f (17 - level)
-    → around frames level (leaves_below f.children.now) ≡ whole → AreFrames (set frames level f) (level + 1) whole
+    → around frames level (leaves_below f.nodes.now) ≡ whole → AreFrames (set frames level f) (level + 1) whole
 AreFrames_more frames level f whole h l g e =
     let n : level < length frames = omega (arith, h.len) in
     record {
@@ -100,9 +100,9 @@ AreFrames_front frames level i whole h l = record {
 
 -- what stands around one of a frame's children is what stands around them all
 pub around_more : (frames : List Frame) (level : ℕ) (b : Bor (List Tree)) (i : ℕ) (rc : Tree) → level < length frames → i < length b.now → rc ≡ get_or b.now i rc
-    → around (set frames level record { children = b; at = i }) (level + 1) rc.leaves ≡ around frames level (leaves_below b.now)
+    → around (set frames level record { nodes = b; at = i }) (level + 1) rc.leaves ≡ around frames level (leaves_below b.now)
 around_more frames level b i rc l w e =
-    let f : Frame = record { children = b; at = i } in
+    let f : Frame = record { nodes = b; at = i } in
     let parted = parted_at b.now i rc (after_of (take level frames)) w e in
     rw (before_of_more frames level f l, after_of_more frames level f l)
     (append_assoc (before_of (take level frames)) (leaves_below (take i b.now)) (rc.leaves ++ (leaves_below (drop (i + 1) b.now) ++ after_of (take level frames)))
@@ -110,18 +110,18 @@ around_more frames level b i rc l w e =
 
 -- one level down: to the child at i of those that stand at a level
 pub record GoesDown (frames : List Frame) (level : ℕ) (b : Bor (List Tree)) (i : ℕ) (child : Tree) (whole : List (List ℕ)) : Type 0 where
-  pub frames_are : AreFrames (set frames level record { children = b; at = i }) (level + 1) (around (set frames level record { children = b; at = i }) (level + 1) child.leaves)
-  pub whole_is : around (set frames level record { children = b; at = i }) (level + 1) child.leaves ≡ whole
+  pub frames_are : AreFrames (set frames level record { nodes = b; at = i }) (level + 1) (around (set frames level record { nodes = b; at = i }) (level + 1) child.leaves)
+  pub whole_is : around (set frames level record { nodes = b; at = i }) (level + 1) child.leaves ≡ whole
   pub low : IsLow child (18 - (level + 1))
-  pub before : before_of (take (level + 1) (set frames level record { children = b; at = i })) ≡ before_of (take level frames) ++ leaves_below (take i b.now)
-  pub after : after_of (take (level + 1) (set frames level record { children = b; at = i })) ≡ leaves_below (drop (i + 1) b.now) ++ after_of (take level frames)
+  pub before : before_of (take (level + 1) (set frames level record { nodes = b; at = i })) ≡ before_of (take level frames) ++ leaves_below (take i b.now)
+  pub after : after_of (take (level + 1) (set frames level record { nodes = b; at = i })) ≡ leaves_below (drop (i + 1) b.now) ++ after_of (take level frames)
 
 pub goes_down : (frames : List Frame) (level : ℕ) (b : Bor (List Tree)) (i : ℕ) (rc : Tree) (child : Tree) (whole : List (List ℕ))
     → AreFrames frames level whole → level < 18 → All (λ r. IsLow r (17 - level)) b.now → length b.now ≤ 24 → i < length b.now → rc ≡ get_or b.now i rc → child ≡ rc
     → around frames level (leaves_below b.now) ≡ whole → GoesDown frames level b i child whole
 goes_down frames level b i rc child whole h l all few w e c q =
     let n : level < length frames = omega (arith, h.len) in
-    let f : Frame = record { children = b; at = i } in
+    let f : Frame = record { nodes = b; at = i } in
     let same : around (set frames level f) (level + 1) child.leaves ≡ whole = ap (λ t. around (set frames level f) (level + 1) t.leaves) c ∙ around_more frames level b i rc n w e ∙ q in
     let more = AreFrames_more frames level f whole h l (record { within = w; few = few; low = all }) q in
     let own : IsLow (get_or b.now i rc) (17 - level) = All-get_or (λ r. IsLow r (17 - level)) b.now i rc w all in
@@ -156,7 +156,7 @@ opened frames level t b totals i low =
 -- the first of the children, or backward the last: nothing comes between what is behind and it
 pub nearest_behind : (is_backward : Bool) (frames : List Frame) (level : ℕ) (b : Bor (List Tree)) (at : ℕ) (child : Tree) (whole : List (List ℕ)) → GoesDown frames level b at child whole → 0 < length b.now
     → at ≡ (if is_backward then length b.now - 1 else 0)
-    → beyond (not is_backward) (take (level + 1) (set frames level record { children = b; at = at })) ≡ beyond (not is_backward) (take level frames)
+    → beyond (not is_backward) (take (level + 1) (set frames level record { nodes = b; at = at })) ≡ beyond (not is_backward) (take level frames)
 nearest_behind true frames level b at child whole d some e =
     d.after ∙ ap (λ xs. leaves_below xs ++ after_of (take level frames)) (drop_all (at + 1) b.now (omega (arith, e)))
 nearest_behind false frames level b at child whole d some e =
@@ -169,7 +169,7 @@ AreFramesOf frames level = (whole : List (List ℕ)) × AreFrames frames level w
 -- the deepest frame that has a child after its own
 pub record HasNextAt (frames : List Frame) (depth i : ℕ) : Type 0 where
   pub below : i < depth
-  pub more : (f : Frame) → f ≡ get_or frames i f → f.at + 1 < length f.children.now
+  pub more : (f : Frame) → f ≡ get_or frames i f → f.at + 1 < length f.nodes.now
   pub same : after_of (take depth frames) ≡ after_of (take (i + 1) frames)
 
 -- the deepest frame that has a child before its own
@@ -183,22 +183,22 @@ abbrev pub HasBesideAt : Bool → List Frame → ℕ → ℕ → Type 0
 HasBesideAt is_backward frames depth i = MatchBool is_backward (HasPrevAt frames depth i) (HasNextAt frames depth i)
 
 -- a search upward for a frame with a child after its own, which has come to a level
-after_of_none : (frames : List Frame) (i : ℕ) (f : Frame) → i < length frames → f ≡ get_or frames i f → length f.children.now ≤ f.at + 1 → after_of (take (i + 1) frames) ≡ after_of (take i frames)
-after_of_none frames i f l e h = rw (take_more frames i f l, ← e, after_of-append, drop_all (f.at + 1) f.children.now h) refl
+after_of_none : (frames : List Frame) (i : ℕ) (f : Frame) → i < length frames → f ≡ get_or frames i f → length f.nodes.now ≤ f.at + 1 → after_of (take (i + 1) frames) ≡ after_of (take i frames)
+after_of_none frames i f l e h = rw (take_more frames i f l, ← e, after_of-append, drop_all (f.at + 1) f.nodes.now h) refl
 
 before_of_none : (frames : List Frame) (i : ℕ) (f : Frame) → i < length frames → f ≡ get_or frames i f → f.at ≡ 0 → before_of (take (i + 1) frames) ≡ before_of (take i frames)
 before_of_none frames i f l e h =
-    let none : leaves_below (take f.at f.children.now) ≡ [] = rw h refl in
+    let none : leaves_below (take f.at f.nodes.now) ≡ [] = rw h refl in
     rw (take_more frames i f l, ← e, before_of-append, none) (append-nil (before_of (take i frames)))
 
 module _ (frames : List Frame) (depth level : ℕ) (f : Frame) (h : AreFramesOf frames depth) (p : 0 < level) (l : level ≤ depth) (e : f ≡ get_or frames (level - 1) f) where
-  pub frame_within : f.at < length f.children.now
+  pub frame_within : f.at < length f.nodes.now
   frame_within = rw e ((h.1.fit (level - 1) f (omega arith)).within)
 
   same_frame : (g : Frame) → g ≡ get_or frames (level - 1) g → g ≡ f
   same_frame g q = q ∙ get_or_default frames (level - 1) g f (omega (arith, h.1.len, h.1.room)) ∙ sym e
 
-  pub no_next : after_of (take depth frames) ≡ after_of (take level frames) → length f.children.now - f.at ≤ 1 → after_of (take depth frames) ≡ after_of (take (level - 1) frames)
+  pub no_next : after_of (take depth frames) ≡ after_of (take level frames) → length f.nodes.now - f.at ≤ 1 → after_of (take depth frames) ≡ after_of (take (level - 1) frames)
   no_next same n =
       let on : level - 1 + 1 ≡ level = omega arith in
       let w = frame_within in
@@ -213,13 +213,13 @@ module _ (frames : List Frame) (depth level : ℕ) (f : Frame) (h : AreFramesOf 
 
 -- the same, whichever way the search looks
 pub none_beside : (is_backward : Bool) (frames : List Frame) (depth level : ℕ) (f : Frame) → AreFramesOf frames depth → 0 < level → level ≤ depth → f ≡ get_or frames (level - 1) f
-    → beyond is_backward (take depth frames) ≡ beyond is_backward (take level frames) → f.at ≡ (if is_backward then 0 else length f.children.now - 1)
+    → beyond is_backward (take depth frames) ≡ beyond is_backward (take level frames) → f.at ≡ (if is_backward then 0 else length f.nodes.now - 1)
     → beyond is_backward (take depth frames) ≡ beyond is_backward (take (level - 1) frames)
 none_beside true frames depth level f h p l e same none = no_prev frames depth level f h p l e same (omega (arith, none))
 none_beside false frames depth level f h p l e same none = no_next frames depth level f h p l e same (omega (arith, none))
 
 pub has_beside : (is_backward : Bool) (frames : List Frame) (depth level : ℕ) (f : Frame) → AreFramesOf frames depth → 0 < level → level ≤ depth → f ≡ get_or frames (level - 1) f
-    → beyond is_backward (take depth frames) ≡ beyond is_backward (take level frames) → (f.at ≡ (if is_backward then 0 else length f.children.now - 1) → ⊥)
+    → beyond is_backward (take depth frames) ≡ beyond is_backward (take level frames) → (f.at ≡ (if is_backward then 0 else length f.nodes.now - 1) → ⊥)
     → HasBesideAt is_backward frames depth (level - 1)
 has_beside true frames depth level f h p l e same more =
     let on : level - 1 + 1 ≡ level = omega arith in
@@ -231,33 +231,33 @@ has_beside false frames depth level f h p l e same more =
 
 -- the step to the next leaf: frame i stands at f, and rc is the child after its own
 module _ (frames : List Frame) (depth i : ℕ) (f : Frame) (rc : Tree) (child : Tree) (leaf : List ℕ) (h : AreFrames frames depth (around frames depth (leaf ∷ [])))
-    (n : HasNextAt frames depth i) (e : f ≡ get_or frames i f) (w : rc ≡ get_or f.children.now (f.at + 1) rc) (c : child ≡ rc) where
+    (n : HasNextAt frames depth i) (e : f ≡ get_or frames i f) (w : rc ≡ get_or f.nodes.now (f.at + 1) rc) (c : child ≡ rc) where
   fit_here : IsFrame f (17 - i)
   fit_here = rw e (h.fit i f n.below)
 
-  parts_here : around frames i (leaves_below f.children.now) ≡ around frames depth (leaf ∷ [])
+  parts_here : around frames i (leaves_below f.nodes.now) ≡ around frames depth (leaf ∷ [])
   parts_here = rw e (h.parts i f n.below)
 
-  pub next_goes : GoesDown frames i f.children (f.at + 1) child (around frames depth (leaf ∷ []))
+  pub next_goes : GoesDown frames i f.nodes (f.at + 1) child (around frames depth (leaf ∷ []))
   next_goes =
       let g = fit_here in
-      goes_down frames i f.children (f.at + 1) rc child (around frames depth (leaf ∷ [])) (AreFrames_front frames depth i (around frames depth (leaf ∷ [])) h (omega (arith, n.below)))
+      goes_down frames i f.nodes (f.at + 1) rc child (around frames depth (leaf ∷ [])) (AreFrames_front frames depth i (around frames depth (leaf ∷ [])) h (omega (arith, n.below)))
       (omega (arith, n.below, h.room)) g.low g.few (n.more f e) w c parts_here
 
-  after_here : after_of (take depth frames) ≡ child.leaves ++ (leaves_below (drop (f.at + 1 + 1) f.children.now) ++ after_of (take i frames))
+  after_here : after_of (take depth frames) ≡ child.leaves ++ (leaves_below (drop (f.at + 1 + 1) f.nodes.now) ++ after_of (take i frames))
   after_here =
-      let t : after_of (take (i + 1) frames) ≡ leaves_below (drop (f.at + 1) f.children.now) ++ after_of (take i frames) =
+      let t : after_of (take (i + 1) frames) ≡ leaves_below (drop (f.at + 1) f.nodes.now) ++ after_of (take i frames) =
       rw (take_more frames i f (omega (arith, n.below, h.room, h.len)), ← e) (after_of-append (take i frames) (f ∷ [])) in
-      let s = drop_more f.children.now (f.at + 1) rc (n.more f e) in
-      rw (n.same, t, s, ← w, c) (append_assoc rc.leaves (leaves_below (drop (f.at + 1 + 1) f.children.now)) (after_of (take i frames)))
+      let s = drop_more f.nodes.now (f.at + 1) rc (n.more f e) in
+      rw (n.same, t, s, ← w, c) (append_assoc rc.leaves (leaves_below (drop (f.at + 1 + 1) f.nodes.now)) (after_of (take i frames)))
 
-  pub next_is : (q : Place) → q.before ≡ before_of (take (i + 1) (set frames i record { children = f.children; at = f.at + 1 }))
-      → q.before ++ (q.here ∷ q.after) ≡ around (set frames i record { children = f.children; at = f.at + 1 }) (i + 1) child.leaves → IsNext (place_of frames depth leaf) q
+  pub next_is : (q : Place) → q.before ≡ before_of (take (i + 1) (set frames i record { nodes = f.nodes; at = f.at + 1 }))
+      → q.before ++ (q.here ∷ q.after) ≡ around (set frames i record { nodes = f.nodes; at = f.at + 1 }) (i + 1) child.leaves → IsNext (place_of frames depth leaf) q
   next_is q b a =
       let d = next_goes in
-      let back : List (List ℕ) = leaves_below (drop (f.at + 1 + 1) f.children.now) ++ after_of (take i frames) in
+      let back : List (List ℕ) = leaves_below (drop (f.at + 1 + 1) f.nodes.now) ++ after_of (take i frames) in
       let here : q.here ∷ q.after ≡ child.leaves ++ back =
-      append_cancel_left q.before (q.here ∷ q.after) (child.leaves ++ back) (a ∙ ap (λ x. x ++ (child.leaves ++ after_of (take (i + 1) (set frames i record { children = f.children; at = f.at + 1 })))) (sym b) ∙ ap (λ x. q.before ++ (child.leaves ++ x)) d.after) in
+      append_cancel_left q.before (q.here ∷ q.after) (child.leaves ++ back) (a ∙ ap (λ x. x ++ (child.leaves ++ after_of (take (i + 1) (set frames i record { nodes = f.nodes; at = f.at + 1 })))) (sym b) ∙ ap (λ x. q.before ++ (child.leaves ++ x)) d.after) in
       let k : after_of (take depth frames) ≡ q.here ∷ q.after = after_here ∙ sym here in
       let whole : q.before ++ (q.here ∷ q.after) ≡ before_of (take depth frames) ++ (leaf ∷ after_of (take depth frames)) = a ∙ d.whole_is in
       record {
@@ -268,43 +268,43 @@ module _ (frames : List Frame) (depth i : ℕ) (f : Frame) (rc : Tree) (child : 
 
 -- the step to the leaf before: frame i stands at f, and rc is the child before its own
 module _ (frames : List Frame) (depth i : ℕ) (f : Frame) (rc : Tree) (child : Tree) (leaf : List ℕ) (h : AreFrames frames depth (around frames depth (leaf ∷ [])))
-    (n : HasPrevAt frames depth i) (e : f ≡ get_or frames i f) (w : rc ≡ get_or f.children.now (f.at - 1) rc) (c : child ≡ rc) where
+    (n : HasPrevAt frames depth i) (e : f ≡ get_or frames i f) (w : rc ≡ get_or f.nodes.now (f.at - 1) rc) (c : child ≡ rc) where
   fit_there : IsFrame f (17 - i)
   fit_there = rw e (h.fit i f n.below)
 
-  parts_there : around frames i (leaves_below f.children.now) ≡ around frames depth (leaf ∷ [])
+  parts_there : around frames i (leaves_below f.nodes.now) ≡ around frames depth (leaf ∷ [])
   parts_there = rw e (h.parts i f n.below)
 
-  pub prev_within : f.at - 1 < length f.children.now
+  pub prev_within : f.at - 1 < length f.nodes.now
   prev_within = omega (arith, fit_there.within)
 
-  pub prev_goes : GoesDown frames i f.children (f.at - 1) child (around frames depth (leaf ∷ []))
+  pub prev_goes : GoesDown frames i f.nodes (f.at - 1) child (around frames depth (leaf ∷ []))
   prev_goes =
       let g = fit_there in
-      goes_down frames i f.children (f.at - 1) rc child (around frames depth (leaf ∷ [])) (AreFrames_front frames depth i (around frames depth (leaf ∷ [])) h (omega (arith, n.below)))
+      goes_down frames i f.nodes (f.at - 1) rc child (around frames depth (leaf ∷ [])) (AreFrames_front frames depth i (around frames depth (leaf ∷ [])) h (omega (arith, n.below)))
       (omega (arith, n.below, h.room)) g.low g.few prev_within w c parts_there
 
-  before_here : before_of (take depth frames) ≡ (before_of (take i frames) ++ leaves_below (take (f.at - 1) f.children.now)) ++ child.leaves
+  before_here : before_of (take depth frames) ≡ (before_of (take i frames) ++ leaves_below (take (f.at - 1) f.nodes.now)) ++ child.leaves
   before_here =
-      let t : before_of (take (i + 1) frames) ≡ before_of (take i frames) ++ leaves_below (take f.at f.children.now) =
+      let t : before_of (take (i + 1) frames) ≡ before_of (take i frames) ++ leaves_below (take f.at f.nodes.now) =
       rw (take_more frames i f (omega (arith, n.below, h.room, h.len)), ← e)
-      (before_of-append (take i frames) (f ∷ []) ∙ ap (λ x. before_of (take i frames) ++ x) (append-nil (leaves_below (take f.at f.children.now)))) in
+      (before_of-append (take i frames) (f ∷ []) ∙ ap (λ x. before_of (take i frames) ++ x) (append-nil (leaves_below (take f.at f.nodes.now)))) in
       let m = n.more f e in
       let on : f.at - 1 + 1 ≡ f.at = omega arith in
-      let u = take_more f.children.now (f.at - 1) rc prev_within in
-      let s : take f.at f.children.now ≡ take (f.at - 1) f.children.now ++ rc ∷ [] = (rw on at u) ∙ ap (λ x. take (f.at - 1) f.children.now ++ x ∷ []) (sym w) in
-      let one : leaves_below (take f.at f.children.now) ≡ leaves_below (take (f.at - 1) f.children.now) ++ child.leaves =
-      ap leaves_below s ∙ flat_map-append (λ r. r.leaves) (take (f.at - 1) f.children.now) (rc ∷ []) ∙ ap (λ x. leaves_below (take (f.at - 1) f.children.now) ++ x) (append-nil rc.leaves ∙ ap (λ r. r.leaves) (sym c)) in
-      n.same ∙ t ∙ ap (λ x. before_of (take i frames) ++ x) one ∙ sym (append_assoc (before_of (take i frames)) (leaves_below (take (f.at - 1) f.children.now)) child.leaves)
+      let u = take_more f.nodes.now (f.at - 1) rc prev_within in
+      let s : take f.at f.nodes.now ≡ take (f.at - 1) f.nodes.now ++ rc ∷ [] = (rw on at u) ∙ ap (λ x. take (f.at - 1) f.nodes.now ++ x ∷ []) (sym w) in
+      let one : leaves_below (take f.at f.nodes.now) ≡ leaves_below (take (f.at - 1) f.nodes.now) ++ child.leaves =
+      ap leaves_below s ∙ flat_map-append (λ r. r.leaves) (take (f.at - 1) f.nodes.now) (rc ∷ []) ∙ ap (λ x. leaves_below (take (f.at - 1) f.nodes.now) ++ x) (append-nil rc.leaves ∙ ap (λ r. r.leaves) (sym c)) in
+      n.same ∙ t ∙ ap (λ x. before_of (take i frames) ++ x) one ∙ sym (append_assoc (before_of (take i frames)) (leaves_below (take (f.at - 1) f.nodes.now)) child.leaves)
 
-  pub prev_is : (q : Place) → q.after ≡ after_of (take (i + 1) (set frames i record { children = f.children; at = f.at - 1 }))
-      → q.before ++ (q.here ∷ q.after) ≡ around (set frames i record { children = f.children; at = f.at - 1 }) (i + 1) child.leaves → IsNext q (place_of frames depth leaf)
+  pub prev_is : (q : Place) → q.after ≡ after_of (take (i + 1) (set frames i record { nodes = f.nodes; at = f.at - 1 }))
+      → q.before ++ (q.here ∷ q.after) ≡ around (set frames i record { nodes = f.nodes; at = f.at - 1 }) (i + 1) child.leaves → IsNext q (place_of frames depth leaf)
   prev_is q b a =
       let d = prev_goes in
-      let front : List (List ℕ) = before_of (take i frames) ++ leaves_below (take (f.at - 1) f.children.now) in
+      let front : List (List ℕ) = before_of (take i frames) ++ leaves_below (take (f.at - 1) f.nodes.now) in
       let there : (q.before ++ q.here ∷ []) ++ q.after ≡ (front ++ child.leaves) ++ q.after =
       append_assoc q.before (q.here ∷ []) q.after ∙ a
-      ∙ ap (λ x. before_of (take (i + 1) (set frames i record { children = f.children; at = f.at - 1 })) ++ (child.leaves ++ x)) (sym b) ∙ ap (λ x. x ++ (child.leaves ++ q.after)) d.before ∙ sym (append_assoc front child.leaves q.after) in
+      ∙ ap (λ x. before_of (take (i + 1) (set frames i record { nodes = f.nodes; at = f.at - 1 })) ++ (child.leaves ++ x)) (sym b) ∙ ap (λ x. x ++ (child.leaves ++ q.after)) d.before ∙ sym (append_assoc front child.leaves q.after) in
       let k : before_of (take depth frames) ≡ q.before ++ q.here ∷ [] = before_here ∙ sym (append_cancel_right (q.before ++ q.here ∷ []) (front ++ child.leaves) q.after there) in
       let whole : (q.before ++ q.here ∷ []) ++ q.after ≡ before_of (take depth frames) ++ (leaf ∷ after_of (take depth frames)) = append_assoc q.before (q.here ∷ []) q.after ∙ a ∙ d.whole_is in
       record {
@@ -314,15 +314,15 @@ module _ (frames : List Frame) (depth i : ℕ) (f : Frame) (rc : Tree) (child : 
 
 -- the same steps, whichever way they go
 pub beside_goes : (is_backward : Bool) (frames : List Frame) (depth i : ℕ) (f : Frame) (at : ℕ) (child : Tree) (leaf : List ℕ) → AreFrames frames depth (around frames depth (leaf ∷ []))
-    → HasBesideAt is_backward frames depth i → f ≡ get_or frames i f → at ≡ (if is_backward then f.at - 1 else f.at + 1) → child ≡ get_or f.children.now at child
-    → GoesDown frames i f.children at child (around frames depth (leaf ∷ []))
+    → HasBesideAt is_backward frames depth i → f ≡ get_or frames i f → at ≡ (if is_backward then f.at - 1 else f.at + 1) → child ≡ get_or f.nodes.now at child
+    → GoesDown frames i f.nodes at child (around frames depth (leaf ∷ []))
 beside_goes true frames depth i f at child leaf h n e at_is w = rw at_is (prev_goes frames depth i f child child leaf h n e (rw at_is at w) refl)
 beside_goes false frames depth i f at child leaf h n e at_is w = rw at_is (next_goes frames depth i f child child leaf h n e (rw at_is at w) refl)
 
 pub beside_is : (is_backward : Bool) (frames : List Frame) (depth i : ℕ) (f : Frame) (at : ℕ) (child : Tree) (leaf : List ℕ) → AreFrames frames depth (around frames depth (leaf ∷ []))
-    → HasBesideAt is_backward frames depth i → f ≡ get_or frames i f → at ≡ (if is_backward then f.at - 1 else f.at + 1) → child ≡ get_or f.children.now at child
-    → (new : List Frame) (size : ℕ) (here : List ℕ) → beyond (not is_backward) (take size new) ≡ beyond (not is_backward) (take (i + 1) (set frames i record { children = f.children; at = at }))
-    → around new size (here ∷ []) ≡ around (set frames i record { children = f.children; at = at }) (i + 1) child.leaves → IsBeside is_backward (place_of frames depth leaf) (place_of new size here)
+    → HasBesideAt is_backward frames depth i → f ≡ get_or frames i f → at ≡ (if is_backward then f.at - 1 else f.at + 1) → child ≡ get_or f.nodes.now at child
+    → (new : List Frame) (size : ℕ) (here : List ℕ) → beyond (not is_backward) (take size new) ≡ beyond (not is_backward) (take (i + 1) (set frames i record { nodes = f.nodes; at = at }))
+    → around new size (here ∷ []) ≡ around (set frames i record { nodes = f.nodes; at = at }) (i + 1) child.leaves → IsBeside is_backward (place_of frames depth leaf) (place_of new size here)
 beside_is true frames depth i f at child leaf h n e at_is w new size here b a =
     prev_is frames depth i f child child leaf h n e (rw at_is at w) refl (place_of new size here) (rw at_is at b) (rw at_is at a)
 beside_is false frames depth i f at child leaf h n e at_is w new size here b a =

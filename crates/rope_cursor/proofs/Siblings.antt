@@ -18,36 +18,36 @@ all_leaves n (rc ∷ rcs) low zero =
 
 -- the deepest frame goes from its child to the last one
 module _ (frames : List Frame) (depth : ℕ) (f : Frame) (whole : List (List ℕ)) (h : AreFrames frames depth whole) (p : 0 < depth) (e : f ≡ get_or frames (depth - 1) f)
-    (leaves : All (λ rc. rc.height ≡ 0) (drop (f.at + 1) f.children.now)) where
+    (leaves : All (λ rc. rc.height ≡ 0) (drop (f.at + 1) f.nodes.now)) where
   fit_here : IsFrame f (17 - (depth - 1))
   fit_here = rw e (h.fit (depth - 1) f (omega arith))
 
-  parts_here : around frames (depth - 1) (leaves_below f.children.now) ≡ whole
+  parts_here : around frames (depth - 1) (leaves_below f.nodes.now) ≡ whole
   parts_here = rw e (h.parts (depth - 1) f (omega arith))
 
-  pub siblings_low : All (λ rc. IsLow rc 0) (drop (f.at + 1) f.children.now)
-  siblings_low = all_leaves (17 - (depth - 1)) (drop (f.at + 1) f.children.now) (All-drop (λ rc. IsLow rc (17 - (depth - 1))) (f.at + 1) f.children.now fit_here.low) leaves
+  pub siblings_low : All (λ rc. IsLow rc 0) (drop (f.at + 1) f.nodes.now)
+  siblings_low = all_leaves (17 - (depth - 1)) (drop (f.at + 1) f.nodes.now) (All-drop (λ rc. IsLow rc (17 - (depth - 1))) (f.at + 1) f.nodes.now fit_here.low) leaves
 
-  module _ (rc : Tree) (child : Tree) (more : f.at + 1 < length f.children.now) (w : rc ≡ get_or f.children.now (length f.children.now - 1) rc) (c : child ≡ rc) where
-    pub last_goes : GoesDown frames (depth - 1) f.children (length f.children.now - 1) child whole
+  module _ (rc : Tree) (child : Tree) (more : f.at + 1 < length f.nodes.now) (w : rc ≡ get_or f.nodes.now (length f.nodes.now - 1) rc) (c : child ≡ rc) where
+    pub last_goes : GoesDown frames (depth - 1) f.nodes (length f.nodes.now - 1) child whole
     last_goes =
-        goes_down frames (depth - 1) f.children (length f.children.now - 1) rc child whole (AreFrames_front frames depth (depth - 1) whole h (omega arith))
+        goes_down frames (depth - 1) f.nodes (length f.nodes.now - 1) rc child whole (AreFrames_front frames depth (depth - 1) whole h (omega arith))
         (omega (arith, p, h.room)) fit_here.low fit_here.few (omega (arith, more)) w c parts_here
 
     pub passed : after_of (take depth frames)
-        ≡ leaves_below (drop (f.at + 1) f.children.now) ++ after_of (take depth (set frames (depth - 1) record { children = f.children; at = length f.children.now - 1 }))
+        ≡ leaves_below (drop (f.at + 1) f.nodes.now) ++ after_of (take depth (set frames (depth - 1) record { nodes = f.nodes; at = length f.nodes.now - 1 }))
     passed =
         let on : depth - 1 + 1 ≡ depth = omega (arith, p) in
-        let old : after_of (take (depth - 1 + 1) frames) ≡ leaves_below (drop (f.at + 1) f.children.now) ++ after_of (take (depth - 1) frames) =
+        let old : after_of (take (depth - 1 + 1) frames) ≡ leaves_below (drop (f.at + 1) f.nodes.now) ++ after_of (take (depth - 1) frames) =
         rw (take_more frames (depth - 1) f (omega (arith, h.len, h.room, p)), ← e, after_of-append) refl in
-        let none : drop (length f.children.now - 1 + 1) f.children.now ≡ [] = drop_all (length f.children.now - 1 + 1) f.children.now (omega (arith, more)) in
+        let none : drop (length f.nodes.now - 1 + 1) f.nodes.now ≡ [] = drop_all (length f.nodes.now - 1 + 1) f.nodes.now (omega (arith, more)) in
         let new = last_goes.after ∙ ap (λ rcs. leaves_below rcs ++ after_of (take (depth - 1) frames)) none in
-        rw on at (old ∙ ap (λ ls. leaves_below (drop (f.at + 1) f.children.now) ++ ls) (sym new))
+        rw on at (old ∙ ap (λ ls. leaves_below (drop (f.at + 1) f.nodes.now) ++ ls) (sym new))
 
     pub last_low : IsLow child 0
     last_low =
-        let k : ℕ = length f.children.now - 1 - (f.at + 1) in
-        let own = All-get_or (λ r. IsLow r 0) (drop (f.at + 1) f.children.now) k rc (omega (arith, more, length-drop (f.at + 1) f.children.now)) siblings_low in
-        let same : get_or (drop (f.at + 1) f.children.now) k rc ≡ get_or f.children.now (length f.children.now - 1) rc =
-        get_or-drop (f.at + 1) f.children.now k rc ∙ ap (λ (i : ℕ). get_or f.children.now i rc) (omega (arith, more)) in
+        let k : ℕ = length f.nodes.now - 1 - (f.at + 1) in
+        let own = All-get_or (λ r. IsLow r 0) (drop (f.at + 1) f.nodes.now) k rc (omega (arith, more, length-drop (f.at + 1) f.nodes.now)) siblings_low in
+        let same : get_or (drop (f.at + 1) f.nodes.now) k rc ≡ get_or f.nodes.now (length f.nodes.now - 1) rc =
+        get_or-drop (f.at + 1) f.nodes.now k rc ∙ ap (λ (i : ℕ). get_or f.nodes.now i rc) (omega (arith, more)) in
         rw (c, w, ← same) own

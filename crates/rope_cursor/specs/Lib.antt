@@ -8,3 +8,4 @@ pub mod Lines
 pub mod Starts
 pub mod Gap
 pub mod Hints
+pub mod Pieces

@@ -47,11 +47,11 @@ leaves_below rcs = flat_map (λ rc. rc.leaves) rcs
 -- the leaves before and after a path, by its frames from the root down
 abbrev pub before_of : List Frame → List (List ℕ)
 before_of [] = []
-before_of (f ∷ fs) = leaves_below (take f.at f.children.now) ++ before_of fs
+before_of (f ∷ fs) = leaves_below (take f.at f.nodes.now) ++ before_of fs
 
 abbrev pub after_of : List Frame → List (List ℕ)
 after_of [] = []
-after_of (f ∷ fs) = after_of fs ++ leaves_below (drop (f.at + 1) f.children.now)
+after_of (f ∷ fs) = after_of fs ++ leaves_below (drop (f.at + 1) f.nodes.now)
 
 -- those after a path, or backward before it
 abbrev pub beyond : Bool → List Frame → List (List ℕ)
@@ -68,9 +68,9 @@ pub record IsLow (t : Tree) (n : ℕ) : Type 0 where
 
 -- a frame stands at one of its nodes, each of which has at most n levels below it
 pub record IsFrame (f : Frame) (n : ℕ) : Type 0 where
-  pub within : f.at < length f.children.now
-  pub few : length f.children.now ≤ MAX_CHILDREN
-  pub low : All (λ rc. IsLow rc n) f.children.now
+  pub within : f.at < length f.nodes.now
+  pub few : length f.nodes.now ≤ MAX_CHILDREN
+  pub low : All (λ rc. IsLow rc n) f.nodes.now
 
 -- the first `level` of 18 frames: at each of them, what stands before, the leaves below its children, and what stands after
 -- are the whole
@@ -79,7 +79,7 @@ pub record AreFrames (frames : List Frame) (level : ℕ) (whole : List (List ℕ
   pub len : length frames ≡ MAX_HEIGHT
   pub fit : (i : ℕ) (d : Frame) → i < level → IsFrame (get_or frames i d) (MAX_HEIGHT - 1 - i)
   pub parts : (i : ℕ) (d : Frame) → i < level →
-      before_of (take i frames) ++ (leaves_below (get_or frames i d).children.now ++ after_of (take i frames)) ≡ whole
+      before_of (take i frames) ++ (leaves_below (get_or frames i d).nodes.now ++ after_of (take i frames)) ≡ whole
 
 -- leaves in the place of a frame that is not there yet
 abbrev pub around : List Frame → ℕ → List (List ℕ) → List (List ℕ)

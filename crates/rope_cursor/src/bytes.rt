@@ -8,8 +8,8 @@ ghost use Rattle.rope_text.specs.Sides.{ahead, at_place, turned, GoesRight, Goes
 ghost use Rattle.rope_part.specs.Part.{text_of};
 ghost use Rattle.rope_cursor.specs.Hints.{CountsAhead};
 
+use crate::path::Span;
 use crate::point::{end_of, step_chunk};
-use crate::span::Span;
 use rope_part::Part;
 use rope_tree::Unit;
 use std::alloc::AllocError;
@@ -141,21 +141,16 @@ impl<'a> Iterator for Bytes<'a> {
     fn size_hint(&self) -> (usize, Option<usize>)
         ensures { CountsAhead self.now result.0 result.1 }
     {
-        let count = self.len();
-        (count, Some(count))
+        (self.len(), Some(self.len()))
     }
 }
 
 impl<'a> ExactSizeIterator for Bytes<'a> {
     /// How many bytes it still gives.
     fn len(&self) -> usize {
-        let total = self.total;
-        let passed = self.before + self.at;
-        if self.is_backward {
-            passed
-        } else {
-            total - passed
-        }
+        let left = self.total - self.before - self.at;
+        let passed = self.total - left;
+        if self.is_backward { passed } else { left }
     }
 }
 

@@ -5,8 +5,8 @@ ghost use Rattle.rope_text.specs.Sides.{ahead, at_place, turned, GoesRight, Goes
 ghost use Rattle.rope_part.specs.Part.{text_of};
 ghost use Rattle.rope_cursor.specs.Hints.{CountsAhead};
 
+use crate::path::Span;
 use crate::point::{char_after, char_before, step_chunk};
-use crate::span::Span;
 use rope_part::Part;
 use std::alloc::AllocError;
 use std::iter::ExactSizeIterator;
@@ -161,19 +161,15 @@ impl<'a> Iterator for Chars<'a> {
     fn size_hint(&self) -> (usize, Option<usize>)
         ensures { CountsAhead self.now result.0 result.1 }
     {
-        let count = self.len();
-        (count, Some(count))
+        (self.len(), Some(self.len()))
     }
 }
 
 impl<'a> ExactSizeIterator for Chars<'a> {
     /// How many characters it still gives.
     fn len(&self) -> usize {
-        if self.is_backward {
-            self.passed
-        } else {
-            self.total - self.passed
-        }
+        let left = self.total - self.passed;
+        if self.is_backward { self.passed } else { left }
     }
 }
 

@@ -10,7 +10,7 @@ ghost use Rattle.rope_text.specs.Sides.{ahead, at_start, turned, GoesRight, Goes
 ghost use Rattle.rope_part.specs.Part.{text_of, chunks_of, breaks_of};
 ghost use Rattle.rope_cursor.specs.Starts.{IsItem, size_in, chunk_place};
 
-use crate::span::Span;
+use crate::path::Span;
 use rope_part::Part;
 use rope_tree::{Unit, count};
 use std::alloc::AllocError;
@@ -78,23 +78,17 @@ impl<'a> Chunks<'a> {
 
     /// A cursor before the first chunk by whose end so many line breaks have ended, facing forward; one more than there are
     /// line breaks is past the last chunk. With it the bytes, the characters and the line breaks of the text before its place.
-    pub fn at_line_break(
-        part: &Part<'a>,
-        line_break_idx: usize,
-    ) -> (Chunks<'a>, usize, usize, usize)
-        requires { line_break_idx ≤ line_count (breaks_of part.now) (text_of part.now) }
+    pub fn at_line_break(part: &Part<'a>, break_idx: usize) -> (Chunks<'a>, usize, usize, usize)
+        requires { break_idx ≤ line_count (breaks_of part.now) (text_of part.now) }
         ensures { StandsAt (breaks_of part.now) (chunks_of part.now)
-            (chunk_place_at_line_break (breaks_of part.now) (chunks_of part.now) line_break_idx)
+            (chunk_place_at_line_break (breaks_of part.now) (chunks_of part.now) break_idx)
             result.0 result.1 result.2 result.3 }
     {
-        let start = part.convert(Unit::LineBreak, Unit::Char, line_break_idx);
-        let is_past = line_break_idx == part.len_lines();
+        let start = part.convert(Unit::LineBreak, Unit::Char, break_idx);
+        let is_past = break_idx > part.info().break_count;
         // the last of these breaks ends right before the line that starts there
-        let char_idx = if is_past {
-            start
-        } else {
-            start.saturating_sub(1)
-        };
+        let before = start.saturating_sub(1);
+        let char_idx = if is_past { start } else { before };
         Chunks::at(part, Unit::Char, char_idx)
     }
 

@@ -2,18 +2,14 @@
 //! only. No call takes memory.
 #![tactic(auto)]
 
-mod between;
 pub mod bytes;
 pub mod chars;
 pub mod chunks;
-mod gap;
 pub mod laws;
 pub mod lines;
 mod path;
 pub mod pieces;
 mod point;
-mod span;
-mod walk;
 
 pub use bytes::Bytes;
 pub use chars::Chars;

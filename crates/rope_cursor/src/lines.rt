@@ -1,21 +1,40 @@
 //! A cursor over the lines of a part.
-ghost use Rattle.std.specs.Prelude.{◌≡◌, ◌≤◌, ◌<◌, ⊤};
+ghost use Rattle.std.specs.Prelude.{◌≡◌, ◌≤◌, ◌<◌, ◌++◌, ⊤, false, take, drop};
 ghost use Rattle.std.specs.Bool.{MatchBool};
 ghost use Rattle.std.specs.Iterator.{YieldsFirstBy, item_count};
+ghost use Rattle.std.specs.List.{concat};
+ghost use Rattle.std.specs.Str.{chars};
+ghost use Rattle.rope_text.specs.Cutting.{parts_crlf};
 ghost use Rattle.rope_text.specs.Lines.{line_count};
-ghost use Rattle.rope_text.specs.LineParts.{line_of, lines_of};
+ghost use Rattle.rope_text.specs.LineParts.{lines_of, first_line, last_start};
 ghost use Rattle.rope_text.specs.Sides.{ahead, at_place, turned, GoesRight, GoesLeft, GoesAhead, StepsBack};
+ghost use Rattle.rope_text.specs.TextInfo.{info_of};
 ghost use Rattle.rope_part.specs.Part.{content_of, text_of, breaks_of};
+ghost use Rattle.rope_cursor.specs.Gap.{before_byte, after_byte, last_line_byte, last_line_info, AreChunks, IsBetween, PassesLine, PassesBack};
 ghost use Rattle.rope_cursor.specs.Hints.{CountsAhead};
 
-use crate::between::between;
-use crate::gap::Gap;
+use crate::path::Span;
 use crate::point::end_of;
 use rope_part::Part;
-use rope_text::TextInfo;
+use rope_text::crlf::prev_break;
+use rope_text::str_utils::{
+    byte_len_of, byte_to_char_idx, byte_to_line_with, byte_to_surrogates, line_to_byte_with,
+};
+use rope_text::{LineBreaks, MAX_BYTES, TextInfo};
 use std::alloc::AllocError;
 use std::iter::ExactSizeIterator;
-use std::marker::Model;
+use std::marker::{Model, PhantomData};
+
+/// What a cursor over lines gives: it is made of a part.
+pub trait OfPart<'a> {
+    ghost use Rattle.rope_text.specs.Content.{Content};
+
+    ghost content: { Self → Content };
+
+    /// What shows that part.
+    fn of_part(part: Part<'a>) -> Self
+        ensures { content result ≡ content_of part.entry };
+}
 
 /// A cursor over the lines of a part, each with its break. It takes no memory.
 ///
@@ -24,7 +43,7 @@ use std::marker::Model;
 /// As `Debug` it shows where it stands and which way it faces, and no text.
 #[derive(Drop)]
 #[derive_where(Debug)]
-pub struct Lines<'a> {
+pub struct Lines<'a, T> {
     #[derive_where(skip)]
     part: Part<'a>,
     #[derive_where(skip)]
@@ -35,9 +54,11 @@ pub struct Lines<'a> {
     line: usize,
     total: usize,
     is_backward: bool,
+    #[derive_where(skip)]
+    item: PhantomData<T>,
 }
 
-impl<'a> Model for Lines<'a> {
+impl<'a, T> Model for Lines<'a, T> {
     ghost use Rattle.rope_text.specs.Content.{Content};
     ghost use Rattle.rope_text.specs.Sides.{Sides};
     ghost use Rattle.rope_part.specs.Part.{content_of};
@@ -50,30 +71,24 @@ impl<'a> Model for Lines<'a> {
     ghost invariant = { λ a. IsLineStart (content_of a.part) a.gap a.before a.line a.total };
 }
 
-/// A line of a part, its break among its characters.
-pub fn line<'a>(part: &Part<'a>, line_idx: usize) -> Part<'a>
-    requires { line_idx < line_count (breaks_of part.now) (text_of part.now) }
-    ensures { content_of result ≡ line_of (content_of part.now) line_idx }
-{
-    let (start, end) = part.around_line(line_idx);
-    between(part, start, end)
-}
-
-impl<'a> Lines<'a> {
+impl<'a, T: OfPart<'a>> Lines<'a, T> {
     /// A cursor before a line, facing forward; for the number of lines it stands past the last.
-    pub fn at(part: &Part<'a>, line_idx: usize) -> Lines<'a>
+    pub fn at(part: &Part<'a>, line_idx: usize) -> Lines<'a, T>
         requires { line_idx ≤ line_count (breaks_of part.now) (text_of part.now) }
         ensures { result ≡ at_place (lines_of (content_of part.now)) line_idx }
     {
         let info = part.info();
         let before = part.before_line(line_idx);
+        let (span, inside) = Span::at(part, info, before.chars);
+        let near = NEAR_BYTES;
         Lines {
             part: *part,
-            gap: Gap::at(part, info, before.chars),
+            gap: Gap { span, inside, near },
             before,
             line: line_idx,
             total: part.len_lines(),
             is_backward: false,
+            item: PhantomData,
         }
     }
 
@@ -93,20 +108,20 @@ impl<'a> Lines<'a> {
             let passed = self.gap.pass_line_back(here.break_count - line, breaks);
             self.before = here.minus(passed);
             self.line = line;
-            return Some(between(&self.part, self.before, here));
+            return Some(self.part.between(self.before, here));
         }
         let passed = self.gap.pass_line(breaks);
         self.before = here.plus(passed);
         self.line += 1;
-        Some(between(&self.part, here, self.before))
+        Some(self.part.between(here, self.before))
     }
 
-    /// The item behind, to which it steps back; or none at that end, where it stays.
+    /// The line behind, to which it steps back; or none at that end, where it stays. Takes no memory.
     #[inline(always)]
-    pub fn prev(&mut self) -> Option<Part<'a>>
-        ensures { StepsBack (λ x. content_of x) self.old result self.new }
+    pub fn prev(&mut self) -> Option<T>
+        ensures { StepsBack (λ x. T.content x) self.old result self.new }
     {
-        self.step(!self.is_backward)
+        Some(T::of_part(self.step(!self.is_backward)?))
     }
 
     /// Turns it round where it stands: `next` and `prev` change places.
@@ -117,7 +132,7 @@ impl<'a> Lines<'a> {
     }
 
     /// The same cursor turned round.
-    pub fn reversed(mut self) -> Lines<'a>
+    pub fn reversed(mut self) -> Lines<'a, T>
         ensures { result ≡ turned self.entry }
     {
         self.reverse();
@@ -125,49 +140,210 @@ impl<'a> Lines<'a> {
     }
 }
 
-impl<'a> Iterator for Lines<'a> {
-    type Item = Part<'a>;
+impl<'a, T: OfPart<'a>> Iterator for Lines<'a, T> {
+    type Item = T;
 
-    ghost next_gives = { YieldsFirstBy (λ x. content_of x) ahead };
+    ghost next_gives = { YieldsFirstBy (λ x. T.content x) ahead };
 
     ghost remaining = { item_count ahead };
 
     /// The next line, or none at the end, where it stays.
     #[inline(always)]
-    fn next(&mut self) -> Option<Part<'a>>
-        ensures steps { YieldsFirstBy (λ x. content_of x) ahead self.old result self.new }
-        ensures goes { GoesAhead (λ x. content_of x) self.old result self.new }
+    fn next(&mut self) -> Option<T>
+        ensures steps { YieldsFirstBy (λ x. T.content x) ahead self.old result self.new }
+        ensures goes { GoesAhead (λ x. T.content x) self.old result self.new }
     {
-        self.step(self.is_backward)
+        Some(T::of_part(self.step(self.is_backward)?))
     }
 
     /// How many lines are still to come, twice.
     fn size_hint(&self) -> (usize, Option<usize>)
         ensures { CountsAhead self.now result.0 result.1 }
     {
-        let count = self.len();
-        (count, Some(count))
+        (self.len(), Some(self.len()))
     }
 }
 
-impl<'a> ExactSizeIterator for Lines<'a> {
+impl<'a, T: OfPart<'a>> ExactSizeIterator for Lines<'a, T> {
     /// How many lines are still to come.
     fn len(&self) -> usize {
-        if self.is_backward {
-            self.line
-        } else {
-            self.total - self.line
-        }
+        let left = self.total - self.line;
+        if self.is_backward { self.line } else { left }
     }
 }
 
-impl<'a> Clone for Lines<'a> {
+impl<'a, T> Clone for Lines<'a, T> {
     ghost is_clone = { λ a b. b ≡ a };
 
     ghost is_infallible = { λ _. ⊤ };
 
-    fn clone(&self) -> Result<Lines<'a>, AllocError> {
-        let gap = self.gap.copy();
+    fn clone(&self) -> Result<Lines<'a, T>, AllocError> {
+        let span = self.gap.span.copy();
+        let gap = Gap { span, ..self.gap };
         Ok(Lines { gap, ..*self })
+    }
+}
+
+// A place between two characters of a part, which goes from line to line: a byte of a chunk.
+#[derive(Drop)]
+struct Gap<'a> {
+    span: Span<'a>,
+    inside: usize,
+    // where a step backward looks first: so many bytes before the place, or `NEAR_BYTES`
+    near: usize,
+}
+
+impl<'a> Model for Gap<'a> {
+    ghost use Rattle.rope_cursor.specs.Gap.{Halves, halves_at, IsGap};
+
+    ghost Value = { Halves };
+
+    ghost view = { λ a. halves_at a.span a.inside };
+
+    ghost invariant = { λ a. IsGap a.span a.inside };
+}
+
+// The text from a byte on at which a character begins.
+fn text_after(text: &str, byte: usize) -> &str
+    requires { IsBetween (chars text.now) byte }
+    ensures { chars result.now ≡ after_byte (chars text.now) byte }
+{
+    &text[byte..]
+}
+
+// From the end of a chunk to the end of a line: the place in the last chunk, and the counts of what was passed. Never
+// inlined, so that a step within one chunk is kept short.
+#[inline(never)]
+fn pass_chunks(span: &mut Span<'_>, breaks: LineBreaks) -> (usize, TextInfo)
+    requires { AreChunks span.old }
+    ensures { PassesLine breaks (concat span.old.before ++ span.old.here) (concat span.old.after) span.new result.0 result.1 }
+{
+    let mut passed = TextInfo::new();
+    while span.step(false) {
+        let more = TextInfo::of_first_line(span.chunk(), breaks);
+        passed = passed.plus(more);
+        if more.break_count > 0 {
+            return (more.bytes, passed);
+        }
+    }
+    (byte_len_of(span.chunk()), passed)
+}
+
+// Where the last line of a text is looked for first: so many bytes before its end at the least.
+const NEAR_BYTES: usize = 64;
+
+// And so many at the most, however long the line was that was found last.
+const FAR_BYTES: usize = 256;
+
+// The byte at which the last line of a text's front starts, or the one so many line breaks before it, and the counts from there
+// on. It is looked for in so many bytes before the front's end, and then in `times` as many, until it is found: so a line costs
+// its own length, however long the text is before it. What follows the front helps to count, since whole blocks are counted at
+// once.
+fn count_last(
+    text: &str,
+    end: usize,
+    first: usize,
+    times: usize,
+    skip: usize,
+    breaks: LineBreaks,
+) -> (usize, TextInfo)
+    requires between { IsBetween (chars text.now) end }
+    requires apart { parts_crlf (before_byte (chars text.now) end) (after_byte (chars text.now) end) ≡ false }
+    requires more { 1 < times }
+    ensures start { result.0 ≡ last_line_byte breaks (chars text.now) end skip }
+    ensures counts { result.1 ≡ last_line_info breaks (chars text.now) end skip }
+{
+    // a proof needs how long a text in memory may be
+    let _ = byte_len_of(text);
+    let mut back = first.max(NEAR_BYTES);
+    loop {
+        // so many bytes before the end or more, in no CR LF
+        let cut = prev_break(end.saturating_sub(back), text.as_bytes());
+        let near = text_after(text, cut);
+        let len = end - cut;
+        let break_count = byte_to_line_with(near, len, breaks);
+        if break_count <= skip && cut > 0 {
+            back = back.saturating_mul(times);
+            continue;
+        }
+        let skip = skip.min(break_count);
+        // mostly it is the second line, since so little text is looked at
+        let line_idx = break_count - skip;
+        let start = if line_idx == 1 {
+            TextInfo::of_first_line(near, breaks).bytes
+        } else {
+            line_to_byte_with(near, line_idx, breaks)
+        };
+        let rest = text_after(near, start);
+        let bytes = len - start;
+        let info = TextInfo {
+            bytes,
+            chars: byte_to_char_idx(rest, bytes),
+            utf16_surrogates: byte_to_surrogates(rest, bytes),
+            break_count: skip,
+        };
+        return (cut + start, info);
+    }
+}
+
+// From the start of a chunk back to the start of a line: the place in the last chunk, and the counts of what was passed.
+fn pass_chunks_back(span: &mut Span<'_>, skip: usize, breaks: LineBreaks) -> (usize, TextInfo)
+    requires { AreChunks span.old }
+    ensures { PassesBack breaks skip (concat span.old.before) (span.old.here ++ concat span.old.after) span.new result.0 result.1 }
+{
+    let mut passed = TextInfo::new();
+    let mut left = skip;
+    while span.step(true) {
+        let chunk = span.chunk();
+        let end = byte_len_of(chunk);
+        // near its end, and then in all of it
+        let (start, more) = count_last(chunk, end, NEAR_BYTES, MAX_BYTES, left, breaks);
+        passed = more.plus(passed);
+        if start > 0 {
+            return (start, passed);
+        }
+        left -= more.break_count;
+    }
+    (0, passed)
+}
+
+impl<'a> Gap<'a> {
+    // Goes on past the next line break, or to the end. Answers the counts of what it passed.
+    #[inline(never)]
+    fn pass_line(&mut self, breaks: LineBreaks) -> TextInfo
+        ensures front { self.new.front ≡ self.old.front ++ first_line breaks self.old.back }
+        ensures back { self.old.back ≡ first_line breaks self.old.back ++ self.new.back }
+        ensures counts { result ≡ info_of breaks (first_line breaks self.old.back) }
+    {
+        let first = TextInfo::of_first_line(text_after(self.span.chunk(), self.inside), breaks);
+        if first.break_count > 0 {
+            self.inside += first.bytes;
+            return first;
+        }
+        let (inside, more) = pass_chunks(&mut self.span, breaks);
+        self.inside = inside;
+        first.plus(more)
+    }
+
+    // Goes back past so many line breaks, and on to the end of the one before, or to the start. Answers the counts of what it
+    // passed. It is in no CR LF.
+    #[inline(never)]
+    fn pass_line_back(&mut self, skip: usize, breaks: LineBreaks) -> TextInfo
+        requires { parts_crlf self.old.front self.old.back ≡ false }
+        ensures front { self.new.front ≡ take (last_start breaks self.old.front skip) self.old.front }
+        ensures back { self.new.back ≡ drop (last_start breaks self.old.front skip) self.old.front ++ self.old.back }
+        ensures counts { result ≡ info_of breaks (drop (last_start breaks self.old.front skip) self.old.front) }
+    {
+        let (start, last) = count_last(self.span.chunk(), self.inside, self.near, 2, skip, breaks);
+        if start > 0 {
+            self.inside = start;
+            // lines mostly are of much the same length: so the next is looked for a quarter more behind, and a break before it
+            let most = last.bytes.min(FAR_BYTES);
+            self.near = (most + most / 4 + 8).min(FAR_BYTES);
+            return last;
+        }
+        let (inside, more) = pass_chunks_back(&mut self.span, skip - last.break_count, breaks);
+        self.inside = inside;
+        more.plus(last)
     }
 }

@@ -1,16 +1,22 @@
-//! A way from the root of a tree to one of its leaves, kept in place. No step takes memory.
-ghost use Rattle.std.specs.Prelude.{◌≡◌, ◌+◌, ◌-◌, ◌<◌, ◌^◌, ◌∷◌, ◌++◌, not, take, []};
+//! A way from the root of a tree to one of its leaves, kept in place; and a way to a leaf within a part of the text. No step takes
+//! memory.
+ghost use Rattle.std.specs.Prelude.{◌≡◌, ◌+◌, ◌-◌, ◌<◌, ◌≤◌, ◌^◌, ◌∷◌, ◌++◌, not, take, length, []};
 ghost use Rattle.std.specs.Bool.{OnTrue, OnFalse};
 ghost use Rattle.std.specs.List.{concat, All};
 ghost use Rattle.std.specs.Str.{chars};
 ghost use Rattle.rope_text.specs.declared.TheConstants.{MAX_HEIGHT};
+ghost use Rattle.rope_text.specs.Conversions.{char_to_byte};
 ghost use Rattle.rope_text.specs.Text.{byte_len};
 ghost use Rattle.rope_text.specs.TextInfo.{info_of};
 ghost use Rattle.rope_tree.specs.Search.{count_of};
 ghost use Rattle.rope_tree.specs.Leaves.{AreLeaves};
 ghost use Rattle.rope_tree.specs.Tree.{text};
+ghost use Rattle.rope_part.specs.Part.{content_of, text_of, chunks_of, breaks_of};
 ghost use Rattle.rope_cursor.specs.Path.{before_of, beyond, around, place_of, AreFrames, LeadsTo, IsLow, IsBeside, IsLast, HoldsPlace, leaves, leaves_below};
+ghost use Rattle.rope_cursor.specs.Starts.{IsItem, IsHolding, size_in};
 
+use rope_part::Part;
+use rope_text::str_utils::char_to_byte_idx;
 use rope_text::{MAX_HEIGHT, Steps, TextInfo};
 use rope_tree::{Node, Unit, View, count, place_of, total_before};
 use std::marker::Model;
@@ -18,7 +24,7 @@ use std::marker::Model;
 /// The children of an inner node, and the one that the path goes to.
 #[derive(Clone, Copy)]
 struct Frame<'a> {
-    children: &'a [Node],
+    nodes: &'a [Node],
     at: usize,
 }
 
@@ -48,13 +54,9 @@ impl<'a> Model for Path<'a> {
 fn are_leaves(nodes: &[Node]) -> bool
     ensures { OnTrue result (All (λ rc. rc.height ≡ 0) nodes.now) }
 {
-    for node in nodes {
-        match node.view() {
-            View::Leaf(_) if node.info().bytes > 0 => {}
-            _ => return false,
-        }
-    }
-    true
+    nodes
+        .iter()
+        .all(|node| matches!(node.view(), View::Leaf(_)) && node.info().bytes > 0)
 }
 
 // The text of a node with no levels below it. What it is, is asked again, of what has been read just before.
@@ -84,11 +86,11 @@ fn enter<'a>(
 {
     match node.view() {
         View::Leaf(leaf) => (level, leaf.as_str()),
-        View::Inner(children, _) => {
-            let at = if is_backward { children.len() - 1 } else { 0 };
-            frames[level] = Frame { children, at };
-            let child: &Node = &children[at];
-            if !is_backward && are_leaves(children) {
+        View::Inner(nodes, _) => {
+            let at = if is_backward { nodes.len() - 1 } else { 0 };
+            frames[level] = Frame { nodes, at };
+            let child: &Node = &nodes[at];
+            if !is_backward && are_leaves(nodes) {
                 return (level + 1, lowest_text(child));
             }
             enter(frames, level + 1, child, is_backward)
@@ -118,11 +120,11 @@ fn enter_at<'a>(
 {
     match node.view() {
         View::Leaf(leaf) => (level, leaf.as_str(), before),
-        View::Inner(children, totals) => {
+        View::Inner(nodes, totals) => {
             let at = place_of(totals, unit, idx, &mut Steps::new());
             let front = total_before(totals, at);
-            frames[level] = Frame { children, at };
-            let child = &children[at];
+            frames[level] = Frame { nodes, at };
+            let child = &nodes[at];
             let before = before.plus(front);
             let rest = idx - count(front, unit);
             enter_at(frames, level + 1, child, before, unit, rest)
@@ -158,19 +160,8 @@ impl<'a> Path<'a> {
         Path {
             leaf: text,
             depth: 0,
-            frames: [Frame {
-                children: &[],
-                at: 0,
-            }; MAX_HEIGHT],
+            frames: [Frame { nodes: &[], at: 0 }; MAX_HEIGHT],
         }
-    }
-
-    /// The same way.
-    #[inline(always)]
-    pub fn copy(&self) -> Path<'a>
-        ensures { result ≡ self.now }
-    {
-        Path { ..*self }
     }
 
     /// The text of the leaf.
@@ -195,12 +186,12 @@ impl<'a> Path<'a> {
         while level > 0 {
             level -= 1;
             let frame = slots[level];
-            let Frame { children, at } = frame;
-            let end = if is_backward { 0 } else { children.len() - 1 };
+            let Frame { nodes, at } = frame;
+            let end = if is_backward { 0 } else { nodes.len() - 1 };
             if at != end {
                 let at = if is_backward { at - 1 } else { at + 1 };
-                frames[level] = Frame { children, at };
-                let child: &Node = &children[at];
+                frames[level] = Frame { nodes, at };
+                let child: &Node = &nodes[at];
                 // Most nodes that a step comes to are leaves. These are taken here: what `enter` answers comes through memory, and
                 // has to be waited for.
                 if let View::Leaf(leaf) = child.view() {
@@ -230,14 +221,135 @@ impl<'a> Path<'a> {
         let frames = &mut self.frames;
         let slots = &frames[..];
         let frame = slots[level];
-        let children = frame.children;
-        let siblings = &children[frame.at + 1..];
+        let nodes = frame.nodes;
+        let siblings = &nodes[frame.at + 1..];
         if siblings.is_empty() || !are_leaves(siblings) {
             return &[];
         }
-        let at = children.len() - 1;
-        frames[level] = Frame { children, at };
-        self.leaf = lowest_text(&children[at]);
+        let at = nodes.len() - 1;
+        frames[level] = Frame { nodes, at };
+        self.leaf = lowest_text(&nodes[at]);
         siblings
+    }
+}
+
+/// A chunk of a part, seen as the chunks before it, the chunk, and the chunks after it.
+#[derive(Drop)]
+pub struct Span<'a> {
+    path: Path<'a>,
+    // the bytes of the text before the leaf, of which the chunk is a part
+    at: usize,
+    // those before the part's start, and before its end
+    from: usize,
+    to: usize,
+}
+
+impl<'a> Model for Span<'a> {
+    ghost use Rattle.rope_cursor.specs.Path.{Place};
+    ghost use Rattle.rope_cursor.specs.Span.{clipped_at, IsSpanFrom};
+
+    ghost Value = { Place };
+
+    ghost view = { λ a. clipped_at a.path a.from a.to };
+
+    ghost invariant = { λ a. IsSpanFrom a.path a.at a.from a.to };
+}
+
+impl<'a> Span<'a> {
+    /// The chunk of a part that holds a byte or a character; at the end of the text the last chunk. With it the bytes, the
+    /// characters and the line breaks of the text before it. An empty part has no chunk: then it is the empty text.
+    // Expanded where it is called, by a constant: a way is half a kilobyte, and is then moved once less.
+    #[inline(always)]
+    pub fn holding(part: &Part<'a>, unit: Unit, idx: usize) -> (Span<'a>, usize, usize, usize)
+        requires unit { IsItem unit }
+        requires within { idx ≤ size_in unit (text_of part.now) }
+        ensures { IsHolding unit idx (content_of part.now) result.0 result.1 result.2 result.3 }
+    {
+        match part {
+            Part::InTree(stretch) => {
+                let start = stretch.start;
+                let place = stretch.place(unit, idx).min(count(stretch.end, unit) - 1);
+                let (path, before) = Path::at(stretch.node, unit, place);
+                let (at, from, to) = (before.bytes, start.bytes, stretch.end.bytes);
+                let span = Span { path, at, from, to };
+                (
+                    span,
+                    before.bytes.saturating_sub(start.bytes),
+                    before.chars.saturating_sub(start.chars),
+                    before.break_count.saturating_sub(start.break_count),
+                )
+            }
+            Part::Alone(plain) => {
+                let path = Path::text(plain.text);
+                let (at, from, to) = (0, 0, plain.info.bytes);
+                (Span { path, at, from, to }, 0, 0, 0)
+            }
+        }
+    }
+
+    /// The chunk of a part that holds a character, and the byte of the chunk at which that character starts. At the end of the
+    /// text it is the last chunk, and its end. An empty part has no chunk: then it is the empty text. The part's counts are handed
+    /// in by who has them.
+    // Expanded where it is called: a way is half a kilobyte, and is then moved once less. Of a narrow text, which has as many
+    // bytes as characters, nothing is read: no byte of it has to be waited for.
+    #[inline(always)]
+    pub fn at(part: &Part<'a>, info: TextInfo, char_idx: usize) -> (Span<'a>, usize)
+        requires info { info ≡ info_of (breaks_of part.now) (text_of part.now) }
+        requires within { char_idx ≤ length (text_of part.now) }
+        ensures text { concat (leaves result.0) ≡ text_of part.now }
+        ensures chunks { 0 < length (text_of part.now) → leaves result.0 ≡ chunks_of part.now }
+        ensures starts { length (concat result.0.before) ≤ char_idx }
+        ensures within { char_idx ≤ length (concat result.0.before) + length result.0.here }
+        ensures byte { result.1 ≡ char_to_byte result.0.here (char_idx - length (concat result.0.before)) }
+    {
+        let (span, _, chars, _) = Span::holding(part, Unit::Char, char_idx);
+        let within = char_idx - chars;
+        let byte = if info.bytes == info.chars {
+            within
+        } else {
+            char_to_byte_idx(span.chunk(), within)
+        };
+        (span, byte)
+    }
+
+    /// The same way.
+    // Expanded where it is called, since a call would be told where the way lies.
+    #[inline(always)]
+    pub fn copy(&self) -> Span<'a>
+        ensures { result ≡ self.now }
+    {
+        let path = Path { ..self.path };
+        Span { path, ..*self }
+    }
+
+    /// The chunk.
+    pub fn chunk(&self) -> &'a str
+        ensures { chars result.now ≡ self.now.here }
+    {
+        let leaf = self.path.leaf();
+        let low = self.from.saturating_sub(self.at);
+        let high = (self.to - self.at).min(leaf.len());
+        &leaf[low..high]
+    }
+
+    /// Goes to the next chunk, or backward to the one before. Answers whether there is one; else it stays.
+    pub fn step(&mut self, is_backward: bool) -> bool
+        ensures moved { OnTrue result (IsBeside is_backward self.old self.new) }
+        ensures stays { OnFalse result (self.new ≡ self.old) }
+        ensures ended { OnFalse result (IsLast is_backward self.old) }
+    {
+        if is_backward {
+            if self.at <= self.from || !self.path.step(true) {
+                return false;
+            }
+            self.at -= self.path.leaf().len();
+            return true;
+        }
+        let len = self.path.leaf().len();
+        if self.to - self.at <= len || !self.path.step(false) {
+            return false;
+        }
+        self.at += len;
+        true
     }
 }

@@ -1,13 +1,14 @@
 //! The bytes of a part, in pieces. No step takes memory.
-ghost use Rattle.std.specs.Prelude.{◌≡◌, ◌++◌, [], length};
+ghost use Rattle.std.specs.Prelude.{◌≡◌, ◌++◌, ◌∷◌, [], All, length, IfSome, IfNone};
 ghost use Rattle.std.specs.Str.{chars, encode_utf8_all};
 ghost use Rattle.rope_part.specs.Part.{text_of};
+ghost use Rattle.rope_cursor.specs.Path.{leaves_below, IsLow};
+ghost use Rattle.rope_cursor.specs.Pieces.{ahead_of};
 
-use crate::path::Path;
-use crate::walk::Walk;
+use crate::path::{Path, lowest_text};
 use rope_part::Part;
 use rope_text::MAX_BYTES;
-use rope_tree::Unit;
+use rope_tree::{Node, Unit};
 use std::marker::Model;
 
 // Of so many bytes it pays to read the heads of more leaves than the next one side by side; of fewer most may not be needed.
@@ -20,24 +21,64 @@ pub fn bytes_of(chunk: &str) -> &[u8]
     chunk.as_bytes()
 }
 
+// Goes on to the leaf after a path, and, on a way that goes far, past those beside it, whose heads are all read then. Answers
+// the leaf and these. Never inlined: a step mostly takes one of the siblings, and is kept short.
+#[inline(never)]
+fn leave_node<'a>(path: &mut Path<'a>, is_far: bool) -> Option<(&'a str, &'a [Node])>
+    ensures leaves { IfSome result (λ found. All (λ rc. IsLow rc 0) found.1.now) }
+    ensures some { IfSome result (λ found. path.old.after ≡ chars found.0.now ∷ (leaves_below found.1.now ++ path.new.after)) }
+    ensures none { IfNone result ((path.old.after ≡ []) × (path.new ≡ path.old)) }
+{
+    if !path.step(false) {
+        return None;
+    }
+    let leaf = path.leaf();
+    let siblings = if is_far { path.pass_siblings() } else { &[] };
+    Some((leaf, siblings))
+}
+
+// The next leaf, of those beside the path first, or none at the end, where it stays. Where the way goes far, more leaves are made
+// ready.
+#[inline(always)]
+fn next_leaf<'a>(path: &mut Path<'a>, beside: &mut &'a [Node], is_far: bool) -> Option<&'a str>
+    requires { All (λ rc. IsLow rc 0) beside.old.now }
+    ensures low { All (λ rc. IsLow rc 0) beside.new.now }
+    ensures some { IfSome result (λ text. ahead_of beside.old.now path.old ≡ chars text.now ∷ ahead_of beside.new.now path.new) }
+    ensures none { IfNone result ((ahead_of beside.old.now path.old ≡ []) × (ahead_of beside.new.now path.new ≡ [])) }
+{
+    if let Some((node, rest)) = beside.split_first() {
+        *beside = rest;
+        return Some(lowest_text(node));
+    }
+    let (leaf, rest) = leave_node(path, is_far)?;
+    *beside = rest;
+    Some(leaf)
+}
+
 /// The bytes of a part from a place on, in pieces as the leaves hold them, forward only.
+///
+/// The leaves under one node are taken from the list of its children, one after the other: the path, which could turn round at any
+/// leaf, goes a step only where they end. Nothing is read before the next piece is asked for.
 #[derive(Drop)]
 pub struct Pieces<'a> {
-    walk: Walk<'a>,
+    path: Path<'a>,
+    // the leaves ahead that come before those after the path
+    beside: &'a [Node],
     // how many bytes of the leaves ahead lie in the part
     left: usize,
 }
 
 impl<'a> Model for Pieces<'a> {
-    ghost use Rattle.std.specs.Prelude.{ℕ, ◌<◌, List, All, take, length};
+    ghost use Rattle.std.specs.Prelude.{ℕ, List, take};
     ghost use Rattle.std.specs.List.{concat};
     ghost use Rattle.std.specs.Str.{encode_utf8_all};
+    ghost use Rattle.rope_cursor.specs.Pieces.{ahead_of, AreAhead};
 
     ghost Value = { List ℕ };
 
-    ghost view = { λ a. take a.left (encode_utf8_all (concat a.walk)) };
+    ghost view = { λ a. take a.left (encode_utf8_all (concat (ahead_of a.beside.now a.path))) };
 
-    ghost invariant = { λ a. All (λ leaf. 0 < length leaf) a.walk };
+    ghost invariant = { λ a. AreAhead a.beside.now a.path };
 }
 
 impl<'a> Pieces<'a> {
@@ -56,9 +97,9 @@ impl<'a> Pieces<'a> {
                 let (_, front) = bytes_of(path.leaf()).split_at(start - before.bytes);
                 let count = front.len().min(size);
                 let (piece, _) = front.split_at(count);
-                let walk = Walk::after(path);
+                let beside: &[Node] = &[];
                 let left = size - count;
-                (piece, Pieces { walk, left })
+                (piece, Pieces { path, beside, left })
             }
             Part::Alone(plain) => Pieces::of_text(plain.text),
         }
@@ -69,8 +110,9 @@ impl<'a> Pieces<'a> {
         ensures bytes { result.0.now ++ result.1 ≡ encode_utf8_all (chars text.now) }
         ensures some { length result.0.now ≡ 0 → result.1 ≡ [] }
     {
-        let walk = Walk::after(Path::text(text));
-        (bytes_of(text), Pieces { walk, left: 0 })
+        let (path, left) = (Path::text(text), 0);
+        let beside: &[Node] = &[];
+        (bytes_of(text), Pieces { path, beside, left })
     }
 
     /// The next piece; an empty one only at the end, where it stays.
@@ -82,7 +124,8 @@ impl<'a> Pieces<'a> {
         if self.left == 0 {
             return &[];
         }
-        let Some(leaf) = self.walk.next_leaf(self.left > MANY_BYTES) else {
+        let is_far = self.left > MANY_BYTES;
+        let Some(leaf) = next_leaf(&mut self.path, &mut self.beside, is_far) else {
             return &[];
         };
         let bytes = bytes_of(leaf);

@@ -4,7 +4,7 @@ ghost use Rattle.std.specs.Str.{IsCharBoundary};
 ghost use Rattle.rope_cursor.specs.Path.{IsBeside, IsLast};
 ghost use Rattle.rope_cursor.specs.Point.{IsChunkAt, IsCharBetween};
 
-use crate::span::Span;
+use crate::path::Span;
 
 // The end of so many places, to the left or to the right.
 #[inline(always)]
@@ -55,15 +55,6 @@ pub(crate) fn char_after(text: &str, at: usize) -> (char, usize)
     if byte < 0x80 {
         return (byte as char, at + 1);
     }
-    wide_char_after(text, at)
-}
-
-// The same of any character, as of those of two bytes or more.
-fn wide_char_after(text: &str, at: usize) -> (char, usize)
-    requires within { at < length text.now }
-    requires cut { IsCharBoundary text.now at }
-    ensures { IsCharBetween text.now at result.1 result.0 }
-{
     let mut rest = text[at..].chars();
     let Some(c) = rest.next() else {
         unreachable!();
@@ -81,15 +72,6 @@ pub(crate) fn char_before(text: &str, at: usize) -> (char, usize)
     if byte < 0x80 {
         return (byte as char, at - 1);
     }
-    wide_char_before(text, at)
-}
-
-// The same of any character, as of those of two bytes or more.
-fn wide_char_before(text: &str, at: usize) -> (char, usize)
-    requires some { 0 < at }
-    requires cut { IsCharBoundary text.now at }
-    ensures { IsCharBetween text.now result.1 at result.0 }
-{
     let mut front = text[..at].chars();
     let Some(c) = front.next_back() else {
         unreachable!();

@@ -12,3 +12,4 @@ pub mod LeafParts
 pub mod Lookups
 pub mod Kept
 mod ChunksAt
+pub mod PartsBetween

@@ -4,4 +4,3 @@ pub mod Kept
 pub mod Stretch
 pub mod Plain
 pub mod Part
-pub mod Origin

@@ -1,15 +1,10 @@
 //! Parts of a rope's text, or of a plain text: borrowed, with lengths, lines and chunks of their own. No call takes memory.
 #![tactic(auto)]
 
-mod conversions;
-mod edge;
-mod items;
-pub mod origin;
 pub mod part;
 pub mod plain;
 pub mod stretch;
 
-pub use origin::Origin;
 pub use part::Part;
 pub use plain::Plain;
 pub use stretch::Stretch;

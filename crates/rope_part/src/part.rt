@@ -1,19 +1,25 @@
 //! A part of a text.
-ghost use Rattle.std.specs.Prelude.{◌≡◌, ◌≤◌, ◌<◌, ◌+◌, length};
+ghost use Rattle.std.specs.Prelude.{◌≡◌, ◌≤◌, ◌<◌, ◌+◌, length, slice_get, take, drop, true, false, Some, OnSome, IfSome, IfNone};
 ghost use Rattle.std.specs.List.{slice_range};
-ghost use Rattle.std.specs.Str.{chars};
-ghost use Rattle.rope_text.specs.Text.{byte_len, utf16_len};
+ghost use Rattle.std.specs.Str.{chars, encode_utf8_all};
+ghost use Rattle.rope_text.specs.Text.{byte_len};
 ghost use Rattle.rope_text.specs.TextInfo.{info_of};
 ghost use Rattle.rope_text.specs.Lines.{line_count};
 ghost use Rattle.rope_text.specs.Conversions.{byte_to_char};
-ghost use Rattle.rope_text.specs.Cutting.{clip, single_chunk};
+ghost use Rattle.rope_text.specs.Cutting.{clip, single_chunk, parts_crlf};
+ghost use Rattle.rope_text.specs.LineParts.{part_between, line_of};
+ghost use Rattle.rope_text.specs.Edit.{is_char_boundary};
+ghost use Rattle.rope_text.specs.Lookup.{found_chunk, chunk_index_at_line_break};
+ghost use Rattle.rope_tree.specs.Conversions.{end_index, are_converted, converted};
 ghost use Rattle.rope_tree.specs.Tree.{text};
 ghost use Rattle.rope_part.specs.Edge.{line_info};
+ghost use Rattle.rope_part.specs.Found.{IsFoundChunk, MayHold, chunk_index};
 
 use crate::plain::Plain;
 use crate::stretch::Stretch;
-use rope_text::{LineBreaks, TextInfo};
-use rope_tree::{Node, Unit};
+use rope_text::str_utils::{byte_len_of, char_to_byte_idx, first_char};
+use rope_text::{LineBreaks, Steps, TextInfo};
+use rope_tree::{Node, Unit, byte_at, char_at, convert, convert_in, count, first_sought, leaf_at};
 
 /// A part of a rope's text, or of a plain text. It counts its own text: one that ends after the CR of a CR LF has that CR
 /// as a line break, and one that starts at the LF has that LF, where they are breaks of its set.
@@ -37,7 +43,8 @@ impl<'a> Part<'a> {
         ensures chunks { chunks_of result ≡ single_chunk (chars text.now) }
         ensures breaks { breaks_of result ≡ breaks }
     {
-        Part::Alone(Plain::new(text, breaks))
+        let info = TextInfo::from_str(text, breaks);
+        Part::Alone(Plain { text, info, breaks })
     }
 
     /// The whole text of a tree.
@@ -73,22 +80,12 @@ impl<'a> Part<'a> {
     {
         match self {
             Part::InTree(stretch) => stretch.info(),
-            Part::Alone(plain) => plain.info(),
+            Part::Alone(plain) => {
+                // a proof needs how long a text in memory may be
+                let _ = plain.as_str().as_bytes();
+                plain.info
+            }
         }
-    }
-
-    /// The length in bytes. No text is read.
-    pub fn len_bytes(&self) -> usize
-        ensures { result ≡ byte_len (text_of self.now) }
-    {
-        self.info().bytes
-    }
-
-    /// The length in characters. No text is read.
-    pub fn len_chars(&self) -> usize
-        ensures { result ≡ length (text_of self.now) }
-    {
-        self.info().chars
     }
 
     /// The number of lines: one more than there are line breaks. No text is read.
@@ -96,14 +93,6 @@ impl<'a> Part<'a> {
         ensures { result ≡ line_count (breaks_of self.now) (text_of self.now) }
     {
         self.info().break_count + 1
-    }
-
-    /// The length in code units of UTF-16. No text is read.
-    pub fn len_utf16_cu(&self) -> usize
-        ensures { result ≡ utf16_len (text_of self.now) }
-    {
-        let info = self.info();
-        info.chars + info.utf16_surrogates
     }
 
     /// Its characters from `start` up to `end`, with its set of line breaks: its text and its chunks, clipped.
@@ -118,8 +107,17 @@ impl<'a> Part<'a> {
             return Part::from_str_with("", self.line_breaks());
         }
         match self {
-            Part::InTree(stretch) => Part::InTree(stretch.range(start, end)),
-            Part::Alone(plain) => Part::Alone(plain.range(start, end)),
+            Part::InTree(stretch) => Part::InTree(Stretch {
+                node: stretch.node,
+                start: stretch.start_of(start),
+                end: stretch.end_of(end),
+            }),
+            Part::Alone(plain) => {
+                let text = plain.as_str();
+                let rest = &text[char_to_byte_idx(text, start)..];
+                let len = char_to_byte_idx(rest, end - start);
+                Part::from_str_with(&rest[..len], plain.breaks)
+            }
         }
     }
 
@@ -150,9 +148,8 @@ impl<'a> Part<'a> {
         }
     }
 
-    /// The counts of its text before a line, and before the next one; past the last line those of all of it. One look-up in a
-    /// rope's text where the line lies in one chunk, and doesn't end it.
-    pub fn around_line(&self, line_idx: usize) -> (TextInfo, TextInfo)
+    // The counts of its text before a line, and before the next one; past the last line those of all of it.
+    fn around_line(&self, line_idx: usize) -> (TextInfo, TextInfo)
         requires { line_idx < line_count (breaks_of self.now) (text_of self.now) }
         ensures start { result.0 ≡ line_info (breaks_of self.now) (text_of self.now) line_idx }
         ensures end { result.1 ≡ line_info (breaks_of self.now) (text_of self.now) (line_idx + 1) }
@@ -163,5 +160,181 @@ impl<'a> Part<'a> {
             Part::InTree(stretch) => stretch.around_line(line_idx),
             Part::Alone(plain) => (plain.before_line(line_idx), plain.before_line(line_idx + 1)),
         }
+    }
+
+    /// The part between two of its places, by the counts of its text up to them. The first lies in no CR LF.
+    #[inline(always)]
+    pub fn between(&self, from: TextInfo, to: TextInfo) -> Part<'a>
+        requires from_is { from ≡ info_of (breaks_of self.now) (take from.chars (text_of self.now)) }
+        requires to_is { to ≡ info_of (breaks_of self.now) (take to.chars (text_of self.now)) }
+        requires ordered { from.chars ≤ to.chars }
+        requires within { to.chars ≤ length (text_of self.now) }
+        requires apart { parts_crlf (take from.chars (text_of self.now)) (drop from.chars (text_of self.now)) ≡ false }
+        ensures { content_of result ≡ part_between (content_of self.now) from.chars to.chars }
+    {
+        if from.chars == to.chars {
+            return Part::from_str_with("", self.line_breaks());
+        }
+        match self {
+            Part::InTree(stretch) => {
+                let node = stretch.node;
+                // a proof needs what `height` says of every node: how long its text may be
+                let _ = node.height();
+                let start = stretch.start.plus(from);
+                let end = stretch.start.plus(to);
+                Part::InTree(Stretch { node, start, end })
+            }
+            Part::Alone(plain) => {
+                let text = &plain.as_str()[from.bytes..to.bytes];
+                let info = to.minus(from);
+                let breaks = plain.breaks;
+                Part::Alone(Plain { text, info, breaks })
+            }
+        }
+    }
+
+    /// A line, its break among its characters. One look-up in a rope's text where it lies in one chunk, and doesn't end it.
+    pub fn line(&self, line_idx: usize) -> Part<'a>
+        requires { line_idx < line_count (breaks_of self.now) (text_of self.now) }
+        ensures { content_of result ≡ line_of (content_of self.now) line_idx }
+    {
+        let (start, end) = self.around_line(line_idx);
+        self.between(start, end)
+    }
+
+    /// The byte at a place.
+    pub fn byte(&self, byte_idx: usize) -> u8
+        requires { byte_idx < byte_len (text_of self.now) }
+        ensures { slice_get (encode_utf8_all (text_of self.now)) byte_idx ≡ Some result }
+    {
+        match self {
+            Part::InTree(stretch) => {
+                let place = stretch.place(Unit::Byte, byte_idx);
+                byte_at(stretch.node, place, &mut Steps::new())
+            }
+            Part::Alone(plain) => {
+                let bytes = plain.as_str().as_bytes();
+                bytes[byte_idx]
+            }
+        }
+    }
+
+    /// The character at a place.
+    pub fn char(&self, char_idx: usize) -> char
+        requires { char_idx < length (text_of self.now) }
+        ensures { slice_get (text_of self.now) char_idx ≡ Some result }
+    {
+        match self {
+            Part::InTree(stretch) => {
+                let place = stretch.place(Unit::Char, char_idx);
+                char_at(stretch.node, place, &mut Steps::new())
+            }
+            Part::Alone(plain) => {
+                let text = plain.as_str();
+                first_char(&text[char_to_byte_idx(text, char_idx)..])
+            }
+        }
+    }
+
+    /// The chunk that holds a byte or a character; at the end of the text the last chunk. Or the one that holds the last character
+    /// of a line break, counted from 0. With it the bytes, the characters and the line breaks that end before it. With no chunk it
+    /// is `("", 0, 0, 0)`.
+    // Expanded where it is called, by a constant: so each search is that of its unit.
+    #[inline(always)]
+    pub fn chunk_at(&self, unit: Unit, idx: usize) -> (&'a str, usize, usize, usize)
+        requires { MayHold unit (breaks_of self.now) (text_of self.now) idx }
+        ensures { IsFoundChunk (found_chunk (breaks_of self.now) (chunks_of self.now)
+            (chunk_index unit (breaks_of self.now) (chunks_of self.now) idx))
+            (chars result.0.now) result.1 result.2 result.3 }
+    {
+        match self {
+            Part::InTree(stretch) => {
+                let place = stretch.place(unit, idx).min(count(stretch.end, unit) - 1);
+                let found = leaf_at(stretch.node, unit, place, &mut Steps::new());
+                let leaf = found.leaf.as_str();
+                let before = found.before;
+                let start = stretch.start;
+                let from = start.bytes.saturating_sub(before.bytes);
+                let to = (stretch.end.bytes - before.bytes).min(leaf.len());
+                (
+                    &leaf[from..to],
+                    before.bytes.saturating_sub(start.bytes),
+                    before.chars.saturating_sub(start.chars),
+                    before.break_count.saturating_sub(start.break_count),
+                )
+            }
+            Part::Alone(plain) => (plain.text, 0, 0, 0),
+        }
+    }
+
+    /// The first chunk by whose end so many line breaks have ended; where there are fewer, the last chunk. With it the bytes,
+    /// the characters and the line breaks that end before it. With no chunk it is `("", 0, 0, 0)`.
+    ///
+    /// That chunk holds the last character of the last of these breaks.
+    pub fn chunk_at_line_break(&self, line_break_idx: usize) -> (&'a str, usize, usize, usize)
+        requires { line_break_idx ≤ line_count (breaks_of self.now) (text_of self.now) }
+        ensures { IsFoundChunk (found_chunk (breaks_of self.now) (chunks_of self.now)
+            (chunk_index_at_line_break (breaks_of self.now) (chunks_of self.now) line_break_idx))
+            (chars result.0.now) result.1 result.2 result.3 }
+    {
+        let info = self.info();
+        if line_break_idx == 0 {
+            return self.chunk_at(Unit::Char, 0);
+        }
+        if line_break_idx > info.break_count {
+            return self.chunk_at(Unit::Char, info.chars.saturating_sub(1));
+        }
+        self.chunk_at(Unit::LineBreak, line_break_idx - 1)
+    }
+
+    /// The text, where it is one chunk or none.
+    pub fn as_str(&self) -> Option<&'a str>
+        ensures one { OnSome result (length (chunks_of self.now) ≤ 1) }
+        ensures more { IfNone result (1 < length (chunks_of self.now)) }
+        ensures value { IfSome result (λ s. chars s.now ≡ text_of self.now) }
+    {
+        let len = self.info().bytes;
+        let (chunk, _, _, _) = self.chunk_at(Unit::Char, 0);
+        (byte_len_of(chunk) == len).then_some(chunk)
+    }
+
+    /// The index in the unit `to` of the place that an index in the unit `from` names: the character that holds the byte or
+    /// the code unit, the line on which the place lies, or the place at which the line starts. The index may be that of the
+    /// end, which of lines is the one past the last.
+    #[inline(always)]
+    pub fn convert(&self, from: Unit, to: Unit, idx: usize) -> usize
+        requires pair { are_converted from to ≡ true }
+        requires within { idx ≤ end_index from (breaks_of self.now) (text_of self.now) }
+        ensures { result ≡ converted from to (breaks_of self.now) (text_of self.now) idx }
+    {
+        match self {
+            // The tree's, less what lies before the start. The last line of a part that ends between a CR and its LF starts at
+            // that end, and the tree's behind the LF.
+            Part::InTree(stretch) => {
+                let first = first_sought(from);
+                if idx < first {
+                    return 0;
+                }
+                let place = stretch.place(from, idx);
+                let start = count(stretch.start, to);
+                let end = count(stretch.end, to);
+                if place - first == count(stretch.end, from) {
+                    return end - start;
+                }
+                convert(stretch.node, from, to, place, &mut Steps::new()).min(end) - start
+            }
+            Part::Alone(plain) => {
+                convert_in(plain.as_str(), plain.info, plain.breaks, from, to, idx)
+            }
+        }
+    }
+
+    /// Whether a character begins at a byte, or the text ends there.
+    pub fn is_char_boundary(&self, byte_idx: usize) -> bool
+        requires { byte_idx ≤ byte_len (text_of self.now) }
+        ensures { result ≡ is_char_boundary (text_of self.now) byte_idx }
+    {
+        let char_idx = self.convert(Unit::Byte, Unit::Char, byte_idx);
+        self.convert(Unit::Char, Unit::Byte, char_idx) == byte_idx
     }
 }

@@ -1,18 +1,31 @@
 //! Characters of a tree's text, one at least.
 ghost use Rattle.std.specs.Prelude.{◌≡◌, ◌+◌, ◌-◌, ◌≤◌, ◌<◌, length, take};
-ghost use Rattle.std.specs.List.{slice_range};
 ghost use Rattle.std.specs.Str.{chars};
 ghost use Rattle.rope_text.specs.TextInfo.{info_of};
-ghost use Rattle.rope_text.specs.Lines.{line_count};
-ghost use Rattle.rope_text.specs.Cutting.{clip};
-ghost use Rattle.rope_text.specs.Lookup.{found_chunk, chunk_index_at_char};
+ghost use Rattle.rope_text.specs.Lines.{line_start, line_count};
 ghost use Rattle.rope_tree.specs.Search.{count_of};
 ghost use Rattle.rope_tree.specs.Tree.{IsTree, text};
-ghost use Rattle.rope_part.specs.Edge.{start_info, end_info, line_info, IsStretch, IsStretch-prop};
+ghost use Rattle.rope_part.specs.Edge.{start_info, end_info, line_info, IsLeafFrom, IsStretch, IsStretch-prop};
 
-use crate::edge::{around_line, before_line, end_at, start_at};
-use rope_text::TextInfo;
-use rope_tree::{Found, Node, Unit, count};
+use rope_text::str_utils::count_surrogates;
+use rope_text::{Steps, TextInfo};
+use rope_tree::{Found, Node, Unit, count, leaf_at};
+
+// The counts of the text before a line that is not the first, and from there on the leaf in which the break before it ends.
+fn line_start_at(node: &Node, line_idx: usize) -> (TextInfo, &str)
+    requires later { 0 < line_idx }
+    requires within { line_idx < line_count node.now.breaks (text node.now) }
+    ensures before { result.0 ≡ line_info node.now.breaks (text node.now) line_idx }
+    ensures rest { IsLeafFrom node.now (line_start node.now.breaks (text node.now) line_idx) (chars result.1.now) }
+{
+    // a proof needs what `height` says of every node
+    let _ = node.height();
+    let found = leaf_at(node, Unit::LineBreak, line_idx - 1, &mut Steps::new());
+    let leaf = found.leaf.as_str();
+    let line = line_idx - found.before.break_count;
+    let front = TextInfo::before_line(leaf, line, node.line_breaks());
+    (found.before.plus(front), &leaf[front.bytes..])
+}
 
 /// Characters of a tree's text, one at least. It keeps the counts of the text before their start and before their end, so
 /// that a length is a difference of two of them, and a conversion is one of the tree's.
@@ -29,13 +42,12 @@ pub struct Stretch<'a> {
 
 impl<'a> Stretch<'a> {
     ghost use Rattle.rope_text.specs.declared.TheConstants.{MAX_HEIGHT};
-    ghost use Rattle.rope_part.specs.Found.{IsFoundChunk, MeetsLeaf, first_in};
     ghost use Rattle.rope_part.specs.Kept.{IsPart};
-    ghost use Rattle.rope_part.specs.Stretch.{content_of, text_of, chunks_of, breaks_of};
+    ghost use Rattle.rope_part.specs.Stretch.{content_of, text_of, breaks_of};
 
     /// A place of its text, as one of the tree's. Of lines it may be the one past the last.
     #[inline(always)]
-    pub(crate) fn place(&self, unit: Unit, idx: usize) -> usize
+    pub fn place(&self, unit: Unit, idx: usize) -> usize
         requires { idx ≤ count_of unit (info_of (breaks_of self.now) (text_of self.now)) + 1 }
         ensures value { result ≡ count_of unit self.now.start + idx }
         ensures low { self.now.node.now.height ≤ MAX_HEIGHT }
@@ -56,19 +68,32 @@ impl<'a> Stretch<'a> {
         self.end.minus(self.start)
     }
 
-    // The counts before the start of its part from a character on.
-    fn start_of(&self, char_idx: usize) -> TextInfo
+    /// The counts before the start of its part from a character on.
+    pub(crate) fn start_of(&self, char_idx: usize) -> TextInfo
         requires { char_idx < length (text_of self.now) }
         ensures { result ≡ start_info self.now.node.now.breaks (text self.now.node.now) (self.now.start.chars + char_idx) }
     {
         if char_idx == 0 {
             return self.start;
         }
-        start_at(self.node, self.place(Unit::Char, char_idx))
+        let place = self.place(Unit::Char, char_idx);
+        let found = leaf_at(self.node, Unit::Char, place, &mut Steps::new());
+        let leaf = found.leaf.as_str();
+        let chars = place - found.before.chars;
+        let bytes = found.leaf.char_to_byte_idx(chars);
+        let lines = found.leaf.char_to_line_with(chars, self.node.line_breaks());
+        // a front with as many bytes as characters has no pairs
+        let wide = if chars == bytes { "" } else { &leaf[..bytes] };
+        TextInfo {
+            bytes: found.before.bytes + bytes,
+            chars: place,
+            utf16_surrogates: found.before.utf16_surrogates + count_surrogates(wide),
+            break_count: found.before.break_count + lines,
+        }
     }
 
-    // The counts before the end of its part up to a character.
-    fn end_of(&self, char_idx: usize) -> TextInfo
+    /// The counts before the end of its part up to a character.
+    pub(crate) fn end_of(&self, char_idx: usize) -> TextInfo
         requires { char_idx ≤ length (text_of self.now) }
         ensures { result ≡ end_info self.now.node.now.breaks (text self.now.node.now) (self.now.start.chars + char_idx) }
     {
@@ -76,42 +101,11 @@ impl<'a> Stretch<'a> {
         if place == self.end.chars {
             return self.end;
         }
-        end_at(self.node, place)
-    }
-
-    /// Its characters from `start` up to `end`.
-    pub fn range(&self, start: usize, end: usize) -> Stretch<'a>
-        requires some { start < end }
-        requires within { end ≤ length (text_of self.now) }
-        ensures text { text_of result ≡ slice_range (text_of self.now) start end }
-        ensures chunks { chunks_of result ≡ clip (chunks_of self.now) start end }
-        ensures breaks { breaks_of result ≡ breaks_of self.now }
-    {
-        Stretch {
-            node: self.node,
-            start: self.start_of(start),
-            end: self.end_of(end),
-        }
-    }
-
-    /// What of a leaf lies in it, and the counts of its text before that.
-    pub(crate) fn chunk_in(&self, found: Found<'a>) -> (&'a str, usize, usize, usize)
-        requires tree { IsTree self.now.node.now }
-        requires meets { MeetsLeaf self.now found.leaf found.before }
-        ensures { IsFoundChunk (found_chunk (breaks_of self.now) (chunks_of self.now)
-            (chunk_index_at_char (chunks_of self.now) (first_in self.now found.entry.before)))
-            (chars result.0.now) result.1 result.2 result.3 }
-    {
+        let found = leaf_at(self.node, Unit::Char, place, &mut Steps::new());
         let leaf = found.leaf.as_str();
-        let before = found.before;
-        let from = self.start.bytes.saturating_sub(before.bytes);
-        let to = (self.end.bytes - before.bytes).min(leaf.len());
-        (
-            &leaf[from..to],
-            before.bytes.saturating_sub(self.start.bytes),
-            before.chars.saturating_sub(self.start.chars),
-            before.break_count.saturating_sub(self.start.break_count),
-        )
+        let bytes = found.leaf.char_to_byte_idx(place - found.before.chars);
+        let front = TextInfo::from_str(&leaf[..bytes], self.node.line_breaks());
+        found.before.plus(front)
     }
 
     // The counts of its text up to a place of the tree's text behind its start; past its end those of all of it.
@@ -135,10 +129,16 @@ impl<'a> Stretch<'a> {
         if line_idx == 0 {
             return TextInfo::new();
         }
-        self.counts_to(before_line(self.node, self.place(Unit::LineBreak, line_idx)))
+        let info = self.info();
+        if line_idx > info.break_count {
+            return info;
+        }
+        let place = self.place(Unit::LineBreak, line_idx);
+        self.counts_to(line_start_at(self.node, place).0)
     }
 
-    /// The counts of its text before a line, and before the next one; past the last line those of all of it.
+    /// The counts of its text before a line, and before the next one; past the last line those of all of it. It is one look-up
+    /// where the line ends before the leaf does.
     pub fn around_line(&self, line_idx: usize) -> (TextInfo, TextInfo)
         requires { line_idx < line_count (breaks_of self.now) (text_of self.now) }
         ensures start { result.0 ≡ line_info (breaks_of self.now) (text_of self.now) line_idx }
@@ -147,7 +147,12 @@ impl<'a> Stretch<'a> {
         if line_idx == 0 {
             return (TextInfo::new(), self.before_line(1));
         }
-        let (start, end) = around_line(self.node, self.place(Unit::LineBreak, line_idx));
-        (self.counts_to(start), self.counts_to(end))
+        let (start, rest) = line_start_at(self.node, self.place(Unit::LineBreak, line_idx));
+        let line = TextInfo::of_first_line(rest, self.node.line_breaks());
+        let before = self.counts_to(start);
+        if line.break_count == 0 {
+            return (before, self.before_line(line_idx + 1));
+        }
+        (before, self.counts_to(start.plus(line)))
     }
 }

@@ -10,12 +10,11 @@ ghost use Rattle.rope_text.specs.Lines.{line_count};
 ghost use Rattle.rope_text.specs.Cutting.{single_chunk};
 ghost use Rattle.rope_tree.specs.Tree.{text};
 ghost use Rattle.rope_part.specs.Kept.{IsPart};
-ghost use Rattle.rope_part.specs.Origin.{IsOrigin};
 ghost use Rattle.rope_slice.specs.Found.{GivesWithin, GivesUnless};
 ghost use Rattle.rope_text.specs.Edit.{range_start, range_end, given, is_char_boundary, char_range_error, byte_range_error};
 ghost use Rattle.rope_slice.specs.Sliced.{IsCharRange, IsByteRange};
 
-use rope_part::{Origin, Part};
+use rope_part::Part;
 use rope_text::range::char_bounds;
 use rope_text::{Error, IndexRange, LineBreaks, Result};
 use rope_tree::Node;
@@ -35,7 +34,8 @@ pub(crate) fn within(idx: usize, len: usize) -> Option<usize>
 /// memory.
 #[derive(Clone, Copy)]
 pub struct RopeSlice<'a> {
-    pub(crate) part: Part<'a>,
+    /// What it shows: a part of a tree's text, or a plain text.
+    pub part: Part<'a>,
 }
 
 impl<'a> RopeSlice<'a> {
@@ -62,13 +62,6 @@ impl<'a> RopeSlice<'a> {
         RopeSlice { part }
     }
 
-    /// What it is a slice of: a tree or a plain text, and the place in it. Takes constant time and no memory.
-    pub fn origin(&self) -> Origin<'a>
-        ensures { IsOrigin (content_of self.now) result }
-    {
-        self.part.origin()
-    }
-
     /// The set of line breaks by which lines are counted. Takes constant time and no memory.
     pub fn line_breaks(&self) -> LineBreaks
         ensures { result ≡ breaks_of self.now }
@@ -88,7 +81,7 @@ impl<'a> RopeSlice<'a> {
     pub fn len_chars(&self) -> usize
         ensures { result ≡ length (text_of self.now) }
     {
-        self.part.len_chars()
+        self.part.info().chars
     }
 
     /// The number of lines: one more than there are line breaks. Takes constant time and no memory.
@@ -102,7 +95,8 @@ impl<'a> RopeSlice<'a> {
     pub fn len_utf16_cu(&self) -> usize
         ensures { result ≡ utf16_len (text_of self.now) }
     {
-        self.part.len_utf16_cu()
+        let info = self.part.info();
+        info.chars + info.utf16_surrogates
     }
 
     /// The characters of a range, as a slice that borrows them: their text, the chunks clipped to them, and the

@@ -21,7 +21,7 @@ ghost use Rattle.rope_text.specs.Sides.{at_start, at_place};
 use crate::rope::Rope;
 use rope_cursor::{Bytes, Chars};
 use rope_join::cut::between;
-use rope_part::Origin;
+use rope_part::{Part, Stretch};
 use rope_slice::{ChunksAt, Lines, RopeSlice};
 use rope_text::{IndexRange, Result};
 use rope_tree::Maker;
@@ -105,12 +105,12 @@ impl Rope {
         ensures kept { IfOk result IsRope }
         ensures err { IfErr result (λ e. e ≡ OutOfMemory) }
     {
-        match slice.origin() {
-            Origin::Tree(node, start, end) => {
-                let root = between(&mut Maker::new(alloc), node, start, end)?;
+        match slice.part {
+            Part::InTree(Stretch { node, start, end }) => {
+                let root = between(&mut Maker::new(alloc), node, start.chars, end.chars)?;
                 Ok(Rope { root, alloc })
             }
-            Origin::Text(text) => Rope::from_str_with(alloc, text, slice.line_breaks()),
+            Part::Alone(plain) => Rope::from_str_with(alloc, plain.text, plain.breaks),
         }
     }
 

@@ -8,19 +8,19 @@ use Rattle.rope_cursor.proofs.chunks.Chunks.at_line_break.Goals as goal
 
 pub at-requires-clause-within : goal.at-requires-clause-within
 at-requires-clause-within c =
-    let least = line_start-le-length (breaks_of c.args.part.now) (text_of c.args.part.now) c.args.line_break_idx in
+    let least = line_start-le-length (breaks_of c.args.part.now) (text_of c.args.part.now) c.args.break_idx in
     elim c.if-is_past.branch [
       | then-is_past w ↦ omega (arith, w.char_idx-is, c.convert-start.ensures, least)
-      | else-is_past w ↦ omega (arith, w.char_idx-is, w.saturating_sub-char_idx.ensures, c.convert-start.ensures, least)
+      | else-is_past w ↦ omega (arith, w.char_idx-is, c.saturating_sub-before.ensures, c.convert-start.ensures, least)
     ]
 
-place_is : (c : After-at) → chunk_place_at_char (chunks_of c.args.part.now) c.if-is_past.char_idx ≡ chunk_place_at_line_break (breaks_of c.args.part.now) (chunks_of c.args.part.now) c.args.line_break_idx
+place_is : (c : After-at) → chunk_place_at_char (chunks_of c.args.part.now) c.if-is_past.char_idx ≡ chunk_place_at_line_break (breaks_of c.args.part.now) (chunks_of c.args.part.now) c.args.break_idx
 place_is c =
     let part = c.args.part.now in
     let cut = c.at.ensures.cut in
     elim c.if-is_past.branch [
-      | then-is_past w ↦ line_break_end (breaks_of part) (text_of part) (chunks_of part) cut c.args.line_break_idx c.if-is_past.char_idx (omega (arith, w.if-is_past.true, c.len_lines.ensures)) (w.char_idx-is ∙ c.convert-start.ensures)
-      | else-is_past w ↦ line_break_place (breaks_of part) (text_of part) (chunks_of part) cut c.args.line_break_idx c.if-is_past.char_idx (omega (arith, c.requires, w.if-is_past.false, c.len_lines.ensures)) (w.char_idx-is ∙ w.saturating_sub-char_idx.ensures ∙ ap (λ n. n - 1) c.convert-start.ensures)
+      | then-is_past w ↦ line_break_end (breaks_of part) (text_of part) (chunks_of part) cut c.args.break_idx c.if-is_past.char_idx (omega (arith, w.if-is_past.true, ap (λ x. x.break_count) c.info.ensures.value)) (w.char_idx-is ∙ c.convert-start.ensures)
+      | else-is_past w ↦ line_break_place (breaks_of part) (text_of part) (chunks_of part) cut c.args.break_idx c.if-is_past.char_idx (omega (arith, c.requires, w.if-is_past.false, ap (λ x. x.break_count) c.info.ensures.value)) (w.char_idx-is ∙ c.saturating_sub-before.ensures ∙ ap (λ n. n - 1) c.convert-start.ensures)
     ]
 
 pub returns : goal.returns

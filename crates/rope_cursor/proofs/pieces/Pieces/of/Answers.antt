@@ -1,12 +1,15 @@
 use Rattle.std.proofs.Common.{◌≡◌, ◌-◌, ◌<◌, length, drop, ap, sym, ◌∙◌, arith}
 use Rattle.std.specs.Str.{encode_utf8_all}
+use Rattle.std.proofs.lemmas.List.Elements.{All-nil}
 use Rattle.rope_text.specs.Text.{byte_len}
+use Rattle.rope_tree.specs.Tree.{Tree}
 use Rattle.rope_part.proofs.Measured.{measured}
+use Rattle.rope_cursor.specs.Path.{IsLow}
 use Rattle.rope_cursor.proofs.PiecesAhead.{starts_here, stretch_bytes, some_here, solid_after, none_left}
-use Rattle.rope_cursor.proofs.pieces.Pieces.of.Goals.{After-after-walk}
+use Rattle.rope_cursor.proofs.pieces.Pieces.of.Goals.{After-split_at-in-InTree}
 use Rattle.rope_cursor.proofs.pieces.Pieces.of.Goals as goal
 
-front_is : (c : After-after-walk) → c.split_at.result.1.now ≡ drop (c.in-InTree.stretch.start.bytes - c.at-path.result.1.bytes) (encode_utf8_all c.at-path.result.0.here)
+front_is : (c : After-split_at-in-InTree) → c.split_at.result.1.now ≡ drop (c.in-InTree.stretch.start.bytes - c.at-path.result.1.bytes) (encode_utf8_all c.at-path.result.0.here)
 front_is c = c.split_at.ensures.back ∙ ap (drop (c.in-InTree.stretch.start.bytes - c.at-path.result.1.bytes)) (c.bytes_of.ensures ∙ ap encode_utf8_all c.leaf.ensures)
 
 pub overflow_sub-size : goal.overflow_sub-size
@@ -25,20 +28,23 @@ pub invariant_of-result : goal.invariant_of-result
 invariant_of-result c =
     let s = c.in-InTree.stretch in
     let h = c.at-path.ensures in
-    rw c.after-walk.ensures (solid_after s.node.now s.start s.end c.at-path.result.0 c.at-path.result.1 c.height.ensures.tree s.is_stretch h.leaves h.holds)
+    record {
+      low = All-nil (λ (rc : Tree). IsLow rc 0);
+      solid = solid_after s.node.now s.start s.end c.at-path.result.0 c.at-path.result.1 c.height.ensures.tree s.is_stretch h.leaves h.holds;
+    }
 
 pub returns-in-InTree-clause-bytes : goal.returns-in-InTree-clause-bytes
 returns-in-InTree-clause-bytes c =
     let s = c.in-InTree.stretch in
     let h = c.at-path.ensures in
-    let front = front_is (goal.at.returns-in-InTree-clause-bytes c).After-after-walk in
-    rw (c.in-InTree.is, c.split_at-in-InTree.ensures.front, front, c.after-walk.ensures)
+    let front = front_is (goal.at.returns-in-InTree-clause-bytes c).After-split_at-in-InTree in
+    rw (c.in-InTree.is, c.split_at-in-InTree.ensures.front, front)
     (stretch_bytes s.node.now s.start s.end c.at-path.result.0 c.at-path.result.1 c.height.ensures.tree s.is_stretch h.leaves h.holds c.min-count.result (rw front at c.min-count.ensures))
 
 pub returns-in-InTree-clause-some : goal.returns-in-InTree-clause-some
 returns-in-InTree-clause-some c none =
     let s = c.in-InTree.stretch in
     let h = c.at-path.ensures in
-    let front = front_is (goal.at.returns-in-InTree-clause-some c).After-after-walk in
+    let front = front_is (goal.at.returns-in-InTree-clause-some c).After-split_at-in-InTree in
     let some : 0 < length c.split_at.result.1.now = rw front (some_here s.node.now s.start s.end c.at-path.result.0 c.at-path.result.1 c.height.ensures.tree s.is_stretch h.leaves h.holds) in
     none_left c.split_at.result.1.now _ (s.end.bytes - s.start.bytes) c.min-count.result c.min-count.ensures some (ap length (sym c.split_at-in-InTree.ensures.front) ∙ none)

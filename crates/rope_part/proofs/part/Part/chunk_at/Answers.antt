@@ -1,11 +1,16 @@
-use Rattle.std.proofs.Common.{◌≡◌, ◌+◌, ◌-◌, min, refl, arith}
+use Rattle.std.proofs.Common.{◌≡◌, ◌+◌, ◌-◌, ◌∙◌, ℕ, min, length, refl, ap, sym, arith}
 use Rattle.std.specs.Str.{chars}
+use Rattle.rope_text.specs.Text.{byte_len}
+use Rattle.rope_text.proofs.Measures.{IsMeasure-byte_len, size_le}
+use Rattle.rope_text.proofs.Walks.{byte_len-chars}
 use Rattle.rope_tree.specs.Search.{count_of}
+use Rattle.rope_part.proofs.ChunkParts.{chars_of_part, boundary_of}
+use Rattle.rope_part.proofs.LeafParts.{LeafIn, leaf_in}
 use Rattle.rope_part.proofs.Lookups.{found_single}
 use Rattle.rope_part.proofs.Places.{small_end}
 use Rattle.rope_part.proofs.Kept.{stretch_kept}
 use Rattle.rope_part.proofs.ChunksAt.{HoldsIt, some_in, place_in, holds_in, index_single}
-use Rattle.rope_part.proofs.part.Part.chunk_at.Goals.{After-min-place, After-leaf_at}
+use Rattle.rope_part.proofs.part.Part.chunk_at.Goals.{After-min-place, After-as_str-leaf, After-saturating_sub-from, After-min-to}
 use Rattle.rope_part.proofs.part.Part.chunk_at.Goals as goal
 
 pub count-requires : goal.count-requires
@@ -21,28 +26,70 @@ overflow_sub-count c =
 place_is : (c : After-min-place) → let s = c.in-InTree.stretch in c.min-place.result ≡ min (count_of c.args.unit s.start + c.args.idx) (count_of c.args.unit s.end - 1)
 place_is c = rw (c.place.ensures.value, c.count.ensures) at c.min-place.ensures
 
-holds : (c : After-leaf_at) → let s = c.in-InTree.stretch in HoldsIt c.args.unit s.node.now s.start s.end c.leaf_at.result.leaf c.leaf_at.result.before c.args.idx
+holds : (c : After-as_str-leaf) → let s = c.in-InTree.stretch in HoldsIt c.args.unit s.node.now s.start s.end c.leaf_at-found.result.leaf c.leaf_at-found.result.before c.args.idx
 holds c =
     let s = c.in-InTree.stretch in
     holds_in s.node.now s.start s.end s.is_stretch c.args.idx c.min-place.result c.args.unit (rw c.in-InTree.is at c.requires) (rw (c.place.ensures.value, c.count.ensures) at c.min-place.ensures)
-    c.leaf_at.result.leaf c.leaf_at.result.before c.place.ensures.tree c.leaf_at.ensures.found
+    c.leaf_at-found.result.leaf c.leaf_at-found.result.before c.place.ensures.tree c.leaf_at-found.ensures.found
 
-pub leaf_at-requires-clause-within : goal.leaf_at-requires-clause-within
-leaf_at-requires-clause-within c =
+pub leaf_at-found-requires-clause-within : goal.leaf_at-found-requires-clause-within
+leaf_at-found-requires-clause-within c =
     let s = c.in-InTree.stretch in
-    place_in s.node.now s.start s.end s.is_stretch c.args.idx c.min-place.result c.args.unit (rw c.in-InTree.is at c.requires) (place_is (goal.at.leaf_at-requires-clause-within c).After-min-place)
+    place_in s.node.now s.start s.end s.is_stretch c.args.idx c.min-place.result c.args.unit (rw c.in-InTree.is at c.requires) (place_is (goal.at.leaf_at-found-requires-clause-within c).After-min-place)
 
-pub chunk_in-requires-clause-meets : goal.chunk_in-requires-clause-meets
-chunk_in-requires-clause-meets c =
-    let f = c.leaf_at.ensures.found in
-    let h = holds (goal.at.chunk_in-requires-clause-meets c).After-leaf_at in
-    record { index = f.index; within = f.within; leaf_is = f.leaf_is; before_is = f.before_is; starts = h.starts; ends = h.ends }
+part : (c : After-as_str-leaf) → LeafIn c.in-InTree.stretch.node.now c.in-InTree.stretch.start c.in-InTree.stretch.end c.leaf_at-found.result.leaf c.leaf_at-found.result.before
+part c =
+    let s = c.in-InTree.stretch in
+    let f = c.leaf_at-found.ensures.found in
+    let h = holds c in
+    leaf_in s.node.now s.start s.end c.leaf_at-found.result.leaf c.leaf_at-found.result.before c.place.ensures.tree s.is_stretch f.index f.within f.leaf_is f.before_is h.starts h.ends
+
+size : (c : After-as_str-leaf) → length c.as_str-leaf.result.now ≡ byte_len c.leaf_at-found.result.leaf
+size c = sym (byte_len-chars c.as_str-leaf.result.now c.as_str-leaf.utf8) ∙ ap byte_len c.as_str-leaf.ensures.chars
+
+pub overflow_sub-stretch : goal.overflow_sub-stretch
+overflow_sub-stretch c = (part (goal.at.overflow_sub-stretch c).After-as_str-leaf).in_order
+
+pub range-requires-clause-start_le_end : goal.range-requires-clause-start_le_end
+range-requires-clause-start_le_end c =
+    let p = part (goal.at.range-requires-clause-start_le_end c).After-as_str-leaf in
+    let long = size (goal.at.range-requires-clause-start_le_end c).After-as_str-leaf in
+    omega (
+      arith,
+      p.some,
+      p.from_bytes,
+      p.to_bytes,
+      c.saturating_sub-from.ensures,
+      c.min-to.ensures,
+      size_le byte_len IsMeasure-byte_len c.leaf_at-found.result.leaf (c.in-InTree.stretch.start.chars - c.leaf_at-found.result.before.chars) (c.in-InTree.stretch.end.chars - c.leaf_at-found.result.before.chars) (omega arith),
+    )
+
+pub range-requires-clause-start_boundary : goal.range-requires-clause-start_boundary
+range-requires-clause-start_boundary c =
+    let p = part (goal.at.range-requires-clause-start_boundary c).After-as_str-leaf in
+    λ _. boundary_of c.as_str-leaf.result.now c.leaf_at-found.result.leaf (c.in-InTree.stretch.start.chars - c.leaf_at-found.result.before.chars) c.saturating_sub-from.result c.as_str-leaf.utf8 c.as_str-leaf.ensures.chars
+    (c.saturating_sub-from.ensures ∙ sym p.from_bytes)
+
+pub range-requires-clause-end_boundary : goal.range-requires-clause-end_boundary
+range-requires-clause-end_boundary c =
+    let p = part (goal.at.range-requires-clause-end_boundary c).After-as_str-leaf in
+    let long = size (goal.at.range-requires-clause-end_boundary c).After-as_str-leaf in
+    boundary_of c.as_str-leaf.result.now c.leaf_at-found.result.leaf (c.in-InTree.stretch.end.chars - c.leaf_at-found.result.before.chars) c.min-to.result c.as_str-leaf.utf8 c.as_str-leaf.ensures.chars
+    (omega (arith, c.min-to.ensures, p.to_bytes))
 
 pub returns-in-InTree : goal.returns-in-InTree
 returns-in-InTree c =
     let s = c.in-InTree.stretch in
-    let h = holds (goal.at.returns-in-InTree c).After-leaf_at in
-    rw c.in-InTree.is (rw (h.index_is (stretch_kept s.node.now s.start s.end c.place.ensures.tree s.is_stretch).cut.nonempty) c.chunk_in.ensures)
+    let h = holds (goal.at.returns-in-InTree c).After-as_str-leaf in
+    let p = part (goal.at.returns-in-InTree c).After-as_str-leaf in
+    let long = size (goal.at.returns-in-InTree c).After-as_str-leaf in
+    let i : ℕ = c.in-InTree.stretch.start.chars - c.leaf_at-found.result.before.chars in
+    let j : ℕ = c.in-InTree.stretch.end.chars - c.leaf_at-found.result.before.chars in
+    let some = p.some in
+    rw c.in-InTree.is (rw (h.index_is (stretch_kept s.node.now s.start s.end c.place.ensures.tree s.is_stretch).cut.nonempty) (p.found _ _ _ _
+    (chars_of_part c.as_str-leaf.result.now c.leaf_at-found.result.leaf c.range.result.now i j c.saturating_sub-from.result c.min-to.result c.as_str-leaf.utf8 c.as_str-leaf.ensures.chars (omega arith)
+    (c.saturating_sub-from.ensures ∙ sym p.from_bytes) (omega (arith, c.min-to.ensures, p.to_bytes)) c.range.ensures.value)
+    c.saturating_sub.ensures c.saturating_sub-in-InTree.ensures c.saturating_sub-in-InTree-2.ensures))
 
 pub returns-in-Alone : goal.returns-in-Alone
 returns-in-Alone c =

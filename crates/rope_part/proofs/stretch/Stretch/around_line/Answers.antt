@@ -1,26 +1,53 @@
-use Rattle.std.proofs.Common.{◌≡◌, ◌+◌, ◌∙◌, take, sym, ap, arith}
-use Rattle.rope_text.specs.TextInfo.{info_of}
+use Rattle.std.proofs.Common.{◌≡◌, ◌+◌, ◌<◌, ◌∙◌, take, sym, ap, arith}
+use Rattle.std.specs.Str.{chars}
+use Rattle.rope_text.specs.Text.{byte_len}
+use Rattle.rope_text.specs.declared.text_info.TextInfo.{TextInfo}
+use Rattle.rope_text.specs.TextInfo.{info_of, info_sum}
 use Rattle.rope_text.specs.Lines.{line_start}
+use Rattle.rope_text.specs.Breaks.{break_count}
+use Rattle.std.proofs.lemmas.Str.{length-le-encodes}
+use Rattle.rope_text.proofs.InfoLaws.{break_count-le-length}
+use Rattle.rope_text.proofs.LineSeams.{break_count-front}
+use Rattle.rope_text.proofs.Measures.{IsMeasure-byte_len, size_le_all}
 use Rattle.rope_tree.specs.Tree.{text}
+use Rattle.rope_tree.specs.Search.{IsSmall}
+use Rattle.rope_tree.proofs.Infos.{small_info}
 use Rattle.rope_tree.proofs.FoundLaws.{line_start_first}
 use Rattle.rope_part.specs.Stretch.{text_of, breaks_of}
+use Rattle.rope_part.proofs.LeafLines.{line_in_leaf}
 use Rattle.rope_part.proofs.Measured.{measured}
 use Rattle.rope_part.proofs.StretchLines.{line_later, line_place_within, line_counts, own_line}
-use Rattle.rope_part.proofs.stretch.Stretch.around_line.Goals.{After-around_line}
+use Rattle.rope_part.proofs.stretch.Stretch.around_line.Goals.{After-line_start_at, Else-line-eq0}
 use Rattle.rope_part.proofs.stretch.Stretch.around_line.Goals as goal
 
-start_is : (c : After-around_line) → c.around_line.result.0 ≡ info_of c.args.self.now.node.now.breaks (take (line_start c.args.self.now.node.now.breaks (text c.args.self.now.node.now) (c.args.self.now.start.break_count + c.args.line_idx)) (text c.args.self.now.node.now))
+start_is : (c : After-line_start_at) → c.line_start_at.result.0 ≡ info_of c.args.self.now.node.now.breaks (take (line_start c.args.self.now.node.now.breaks (text c.args.self.now.node.now) (c.args.self.now.start.break_count + c.args.line_idx)) (text c.args.self.now.node.now))
 start_is c =
     let breaks = breaks_of c.args.self.now in
     let t = text c.args.self.now.node.now in
-    c.around_line.ensures.start ∙ ap (λ l. info_of breaks (take (line_start breaks t l) t)) c.place.ensures.value
+    c.line_start_at.ensures.before ∙ ap (λ l. info_of breaks (take (line_start breaks t l) t)) c.place.ensures.value
 
-next_is : (c : After-around_line) → c.around_line.result.1 ≡ info_of c.args.self.now.node.now.breaks (take (line_start c.args.self.now.node.now.breaks (text c.args.self.now.node.now) (c.args.self.now.start.break_count + (c.args.line_idx + 1))) (text c.args.self.now.node.now))
-next_is c =
+sum_is : (c : Else-line-eq0) → info_sum c.line_start_at.result.0 c.of_first_line-line.result
+    ≡ info_of c.args.self.now.node.now.breaks (take (line_start c.args.self.now.node.now.breaks (text c.args.self.now.node.now) (c.place.result + 1)) (text c.args.self.now.node.now))
+sum_is c =
+    let rest = chars c.line_start_at.result.1.now in
+    let breaks = c.line_breaks.result in
+    let m = measured _ _ _ _ c.args.self.now.is_stretch in
+    let some : 0 < break_count breaks rest = omega (arith, ap (λ x. x.break_count) c.of_first_line-line.ensures, c.if-line-eq0.false, break_count-front breaks rest 1 (omega arith)) in
+    line_in_leaf c.args.self.now.node.now c.place.result rest c.line_start_at.result.0 c.of_first_line-line.result breaks c.line_breaks.ensures (omega (arith, c.place.ensures.value))
+    c.line_start_at.ensures.rest some c.line_start_at.ensures.before c.of_first_line-line.ensures
+
+small : (c : Else-line-eq0) → IsSmall (info_of c.args.self.now.node.now.breaks (take (line_start c.args.self.now.node.now.breaks (text c.args.self.now.node.now) (c.place.result + 1)) (text c.args.self.now.node.now)))
+small c =
+    let t = text c.args.self.now.node.now in
+    let next = line_start c.args.self.now.node.now.breaks t (c.place.result + 1) in
+    small_info c.args.self.now.node.now.breaks (take next t) (omega (arith, size_le_all byte_len IsMeasure-byte_len t next, c.place.ensures.tree.fits))
+
+next_is : (c : Else-line-eq0) (end : TextInfo) → end ≡ info_sum c.line_start_at.result.0 c.of_first_line-line.result → end ≡ info_of c.args.self.now.node.now.breaks (take (line_start c.args.self.now.node.now.breaks (text c.args.self.now.node.now) (c.args.self.now.start.break_count + (c.args.line_idx + 1))) (text c.args.self.now.node.now))
+next_is c end joined =
     let breaks = breaks_of c.args.self.now in
     let t = text c.args.self.now.node.now in
     let same : c.place.result + 1 ≡ c.args.self.now.start.break_count + (c.args.line_idx + 1) = omega (arith, c.place.ensures.value) in
-    c.around_line.ensures.end ∙ ap (λ l. info_of breaks (take (line_start breaks t l) t)) same
+    joined ∙ sum_is c ∙ ap (λ l. info_of breaks (take (line_start breaks t l) t)) same
 
 pub returns-then-line_idx-eq0-clause-start : goal.returns-then-line_idx-eq0-clause-start
 returns-then-line_idx-eq0-clause-start c =
@@ -34,29 +61,71 @@ returns-then-line_idx-eq0-clause-end c =
     let t = text_of c.args.self.now in
     c.before_line.ensures ∙ sym (ap (λ l. info_of breaks (take (line_start breaks t (l + 1)) t)) c.if-line_idx-eq0.true)
 
-pub around_line-requires-clause-within : goal.around_line-requires-clause-within
-around_line-requires-clause-within c = let m = measured _ _ _ _ c.args.self.now.is_stretch in omega (arith, c.place.ensures.value)
+pub line_start_at-requires-clause-within : goal.line_start_at-requires-clause-within
+line_start_at-requires-clause-within c = let m = measured _ _ _ _ c.args.self.now.is_stretch in omega (arith, c.place.ensures.value)
+
+pub plus-requires-clause-bytes : goal.plus-requires-clause-bytes
+plus-requires-clause-bytes c =
+    let here = (goal.at.plus-requires-clause-bytes c).Else-line-eq0 in
+    let s = small here in
+    omega (arith, ap (λ x. x.bytes) (sum_is here))
+
+pub plus-requires-clause-chars : goal.plus-requires-clause-chars
+plus-requires-clause-chars c =
+    let here = (goal.at.plus-requires-clause-chars c).Else-line-eq0 in
+    let s = small here in
+    omega (arith, ap (λ x. x.chars) (sum_is here))
+
+pub plus-requires-clause-utf16_surrogates : goal.plus-requires-clause-utf16_surrogates
+plus-requires-clause-utf16_surrogates c =
+    let here = (goal.at.plus-requires-clause-utf16_surrogates c).Else-line-eq0 in
+    let s = small here in
+    omega (arith, ap (λ x. x.utf16_surrogates) (sum_is here))
+
+pub plus-requires-clause-break_count : goal.plus-requires-clause-break_count
+plus-requires-clause-break_count c =
+    let here = (goal.at.plus-requires-clause-break_count c).Else-line-eq0 in
+    let s = small here in
+    omega (arith, ap (λ x. x.break_count) (sum_is here))
+
+pub counts_to-before-requires-clause-later : goal.counts_to-before-requires-clause-later
+counts_to-before-requires-clause-later c = line_later _ _ _ _ _ c.args.self.now.is_stretch c.args.line_idx (omega arith) (start_is (goal.at.counts_to-before-requires-clause-later c).After-line_start_at)
+
+pub counts_to-before-requires-clause-within : goal.counts_to-before-requires-clause-within
+counts_to-before-requires-clause-within c = line_place_within _ _ _ _ _ c.args.self.now.is_stretch c.args.line_idx (omega arith) (start_is (goal.at.counts_to-before-requires-clause-within c).After-line_start_at)
+
+pub counts_to-before-requires-clause-counts : goal.counts_to-before-requires-clause-counts
+counts_to-before-requires-clause-counts c = line_counts _ _ _ _ _ c.args.self.now.is_stretch c.args.line_idx (omega arith) (start_is (goal.at.counts_to-before-requires-clause-counts c).After-line_start_at)
+
+pub overflow_add-line_idx : goal.overflow_add-line_idx
+overflow_add-line_idx c =
+    let t = text c.args.self.now.node.now in
+    let m = measured _ _ _ _ c.args.self.now.is_stretch in
+    omega (arith, c.place.ensures.value, break_count-le-length c.args.self.now.node.now.breaks t, length-le-encodes t, c.place.ensures.tree.fits)
 
 pub counts_to-requires-clause-later : goal.counts_to-requires-clause-later
-counts_to-requires-clause-later c = line_later _ _ _ _ _ c.args.self.now.is_stretch c.args.line_idx (omega arith) (start_is (goal.at.counts_to-requires-clause-later c).After-around_line)
-
-pub counts_to-requires-2-clause-later : goal.counts_to-requires-2-clause-later
-counts_to-requires-2-clause-later c = line_later _ _ _ _ _ c.args.self.now.is_stretch (c.args.line_idx + 1) (omega arith) (next_is (goal.at.counts_to-requires-2-clause-later c).After-around_line)
+counts_to-requires-clause-later c =
+    let end = next_is (goal.at.counts_to-requires-clause-later c).Else-line-eq0 c.plus.result c.plus.ensures.sum in
+    line_later _ _ _ _ _ c.args.self.now.is_stretch (c.args.line_idx + 1) (omega arith) end
 
 pub counts_to-requires-clause-within : goal.counts_to-requires-clause-within
-counts_to-requires-clause-within c = line_place_within _ _ _ _ _ c.args.self.now.is_stretch c.args.line_idx (omega arith) (start_is (goal.at.counts_to-requires-clause-within c).After-around_line)
-
-pub counts_to-requires-2-clause-within : goal.counts_to-requires-2-clause-within
-counts_to-requires-2-clause-within c = line_place_within _ _ _ _ _ c.args.self.now.is_stretch (c.args.line_idx + 1) (omega arith) (next_is (goal.at.counts_to-requires-2-clause-within c).After-around_line)
+counts_to-requires-clause-within c =
+    let end = next_is (goal.at.counts_to-requires-clause-within c).Else-line-eq0 c.plus.result c.plus.ensures.sum in
+    line_place_within _ _ _ _ _ c.args.self.now.is_stretch (c.args.line_idx + 1) (omega arith) end
 
 pub counts_to-requires-clause-counts : goal.counts_to-requires-clause-counts
-counts_to-requires-clause-counts c = line_counts _ _ _ _ _ c.args.self.now.is_stretch c.args.line_idx (omega arith) (start_is (goal.at.counts_to-requires-clause-counts c).After-around_line)
+counts_to-requires-clause-counts c =
+    let end = next_is (goal.at.counts_to-requires-clause-counts c).Else-line-eq0 c.plus.result c.plus.ensures.sum in
+    line_counts _ _ _ _ _ c.args.self.now.is_stretch (c.args.line_idx + 1) (omega arith) end
 
-pub counts_to-requires-2-clause-counts : goal.counts_to-requires-2-clause-counts
-counts_to-requires-2-clause-counts c = line_counts _ _ _ _ _ c.args.self.now.is_stretch (c.args.line_idx + 1) (omega arith) (next_is (goal.at.counts_to-requires-2-clause-counts c).After-around_line)
+pub returns-then-line-eq0-clause-start : goal.returns-then-line-eq0-clause-start
+returns-then-line-eq0-clause-start c =
+    c.counts_to-before.ensures ∙ own_line _ _ _ _ _ c.args.self.now.is_stretch c.args.line_idx (omega arith) (start_is (goal.at.returns-then-line-eq0-clause-start c).After-line_start_at)
 
 pub returns-clause-start : goal.returns-clause-start
-returns-clause-start c = c.counts_to.ensures ∙ own_line _ _ _ _ _ c.args.self.now.is_stretch c.args.line_idx (omega arith) (start_is (goal.at.returns-clause-start c).After-around_line)
+returns-clause-start c = c.counts_to-before.ensures ∙ own_line _ _ _ _ _ c.args.self.now.is_stretch c.args.line_idx (omega arith) (start_is (goal.at.returns-clause-start c).After-line_start_at)
 
 pub returns-clause-end : goal.returns-clause-end
-returns-clause-end c = c.counts_to-2.ensures ∙ own_line _ _ _ _ _ c.args.self.now.is_stretch (c.args.line_idx + 1) (omega arith) (next_is (goal.at.returns-clause-end c).After-around_line)
+returns-clause-end c =
+    let end = next_is (goal.at.returns-clause-end c).Else-line-eq0 c.plus.result c.plus.ensures.sum in
+    c.counts_to.ensures ∙ own_line _ _ _ _ _ c.args.self.now.is_stretch (c.args.line_idx + 1) (omega arith) end

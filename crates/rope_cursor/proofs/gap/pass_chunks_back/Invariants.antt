@@ -1,9 +1,0 @@
-use Rattle.std.proofs.Common.{length}
-use Rattle.rope_cursor.specs.Gap.{PassedBackTo}
-use Rattle.rope_cursor.proofs.gap.pass_chunks_back.Given as goal
-
-abbrev pub invariant-loop-breaks : goal.invariant-loop-breaks
-invariant-loop-breaks l = PassedBackTo l.breaks l.skip l.fn.span l.span l.passed l.left
-
-abbrev pub decreases-loop-breaks : goal.decreases-loop-breaks
-decreases-loop-breaks l = length l.span.before

@@ -1,0 +1,89 @@
+use Rattle.std.proofs.Common.{◌≡◌, ◌≤◌, ◌-◌, ◌∙◌, ap, sym, ℕ, List, length, take, drop, false, arith}
+use Rattle.std.specs.Str.{chars, IsUtf8}
+use Rattle.rope_text.specs.Cutting.{parts_crlf}
+use Rattle.rope_text.specs.Conversions.{byte_to_char, line_to_byte}
+use Rattle.rope_text.proofs.Walks.{byte_len-chars}
+use Rattle.rope_text.specs.Text.{byte_len}
+use Rattle.rope_text.specs.TextInfo.{info_of}
+use Rattle.rope_cursor.specs.Gap.{before_byte, IsBetween}
+use Rattle.rope_cursor.proofs.Gaps.{size_front}
+use Rattle.rope_cursor.proofs.LineCounts.{cut_at}
+use Rattle.rope_cursor.proofs.LineNear.{few_left, more_left, same_start, start_between, start_inside, found_start, found_fits, rest_between, rest_breaks, found_counts, front_counts}
+use Rattle.rope_cursor.proofs.lines.count_last.Goals.{After-prev_break-cut, Joined-line_idx-eq1, then-line_idx-eq1, else-line_idx-eq1}
+use Rattle.rope_cursor.proofs.lines.count_last.Goals as goal
+
+end_within : (text : List ℕ) (end : ℕ) → IsUtf8 text → IsBetween (chars text) end → end ≤ length text
+end_within text end utf8 between = omega (arith, between, size_front (byte_to_char (chars text) end) (chars text), byte_len-chars text utf8)
+
+before_end : (c : After-prev_break-cut) → c.prev_break-cut.result ≤ c.args.end
+before_end c = omega (arith, c.saturating_sub.ensures, c.prev_break-cut.ensures.bound, c.prev_break-cut.ensures.before)
+
+cut_here : (c : After-prev_break-cut) → IsBetween (chars c.args.text.now) c.prev_break-cut.result
+    × (parts_crlf (take (byte_to_char (chars c.args.text.now) c.prev_break-cut.result) (chars c.args.text.now)) (drop (byte_to_char (chars c.args.text.now) c.prev_break-cut.result) (chars c.args.text.now)) ≡ false)
+cut_here c = cut_at c.args.text.now c.prev_break-cut.result c.utf8.text (rw c.as_bytes.ensures.value at c.prev_break-cut.ensures.cut) (λ some. omega (arith, end_within c.args.text.now c.args.end c.utf8.text c.requires.between, c.saturating_sub.ensures, c.prev_break-cut.ensures.bound, c.prev_break-cut.ensures.before))
+
+pub prev_break-cut-requires : goal.prev_break-cut-requires
+prev_break-cut-requires c = omega (arith, c.as_bytes.ensures.len, c.saturating_sub.ensures, end_within c.args.text.now c.args.end c.utf8.text c.requires.between)
+
+pub text_after-near-requires : goal.text_after-near-requires
+text_after-near-requires c = (cut_here c).0
+
+start_is : (c : Joined-line_idx-eq1) → c.if-line_idx-eq1.start ≡ line_to_byte c.args.breaks (chars c.text_after-near.result.now) (c.byte_to_line_with-break_count.result - c.min-skip.result)
+start_is c = elim c.if-line_idx-eq1.branch [
+  | then-line_idx-eq1 w ↦ w.start-is ∙ ap (λ info. info.bytes) w.of_first_line.ensures ∙ ap (line_to_byte c.args.breaks (chars c.text_after-near.result.now)) (sym w.if-line_idx-eq1.true)
+  | else-line_idx-eq1 w ↦ w.start-is ∙ w.line_to_byte_with-start.ensures.value
+]
+
+pub text_after-rest-requires : goal.text_after-rest-requires
+text_after-rest-requires c =
+    let d = (goal.at.text_after-rest-requires c).After-prev_break-cut in
+    start_between c.args.breaks (chars c.args.text.now) (chars c.text_after-near.result.now) c.min-skip.result c.args.end c.prev_break-cut.result c.byte_to_line_with-break_count.result c.if-line_idx-eq1.start
+    c.requires.between (cut_here d).0 (before_end d) (cut_here d).1 c.requires.apart c.text_after-near.ensures c.byte_to_line_with-break_count.ensures (omega (arith, c.min-skip.ensures)) (few_left c.else-break_count-skip.either c.min-skip.ensures)
+    (start_is c)
+
+pub overflow_sub-bytes : goal.overflow_sub-bytes
+overflow_sub-bytes c =
+    let d = (goal.at.overflow_sub-bytes c).After-prev_break-cut in
+    let e = (goal.at.overflow_sub-bytes c).Joined-line_idx-eq1 in
+    start_inside c.args.breaks (chars c.args.text.now) (chars c.text_after-near.result.now) c.min-skip.result c.args.end c.prev_break-cut.result c.byte_to_line_with-break_count.result c.if-line_idx-eq1.start
+    c.requires.between (cut_here d).0 (before_end d) (cut_here d).1 c.requires.apart c.text_after-near.ensures c.byte_to_line_with-break_count.ensures (omega (arith, c.min-skip.ensures)) (few_left c.else-break_count-skip.either c.min-skip.ensures)
+    (start_is e)
+
+pub overflow_add-result : goal.overflow_add-result
+overflow_add-result c =
+    let d = (goal.at.overflow_add-result c).After-prev_break-cut in
+    let e = (goal.at.overflow_add-result c).Joined-line_idx-eq1 in
+    let fits = found_fits c.args.breaks (chars c.args.text.now) (chars c.text_after-near.result.now) c.min-skip.result c.args.end c.prev_break-cut.result c.byte_to_line_with-break_count.result c.if-line_idx-eq1.start
+    c.requires.between (cut_here d).0 (before_end d) (cut_here d).1 c.requires.apart c.text_after-near.ensures c.byte_to_line_with-break_count.ensures (omega (arith, c.min-skip.ensures)) (few_left c.else-break_count-skip.either c.min-skip.ensures)
+    (start_is e) in
+    omega (arith, fits, c.byte_len_of.ensures)
+
+pub returns-in-loop-near-clause-start : goal.returns-in-loop-near-clause-start
+returns-in-loop-near-clause-start c =
+    let d = (goal.at.returns-in-loop-near-clause-start c).After-prev_break-cut in
+    let e = (goal.at.returns-in-loop-near-clause-start c).Joined-line_idx-eq1 in
+    found_start c.args.breaks (chars c.args.text.now) (chars c.text_after-near.result.now) c.min-skip.result c.args.end c.prev_break-cut.result c.byte_to_line_with-break_count.result c.if-line_idx-eq1.start
+    c.requires.between (cut_here d).0 (before_end d) (cut_here d).1 c.requires.apart c.text_after-near.ensures c.byte_to_line_with-break_count.ensures (omega (arith, c.min-skip.ensures)) (few_left c.else-break_count-skip.either c.min-skip.ensures)
+    (start_is e)
+    ∙ ap (λ k. byte_len (take k (before_byte (chars c.args.text.now) c.args.end))) (same_start c.args.breaks (chars c.args.text.now) (chars c.text_after-near.result.now) c.min-skip.result c.args.end c.prev_break-cut.result c.byte_to_line_with-break_count.result c.if-line_idx-eq1.start
+    c.requires.between (cut_here d).0 (before_end d) (cut_here d).1 c.requires.apart c.text_after-near.ensures c.byte_to_line_with-break_count.ensures (omega (arith, c.min-skip.ensures)) (few_left c.else-break_count-skip.either c.min-skip.ensures)
+    (start_is e) c.args.skip c.min-skip.ensures (more_left c.else-break_count-skip.either))
+
+pub returns-in-loop-near-clause-counts : goal.returns-in-loop-near-clause-counts
+returns-in-loop-near-clause-counts c =
+    let d = (goal.at.returns-in-loop-near-clause-counts c).After-prev_break-cut in
+    let e = (goal.at.returns-in-loop-near-clause-counts c).Joined-line_idx-eq1 in
+    let counts = front_counts c.args.breaks (chars c.text_after-rest.result.now) _
+    (rest_between c.args.breaks (chars c.args.text.now) (chars c.text_after-near.result.now) c.min-skip.result c.args.end c.prev_break-cut.result c.byte_to_line_with-break_count.result c.if-line_idx-eq1.start
+    c.requires.between (cut_here d).0 (before_end d) (cut_here d).1 c.requires.apart c.text_after-near.ensures c.byte_to_line_with-break_count.ensures (omega (arith, c.min-skip.ensures)) (few_left c.else-break_count-skip.either c.min-skip.ensures)
+    (start_is e) (chars c.text_after-rest.result.now) c.text_after-rest.ensures) c.byte_to_char_idx.ensures c.byte_to_surrogates.ensures
+    (rest_breaks c.args.breaks (chars c.args.text.now) (chars c.text_after-near.result.now) c.min-skip.result c.args.end c.prev_break-cut.result c.byte_to_line_with-break_count.result c.if-line_idx-eq1.start
+    c.requires.between (cut_here d).0 (before_end d) (cut_here d).1 c.requires.apart c.text_after-near.ensures c.byte_to_line_with-break_count.ensures (omega (arith, c.min-skip.ensures)) (few_left c.else-break_count-skip.either c.min-skip.ensures)
+    (start_is e) (chars c.text_after-rest.result.now) c.text_after-rest.ensures) in
+    found_counts c.args.breaks (chars c.args.text.now) (chars c.text_after-near.result.now) c.min-skip.result c.args.end c.prev_break-cut.result c.byte_to_line_with-break_count.result c.if-line_idx-eq1.start
+    c.requires.between (cut_here d).0 (before_end d) (cut_here d).1 c.requires.apart c.text_after-near.ensures c.byte_to_line_with-break_count.ensures (omega (arith, c.min-skip.ensures)) (few_left c.else-break_count-skip.either c.min-skip.ensures)
+    (start_is e) (chars c.text_after-rest.result.now) c.text_after-rest.ensures
+    _ counts
+    ∙ ap (λ k. info_of c.args.breaks (drop k (before_byte (chars c.args.text.now) c.args.end))) (same_start c.args.breaks (chars c.args.text.now) (chars c.text_after-near.result.now) c.min-skip.result c.args.end c.prev_break-cut.result c.byte_to_line_with-break_count.result c.if-line_idx-eq1.start
+    c.requires.between (cut_here d).0 (before_end d) (cut_here d).1 c.requires.apart c.text_after-near.ensures c.byte_to_line_with-break_count.ensures (omega (arith, c.min-skip.ensures)) (few_left c.else-break_count-skip.either c.min-skip.ensures)
+    (start_is e) c.args.skip c.min-skip.ensures (more_left c.else-break_count-skip.either))

@@ -1,0 +1,51 @@
+use Rattle.std.proofs.Common.{◌∙◌, length, ap, arith}
+use Rattle.rope_text.specs.TextInfo.{info_of}
+use Rattle.rope_text.specs.LineParts.{first_line}
+use Rattle.rope_text.specs.Text.{byte_len}
+use Rattle.rope_cursor.proofs.Gaps.{passed_none, passed_more, passes_line, passes_end, more_fits}
+use Rattle.rope_cursor.proofs.lines.pass_chunks.Goals as goal
+
+pub loop-breaks-init : goal.loop-breaks-init
+loop-breaks-init c = passed_none c.args.breaks c.args.span.now c.new-passed.result c.requires (c.new-passed.ensures c.args.breaks)
+
+pub plus-passed-requires-clause-bytes : goal.plus-passed-requires-clause-bytes
+plus-passed-requires-clause-bytes c =
+    let half = more_fits c.args.breaks c.args.span.now c.loop-breaks.span c.step.new.self c.loop-breaks.passed c.loop-breaks.invariant.0 c.loop-breaks.invariant.1 c.loop-breaks-test.ensures.moved c.of_first_line-more.result
+    (c.of_first_line-more.ensures ∙ ap (λ t. info_of c.args.breaks (first_line c.args.breaks t)) c.chunk.ensures) in
+    omega (arith, half.0.bytes, half.1.bytes)
+
+pub plus-passed-requires-clause-chars : goal.plus-passed-requires-clause-chars
+plus-passed-requires-clause-chars c =
+    let half = more_fits c.args.breaks c.args.span.now c.loop-breaks.span c.step.new.self c.loop-breaks.passed c.loop-breaks.invariant.0 c.loop-breaks.invariant.1 c.loop-breaks-test.ensures.moved c.of_first_line-more.result
+    (c.of_first_line-more.ensures ∙ ap (λ t. info_of c.args.breaks (first_line c.args.breaks t)) c.chunk.ensures) in
+    omega (arith, half.0.chars, half.1.chars)
+
+pub plus-passed-requires-clause-utf16_surrogates : goal.plus-passed-requires-clause-utf16_surrogates
+plus-passed-requires-clause-utf16_surrogates c =
+    let half = more_fits c.args.breaks c.args.span.now c.loop-breaks.span c.step.new.self c.loop-breaks.passed c.loop-breaks.invariant.0 c.loop-breaks.invariant.1 c.loop-breaks-test.ensures.moved c.of_first_line-more.result
+    (c.of_first_line-more.ensures ∙ ap (λ t. info_of c.args.breaks (first_line c.args.breaks t)) c.chunk.ensures) in
+    omega (arith, half.0.utf16_surrogates, half.1.utf16_surrogates)
+
+pub plus-passed-requires-clause-break_count : goal.plus-passed-requires-clause-break_count
+plus-passed-requires-clause-break_count c =
+    let half = more_fits c.args.breaks c.args.span.now c.loop-breaks.span c.step.new.self c.loop-breaks.passed c.loop-breaks.invariant.0 c.loop-breaks.invariant.1 c.loop-breaks-test.ensures.moved c.of_first_line-more.result
+    (c.of_first_line-more.ensures ∙ ap (λ t. info_of c.args.breaks (first_line c.args.breaks t)) c.chunk.ensures) in
+    omega (arith, half.0.break_count, half.1.break_count)
+
+pub returns-then-more-gt0 : goal.returns-then-more-gt0
+returns-then-more-gt0 c =
+    passes_line c.args.breaks c.args.span.now c.loop-breaks.span c.step.new.self c.loop-breaks.passed c.loop-breaks.invariant.0 c.loop-breaks.invariant.1 c.loop-breaks-test.ensures.moved
+    c.of_first_line-more.result c.plus-passed.result (c.of_first_line-more.ensures ∙ ap (λ t. info_of c.args.breaks (first_line c.args.breaks t)) c.chunk.ensures) c.plus-passed.ensures.sum c.if-more-gt0.true
+
+pub loop-breaks-smaller : goal.loop-breaks-smaller
+loop-breaks-smaller c = omega (arith, ap length c.loop-breaks-test.ensures.moved.after)
+
+pub loop-breaks-preserved : goal.loop-breaks-preserved
+loop-breaks-preserved c =
+    passed_more c.args.breaks c.args.span.now c.loop-breaks.span c.step.new.self c.loop-breaks.passed c.loop-breaks.invariant.0 c.loop-breaks.invariant.1 c.loop-breaks-test.ensures.moved
+    c.of_first_line-more.result c.plus-passed.result (c.of_first_line-more.ensures ∙ ap (λ t. info_of c.args.breaks (first_line c.args.breaks t)) c.chunk.ensures) c.plus-passed.ensures.sum c.if-more-gt0.false
+
+pub returns : goal.returns
+returns c =
+    passes_end c.args.breaks c.args.span.now c.loop-breaks.span c.step.new.self c.loop-breaks.passed c.byte_len_of.result c.loop-breaks.invariant c.loop-breaks-test.ensures.stays c.loop-breaks-test.ensures.ended
+    (c.byte_len_of.ensures ∙ ap byte_len c.chunk-2.ensures)

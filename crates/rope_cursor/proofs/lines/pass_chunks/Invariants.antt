@@ -1,0 +1,9 @@
+use Rattle.std.proofs.Common.{length}
+use Rattle.rope_cursor.specs.Gap.{PassedChunks}
+use Rattle.rope_cursor.proofs.lines.pass_chunks.Given as goal
+
+abbrev pub invariant-loop-breaks : goal.invariant-loop-breaks
+invariant-loop-breaks l = PassedChunks l.breaks l.fn.span l.span l.passed
+
+abbrev pub decreases-loop-breaks : goal.decreases-loop-breaks
+decreases-loop-breaks l = length l.span.after

@@ -1,0 +1,64 @@
+use Rattle.std.proofs.Common.{◌≡◌, ◌-◌, ℕ, List, take, ap, sym, subst, ◌∙◌, arith, nat_le}
+use Rattle.std.specs.Str.{chars, IsCharBoundary, IsUtf8}
+use Rattle.std.proofs.lemmas.List.{length-take}
+use Rattle.std.proofs.lemmas.List.Sums.{count_by-le-length}
+use Rattle.std.proofs.lemmas.Str.{length-le-encodes, chars-nil}
+use Rattle.rope_text.proofs.NarrowTexts.{utf16_len-le-bytes}
+use Rattle.rope_text.specs.Text.{byte_len, surrogate_count}
+use Rattle.rope_text.specs.Conversions.{char_to_line}
+use Rattle.rope_text.proofs.Measures.{IsMeasure-byte_len, size_le_all}
+use Rattle.rope_text.proofs.TextParts.{chars_front}
+use Rattle.rope_tree.proofs.Descents.{small_found}
+use Rattle.rope_tree.proofs.FoundLaws.{char_to_line-le, found_char}
+use Rattle.rope_part.proofs.Edges.{start_found}
+use Rattle.rope_part.proofs.stretch.Stretch.start_of.Goals.{After-char_to_line_with-lines, After-count_surrogates, then-chars-bytes, else-chars-bytes}
+use Rattle.rope_part.proofs.stretch.Stretch.start_of.Goals as goal
+
+front : (bs part leaf : List ℕ) (k n : ℕ) → IsUtf8 bs → chars bs ≡ leaf → n ≡ byte_len (take k leaf) → part ≡ take (n - 0) bs → chars part ≡ take k leaf
+front bs part leaf k n u same place cut = chars_front bs part leaf k n u same (place ∙ ap (λ s. byte_len (take k s)) (sym same)) cut
+
+pairs_are : (c : After-count_surrogates) → c.count_surrogates.result ≡ surrogate_count (take (c.place-place.result - c.leaf_at-found.result.before.chars) c.leaf_at-found.result.leaf)
+pairs_are c =
+    let leaf : List ℕ = c.leaf_at-found.result.leaf in
+    let k : ℕ = c.place-place.result - c.leaf_at-found.result.before.chars in
+    let within = found_char c.place-place.result c.args.self.now.node.now leaf c.leaf_at-found.result.before c.leaf_at-found.ensures.found in
+    c.count_surrogates.ensures
+    ∙ elim c.if-chars-bytes.branch [
+      | then-chars-bytes w ↦
+          let none : surrogate_count (take k leaf) ≡ 0 = omega (arith, utf16_len-le-bytes (take k leaf), w.if-chars-bytes.true, c.char_to_byte_idx-bytes.ensures.value, length-take k leaf, within.0) in
+          ap (λ w. surrogate_count (chars w.now)) w.wide-is ∙ ap surrogate_count chars-nil ∙ sym none
+      | else-chars-bytes w ↦
+          ap (λ w. surrogate_count (chars w.now)) w.wide-is
+          ∙ ap surrogate_count (front _ _ _ _ _ c.as_str-leaf.utf8 c.as_str-leaf.ensures.chars c.char_to_byte_idx-bytes.ensures.value w.range-wide.ensures.value)
+    ]
+
+lines_are : (c : After-char_to_line_with-lines) → c.char_to_line_with-lines.result ≡ char_to_line c.args.self.now.node.now.breaks c.leaf_at-found.result.leaf (c.place-place.result - c.leaf_at-found.result.before.chars)
+lines_are c = c.char_to_line_with-lines.ensures ∙ ap (λ b. char_to_line b c.leaf_at-found.result.leaf (c.place-place.result - c.leaf_at-found.result.before.chars)) c.line_breaks.ensures
+
+pub range-wide-requires-clause-end_boundary : goal.range-wide-requires-clause-end_boundary
+range-wide-requires-clause-end_boundary c = subst (λ bs. IsCharBoundary bs c.char_to_byte_idx-bytes.result) (sym c.as_str-leaf.ensures.bytes) c.char_to_byte_idx-bytes.ensures.boundary
+
+pub overflow_add-result : goal.overflow_add-result
+overflow_add-result c =
+    let small = small_found _ _ _ _ _ c.place-place.ensures.tree c.leaf_at-found.ensures.found in
+    omega (arith, c.char_to_byte_idx-bytes.ensures.value, c.as_str-leaf.ensures.fits, size_le_all byte_len IsMeasure-byte_len c.leaf_at-found.result.leaf (c.place-place.result - c.leaf_at-found.result.before.chars))
+
+pub overflow_add-result-2 : goal.overflow_add-result-2
+overflow_add-result-2 c =
+    let small = small_found _ _ _ _ _ c.place-place.ensures.tree c.leaf_at-found.ensures.found in
+    let leaf : List ℕ = c.leaf_at-found.result.leaf in
+    let k : ℕ = c.place-place.result - c.leaf_at-found.result.before.chars in
+    omega (arith, pairs_are (goal.at.overflow_add-result-2 c).After-count_surrogates, c.as_str-leaf.ensures.fits, count_by-le-length (λ x. nat_le 0x1_0000 x) (take k leaf), length-take k leaf, length-le-encodes leaf)
+
+pub overflow_add-result-3 : goal.overflow_add-result-3
+overflow_add-result-3 c =
+    let small = small_found _ _ _ _ _ c.place-place.ensures.tree c.leaf_at-found.ensures.found in
+    let leaf : List ℕ = c.leaf_at-found.result.leaf in
+    omega (arith, lines_are (goal.at.overflow_add-result-3 c).After-char_to_line_with-lines, c.as_str-leaf.ensures.fits, length-le-encodes leaf, char_to_line-le c.args.self.now.node.now.breaks leaf (c.place-place.result - c.leaf_at-found.result.before.chars))
+
+pub returns : goal.returns
+returns c =
+    rw (← c.place-place.ensures.value)
+    (start_found c.place-place.result c.args.self.now.node.now c.leaf_at-found.result.leaf c.leaf_at-found.result.before c.place-place.ensures.tree c.leaf_at-found.ensures.found
+    c.char_to_byte_idx-bytes.result c.count_surrogates.result c.char_to_line_with-lines.result
+    c.char_to_byte_idx-bytes.ensures.value (pairs_are (goal.at.returns c).After-count_surrogates) (lines_are (goal.at.returns c).After-char_to_line_with-lines))
