@@ -1,8 +1,8 @@
-//! Cursors over the bytes, the characters and the chunks of a slice. No call takes memory.
+//! Lines of a slice by their number, and cursors over its bytes, characters, chunks and lines. No call takes memory.
 //!
 //! A cursor stands between two items. Over the characters of the slice `1..3` of `"abcd"`, `chars()` gives `b`,
-//! then `c`, then none. The calls that test their index stand last.
-ghost use Rattle.std.specs.Prelude.{◌≡◌, ◌≤◌, length};
+//! then `c`, then none. The slice of all of `"a\nb\n"` has the lines `"a\n"`, `"b\n"` and `""`.
+ghost use Rattle.std.specs.Prelude.{◌≡◌, ◌≤◌, length, ◌<◌, MatchOption};
 ghost use Rattle.std.specs.Str.{encode_utf8_all};
 ghost use Rattle.rope_text.specs.Text.{byte_len};
 ghost use Rattle.rope_text.specs.Lines.{line_count};
@@ -10,13 +10,21 @@ ghost use Rattle.rope_text.specs.Lookup.{chunk_place_at_byte, chunk_place_at_cha
 ghost use Rattle.rope_text.specs.Sides.{at_start, at_place};
 ghost use Rattle.rope_slice.specs.Slice.{content_of, text_of, chunks_of, breaks_of};
 ghost use Rattle.rope_slice.specs.Found.{GivesWithin, StandsBefore};
+ghost use Rattle.rope_text.specs.LineParts.{line_of, lines_of};
 
 use crate::slice::{RopeSlice, within};
+use rope_cursor::lines::{self, OfPart};
 use rope_cursor::{Bytes, Chars, Chunks};
+use rope_part::Part;
 use rope_tree::Unit;
 
 /// A cursor over chunks, and how many bytes, characters and line breaks stand before its place.
 pub type ChunksAt<'a> = (Chunks<'a>, usize, usize, usize);
+
+/// A cursor over the lines of a slice, each a slice with its break. It steps both ways and takes no memory.
+///
+/// There is one line more than there are line breaks: after a break at the end of the text comes an empty line.
+pub type Lines<'a> = lines::Lines<'a, RopeSlice<'a>>;
 
 impl<'a> RopeSlice<'a> {
     /// A cursor over the bytes, before the first, facing forward. Costs one or two look-ups; takes no memory.
@@ -139,5 +147,61 @@ impl<'a> RopeSlice<'a> {
             (StandsBefore (content_of self.now) (chunk_place_at_line_break (breaks_of self.now) (chunks_of self.now) line_break_idx)) }
     {
         Some(self.chunks_at_line_break(within(line_break_idx, self.len_lines())?))
+    }
+
+    /// The line `line_idx`, counted from 0, with its line break, as a slice.
+    ///
+    /// The index is below `len_lines()`. Costs a few look-ups, and counts the line; takes no memory.
+    pub fn line(&self, line_idx: usize) -> RopeSlice<'a>
+        requires { line_idx < line_count (breaks_of self.now) (text_of self.now) }
+        ensures { content_of result ≡ line_of (content_of self.now) line_idx }
+    {
+        let part = self.part.line(line_idx);
+        RopeSlice { part }
+    }
+
+    /// The line `line_idx`, counted from 0, with its line break, or `None` exactly where the index is `len_lines()`
+    /// or past it. Costs a few look-ups, and counts the line; takes no memory.
+    pub fn get_line(&self, line_idx: usize) -> Option<RopeSlice<'a>>
+        ensures { MatchOption result (line_count (breaks_of self.now) (text_of self.now) ≤ line_idx)
+            (λ slice. (line_idx < line_count (breaks_of self.now) (text_of self.now))
+            × (content_of slice ≡ line_of (content_of self.now) line_idx)) }
+    {
+        Some(self.line(within(line_idx, self.len_lines() - 1)?))
+    }
+
+    /// A cursor over the lines, before the first, facing forward. Costs one or two look-ups; takes no memory.
+    pub fn lines(&self) -> Lines<'a>
+        ensures { result ≡ at_start (lines_of (content_of self.now)) }
+    {
+        self.lines_at(0)
+    }
+
+    /// A cursor over the lines, before the line `line_idx`, counted from 0, facing forward; for `len_lines()` it
+    /// stands past the last line.
+    ///
+    /// The index is at most `len_lines()`. Costs one or two look-ups; takes no memory.
+    pub fn lines_at(&self, line_idx: usize) -> Lines<'a>
+        requires { line_idx ≤ line_count (breaks_of self.now) (text_of self.now) }
+        ensures { result ≡ at_place (lines_of (content_of self.now)) line_idx }
+    {
+        Lines::at(&self.part, line_idx)
+    }
+
+    /// As `lines_at`, or `None` exactly where the index is past `len_lines()`. Costs one or two look-ups; takes no
+    /// memory.
+    pub fn get_lines_at(&self, line_idx: usize) -> Option<Lines<'a>>
+        ensures { GivesWithin line_idx (line_count (breaks_of self.now) (text_of self.now)) result
+            (λ lines. lines ≡ at_place (lines_of (content_of self.now)) line_idx) }
+    {
+        Some(self.lines_at(within(line_idx, self.len_lines())?))
+    }
+}
+
+impl<'a> OfPart<'a> for RopeSlice<'a> {
+    ghost content = { λ x. content_of x };
+
+    fn of_part(part: Part<'a>) -> RopeSlice<'a> {
+        RopeSlice { part }
     }
 }

@@ -1,17 +1,15 @@
-//! Laws: what equality, order and hash of slices say of their texts. Each function does nothing; its contract is the law.
+//! Laws: what equality, order and hash of slices say of their texts.
 ghost use Rattle.std.specs.Prelude.{◌≡◌, IsTrue, ◌↔◌};
 ghost use Rattle.std.specs.Cmp.{IsTotalOrder};
 ghost use Rattle.std.specs.declared.cmp.Ordering.TheVariants.{Equal};
-ghost use Rattle.rope_text.specs.Content.{Content};
-ghost use Rattle.rope_text.specs.Laws.{StepsUndo, StepsAreCursors, StartsCount};
 ghost use Rattle.rope_slice.specs.declared.slice.RopeSlice.{RopeSlice};
-ghost use Rattle.rope_slice.specs.Slice.{content_of, text_of};
+ghost use Rattle.rope_slice.specs.Slice.{text_of};
 
 use crate::slice::RopeSlice;
 use std::hash::Hash;
 
-/// Two slices are equal exactly if their texts are, however they are cut; their order is total, and ties equal slices alone;
-/// equal slices hand any hasher the same writes.
+/// It does nothing; its contract is the law. Two slices are equal exactly if their texts are, however they are cut; their order is
+/// total, and ties equal slices alone; equal slices hand any hasher the same writes.
 pub fn texts_are_compared()
     ensures equal { (a b : RopeSlice) → (IsTrue (⟦<RopeSlice<'static> as PartialEq>⟧.eq a b) ↔ (text_of a ≡ text_of b)) }
     ensures total { IsTotalOrder ⟦<RopeSlice<'static> as Ord>⟧.cmp }
@@ -19,12 +17,4 @@ pub fn texts_are_compared()
         ((⟦<RopeSlice<'static> as Ord>⟧.cmp a b ≡ Equal) ↔ IsTrue (⟦<RopeSlice<'static> as PartialEq>⟧.eq a b)) }
     ensures hash { (a b : RopeSlice) → IsTrue (⟦<RopeSlice<'static> as PartialEq>⟧.eq a b) →
         ⟦<RopeSlice<'static> as Hash>⟧.hash_input a ≡ ⟦<RopeSlice<'static> as Hash>⟧.hash_input b }
-{}
-
-/// `Lines` is a cursor in the list of the slice's lines, by what each shows: a step back undoes a step, the two sides are a
-/// cursor, and what is ahead is as many lines as are left.
-pub fn lines_are_a_cursor()
-    ensures undo { StepsUndo Content }
-    ensures steps { StepsAreCursors (λ (x : RopeSlice). content_of x) }
-    ensures starts { StartsCount Content }
 {}

@@ -10,12 +10,10 @@
 
 mod cursors;
 pub mod laws;
-pub mod lines;
 mod lookups;
 pub mod slice;
 mod text;
 
-pub use cursors::ChunksAt;
-pub use lines::Lines;
+pub use cursors::{ChunksAt, Lines};
 pub use lookups::ChunkAt;
 pub use slice::RopeSlice;
