@@ -225,15 +225,13 @@ fn breaks_in_quarters(bytes: &[u8], to: usize, breaks: LineBreaks) -> (usize, us
     known_set!(breaks => marks_in_quarters(bytes, to, Mark::Break(breaks)))
 }
 
-/// How many marks begin from the byte `from` on and before `to`. The mark is known where this is expanded.
+/// How many marks begin before the byte `to`. The mark is known where this is expanded.
 #[inline(always)]
-pub(crate) fn count_marks(bytes: &[u8], from: usize, to: usize, mark: Mark) -> usize
-    requires from { from ≤ to }
-    requires to { to ≤ length bytes.now - ahead mark }
-    ensures { marks mark (drop from bytes.now) ≡ result + marks mark (drop to bytes.now) }
+pub(crate) fn count_before(bytes: &[u8], to: usize, mark: Mark) -> usize
+    requires { to ≤ length bytes.now - ahead mark }
+    ensures { marks mark bytes.now ≡ result + marks mark (drop to bytes.now) }
 {
-    let mut total = 0;
-    let mut i = from;
+    let (mut i, mut total) = marks_in_quarters(bytes, to, mark);
     while to - i >= 32 {
         total += marks_in(bytes, i, mark);
         i += 32;
@@ -241,20 +239,10 @@ pub(crate) fn count_marks(bytes: &[u8], from: usize, to: usize, mark: Mark) -> u
     total + marks_between(bytes, i, to, mark)
 }
 
-/// How many marks begin before the byte `to`. The mark is known where this is expanded.
+/// The counts of whole blocks from `from` on and before `to`, behind which two more bytes are read: fewer bytes than a block are
+/// left. What a caller takes no count of isn't counted, since this is expanded there.
 #[inline(always)]
-pub(crate) fn count_before(bytes: &[u8], to: usize, mark: Mark) -> usize
-    requires { to ≤ length bytes.now - ahead mark }
-    ensures { marks mark bytes.now ≡ result + marks mark (drop to bytes.now) }
-{
-    let (from, before) = marks_in_quarters(bytes, to, mark);
-    before + count_marks(bytes, from, to, mark)
-}
-
-// The counts of whole blocks from `from` on and before `to`, behind which two more bytes are read: fewer bytes than a block are
-// left. What a caller takes no count of isn't counted, since this is expanded there.
-#[inline(always)]
-fn count_blocks(bytes: &[u8], from: usize, to: usize, breaks: LineBreaks) -> TextInfo
+pub(crate) fn count_blocks(bytes: &[u8], from: usize, to: usize, breaks: LineBreaks) -> TextInfo
     requires from { from ≤ to }
     requires to { to ≤ length bytes.now - 2 }
     ensures bound { from + result.bytes ≤ to }
@@ -274,16 +262,6 @@ fn count_blocks(bytes: &[u8], from: usize, to: usize, breaks: LineBreaks) -> Tex
         counts.bytes += 32;
     }
     counts
-}
-
-/// How many code units the bytes take in UTF-16.
-pub(crate) fn count_units(bytes: &[u8]) -> usize
-    ensures { result ≡ unit_count bytes.now }
-{
-    let end = bytes.len();
-    let blocks = count_blocks(bytes, 0, end.saturating_sub(2), LineBreaks::Lf);
-    let chars = blocks.chars + marks_between(bytes, blocks.bytes, end, Mark::Char);
-    chars + blocks.utf16_surrogates + marks_between(bytes, blocks.bytes, end, Mark::Pair)
 }
 
 // How many breaks of the set begin before the byte `to`. The set is known where this is expanded.

@@ -30,9 +30,9 @@ fn find(bytes: &[u8], from: usize, n: usize, mark: Mark) -> usize
     bytes.len()
 }
 
-// The same in blocks.
+/// The same in blocks.
 #[inline(always)]
-fn find_from(bytes: &[u8], from: usize, n: usize, mark: Mark) -> usize
+pub(crate) fn find_from(bytes: &[u8], from: usize, n: usize, mark: Mark) -> usize
     requires { from ≤ length bytes.now }
     ensures { IsPlaceOf mark bytes.now from n result }
 {
@@ -50,9 +50,9 @@ fn find_from(bytes: &[u8], from: usize, n: usize, mark: Mark) -> usize
     find(bytes, at, left, mark)
 }
 
-// The pairs of blocks before the character `n`: their end, and which character it is from there on.
+/// The pairs of blocks before the character `n`: their end, and which character it is from there on.
 #[inline(always)]
-fn skip_chars(bytes: &[u8], n: usize) -> (usize, usize)
+pub(crate) fn skip_chars(bytes: &[u8], n: usize) -> (usize, usize)
     ensures { IsPassed Mark.Char bytes.now n result.0 result.1 }
 {
     let mut at = 0;
@@ -68,10 +68,10 @@ fn skip_chars(bytes: &[u8], n: usize) -> (usize, usize)
     (at, left)
 }
 
-// The same from the end, where it is known how many characters there are: the last pair of blocks that begins at or before the
-// character `n`, or the start, and which character it is from there on.
+/// The same from the end, where it is known how many characters there are: the last pair of blocks that begins at or before the
+/// character `n`, or the start, and which character it is from there on.
 #[inline(always)]
-fn skip_chars_back(bytes: &[u8], n: usize, chars: usize) -> (usize, usize)
+pub(crate) fn skip_chars_back(bytes: &[u8], n: usize, chars: usize) -> (usize, usize)
     requires within { n ≤ chars }
     requires chars { chars ≡ count_by begins_char bytes.now }
     ensures { IsPassed Mark.Char bytes.now n result.0 result.1 }
@@ -88,30 +88,6 @@ fn skip_chars_back(bytes: &[u8], n: usize, chars: usize) -> (usize, usize)
         at -= 64;
     }
     (0, n)
-}
-
-/// The byte at which the character `n` begins.
-pub(crate) fn place_of_char(bytes: &[u8], n: usize) -> usize
-    ensures { IsPlaceOf Mark.Char bytes.now 0 n result }
-{
-    let (from, left) = skip_chars(bytes, n);
-    find_from(bytes, from, left, Mark::Char)
-}
-
-/// The same, where it is known how many characters there are: the side of it that has fewer of them is gone over.
-pub(crate) fn place_of_char_of(bytes: &[u8], n: usize, chars: usize) -> usize
-    requires { chars ≡ count_by begins_char bytes.now }
-    ensures { IsPlaceOf Mark.Char bytes.now 0 n result }
-{
-    if n >= chars {
-        return bytes.len();
-    }
-    let (from, left) = if n <= chars / 2 {
-        skip_chars(bytes, n)
-    } else {
-        skip_chars_back(bytes, n, chars)
-    };
-    find_from(bytes, from, left, Mark::Char)
 }
 
 // The byte at which the character begins that holds the code unit `n`, counted from the byte `from` on, byte by byte.
