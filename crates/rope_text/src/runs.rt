@@ -14,16 +14,6 @@ use std::simd::prelude::*;
 // The blocks of a run at the most: a lane gets four at each, and holds 255.
 const BLOCKS: usize = 63;
 
-/// What a run has counted: in lanes the characters, those of two code units, and the breaks that begin below 128; and
-/// the other breaks.
-#[derive(Clone, Copy)]
-pub(crate) struct Sums {
-    pub chars: u8x16,
-    pub pairs: u8x16,
-    pub narrow: u8x16,
-    pub wide: usize,
-}
-
 // For each of the 16 bytes from `at` on, 1 where a mark begins, a break only where it is below 128, else 0. The mark is known
 // where this is expanded.
 #[inline(always)]
@@ -48,28 +38,6 @@ fn add_ones(sums: u8x16, bytes: &[u8], at: usize, mark: Mark) -> u8x16
     third + ones_from(bytes, at + 48, mark)
 }
 
-// Whether each of the 64 bytes from `at` on is below 128.
-#[inline(always)]
-fn is_ascii(bytes: &[u8], at: usize) -> bool
-    requires { at + 64 ≤ length bytes.now }
-    ensures { IsTrue result → high_of bytes.now at 64 ≡ 0 }
-{
-    let lanes = u8x64::from_slice(&bytes[at..]);
-    lanes.simd_ge(u8x64::splat(0x80)).to_bitmask() == 0
-}
-
-// Which of the 64 bytes from `at` on are C2 or E2, with which NEL, LS and PS begin.
-#[inline(always)]
-fn wide_begins(bytes: &[u8], at: usize) -> u64
-    requires { at + 64 ≤ length bytes.now }
-    ensures { (n : ℕ) → ones_below result n ≡ count_by (wide_begin bytes.now) (take n (places at 64)) }
-{
-    let lanes = u8x64::from_slice(&bytes[at..]);
-    (lanes & u8x64::splat(0xDF))
-        .simd_eq(u8x64::splat(0xC2))
-        .to_bitmask()
-}
-
 #[inline(always)]
 pub(crate) fn is_wide_break(x: u8, y: u8, z: u8) -> bool
     ensures { result ≡ wide_at LineBreaks.Unicode x y z }
@@ -87,7 +55,9 @@ fn wide_in(bytes: &[u8], at: usize, breaks: LineBreaks) -> usize
     if ahead(Mark::Break(breaks)) < 2 {
         return 0;
     }
-    let mut begins = wide_begins(bytes, at);
+    // C2 and E2.
+    let lanes = u8x64::from_slice(&bytes[at..]) & u8x64::splat(0xDF);
+    let mut begins = lanes.simd_eq(u8x64::splat(0xC2)).to_bitmask();
     let mut i = at;
     let mut total = 0;
     while begins.count_ones() > 0 {
@@ -100,26 +70,6 @@ fn wide_in(bytes: &[u8], at: usize, breaks: LineBreaks) -> usize
         begins = (begins >> skip) >> 1;
     }
     total
-}
-
-// The 64 bytes from `at` on more.
-#[inline(always)]
-fn add_block(sums: Sums, bytes: &[u8], at: usize, breaks: LineBreaks) -> Sums
-    requires room { at + 66 ≤ length bytes.now }
-    requires wide { sums.wide ≤ at }
-    ensures { (from n most : ℕ) → at ≡ from + n → most + 4 < 256 → IsRun breaks bytes.now from n most sums → IsRun breaks bytes.now from (n + 64) (most + 4) result }
-{
-    let mut sums = sums;
-    sums.narrow = add_ones(sums.narrow, bytes, at, Mark::Break(breaks));
-    // ASCII begins a character at each byte, and no pair and none of the other breaks.
-    if is_ascii(bytes, at) {
-        sums.chars = sums.chars + u8x16::splat(4);
-        return sums;
-    }
-    sums.chars = add_ones(sums.chars, bytes, at, Mark::Char);
-    sums.pairs = add_ones(sums.pairs, bytes, at, Mark::Pair);
-    sums.wide += wide_in(bytes, at, breaks);
-    sums
 }
 
 #[inline(always)]
@@ -143,21 +93,26 @@ pub(crate) fn count_run(bytes: &[u8], from: usize, to: usize, breaks: LineBreaks
 {
     let size = 64 * ((to - from) / 64).min(BLOCKS);
     let none = u8x16::splat(0);
-    let mut sums = Sums {
-        chars: none,
-        pairs: none,
-        narrow: none,
-        wide: 0,
-    };
+    // Of the breaks, the lanes count those that begin below 128.
+    let (mut chars, mut pairs, mut narrow, mut wide) = (none, none, none, 0);
     let mut i = from;
     while i < from + size {
-        sums = add_block(sums, bytes, i, breaks);
+        narrow = add_ones(narrow, bytes, i, Mark::Break(breaks));
+        let lanes = u8x64::from_slice(&bytes[i..]);
+        if lanes.simd_ge(u8x64::splat(0x80)).to_bitmask() == 0 {
+            // ASCII begins a character at each byte, and no pair and none of the other breaks.
+            chars = chars + u8x16::splat(4);
+        } else {
+            chars = add_ones(chars, bytes, i, Mark::Char);
+            pairs = add_ones(pairs, bytes, i, Mark::Pair);
+            wide += wide_in(bytes, i, breaks);
+        }
         i += 64;
     }
     TextInfo {
         bytes: size,
-        chars: sum_of(sums.chars),
-        utf16_surrogates: sum_of(sums.pairs),
-        break_count: sum_of(sums.narrow) + sums.wide,
+        chars: sum_of(chars),
+        utf16_surrogates: sum_of(pairs),
+        break_count: sum_of(narrow) + wide,
     }
 }

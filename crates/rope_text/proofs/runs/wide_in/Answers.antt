@@ -1,9 +1,23 @@
-use Rattle.std.proofs.Common.{◌≡◌, ℕ, ◌+◌, ◌-◌, Bool, cond, count_by, take, sym, ap, ap₂, ◌∙◌, arith}
+use Rattle.std.proofs.Common.{◌≡◌, ℕ, ◌+◌, ◌-◌, Bool, cond, count_by, take, eqb, bit_and, sym, ap, ap₂, ◌∙◌, arith}
+use Rattle.std.proofs.lemmas.List.FromFn.{length-range_with_len}
 use Rattle.rope_text.specs.declared.line_breaks.LineBreaks.TheVariants.{Unicode}
 use Rattle.rope_text.specs.Runs.{wide_begin, wide_here, wide_of, places}
-use Rattle.rope_text.proofs.LaneSums.{lowest, wide_step, wide_end, wide_few, wide_none, is_unicode}
+use Rattle.rope_text.proofs.LaneSums.{places_are, lowest, wide_step, wide_end, wide_few, wide_none, is_unicode}
+use Rattle.rope_text.proofs.Marks.{compared, computed, counted, loaded}
 use Rattle.rope_text.proofs.runs.wide_in.Goals as goal
 use Rattle.rope_text.proofs.runs.wide_in.Goals.{then-is_wide_break, else-is_wide_break}
+
+pub loop-begins-init : goal.loop-begins-init
+loop-begins-init c =
+    let s = c.args.bytes.now in
+    let i = c.args.at in
+    let long = length-range_with_len i 64 in record {
+      within = omega arith;
+      marked = λ n.
+          counted n (omega (arith, long)) (compared eqb 194 64 long (computed bit_and 223 64 long (loaded s i 64 (omega arith))))
+          ∙ ap (λ l. count_by (wide_begin s) (take n l)) (places_are i 64) ∙ ap (λ k. count_by (wide_begin s) (take n (places i k))) (let all : 64 ≡ (i + 64) - i = omega arith in all);
+      counted = omega (arith, ap (wide_of Unicode s i) (let all : (i + 64) - i ≡ 64 = omega arith in all));
+    }
 
 pub bounds-bytes-i : goal.bounds-bytes-i
 bounds-bytes-i c =
