@@ -8,11 +8,11 @@ ghost use Rattle.rope_text.specs.LineParts.{first_line};
 ghost use Rattle.rope_text.specs.Lines.{line_start};
 ghost use Rattle.rope_text.specs.TextInfo.{info_of, info_sum};
 
-use crate::LineBreaks;
 use crate::lanes::count_all;
 use crate::scan::to_first_break;
 use crate::seek::before_break;
 use crate::str_utils::width_of;
+use crate::{LineBreaks, known_set};
 
 /// What a text counts.
 // The bytes stand last: in a leaf they then lie beside the text, and a walk over leaves reads both at once.
@@ -65,21 +65,14 @@ impl TextInfo {
         ensures { result ≡ info_of breaks (first_line breaks (chars text.now)) }
     {
         let bytes = text.as_bytes();
-        let front = to_first_break(bytes, breaks);
-        if front.bytes == bytes.len() {
-            return TextInfo {
-                bytes: front.bytes,
-                chars: front.chars,
-                utf16_surrogates: front.pairs,
-                break_count: 0,
-            };
+        // Each set has a loop of its own, since marks that come from one of three places are slow to put together.
+        let mut line = known_set!(breaks => to_first_break(bytes, breaks));
+        if line.bytes < bytes.len() {
+            line.bytes += width_of(bytes[line.bytes]);
+            line.chars += 1;
+            line.break_count = 1;
         }
-        TextInfo {
-            bytes: front.bytes + width_of(bytes[front.bytes]),
-            chars: front.chars + 1,
-            utf16_surrogates: front.pairs,
-            break_count: 1,
-        }
+        line
     }
 
     /// The counts of the text before the line `line_idx`, which is not the first, by the line breaks of the set. Reads the

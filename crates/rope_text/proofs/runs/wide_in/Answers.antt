@@ -1,11 +1,12 @@
-use Rattle.std.proofs.Common.{◌≡◌, ℕ, ◌+◌, ◌-◌, Bool, cond, count_by, take, eqb, bit_and, sym, ap, ap₂, ◌∙◌, arith}
+use Rattle.std.proofs.Common.{◌≡◌, ℕ, ◌+◌, ◌-◌, ◌<◌, rules, Bool, cond, count_by, take, eqb, bit_and, sym, ap, ap₂, ◌∙◌, arith}
 use Rattle.std.proofs.lemmas.List.FromFn.{length-range_with_len}
 use Rattle.rope_text.specs.declared.line_breaks.LineBreaks.TheVariants.{Unicode}
+use Rattle.rope_text.specs.Bits.{ones_below}
 use Rattle.rope_text.specs.Runs.{wide_begin, wide_here, wide_of, places}
-use Rattle.rope_text.proofs.LaneSums.{places_are, lowest, wide_step, wide_end, wide_few, wide_none, is_unicode}
+use Rattle.rope_text.proofs.LaneSums.{IsLowest, places_are, lowest, wide_step, wide_end, wide_few, wide_none, is_unicode}
 use Rattle.rope_text.proofs.Marks.{compared, computed, counted, loaded}
 use Rattle.rope_text.proofs.runs.wide_in.Goals as goal
-use Rattle.rope_text.proofs.runs.wide_in.Goals.{then-is_wide_break, else-is_wide_break}
+use Rattle.rope_text.proofs.runs.wide_in.Goals.{After-first_mark-skip, then-is_wide_break, else-is_wide_break}
 
 pub loop-begins-init : goal.loop-begins-init
 loop-begins-init c =
@@ -19,25 +20,22 @@ loop-begins-init c =
       counted = omega (arith, ap (wide_of Unicode s i) (let all : (i + 64) - i ≡ 64 = omega arith in all));
     }
 
+low : (c : After-first_mark-skip) → IsLowest c.loop-begins.begins c.first_mark-skip.result (wide_begin c.args.bytes.now) c.loop-begins.i ((c.args.at + 64) - c.loop-begins.i)
+low c =
+    let some : 0 < ones_below c.loop-begins.begins 64 = search rules in
+    lowest _ _ _ _ _ c.loop-begins.invariant.marked c.first_mark-skip.ensures.before (c.first_mark-skip.ensures.after (c.first_mark-skip.ensures.some some))
+
 pub bounds-bytes-i : goal.bounds-bytes-i
-bounds-bytes-i c =
-    let low = lowest c.loop-begins.begins c.first_mark-skip.result (wide_begin c.args.bytes.now) c.loop-begins.i ((c.args.at + 64) - c.loop-begins.i) c.loop-begins.invariant.marked c.first_mark-skip.ensures.before c.first_mark-skip.ensures.after in
-    omega (arith, low.inside, c.loop-begins.invariant.within, c.requires)
+bounds-bytes-i c = omega (arith, (low (goal.at.bounds-bytes-i c).After-first_mark-skip).inside, c.loop-begins.invariant.within, c.requires)
 
 pub bounds-bytes-i-in-loop-begins : goal.bounds-bytes-i-in-loop-begins
-bounds-bytes-i-in-loop-begins c =
-    let low = lowest c.loop-begins.begins c.first_mark-skip.result (wide_begin c.args.bytes.now) c.loop-begins.i ((c.args.at + 64) - c.loop-begins.i) c.loop-begins.invariant.marked c.first_mark-skip.ensures.before c.first_mark-skip.ensures.after in
-    omega (arith, low.inside, c.loop-begins.invariant.within, c.requires)
+bounds-bytes-i-in-loop-begins c = omega (arith, (low (goal.at.bounds-bytes-i-in-loop-begins c).After-first_mark-skip).inside, c.loop-begins.invariant.within, c.requires)
 
 pub bounds-bytes-i-in-loop-begins-2 : goal.bounds-bytes-i-in-loop-begins-2
-bounds-bytes-i-in-loop-begins-2 c =
-    let low = lowest c.loop-begins.begins c.first_mark-skip.result (wide_begin c.args.bytes.now) c.loop-begins.i ((c.args.at + 64) - c.loop-begins.i) c.loop-begins.invariant.marked c.first_mark-skip.ensures.before c.first_mark-skip.ensures.after in
-    omega (arith, low.inside, c.loop-begins.invariant.within, c.requires)
+bounds-bytes-i-in-loop-begins-2 c = omega (arith, (low (goal.at.bounds-bytes-i-in-loop-begins-2 c).After-first_mark-skip).inside, c.loop-begins.invariant.within, c.requires)
 
 pub loop-begins-smaller : goal.loop-begins-smaller
-loop-begins-smaller c =
-    let low = lowest c.loop-begins.begins c.first_mark-skip.result (wide_begin c.args.bytes.now) c.loop-begins.i ((c.args.at + 64) - c.loop-begins.i) c.loop-begins.invariant.marked c.first_mark-skip.ensures.before c.first_mark-skip.ensures.after in
-    omega (arith, low.inside, c.loop-begins.invariant.within, c.requires)
+loop-begins-smaller c = omega (arith, (low (goal.at.loop-begins-smaller c).After-first_mark-skip).inside, c.loop-begins.invariant.within, c.requires)
 
 pub overflow_add-total : goal.overflow_add-total
 overflow_add-total c = omega (arith, c.loop-begins.invariant.counted, wide_few Unicode c.args.bytes.now c.args.at 64)
@@ -48,7 +46,7 @@ loop-begins-preserved c =
     let l = c.loop-begins in
     let k = c.first_mark-skip.result in
     let n : ℕ = (c.args.at + 64) - l.i in
-    let low = lowest c.loop-begins.begins c.first_mark-skip.result (wide_begin c.args.bytes.now) c.loop-begins.i ((c.args.at + 64) - c.loop-begins.i) c.loop-begins.invariant.marked c.first_mark-skip.ensures.before c.first_mark-skip.ensures.after in
+    let low = low (goal.at.loop-begins-preserved c).After-first_mark-skip in
     let next : l.i + (k + 1) ≡ (l.i + k) + 1 = omega arith in
     let left : n - (k + 1) ≡ (c.args.at + 64) - ((l.i + k) + 1) = omega arith in
     let step = wide_step s l.begins k l.i n low in

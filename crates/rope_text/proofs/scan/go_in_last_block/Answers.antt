@@ -1,4 +1,5 @@
-use Rattle.std.proofs.Common.{◌≡◌, ℕ, ◌+◌, ◌-◌, ◌≤◌, drop, count_by, length, ap, refl, arith}
+use Rattle.std.proofs.Common.{◌≡◌, ℕ, ◌+◌, ◌-◌, ◌≤◌, ◌/◌, ◌^◌, drop, count_by, length, ap, refl, arith}
+use Rattle.rope_text.specs.Bits.{ones_below}
 use Rattle.rope_text.specs.Bytes.{begins_char, begins_pair}
 use Rattle.rope_text.specs.ByteBreaks.{byte_break_count}
 use Rattle.rope_text.proofs.BitLaws.{ones_more}
@@ -12,19 +13,20 @@ returns c =
     let f = c.args.from in
     let at : ℕ = length s - 34 in
     let skip : ℕ = f.bytes - at in
-    let more = c.first_mark_before-more.result in
-    let bound = c.first_mark_before-more.ensures.bound in
+    let more : ℕ = c.min.result in
+    let first : ℕ = c.first_mark.result in
     let start : at + skip ≡ f.bytes = omega (arith, c.requires.near) in
-    let end : at + (skip + more) ≡ f.bytes + more = omega (arith, start) in
     let few : skip ≤ 32 = omega arith in
-    let all : skip + more ≤ 32 = omega (arith, few, bound) in
-    front_block b s f _ more c.ones_between.result c.ones_between-2.result c.requires.front refl (omega (arith, all, end)) refl refl
+    let all : skip + more ≤ 32 = omega (arith, few, c.min.ensures) in
+    let end : at + (skip + more) ≡ f.bytes + more = omega (arith, start) in
+    let none : ones_below (c.mask.result / 2 ^ skip) more ≡ 0 = omega (arith, ones_more (c.mask.result / 2 ^ skip) more (first - more) first (omega (arith, c.min.ensures)), c.first_mark.ensures.before) in
+    front_block b s f _ more c.ones_between.result c.ones_between-2.result c.requires.front end (omega (arith, all, end)) refl refl refl
     (omega (
       arith,
       c.mask.ensures skip few,
       c.mask.ensures (skip + more) all,
       ones_more c.mask.result skip more (skip + more) refl,
-      c.first_mark_before-more.ensures.before,
+      none,
       ap (λ k. byte_break_count b (drop k s)) start,
       ap (λ k. byte_break_count b (drop k s)) end,
     ))

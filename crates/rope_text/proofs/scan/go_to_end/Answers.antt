@@ -7,4 +7,4 @@ pub loop-front-preserved : goal.loop-front-preserved
 loop-front-preserved c =
     let s = c.loop-front in
     front_step c.args.breaks c.args.bytes.now s.front _ s.invariant (omega arith)
-    (sym c.is_mark.ensures ∙ c.if-not-is_mark.true) refl (ap (λ n. s.front.chars + n) (one_where _ _ c.is_mark-in-loop-front.ensures)) (ap (λ n. s.front.pairs + n) (one_where _ _ c.is_mark-in-loop-front-2.ensures))
+    (sym c.is_mark.ensures ∙ c.if-not-is_mark.true) refl (ap (λ n. s.front.chars + n) (one_where _ _ c.is_mark-in-loop-front.ensures)) (ap (λ n. s.front.utf16_surrogates + n) (one_where _ _ c.is_mark-in-loop-front-2.ensures)) refl
