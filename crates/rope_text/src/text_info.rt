@@ -66,9 +66,15 @@ impl TextInfo {
     {
         let bytes = text.as_bytes();
         // Each set has a loop of its own, since marks that come from one of three places are slow to put together.
-        let mut line = known_set!(breaks => to_first_break(bytes, breaks));
-        if line.bytes < bytes.len() {
-            line.bytes += width_of(bytes[line.bytes]);
+        let (chars, at, pairs) = known_set!(breaks => to_first_break(bytes, breaks));
+        let mut line = TextInfo {
+            bytes: at,
+            chars,
+            utf16_surrogates: pairs,
+            break_count: 0,
+        };
+        if at < bytes.len() {
+            line.bytes += width_of(bytes[at]);
             line.chars += 1;
             line.break_count = 1;
         }

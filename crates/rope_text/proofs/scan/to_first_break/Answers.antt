@@ -2,20 +2,14 @@ use Rattle.std.proofs.Common.{◌≡◌, ◌+◌, ◌<◌, ℕ, drop, ap, ◌∙
 use Rattle.rope_text.specs.Bits.{ones_below}
 use Rattle.rope_text.specs.ByteBreaks.{byte_break_count, breaks_at}
 use Rattle.rope_text.proofs.BitLaws.{found_mark, no_marks}
-use Rattle.rope_text.proofs.Blocks.{no_counts, byte_break_count-drop}
-use Rattle.rope_text.proofs.Scans.{front_start}
+use Rattle.rope_text.proofs.Blocks.{byte_break_count-drop}
 use Rattle.rope_text.proofs.scan.to_first_break.Goals as goal
-
-pub loop-front-init : goal.loop-front-init
-loop-front-init c =
-    let none = no_counts _ c.new-front.ensures in
-    front_start c.args.breaks c.args.bytes.now _ none.bytes none.chars none.pairs none.break_count
 
 pub returns-then-ones_before-gt0-clause-inside : goal.returns-then-ones_before-gt0-clause-inside
 returns-then-ones_before-gt0-clause-inside c = λ inside.
     let s = c.args.bytes.now in
     let breaks = c.args.breaks in
-    let i : ℕ = c.loop-front.front.bytes in
+    let i : ℕ = c.loop-at.at in
     let mask = c.known_mask-marks in
     let mark = c.first_mark-skip in
     let r : ℕ = mark.result in
