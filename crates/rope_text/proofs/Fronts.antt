@@ -8,6 +8,7 @@ use Rattle.std.specs.Char.{encode_utf8}
 use Rattle.std.specs.Str.{chars, IsUtf8, IsCharBoundary, encode_utf8_all, all_scalars}
 use Rattle.rope_text.specs.declared.line_breaks.LineBreaks.{LineBreaks}
 use Rattle.rope_text.specs.declared.line_breaks.LineBreaks.TheVariants.{Lf, CrLf, Unicode}
+use Rattle.rope_text.specs.declared.lanes.Mark.{Mark}
 use Rattle.rope_text.specs.declared.lanes.Mark.TheVariants.{Char}
 use Rattle.rope_text.specs.Marks.{IsPassed, IsPlaceOf}
 use Rattle.rope_text.specs.Text.{byte_len, utf16_len, surrogate_count}
@@ -108,14 +109,22 @@ units_later bs i j l =
     let pairs = rw same at (count_by-block begins_pair bs i (j - i)) in
     omega arith
 
--- the same, where blocks were passed on the way, and it can be cut there
+-- a mark that was searched for behind blocks that were passed on the way to it
+pub passed_mark : (mark : Mark) (bs : List ℕ) (n at left p : ℕ) → IsPassed mark bs n at left → IsPlaceOf mark bs at left p → IsPlaceOf mark bs 0 n p
+passed_mark mark bs n at left p passed place = record {
+  not_before = omega arith;
+  bound = place.bound;
+  inside = λ l. (omega (arith, passed.counted, (place.inside l).0), (place.inside l).1);
+  end = λ e. omega (arith, passed.counted, place.end e);
+}
+
+-- the same of a character, at which the text can be cut
 pub passed_place : (bs text : List ℕ) (n at left p : ℕ) → IsUtf8 bs → bs ≡ text → IsPassed Char bs n at left → IsPlaceOf Char bs at left p
     → (p ≡ byte_len (take n (chars text))) × IsCharBoundary text p
-passed_place bs text n at left p u same passed place =
-    let inside : p < length bs → (count_by begins_char bs ≡ n + count_by begins_char (drop p bs)) × (begins_char (get_or bs p 0) ≡ true) =
-    λ l. (omega (arith, passed.counted, (place.inside l).0), (place.inside l).1) in (
-      char_place bs n p u place.bound inside (λ e. omega (arith, passed.counted, place.end e)) ∙ ap (λ xs. byte_len (take n (chars xs))) same,
-      subst (λ xs. IsCharBoundary xs p) same (boundary_of_begin bs p place.bound (λ l. (inside l).1)),
+passed_place bs text n at left p u same passed behind =
+    let place = passed_mark Char bs n at left p passed behind in (
+      char_place bs n p u place.bound place.inside place.end ∙ ap (λ xs. byte_len (take n (chars xs))) same,
+      subst (λ xs. IsCharBoundary xs p) same (boundary_of_begin bs p place.bound (λ l. (place.inside l).1)),
     )
 
 -- the characters before the one that holds code unit n

@@ -306,37 +306,6 @@ fn count_known(bytes: &[u8], breaks: LineBreaks) -> TextInfo
     }
 }
 
-// The same of one byte, as of a key that was pressed.
-#[inline(always)]
-fn count_one(bytes: &[u8], breaks: LineBreaks) -> TextInfo
-    requires { length bytes.now ≡ 1 }
-    ensures { AreCounts breaks bytes.now result }
-{
-    TextInfo {
-        bytes: 1,
-        chars: is_mark(bytes, 0, Mark::Char) as usize,
-        utf16_surrogates: is_mark(bytes, 0, Mark::Pair) as usize,
-        break_count: is_mark(bytes, 0, Mark::Break(breaks)) as usize,
-    }
-}
-
-// The same of few bytes, at most 32: they are put before zeros, of which none begins a break, and are counted at once.
-#[inline(always)]
-fn count_few(bytes: &[u8], breaks: LineBreaks) -> TextInfo
-    requires { length bytes.now ≤ 32 }
-    ensures { AreCounts breaks bytes.now result }
-{
-    let len = bytes.len();
-    let mut block = [0; 34];
-    block[..len].copy_from_slice(bytes);
-    TextInfo {
-        bytes: len,
-        chars: ones_before(mask(&block, 0, Mark::Char), len),
-        utf16_surrogates: ones_before(mask(&block, 0, Mark::Pair), len),
-        break_count: ones_before(mask(&block, 0, Mark::Break(breaks)), len),
-    }
-}
-
 // The same in blocks. It stands by itself, since where it is expanded the few would wait for what it answers through memory.
 #[inline(never)]
 fn count_many(bytes: &[u8], breaks: LineBreaks) -> TextInfo
@@ -350,11 +319,26 @@ fn count_many(bytes: &[u8], breaks: LineBreaks) -> TextInfo
 pub(crate) fn count_all(bytes: &[u8], breaks: LineBreaks) -> TextInfo
     ensures { AreCounts breaks bytes.now result }
 {
-    if bytes.len() == 1 {
-        count_one(bytes, breaks)
-    } else if bytes.len() <= 32 {
-        count_few(bytes, breaks)
-    } else {
-        count_many(bytes, breaks)
+    let len = bytes.len();
+    // One byte, as of a key that was pressed.
+    if len == 1 {
+        return TextInfo {
+            bytes: 1,
+            chars: is_mark(bytes, 0, Mark::Char) as usize,
+            utf16_surrogates: is_mark(bytes, 0, Mark::Pair) as usize,
+            break_count: is_mark(bytes, 0, Mark::Break(breaks)) as usize,
+        };
+    }
+    if len > 32 {
+        return count_many(bytes, breaks);
+    }
+    // Few bytes are put before zeros, of which none begins a break, and are counted at once.
+    let mut block = [0; 34];
+    block[..len].copy_from_slice(bytes);
+    TextInfo {
+        bytes: len,
+        chars: ones_before(mask(&block, 0, Mark::Char), len),
+        utf16_surrogates: ones_before(mask(&block, 0, Mark::Pair), len),
+        break_count: ones_before(mask(&block, 0, Mark::Break(breaks)), len),
     }
 }

@@ -5,13 +5,17 @@ ghost use Rattle.std.specs.Prelude.{◌+◌, ◌<◌, ◌≤◌, length, IsTrue}
 ghost use Rattle.rope_text.specs.ByteBreaks.{breaks_at};
 ghost use Rattle.rope_text.specs.Scan.{IsFront};
 
+use crate::LineBreaks;
 use crate::bits::{first_mark, ones_before, ones_between};
 use crate::lanes::{Mark, is_mark, known_mask, mask};
-use crate::LineBreaks;
 
 // From a place near the end up to the next break or to where the last block ends that can be read; from behind that no further.
 #[inline(always)]
-fn go_in_last_block(bytes: &[u8], from: (usize, usize, usize), breaks: LineBreaks) -> (usize, usize, usize)
+fn go_in_last_block(
+    bytes: &[u8],
+    from: (usize, usize, usize),
+    breaks: LineBreaks,
+) -> (usize, usize, usize)
     requires near { length bytes.now ≤ from.1 + 34 }
     requires front { IsFront breaks bytes.now from.0 from.1 from.2 }
     ensures { IsFront breaks bytes.now result.0 result.1 result.2 }
@@ -26,7 +30,11 @@ fn go_in_last_block(bytes: &[u8], from: (usize, usize, usize), breaks: LineBreak
     let doubles = known_mask(bytes, at, Mark::Pair);
     let marks = mask(bytes, at, Mark::Break(breaks)) >> skip;
     let to = skip + first_mark(marks).min(32 - skip);
-    (chars + ones_between(begins, skip, to), at + to, pairs + ones_between(doubles, skip, to))
+    (
+        chars + ones_between(begins, skip, to),
+        at + to,
+        pairs + ones_between(doubles, skip, to),
+    )
 }
 
 // From behind the last whole block on. Never inlined: it is done once a chunk.

@@ -3,13 +3,19 @@
 //! A place that isn't there is the end.
 #![tactic(auto, using(crate::proofs::Blocks::begins_le, crate::proofs::Blocks::pairs_le, crate::proofs::Blocks::byte_break_count_le))]
 
-ghost use Rattle.std.specs.Prelude.{◌≡◌, ◌+◌, ◌≤◌, length, count_by, drop};
+ghost use Rattle.std.specs.Prelude.{◌≡◌, ◌+◌, ◌<◌, ◌≤◌, length, count_by, drop, take};
 ghost use Rattle.rope_text.specs.Bytes.{begins_char, begins_pair};
 ghost use Rattle.rope_text.specs.ByteBreaks.{byte_break_count, IsUnitPlaceOf};
 ghost use Rattle.rope_text.specs.Marks.{IsPlaceOf, IsPassed};
+ghost use Rattle.std.specs.Str.{chars};
+ghost use Rattle.rope_text.specs.Breaks.{break_count};
+ghost use Rattle.rope_text.specs.Conversions.{line_to_byte, line_to_char};
+ghost use Rattle.rope_text.specs.Lines.{line_start};
+ghost use Rattle.rope_text.specs.TextInfo.{info_of};
 
 use crate::bits::{ones_before, place_of_mark};
 use crate::lanes::{Mark, ahead, is_mark, known_mask, marks_between, marks_in, mask};
+use crate::str_utils::width_of;
 use crate::{LineBreaks, TextInfo, known_set};
 
 // The byte with which the mark `n` begins, counted from the byte `from` on, byte by byte.
@@ -180,19 +186,29 @@ fn skip_known(bytes: &[u8], n: usize, breaks: LineBreaks) -> (usize, TextInfo)
     (left, counts)
 }
 
-/// What the bytes before the last character of the break `n` count, the breaks counted from 0 and the count of them left out.
-/// What a caller takes no count of isn't counted, since this is expanded there.
+/// What the text before the line `line_idx` counts, or all of it where no line has that number. What a caller takes no count of
+/// isn't counted, since this is expanded there.
 #[inline(always)]
-pub(crate) fn before_break(bytes: &[u8], n: usize, breaks: LineBreaks) -> TextInfo
-    ensures place { IsPlaceOf (Mark.Break breaks) bytes.now 0 n result.bytes }
-    ensures chars { count_by begins_char bytes.now ≡ result.chars + count_by begins_char (drop result.bytes bytes.now) }
-    ensures pairs { count_by begins_pair bytes.now ≡ result.utf16_surrogates + count_by begins_pair (drop result.bytes bytes.now) }
+pub(crate) fn front_of_line(text: &str, line_idx: usize, breaks: LineBreaks) -> TextInfo
+    ensures bytes { result.bytes ≡ line_to_byte breaks (chars text.now) line_idx }
+    ensures chars { result.chars ≡ line_to_char breaks (chars text.now) line_idx }
+    ensures counts { 0 < line_idx → line_idx ≤ break_count breaks (chars text.now)
+        → result ≡ info_of breaks (take (line_start breaks (chars text.now) line_idx) (chars text.now)) }
 {
-    let (left, mut counts) = known_set!(breaks => skip_known(bytes, n, breaks));
+    if line_idx == 0 {
+        return TextInfo::new();
+    }
+    let bytes = text.as_bytes();
+    let (left, mut counts) = known_set!(breaks => skip_known(bytes, line_idx - 1, breaks));
     let from = counts.bytes;
     let to = find_from(bytes, from, left, Mark::Break(breaks));
     counts.chars += marks_between(bytes, from, to, Mark::Char);
     counts.utf16_surrogates += marks_between(bytes, from, to, Mark::Pair);
     counts.bytes = to;
+    counts.break_count = line_idx;
+    if to < bytes.len() {
+        counts.bytes += width_of(bytes[to]);
+        counts.chars += 1;
+    }
     counts
 }

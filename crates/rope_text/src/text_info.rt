@@ -10,7 +10,7 @@ ghost use Rattle.rope_text.specs.TextInfo.{info_of, info_sum};
 
 use crate::lanes::count_all;
 use crate::scan::to_first_break;
-use crate::seek::before_break;
+use crate::seek::front_of_line;
 use crate::str_utils::width_of;
 use crate::{LineBreaks, known_set};
 
@@ -88,14 +88,7 @@ impl TextInfo {
         requires within { line_idx ≤ break_count breaks (chars text.now) }
         ensures { result ≡ info_of breaks (take (line_start breaks (chars text.now) line_idx) (chars text.now)) }
     {
-        let bytes = text.as_bytes();
-        let counted = before_break(bytes, line_idx - 1, breaks);
-        TextInfo {
-            bytes: counted.bytes + width_of(bytes[counted.bytes]),
-            chars: counted.chars + 1,
-            break_count: line_idx,
-            ..counted
-        }
+        front_of_line(text, line_idx, breaks)
     }
 
     /// The sums: the counts of two texts joined, unless CR meets LF there, which makes one line break less. Each

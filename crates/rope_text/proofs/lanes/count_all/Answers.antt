@@ -5,7 +5,7 @@ use Rattle.std.proofs.lemmas.Grind.{common_steps}
 use Rattle.rope_text.specs.ByteBreaks.{byte_break_count}
 use Rattle.rope_text.proofs.ByteBreakLaws.{byte_break_count-past}
 use Rattle.rope_text.proofs.Padded.{AreZeros, zeros_dropped, no_breaks, breaks_padded}
-use Rattle.rope_text.proofs.lanes.count_few.Goals as goal
+use Rattle.rope_text.proofs.lanes.count_all.Goals as goal
 
 zeros_at : (n : ℕ) → AreZeros (replicate n 0)
 zeros_at zero k = refl
@@ -26,5 +26,5 @@ returns c =
       bytes_are = search rules;
       chars = grind (arith, common_steps);
       pairs = grind (arith, common_steps);
-      break_count = omega (arith, c.mask-3.ensures n c.requires, whole, behind, c.ones_before-3.ensures, byte_break_count-past b bs n (omega arith));
+      break_count = omega (arith, c.mask-3.ensures n (omega arith), whole, behind, c.ones_before-3.ensures, byte_break_count-past b bs n (omega arith));
     }
