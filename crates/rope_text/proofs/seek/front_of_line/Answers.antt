@@ -32,9 +32,9 @@ front c =
     let left = c.match-breaks.left in
     let passed : IsPassed (Break c.args.breaks) bs (c.args.line_idx - 1) left.1.bytes left.0
     × (count_by begins_char bs ≡ left.1.chars + count_by begins_char (drop left.1.bytes bs)) × (count_by begins_pair bs ≡ left.1.utf16_surrogates + count_by begins_pair (drop left.1.bytes bs)) = elim c.match-breaks.branch [
-      | in-Lf w ↦ rw (w.left-is, w.in-Lf.is) (w.skip_known.ensures.passed, w.skip_known.ensures.chars, w.skip_known.ensures.pairs)
-      | in-CrLf w ↦ rw (w.left-is, w.in-CrLf.is) (w.skip_known-in-CrLf.ensures.passed, w.skip_known-in-CrLf.ensures.chars, w.skip_known-in-CrLf.ensures.pairs)
-      | in-Unicode w ↦ rw (w.left-is, w.in-Unicode.is) (w.skip_known-in-Unicode.ensures.passed, w.skip_known-in-Unicode.ensures.chars, w.skip_known-in-Unicode.ensures.pairs)
+      | in-Lf w ↦ rw w.left-is (w.skip_known.ensures.passed, w.skip_known.ensures.chars, w.skip_known.ensures.pairs)
+      | in-CrLf w ↦ rw w.left-is (w.skip_known-in-CrLf.ensures.passed, w.skip_known-in-CrLf.ensures.chars, w.skip_known-in-CrLf.ensures.pairs)
+      | in-Unicode w ↦ rw w.left-is (w.skip_known-in-Unicode.ensures.passed, w.skip_known-in-Unicode.ensures.chars, w.skip_known-in-Unicode.ensures.pairs)
     ] in
     (passed_mark _ bs _ _ _ _ passed.0 c.find_from-to.ensures, omega (arith, passed.1, c.marks_between.ensures), omega (arith, passed.2, c.marks_between-2.ensures))
 

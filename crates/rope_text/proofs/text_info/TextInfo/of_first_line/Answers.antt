@@ -11,9 +11,9 @@ use Rattle.rope_text.proofs.text_info.TextInfo.of_first_line.Goals as goal
 scanned : (c : Joined-breaks) → IsFront c.args.breaks c.as_bytes-bytes.result.now c.match-breaks.chars.0 c.match-breaks.chars.1 c.match-breaks.chars.2
     × (c.match-breaks.chars.1 < length c.as_bytes-bytes.result.now → IsTrue (breaks_at c.args.breaks c.as_bytes-bytes.result.now c.match-breaks.chars.1))
 scanned c = elim c.match-breaks.branch [
-  | in-Lf w ↦ rw (w.chars-is, w.in-Lf.is) (w.to_first_break.ensures.front, w.to_first_break.ensures.inside)
-  | in-CrLf w ↦ rw (w.chars-is, w.in-CrLf.is) (w.to_first_break-in-CrLf.ensures.front, w.to_first_break-in-CrLf.ensures.inside)
-  | in-Unicode w ↦ rw (w.chars-is, w.in-Unicode.is) (w.to_first_break-in-Unicode.ensures.front, w.to_first_break-in-Unicode.ensures.inside)
+  | in-Lf w ↦ rw w.chars-is (w.to_first_break.ensures.front, w.to_first_break.ensures.inside)
+  | in-CrLf w ↦ rw w.chars-is (w.to_first_break-in-CrLf.ensures.front, w.to_first_break-in-CrLf.ensures.inside)
+  | in-Unicode w ↦ rw w.chars-is (w.to_first_break-in-Unicode.ensures.front, w.to_first_break-in-Unicode.ensures.inside)
 ]
 
 pub returns-then-at-bytes : goal.returns-then-at-bytes
