@@ -45,10 +45,7 @@ pub(crate) fn place_of_mark(first: u64, second: u64, n: usize) -> usize
     if second == 0 && ones_before(first, 32) == 32 {
         return n;
     }
-    let mut ones = first;
-    let mut more = second;
-    let mut left = n;
-    let mut place = 0;
+    let (mut ones, mut more, mut left, mut place) = (first, second, n, 0);
     let mut step = 5usize;
     while step > 0 {
         step -= 1;

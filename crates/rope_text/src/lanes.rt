@@ -294,16 +294,14 @@ fn count_known(bytes: &[u8], breaks: LineBreaks) -> TextInfo
 {
     let end = bytes.len();
     let last = end.saturating_sub(2);
-    let blocks = count_blocks(bytes, 0, last, breaks);
-    let at = blocks.bytes;
-    let mark = Mark::Break(breaks);
-    let more = marks_between(bytes, at, last, mark) + marks_byte_by_byte(bytes, last, end, mark);
-    TextInfo {
-        bytes: end,
-        chars: blocks.chars + marks_between(bytes, at, end, Mark::Char),
-        utf16_surrogates: blocks.utf16_surrogates + marks_between(bytes, at, end, Mark::Pair),
-        break_count: blocks.break_count + more,
-    }
+    let mut counts = count_blocks(bytes, 0, last, breaks);
+    let at = counts.bytes;
+    counts.bytes = end;
+    counts.chars += marks_between(bytes, at, end, Mark::Char);
+    counts.utf16_surrogates += marks_between(bytes, at, end, Mark::Pair);
+    counts.break_count += marks_between(bytes, at, last, Mark::Break(breaks));
+    counts.break_count += marks_byte_by_byte(bytes, last, end, Mark::Break(breaks));
+    counts
 }
 
 // The same in blocks. It stands by itself, since where it is expanded the few would wait for what it answers through memory.

@@ -58,8 +58,7 @@ fn wide_in(bytes: &[u8], at: usize, breaks: LineBreaks) -> usize
     // C2 and E2.
     let lanes = u8x64::from_slice(&bytes[at..]) & u8x64::splat(0xDF);
     let mut begins = lanes.simd_eq(u8x64::splat(0xC2)).to_bitmask();
-    let mut i = at;
-    let mut total = 0;
+    let (mut i, mut total) = (at, 0);
     while begins.count_ones() > 0 {
         let skip = first_mark(begins);
         i += skip;

@@ -42,8 +42,7 @@ pub(crate) fn find_from(bytes: &[u8], from: usize, n: usize, mark: Mark) -> usiz
     requires { from ≤ length bytes.now }
     ensures { IsPlaceOf mark bytes.now from n result }
 {
-    let mut at = from;
-    let mut left = n;
+    let (mut at, mut left) = (from, n);
     while bytes.len() - at >= 32 + ahead(mark) {
         let begun = mask(bytes, at, mark);
         let passed = ones_before(begun, 32);
@@ -61,8 +60,7 @@ pub(crate) fn find_from(bytes: &[u8], from: usize, n: usize, mark: Mark) -> usiz
 pub(crate) fn skip_chars(bytes: &[u8], n: usize) -> (usize, usize)
     ensures { IsPassed Mark.Char bytes.now n result.0 result.1 }
 {
-    let mut at = 0;
-    let mut left = n;
+    let (mut at, mut left) = (0, n);
     while bytes.len() - at >= 64 {
         let passed = marks_in(bytes, at, Mark::Char) + marks_in(bytes, at + 32, Mark::Char);
         if left < passed {
@@ -119,9 +117,7 @@ pub(crate) fn place_of_unit(bytes: &[u8], n: usize) -> (usize, usize)
     ensures place { IsUnitPlaceOf bytes.now 0 n result.0 }
     ensures chars { count_by begins_char bytes.now ≡ result.1 + count_by begins_char (drop result.0 bytes.now) }
 {
-    let mut at = 0;
-    let mut left = n;
-    let mut chars = 0;
+    let (mut at, mut left, mut chars) = (0, n, 0);
     while bytes.len() - at >= 32 {
         let begins = known_mask(bytes, at, Mark::Char);
         let pairs = known_mask(bytes, at, Mark::Pair);
@@ -145,9 +141,7 @@ pub(crate) fn line_of_char(bytes: &[u8], n: usize, breaks: LineBreaks) -> (usize
     ensures place { IsPlaceOf Mark.Char bytes.now 0 n result.0 }
     ensures break_count { byte_break_count breaks bytes.now ≡ result.1 + byte_break_count breaks (drop result.0 bytes.now) }
 {
-    let mut at = 0;
-    let mut left = n;
-    let mut break_count = 0;
+    let (mut at, mut left, mut break_count) = (0, n, 0);
     while bytes.len() - at >= 34 {
         let passed = marks_in(bytes, at, Mark::Char);
         if left < passed {
@@ -170,8 +164,7 @@ fn skip_known(bytes: &[u8], n: usize, breaks: LineBreaks) -> (usize, TextInfo)
     ensures chars { count_by begins_char bytes.now ≡ result.1.chars + count_by begins_char (drop result.1.bytes bytes.now) }
     ensures pairs { count_by begins_pair bytes.now ≡ result.1.utf16_surrogates + count_by begins_pair (drop result.1.bytes bytes.now) }
 {
-    let mut left = n;
-    let mut counts = TextInfo::new();
+    let (mut left, mut counts) = (n, TextInfo::new());
     while bytes.len() - counts.bytes >= 34 {
         let at = counts.bytes;
         let passed = marks_in(bytes, at, Mark::Break(breaks));

@@ -66,15 +66,11 @@ impl TextInfo {
     {
         let bytes = text.as_bytes();
         // Each set has a loop of its own, since marks that come from one of three places are slow to put together.
-        let (chars, at, pairs) = known_set!(breaks => to_first_break(bytes, breaks));
-        let mut line = TextInfo {
-            bytes: at,
-            chars,
-            utf16_surrogates: pairs,
-            break_count: 0,
-        };
-        if at < bytes.len() {
-            line.bytes += width_of(bytes[at]);
+        let mut line = TextInfo::new();
+        (line.chars, line.bytes, line.utf16_surrogates) =
+            known_set!(breaks => to_first_break(bytes, breaks));
+        if line.bytes < bytes.len() {
+            line.bytes += width_of(bytes[line.bytes]);
             line.chars += 1;
             line.break_count = 1;
         }
