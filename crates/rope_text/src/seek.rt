@@ -1,19 +1,23 @@
 //! Searches for places in the bytes of a text: whole blocks of 32 bytes are counted until the one that holds
 //! the place, and that one is halved. What is left behind the last block is gone through byte by byte.
 //! A place that isn't there is the end.
+//!
+//! The first line break of a text is found with what the text before it counts, in one pass. That goes as characters, bytes and
+//! pairs: with the two counts side by side, the compiler would add them up in one vector register, which takes longer.
 #![tactic(auto, using(crate::proofs::Blocks::begins_le, crate::proofs::Blocks::pairs_le, crate::proofs::Blocks::byte_break_count_le))]
 
-ghost use Rattle.std.specs.Prelude.{◌≡◌, ◌+◌, ◌<◌, ◌≤◌, length, count_by, drop, take};
+ghost use Rattle.std.specs.Prelude.{◌≡◌, ◌+◌, ◌<◌, ◌≤◌, length, count_by, drop, take, IsTrue};
 ghost use Rattle.rope_text.specs.Bytes.{begins_char, begins_pair};
-ghost use Rattle.rope_text.specs.ByteBreaks.{byte_break_count, IsUnitPlaceOf};
+ghost use Rattle.rope_text.specs.ByteBreaks.{byte_break_count, IsUnitPlaceOf, breaks_at};
 ghost use Rattle.rope_text.specs.Marks.{IsPlaceOf, IsPassed};
 ghost use Rattle.std.specs.Str.{chars};
 ghost use Rattle.rope_text.specs.Breaks.{break_count};
 ghost use Rattle.rope_text.specs.Conversions.{line_to_byte, line_to_char};
 ghost use Rattle.rope_text.specs.Lines.{line_start};
 ghost use Rattle.rope_text.specs.TextInfo.{info_of};
+ghost use Rattle.rope_text.specs.Scan.{IsFront};
 
-use crate::bits::{ones_before, place_of_mark};
+use crate::bits::{first_mark, ones_before, ones_between, place_of_mark};
 use crate::lanes::{Mark, ahead, is_mark, known_mask, marks_between, marks_in, mask};
 use crate::str_utils::width_of;
 use crate::{LineBreaks, TextInfo, known_set};
@@ -204,4 +208,73 @@ pub(crate) fn front_of_line(text: &str, line_idx: usize, breaks: LineBreaks) -> 
         counts.chars += 1;
     }
     counts
+}
+
+// From a place near the end up to the next break or to where the last block ends that can be read; from behind that no further.
+#[inline(always)]
+fn go_in_last_block(
+    bytes: &[u8],
+    from: (usize, usize, usize),
+    breaks: LineBreaks,
+) -> (usize, usize, usize)
+    requires near { length bytes.now ≤ from.1 + 34 }
+    requires front { IsFront breaks bytes.now from.0 from.1 from.2 }
+    ensures { IsFront breaks bytes.now result.0 result.1 result.2 }
+{
+    let (chars, start, pairs) = from;
+    if bytes.len() < 34 || start > bytes.len() - 2 {
+        return from;
+    }
+    let at = bytes.len() - 34;
+    let skip = start - at;
+    let begins = known_mask(bytes, at, Mark::Char);
+    let doubles = known_mask(bytes, at, Mark::Pair);
+    let marks = mask(bytes, at, Mark::Break(breaks)) >> skip;
+    let to = skip + first_mark(marks).min(32 - skip);
+    (
+        chars + ones_between(begins, skip, to),
+        at + to,
+        pairs + ones_between(doubles, skip, to),
+    )
+}
+
+// From behind the last whole block on. Never inlined: it is done once a chunk.
+#[inline(never)]
+fn go_to_end(bytes: &[u8], from: (usize, usize, usize), breaks: LineBreaks) -> (usize, usize, usize)
+    requires near { length bytes.now ≤ from.1 + 34 }
+    requires front { IsFront breaks bytes.now from.0 from.1 from.2 }
+    ensures front { IsFront breaks bytes.now result.0 result.1 result.2 }
+    ensures inside { result.1 < length bytes.now → IsTrue (breaks_at breaks bytes.now result.1) }
+{
+    let (mut chars, mut at, mut pairs) = go_in_last_block(bytes, from, breaks);
+    while at < bytes.len() && !is_mark(bytes, at, Mark::Break(breaks)) {
+        chars += is_mark(bytes, at, Mark::Char) as usize;
+        pairs += is_mark(bytes, at, Mark::Pair) as usize;
+        at += 1;
+    }
+    (chars, at, pairs)
+}
+
+/// The bytes before the one at which the last character of the first line break begins, or all, and what they count: a block at a
+/// time. A set that is known where this is called leaves no test for it in the loop.
+#[inline(always)]
+pub(crate) fn to_first_break(bytes: &[u8], breaks: LineBreaks) -> (usize, usize, usize)
+    ensures front { IsFront breaks bytes.now result.0 result.1 result.2 }
+    ensures inside { result.1 < length bytes.now → IsTrue (breaks_at breaks bytes.now result.1) }
+{
+    let (mut chars, mut at, mut pairs) = (0, 0, 0);
+    while bytes.len() - at >= 34 {
+        let marks = known_mask(bytes, at, Mark::Break(breaks));
+        let begins = known_mask(bytes, at, Mark::Char);
+        let doubles = known_mask(bytes, at, Mark::Pair);
+        if ones_before(marks, 32) > 0 {
+            let skip = first_mark(marks);
+            chars += ones_before(begins, skip);
+            return (chars, at + skip, pairs + ones_before(doubles, skip));
+        }
+        at += 32;
+        chars += ones_before(begins, 32);
+        pairs += ones_before(doubles, 32);
+    }
+    go_to_end(bytes, (chars, at, pairs), breaks)
 }

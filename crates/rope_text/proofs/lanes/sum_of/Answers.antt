@@ -3,7 +3,7 @@ use Rattle.std.proofs.lemmas.List.{map-id}
 use Rattle.std.proofs.lemmas.Simd.{sum_fits, fold-sum, sum_bound, bytes_below}
 use lib.Lanes.{sum_l}
 use mir.Syntax.{w16}
-use Rattle.rope_text.proofs.runs.sum_of.Goals as goal
+use Rattle.rope_text.proofs.lanes.sum_of.Goals as goal
 
 abbrev widened : List ℕ → List ℕ
 widened xs = map (λ x. x) xs

@@ -5,8 +5,8 @@ use Rattle.rope_text.specs.Bits.{ones_below}
 use Rattle.rope_text.specs.Runs.{wide_begin, wide_here, wide_of, places}
 use Rattle.rope_text.proofs.LaneSums.{IsLowest, places_are, lowest, wide_step, wide_end, wide_few, wide_none, is_unicode}
 use Rattle.rope_text.proofs.Marks.{compared, computed, counted, loaded}
-use Rattle.rope_text.proofs.runs.wide_in.Goals as goal
-use Rattle.rope_text.proofs.runs.wide_in.Goals.{After-first_mark-skip, then-is_wide_break, else-is_wide_break}
+use Rattle.rope_text.proofs.lanes.wide_in.Goals as goal
+use Rattle.rope_text.proofs.lanes.wide_in.Goals.{After-first_mark-skip, then-is_wide_break, else-is_wide_break}
 
 pub loop-begins-init : goal.loop-begins-init
 loop-begins-init c =

@@ -1,6 +1,6 @@
 use Rattle.std.proofs.Common.{◌≡◌, ◌≤◌, ◌+◌, ◌-◌, ◌/◌, ◌%◌}
 use Rattle.rope_text.specs.Runs.{IsRun}
-use Rattle.rope_text.proofs.runs.count_run.Given as goal
+use Rattle.rope_text.proofs.lanes.count_run.Given as goal
 
 abbrev pub invariant-loop-i : goal.invariant-loop-i
 invariant-loop-i l = record {

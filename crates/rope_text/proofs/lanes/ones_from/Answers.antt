@@ -4,7 +4,7 @@ use Rattle.std.proofs.lemmas.List.FromFn.{length-range_with_len}
 use Rattle.rope_text.specs.Runs.{narrow_mark_at}
 use Rattle.rope_text.proofs.LaneSums.{ones_of}
 use Rattle.rope_text.proofs.Marks.{loaded, loaded_from}
-use Rattle.rope_text.proofs.runs.ones_from.Goals as goal
+use Rattle.rope_text.proofs.lanes.ones_from.Goals as goal
 
 pub returns : goal.returns
 returns c =

@@ -5,8 +5,8 @@ use Rattle.rope_text.specs.ByteBreaks.{byte_break_count}
 use Rattle.rope_text.specs.Runs.{IsRun, narrow_here, high_of}
 use Rattle.rope_text.proofs.LaneSums.{places_are, added, more_sum, same_more, same_wide, wide_more, ascii_chars, ascii_pairs, ascii_wide, fours, no_run, same_run, chars_block, pairs_block, breaks_block, wide_few, narrow_few}
 use Rattle.rope_text.proofs.Marks.{compared_left, none_set, loaded}
-use Rattle.rope_text.proofs.runs.count_run.Goals.{then-lanes-eq0, else-lanes-eq0}
-use Rattle.rope_text.proofs.runs.count_run.Goals as goal
+use Rattle.rope_text.proofs.lanes.count_run.Goals.{then-lanes-eq0, else-lanes-eq0}
+use Rattle.rope_text.proofs.lanes.count_run.Goals as goal
 
 pub loop-i-init : goal.loop-i-init
 loop-i-init c = record {

@@ -3,7 +3,7 @@ use Rattle.rope_text.specs.Bits.{ones_below}
 use Rattle.rope_text.specs.Bytes.{begins_char, begins_pair}
 use Rattle.rope_text.specs.ByteBreaks.{byte_break_count}
 use Rattle.rope_text.proofs.BitLaws.{ones_more}
-use Rattle.rope_text.proofs.scan.go_in_last_block.Goals as goal
+use Rattle.rope_text.proofs.seek.go_in_last_block.Goals as goal
 
 pub returns : goal.returns
 returns c =

@@ -1,7 +1,7 @@
 use Rattle.std.proofs.Common.{arith, sym, ap, ◌∙◌, ◌+◌}
 use Rattle.rope_text.proofs.Blocks.{one_where}
 use Rattle.rope_text.proofs.Scans.{front_step}
-use Rattle.rope_text.proofs.scan.go_to_end.Goals as goal
+use Rattle.rope_text.proofs.seek.go_to_end.Goals as goal
 
 pub loop-at-preserved : goal.loop-at-preserved
 loop-at-preserved c =

@@ -1,7 +1,7 @@
 use Rattle.std.proofs.Common.{arith}
 use Rattle.rope_text.specs.Runs.{narrow_mark_at}
 use Rattle.rope_text.proofs.LaneSums.{added, four_more}
-use Rattle.rope_text.proofs.runs.add_ones.Goals as goal
+use Rattle.rope_text.proofs.lanes.add_ones.Goals as goal
 
 pub returns : goal.returns
 returns c = λ most total fit before.

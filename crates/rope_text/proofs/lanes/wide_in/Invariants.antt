@@ -2,7 +2,7 @@ use Rattle.std.proofs.Common.{◌≡◌, ◌≤◌, ℕ, ◌+◌, ◌-◌, take,
 use Rattle.rope_text.specs.declared.line_breaks.LineBreaks.TheVariants.{Unicode}
 use Rattle.rope_text.specs.Bits.{ones_below}
 use Rattle.rope_text.specs.Runs.{wide_begin, wide_of, places}
-use Rattle.rope_text.proofs.runs.wide_in.Given as goal
+use Rattle.rope_text.proofs.lanes.wide_in.Given as goal
 
 abbrev pub invariant-loop-begins : goal.invariant-loop-begins
 invariant-loop-begins l = record {

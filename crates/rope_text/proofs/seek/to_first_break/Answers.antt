@@ -3,7 +3,7 @@ use Rattle.rope_text.specs.Bits.{ones_below}
 use Rattle.rope_text.specs.ByteBreaks.{byte_break_count, breaks_at}
 use Rattle.rope_text.proofs.BitLaws.{found_mark, no_marks}
 use Rattle.rope_text.proofs.Blocks.{byte_break_count-drop}
-use Rattle.rope_text.proofs.scan.to_first_break.Goals as goal
+use Rattle.rope_text.proofs.seek.to_first_break.Goals as goal
 
 pub returns-then-ones_before-gt0-clause-inside : goal.returns-then-ones_before-gt0-clause-inside
 returns-then-ones_before-gt0-clause-inside c = λ inside.
