@@ -8,7 +8,7 @@
 
 ghost use Rattle.std.specs.Prelude.{◌≡◌, ◌+◌, ◌<◌, ◌≤◌, length, count_by, drop, take, IsTrue};
 ghost use Rattle.rope_text.specs.Bytes.{begins_char, begins_pair};
-ghost use Rattle.rope_text.specs.ByteBreaks.{byte_break_count, IsUnitPlaceOf, breaks_at};
+ghost use Rattle.rope_text.specs.ByteBreaks.{byte_break_count, char_width, IsUnitPlaceOf, breaks_at};
 ghost use Rattle.rope_text.specs.Marks.{IsPlaceOf, IsPassed};
 ghost use Rattle.std.specs.Str.{chars};
 ghost use Rattle.rope_text.specs.Breaks.{break_count};
@@ -19,7 +19,6 @@ ghost use Rattle.rope_text.specs.Scan.{IsFront};
 
 use crate::bits::{first_mark, ones_before, ones_between, place_of_mark};
 use crate::lanes::{Mark, ahead, is_mark, known_mask, marks_between, marks_in, mask};
-use crate::str_utils::width_of;
 use crate::{LineBreaks, TextInfo, known_set};
 
 // The byte with which the mark `n` begins, counted from the byte `from` on, byte by byte.
@@ -59,8 +58,8 @@ pub(crate) fn find_from(bytes: &[u8], from: usize, n: usize, mark: Mark) -> usiz
     find(bytes, at, left, mark)
 }
 
-// The byte at which the character begins that holds the code unit `n`, counted from the byte `from` on, byte by byte.
-fn find_unit(bytes: &[u8], from: usize, n: usize) -> usize
+/// The byte at which the character begins that holds the code unit `n`, counted from the byte `from` on, byte by byte.
+pub(crate) fn find_unit(bytes: &[u8], from: usize, n: usize) -> usize
     requires { from ≤ length bytes.now }
     ensures { IsUnitPlaceOf bytes.now from n result }
 {
@@ -75,29 +74,6 @@ fn find_unit(bytes: &[u8], from: usize, n: usize) -> usize
         }
     }
     bytes.len()
-}
-
-/// The byte at which the character begins that holds the code unit `n`, and how many characters begin before it.
-pub(crate) fn place_of_unit(bytes: &[u8], n: usize) -> (usize, usize)
-    ensures place { IsUnitPlaceOf bytes.now 0 n result.0 }
-    ensures chars { count_by begins_char bytes.now ≡ result.1 + count_by begins_char (drop result.0 bytes.now) }
-{
-    let (mut at, mut left, mut chars) = (0, n, 0);
-    while bytes.len() - at >= 32 {
-        let begins = known_mask(bytes, at, Mark::Char);
-        let pairs = known_mask(bytes, at, Mark::Pair);
-        let begun = ones_before(begins, 32);
-        let passed = begun + ones_before(pairs, 32);
-        if left < passed {
-            let front = place_of_mark(begins, pairs, left);
-            return (at + front, chars + ones_before(begins, front));
-        }
-        left -= passed;
-        chars += begun;
-        at += 32;
-    }
-    let to = find_unit(bytes, at, left);
-    (to, chars + marks_between(bytes, at, to, Mark::Char))
 }
 
 /// The byte at which the character `n` begins, and how many breaks begin before it. The set is known where this is expanded.
@@ -142,6 +118,19 @@ fn skip_known(bytes: &[u8], n: usize, breaks: LineBreaks) -> (usize, TextInfo)
         counts.bytes += 32;
     }
     (left, counts)
+}
+
+/// How many bytes the character has that begins with the byte.
+#[inline(always)]
+pub(crate) fn width_of(byte: u8) -> usize
+    ensures { result ≡ char_width byte }
+{
+    match byte {
+        0..=0x7F => 1,
+        0x80..=0xDF => 2,
+        0xE0..=0xEF => 3,
+        0xF0..=0xFF => 4,
+    }
 }
 
 /// What the text before the line `line_idx` counts, or all of it where no line has that number. What a caller takes no count of

@@ -9,8 +9,7 @@ ghost use Rattle.rope_text.specs.Lines.{line_start};
 ghost use Rattle.rope_text.specs.TextInfo.{info_of, info_sum};
 
 use crate::lanes::count_all;
-use crate::seek::{front_of_line, to_first_break};
-use crate::str_utils::width_of;
+use crate::seek::{front_of_line, to_first_break, width_of};
 use crate::{LineBreaks, known_set};
 
 /// What a text counts.
