@@ -103,6 +103,15 @@ first_one zero w m few some = absurd (omega (arith, some, ones_zero m))
 first_one (suc k) zero m few some = absurd (omega arith)
 first_one (suc k) (suc w) m few some = first_step k w m (m % 2) refl some (λ more. first_one k w (m / 2) (omega arith) more)
 
+-- where no digit is set, all of them are zeros at the end
+pub no_first : (w m : ℕ) → ones_below m w ≡ 0 → count_trailing_zeros w m ≡ w
+unfolding count_trailing_zeros
+no_first zero m none = refl
+no_first (suc w) m none =
+    let low : m % 2 ≡ 0 = omega (arith, none, ones_low m w) in
+    let rest = no_first w (m / 2) (omega (arith, none, ones_low m w)) in
+    ap (λ d. under d (count_trailing_zeros w (m / 2))) low ∙ ap suc rest
+
 -- it lies among the first n, where one of these is set
 pub first_within : (m k t n : ℕ) → IsFirst m k t → 0 < ones_below m n → t < n
 first_within m k t n first some =

@@ -1,5 +1,5 @@
 -- A place in the bytes of a text where a character begins, as the characters before it.
-use Rattle.std.proofs.Common.{◌≡◌, ℕ, suc, ◌+◌, ◌-◌, ◌<◌, ◌≤◌, Bool, true, cond, List, ◌∷◌, ◌++◌, length, take, drop, get_or, count_by, refl, sym, ap, ◌∙◌, arith, take-append-drop, add-one, inl, inr}
+use Rattle.std.proofs.Common.{◌≡◌, ℕ, suc, ◌+◌, ◌-◌, ◌<◌, ◌≤◌, Bool, true, cond, List, ◌∷◌, ◌++◌, length, take, drop, get_or, count_by, refl, sym, ap, ◌∙◌, arith, take-append-drop, add-one, inl, inr, subst}
 use Rattle.std.proofs.lemmas.Bool.{cases_lt}
 use Rattle.std.proofs.lemmas.Bool.Decides.{nat_tests}
 use Rattle.std.proofs.lemmas.List.{length-append, length-take-le, length-drop, take_at, take_all, drop_more, get_or-drop, get_or_past, get_or_default}
@@ -8,6 +8,9 @@ use Rattle.std.specs.Char.{encode_utf8}
 use Rattle.std.specs.Str.{chars, IsUtf8, IsCharBoundary, encode_utf8_all, all_scalars}
 use Rattle.rope_text.specs.declared.line_breaks.LineBreaks.{LineBreaks}
 use Rattle.rope_text.specs.declared.line_breaks.LineBreaks.TheVariants.{Lf, CrLf, Unicode}
+use Rattle.rope_text.specs.declared.lanes.Mark.{Mark}
+use Rattle.rope_text.specs.declared.lanes.Mark.TheVariants.{Char}
+use Rattle.rope_text.specs.Marks.{IsPassed, IsPlaceOf}
 use Rattle.rope_text.specs.Text.{byte_len, utf16_len, surrogate_count}
 use Rattle.rope_text.specs.Bytes.{begins_char, begins_pair}
 use Rattle.rope_text.specs.ByteBreaks.{break_at, byte_break_count, unit_count, char_width}
@@ -105,6 +108,24 @@ units_later bs i j l =
     let chars = rw same at (count_by-block begins_char bs i (j - i)) in
     let pairs = rw same at (count_by-block begins_pair bs i (j - i)) in
     omega arith
+
+-- a mark that was searched for behind blocks that were passed on the way to it
+pub passed_mark : (mark : Mark) (bs : List ℕ) (n at left p : ℕ) → IsPassed mark bs n at left → IsPlaceOf mark bs at left p → IsPlaceOf mark bs 0 n p
+passed_mark mark bs n at left p passed place = record {
+  not_before = omega arith;
+  bound = place.bound;
+  inside = λ l. (omega (arith, passed.counted, (place.inside l).0), (place.inside l).1);
+  end = λ e. omega (arith, passed.counted, place.end e);
+}
+
+-- the same of a character, at which the text can be cut
+pub passed_place : (bs text : List ℕ) (n at left p : ℕ) → IsUtf8 bs → bs ≡ text → IsPassed Char bs n at left → IsPlaceOf Char bs at left p
+    → (p ≡ byte_len (take n (chars text))) × IsCharBoundary text p
+passed_place bs text n at left p u same passed behind =
+    let place = passed_mark Char bs n at left p passed behind in (
+      char_place bs n p u place.bound place.inside place.end ∙ ap (λ xs. byte_len (take n (chars xs))) same,
+      subst (λ xs. IsCharBoundary xs p) same (boundary_of_begin bs p place.bound (λ l. (place.inside l).1)),
+    )
 
 -- the characters before the one that holds code unit n
 pub unit_place : (bs : List ℕ) (n p : ℕ) → IsUtf8 bs → p ≤ length bs → (p < length bs → begins_char (get_or bs p 0) ≡ true)

@@ -12,7 +12,6 @@ use Rattle.std.proofs.lemmas.List.Sums.{sum_by-cons, count_by-le-length}
 use lib.Lanes.{Each1, zip2, sum_l}
 use Rattle.rope_text.specs.declared.line_breaks.LineBreaks.{LineBreaks}
 use Rattle.rope_text.specs.declared.line_breaks.LineBreaks.TheVariants.{Lf, CrLf, Unicode}
-use Rattle.rope_text.specs.declared.runs.Sums.{Sums}
 use Rattle.rope_text.specs.declared.lanes.Mark.TheVariants.{Break}
 use Rattle.rope_text.specs.Bits.{ones_below}
 use Rattle.rope_text.specs.Bytes.{begins_char, begins_pair}
@@ -336,19 +335,19 @@ same_wide b xs from n at t next none before = omega (arith, none, before, places
 pub wide_more : (b : LineBreaks) (xs : List ℕ) (from n at t u : ℕ) → at ≡ from + n → u ≡ wide_of b xs at 64 → t ≡ wide_of b xs from n → t + u ≡ wide_of b xs from (n + 64)
 wide_more b xs from n at t u next more before = omega (arith, more, before, places_split (wide_here b xs) from n 64 at (n + 64) next refl)
 
-pub same_run : (b : LineBreaks) (xs : List ℕ) (i n most m more : ℕ) (sums : Sums) → n ≡ m → most ≡ more → IsRun b xs i n most sums → IsRun b xs i m more sums
-same_run b xs i n most m more sums wider higher h = subst (λ k. IsRun b xs i m k sums) higher (subst (λ k. IsRun b xs i k most sums) wider h)
+pub same_run : (b : LineBreaks) (xs : List ℕ) (i n most m more : ℕ) (cs ps ns : List ℕ) (w : ℕ) → n ≡ m → most ≡ more → IsRun b xs i n most cs ps ns w → IsRun b xs i m more cs ps ns w
+same_run b xs i n most m more cs ps ns w wider higher h = subst (λ k. IsRun b xs i m k cs ps ns w) higher (subst (λ k. IsRun b xs i k most cs ps ns w) wider h)
 
 no_places : (q : ℕ → Bool) (i : ℕ) → 0 ≡ count_by q (places i 0)
 unfolding places
 no_places q i = refl
 
-pub no_run : (b : LineBreaks) (xs : List ℕ) (i : ℕ) (sums : Sums) → sums.chars ≡ replicate 16 0 → sums.pairs ≡ replicate 16 0 → sums.narrow ≡ replicate 16 0 → sums.wide ≡ 0 → IsRun b xs i 0 0 sums
-no_run b xs i sums chars pairs narrow wide = record {
-  chars = subst (IsSum 0 (chars_of xs i 0)) (sym chars) (zeros (λ k. begins_char (get_or xs k 0)));
-  pairs = subst (IsSum 0 (pairs_of xs i 0)) (sym pairs) (zeros (λ k. begins_pair (get_or xs k 0)));
-  narrow = subst (IsSum 0 (narrow_of b xs i 0)) (sym narrow) (zeros (narrow_here b xs));
-  wide = wide ∙ no_places (wide_here b xs) i;
+pub no_run : (b : LineBreaks) (xs : List ℕ) (i : ℕ) → IsRun b xs i 0 0 (replicate 16 0) (replicate 16 0) (replicate 16 0) 0
+no_run b xs i = record {
+  chars = zeros (λ k. begins_char (get_or xs k 0));
+  pairs = zeros (λ k. begins_pair (get_or xs k 0));
+  narrow = zeros (narrow_here b xs);
+  wide = no_places (wide_here b xs) i;
 }
   where
     zeros : (q : ℕ → Bool) → IsSum 0 (count_by q (places i 0)) (replicate 16 0)

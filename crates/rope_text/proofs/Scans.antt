@@ -23,42 +23,18 @@ use Rattle.std.proofs.lemmas.Bool.{cases_lt}
 use Rattle.std.proofs.lemmas.List.{take_all, length-take-le}
 use Rattle.rope_text.specs.Bytes.{begins_char, begins_pair}
 use Rattle.rope_text.proofs.Blocks.{count_by-drop, count_by-front, byte_break_count-drop}
-use Rattle.rope_text.specs.declared.scan.Front.{Front}
 use Rattle.rope_text.specs.Scan.{IsFront}
 
 -- one byte more in front, at which no break begins
-pub front_step : (breaks : LineBreaks) (xs : List ℕ) (f g : Front) → IsFront breaks xs f → f.bytes < length xs → breaks_at breaks xs f.bytes ≡ false → g.bytes ≡ f.bytes + 1
-    → g.chars ≡ f.chars + cond (begins_char (get_or xs f.bytes 0)) 1 0 → g.pairs ≡ f.pairs + cond (begins_pair (get_or xs f.bytes 0)) 1 0 → IsFront breaks xs g
-front_step breaks xs f g front inside off next chars pairs =
-    let step = byte_break_count-drop breaks xs f.bytes inside in
-    let no : cond {A = ℕ} (breaks_at breaks xs f.bytes) 1 0 ≡ 0 = ap (λ (t : Bool). cond {A = ℕ} t 1 0) off in
-    let to : drop g.bytes xs ≡ drop (f.bytes + 1) xs = ap (λ j. drop j xs) next in record {
+pub front_step : (breaks : LineBreaks) (xs : List ℕ) (k p q l r : ℕ) → IsFront breaks xs k p q → p < length xs → breaks_at breaks xs p ≡ false
+    → l ≡ k + cond (begins_char (get_or xs p 0)) 1 0 → r ≡ q + cond (begins_pair (get_or xs p 0)) 1 0 → IsFront breaks xs l (p + 1) r
+front_step breaks xs k p q l r front inside off chars pairs =
+    let step = byte_break_count-drop breaks xs p inside in
+    let no : cond {A = ℕ} (breaks_at breaks xs p) 1 0 ≡ 0 = ap (λ (t : Bool). cond {A = ℕ} t 1 0) off in record {
       within = omega arith;
-      none = omega (arith, front.none, step, no, ap (byte_break_count breaks) to);
-      chars = omega (arith, front.chars, count_by-drop begins_char xs f.bytes inside, ap (count_by begins_char) to);
-      pairs = omega (arith, front.pairs, count_by-drop begins_pair xs f.bytes inside, ap (count_by begins_pair) to);
-    }
-
--- so many bytes more in front, among which no break begins
-pub front_block : (breaks : LineBreaks) (xs : List ℕ) (f g : Front) (n c p : ℕ) → IsFront breaks xs f → g.bytes ≡ f.bytes + n → g.bytes ≤ length xs → g.chars ≡ f.chars + c → g.pairs ≡ f.pairs + p
-    → byte_break_count breaks (drop f.bytes xs) ≡ byte_break_count breaks (drop (f.bytes + n) xs) → count_by begins_char (drop f.bytes xs) ≡ c + count_by begins_char (drop (f.bytes + n) xs)
-    → count_by begins_pair (drop f.bytes xs) ≡ p + count_by begins_pair (drop (f.bytes + n) xs) → IsFront breaks xs g
-front_block breaks xs f g n c p front next within chars pairs count more_chars more_pairs =
-    let to : drop g.bytes xs ≡ drop (f.bytes + n) xs = ap (λ j. drop j xs) next in record {
-      within = within;
-      none = omega (arith, front.none, count, ap (byte_break_count breaks) to);
-      chars = omega (arith, front.chars, chars, more_chars, ap (count_by begins_char) to);
-      pairs = omega (arith, front.pairs, pairs, more_pairs, ap (count_by begins_pair) to);
-    }
-
--- nothing is in front of the first byte
-pub front_start : (breaks : LineBreaks) (xs : List ℕ) (f : Front) → f.bytes ≡ 0 → f.chars ≡ 0 → f.pairs ≡ 0 → IsFront breaks xs f
-front_start breaks xs f none chars pairs =
-    let to : drop f.bytes xs ≡ xs = ap (λ j. drop j xs) none in record {
-      within = omega arith;
-      none = ap (byte_break_count breaks) (sym to);
-      chars = omega (arith, chars, ap (count_by begins_char) to);
-      pairs = omega (arith, pairs, ap (count_by begins_pair) to);
+      none = omega (arith, front.none, step, no);
+      chars = omega (arith, front.chars, chars, count_by-drop begins_char xs p inside);
+      pairs = omega (arith, front.pairs, pairs, count_by-drop begins_pair xs p inside);
     }
 
 -- a character that ends a break takes one code unit
@@ -113,17 +89,17 @@ line_front breaks bs n p k q info u inside fore begin in_chars in_pairs bytes co
     (omega (arith, pairs, in_pairs, same, before, count_by-front begins_pair bs (p + w))) (omega (arith, count, break_count-front breaks cs (suc n) (omega (arith, some)), some))
 
 -- the counts of a text's first line, by what is in front of the break at its end
-pub scanned_line : (breaks : LineBreaks) (bs : List ℕ) (f : Front) (info : TextInfo) → IsUtf8 bs → IsFront breaks bs f → f.bytes < length bs → breaks_at breaks bs f.bytes ≡ true
-    → info.bytes ≡ f.bytes + char_width (get_or bs f.bytes 0) → info.chars ≡ f.chars + 1 → info.utf16_surrogates ≡ f.pairs → info.break_count ≡ 1 → info ≡ info_of breaks (first_line breaks (chars bs))
-scanned_line breaks bs f info u front inside begin bytes counted pairs count =
-    line_front breaks bs 0 f.bytes f.chars f.pairs info u inside (omega (arith, front.none)) begin front.chars front.pairs bytes counted pairs count
+pub scanned_line : (breaks : LineBreaks) (bs : List ℕ) (k p q : ℕ) (info : TextInfo) → IsUtf8 bs → IsFront breaks bs k p q → p < length bs → breaks_at breaks bs p ≡ true
+    → info.bytes ≡ p + char_width (get_or bs p 0) → info.chars ≡ k + 1 → info.utf16_surrogates ≡ q → info.break_count ≡ 1 → info ≡ info_of breaks (first_line breaks (chars bs))
+scanned_line breaks bs k p q info u front inside begin bytes counted pairs count =
+    line_front breaks bs 0 p k q info u inside (omega (arith, front.none)) begin front.chars front.pairs bytes counted pairs count
 
 -- the counts of a text that has no break
-pub scanned_all : (breaks : LineBreaks) (bs : List ℕ) (f : Front) (info : TextInfo) → IsUtf8 bs → IsFront breaks bs f → f.bytes ≡ length bs
-    → info.bytes ≡ f.bytes → info.chars ≡ f.chars → info.utf16_surrogates ≡ f.pairs → info.break_count ≡ 0 → info ≡ info_of breaks (first_line breaks (chars bs))
-scanned_all breaks bs f info u front end bytes counted pairs count =
+pub scanned_all : (breaks : LineBreaks) (bs : List ℕ) (k p q : ℕ) (info : TextInfo) → IsUtf8 bs → IsFront breaks bs k p q → p ≡ length bs
+    → info.bytes ≡ p → info.chars ≡ k → info.utf16_surrogates ≡ q → info.break_count ≡ 0 → info ≡ info_of breaks (first_line breaks (chars bs))
+scanned_all breaks bs k p q info u front end bytes counted pairs count =
     let cs : List ℕ = chars bs in
-    let rest : drop f.bytes bs ≡ [] = drop_of_length-le bs (let past : length bs ≤ f.bytes = omega arith in past) in
+    let rest : drop p bs ≡ [] = drop_of_length-le bs (let past : length bs ≤ p = omega arith in past) in
     let none : byte_break_count breaks bs ≡ 0 = front.none ∙ ap (byte_break_count breaks) rest in
     let whole : first_line breaks cs ≡ cs = take_all (line_start breaks cs 1) cs (omega (arith, no_break_line breaks bs 0 u (omega (arith, none)))) in
     let all : take (length cs) cs ≡ cs = take_all (length cs) cs (omega arith) in

@@ -5,7 +5,6 @@ use lib.Lanes.{Each1, sum_l}
 use lib.Dec.{leb}
 use Rattle.rope_text.specs.declared.line_breaks.LineBreaks.{LineBreaks}
 use Rattle.rope_text.specs.declared.line_breaks.LineBreaks.TheVariants.{Lf, CrLf, Unicode}
-use Rattle.rope_text.specs.declared.runs.Sums.{Sums}
 use Rattle.rope_text.specs.declared.lanes.Mark.{Mark}
 use Rattle.rope_text.specs.Bytes.{begins_char, begins_pair}
 use Rattle.rope_text.specs.Marks.{narrow_at, narrow_mark}
@@ -59,9 +58,9 @@ narrow_mark_at mark xs k = narrow_mark mark (get_or xs k 0) (get_or xs (k + 1) 0
 abbrev pub count_of : Mark → List ℕ → ℕ → ℕ → ℕ
 count_of mark xs i n = count_by (narrow_mark_at mark xs) (places i n)
 
--- the sums of the n bytes from i on
-pub record IsRun (breaks : LineBreaks) (bytes : List ℕ) (i n most : ℕ) (sums : Sums) : Type 0 where
-  pub chars : IsSum most (chars_of bytes i n) sums.chars
-  pub pairs : IsSum most (pairs_of bytes i n) sums.pairs
-  pub narrow : IsSum most (narrow_of breaks bytes i n) sums.narrow
-  pub wide : sums.wide ≡ wide_of breaks bytes i n
+-- what the n bytes from i on count: in lanes the characters, the pairs and the breaks below 128, and the other breaks
+pub record IsRun (breaks : LineBreaks) (bytes : List ℕ) (i n most : ℕ) (in_chars in_pairs in_narrow : List ℕ) (in_wide : ℕ) : Type 0 where
+  pub chars : IsSum most (chars_of bytes i n) in_chars
+  pub pairs : IsSum most (pairs_of bytes i n) in_pairs
+  pub narrow : IsSum most (narrow_of breaks bytes i n) in_narrow
+  pub wide : in_wide ≡ wide_of breaks bytes i n

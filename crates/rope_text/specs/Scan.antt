@@ -3,11 +3,10 @@ use Rattle.std.specs.Prelude.{◌≡◌, ℕ, ◌+◌, ◌≤◌, List, length, 
 use Rattle.rope_text.specs.declared.line_breaks.LineBreaks.{LineBreaks}
 use Rattle.rope_text.specs.Bytes.{begins_char, begins_pair}
 use Rattle.rope_text.specs.ByteBreaks.{byte_break_count}
-use Rattle.rope_text.specs.declared.scan.Front.{Front}
 
--- no break begins before the place, and so many characters and pairs of code units do
-pub record IsFront (breaks : LineBreaks) (bytes : List ℕ) (f : Front) : Type 0 where
-  pub within : f.bytes ≤ length bytes
-  pub none : byte_break_count breaks bytes ≡ byte_break_count breaks (drop f.bytes bytes)
-  pub chars : count_by begins_char bytes ≡ f.chars + count_by begins_char (drop f.bytes bytes)
-  pub pairs : count_by begins_pair bytes ≡ f.pairs + count_by begins_pair (drop f.bytes bytes)
+-- no break begins before the byte `at`, and so many characters and pairs of code units do
+pub record IsFront (breaks : LineBreaks) (bytes : List ℕ) (in_chars at in_pairs : ℕ) : Type 0 where
+  pub within : at ≤ length bytes
+  pub none : byte_break_count breaks bytes ≡ byte_break_count breaks (drop at bytes)
+  pub chars : count_by begins_char bytes ≡ in_chars + count_by begins_char (drop at bytes)
+  pub pairs : count_by begins_pair bytes ≡ in_pairs + count_by begins_pair (drop at bytes)

@@ -21,31 +21,16 @@ pub(crate) fn ones_between(mask: u64, from: usize, to: usize) -> usize
     ones_before(mask >> from, to - from)
 }
 
-/// The first place that has a mark.
+/// The first place that has a mark, or 64.
 #[inline(always)]
 pub(crate) fn first_mark(mask: u64) -> usize
-    requires { 0 < ones_below mask 64 }
-    ensures bound { result < 64 }
-    ensures block { 0 < ones_below mask 32 → result < 32 }
+    ensures bound { result ≤ 64 }
     ensures before { ones_below mask result ≡ 0 }
-    ensures after { 0 < ones_below mask (result + 1) }
+    ensures some { 0 < ones_below mask 64 → result < 64 }
+    ensures block { 0 < ones_below mask 32 → result < 32 }
+    ensures after { result < 64 → 0 < ones_below mask (result + 1) }
 {
     mask.trailing_zeros() as usize
-}
-
-/// The first byte that has a mark, of the bytes before `to`, or `to`.
-#[inline(always)]
-pub(crate) fn first_mark_before(mask: u64, to: usize) -> usize
-    requires { to ≤ 32 }
-    ensures bound { result ≤ to }
-    ensures before { ones_below mask result ≡ 0 }
-    ensures after { result < to → 0 < ones_below mask (result + 1) }
-{
-    if ones_before(mask, to) > 0 {
-        first_mark(mask)
-    } else {
-        to
-    }
 }
 
 /// The byte with the mark `n` of two masks, counted from 0: it has at most `n` marks before it.
@@ -60,10 +45,7 @@ pub(crate) fn place_of_mark(first: u64, second: u64, n: usize) -> usize
     if second == 0 && ones_before(first, 32) == 32 {
         return n;
     }
-    let mut ones = first;
-    let mut more = second;
-    let mut left = n;
-    let mut place = 0;
+    let (mut ones, mut more, mut left, mut place) = (first, second, n, 0);
     let mut step = 5usize;
     while step > 0 {
         step -= 1;

@@ -74,20 +74,6 @@ pub fn next_break(at: usize, text: &[u8]) -> usize
     i
 }
 
-// The last cut up to `at`, and at the end the last one before it.
-fn break_up_to(at: usize, text: &[u8]) -> usize
-    requires { at ≤ length text.now }
-    ensures cut { IsTrue (is_cut text.now result) }
-    ensures bound { result ≤ at }
-    ensures inside { 0 < length text.now → result < length text.now }
-    ensures nearest { (k : ℕ) → k ≤ at → k < length text.now → IsTrue (is_cut text.now k) → k ≤ result }
-{
-    if at < text.len() && is_break(at, text) {
-        return at;
-    }
-    prev_break(at, text)
-}
-
 /// The place inside the text, nearest to the byte `at`, where it may be cut, the later one of two that are as near;
 /// the end, where there is no such place inside. `at` is at most the length. Reads the bytes around the place;
 /// takes no memory.
@@ -104,15 +90,18 @@ pub fn nearest_internal_break(at: usize, text: &[u8]) -> usize
         → distance at result ≡ distance at k → k ≤ result }
     ensures none { result ≡ 0 → length text.now ≡ 0 }
 {
-    let left = break_up_to(at, text);
+    if at > 0 && at < text.len() && is_break(at, text) {
+        return at;
+    }
+    let left = prev_break(at, text);
     let right = next_break(at, text);
     if left == 0 {
         return right;
     }
-    if right == text.len() {
+    if right == text.len() || at - left < right - at {
         return left;
     }
-    if at - left < right - at { left } else { right }
+    right
 }
 
 /// The cut at `at`, or else the nearest cut before it or after it, before it where `bias_left` says so,

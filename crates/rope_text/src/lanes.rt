@@ -1,13 +1,16 @@
-//! Counts over the bytes of a text, 32 bytes at once.
+//! Counts over the bytes of a text, 32 bytes at once; over runs of blocks of 64 bytes, what each block counts is added up in 16
+//! lanes, and the lanes are summed once a run.
 #![tactic(auto, using(crate::proofs::Blocks::begins_le, crate::proofs::Blocks::pairs_le, crate::proofs::Blocks::byte_break_count_le, crate::proofs::Blocks::marks_le))]
 
-ghost use Rattle.std.specs.Prelude.{◌≡◌, ◌+◌, ◌-◌, ◌*◌, ◌<◌, ◌≤◌, length, cond, count_by, drop, List, ℕ};
+ghost use Rattle.std.specs.Prelude.{◌≡◌, ◌+◌, ◌-◌, ◌*◌, ◌<◌, ◌≤◌, length, cond, count_by, drop, List, ℕ, take, IsTrue};
 ghost use Rattle.rope_text.specs.Bytes.{begins_char, begins_pair};
 ghost use Rattle.rope_text.specs.ByteBreaks.{byte_break_count, unit_count, AreCounts};
 ghost use Rattle.rope_text.specs.Marks.{IsLanes, IsBlockMask, narrow_mark, mark_at, marks, ahead, lf_or_cr_lf};
+ghost use lib.Lanes.{sum_l};
+ghost use Rattle.rope_text.specs.Bits.{ones_below};
+ghost use Rattle.rope_text.specs.Runs.{IsSum, IsRun, count_of, wide_of, wide_at, high_of, wide_begin, places};
 
-use crate::bits::{ones_before, ones_between};
-use crate::runs::{count_run, is_wide_break};
+use crate::bits::{first_mark, ones_before, ones_between};
 use crate::{LineBreaks, TextInfo, known_set};
 use std::simd::prelude::*;
 
@@ -34,10 +37,10 @@ pub(crate) fn ahead(mark: Mark) -> usize
     }
 }
 
-/// For each lane 1 where a mark begins with it, a break only where it is below 128, else 0: the lanes `y` are the bytes behind
-/// those of `x`. The mark is known where this is expanded.
+// For each lane 1 where a mark begins with it, a break only where it is below 128, else 0: the lanes `y` are the bytes behind
+// those of `x`. The mark is known where this is expanded.
 #[inline(always)]
-pub(crate) fn ones<const N: usize>(x: Simd<u8, N>, y: Simd<u8, N>, mark: Mark) -> Simd<u8, N>
+fn ones<const N: usize>(x: Simd<u8, N>, y: Simd<u8, N>, mark: Mark) -> Simd<u8, N>
     requires { N ≤ 64 }
     ensures { (ks : List ℕ) (g h : ℕ → ℕ) → length ks ≡ N → ((k : ℕ) → g k < 256) → IsLanes ks g x.entry → IsLanes ks h y.entry → IsLanes ks (λ k. cond (narrow_mark mark (g k) (h k)) 1 0) result }
 {
@@ -225,15 +228,13 @@ fn breaks_in_quarters(bytes: &[u8], to: usize, breaks: LineBreaks) -> (usize, us
     known_set!(breaks => marks_in_quarters(bytes, to, Mark::Break(breaks)))
 }
 
-/// How many marks begin from the byte `from` on and before `to`. The mark is known where this is expanded.
+/// How many marks begin before the byte `to`. The mark is known where this is expanded.
 #[inline(always)]
-pub(crate) fn count_marks(bytes: &[u8], from: usize, to: usize, mark: Mark) -> usize
-    requires from { from ≤ to }
-    requires to { to ≤ length bytes.now - ahead mark }
-    ensures { marks mark (drop from bytes.now) ≡ result + marks mark (drop to bytes.now) }
+pub(crate) fn count_before(bytes: &[u8], to: usize, mark: Mark) -> usize
+    requires { to ≤ length bytes.now - ahead mark }
+    ensures { marks mark bytes.now ≡ result + marks mark (drop to bytes.now) }
 {
-    let mut total = 0;
-    let mut i = from;
+    let (mut i, mut total) = marks_in_quarters(bytes, to, mark);
     while to - i >= 32 {
         total += marks_in(bytes, i, mark);
         i += 32;
@@ -241,20 +242,115 @@ pub(crate) fn count_marks(bytes: &[u8], from: usize, to: usize, mark: Mark) -> u
     total + marks_between(bytes, i, to, mark)
 }
 
-/// How many marks begin before the byte `to`. The mark is known where this is expanded.
+/// The blocks of a run at the most: a lane gets four at each, and holds 255.
+const BLOCKS: usize = 63;
+
+// For each of the 16 bytes from `at` on, 1 where a mark begins, a break only where it is below 128, else 0. The mark is known
+// where this is expanded.
 #[inline(always)]
-pub(crate) fn count_before(bytes: &[u8], to: usize, mark: Mark) -> usize
-    requires { to ≤ length bytes.now - ahead mark }
-    ensures { marks mark bytes.now ≡ result + marks mark (drop to bytes.now) }
+fn ones_from(bytes: &[u8], at: usize, mark: Mark) -> u8x16
+    requires { at + 17 ≤ length bytes.now }
+    ensures { IsSum 1 (count_of mark bytes.now at 16) result }
 {
-    let (from, before) = marks_in_quarters(bytes, to, mark);
-    before + count_marks(bytes, from, to, mark)
+    let x = u8x16::from_slice(&bytes[at..]);
+    let y = u8x16::from_slice(&bytes[at + 1..]);
+    ones(x, y, mark)
+}
+
+// The 64 bytes from `at` on more.
+#[inline(always)]
+fn add_ones(sums: u8x16, bytes: &[u8], at: usize, mark: Mark) -> u8x16
+    requires { at + 65 ≤ length bytes.now }
+    ensures { (most total : ℕ) → most + 4 < 256 → IsSum most total sums → IsSum (most + 4) (total + count_of mark bytes.now at 64) result }
+{
+    let first = sums + ones_from(bytes, at, mark);
+    let second = first + ones_from(bytes, at + 16, mark);
+    let third = second + ones_from(bytes, at + 32, mark);
+    third + ones_from(bytes, at + 48, mark)
+}
+
+#[inline(always)]
+fn is_wide_break(x: u8, y: u8, z: u8) -> bool
+    ensures { result ≡ wide_at LineBreaks.Unicode x y z }
+{
+    (x == 0xC2 && y == 0x85) || (x == 0xE2 && y == 0x80 && (z == 0xA8 || z == 0xA9))
+}
+
+// How many NEL, LS and PS begin in the 64 bytes from `at` on, where they are breaks: their first bytes are rare, and each is
+// looked at by itself.
+#[inline(always)]
+fn wide_in(bytes: &[u8], at: usize, breaks: LineBreaks) -> usize
+    requires { at + 66 ≤ length bytes.now }
+    ensures { result ≡ wide_of breaks bytes.now at 64 }
+{
+    if ahead(Mark::Break(breaks)) < 2 {
+        return 0;
+    }
+    // C2 and E2.
+    let lanes = u8x64::from_slice(&bytes[at..]) & u8x64::splat(0xDF);
+    let mut begins = lanes.simd_eq(u8x64::splat(0xC2)).to_bitmask();
+    let (mut i, mut total) = (at, 0);
+    while begins.count_ones() > 0 {
+        let skip = first_mark(begins);
+        i += skip;
+        if is_wide_break(bytes[i], bytes[i + 1], bytes[i + 2]) {
+            total += 1;
+        }
+        i += 1;
+        begins = (begins >> skip) >> 1;
+    }
+    total
+}
+
+#[inline(always)]
+fn sum_of(lanes: u8x16) -> usize
+    ensures { result ≡ sum_l lanes }
+{
+    lanes.cast::<u16>().strict_reduce_sum() as usize
+}
+
+// The counts of a run of whole blocks from `from` on and before `to`, behind which two more bytes are read. It has one block
+// at least, if one is there.
+#[inline(always)]
+fn count_run(bytes: &[u8], from: usize, to: usize, breaks: LineBreaks) -> TextInfo
+    requires from { from ≤ to }
+    requires to { to ≤ length bytes.now - 2 }
+    ensures bound { from + result.bytes ≤ to }
+    ensures further { from + 64 ≤ to → 64 ≤ result.bytes }
+    ensures chars { count_by begins_char (drop from bytes.now) ≡ result.chars + count_by begins_char (drop (from + result.bytes) bytes.now) }
+    ensures pairs { count_by begins_pair (drop from bytes.now) ≡ result.utf16_surrogates + count_by begins_pair (drop (from + result.bytes) bytes.now) }
+    ensures break_count { byte_break_count breaks (drop from bytes.now) ≡ result.break_count + byte_break_count breaks (drop (from + result.bytes) bytes.now) }
+{
+    let size = 64 * ((to - from) / 64).min(BLOCKS);
+    let none = u8x16::splat(0);
+    // Of the breaks, the lanes count those that begin below 128.
+    let (mut chars, mut pairs, mut narrow, mut wide) = (none, none, none, 0);
+    let mut i = from;
+    while i < from + size {
+        narrow = add_ones(narrow, bytes, i, Mark::Break(breaks));
+        let lanes = u8x64::from_slice(&bytes[i..]);
+        if lanes.simd_ge(u8x64::splat(0x80)).to_bitmask() == 0 {
+            // ASCII begins a character at each byte, and no pair and none of the other breaks.
+            chars = chars + u8x16::splat(4);
+        } else {
+            chars = add_ones(chars, bytes, i, Mark::Char);
+            pairs = add_ones(pairs, bytes, i, Mark::Pair);
+            wide += wide_in(bytes, i, breaks);
+        }
+        i += 64;
+    }
+    TextInfo {
+        bytes: size,
+        chars: sum_of(chars),
+        utf16_surrogates: sum_of(pairs),
+        break_count: sum_of(narrow) + wide,
+    }
 }
 
 // The counts of whole blocks from `from` on and before `to`, behind which two more bytes are read: fewer bytes than a block are
-// left. What a caller takes no count of isn't counted, since this is expanded there.
+/// left. What a caller takes no count of isn't counted, since this is expanded there.
 #[inline(always)]
-fn count_blocks(bytes: &[u8], from: usize, to: usize, breaks: LineBreaks) -> TextInfo
+pub(crate) fn count_blocks(bytes: &[u8], from: usize, to: usize, breaks: LineBreaks) -> TextInfo
     requires from { from ≤ to }
     requires to { to ≤ length bytes.now - 2 }
     ensures bound { from + result.bytes ≤ to }
@@ -274,16 +370,6 @@ fn count_blocks(bytes: &[u8], from: usize, to: usize, breaks: LineBreaks) -> Tex
         counts.bytes += 32;
     }
     counts
-}
-
-/// How many code units the bytes take in UTF-16.
-pub(crate) fn count_units(bytes: &[u8]) -> usize
-    ensures { result ≡ unit_count bytes.now }
-{
-    let end = bytes.len();
-    let blocks = count_blocks(bytes, 0, end.saturating_sub(2), LineBreaks::Lf);
-    let chars = blocks.chars + marks_between(bytes, blocks.bytes, end, Mark::Char);
-    chars + blocks.utf16_surrogates + marks_between(bytes, blocks.bytes, end, Mark::Pair)
 }
 
 // How many breaks of the set begin before the byte `to`. The set is known where this is expanded.
@@ -316,47 +402,14 @@ fn count_known(bytes: &[u8], breaks: LineBreaks) -> TextInfo
 {
     let end = bytes.len();
     let last = end.saturating_sub(2);
-    let blocks = count_blocks(bytes, 0, last, breaks);
-    let at = blocks.bytes;
-    let mark = Mark::Break(breaks);
-    let more = marks_between(bytes, at, last, mark) + marks_byte_by_byte(bytes, last, end, mark);
-    TextInfo {
-        bytes: end,
-        chars: blocks.chars + marks_between(bytes, at, end, Mark::Char),
-        utf16_surrogates: blocks.utf16_surrogates + marks_between(bytes, at, end, Mark::Pair),
-        break_count: blocks.break_count + more,
-    }
-}
-
-// The same of one byte, as of a key that was pressed.
-#[inline(always)]
-fn count_one(bytes: &[u8], breaks: LineBreaks) -> TextInfo
-    requires { length bytes.now ≡ 1 }
-    ensures { AreCounts breaks bytes.now result }
-{
-    TextInfo {
-        bytes: 1,
-        chars: is_mark(bytes, 0, Mark::Char) as usize,
-        utf16_surrogates: is_mark(bytes, 0, Mark::Pair) as usize,
-        break_count: is_mark(bytes, 0, Mark::Break(breaks)) as usize,
-    }
-}
-
-// The same of few bytes, at most 32: they are put before zeros, of which none begins a break, and are counted at once.
-#[inline(always)]
-fn count_few(bytes: &[u8], breaks: LineBreaks) -> TextInfo
-    requires { length bytes.now ≤ 32 }
-    ensures { AreCounts breaks bytes.now result }
-{
-    let len = bytes.len();
-    let mut block = [0; 34];
-    block[..len].copy_from_slice(bytes);
-    TextInfo {
-        bytes: len,
-        chars: ones_before(mask(&block, 0, Mark::Char), len),
-        utf16_surrogates: ones_before(mask(&block, 0, Mark::Pair), len),
-        break_count: ones_before(mask(&block, 0, Mark::Break(breaks)), len),
-    }
+    let mut counts = count_blocks(bytes, 0, last, breaks);
+    let at = counts.bytes;
+    counts.bytes = end;
+    counts.chars += marks_between(bytes, at, end, Mark::Char);
+    counts.utf16_surrogates += marks_between(bytes, at, end, Mark::Pair);
+    counts.break_count += marks_between(bytes, at, last, Mark::Break(breaks));
+    counts.break_count += marks_byte_by_byte(bytes, last, end, Mark::Break(breaks));
+    counts
 }
 
 // The same in blocks. It stands by itself, since where it is expanded the few would wait for what it answers through memory.
@@ -372,11 +425,26 @@ fn count_many(bytes: &[u8], breaks: LineBreaks) -> TextInfo
 pub(crate) fn count_all(bytes: &[u8], breaks: LineBreaks) -> TextInfo
     ensures { AreCounts breaks bytes.now result }
 {
-    if bytes.len() == 1 {
-        count_one(bytes, breaks)
-    } else if bytes.len() <= 32 {
-        count_few(bytes, breaks)
-    } else {
-        count_many(bytes, breaks)
+    let len = bytes.len();
+    // One byte, as of a key that was pressed.
+    if len == 1 {
+        return TextInfo {
+            bytes: 1,
+            chars: is_mark(bytes, 0, Mark::Char) as usize,
+            utf16_surrogates: is_mark(bytes, 0, Mark::Pair) as usize,
+            break_count: is_mark(bytes, 0, Mark::Break(breaks)) as usize,
+        };
+    }
+    if len > 32 {
+        return count_many(bytes, breaks);
+    }
+    // Few bytes are put before zeros, of which none begins a break, and are counted at once.
+    let mut block = [0; 34];
+    block[..len].copy_from_slice(bytes);
+    TextInfo {
+        bytes: len,
+        chars: ones_before(mask(&block, 0, Mark::Char), len),
+        utf16_surrogates: ones_before(mask(&block, 0, Mark::Pair), len),
+        break_count: ones_before(mask(&block, 0, Mark::Break(breaks)), len),
     }
 }

@@ -9,8 +9,6 @@ mod lanes;
 pub mod laws;
 pub mod line_breaks;
 pub mod range;
-mod runs;
-mod scan;
 mod seek;
 pub mod steps;
 pub mod str_utils;

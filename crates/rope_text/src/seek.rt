@@ -1,14 +1,23 @@
 //! Searches for places in the bytes of a text: whole blocks of 32 bytes are counted until the one that holds
 //! the place, and that one is halved. What is left behind the last block is gone through byte by byte.
 //! A place that isn't there is the end.
+//!
+//! The first line break of a text is found with what the text before it counts, in one pass. That goes as characters, bytes and
+//! pairs: with the two counts side by side, the compiler would add them up in one vector register, which takes longer.
 #![tactic(auto, using(crate::proofs::Blocks::begins_le, crate::proofs::Blocks::pairs_le, crate::proofs::Blocks::byte_break_count_le))]
 
-ghost use Rattle.std.specs.Prelude.{◌≡◌, ◌+◌, ◌≤◌, length, count_by, drop};
+ghost use Rattle.std.specs.Prelude.{◌≡◌, ◌+◌, ◌<◌, ◌≤◌, length, count_by, drop, take, IsTrue};
 ghost use Rattle.rope_text.specs.Bytes.{begins_char, begins_pair};
-ghost use Rattle.rope_text.specs.ByteBreaks.{byte_break_count, IsUnitPlaceOf};
+ghost use Rattle.rope_text.specs.ByteBreaks.{byte_break_count, char_width, IsUnitPlaceOf, breaks_at};
 ghost use Rattle.rope_text.specs.Marks.{IsPlaceOf, IsPassed};
+ghost use Rattle.std.specs.Str.{chars};
+ghost use Rattle.rope_text.specs.Breaks.{break_count};
+ghost use Rattle.rope_text.specs.Conversions.{line_to_byte, line_to_char};
+ghost use Rattle.rope_text.specs.Lines.{line_start};
+ghost use Rattle.rope_text.specs.TextInfo.{info_of};
+ghost use Rattle.rope_text.specs.Scan.{IsFront};
 
-use crate::bits::{ones_before, place_of_mark};
+use crate::bits::{first_mark, ones_before, ones_between, place_of_mark};
 use crate::lanes::{Mark, ahead, is_mark, known_mask, marks_between, marks_in, mask};
 use crate::{LineBreaks, TextInfo, known_set};
 
@@ -30,14 +39,13 @@ fn find(bytes: &[u8], from: usize, n: usize, mark: Mark) -> usize
     bytes.len()
 }
 
-// The same in blocks.
+/// The same in blocks.
 #[inline(always)]
-fn find_from(bytes: &[u8], from: usize, n: usize, mark: Mark) -> usize
+pub(crate) fn find_from(bytes: &[u8], from: usize, n: usize, mark: Mark) -> usize
     requires { from ≤ length bytes.now }
     ensures { IsPlaceOf mark bytes.now from n result }
 {
-    let mut at = from;
-    let mut left = n;
+    let (mut at, mut left) = (from, n);
     while bytes.len() - at >= 32 + ahead(mark) {
         let begun = mask(bytes, at, mark);
         let passed = ones_before(begun, 32);
@@ -50,72 +58,8 @@ fn find_from(bytes: &[u8], from: usize, n: usize, mark: Mark) -> usize
     find(bytes, at, left, mark)
 }
 
-// The pairs of blocks before the character `n`: their end, and which character it is from there on.
-#[inline(always)]
-fn skip_chars(bytes: &[u8], n: usize) -> (usize, usize)
-    ensures { IsPassed Mark.Char bytes.now n result.0 result.1 }
-{
-    let mut at = 0;
-    let mut left = n;
-    while bytes.len() - at >= 64 {
-        let passed = marks_in(bytes, at, Mark::Char) + marks_in(bytes, at + 32, Mark::Char);
-        if left < passed {
-            return (at, left);
-        }
-        left -= passed;
-        at += 64;
-    }
-    (at, left)
-}
-
-// The same from the end, where it is known how many characters there are: the last pair of blocks that begins at or before the
-// character `n`, or the start, and which character it is from there on.
-#[inline(always)]
-fn skip_chars_back(bytes: &[u8], n: usize, chars: usize) -> (usize, usize)
-    requires within { n ≤ chars }
-    requires chars { chars ≡ count_by begins_char bytes.now }
-    ensures { IsPassed Mark.Char bytes.now n result.0 result.1 }
-{
-    let mut at = bytes.len();
-    // The characters from `n` on that begin before `at`.
-    let mut left = chars - n;
-    while at >= 64 {
-        let passed = marks_in(bytes, at - 64, Mark::Char) + marks_in(bytes, at - 32, Mark::Char);
-        if left <= passed {
-            return (at - 64, passed - left);
-        }
-        left -= passed;
-        at -= 64;
-    }
-    (0, n)
-}
-
-/// The byte at which the character `n` begins.
-pub(crate) fn place_of_char(bytes: &[u8], n: usize) -> usize
-    ensures { IsPlaceOf Mark.Char bytes.now 0 n result }
-{
-    let (from, left) = skip_chars(bytes, n);
-    find_from(bytes, from, left, Mark::Char)
-}
-
-/// The same, where it is known how many characters there are: the side of it that has fewer of them is gone over.
-pub(crate) fn place_of_char_of(bytes: &[u8], n: usize, chars: usize) -> usize
-    requires { chars ≡ count_by begins_char bytes.now }
-    ensures { IsPlaceOf Mark.Char bytes.now 0 n result }
-{
-    if n >= chars {
-        return bytes.len();
-    }
-    let (from, left) = if n <= chars / 2 {
-        skip_chars(bytes, n)
-    } else {
-        skip_chars_back(bytes, n, chars)
-    };
-    find_from(bytes, from, left, Mark::Char)
-}
-
-// The byte at which the character begins that holds the code unit `n`, counted from the byte `from` on, byte by byte.
-fn find_unit(bytes: &[u8], from: usize, n: usize) -> usize
+/// The byte at which the character begins that holds the code unit `n`, counted from the byte `from` on, byte by byte.
+pub(crate) fn find_unit(bytes: &[u8], from: usize, n: usize) -> usize
     requires { from ≤ length bytes.now }
     ensures { IsUnitPlaceOf bytes.now from n result }
 {
@@ -132,40 +76,13 @@ fn find_unit(bytes: &[u8], from: usize, n: usize) -> usize
     bytes.len()
 }
 
-/// The byte at which the character begins that holds the code unit `n`, and how many characters begin before it.
-pub(crate) fn place_of_unit(bytes: &[u8], n: usize) -> (usize, usize)
-    ensures place { IsUnitPlaceOf bytes.now 0 n result.0 }
-    ensures chars { count_by begins_char bytes.now ≡ result.1 + count_by begins_char (drop result.0 bytes.now) }
-{
-    let mut at = 0;
-    let mut left = n;
-    let mut chars = 0;
-    while bytes.len() - at >= 32 {
-        let begins = known_mask(bytes, at, Mark::Char);
-        let pairs = known_mask(bytes, at, Mark::Pair);
-        let begun = ones_before(begins, 32);
-        let passed = begun + ones_before(pairs, 32);
-        if left < passed {
-            let front = place_of_mark(begins, pairs, left);
-            return (at + front, chars + ones_before(begins, front));
-        }
-        left -= passed;
-        chars += begun;
-        at += 32;
-    }
-    let to = find_unit(bytes, at, left);
-    (to, chars + marks_between(bytes, at, to, Mark::Char))
-}
-
 /// The byte at which the character `n` begins, and how many breaks begin before it. The set is known where this is expanded.
 #[inline(always)]
 pub(crate) fn line_of_char(bytes: &[u8], n: usize, breaks: LineBreaks) -> (usize, usize)
     ensures place { IsPlaceOf Mark.Char bytes.now 0 n result.0 }
     ensures break_count { byte_break_count breaks bytes.now ≡ result.1 + byte_break_count breaks (drop result.0 bytes.now) }
 {
-    let mut at = 0;
-    let mut left = n;
-    let mut break_count = 0;
+    let (mut at, mut left, mut break_count) = (0, n, 0);
     while bytes.len() - at >= 34 {
         let passed = marks_in(bytes, at, Mark::Char);
         if left < passed {
@@ -188,8 +105,7 @@ fn skip_known(bytes: &[u8], n: usize, breaks: LineBreaks) -> (usize, TextInfo)
     ensures chars { count_by begins_char bytes.now ≡ result.1.chars + count_by begins_char (drop result.1.bytes bytes.now) }
     ensures pairs { count_by begins_pair bytes.now ≡ result.1.utf16_surrogates + count_by begins_pair (drop result.1.bytes bytes.now) }
 {
-    let mut left = n;
-    let mut counts = TextInfo::new();
+    let (mut left, mut counts) = (n, TextInfo::new());
     while bytes.len() - counts.bytes >= 34 {
         let at = counts.bytes;
         let passed = marks_in(bytes, at, Mark::Break(breaks));
@@ -204,19 +120,111 @@ fn skip_known(bytes: &[u8], n: usize, breaks: LineBreaks) -> (usize, TextInfo)
     (left, counts)
 }
 
-/// What the bytes before the last character of the break `n` count, the breaks counted from 0 and the count of them left out.
-/// What a caller takes no count of isn't counted, since this is expanded there.
+/// How many bytes the character has that begins with the byte.
 #[inline(always)]
-pub(crate) fn before_break(bytes: &[u8], n: usize, breaks: LineBreaks) -> TextInfo
-    ensures place { IsPlaceOf (Mark.Break breaks) bytes.now 0 n result.bytes }
-    ensures chars { count_by begins_char bytes.now ≡ result.chars + count_by begins_char (drop result.bytes bytes.now) }
-    ensures pairs { count_by begins_pair bytes.now ≡ result.utf16_surrogates + count_by begins_pair (drop result.bytes bytes.now) }
+pub(crate) fn width_of(byte: u8) -> usize
+    ensures { result ≡ char_width byte }
 {
-    let (left, mut counts) = known_set!(breaks => skip_known(bytes, n, breaks));
+    match byte {
+        0..=0x7F => 1,
+        0x80..=0xDF => 2,
+        0xE0..=0xEF => 3,
+        0xF0..=0xFF => 4,
+    }
+}
+
+/// What the text before the line `line_idx` counts, or all of it where no line has that number. What a caller takes no count of
+/// isn't counted, since this is expanded there.
+#[inline(always)]
+pub(crate) fn front_of_line(text: &str, line_idx: usize, breaks: LineBreaks) -> TextInfo
+    ensures bytes { result.bytes ≡ line_to_byte breaks (chars text.now) line_idx }
+    ensures chars { result.chars ≡ line_to_char breaks (chars text.now) line_idx }
+    ensures counts { 0 < line_idx → line_idx ≤ break_count breaks (chars text.now)
+        → result ≡ info_of breaks (take (line_start breaks (chars text.now) line_idx) (chars text.now)) }
+{
+    if line_idx == 0 {
+        return TextInfo::new();
+    }
+    let bytes = text.as_bytes();
+    let (left, mut counts) = known_set!(breaks => skip_known(bytes, line_idx - 1, breaks));
     let from = counts.bytes;
     let to = find_from(bytes, from, left, Mark::Break(breaks));
     counts.chars += marks_between(bytes, from, to, Mark::Char);
     counts.utf16_surrogates += marks_between(bytes, from, to, Mark::Pair);
     counts.bytes = to;
+    counts.break_count = line_idx;
+    if to < bytes.len() {
+        counts.bytes += width_of(bytes[to]);
+        counts.chars += 1;
+    }
     counts
+}
+
+// From a place near the end up to the next break or to where the last block ends that can be read; from behind that no further.
+#[inline(always)]
+fn go_in_last_block(
+    bytes: &[u8],
+    from: (usize, usize, usize),
+    breaks: LineBreaks,
+) -> (usize, usize, usize)
+    requires near { length bytes.now ≤ from.1 + 34 }
+    requires front { IsFront breaks bytes.now from.0 from.1 from.2 }
+    ensures { IsFront breaks bytes.now result.0 result.1 result.2 }
+{
+    let (chars, start, pairs) = from;
+    if bytes.len() < 34 || start > bytes.len() - 2 {
+        return from;
+    }
+    let at = bytes.len() - 34;
+    let skip = start - at;
+    let begins = known_mask(bytes, at, Mark::Char);
+    let doubles = known_mask(bytes, at, Mark::Pair);
+    let marks = mask(bytes, at, Mark::Break(breaks)) >> skip;
+    let to = skip + first_mark(marks).min(32 - skip);
+    (
+        chars + ones_between(begins, skip, to),
+        at + to,
+        pairs + ones_between(doubles, skip, to),
+    )
+}
+
+// From behind the last whole block on. Never inlined: it is done once a chunk.
+#[inline(never)]
+fn go_to_end(bytes: &[u8], from: (usize, usize, usize), breaks: LineBreaks) -> (usize, usize, usize)
+    requires near { length bytes.now ≤ from.1 + 34 }
+    requires front { IsFront breaks bytes.now from.0 from.1 from.2 }
+    ensures front { IsFront breaks bytes.now result.0 result.1 result.2 }
+    ensures inside { result.1 < length bytes.now → IsTrue (breaks_at breaks bytes.now result.1) }
+{
+    let (mut chars, mut at, mut pairs) = go_in_last_block(bytes, from, breaks);
+    while at < bytes.len() && !is_mark(bytes, at, Mark::Break(breaks)) {
+        chars += is_mark(bytes, at, Mark::Char) as usize;
+        pairs += is_mark(bytes, at, Mark::Pair) as usize;
+        at += 1;
+    }
+    (chars, at, pairs)
+}
+
+/// The bytes before the one at which the last character of the first line break begins, or all, and what they count: a block at a
+/// time. A set that is known where this is called leaves no test for it in the loop.
+#[inline(always)]
+pub(crate) fn to_first_break(bytes: &[u8], breaks: LineBreaks) -> (usize, usize, usize)
+    ensures front { IsFront breaks bytes.now result.0 result.1 result.2 }
+    ensures inside { result.1 < length bytes.now → IsTrue (breaks_at breaks bytes.now result.1) }
+{
+    let (mut chars, mut at, mut pairs) = (0, 0, 0);
+    while bytes.len() - at >= 34 {
+        let marks = known_mask(bytes, at, Mark::Break(breaks));
+        let begins = known_mask(bytes, at, Mark::Char);
+        let doubles = known_mask(bytes, at, Mark::Pair);
+        if ones_before(marks, 32) > 0 {
+            let skip = first_mark(marks);
+            chars += ones_before(begins, skip);
+            return (chars, at + skip, pairs + ones_before(doubles, skip));
+        }
+        at += 32;
+        chars += ones_before(begins, 32);
+        pairs += ones_before(doubles, 32);
+    }
+    go_to_end(bytes, (chars, at, pairs), breaks)
 }

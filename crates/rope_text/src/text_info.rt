@@ -8,11 +8,9 @@ ghost use Rattle.rope_text.specs.LineParts.{first_line};
 ghost use Rattle.rope_text.specs.Lines.{line_start};
 ghost use Rattle.rope_text.specs.TextInfo.{info_of, info_sum};
 
-use crate::LineBreaks;
 use crate::lanes::count_all;
-use crate::scan::to_first_break;
-use crate::seek::before_break;
-use crate::str_utils::width_of;
+use crate::seek::{front_of_line, to_first_break, width_of};
+use crate::{LineBreaks, known_set};
 
 /// What a text counts.
 // The bytes stand last: in a leaf they then lie beside the text, and a walk over leaves reads both at once.
@@ -65,21 +63,16 @@ impl TextInfo {
         ensures { result ≡ info_of breaks (first_line breaks (chars text.now)) }
     {
         let bytes = text.as_bytes();
-        let front = to_first_break(bytes, breaks);
-        if front.bytes == bytes.len() {
-            return TextInfo {
-                bytes: front.bytes,
-                chars: front.chars,
-                utf16_surrogates: front.pairs,
-                break_count: 0,
-            };
+        // Each set has a loop of its own, since marks that come from one of three places are slow to put together.
+        let mut line = TextInfo::new();
+        (line.chars, line.bytes, line.utf16_surrogates) =
+            known_set!(breaks => to_first_break(bytes, breaks));
+        if line.bytes < bytes.len() {
+            line.bytes += width_of(bytes[line.bytes]);
+            line.chars += 1;
+            line.break_count = 1;
         }
-        TextInfo {
-            bytes: front.bytes + width_of(bytes[front.bytes]),
-            chars: front.chars + 1,
-            utf16_surrogates: front.pairs,
-            break_count: 1,
-        }
+        line
     }
 
     /// The counts of the text before the line `line_idx`, which is not the first, by the line breaks of the set. Reads the
@@ -89,14 +82,7 @@ impl TextInfo {
         requires within { line_idx ≤ break_count breaks (chars text.now) }
         ensures { result ≡ info_of breaks (take (line_start breaks (chars text.now) line_idx) (chars text.now)) }
     {
-        let bytes = text.as_bytes();
-        let counted = before_break(bytes, line_idx - 1, breaks);
-        TextInfo {
-            bytes: counted.bytes + width_of(bytes[counted.bytes]),
-            chars: counted.chars + 1,
-            break_count: line_idx,
-            ..counted
-        }
+        front_of_line(text, line_idx, breaks)
     }
 
     /// The sums: the counts of two texts joined, unless CR meets LF there, which makes one line break less. Each
