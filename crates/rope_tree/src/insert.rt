@@ -55,11 +55,11 @@ fn insert_into_leaf(
         let node = make_leaf(maker, breaks, text, info)?;
         return Ok(Nodes::One(node));
     }
-    let halves = halves_of(text);
-    let front_info = TextInfo::from_str(halves.front, breaks);
+    let (front, back) = halves_of(text);
+    let front_info = TextInfo::from_str(front, breaks);
     let back_info = info.minus(front_info);
-    let first = make_leaf(maker, breaks, halves.front, front_info)?;
-    let second = make_leaf(maker, breaks, halves.back, back_info)?;
+    let first = make_leaf(maker, breaks, front, front_info)?;
+    let second = make_leaf(maker, breaks, back, back_info)?;
     Ok(Nodes::Two(first, second))
 }
 

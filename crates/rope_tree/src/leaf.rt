@@ -41,15 +41,6 @@ impl Model for Leaf {
 }
 
 impl Leaf {
-    /// A leaf of no text, of which each byte is 0: so its place in memory is cleared at once.
-    #[inline(always)]
-    fn empty() -> Leaf {
-        Leaf {
-            summary: Summary::new(LineBreaks::Lf, TextInfo::new()),
-            text: NodeText::new(),
-        }
-    }
-
     /// Puts a copy of another text in the place of its own, whose counts by this set of line breaks the caller knows.
     fn fill(&mut self, breaks: LineBreaks, text: &str, info: TextInfo)
         requires fits { length text.now ≤ MAX_BYTES }
@@ -62,7 +53,7 @@ impl Leaf {
 
     /// A leaf with a copy of this text, whose counts by this set the caller knows. It is filled where it stays, so that the text is
     /// moved once.
-    pub(crate) fn with_text(
+    pub fn with_text(
         alloc: Global,
         breaks: LineBreaks,
         text: &str,
@@ -72,8 +63,13 @@ impl Leaf {
         requires info { info ≡ info_of breaks (chars text.now) }
         ensures { IfOk result (λ leaf. leaf.value ≡ leaf_tree breaks (chars text.now)) }
     {
+        // Each byte of it is 0, so that its place in memory is cleared at once.
+        let empty = Leaf {
+            summary: Summary::new(LineBreaks::Lf, TextInfo::new()),
+            text: NodeText::new(),
+        };
         // Matched by hand: through `?` the leaf that a refusal gives back would be moved where none is refused, too.
-        let Ok(mut leaf) = Rc::new(alloc, Leaf::empty()) else {
+        let Ok(mut leaf) = Rc::new(alloc, empty) else {
             return Err(AllocError);
         };
         // A leaf that was just made has no other owner, so that it can always be changed.
@@ -82,15 +78,6 @@ impl Leaf {
         };
         room.fill(breaks, text, info);
         Ok(leaf)
-    }
-
-    /// The same leaf once more, with a copy of its text.
-    pub(crate) fn copied(&self, alloc: Global) -> Made<Rc<Leaf>>
-        ensures { IfOk result (λ leaf. leaf.value ≡ self.now) }
-    {
-        let info = self.info();
-        let text = self.text.as_str_of_len(info.bytes);
-        Leaf::with_text(alloc, self.line_breaks(), text, info)
     }
 
     /// Its set of line breaks.
@@ -137,12 +124,7 @@ impl Leaf {
 
     /// Puts a text before the character `at`, if there is room for it; returns whether it did, and in `more` by how much the
     /// counts grew. It takes no memory.
-    pub(crate) fn insert_in_place(
-        &mut self,
-        at: usize,
-        added: &ShortText<'_>,
-        more: &mut TextInfo,
-    ) -> bool
+    pub fn insert_in_place(&mut self, at: usize, added: &ShortText<'_>, more: &mut TextInfo) -> bool
         requires within { at ≤ length (text self.old) }
         requires some { 1 ≤ length added.now }
         ensures done { result ≡ true → IsInserted self.old (self.new ∷ []) (inserted (text self.old) at added.now) }
@@ -164,12 +146,7 @@ impl Leaf {
 
     /// Puts a text before the character `at`, where there is no room for it: leaves the first part here, and answers a leaf
     /// with the second. None, and nothing changed, where there is room. Where memory is refused, nothing is changed.
-    pub(crate) fn cut(
-        &mut self,
-        maker: &mut Maker,
-        at: usize,
-        added: &ShortText<'_>,
-    ) -> Made<Option<Node>>
+    pub fn cut(&mut self, maker: &mut Maker, at: usize, added: &ShortText<'_>) -> Made<Option<Node>>
         requires some { 1 ≤ length added.now }
         requires short { byte_len added.now ≤ MAX_SHORT_BYTES }
         ensures cut { IfOk result (λ found. IfSome found (λ back. IsInserted self.old (self.new ∷ back ∷ []) (inserted (text self.old) at added.now))) }
@@ -184,17 +161,17 @@ impl Leaf {
         }
         let breaks = self.line_breaks();
         let (grown, info) = leaf_with(self.info(), &old, at, added, breaks);
-        let halves = halves_of(grown.as_str());
-        let front_info = TextInfo::from_str(halves.front, breaks);
+        let (front, back) = halves_of(grown.as_str());
+        let front_info = TextInfo::from_str(front, breaks);
         let back_info = info.minus(front_info);
-        let behind = make_leaf(maker, breaks, halves.back, back_info)?;
-        self.fill(breaks, halves.front, front_info);
+        let behind = make_leaf(maker, breaks, back, back_info)?;
+        self.fill(breaks, front, front_info);
         Ok(Some(behind))
     }
 
     /// Takes the characters from `start` up to `end` out, if the leaf may do without them and keeps so many bytes; returns
     /// whether it did, and in `less` by how much the counts fell. It takes no memory.
-    pub(crate) fn remove_in_place(
+    pub fn remove_in_place(
         &mut self,
         start: usize,
         end: usize,

@@ -9,7 +9,6 @@ pub mod counts;
 pub mod edit;
 pub mod insert;
 mod leaf;
-mod leaf_bytes;
 pub mod lookup;
 pub mod maker;
 pub mod node;

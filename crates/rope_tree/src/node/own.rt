@@ -59,7 +59,12 @@ fn copy_leaf(leaf: &mut Rc<Leaf>, maker: &mut Maker) -> Made<()>
     ensures made { maker.new.made ≤ maker.old.made + 1 }
 {
     maker.add_made();
-    *leaf = leaf.copied(maker.alloc)?;
+    *leaf = Leaf::with_text(
+        maker.alloc,
+        leaf.line_breaks(),
+        leaf.text().as_str(),
+        leaf.info(),
+    )?;
     Ok(())
 }
 

@@ -13,16 +13,16 @@ use Rattle.rope_tree.proofs.insert.insert_into_leaf.Goals.{After-from_str-front_
 use Rattle.rope_tree.proofs.insert.insert_into_leaf.Goals as goal
 
 -- the two parts are the leaf with the text
-whole : (c : After-from_str-front_info) → chars c.halves_of-halves.result.front.now ++ chars c.halves_of-halves.result.back.now ≡ inserted c.args.leaf.now c.args.at c.args.added.now
-whole c = c.halves_of-halves.ensures.joined ∙ ap chars c.as_str-text.ensures.value ∙ c.leaf_with-grown.ensures.text
+whole : (c : After-from_str-front_info) → chars c.halves_of.result.0.now ++ chars c.halves_of.result.1.now ≡ inserted c.args.leaf.now c.args.at c.args.added.now
+whole c = c.halves_of.ensures.joined ∙ ap chars c.as_str-text.ensures.value ∙ c.leaf_with-grown.ensures.text
 
-parted : (c : After-from_str-front_info) → c.leaf_with-grown.result.1 ≡ info_sum c.from_str-front_info.result (info_of c.line_breaks-breaks.result (chars c.halves_of-halves.result.back.now))
+parted : (c : After-from_str-front_info) → c.leaf_with-grown.result.1 ≡ info_sum c.from_str-front_info.result (info_of c.line_breaks-breaks.result (chars c.halves_of.result.1.now))
 parted c =
     let breaks = c.line_breaks-breaks.result in
-    let halves = c.halves_of-halves in
+    let halves = c.halves_of in
     c.leaf_with-grown.ensures.info ∙ ap (info_of breaks) (sym (whole c))
-    ∙ info_of-append_apart breaks (chars halves.result.front.now) (chars halves.result.back.now) halves.ensures.apart
-    ∙ ap (λ i. info_sum i (info_of breaks (chars halves.result.back.now))) (sym c.from_str-front_info.ensures)
+    ∙ info_of-append_apart breaks (chars halves.result.0.now) (chars halves.result.1.now) halves.ensures.apart
+    ∙ ap (λ i. info_sum i (info_of breaks (chars halves.result.1.now))) (sym c.from_str-front_info.ensures)
 
 pub minus-back_info-requires-clause-bytes : goal.minus-back_info-requires-clause-bytes
 minus-back_info-requires-clause-bytes c = omega (arith, ap (λ i. i.bytes) (parted (goal.at.minus-back_info-requires-clause-bytes c).After-from_str-front_info))
@@ -44,9 +44,9 @@ returns-then-text-le-MAX_BYTES-clause-ok c =
 pub returns-clause-ok : goal.returns-clause-ok
 returns-clause-ok c =
     let f = (goal.at.returns-clause-ok c).After-from_str-front_info in
-    let halves = c.halves_of-halves in
-    let front = halves.result.front.now in
-    let back = halves.result.back.now in
+    let halves = c.halves_of in
+    let front = halves.result.0.now in
+    let back = halves.result.1.now in
     let new = inserted c.args.leaf.now c.args.at c.args.added.now in
     let first = c.in_ok-first in
     let second = c.in_ok-second in

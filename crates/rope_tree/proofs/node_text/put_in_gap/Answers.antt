@@ -7,7 +7,7 @@ use Rattle.std.proofs.lemmas.Slice.{take-put_mid, drop-put_mid}
 use Rattle.std.proofs.Math.ListN.{drop_of_length-le}
 use Rattle.std.proofs.Math.Seq.{paste, drop-append_seam}
 use borrow.Rule.Slice.PartMut.{put_mid}
-use Rattle.rope_tree.proofs.leaf_bytes.put_in_gap.Goals as goal
+use Rattle.rope_tree.proofs.node_text.put_in_gap.Goals as goal
 
 -- the front stays, and what lies from the gap's end on is what lay from its start on
 module _ (bs : List ℕ) (place end m : ℕ) (order : place ≤ end) (whole : end + m ≡ length bs) where
