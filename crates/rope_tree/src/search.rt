@@ -96,17 +96,6 @@ impl Totals {
         }
     }
 
-    /// The same totals once more. Wide ones take memory of their own.
-    pub(crate) fn copied(&self, alloc: Global) -> Made<Totals>
-        ensures { IfOk result (λ copy. copy ≡ self.now) }
-    {
-        let width = match &self.width {
-            Width::Narrow(totals) => Width::Narrow(totals.copied()),
-            Width::Wide(totals) => Width::Wide(Box::new(alloc, totals.copied())?),
-        };
-        Ok(Totals { width })
-    }
-
     /// How many children there are.
     #[inline(always)]
     pub fn len(&self) -> usize

@@ -125,17 +125,6 @@ impl<T: Cell> CountRows<T> {
         CountRows { len: 0, rows }
     }
 
-    /// The same totals once more.
-    #[inline(always)]
-    pub(super) fn copied(&self) -> CountRows<T>
-        ensures { result ≡ self.now }
-    {
-        CountRows {
-            len: self.len,
-            rows: self.rows,
-        }
-    }
-
     /// How many children there are.
     #[inline(always)]
     pub(super) fn len(&self) -> usize

@@ -199,7 +199,7 @@ own_form f = record { form = f }
 pub Node::remove_in_place-remove_in_place-requires-in-Some-get_mut : goal.Node::remove_in_place-remove_in_place-requires-in-Some-get_mut
 Node::remove_in_place-remove_in_place-requires-in-Some-get_mut t c =
     let ts = c.in-Some-get_mut.children.now in
-    let is_node : IsNode (own_form c.own.new.form) = record { form = c.in_ok-own.ensures.kept c.self.invariant.form } in
+    let is_node : IsNode (own_form c.own.new.form) = record { form = c.in_ok-own.ensures.kept } in
     let i = inner_seen (own_form c.own.new.form) c.args.self.now c.in-Inner.children ts is_node c.in-Inner.is (c.in_ok-own.ensures.same ∙ c.self.view_is) c.in-Some-get_mut.ensures.value in
     let low = tallest_below (breaks_of ts) (height_of ts) ts i.children.each in
     (omega (arith, c.decreases, low, ap (λ x. x.height) i.is), (i.children, (c.requires.ordered, omega (arith, c.requires.within, ap (λ x. length (text x)) i.is))))
@@ -207,7 +207,7 @@ Node::remove_in_place-remove_in_place-requires-in-Some-get_mut t c =
 pub Node::remove_in_place-invariant_of-self-2 : goal.Node::remove_in_place-invariant_of-self-2
 Node::remove_in_place-invariant_of-self-2 t c =
     let mine = own_form c.own.new.form in
-    let is_node : IsNode mine = record { form = c.in_ok-own.ensures.kept c.self.invariant.form } in
+    let is_node : IsNode mine = record { form = c.in_ok-own.ensures.kept } in
     let view = c.in_ok-own.ensures.same ∙ c.self.view_is in
     elim c.match-self.branch [
       | Node::remove_in_place-in-Empty w ↦ rw w.self-inside-is is_node
@@ -228,7 +228,7 @@ Node::remove_in_place-invariant_of-self-2 t c =
 pub Node::remove_in_place-returns-clause-tried : goal.Node::remove_in_place-returns-clause-tried
 Node::remove_in_place-returns-clause-tried t c =
     let mine = own_form c.own.new.form in
-    let is_node : IsNode mine = record { form = c.in_ok-own.ensures.kept c.self.invariant.form } in
+    let is_node : IsNode mine = record { form = c.in_ok-own.ensures.kept } in
     let view = c.in_ok-own.ensures.same ∙ c.self.view_is in
     elim c.match-self.branch [
       | Node::remove_in_place-in-Empty w ↦ rw (w.result-is, w.self-inside-is) (not_tried c.args.self.now _ view)
@@ -252,7 +252,7 @@ Node::remove_in_place-returns-clause-tried t c =
 pub Node::remove_in_place-returns-clause-change : goal.Node::remove_in_place-returns-clause-change
 Node::remove_in_place-returns-clause-change t c =
     let mine = own_form c.own.new.form in
-    let is_node : IsNode mine = record { form = c.in_ok-own.ensures.kept c.self.invariant.form } in
+    let is_node : IsNode mine = record { form = c.in_ok-own.ensures.kept } in
     let view = c.in_ok-own.ensures.same ∙ c.self.view_is in
     elim c.match-self.branch [
       | Node::remove_in_place-in-Empty w ↦ rw w.result-is (λ no. cc)
