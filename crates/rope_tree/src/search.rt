@@ -297,36 +297,24 @@ pub(crate) fn holds_char(totals: &Totals, place: usize, at: usize) -> bool
     is_before & is_behind
 }
 
-/// A child that holds a character, and whether the way there still follows another.
-#[derive(Clone, Copy)]
-pub(crate) struct Tried {
-    pub(crate) place: usize,
-    pub(crate) follows: bool,
-}
-
-/// The child that holds a character. Where the way follows another, that one's child is tried first: so nothing waits for a search
+/// The child that holds a character, and whether the way there still follows another. Where the way follows another, that one's child is tried first: so nothing waits for a search
 /// where it is that child time and again. Of few children none is tried, since a processor would guess wrongly too often.
 #[inline(always)]
-pub(crate) fn try_place(totals: &Totals, at: usize, likely: usize, follows: bool) -> Tried
+pub(crate) fn try_place(totals: &Totals, at: usize, likely: usize, follows: bool) -> (usize, bool)
     requires some { 0 < length totals.now }
     requires few { length totals.now ≤ MAX_CHILDREN }
     requires small { (j : ℕ) (d : TextInfo) → j < length totals.now → IsSmall (slice_index_or totals.now j d) }
     requires last { (d : TextInfo) → at < count_of Char (slice_index_or totals.now (length totals.now - 1) d) }
-    ensures within { result.place < length totals.now }
-    ensures before { (d : TextInfo) → 0 < result.place → count_of Char (slice_index_or totals.now (result.place - 1) d) ≤ at }
-    ensures past { (d : TextInfo) → at < count_of Char (slice_index_or totals.now result.place d) }
+    ensures within { result.0 < length totals.now }
+    ensures before { (d : TextInfo) → 0 < result.0 → count_of Char (slice_index_or totals.now (result.0 - 1) d) ≤ at }
+    ensures past { (d : TextInfo) → at < count_of Char (slice_index_or totals.now result.0 d) }
 {
     let are_few = totals.len() < MIN_CHILDREN;
     if follows && !are_few && holds_char(totals, likely, at) {
-        return Tried {
-            place: likely,
-            follows,
-        };
+        return (likely, true);
     }
-    Tried {
-        place: place_of(totals, Unit::Char, at, &mut Steps::new()),
-        follows: follows && are_few,
-    }
+    let place = place_of(totals, Unit::Char, at, &mut Steps::new());
+    (place, follows && are_few)
 }
 
 /// The character that the child which takes a text has to hold: at a seam the one before it, or the one after it.

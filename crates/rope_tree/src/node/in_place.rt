@@ -9,19 +9,11 @@ ghost use Rattle.rope_tree.specs.Tries.{IsTried};
 
 use super::own::own;
 use super::{Children, Form, Node};
+use crate::leaf::Leaf;
 use crate::search::{char_to_hold, try_place};
 use crate::{Made, Maker, ShortText, Totals, total_before};
 use rope_text::{MAX_CHILDREN, TextInfo};
 use std::rc::Rc;
-
-/// Where a text goes in a list of children: in which of them, before which character of it, and whether the way follows that of
-/// the edit before so far.
-#[derive(Clone, Copy)]
-pub(super) struct WayIn {
-    pub(super) place: usize,
-    pub(super) at: usize,
-    pub(super) follows: bool,
-}
 
 /// Whether a list of children has none: it is asked before a search in a list over leaves, of one place in each 64 bytes, so that the
 /// list's places in memory are read side by side, where the way down would wait for each. It stands by itself, since an edit that
@@ -45,7 +37,7 @@ pub(super) fn has_no_text(totals: &Totals, nodes: &[Node], place: usize, at: usi
     let chars = total.chars.wrapping_sub(before.chars);
     let is_behind = bytes == chars || at > chars / 2;
     let from = if is_behind { at } else { 0 };
-    nodes[place].is_no_text(from, bytes)
+    matches!(nodes[place].leaf(), Some(leaf) if leaf.is_no_text(from, bytes))
 }
 
 /// What an edit answers that changes nothing. It stands by itself, and is seldom called, so that the way of other edits lies straight.
@@ -58,24 +50,21 @@ pub(super) fn unchanged() -> Made<bool>
 }
 
 impl Children {
-    /// The child that takes a text before the character `at`. Where the way follows that of the edit before, its child is tried first.
+    /// The child that takes a text before the character `at`, before which of its characters, and whether the way still follows that of
+    /// the edit before. Where it did so far, that one's child is tried first.
     #[inline(always)]
-    pub(super) fn way_in(&self, at: usize, to_right: bool, follows: bool) -> WayIn
+    pub(super) fn way_in(&self, at: usize, to_right: bool, follows: bool) -> (usize, usize, bool)
         requires children { AreChildren (breaks_of self.now) (height_of self.now) self.now }
         requires within { at ≤ length (joined self.now) }
         requires right { to_right ≡ true → at < length (joined self.now) }
-        ensures child { result.place < length self.now }
-        ensures place { at ≡ length (joined (take result.place self.now)) + result.at }
-        ensures goes { (child : Tree) → GoesIn at result.at (length (text (slice_index_or self.now result.place child))) to_right }
+        ensures child { result.0 < length self.now }
+        ensures place { at ≡ length (joined (take result.0 self.now)) + result.1 }
+        ensures goes { (child : Tree) → GoesIn at result.1 (length (text (slice_index_or self.now result.0 child))) to_right }
     {
         let held = char_to_hold(at, to_right);
-        let child = try_place(&self.totals, held, usize::from(self.last), follows);
-        let before = total_before(&self.totals, child.place).chars;
-        WayIn {
-            place: child.place,
-            at: at - before,
-            follows: child.follows,
-        }
+        let (place, follows) = try_place(&self.totals, held, usize::from(self.last), follows);
+        let before = total_before(&self.totals, place).chars;
+        (place, at - before, follows)
     }
 
     /// Puts a text before the character `at`, where the leaf has room, or is cut into two and the node over it has room for one
@@ -105,12 +94,11 @@ impl Children {
         if !self.totals.has_room_for(added.len()) {
             return unchanged();
         }
-        let way = self.way_in(at, to_right, follows);
-        let is_ahead = !way.follows && self.height == 1;
-        if is_ahead && has_no_text(&self.totals, &self.nodes, way.place, way.at) {
+        let (place, inside, follows) = self.way_in(at, to_right, follows);
+        if !follows && self.height == 1 && has_no_text(&self.totals, &self.nodes, place, inside) {
             return unchanged();
         }
-        if self.nodes[way.place].lacks_room_for(added.len()) {
+        if matches!(self.nodes[place].leaf(), Some(leaf) if leaf.lacks_room_for(added.len())) {
             let before = self.total();
             if !self.cut_leaf(maker, at, added, to_right)? {
                 return unchanged();
@@ -118,42 +106,30 @@ impl Children {
             *more = self.total().minus(before);
             return Ok(true);
         }
-        let node = &mut self.nodes[way.place];
-        if !node.insert_in_place(maker, way.at, added, to_right, way.follows, more)? {
+        let node = &mut self.nodes[place];
+        if !node.insert_in_place(maker, inside, added, to_right, follows, more)? {
             return unchanged();
         }
-        self.totals.retotal(way.place, TextInfo::new(), *more);
-        self.last = way.place as u8;
+        self.totals.retotal(place, TextInfo::new(), *more);
+        self.last = place as u8;
         Ok(true)
     }
 }
 
 impl Node {
-    /// Whether it is a leaf in which so many bytes more have no room.
+    /// The leaf that it is, if it is one.
     #[inline(always)]
-    fn lacks_room_for(&self, bytes: usize) -> bool {
+    fn leaf(&self) -> Option<&Leaf> {
         match &self.form {
-            Form::Leaf(leaf) => leaf.lacks_room_for(bytes),
-            _ => false,
-        }
-    }
-
-    /// Whether it is a leaf that has no text, which none is.
-    #[inline(always)]
-    fn is_no_text(&self, from: usize, len: usize) -> bool {
-        match &self.form {
-            Form::Leaf(leaf) => leaf.is_no_text(from, len),
-            _ => false,
+            Form::Leaf(leaf) => Some(leaf),
+            _ => None,
         }
     }
 
     /// Whether it has no text and no children.
     #[inline(always)]
     fn is_empty(&self) -> bool {
-        match &self.form {
-            Form::Empty(_) => true,
-            _ => false,
-        }
+        matches!(self.form, Form::Empty(_))
     }
 
     /// Puts a text of at most 981 bytes before the character `at`, where the leaf has room, or is cut into two and the node over

@@ -36,17 +36,17 @@ impl Children {
         if count >= MAX_CHILDREN || !self.totals.has_room_for(added.len()) {
             return Ok(false);
         }
-        let way = self.way_in(at, to_right, false);
-        let node = &mut self.nodes[way.place];
+        let (place, inside, _) = self.way_in(at, to_right, false);
+        let node = &mut self.nodes[place];
         let old = node.info();
-        let Some(back) = node.cut(maker, way.at, added)? else {
+        let Some(back) = node.cut(maker, inside, added)? else {
             return Ok(false);
         };
         let front = node.info();
-        let total = total_before(&self.totals, way.place).plus(front);
-        self.totals.retotal(way.place, old, front.plus(back.info()));
-        self.totals.insert(way.place, total);
-        put_behind(&mut self.nodes[..count + 1], way.place, back);
+        let total = total_before(&self.totals, place).plus(front);
+        self.totals.retotal(place, old, front.plus(back.info()));
+        self.totals.insert(place, total);
+        put_behind(&mut self.nodes[..count + 1], place, back);
         Ok(true)
     }
 }

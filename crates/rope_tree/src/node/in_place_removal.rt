@@ -10,8 +10,7 @@ use super::in_place::{has_no_child, has_no_text, unchanged};
 use super::own::own;
 use super::{Children, Form, Node};
 use crate::beside::{Least, least_at};
-use crate::search::try_place;
-use crate::{Made, Maker, total_before};
+use crate::{Made, Maker};
 use rope_text::TextInfo;
 use std::rc::Rc;
 
@@ -40,27 +39,16 @@ impl Children {
         if !follows && self.height == 1 && has_no_child(&self.nodes) {
             return unchanged();
         }
-        let child = try_place(&self.totals, start, usize::from(self.last), follows);
-        let place = child.place;
+        let (place, at, follows) = self.way_in(start, true, follows);
         if self.totals.get(place).chars < end {
             return unchanged();
         }
-        let before = total_before(&self.totals, place).chars;
         let least = least_at(usize::from(self.height), &self.totals, place, least);
-        let at = start.saturating_sub(before);
-        let is_ahead = !child.follows && self.height == 1;
-        if is_ahead && has_no_text(&self.totals, &self.nodes, place, at) {
+        if !follows && self.height == 1 && has_no_text(&self.totals, &self.nodes, place, at) {
             return unchanged();
         }
         let node = &mut self.nodes[place];
-        if !node.remove_in_place(
-            maker,
-            start - before,
-            end - before,
-            least,
-            child.follows,
-            less,
-        )? {
+        if !node.remove_in_place(maker, at, end - (start - at), least, follows, less)? {
             return unchanged();
         }
         self.totals.retotal(place, *less, TextInfo::new());
