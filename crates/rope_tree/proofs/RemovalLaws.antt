@@ -10,7 +10,6 @@ use Rattle.rope_text.specs.Text.{byte_len}
 use Rattle.rope_text.specs.Edit.{removed}
 use Rattle.rope_text.proofs.Measures.{IsMeasure-byte_len, size_le}
 use Rattle.rope_text.proofs.CuttingLaws.{concat-append}
-use Rattle.rope_tree.specs.declared.search.Unit.TheVariants.{Char}
 use Rattle.rope_text.specs.Dense.{AreDense, last_bytes}
 use Rattle.rope_text.proofs.DenseLaws.{dense_alone, dense_right}
 use Rattle.rope_tree.specs.Leaves.{AreLeaves, IsSeam, StandFor, IsEnoughBehind, IsEnoughAhead}

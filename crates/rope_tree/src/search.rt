@@ -5,16 +5,15 @@ ghost use Rattle.rope_text.specs.declared.text_info.TextInfo.{TextInfo};
 ghost use Rattle.rope_text.specs.TextInfo.{info_sum};
 ghost use Rattle.rope_tree.specs.declared.search.Unit.TheVariants.{Char};
 ghost use Rattle.rope_tree.specs.Search.{count_of, IsSmall, HasPart};
-ghost use Rattle.rope_tree.specs.Narrow.{IsBelow, IsNarrow, AreNarrow, FitsWith};
+ghost use Rattle.rope_tree.specs.Narrow.{IsBelow, IsNarrow, AreNarrow, IsBelowWith, FitsWith};
 
 use crate::Made;
-use rope_text::{MIN_CHILDREN, Steps, TextInfo};
+use arrayvec::ArrayVec;
+use rope_text::{MAX_CHILDREN, MIN_CHILDREN, Steps, TextInfo};
 use std::alloc::{AllocError, Global};
 use std::marker::Model;
 
 mod count_rows;
-mod narrow;
-mod wide;
 
 use count_rows::CountRows;
 
@@ -51,9 +50,11 @@ pub struct Totals {
 /// Totals in 32 bits each, or in words.
 #[derive(Drop)]
 enum Width {
-    Narrow(CountRows<u32>),
-    Wide(Box<CountRows<usize>>),
+    Narrow(CountRows),
+    Wide(Box<WideTotals>),
 }
+
+type WideTotals = ArrayVec<TextInfo, MAX_CHILDREN>;
 
 impl Model for Totals {
     ghost use Rattle.std.specs.Prelude.{List};
@@ -68,18 +69,45 @@ impl Model for Totals {
 
 /// The same totals in words. It is kept out of the callers, which seldom come to it.
 #[inline(never)]
-fn widened(alloc: Global, totals: &CountRows<u32>) -> Made<Box<CountRows<usize>>>
+fn widened(alloc: Global, totals: &CountRows) -> Made<Box<WideTotals>>
     requires { length totals.now ≤ MAX_CHILDREN }
-    ensures { IfOk result (λ wide. wide.value ≡ totals.now) }
+    ensures { IfOk result (λ wide. wide.value.items ≡ totals.now) }
 {
     // Matched by hand: through `?` the totals that a refusal gives back would be moved where none is refused, too.
-    let Ok(mut wide) = Box::new(alloc, CountRows::new()) else {
+    let Ok(mut wide) = Box::new(alloc, WideTotals::new()) else {
         return Err(AllocError);
     };
     for place in 0..totals.len() {
         wide.push(totals.get(place));
     }
     Ok(wide)
+}
+
+/// Puts other counts for those of one part of a text, in all totals from a place on.
+fn shift_wide(totals: &mut [TextInfo], from: usize, old: TextInfo, new: TextInfo)
+    requires part { (j : ℕ) (d : TextInfo) → from ≤ j → j < length totals.old → HasPart (slice_index_or totals.old j d) old }
+    requires fits { (j : ℕ) (d : TextInfo) → from ≤ j → j < length totals.old → IsBelowWith (2 ^ 64) (slice_index_or totals.old j d) old new }
+    ensures len { length totals.new ≡ length totals.old }
+    ensures before { (j : ℕ) (d : TextInfo) → j < from → slice_index_or totals.new j d ≡ slice_index_or totals.old j d }
+    ensures after { (j : ℕ) (d : TextInfo) → from ≤ j → j < length totals.old → info_sum (slice_index_or totals.new j d) old ≡ info_sum (slice_index_or totals.old j d) new }
+{
+    for j in from..totals.len() {
+        totals[j] = totals[j].minus(old).plus(new);
+    }
+}
+
+/// Puts other totals behind these, with the counts `new` in each for the part `old`.
+fn append_wide(totals: &mut WideTotals, others: &[TextInfo], old: TextInfo, new: TextInfo)
+    requires room { length totals.old.items + length others.now ≤ MAX_CHILDREN }
+    requires part { (j : ℕ) (d : TextInfo) → j < length others.now → HasPart (slice_index_or others.now j d) old }
+    requires fits { (j : ℕ) (d : TextInfo) → j < length others.now → IsBelowWith (2 ^ 64) (slice_index_or others.now j d) old new }
+    ensures len { length totals.new.items ≡ length totals.old.items + length others.now }
+    ensures before { (j : ℕ) (d : TextInfo) → j < length totals.old.items → slice_index_or totals.new.items j d ≡ slice_index_or totals.old.items j d }
+    ensures behind { (j : ℕ) (d : TextInfo) → j < length others.now → info_sum (slice_index_or totals.new.items (length totals.old.items + j) d) old ≡ info_sum (slice_index_or others.now j d) new }
+{
+    for other in others {
+        totals.push(other.minus(old).plus(new));
+    }
 }
 
 /// The bytes of a text whose counts may not all fit in 32 bits.
@@ -115,7 +143,7 @@ impl Totals {
     {
         match &self.width {
             Width::Narrow(totals) => totals.get(place),
-            Width::Wide(totals) => totals.get(place),
+            Width::Wide(totals) => totals[place],
         }
     }
 
@@ -205,11 +233,11 @@ impl Totals {
         }
         match (&mut self.width, &others.width) {
             (Width::Narrow(totals), Width::Narrow(others)) if !is_wide => {
-                totals.append_with(others, from, count, old, new);
+                totals.append(others, from, count, old, new);
                 Ok(true)
             }
             (Width::Wide(totals), Width::Wide(others)) => {
-                totals.append_with(others, from, count, old, new);
+                append_wide(totals, &others[from..from + count], old, new);
                 Ok(true)
             }
             _ => Ok(false),
@@ -246,7 +274,7 @@ impl Totals {
     {
         match &mut self.width {
             Width::Narrow(totals) => totals.retotal(place, old, new),
-            Width::Wide(totals) => totals.retotal(place, old, new),
+            Width::Wide(totals) => shift_wide(totals.as_mut_slice(), place, old, new),
         }
     }
 }
