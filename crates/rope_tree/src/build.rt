@@ -29,21 +29,7 @@ fn leaf_nodes(maker: &mut Maker, whole: &str, breaks: LineBreaks) -> Made<Vec<No
     Ok(nodes)
 }
 
-/// How many of the nodes that are left come under the next of so many nodes, which share them evenly.
-fn group_len(left: usize, groups: usize) -> usize
-    requires some { 1 ≤ groups }
-    requires least { MIN_CHILDREN * groups ≤ left }
-    requires most { left ≤ MAX_CHILDREN * groups }
-    ensures least { MIN_CHILDREN ≤ result }
-    ensures most { result ≤ MAX_CHILDREN }
-    ensures within { result ≤ left }
-    ensures least_after { MIN_CHILDREN * (groups - 1) ≤ left - result }
-    ensures most_after { left - result ≤ MAX_CHILDREN * (groups - 1) }
-{
-    left / groups
-}
-
-/// The nodes one level up, of 12 to 22 children each.
+/// The nodes one level up, of 12 to 22 children each: the nodes that are left are shared evenly among those to come.
 fn level_over(maker: &mut Maker, nodes: &[Node]) -> Made<Vec<Node>>
     requires siblings { AreSiblings (breaks_of nodes.now) (height_of nodes.now) nodes.now }
     requires many { MAX_CHILDREN < length nodes.now }
@@ -56,7 +42,7 @@ fn level_over(maker: &mut Maker, nodes: &[Node]) -> Made<Vec<Node>>
     let mut level = Vec::with_capacity(maker.alloc, groups)?;
     let mut rest = nodes;
     while groups > 0 {
-        let len = group_len(rest.len(), groups);
+        let len = rest.len() / groups;
         level.push(node_over(maker, &rest[..len])?)?;
         rest = &rest[len..];
         groups -= 1;

@@ -108,7 +108,7 @@ impl Leaf {
         requires { info ≡ info_of self.now.breaks (text self.now) }
         ensures { IsLeafOf self.now result }
     {
-        ShortText::with_chars(self.text.as_str_of_len(info.bytes), info.chars)
+        ShortText::with_chars(&self.text.as_str()[..info.bytes], info.chars)
     }
 
     /// Whether so many bytes more have no room.

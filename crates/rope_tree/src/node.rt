@@ -88,23 +88,13 @@ impl Model for Node {
     ghost size_decreases = { λ a h. deep_le_height a.form h.form };
 }
 
-/// The running totals and the nodes of a list of children.
-#[derive(Drop)]
-struct ListParts<'a> {
-    totals: &'a Totals,
-    nodes: &'a [Node],
-}
-
 impl Children {
-    fn parts(&self) -> ListParts<'_>
-        ensures totals { HasTotals (breaks_of self.now) result.totals.now self.now }
-        ensures nodes { result.nodes.now ≡ self.now }
-        ensures few { length self.now ≤ MAX_CHILDREN }
+    /// The nodes, with their running totals.
+    fn parts(&self) -> (&[Node], &Totals)
+        ensures nodes { result.0.now ≡ self.now }
+        ensures totals { HasTotals (breaks_of self.now) result.1.now self.now }
     {
-        ListParts {
-            totals: &self.totals,
-            nodes: &self.nodes[..self.totals.len()],
-        }
+        (&self.nodes[..self.totals.len()], &self.totals)
     }
 
     /// How many levels lie below the node that has these children.
@@ -136,9 +126,8 @@ impl Default for Node {
 
     /// An empty node, of which each byte is 0: so the places of a list are cleared at once.
     fn default() -> Self {
-        Node {
-            form: Form::Empty(LineBreaks::Lf),
-        }
+        let form = Form::Empty(LineBreaks::Lf);
+        Node { form }
     }
 }
 
@@ -199,8 +188,8 @@ impl Node {
             Form::Empty(_) => View::Leaf(ShortText::new("")),
             Form::Leaf(leaf) => View::Leaf(leaf.known_text(info)),
             Form::Inner(children) => {
-                let parts = children.parts();
-                View::Inner(parts.nodes, parts.totals)
+                let (nodes, totals) = children.parts();
+                View::Inner(nodes, totals)
             }
         }
     }

@@ -146,15 +146,6 @@ impl NodeText {
         unsafe { str::from_utf8_unchecked(self.bytes.as_slice()) }
     }
 
-    /// The text, whose length in bytes the caller knows. The length that is kept with a text lies behind it: a walk over leaves
-    /// would wait for one more place in memory at each.
-    pub fn as_str_of_len(&self, bytes: usize) -> &str
-        requires { bytes ≡ byte_len self.now }
-        ensures { chars result.now ≡ self.now }
-    {
-        &self.as_str()[..bytes]
-    }
-
     /// The length in bytes.
     pub fn len(&self) -> usize
         ensures value { result ≡ byte_len self.now }

@@ -119,9 +119,8 @@ impl Totals {
     pub(crate) fn new() -> Totals
         ensures { result ≡ [] }
     {
-        Totals {
-            width: Width::Narrow(CountRows::new()),
-        }
+        let width = Width::Narrow(CountRows::new());
+        Totals { width }
     }
 
     /// How many children there are.

@@ -4,7 +4,7 @@ ghost use Rattle.rope_tree.specs.Tree.{breaks_of, height_of, AreChildren};
 ghost use Rattle.rope_tree.specs.Shape.{form_tree, IsForm};
 
 use super::row::{Row, list_of};
-use super::{Children, Form, ListParts};
+use super::{Children, Form};
 use crate::leaf::Leaf;
 use crate::{Made, Maker};
 use std::rc::Rc;
@@ -32,7 +32,7 @@ fn copy_children(children: &mut Rc<Children>, maker: &mut Maker) -> Made<()>
     ensures same { children.new.value ≡ children.old.value }
     ensures made { maker.new.made ≤ maker.old.made + 1 }
 {
-    let ListParts { totals, nodes } = children.parts();
+    let (nodes, totals) = children.parts();
     *children = list_of(maker, (Row::of(nodes, totals), &[], Row::none()))?;
     Ok(())
 }

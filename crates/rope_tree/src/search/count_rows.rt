@@ -198,7 +198,12 @@ impl CountRows {
     {
         shift(&mut self.bytes, place, old.bytes, new.bytes);
         shift(&mut self.chars, place, old.chars, new.chars);
-        shift(&mut self.pairs, place, old.utf16_surrogates, new.utf16_surrogates);
+        shift(
+            &mut self.pairs,
+            place,
+            old.utf16_surrogates,
+            new.utf16_surrogates,
+        );
         shift(&mut self.breaks, place, old.break_count, new.break_count);
     }
 

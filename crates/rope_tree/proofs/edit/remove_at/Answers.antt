@@ -1,7 +1,7 @@
 use Rattle.std.proofs.Common.{arith}
 use Rattle.rope_tree.proofs.FormLaws.{by_outcome, tried_weaker}
 use Rattle.rope_tree.proofs.RemovalLaws.{tree_removed}
-use Rattle.rope_tree.proofs.removal.remove_at.Goals as goal
+use Rattle.rope_tree.proofs.edit.remove_at.Goals as goal
 
 pub returns-clause-tree : goal.returns-clause-tree
 returns-clause-tree c =
