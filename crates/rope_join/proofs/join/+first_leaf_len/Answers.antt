@@ -1,6 +1,6 @@
 use Rattle.rope_join.proofs.Unions.{begins_in}
 use Rattle.rope_join.proofs.NearLaws.{dense_of_first, dense_by_first}
-use Rattle.rope_join.proofs.near.+first_leaf_len.Goals as goal
+use Rattle.rope_join.proofs.join.+first_leaf_len.Goals as goal
 
 pub returns-in-Inner-clause-value : goal.returns-in-Inner-clause-value
 returns-in-Inner-clause-value t c = λ n.

@@ -1,7 +1,7 @@
 use Rattle.std.proofs.Common.{◌∙◌}
 use Rattle.rope_join.proofs.Unions.{ends_in}
 use Rattle.rope_join.proofs.NearLaws.{last_of_last}
-use Rattle.rope_join.proofs.near.+last_leaf_len.Goals as goal
+use Rattle.rope_join.proofs.join.+last_leaf_len.Goals as goal
 
 pub returns-in-Inner-clause-value : goal.returns-in-Inner-clause-value
 returns-in-Inner-clause-value t c = λ n.

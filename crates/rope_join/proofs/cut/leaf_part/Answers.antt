@@ -9,13 +9,13 @@ use Rattle.rope_text.proofs.Walks.{byte_len-chars}
 use Rattle.rope_tree.proofs.CountLaws.{shared_le}
 use Rattle.rope_tree.proofs.InsertLeaves.{text_of_leaf}
 use Rattle.rope_tree.specs.Tree.{leaf_tree}
-use Rattle.rope_join.specs.declared.leaf_cut.Side.{Side}
-use Rattle.rope_join.specs.declared.leaf_cut.Side.TheVariants.{Front, Back}
+use Rattle.rope_join.specs.declared.cut.Side.{Side}
+use Rattle.rope_join.specs.declared.cut.Side.TheVariants.{Front, Back}
 use Rattle.rope_join.specs.Cut.{side_of}
 use Rattle.rope_join.proofs.PartCounts.{parts_sum, sum_turned}
 use Rattle.rope_join.proofs.PartTexts.{AreCut, are_cut}
-use Rattle.rope_join.proofs.leaf_cut.leaf_part.Goals.{After-shared_breaks, After-range_from-back, in-Back, in_default}
-use Rattle.rope_join.proofs.leaf_cut.leaf_part.Goals as goal
+use Rattle.rope_join.proofs.cut.leaf_part.Goals.{After-shared_breaks, After-range_from-back, in-Back, in_default}
+use Rattle.rope_join.proofs.cut.leaf_part.Goals as goal
 
 cut : (c : After-range_from-back) → AreCut c.as_str-text.result.now c.range-front.result.now c.range_from-back.result.now c.args.leaf.now c.args.at
 cut c =
