@@ -14,12 +14,71 @@ ghost use Rattle.rope_tree.specs.Removal.{IsRemoved};
 use crate::beside::Least;
 use crate::counts::{leaf_with, put_in, take_out};
 use crate::node_text::halves_of;
-use crate::summary::Summary;
 use crate::{Made, Maker, Node, NodeText, ShortText, make_leaf};
 use rope_text::{LineBreaks, MAX_BYTES, TextInfo};
 use std::alloc::{AllocError, Global};
 use std::marker::Model;
 use std::rc::Rc;
+
+/// The counts of a leaf's text, and the set by which its line breaks are counted, in eight bytes. None of the counts is above the
+/// text's bytes, and of its characters at most every fourth byte begins one of two code units. It is seen as the two.
+#[derive(Clone, Copy)]
+struct Summary {
+    chars: u16,
+    break_count: u16,
+    bytes: u16,
+    utf16_surrogates: u8,
+    breaks: LineBreaks,
+}
+
+impl Model for Summary {
+    ghost use Rattle.rope_tree.specs.Counted.{Counted};
+
+    ghost Value = { Counted };
+
+    ghost view = { λ a. record { breaks = a.breaks; info = record { chars = a.chars; utf16_surrogates = a.utf16_surrogates; break_count = a.break_count; bytes = a.bytes } } };
+
+    ghost inverse = { λ v. record { chars = v.info.chars; break_count = v.info.break_count; bytes = v.info.bytes; utf16_surrogates = v.info.utf16_surrogates; breaks = v.breaks } };
+}
+
+impl Summary {
+    /// These counts, by this set.
+    fn new(breaks: LineBreaks, info: TextInfo) -> Summary
+        requires chars { info.chars ≤ MAX_BYTES }
+        requires surrogates { info.utf16_surrogates ≤ 246 }
+        requires break_count { info.break_count ≤ MAX_BYTES }
+        requires bytes { info.bytes ≤ MAX_BYTES }
+        ensures breaks { result.breaks ≡ breaks }
+        ensures info { result.info ≡ info }
+    {
+        Summary {
+            chars: info.chars as u16,
+            break_count: info.break_count as u16,
+            bytes: info.bytes as u16,
+            utf16_surrogates: info.utf16_surrogates as u8,
+            breaks,
+        }
+    }
+
+    /// The counts, in the width of a whole text's.
+    fn info(self) -> TextInfo
+        ensures { result ≡ self.info }
+    {
+        TextInfo {
+            chars: usize::from(self.chars),
+            utf16_surrogates: usize::from(self.utf16_surrogates),
+            break_count: usize::from(self.break_count),
+            bytes: usize::from(self.bytes),
+        }
+    }
+
+    /// The set.
+    fn line_breaks(self) -> LineBreaks
+        ensures { result ≡ self.breaks }
+    {
+        self.breaks
+    }
+}
 
 /// A text of at most `MAX_BYTES` bytes, its counts and its set of line breaks. It is seen as the tree that is a leaf.
 #[derive(Drop)]
@@ -53,12 +112,7 @@ impl Leaf {
 
     /// A leaf with a copy of this text, whose counts by this set the caller knows. It is filled where it stays, so that the text is
     /// moved once.
-    pub fn with_text(
-        alloc: Global,
-        breaks: LineBreaks,
-        text: &str,
-        info: TextInfo,
-    ) -> Made<Rc<Leaf>>
+    pub fn of_text(alloc: Global, breaks: LineBreaks, text: &str, info: TextInfo) -> Made<Rc<Leaf>>
         requires fits { length text.now ≤ MAX_BYTES }
         requires info { info ≡ info_of breaks (chars text.now) }
         ensures { IfOk result (λ leaf. leaf.value ≡ leaf_tree breaks (chars text.now)) }

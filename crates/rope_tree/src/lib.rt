@@ -14,7 +14,6 @@ pub mod node;
 pub mod node_text;
 pub mod search;
 pub mod short_text;
-mod summary;
 
 pub use builder::Builder;
 pub use conversions::{convert, convert_in, first_sought};

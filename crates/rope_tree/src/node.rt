@@ -16,9 +16,6 @@ use std::marker::Model;
 use std::rc::Rc;
 
 mod in_place;
-mod in_place_cut;
-mod in_place_removal;
-mod own;
 pub mod row;
 
 /// A node of a rope's tree, with the whole tree below it.
@@ -97,20 +94,6 @@ impl Children {
         (&self.nodes[..self.totals.len()], &self.totals)
     }
 
-    /// How many levels lie below the node that has these children.
-    fn height(&self) -> usize
-        ensures { result ≡ height_of self.now + 1 }
-    {
-        usize::from(self.height)
-    }
-
-    /// Their set of line breaks.
-    fn line_breaks(&self) -> LineBreaks
-        ensures { result ≡ breaks_of self.now }
-    {
-        self.breaks
-    }
-
     /// The counts of all children.
     #[inline(always)]
     fn total(&self) -> TextInfo
@@ -144,7 +127,7 @@ impl Node {
                 let _ = leaf.text();
                 0
             }
-            Form::Inner(children) => children.height(),
+            Form::Inner(children) => usize::from(children.height),
         }
     }
 
@@ -155,7 +138,7 @@ impl Node {
         match &self.form {
             Form::Empty(breaks) => *breaks,
             Form::Leaf(leaf) => leaf.line_breaks(),
-            Form::Inner(children) => children.line_breaks(),
+            Form::Inner(children) => children.breaks,
         }
     }
 
@@ -235,7 +218,7 @@ pub fn make_leaf(maker: &mut Maker, breaks: LineBreaks, text: &str, info: TextIn
     let form = if info.bytes == 0 {
         Form::Empty(breaks)
     } else {
-        Form::Leaf(Leaf::with_text(maker.alloc, breaks, text, info)?)
+        Form::Leaf(Leaf::of_text(maker.alloc, breaks, text, info)?)
     };
     let node = Node { form };
     let _ = node.height();
