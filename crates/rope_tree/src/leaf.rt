@@ -165,11 +165,6 @@ impl Leaf {
         ShortText::with_chars(&self.text.as_str()[..info.bytes], info.chars)
     }
 
-    /// Whether so many bytes more have no room.
-    pub(crate) fn lacks_room_for(&self, bytes: usize) -> bool {
-        self.info().bytes > MAX_BYTES.saturating_sub(bytes)
-    }
-
     /// Whether it has no text, which none has: to ask it reads the leaf ahead.
     #[inline(always)]
     pub(crate) fn is_no_text(&self, from: usize, len: usize) -> bool {

@@ -19,7 +19,7 @@ use crate::beside::{Least, least_at};
 use crate::leaf::Leaf;
 use crate::search::{char_to_hold, try_place};
 use crate::{Made, Maker, ShortText, Totals, total_before};
-use rope_text::{MAX_CHILDREN, TextInfo};
+use rope_text::{MAX_BYTES, MAX_CHILDREN, TextInfo};
 use std::rc::Rc;
 
 /// Puts a copy of a leaf in its place.
@@ -158,7 +158,8 @@ impl Children {
         if !follows && self.height == 1 && has_no_text(&self.totals, &self.nodes, place, inside) {
             return unchanged();
         }
-        if matches!(self.nodes[place].leaf(), Some(leaf) if leaf.lacks_room_for(added.len())) {
+        let most = MAX_BYTES.saturating_sub(added.len());
+        if matches!(self.nodes[place].leaf(), Some(leaf) if leaf.info().bytes > most) {
             let before = self.total();
             if !self.cut_leaf(maker, at, added, to_right)? {
                 return unchanged();
