@@ -55,15 +55,6 @@ fn masks_from(from: usize) -> &'static [u32]
     &MASKS[MAX_CHILDREN - from..2 * MAX_CHILDREN - from]
 }
 
-/// A number where all bits of a mask are set, and 0 where none is.
-#[inline(always)]
-fn masked(number: u32, mask: u32) -> u32
-    ensures none { mask ≡ 0 → result ≡ 0 }
-    ensures all { mask ≡ 2 ^ 32 - 1 → result ≡ number }
-{
-    number & mask
-}
-
 /// Puts the count `new` of a part for its count `old`, in the counts from a place on. It goes over all places, four at once, and adds
 /// nothing before that place, so that it has no branch that depends on one.
 #[inline(always)]
@@ -84,7 +75,7 @@ fn shift(counts: &mut [u32], from: usize, old: usize, new: usize)
     let more = (new as u32).wrapping_sub(old as u32);
     let masks = masks_from(from);
     for j in 0..MAX_CHILDREN {
-        counts[j] = counts[j].wrapping_add(masked(more, masks[j]));
+        counts[j] = counts[j].wrapping_add(more & masks[j]);
     }
 }
 

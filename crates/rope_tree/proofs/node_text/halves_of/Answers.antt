@@ -56,7 +56,7 @@ returns-clause-apart c =
     let r = c.next_break-cut.result in
     let h = half (goal.at.returns-clause-apart c).After-next_break-cut in
     let cut = ap (λ bs. is_cut bs r) (sym c.as_bytes.ensures.value) ∙ c.next_break-cut.ensures.cut in
-    let front = c.range.ensures.value ∙ ap (λ k. take k text) (omega arith) in
+    let front : c.range.result.now ≡ take r text = c.range.ensures.value ∙ ap (λ k. take k text) (omega arith) in
     let back = c.range_from.ensures.value in
     ap₂ parts_crlf (ap chars front) (ap chars back)
     ∙ apart_at_cut text r (subst IsUtf8 front c.range.utf8) (subst IsUtf8 back c.range_from.utf8) (omega (arith, h.left)) (omega (arith, h.right)) cut
