@@ -3,8 +3,8 @@ use Rattle.std.specs.Prelude.{◌≡◌, ℕ, ◌≤◌, List, take, drop}
 use Rattle.rope_text.specs.Dense.{IsDenseBehind, last_bytes}
 use Rattle.rope_tree.specs.Leaves.{AreLeaves}
 use Rattle.rope_tree.specs.Tree.{Tree, text}
-use Rattle.rope_join.specs.declared.leaf_cut.Side.{Side}
-use Rattle.rope_join.specs.declared.leaf_cut.Side.TheVariants.{Front, Back}
+use Rattle.rope_join.specs.declared.cut.Side.{Side}
+use Rattle.rope_join.specs.declared.cut.Side.TheVariants.{Front, Back}
 
 -- the first characters; a part that is more than one leaf may stand behind what the tree may stand behind
 pub record IsFront (at : ℕ) (t part : Tree) : Type 0 where

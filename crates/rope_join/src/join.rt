@@ -1,17 +1,52 @@
 //! Two trees as one.
-ghost use Rattle.std.specs.Prelude.{◌≡◌, ◌+◌, ◌-◌, ◌*◌, ◌<◌, ◌≤◌, [], ◌∷◌, ◌++◌, true, false, length, max, IfOk};
+ghost use Rattle.std.specs.Prelude.{◌≡◌, ℕ, ◌+◌, ◌-◌, ◌*◌, ◌<◌, ◌≤◌, ◌↔◌, [], ◌∷◌, ◌++◌, true, false, length, max, IsTrue, IfOk};
 ghost use Rattle.rope_text.specs.declared.TheConstants.{MAX_BYTES, MAX_CHILDREN, MIN_PAIR_BYTES};
+ghost use Rattle.rope_text.specs.Dense.{IsDenseBehind, last_bytes};
 ghost use Rattle.rope_tree.specs.Tree.{height_of};
 ghost use Rattle.rope_tree.specs.View.{trees_in};
 ghost use Rattle.rope_tree.specs.Siblings.{AreSiblings, gathered};
 ghost use Rattle.rope_tree.specs.Rows.{IsRow};
 ghost use Rattle.rope_join.specs.Join.{CanGather, CanJoin, CanMerge, EndsIn, BeginsIn, IsNear, IsUnion, IsJoin};
 
-use crate::near::can_merge;
-use rope_text::{MAX_BYTES, MAX_CHILDREN, MIN_BYTES, MIN_CHILDREN};
+use rope_text::{MAX_BYTES, MAX_CHILDREN, MIN_BYTES, MIN_CHILDREN, MIN_PAIR_BYTES};
 use rope_tree::{
     Made, Maker, Node, NodeText, Nodes, Row, View, make_leaf, pack, pack_over, root_of,
 };
+
+/// The bytes of a tree's last leaf.
+fn last_leaf_len(node: &Node) -> usize
+    requires { 1 ≤ length node.now.leaves }
+    ensures value { (n : ℕ) → result ≡ last_bytes n node.now.leaves }
+    ensures fits { result ≤ MAX_BYTES }
+{
+    match node.view() {
+        View::Leaf(leaf) => leaf.len(),
+        View::Inner(children, _) => last_leaf_len(&children[children.len() - 1]),
+    }
+}
+
+/// The bytes of a tree's first leaf: with those of what stands before it, they say whether the tree may stand there.
+fn first_leaf_len(node: &Node) -> usize
+    requires { 1 ≤ length node.now.leaves }
+    ensures value { (n : ℕ) → MIN_PAIR_BYTES ≤ n + result ↔ IsDenseBehind n node.now.leaves }
+    ensures fits { result ≤ MAX_BYTES }
+{
+    match node.view() {
+        View::Leaf(leaf) => leaf.len(),
+        View::Inner(children, _) => first_leaf_len(&children[0]),
+    }
+}
+
+/// Whether two trees can be merged at their roots.
+fn can_merge(left: &Node, right: &Node) -> bool
+    requires left_some { 1 ≤ length left.now.leaves }
+    requires right_some { 1 ≤ length right.now.leaves }
+    ensures { IsTrue result ↔ CanMerge left.now right.now }
+{
+    let height = left.height();
+    height == right.height()
+        && (height == 0 || last_leaf_len(left) + first_leaf_len(right) >= MIN_PAIR_BYTES)
+}
 
 /// Whether two leaves of so many bytes become one: they fit in it, and one of them is short.
 fn become_one(first: usize, second: usize) -> bool

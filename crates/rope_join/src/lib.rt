@@ -4,5 +4,3 @@
 pub mod cut;
 pub mod edit;
 pub mod join;
-mod leaf_cut;
-mod near;

@@ -10,7 +10,6 @@ use Rattle.rope_text.specs.Text.{byte_len}
 use Rattle.rope_text.specs.Edit.{removed}
 use Rattle.rope_text.proofs.Measures.{IsMeasure-byte_len, size_le}
 use Rattle.rope_text.proofs.CuttingLaws.{concat-append}
-use Rattle.rope_tree.specs.declared.search.Unit.TheVariants.{Char}
 use Rattle.rope_text.specs.Dense.{AreDense, last_bytes}
 use Rattle.rope_text.proofs.DenseLaws.{dense_alone, dense_right}
 use Rattle.rope_tree.specs.Leaves.{AreLeaves, IsSeam, StandFor, IsEnoughBehind, IsEnoughAhead}
@@ -21,7 +20,7 @@ use Rattle.rope_tree.proofs.LeafLaws.{lone_leaf, leaves-append, leaves_left, lea
 use Rattle.rope_tree.proofs.StandLaws.{one_leaf_is, leaf_stands, stand_between}
 use Rattle.rope_tree.proofs.TreeLaws.{height_of_is, breaks_of_is}
 use Rattle.rope_tree.proofs.NodeLaws.{leaves_of-append, child_at, more_at, leaf_text}
-use Rattle.rope_tree.proofs.Descents.{Descends}
+use Rattle.rope_tree.proofs.InsertDescents.{Takes}
 use Rattle.rope_tree.proofs.GrownLaws.{set_parts}
 use Rattle.rope_tree.proofs.InsertLaws.{front_of, rest_of, seam_begins}
 use Rattle.rope_tree.proofs.RemovalEnds.{ends_around}
@@ -77,13 +76,12 @@ pub record Holds (ts : List Tree) (k : ℕ) (c : Tree) (i j start end : ℕ) : T
   pub within : j ≤ length (text c)
 
 -- the child in which they start, where they end by its total
-pub holds : (br : LineBreaks) (ts : List Tree) (k : ℕ) (c : Tree) (front : TextInfo) (start end : ℕ) (totals : List TextInfo) (d : TextInfo)
-    → Descends br Char start ts k c front → HasTotals br totals ts → start < end → end ≤ (get_or totals k d).chars → (front.chars ≤ start) × Holds ts k c (start - front.chars) (end - front.chars) start end
-holds br ts k c front start end totals d way h order le =
-    let total = ap (λ x. x.chars) (h.total_at k d way.within ∙ more_at br (height_of ts) ts k c way.children way.within way.child_is) in
-    let before = ap (λ x. x.chars) way.front_is in
-    let past : front.chars ≤ start = way.not_past in
-    (past, record { first = omega arith; last = omega arith; order = omega arith; within = omega (arith, total, before, le, order) })
+pub holds : (ts : List Tree) (k : ℕ) (c : Tree) (i start end : ℕ) (totals : List TextInfo) (d : TextInfo)
+    → Takes ts k c start i true → HasTotals (breaks_of ts) totals ts → start < end → end ≤ (get_or totals k d).chars → Holds ts k c i (end - (start - i)) start end
+holds ts k c i start end totals d way h order le =
+    let total = ap (λ x. x.chars) (h.total_at k d way.within ∙ more_at (breaks_of ts) (height_of ts) ts k c way.children way.within way.child_is) in
+    let place = way.place in
+    record { first = place; last = omega arith; order = omega arith; within = omega (arith, total, place, le, order) }
 
 -- a child without some characters, in the old one's place
 module _ (br : LineBreaks) (h : ℕ) (ts : List Tree) (k : ℕ) (c : Tree) (a : AreChildren br h ts) (lt : k < length ts) (here : get_or ts k c ≡ c)

@@ -1,10 +1,9 @@
 -- Lists of children that grow at their end.
-use Rattle.std.proofs.Common.{◌≡◌, ℕ, ◌+◌, ◌-◌, ◌/◌, ◌<◌, ◌≤◌, List, [], ◌∷◌, ◌++◌, length, get_or, set, take, drop, refl, sym, ap, subst, ◌∙◌, arith, inl, inr}
+use Rattle.std.proofs.Common.{◌≡◌, ℕ, ◌+◌, ◌-◌, ◌/◌, ◌<◌, List, [], ◌∷◌, ◌++◌, length, get_or, set, take, drop, refl, sym, ap, subst, ◌∙◌, arith, inl, inr}
 use Rattle.std.proofs.lemmas.Bool.{cases_lt}
-use Rattle.std.proofs.lemmas.List.{append-nil, append_assoc, length-append, length-drop, length-set, take_all, take_more, take-set-le, take-append-le, take-append-drop, get_or-set_same, drop_all, drop-append-le, drop-set-lt, drop-drop}
-use Rattle.std.specs.List.{All}
+use Rattle.std.proofs.lemmas.List.{append-nil, append_assoc, length-append, length-set, take_all, take_more, take-set-le, take-append-le, take-append-drop, get_or-set_same, drop_all, drop-append-le, drop-set-lt, drop-drop}
 use Rattle.std.proofs.lemmas.List.Elements.{All-nil, All-head, All-drop}
-use Rattle.std.proofs.Math.Seq.{take-append_seam, take-append-add, drop-append_seam, drop-append-add}
+use Rattle.std.proofs.Math.Seq.{take-append_seam, take-append-add, drop-append-add}
 use Rattle.rope_text.specs.declared.line_breaks.LineBreaks.{LineBreaks}
 use Rattle.rope_text.specs.declared.text_info.TextInfo.{TextInfo}
 use Rattle.rope_text.specs.TextInfo.{info_of, info_sum}
@@ -107,24 +106,6 @@ module _ (xs : List Tree) (x : Tree) (s : AreSiblings (breaks_of (xs ++ x ∷ []
           totals_right = rw more_in more_totals;
           places = rw behind (All-drop IsFlat 1 (drop (length a.totals) a.nodes) i.places);
         }
-
--- nodes in the first places of a list that had none
-pub shared_list : (old new : NewList) (known : List TextInfo) (nodes : List Tree) → IsNewList old → nodes_in old ≡ [] → HasTotals (breaks_of nodes) known nodes → length nodes ≤ 24 → new.totals ≡ known
-    → new.nodes ≡ take 0 old.nodes ++ (nodes ++ drop (0 + length nodes) old.nodes) → IsNewList new
-shared_list old new known nodes i none h few totals places =
-    let n = length nodes in
-    let empty : length old.totals ≡ 0 = i.totals_right.as_many ∙ ap length none in
-    let flat : All IsFlat old.nodes = subst (λ m. All IsFlat (drop m old.nodes)) empty i.places in
-    let whole : 0 + n ≡ n = omega arith in
-    let now : new.nodes ≡ nodes ++ drop n old.nodes = places ∙ ap (λ m. nodes ++ drop m old.nodes) whole in
-    let many : length new.totals ≡ n = ap length totals ∙ h.as_many in
-    let seen : nodes_in new ≡ nodes = (rw (many, now) refl) ∙ take-append_seam nodes (drop n old.nodes) in
-    let behind : drop (length new.totals) new.nodes ≡ drop n old.nodes = (rw (many, now) refl) ∙ drop-append_seam nodes (drop n old.nodes) in
-    record {
-      room = omega (arith, ap length now, length-append nodes (drop n old.nodes), length-drop n old.nodes, i.room, few);
-      totals_right = rw (seen, totals) h;
-      places = rw behind (All-drop IsFlat n old.nodes flat);
-    }
 
 -- trees in front of others
 pub front_siblings : (xs ys : List Tree) → AreSiblings (breaks_of (xs ++ ys)) (height_of (xs ++ ys)) (xs ++ ys) → AreSiblings (breaks_of xs) (height_of xs) xs

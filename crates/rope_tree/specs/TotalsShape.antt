@@ -7,7 +7,7 @@ use Rattle.rope_tree.specs.declared.search.Width.TheVariants.{Narrow, Wide}
 
 abbrev pub totals_in : Width → List TextInfo
 totals_in (Narrow totals) = totals
-totals_in (Wide totals) = totals.value
+totals_in (Wide totals) = totals.value.items
 
 abbrev pub totals_of : Inside → List TextInfo
 totals_of a = totals_in a.width

@@ -9,41 +9,7 @@ use crate::node_text::first_leaf_len;
 use crate::{Made, Maker, Node, leaf_of, node_over};
 use rope_text::{FRESH_CHILDREN, LineBreaks, MAX_BYTES, MAX_CHILDREN};
 
-/// The leaves of a text that is not empty, in order, each but the last of 981 bytes or more.
-fn leaf_nodes(maker: &mut Maker, whole: &str, breaks: LineBreaks) -> Made<Vec<Node>>
-    requires { 0 < length whole.now }
-    ensures siblings { IfOk result (λ nodes. AreSiblings breaks 0 nodes.items) }
-    ensures text { IfOk result (λ nodes. joined nodes.items ≡ chars whole.now) }
-    ensures some { IfOk result (λ nodes. 1 ≤ length nodes.items) }
-    ensures few { IfOk result (λ nodes. length (leaves_of nodes.items) ≤ (length whole.now + (MIN_CUT_BYTES - 1)) / MIN_CUT_BYTES) }
-    ensures made { IfOk result (λ nodes. maker.new.made ≤ maker.old.made + length nodes.items) }
-{
-    let mut nodes = Vec::new(maker.alloc);
-    let mut rest = whole;
-    while rest.len() > MAX_BYTES {
-        let len = first_leaf_len(rest);
-        nodes.push(leaf_of(maker, breaks, &rest[..len])?)?;
-        rest = &rest[len..];
-    }
-    nodes.push(leaf_of(maker, breaks, rest)?)?;
-    Ok(nodes)
-}
-
-/// How many of the nodes that are left come under the next of so many nodes, which share them evenly.
-fn group_len(left: usize, groups: usize) -> usize
-    requires some { 1 ≤ groups }
-    requires least { MIN_CHILDREN * groups ≤ left }
-    requires most { left ≤ MAX_CHILDREN * groups }
-    ensures least { MIN_CHILDREN ≤ result }
-    ensures most { result ≤ MAX_CHILDREN }
-    ensures within { result ≤ left }
-    ensures least_after { MIN_CHILDREN * (groups - 1) ≤ left - result }
-    ensures most_after { left - result ≤ MAX_CHILDREN * (groups - 1) }
-{
-    left / groups
-}
-
-/// The nodes one level up, of 12 to 22 children each.
+/// The nodes one level up, of 12 to 22 children each: the nodes that are left are shared evenly among those to come.
 fn level_over(maker: &mut Maker, nodes: &[Node]) -> Made<Vec<Node>>
     requires siblings { AreSiblings (breaks_of nodes.now) (height_of nodes.now) nodes.now }
     requires many { MAX_CHILDREN < length nodes.now }
@@ -56,7 +22,7 @@ fn level_over(maker: &mut Maker, nodes: &[Node]) -> Made<Vec<Node>>
     let mut level = Vec::with_capacity(maker.alloc, groups)?;
     let mut rest = nodes;
     while groups > 0 {
-        let len = group_len(rest.len(), groups);
+        let len = rest.len() / groups;
         level.push(node_over(maker, &rest[..len])?)?;
         rest = &rest[len..];
         groups -= 1;
@@ -83,7 +49,7 @@ pub(crate) fn root_over(maker: &mut Maker, nodes: Vec<Node>) -> Made<Node>
     Ok(node_over(maker, &level)?)
 }
 
-/// A tree of this text, built from the bottom: leaves cut in order, then nodes of 12 to 22 children level by level.
+/// A tree of this text, built from the bottom: leaves cut in order, each but the last of 981 bytes or more, then nodes of 12 to 22 children level by level.
 /// It makes two nodes at the most for each leaf, and one for a text that fits in a leaf. No text is read twice for its counts.
 pub fn build(maker: &mut Maker, whole: &str, breaks: LineBreaks) -> Made<Node>
     ensures text { IfOk result (λ node. text node ≡ chars whole.now) }
@@ -95,6 +61,13 @@ pub fn build(maker: &mut Maker, whole: &str, breaks: LineBreaks) -> Made<Node>
     if whole.len() <= MAX_BYTES {
         return Ok(leaf_of(maker, breaks, whole)?);
     }
-    let leaves = leaf_nodes(maker, whole, breaks)?;
+    let mut leaves = Vec::new(maker.alloc);
+    let mut rest = whole;
+    while rest.len() > MAX_BYTES {
+        let len = first_leaf_len(rest);
+        leaves.push(leaf_of(maker, breaks, &rest[..len])?)?;
+        rest = &rest[len..];
+    }
+    leaves.push(leaf_of(maker, breaks, rest)?)?;
     Ok(root_over(maker, leaves)?)
 }

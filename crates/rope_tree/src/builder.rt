@@ -12,7 +12,7 @@ use crate::node_text::{first_leaf_len, join_parts};
 use crate::{Made, Maker, Node, NodeText, leaf_of};
 use rope_text::crlf::prev_break;
 use rope_text::{LineBreaks, MAX_BYTES, MIN_CUT_BYTES};
-use std::alloc::Global;
+use std::alloc::{AllocError, Global};
 use std::marker::Model;
 
 // More bytes than a leaf can have, even where the last of them begin a character or are a CR.
@@ -32,24 +32,16 @@ fn ahead_len(text: &str) -> usize
     }
 }
 
-// The leaf at the front of a text of two parts, what of the first part is behind the leaf, and how many bytes of the second
-// part are in it.
-#[derive(Drop)]
-struct Front {
-    leaf: NodeText,
-    rest: NodeText,
-    taken: usize,
-}
-
-// Cuts the first leaf off a text that begins with `rest` and goes on with `text`, wherever it ends.
-fn cut_at_seam(rest: &NodeText, text: &str) -> Front
+// Cuts the first leaf off a text that begins with `rest` and goes on with `text`, wherever it ends. Answers it, what of `rest` is
+// behind it, and how many bytes of the text are in it.
+fn cut_at_seam(rest: &NodeText, text: &str) -> (NodeText, NodeText, usize)
     requires { MAX_BYTES < byte_len rest.now + length text.now }
-    ensures boundary { IsCharBoundary text.now result.taken }
-    ensures whole { result.leaf ++ (result.rest ++ chars (drop result.taken text.now)) ≡ rest.now ++ chars text.now }
-    ensures apart { parts_crlf result.leaf (result.rest ++ chars (drop result.taken text.now)) ≡ false }
-    ensures long { MIN_CUT_BYTES ≤ byte_len result.leaf }
-    ensures short { byte_len result.leaf ≤ MAX_BYTES }
-    ensures left { byte_len result.leaf + (byte_len result.rest + (length text.now - result.taken)) ≡ byte_len rest.now + length text.now }
+    ensures boundary { IsCharBoundary text.now result.2 }
+    ensures whole { result.0 ++ (result.1 ++ chars (drop result.2 text.now)) ≡ rest.now ++ chars text.now }
+    ensures apart { parts_crlf result.0 (result.1 ++ chars (drop result.2 text.now)) ≡ false }
+    ensures long { MIN_CUT_BYTES ≤ byte_len result.0 }
+    ensures short { byte_len result.0 ≤ MAX_BYTES }
+    ensures left { byte_len result.0 + (byte_len result.1 + (length text.now - result.2)) ≡ byte_len rest.now + length text.now }
 {
     let first = rest.as_str();
     let ahead = join_parts::<1972>(first, &text[..ahead_len(text)], "");
@@ -57,17 +49,9 @@ fn cut_at_seam(rest: &NodeText, text: &str) -> Front
     let len = first_leaf_len(ahead);
     let leaf = NodeText::from_str(&ahead[..len]);
     if len < first.len() {
-        return Front {
-            leaf,
-            rest: NodeText::from_str(&first[len..]),
-            taken: 0,
-        };
+        return (leaf, NodeText::from_str(&first[len..]), 0);
     }
-    Front {
-        leaf,
-        rest: NodeText::new(),
-        taken: len - first.len(),
-    }
+    (leaf, NodeText::new(), len - first.len())
 }
 
 // Puts the front of a text behind `rest`, so that it is the first leaf of the two, and answers how many bytes; none where that
@@ -116,10 +100,10 @@ fn cut_leaves(
             rest.set("");
             left = &left[taken..];
         } else {
-            let front = cut_at_seam(rest, left);
-            leaves.push(leaf_of(&mut maker, breaks, front.leaf.as_str())?)?;
-            *rest = front.rest;
-            left = &left[front.taken..];
+            let (leaf, behind, taken) = cut_at_seam(rest, left);
+            leaves.push(leaf_of(&mut maker, breaks, leaf.as_str())?)?;
+            *rest = behind;
+            left = &left[taken..];
         }
     }
     rest.push_str(left);
@@ -184,15 +168,9 @@ impl Builder {
         let (alloc, breaks) = (self.alloc, self.breaks);
         if self.rest.len() + text.len() <= MAX_BYTES {
             self.rest.push_str(text);
-        } else if let Err(refused) = cut_leaves(
-            alloc,
-            breaks,
-            &mut self.leaves,
-            &mut self.rest,
-            text,
-        ) {
+        } else if let Err(_) = cut_leaves(alloc, breaks, &mut self.leaves, &mut self.rest, text) {
             *self = Builder::new(alloc, breaks);
-            return Err(refused);
+            return Err(AllocError);
         }
         self.bytes += text.len();
         Ok(())

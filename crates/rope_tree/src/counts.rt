@@ -113,26 +113,6 @@ pub fn put_in(
     info
 }
 
-/// The counts of a text without the part between its front and its back, by the counts of the whole: only the part is gone
-/// over, and the ends.
-#[inline(always)]
-fn info_without(info: TextInfo, front: &str, part: &str, back: &str, breaks: LineBreaks) -> TextInfo
-    requires info { info ≡ info_of breaks (chars front.now ++ (chars part.now ++ chars back.now)) }
-    requires fits { info.bytes ≤ MAX_BYTES }
-    requires some { 1 ≤ length (chars part.now) }
-    ensures { result ≡ info_of breaks (chars front.now ++ chars back.now) }
-{
-    let less = TextInfo::of_short(part, breaks);
-    let met = shared_breaks(front, part, breaks) + shared_breaks(part, back, breaks);
-    let meeting = shared_breaks(front, back, breaks);
-    TextInfo {
-        bytes: info.bytes - less.bytes,
-        chars: info.chars - less.chars,
-        utf16_surrogates: info.utf16_surrogates - less.utf16_surrogates,
-        break_count: info.break_count + met - less.break_count - meeting,
-    }
-}
-
 /// Whether the front and the back of a text, with nothing between them, are empty, begin with an LF that wasn't first, or end
 /// in a CR that wasn't last.
 fn bares_an_end(front: &str, back: &str) -> bool
@@ -146,8 +126,8 @@ fn bares_an_end(front: &str, back: &str) -> bool
     }
 }
 
-/// Takes the characters from `start` up to `end` out of a leaf, and gives the counts of what stays, by those of what was. None,
-/// and the leaf as it was, where nothing would stay, or fewer bytes than `least`, or where what stays could not stand between
+/// Takes the characters from `start` up to `end` out of a leaf, and gives the counts of what stays, by those of what was: only
+/// the part that goes is gone over, and the ends. None, and the leaf as it was, where nothing would stay, or fewer bytes than `least`, or where what stays could not stand between
 /// the same neighbours with no CR before an LF.
 pub fn take_out(
     leaf: &mut NodeText,
@@ -167,15 +147,23 @@ pub fn take_out(
     ensures ends { IfSome result (λ _. KeepsEnds leaf.old (removed leaf.old start end)) }
     ensures kept { IfNone result (leaf.new ≡ leaf.old) }
 {
-    let range = leaf.byte_range(start, end, info.chars);
+    let (from, to) = leaf.byte_range(start, end, info.chars);
     let text = leaf.as_str();
-    let front = &text[..range.from];
-    let part = &text[range.from..range.to];
-    let back = &text[range.to..];
+    let front = &text[..from];
+    let part = &text[from..to];
+    let back = &text[to..];
     if front.len() + back.len() < least || bares_an_end(front, back) {
         return None;
     }
-    let info = info_without(info, front, part, back, breaks);
-    leaf.remove_bytes(range);
-    Some(info)
+    let less = TextInfo::of_short(part, breaks);
+    let met = shared_breaks(front, part, breaks) + shared_breaks(part, back, breaks);
+    let meeting = shared_breaks(front, back, breaks);
+    let left = TextInfo {
+        bytes: info.bytes - less.bytes,
+        chars: info.chars - less.chars,
+        utf16_surrogates: info.utf16_surrogates - less.utf16_surrogates,
+        break_count: info.break_count + met - less.break_count - meeting,
+    };
+    leaf.remove_bytes(from, to);
+    Some(left)
 }

@@ -14,12 +14,71 @@ ghost use Rattle.rope_tree.specs.Removal.{IsRemoved};
 use crate::beside::Least;
 use crate::counts::{leaf_with, put_in, take_out};
 use crate::node_text::halves_of;
-use crate::summary::Summary;
 use crate::{Made, Maker, Node, NodeText, ShortText, make_leaf};
 use rope_text::{LineBreaks, MAX_BYTES, TextInfo};
 use std::alloc::{AllocError, Global};
 use std::marker::Model;
 use std::rc::Rc;
+
+/// The counts of a leaf's text, and the set by which its line breaks are counted, in eight bytes. None of the counts is above the
+/// text's bytes, and of its characters at most every fourth byte begins one of two code units. It is seen as the two.
+#[derive(Clone, Copy)]
+struct Summary {
+    chars: u16,
+    break_count: u16,
+    bytes: u16,
+    utf16_surrogates: u8,
+    breaks: LineBreaks,
+}
+
+impl Model for Summary {
+    ghost use Rattle.rope_tree.specs.Counted.{Counted};
+
+    ghost Value = { Counted };
+
+    ghost view = { λ a. record { breaks = a.breaks; info = record { chars = a.chars; utf16_surrogates = a.utf16_surrogates; break_count = a.break_count; bytes = a.bytes } } };
+
+    ghost inverse = { λ v. record { chars = v.info.chars; break_count = v.info.break_count; bytes = v.info.bytes; utf16_surrogates = v.info.utf16_surrogates; breaks = v.breaks } };
+}
+
+impl Summary {
+    /// These counts, by this set.
+    fn new(breaks: LineBreaks, info: TextInfo) -> Summary
+        requires chars { info.chars ≤ MAX_BYTES }
+        requires surrogates { info.utf16_surrogates ≤ 246 }
+        requires break_count { info.break_count ≤ MAX_BYTES }
+        requires bytes { info.bytes ≤ MAX_BYTES }
+        ensures breaks { result.breaks ≡ breaks }
+        ensures info { result.info ≡ info }
+    {
+        Summary {
+            chars: info.chars as u16,
+            break_count: info.break_count as u16,
+            bytes: info.bytes as u16,
+            utf16_surrogates: info.utf16_surrogates as u8,
+            breaks,
+        }
+    }
+
+    /// The counts, in the width of a whole text's.
+    fn info(self) -> TextInfo
+        ensures { result ≡ self.info }
+    {
+        TextInfo {
+            chars: usize::from(self.chars),
+            utf16_surrogates: usize::from(self.utf16_surrogates),
+            break_count: usize::from(self.break_count),
+            bytes: usize::from(self.bytes),
+        }
+    }
+
+    /// The set.
+    fn line_breaks(self) -> LineBreaks
+        ensures { result ≡ self.breaks }
+    {
+        self.breaks
+    }
+}
 
 /// A text of at most `MAX_BYTES` bytes, its counts and its set of line breaks. It is seen as the tree that is a leaf.
 #[derive(Drop)]
@@ -41,15 +100,6 @@ impl Model for Leaf {
 }
 
 impl Leaf {
-    /// A leaf of no text, of which each byte is 0: so its place in memory is cleared at once.
-    #[inline(always)]
-    fn empty() -> Leaf {
-        Leaf {
-            summary: Summary::new(LineBreaks::Lf, TextInfo::new()),
-            text: NodeText::new(),
-        }
-    }
-
     /// Puts a copy of another text in the place of its own, whose counts by this set of line breaks the caller knows.
     fn fill(&mut self, breaks: LineBreaks, text: &str, info: TextInfo)
         requires fits { length text.now ≤ MAX_BYTES }
@@ -62,18 +112,18 @@ impl Leaf {
 
     /// A leaf with a copy of this text, whose counts by this set the caller knows. It is filled where it stays, so that the text is
     /// moved once.
-    pub(crate) fn with_text(
-        alloc: Global,
-        breaks: LineBreaks,
-        text: &str,
-        info: TextInfo,
-    ) -> Made<Rc<Leaf>>
+    pub fn of_text(alloc: Global, breaks: LineBreaks, text: &str, info: TextInfo) -> Made<Rc<Leaf>>
         requires fits { length text.now ≤ MAX_BYTES }
         requires info { info ≡ info_of breaks (chars text.now) }
         ensures { IfOk result (λ leaf. leaf.value ≡ leaf_tree breaks (chars text.now)) }
     {
+        // Each byte of it is 0, so that its place in memory is cleared at once.
+        let empty = Leaf {
+            summary: Summary::new(LineBreaks::Lf, TextInfo::new()),
+            text: NodeText::new(),
+        };
         // Matched by hand: through `?` the leaf that a refusal gives back would be moved where none is refused, too.
-        let Ok(mut leaf) = Rc::new(alloc, Leaf::empty()) else {
+        let Ok(mut leaf) = Rc::new(alloc, empty) else {
             return Err(AllocError);
         };
         // A leaf that was just made has no other owner, so that it can always be changed.
@@ -82,15 +132,6 @@ impl Leaf {
         };
         room.fill(breaks, text, info);
         Ok(leaf)
-    }
-
-    /// The same leaf once more, with a copy of its text.
-    pub(crate) fn copied(&self, alloc: Global) -> Made<Rc<Leaf>>
-        ensures { IfOk result (λ leaf. leaf.value ≡ self.now) }
-    {
-        let info = self.info();
-        let text = self.text.as_str_of_len(info.bytes);
-        Leaf::with_text(alloc, self.line_breaks(), text, info)
     }
 
     /// Its set of line breaks.
@@ -121,12 +162,7 @@ impl Leaf {
         requires { info ≡ info_of self.now.breaks (text self.now) }
         ensures { IsLeafOf self.now result }
     {
-        ShortText::with_chars(self.text.as_str_of_len(info.bytes), info.chars)
-    }
-
-    /// Whether so many bytes more have no room.
-    pub(crate) fn lacks_room_for(&self, bytes: usize) -> bool {
-        self.info().bytes > MAX_BYTES.saturating_sub(bytes)
+        ShortText::with_chars(&self.text.as_str()[..info.bytes], info.chars)
     }
 
     /// Whether it has no text, which none has: to ask it reads the leaf ahead.
@@ -137,12 +173,7 @@ impl Leaf {
 
     /// Puts a text before the character `at`, if there is room for it; returns whether it did, and in `more` by how much the
     /// counts grew. It takes no memory.
-    pub(crate) fn insert_in_place(
-        &mut self,
-        at: usize,
-        added: &ShortText<'_>,
-        more: &mut TextInfo,
-    ) -> bool
+    pub fn insert_in_place(&mut self, at: usize, added: &ShortText<'_>, more: &mut TextInfo) -> bool
         requires within { at ≤ length (text self.old) }
         requires some { 1 ≤ length added.now }
         ensures done { result ≡ true → IsInserted self.old (self.new ∷ []) (inserted (text self.old) at added.now) }
@@ -164,12 +195,7 @@ impl Leaf {
 
     /// Puts a text before the character `at`, where there is no room for it: leaves the first part here, and answers a leaf
     /// with the second. None, and nothing changed, where there is room. Where memory is refused, nothing is changed.
-    pub(crate) fn cut(
-        &mut self,
-        maker: &mut Maker,
-        at: usize,
-        added: &ShortText<'_>,
-    ) -> Made<Option<Node>>
+    pub fn cut(&mut self, maker: &mut Maker, at: usize, added: &ShortText<'_>) -> Made<Option<Node>>
         requires some { 1 ≤ length added.now }
         requires short { byte_len added.now ≤ MAX_SHORT_BYTES }
         ensures cut { IfOk result (λ found. IfSome found (λ back. IsInserted self.old (self.new ∷ back ∷ []) (inserted (text self.old) at added.now))) }
@@ -184,17 +210,17 @@ impl Leaf {
         }
         let breaks = self.line_breaks();
         let (grown, info) = leaf_with(self.info(), &old, at, added, breaks);
-        let halves = halves_of(grown.as_str());
-        let front_info = TextInfo::from_str(halves.front, breaks);
+        let (front, back) = halves_of(grown.as_str());
+        let front_info = TextInfo::from_str(front, breaks);
         let back_info = info.minus(front_info);
-        let behind = make_leaf(maker, breaks, halves.back, back_info)?;
-        self.fill(breaks, halves.front, front_info);
+        let behind = make_leaf(maker, breaks, back, back_info)?;
+        self.fill(breaks, front, front_info);
         Ok(Some(behind))
     }
 
     /// Takes the characters from `start` up to `end` out, if the leaf may do without them and keeps so many bytes; returns
     /// whether it did, and in `less` by how much the counts fell. It takes no memory.
-    pub(crate) fn remove_in_place(
+    pub fn remove_in_place(
         &mut self,
         start: usize,
         end: usize,

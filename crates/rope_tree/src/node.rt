@@ -16,9 +16,6 @@ use std::marker::Model;
 use std::rc::Rc;
 
 mod in_place;
-mod in_place_cut;
-mod in_place_removal;
-mod own;
 pub mod row;
 
 /// A node of a rope's tree, with the whole tree below it.
@@ -88,37 +85,13 @@ impl Model for Node {
     ghost size_decreases = { λ a h. deep_le_height a.form h.form };
 }
 
-/// The running totals and the nodes of a list of children.
-#[derive(Drop)]
-struct ListParts<'a> {
-    totals: &'a Totals,
-    nodes: &'a [Node],
-}
-
 impl Children {
-    fn parts(&self) -> ListParts<'_>
-        ensures totals { HasTotals (breaks_of self.now) result.totals.now self.now }
-        ensures nodes { result.nodes.now ≡ self.now }
-        ensures few { length self.now ≤ MAX_CHILDREN }
+    /// The nodes, with their running totals.
+    fn parts(&self) -> (&[Node], &Totals)
+        ensures nodes { result.0.now ≡ self.now }
+        ensures totals { HasTotals (breaks_of self.now) result.1.now self.now }
     {
-        ListParts {
-            totals: &self.totals,
-            nodes: &self.nodes[..self.totals.len()],
-        }
-    }
-
-    /// How many levels lie below the node that has these children.
-    fn height(&self) -> usize
-        ensures { result ≡ height_of self.now + 1 }
-    {
-        usize::from(self.height)
-    }
-
-    /// Their set of line breaks.
-    fn line_breaks(&self) -> LineBreaks
-        ensures { result ≡ breaks_of self.now }
-    {
-        self.breaks
+        (&self.nodes[..self.totals.len()], &self.totals)
     }
 
     /// The counts of all children.
@@ -136,9 +109,8 @@ impl Default for Node {
 
     /// An empty node, of which each byte is 0: so the places of a list are cleared at once.
     fn default() -> Self {
-        Node {
-            form: Form::Empty(LineBreaks::Lf),
-        }
+        let form = Form::Empty(LineBreaks::Lf);
+        Node { form }
     }
 }
 
@@ -155,7 +127,7 @@ impl Node {
                 let _ = leaf.text();
                 0
             }
-            Form::Inner(children) => children.height(),
+            Form::Inner(children) => usize::from(children.height),
         }
     }
 
@@ -166,7 +138,7 @@ impl Node {
         match &self.form {
             Form::Empty(breaks) => *breaks,
             Form::Leaf(leaf) => leaf.line_breaks(),
-            Form::Inner(children) => children.line_breaks(),
+            Form::Inner(children) => children.breaks,
         }
     }
 
@@ -199,8 +171,8 @@ impl Node {
             Form::Empty(_) => View::Leaf(ShortText::new("")),
             Form::Leaf(leaf) => View::Leaf(leaf.known_text(info)),
             Form::Inner(children) => {
-                let parts = children.parts();
-                View::Inner(parts.nodes, parts.totals)
+                let (nodes, totals) = children.parts();
+                View::Inner(nodes, totals)
             }
         }
     }
@@ -246,7 +218,7 @@ pub fn make_leaf(maker: &mut Maker, breaks: LineBreaks, text: &str, info: TextIn
     let form = if info.bytes == 0 {
         Form::Empty(breaks)
     } else {
-        Form::Leaf(Leaf::with_text(maker.alloc, breaks, text, info)?)
+        Form::Leaf(Leaf::of_text(maker.alloc, breaks, text, info)?)
     };
     let node = Node { form };
     let _ = node.height();

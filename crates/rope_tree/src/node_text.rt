@@ -7,7 +7,6 @@ ghost use Rattle.rope_text.specs.Text.{byte_len};
 ghost use Rattle.rope_text.specs.Cutting.{parts_crlf};
 ghost use Rattle.rope_text.specs.Cuts.{is_cut};
 
-use crate::leaf_bytes::{LeafBytes, append_bytes, put_bytes, take_bytes};
 use arrayvec::{ArrayString, ArrayVec};
 use rope_text::crlf::{next_break, prev_break};
 use rope_text::str_utils::char_to_byte_idx_of;
@@ -27,58 +26,72 @@ pub(crate) fn join_parts<const N: usize>(first: &str, second: &str, third: &str)
     text
 }
 
-// A byte, or 0 behind the last one.
-#[inline(always)]
-fn byte_or_zero(bytes: &[u8], at: usize) -> usize {
-    match bytes.get(at) {
-        Some(byte) => usize::from(*byte),
-        None => 0,
+// Room for the bytes of a leaf.
+type LeafBytes = ArrayVec<u8, MAX_BYTES>;
+
+// Puts bytes at the end.
+fn append_bytes(bytes: &mut LeafBytes, added: &[u8])
+    requires { length bytes.old.items + length added.now ≤ MAX_BYTES }
+    ensures { bytes.new.items ≡ bytes.old.items ++ added.now }
+{
+    match bytes.try_extend_from_slice(added) {
+        Ok(()) => {}
+        Err(_) => unreachable!(),
     }
 }
 
-// The byte at which a text that is too long for one leaf is cut into two.
-fn split_place(text: &str) -> usize
-    requires long { MAX_BYTES < length text.now }
-    requires short { length text.now ≤ MAX_JOINED_BYTES }
-    ensures boundary { IsCharBoundary text.now result }
-    ensures cut { is_cut text.now result ≡ true }
-    ensures left { (MIN_HALF_BYTES ≤ result) × (result ≤ MAX_BYTES) }
-    ensures right { (result + MIN_HALF_BYTES ≤ length text.now) × (length text.now ≤ result + MAX_BYTES) }
+// Puts bytes before the one at `place` of the first `old_len`. What follows it moves up, over as many bytes as are put in.
+fn put_in_gap(bytes: &mut [u8], place: usize, old_len: usize, added: &[u8])
+    requires place { place ≤ old_len }
+    requires len { length bytes.old ≡ old_len + length added.now }
+    ensures { bytes.new ≡ insert_slice (take old_len bytes.old) place added.now }
 {
-    next_break(text.len() / 2 - 2, text.as_bytes())
+    let end = place + added.len();
+    bytes.copy_within(place..old_len, end);
+    bytes[place..end].copy_from_slice(added);
 }
 
-/// The two parts of a text that is too long for one leaf.
-#[derive(Clone, Copy)]
-pub(crate) struct Halves<'a> {
-    pub(crate) front: &'a str,
-    pub(crate) back: &'a str,
+// Puts bytes before the one at `place`. What follows it moves up once, and what stands before it stays.
+fn put_bytes(bytes: &mut LeafBytes, place: usize, added: &[u8])
+    requires place { place ≤ length bytes.old.items }
+    requires fits { length bytes.old.items + length added.now ≤ MAX_BYTES }
+    ensures { bytes.new.items ≡ insert_slice bytes.old.items place added.now }
+{
+    if added.len() == 1 {
+        // As of a key that was pressed: what follows moves by one place, which the compiler knows, and so by one call.
+        bytes.insert(place, added[0]);
+        return;
+    }
+    let old_len = bytes.len();
+    append_bytes(bytes, added);
+    put_in_gap(bytes.as_mut_slice(), place, old_len, added);
+}
+
+// Takes the bytes from `from` up to `to` out. What follows them moves down once, and what stands before them stays.
+fn take_bytes(bytes: &mut LeafBytes, from: usize, to: usize)
+    requires ordered { from ≤ to }
+    requires within { to ≤ length bytes.old.items }
+    ensures { bytes.new.items ≡ remove_range bytes.old.items from to }
+{
+    let len = bytes.len();
+    bytes.as_mut_slice().copy_within(to..len, from);
+    bytes.truncate(len - (to - from));
 }
 
 /// Cuts a text that is too long for one leaf into two. Each part has half a leaf, but for a byte, and the cut parts no CR from
 /// an LF.
-pub(crate) fn halves_of(text: &str) -> Halves<'_>
+pub(crate) fn halves_of(text: &str) -> (&str, &str)
     requires long { MAX_BYTES < length text.now }
     requires short { length text.now ≤ MAX_JOINED_BYTES }
-    ensures utf8 { IsUtf8 result.front.now × IsUtf8 result.back.now }
-    ensures joined { chars result.front.now ++ chars result.back.now ≡ chars text.now }
-    ensures some { (0 < length (chars result.front.now)) × (0 < length (chars result.back.now)) }
-    ensures apart { parts_crlf (chars result.front.now) (chars result.back.now) ≡ false }
-    ensures least { (MIN_HALF_BYTES ≤ length result.front.now) × (MIN_HALF_BYTES ≤ length result.back.now) }
-    ensures most { (length result.front.now ≤ MAX_BYTES) × (length result.back.now ≤ MAX_BYTES) }
+    ensures utf8 { IsUtf8 result.0.now × IsUtf8 result.1.now }
+    ensures joined { chars result.0.now ++ chars result.1.now ≡ chars text.now }
+    ensures some { (0 < length (chars result.0.now)) × (0 < length (chars result.1.now)) }
+    ensures apart { parts_crlf (chars result.0.now) (chars result.1.now) ≡ false }
+    ensures least { (MIN_HALF_BYTES ≤ length result.0.now) × (MIN_HALF_BYTES ≤ length result.1.now) }
+    ensures most { (length result.0.now ≤ MAX_BYTES) × (length result.1.now ≤ MAX_BYTES) }
 {
-    let cut = split_place(text);
-    Halves {
-        front: &text[..cut],
-        back: &text[cut..],
-    }
-}
-
-/// The bytes of some characters of a text: where the first of them starts, and where what follows them starts.
-#[derive(Clone, Copy)]
-pub struct ByteRange {
-    pub from: usize,
-    pub to: usize,
+    let cut = next_break(text.len() / 2 - 2, text.as_bytes());
+    (&text[..cut], &text[cut..])
 }
 
 /// A text of at most `MAX_BYTES` bytes, seen as the list of its characters. Its calls count in
@@ -117,9 +130,9 @@ impl NodeText {
         ensures value { result ≡ chars text.now }
         ensures len { byte_len result ≡ length text.now }
     {
-        let mut bytes = ArrayVec::new();
-        append_bytes(&mut bytes, text.as_bytes());
-        NodeText { bytes }
+        let mut copy = NodeText::new();
+        copy.push_str(text);
+        copy
     }
 
     /// The text.
@@ -131,15 +144,6 @@ impl NodeText {
     {
         // That they are a text is what the type keeps, so they are not checked again.
         unsafe { str::from_utf8_unchecked(self.bytes.as_slice()) }
-    }
-
-    /// The text, whose length in bytes the caller knows. The length that is kept with a text lies behind it: a walk over leaves
-    /// would wait for one more place in memory at each.
-    pub fn as_str_of_len(&self, bytes: usize) -> &str
-        requires { bytes ≡ byte_len self.now }
-        ensures { chars result.now ≡ self.now }
-    {
-        &self.as_str()[..bytes]
     }
 
     /// The length in bytes.
@@ -157,10 +161,10 @@ impl NodeText {
     pub(crate) fn is_no_text(&self, from: usize, len: usize) -> bool {
         let bytes = self.bytes.as_slice();
         let len = len.min(MAX_BYTES);
-        let mut sum = byte_or_zero(bytes, len.saturating_sub(1));
+        let mut sum = usize::from(*bytes.get(len.saturating_sub(1)).unwrap_or(&0));
         let mut at = from;
         while at < len {
-            sum = sum.wrapping_add(byte_or_zero(bytes, at));
+            sum = sum.wrapping_add(usize::from(*bytes.get(at).unwrap_or(&0)));
             at += 64;
         }
         sum == usize::MAX
@@ -212,36 +216,33 @@ impl NodeText {
 
     /// The bytes that the characters from `start` up to `end` take, where the text is known to have `chars` characters: where
     /// it has as many bytes, nothing is read.
-    pub fn byte_range(&self, start: usize, end: usize, chars: usize) -> ByteRange
+    pub fn byte_range(&self, start: usize, end: usize, chars: usize) -> (usize, usize)
         requires ordered { start ≤ end }
         requires chars { chars ≡ length self.now }
-        ensures from { result.from ≡ byte_len (take start self.now) }
-        ensures to { result.to ≡ byte_len (take end self.now) }
-        ensures ordered { result.from ≤ result.to }
-        ensures from_boundary { IsCharBoundary (encode_utf8_all self.now) result.from }
-        ensures to_boundary { IsCharBoundary (encode_utf8_all self.now) result.to }
+        ensures from { result.0 ≡ byte_len (take start self.now) }
+        ensures to { result.1 ≡ byte_len (take end self.now) }
+        ensures ordered { result.0 ≤ result.1 }
+        ensures from_boundary { IsCharBoundary (encode_utf8_all self.now) result.0 }
+        ensures to_boundary { IsCharBoundary (encode_utf8_all self.now) result.1 }
     {
         let text = self.as_str();
         if chars == text.len() {
-            return ByteRange {
-                from: start.min(chars),
-                to: end.min(chars),
-            };
+            return (start.min(chars), end.min(chars));
         }
         let from = char_to_byte_idx_of(text, chars, start);
         let rest = chars.saturating_sub(start);
         let to = from + char_to_byte_idx_of(&text[from..], rest, end - start);
-        ByteRange { from, to }
+        (from, to)
     }
 
     /// Takes bytes out that are whole characters. What follows them moves up, and what stands before them stays.
-    pub fn remove_bytes(&mut self, range: ByteRange)
-        requires ordered { range.from ≤ range.to }
-        requires from { IsCharBoundary (encode_utf8_all self.old) range.from }
-        requires to { IsCharBoundary (encode_utf8_all self.old) range.to }
-        ensures { self.new ≡ chars (remove_range (encode_utf8_all self.old) range.from range.to) }
+    pub fn remove_bytes(&mut self, from: usize, to: usize)
+        requires ordered { from ≤ to }
+        requires from { IsCharBoundary (encode_utf8_all self.old) from }
+        requires to { IsCharBoundary (encode_utf8_all self.old) to }
+        ensures { self.new ≡ chars (remove_range (encode_utf8_all self.old) from to) }
     {
-        take_bytes(&mut self.bytes, range.from, range.to);
+        take_bytes(&mut self.bytes, from, to);
     }
 }
 

@@ -5,16 +5,15 @@ ghost use Rattle.rope_text.specs.declared.text_info.TextInfo.{TextInfo};
 ghost use Rattle.rope_text.specs.TextInfo.{info_sum};
 ghost use Rattle.rope_tree.specs.declared.search.Unit.TheVariants.{Char};
 ghost use Rattle.rope_tree.specs.Search.{count_of, IsSmall, HasPart};
-ghost use Rattle.rope_tree.specs.Narrow.{IsBelow, IsNarrow, AreNarrow, FitsWith};
+ghost use Rattle.rope_tree.specs.Narrow.{IsBelow, IsNarrow, AreNarrow, IsBelowWith, FitsWith};
 
 use crate::Made;
-use rope_text::{MIN_CHILDREN, Steps, TextInfo};
+use arrayvec::ArrayVec;
+use rope_text::{MAX_CHILDREN, MIN_CHILDREN, Steps, TextInfo};
 use std::alloc::{AllocError, Global};
 use std::marker::Model;
 
 mod count_rows;
-mod narrow;
-mod wide;
 
 use count_rows::CountRows;
 
@@ -51,9 +50,11 @@ pub struct Totals {
 /// Totals in 32 bits each, or in words.
 #[derive(Drop)]
 enum Width {
-    Narrow(CountRows<u32>),
-    Wide(Box<CountRows<usize>>),
+    Narrow(CountRows),
+    Wide(Box<WideTotals>),
 }
+
+type WideTotals = ArrayVec<TextInfo, MAX_CHILDREN>;
 
 impl Model for Totals {
     ghost use Rattle.std.specs.Prelude.{List};
@@ -68,18 +69,45 @@ impl Model for Totals {
 
 /// The same totals in words. It is kept out of the callers, which seldom come to it.
 #[inline(never)]
-fn widened(alloc: Global, totals: &CountRows<u32>) -> Made<Box<CountRows<usize>>>
+fn widened(alloc: Global, totals: &CountRows) -> Made<Box<WideTotals>>
     requires { length totals.now ≤ MAX_CHILDREN }
-    ensures { IfOk result (λ wide. wide.value ≡ totals.now) }
+    ensures { IfOk result (λ wide. wide.value.items ≡ totals.now) }
 {
     // Matched by hand: through `?` the totals that a refusal gives back would be moved where none is refused, too.
-    let Ok(mut wide) = Box::new(alloc, CountRows::new()) else {
+    let Ok(mut wide) = Box::new(alloc, WideTotals::new()) else {
         return Err(AllocError);
     };
     for place in 0..totals.len() {
         wide.push(totals.get(place));
     }
     Ok(wide)
+}
+
+/// Puts other counts for those of one part of a text, in all totals from a place on.
+fn shift_wide(totals: &mut [TextInfo], from: usize, old: TextInfo, new: TextInfo)
+    requires part { (j : ℕ) (d : TextInfo) → from ≤ j → j < length totals.old → HasPart (slice_index_or totals.old j d) old }
+    requires fits { (j : ℕ) (d : TextInfo) → from ≤ j → j < length totals.old → IsBelowWith (2 ^ 64) (slice_index_or totals.old j d) old new }
+    ensures len { length totals.new ≡ length totals.old }
+    ensures before { (j : ℕ) (d : TextInfo) → j < from → slice_index_or totals.new j d ≡ slice_index_or totals.old j d }
+    ensures after { (j : ℕ) (d : TextInfo) → from ≤ j → j < length totals.old → info_sum (slice_index_or totals.new j d) old ≡ info_sum (slice_index_or totals.old j d) new }
+{
+    for j in from..totals.len() {
+        totals[j] = totals[j].minus(old).plus(new);
+    }
+}
+
+/// Puts other totals behind these, with the counts `new` in each for the part `old`.
+fn append_wide(totals: &mut WideTotals, others: &[TextInfo], old: TextInfo, new: TextInfo)
+    requires room { length totals.old.items + length others.now ≤ MAX_CHILDREN }
+    requires part { (j : ℕ) (d : TextInfo) → j < length others.now → HasPart (slice_index_or others.now j d) old }
+    requires fits { (j : ℕ) (d : TextInfo) → j < length others.now → IsBelowWith (2 ^ 64) (slice_index_or others.now j d) old new }
+    ensures len { length totals.new.items ≡ length totals.old.items + length others.now }
+    ensures before { (j : ℕ) (d : TextInfo) → j < length totals.old.items → slice_index_or totals.new.items j d ≡ slice_index_or totals.old.items j d }
+    ensures behind { (j : ℕ) (d : TextInfo) → j < length others.now → info_sum (slice_index_or totals.new.items (length totals.old.items + j) d) old ≡ info_sum (slice_index_or others.now j d) new }
+{
+    for other in others {
+        totals.push(other.minus(old).plus(new));
+    }
 }
 
 /// The bytes of a text whose counts may not all fit in 32 bits.
@@ -91,20 +119,8 @@ impl Totals {
     pub(crate) fn new() -> Totals
         ensures { result ≡ [] }
     {
-        Totals {
-            width: Width::Narrow(CountRows::new()),
-        }
-    }
-
-    /// The same totals once more. Wide ones take memory of their own.
-    pub(crate) fn copied(&self, alloc: Global) -> Made<Totals>
-        ensures { IfOk result (λ copy. copy ≡ self.now) }
-    {
-        let width = match &self.width {
-            Width::Narrow(totals) => Width::Narrow(totals.copied()),
-            Width::Wide(totals) => Width::Wide(Box::new(alloc, totals.copied())?),
-        };
-        Ok(Totals { width })
+        let width = Width::Narrow(CountRows::new());
+        Totals { width }
     }
 
     /// How many children there are.
@@ -126,7 +142,7 @@ impl Totals {
     {
         match &self.width {
             Width::Narrow(totals) => totals.get(place),
-            Width::Wide(totals) => totals.get(place),
+            Width::Wide(totals) => totals[place],
         }
     }
 
@@ -216,11 +232,11 @@ impl Totals {
         }
         match (&mut self.width, &others.width) {
             (Width::Narrow(totals), Width::Narrow(others)) if !is_wide => {
-                totals.append_with(others, from, count, old, new);
+                totals.append(others, from, count, old, new);
                 Ok(true)
             }
             (Width::Wide(totals), Width::Wide(others)) => {
-                totals.append_with(others, from, count, old, new);
+                append_wide(totals, &others[from..from + count], old, new);
                 Ok(true)
             }
             _ => Ok(false),
@@ -257,7 +273,7 @@ impl Totals {
     {
         match &mut self.width {
             Width::Narrow(totals) => totals.retotal(place, old, new),
-            Width::Wide(totals) => totals.retotal(place, old, new),
+            Width::Wide(totals) => shift_wide(totals.as_mut_slice(), place, old, new),
         }
     }
 }
@@ -308,36 +324,24 @@ pub(crate) fn holds_char(totals: &Totals, place: usize, at: usize) -> bool
     is_before & is_behind
 }
 
-/// A child that holds a character, and whether the way there still follows another.
-#[derive(Clone, Copy)]
-pub(crate) struct Tried {
-    pub(crate) place: usize,
-    pub(crate) follows: bool,
-}
-
-/// The child that holds a character. Where the way follows another, that one's child is tried first: so nothing waits for a search
+/// The child that holds a character, and whether the way there still follows another. Where the way follows another, that one's child is tried first: so nothing waits for a search
 /// where it is that child time and again. Of few children none is tried, since a processor would guess wrongly too often.
 #[inline(always)]
-pub(crate) fn try_place(totals: &Totals, at: usize, likely: usize, follows: bool) -> Tried
+pub(crate) fn try_place(totals: &Totals, at: usize, likely: usize, follows: bool) -> (usize, bool)
     requires some { 0 < length totals.now }
     requires few { length totals.now ≤ MAX_CHILDREN }
     requires small { (j : ℕ) (d : TextInfo) → j < length totals.now → IsSmall (slice_index_or totals.now j d) }
     requires last { (d : TextInfo) → at < count_of Char (slice_index_or totals.now (length totals.now - 1) d) }
-    ensures within { result.place < length totals.now }
-    ensures before { (d : TextInfo) → 0 < result.place → count_of Char (slice_index_or totals.now (result.place - 1) d) ≤ at }
-    ensures past { (d : TextInfo) → at < count_of Char (slice_index_or totals.now result.place d) }
+    ensures within { result.0 < length totals.now }
+    ensures before { (d : TextInfo) → 0 < result.0 → count_of Char (slice_index_or totals.now (result.0 - 1) d) ≤ at }
+    ensures past { (d : TextInfo) → at < count_of Char (slice_index_or totals.now result.0 d) }
 {
     let are_few = totals.len() < MIN_CHILDREN;
     if follows && !are_few && holds_char(totals, likely, at) {
-        return Tried {
-            place: likely,
-            follows,
-        };
+        return (likely, true);
     }
-    Tried {
-        place: place_of(totals, Unit::Char, at, &mut Steps::new()),
-        follows: follows && are_few,
-    }
+    let place = place_of(totals, Unit::Char, at, &mut Steps::new());
+    (place, follows && are_few)
 }
 
 /// The character that the child which takes a text has to hold: at a seam the one before it, or the one after it.

@@ -41,10 +41,8 @@ impl<'a> ShortText<'a> {
         ensures value { result ≡ chars text.now }
         ensures len { byte_len result ≡ length text.now }
     {
-        ShortText {
-            text,
-            count: UNCOUNTED,
-        }
+        let count = UNCOUNTED;
+        ShortText { text, count }
     }
 
     /// A text of at most `MAX_BYTES` bytes that is known to have so many characters.

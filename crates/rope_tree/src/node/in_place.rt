@@ -1,33 +1,75 @@
-//! Inserts of short texts where the nodes stand: one way down, on which a node that is shared is copied.
-ghost use Rattle.std.specs.Prelude.{◌≡◌, ◌+◌, ◌<◌, ◌≤◌, [], ◌∷◌, true, false, length, take, slice_index_or, Ok, IfOk};
+//! Edits where the nodes stand: inserts of short texts, for which a leaf without room is cut into two, and removals of characters from
+//! one leaf. Each is one way down, on which a node that is shared is copied.
+ghost use Rattle.std.specs.Prelude.{◌≡◌, ◌+◌, ◌<◌, ◌≤◌, ◌-◌, [], ◌∷◌, true, false, length, take, slice_index_or, Ok, IfOk, OnErr, IfSome, IfNone};
+ghost use Rattle.std.specs.List.{insert};
+ghost use Rattle.rope_text.specs.declared.TheConstants.{MAX_SHORT_BYTES};
+ghost use Rattle.rope_text.specs.Text.{byte_len};
 ghost use Rattle.rope_text.specs.Edit.{inserted};
-ghost use Rattle.rope_tree.specs.Tree.{Tree, text, joined, breaks_of, height_of, tree_over, AreChildren};
 ghost use Rattle.rope_text.specs.TextInfo.{info_of};
+ghost use Rattle.rope_tree.specs.Tree.{Tree, text, joined, breaks_of, height_of, tree_over, AreChildren};
+ghost use Rattle.rope_tree.specs.Shape.{form_tree, IsForm};
 ghost use Rattle.rope_tree.specs.Change.{IsChange, no_counts};
 ghost use Rattle.rope_tree.specs.Insert.{TakesShort, MayInsert, GoesIn, IsInserted, AreGrown};
+ghost use Rattle.rope_tree.specs.Removal.{IsRemoved, AreRemoved};
 ghost use Rattle.rope_tree.specs.Tries.{IsTried};
 
-use super::own::own;
+use super::row::{Row, list_of};
 use super::{Children, Form, Node};
+use crate::beside::{Least, least_at};
+use crate::leaf::Leaf;
 use crate::search::{char_to_hold, try_place};
 use crate::{Made, Maker, ShortText, Totals, total_before};
-use rope_text::{MAX_CHILDREN, TextInfo};
+use rope_text::{MAX_BYTES, MAX_CHILDREN, TextInfo};
 use std::rc::Rc;
 
-/// Where a text goes in a list of children: in which of them, before which character of it, and whether the way follows that of
-/// the edit before so far.
-#[derive(Clone, Copy)]
-pub(super) struct WayIn {
-    pub(super) place: usize,
-    pub(super) at: usize,
-    pub(super) follows: bool,
+/// Puts a copy of a leaf in its place.
+#[inline(never)]
+fn copy_leaf(leaf: &mut Rc<Leaf>, maker: &mut Maker) -> Made<()>
+    ensures same { leaf.new.value ≡ leaf.old.value }
+    ensures made { maker.new.made ≤ maker.old.made + 1 }
+{
+    maker.add_made();
+    *leaf = Leaf::of_text(
+        maker.alloc,
+        leaf.line_breaks(),
+        leaf.text().as_str(),
+        leaf.info(),
+    )?;
+    Ok(())
+}
+
+/// Puts a copy of a list of children in its place.
+#[inline(never)]
+fn copy_children(children: &mut Rc<Children>, maker: &mut Maker) -> Made<()>
+    requires { AreChildren (breaks_of children.old.value) (height_of children.old.value) children.old.value }
+    ensures same { children.new.value ≡ children.old.value }
+    ensures made { maker.new.made ≤ maker.old.made + 1 }
+{
+    let (nodes, totals) = children.parts();
+    *children = list_of(maker, (Row::of(nodes, totals), &[], Row::none()))?;
+    Ok(())
+}
+
+/// Makes what a node has its own: where another node has it too, a copy takes its place.
+#[inline(always)]
+fn own(form: &mut Form, maker: &mut Maker) -> Made<()>
+    requires { IsForm form.old }
+    ensures same { form_tree form.new ≡ form_tree form.old }
+    ensures kept { IsForm form.new }
+    ensures made { maker.new.made ≤ maker.old.made + 1 }
+{
+    match form {
+        Form::Leaf(leaf) if Rc::strong_count(leaf) > 1 => copy_leaf(leaf, maker),
+        Form::Inner(children) if Rc::strong_count(children) > 1 => copy_children(children, maker),
+        _ => Ok(()),
+    }
 }
 
 /// Whether a list of children has none: it is asked before a search in a list over leaves, of one place in each 64 bytes, so that the
 /// list's places in memory are read side by side, where the way down would wait for each. It stands by itself, since an edit that
 /// follows the one before has no use for it.
 #[inline(never)]
-pub(super) fn has_no_child(nodes: &[Node; MAX_CHILDREN]) -> bool {
+fn has_no_child(nodes: &[Node; MAX_CHILDREN]) -> bool {
     nodes[0].is_empty() & nodes[4].is_empty() & nodes[8].is_empty()
         && nodes[12].is_empty() & nodes[16].is_empty() & nodes[20].is_empty()
 }
@@ -35,7 +77,7 @@ pub(super) fn has_no_child(nodes: &[Node; MAX_CHILDREN]) -> bool {
 /// Whether the child at a place is a leaf that has no text, which none is: it is asked before an edit at its character `at`, so that what
 /// the edit goes over is read ahead. How long the leaf is, the totals tell.
 #[inline(never)]
-pub(super) fn has_no_text(totals: &Totals, nodes: &[Node], place: usize, at: usize) -> bool
+fn has_no_text(totals: &Totals, nodes: &[Node], place: usize, at: usize) -> bool
     requires totals { place < length totals.now }
     requires nodes { place < length nodes.now }
 {
@@ -45,37 +87,44 @@ pub(super) fn has_no_text(totals: &Totals, nodes: &[Node], place: usize, at: usi
     let chars = total.chars.wrapping_sub(before.chars);
     let is_behind = bytes == chars || at > chars / 2;
     let from = if is_behind { at } else { 0 };
-    nodes[place].is_no_text(from, bytes)
+    matches!(nodes[place].leaf(), Some(leaf) if leaf.is_no_text(from, bytes))
 }
 
 /// What an edit answers that changes nothing. It stands by itself, and is seldom called, so that the way of other edits lies straight.
 #[cold]
 #[inline(never)]
-pub(super) fn unchanged() -> Made<bool>
+fn unchanged() -> Made<bool>
     ensures { result ≡ Ok false }
 {
     Ok(false)
 }
 
+/// Puts a node behind the one at a place. The last node, an empty one, goes.
+fn put_behind(nodes: &mut [Node], place: usize, node: Node)
+    requires { place + 1 < length nodes.old }
+    ensures { nodes.new ≡ insert (take (length nodes.old - 1) nodes.old) (place + 1) node }
+{
+    let last = nodes.len() - 1;
+    nodes[last] = node;
+    nodes[place + 1..].rotate_right(1);
+}
+
 impl Children {
-    /// The child that takes a text before the character `at`. Where the way follows that of the edit before, its child is tried first.
+    /// The child that takes a text before the character `at`, before which of its characters, and whether the way still follows that of
+    /// the edit before. Where it did so far, that one's child is tried first.
     #[inline(always)]
-    pub(super) fn way_in(&self, at: usize, to_right: bool, follows: bool) -> WayIn
+    fn way_in(&self, at: usize, to_right: bool, follows: bool) -> (usize, usize, bool)
         requires children { AreChildren (breaks_of self.now) (height_of self.now) self.now }
         requires within { at ≤ length (joined self.now) }
         requires right { to_right ≡ true → at < length (joined self.now) }
-        ensures child { result.place < length self.now }
-        ensures place { at ≡ length (joined (take result.place self.now)) + result.at }
-        ensures goes { (child : Tree) → GoesIn at result.at (length (text (slice_index_or self.now result.place child))) to_right }
+        ensures child { result.0 < length self.now }
+        ensures place { at ≡ length (joined (take result.0 self.now)) + result.1 }
+        ensures goes { (child : Tree) → GoesIn at result.1 (length (text (slice_index_or self.now result.0 child))) to_right }
     {
         let held = char_to_hold(at, to_right);
-        let child = try_place(&self.totals, held, usize::from(self.last), follows);
-        let before = total_before(&self.totals, child.place).chars;
-        WayIn {
-            place: child.place,
-            at: at - before,
-            follows: child.follows,
-        }
+        let (place, follows) = try_place(&self.totals, held, usize::from(self.last), follows);
+        let before = total_before(&self.totals, place).chars;
+        (place, at - before, follows)
     }
 
     /// Puts a text before the character `at`, where the leaf has room, or is cut into two and the node over it has room for one
@@ -105,12 +154,12 @@ impl Children {
         if !self.totals.has_room_for(added.len()) {
             return unchanged();
         }
-        let way = self.way_in(at, to_right, follows);
-        let is_ahead = !way.follows && self.height == 1;
-        if is_ahead && has_no_text(&self.totals, &self.nodes, way.place, way.at) {
+        let (place, inside, follows) = self.way_in(at, to_right, follows);
+        if !follows && self.height == 1 && has_no_text(&self.totals, &self.nodes, place, inside) {
             return unchanged();
         }
-        if self.nodes[way.place].lacks_room_for(added.len()) {
+        let most = MAX_BYTES.saturating_sub(added.len());
+        if matches!(self.nodes[place].leaf(), Some(leaf) if leaf.info().bytes > most) {
             let before = self.total();
             if !self.cut_leaf(maker, at, added, to_right)? {
                 return unchanged();
@@ -118,42 +167,106 @@ impl Children {
             *more = self.total().minus(before);
             return Ok(true);
         }
-        let node = &mut self.nodes[way.place];
-        if !node.insert_in_place(maker, way.at, added, to_right, way.follows, more)? {
+        let node = &mut self.nodes[place];
+        if !node.insert_in_place(maker, inside, added, to_right, follows, more)? {
             return unchanged();
         }
-        self.totals.retotal(way.place, TextInfo::new(), *more);
-        self.last = way.place as u8;
+        self.totals.retotal(place, TextInfo::new(), *more);
+        self.last = place as u8;
+        Ok(true)
+    }
+
+    /// Puts a text before the character `at` of leaves, of which the one that takes it is cut into two, where one more fits in beside
+    /// it; returns whether it did. Where memory is refused, nothing is changed.
+    #[cold]
+    #[inline(never)]
+    fn cut_leaf(
+        &mut self,
+        maker: &mut Maker,
+        at: usize,
+        added: &ShortText<'_>,
+        to_right: bool,
+    ) -> Made<bool>
+        requires children { AreChildren (breaks_of self.old) (height_of self.old) self.old }
+        requires takes { TakesShort (tree_over self.old) at added.now }
+        requires side { MayInsert (tree_over self.old) at added.now to_right }
+        ensures made { maker.new.made ≤ maker.old.made + 2 }
+        ensures tried { IsTried result self.old self.new (AreGrown self.old self.new (inserted (joined self.old) at added.now)) }
+    {
+        let count = self.totals.len();
+        if count >= MAX_CHILDREN || !self.totals.has_room_for(added.len()) {
+            return Ok(false);
+        }
+        let (place, inside, _) = self.way_in(at, to_right, false);
+        let node = &mut self.nodes[place];
+        let old = node.info();
+        let Some(back) = node.cut(maker, inside, added)? else {
+            return Ok(false);
+        };
+        let front = node.info();
+        let total = total_before(&self.totals, place).plus(front);
+        self.totals.retotal(place, old, front.plus(back.info()));
+        self.totals.insert(place, total);
+        put_behind(&mut self.nodes[..count + 1], place, back);
+        Ok(true)
+    }
+
+    /// Takes the characters from `start` up to `end` out, where they lie in one leaf that may do without them and keeps enough
+    /// beside its neighbours; returns whether it did, and in `less` by how much the counts fell. `follows` says whether the way is
+    /// that of the edit before so far. Where memory is refused, the children are as they were.
+    #[cycle(in_place_removal)]
+    #[inline(never)]
+    fn remove_in_place(
+        &mut self,
+        maker: &mut Maker,
+        start: usize,
+        end: usize,
+        least: Least,
+        follows: bool,
+        less: &mut TextInfo,
+    ) -> Made<bool>
+        requires children { AreChildren (breaks_of self.old) (height_of self.old) self.old }
+        requires ordered { start < end }
+        requires within { end ≤ length (joined self.old) }
+        ensures change { IfOk result (λ did. did ≡ true → IsChange less.new no_counts (info_of (breaks_of self.old) (joined self.old)) (info_of (breaks_of self.old) (joined self.new))) }
+        ensures made { maker.new.made ≤ maker.old.made + height_of self.old + 1 }
+        ensures tried { IsTried result self.old self.new (AreRemoved least.first least.last self.old self.new start end) }
+    {
+        if !follows && self.height == 1 && has_no_child(&self.nodes) {
+            return unchanged();
+        }
+        let (place, at, follows) = self.way_in(start, true, follows);
+        if self.totals.get(place).chars < end {
+            return unchanged();
+        }
+        let least = least_at(usize::from(self.height), &self.totals, place, least);
+        if !follows && self.height == 1 && has_no_text(&self.totals, &self.nodes, place, at) {
+            return unchanged();
+        }
+        let node = &mut self.nodes[place];
+        if !node.remove_in_place(maker, at, end - (start - at), least, follows, less)? {
+            return unchanged();
+        }
+        self.totals.retotal(place, *less, TextInfo::new());
+        self.last = place as u8;
         Ok(true)
     }
 }
 
 impl Node {
-    /// Whether it is a leaf in which so many bytes more have no room.
+    /// The leaf that it is, if it is one.
     #[inline(always)]
-    fn lacks_room_for(&self, bytes: usize) -> bool {
+    fn leaf(&self) -> Option<&Leaf> {
         match &self.form {
-            Form::Leaf(leaf) => leaf.lacks_room_for(bytes),
-            _ => false,
-        }
-    }
-
-    /// Whether it is a leaf that has no text, which none is.
-    #[inline(always)]
-    fn is_no_text(&self, from: usize, len: usize) -> bool {
-        match &self.form {
-            Form::Leaf(leaf) => leaf.is_no_text(from, len),
-            _ => false,
+            Form::Leaf(leaf) => Some(leaf),
+            _ => None,
         }
     }
 
     /// Whether it has no text and no children.
     #[inline(always)]
     fn is_empty(&self) -> bool {
-        match &self.form {
-            Form::Empty(_) => true,
-            _ => false,
-        }
+        matches!(self.form, Form::Empty(_))
     }
 
     /// Puts a text of at most 981 bytes before the character `at`, where the leaf has room, or is cut into two and the node over
@@ -187,6 +300,63 @@ impl Node {
             Form::Inner(children) => match Rc::get_mut(children) {
                 Some(children) => {
                     children.insert_in_place(maker, at, added, to_right, follows, more)
+                }
+                None => Ok(false),
+            },
+        }
+    }
+
+    /// Puts a text before the character `at` of a leaf that has no room for it: leaves the first part here, and answers a leaf
+    /// with the second. None, and nothing changed, where it has room or is no leaf.
+    fn cut(&mut self, maker: &mut Maker, at: usize, added: &ShortText<'_>) -> Made<Option<Node>>
+        requires some { 1 ≤ length added.now }
+        requires short { byte_len added.now ≤ MAX_SHORT_BYTES }
+        ensures cut { IfOk result (λ found. IfSome found (λ back. IsInserted self.old (self.new ∷ back ∷ []) (inserted (text self.old) at added.now))) }
+        ensures kept { IfOk result (λ found. IfNone found (self.new ≡ self.old)) }
+        ensures err { OnErr result (self.new ≡ self.old) }
+        ensures made { maker.new.made ≤ maker.old.made + 2 }
+    {
+        own(&mut self.form, maker)?;
+        let Form::Leaf(leaf) = &mut self.form else {
+            return Ok(None);
+        };
+        match Rc::get_mut(leaf) {
+            Some(leaf) => leaf.cut(maker, at, added),
+            None => Ok(None),
+        }
+    }
+
+    /// Takes the characters from `start` up to `end` out, where they lie in one leaf that may do without them, and keeps so many
+    /// bytes where it is first or last; returns whether it did, and in `less` by how much the counts fell. `follows` says whether the
+    /// way is that of the edit before so far. A node on the way that is shared is copied; where none is, it takes no memory. Where
+    /// memory is refused, the tree is as it was.
+    #[cycle(in_place_removal)]
+    #[inline(always)]
+    pub(crate) fn remove_in_place(
+        &mut self,
+        maker: &mut Maker,
+        start: usize,
+        end: usize,
+        least: Least,
+        follows: bool,
+        less: &mut TextInfo,
+    ) -> Made<bool>
+        requires ordered { start < end }
+        requires within { end ≤ length (text self.old) }
+        ensures change { IfOk result (λ did. did ≡ true → IsChange less.new no_counts (info_of self.old.breaks (text self.old)) (info_of self.old.breaks (text self.new))) }
+        ensures made { maker.new.made ≤ maker.old.made + self.old.height + 1 }
+        ensures tried { IsTried result self.old self.new (IsRemoved least.first least.last self.old self.new start end) }
+    {
+        own(&mut self.form, maker)?;
+        match &mut self.form {
+            Form::Empty(_) => Ok(false),
+            Form::Leaf(leaf) => match Rc::get_mut(leaf) {
+                Some(leaf) => Ok(leaf.remove_in_place(start, end, least, less)),
+                None => Ok(false),
+            },
+            Form::Inner(children) => match Rc::get_mut(children) {
+                Some(children) => {
+                    children.remove_in_place(maker, start, end, least, follows, less)
                 }
                 None => Ok(false),
             },

@@ -26,7 +26,7 @@ pub struct Row<'a> {
 
 /// Shares nodes, and puts them in the places of as many others, from a place on.
 #[inline(always)]
-pub(super) fn share_all(places: &mut [Node], from: usize, nodes: &[Node]) -> Made<()>
+fn share_all(places: &mut [Node], from: usize, nodes: &[Node]) -> Made<()>
     requires { from + length nodes.now ≤ length places.old }
     ensures { OnOk result (places.new ≡ take from places.old ++ (nodes.now ++ drop (from + length nodes.now) places.old)) }
 {
@@ -98,24 +98,21 @@ fn push_row(
     }
 }
 
+/// The nodes of three lists, one behind the other.
+pub(super) type Rows<'a> = (Row<'a>, &'a [Node], Row<'a>);
+
 /// Puts the nodes of three lists into one that has none.
 #[inline(always)]
-fn push_three(
-    alloc: Global,
-    totals: &mut Totals,
-    places: &mut [Node],
-    before: Row<'_>,
-    middle: &[Node],
-    after: Row<'_>,
-) -> Made<()>
+fn push_three(alloc: Global, totals: &mut Totals, places: &mut [Node], rows: Rows<'_>) -> Made<()>
     requires list { IsNewList (new_list totals.old places.old) }
     requires none { nodes_in (new_list totals.old places.old) ≡ [] }
-    requires before { IsRow before }
-    requires after { IsRow after }
-    requires children { let ts = before.nodes.now ++ (middle.now ++ after.nodes.now) in AreChildren (breaks_of ts) (height_of ts) ts }
+    requires before { IsRow rows.0 }
+    requires after { IsRow rows.2 }
+    requires children { let ts = rows.0.nodes.now ++ (rows.1.now ++ rows.2.nodes.now) in AreChildren (breaks_of ts) (height_of ts) ts }
     ensures list { OnOk result (IsNewList (new_list totals.new places.new)) }
-    ensures nodes { OnOk result (nodes_in (new_list totals.new places.new) ≡ before.entry.nodes.now ++ (middle.now ++ after.entry.nodes.now)) }
+    ensures nodes { OnOk result (nodes_in (new_list totals.new places.new) ≡ rows.entry.0.nodes.now ++ (rows.entry.1.now ++ rows.entry.2.nodes.now)) }
 {
+    let (before, middle, after) = rows;
     let total = push_row(alloc, totals, places, before, TextInfo::new())?;
     let total = push_all(alloc, totals, places, middle, total)?;
     push_row(alloc, totals, places, after, total)?;
@@ -124,7 +121,7 @@ fn push_three(
 
 /// Takes all nodes out of a list. It stands by itself, since a caller would clear room for the empty ones at each call.
 #[inline(never)]
-pub(super) fn clear(totals: &mut Totals, places: &mut [Node; MAX_CHILDREN])
+fn clear(totals: &mut Totals, places: &mut [Node; MAX_CHILDREN])
     ensures list { IsNewList (new_list totals.new places.new) }
     ensures none { nodes_in (new_list totals.new places.new) ≡ [] }
 {
@@ -132,45 +129,16 @@ pub(super) fn clear(totals: &mut Totals, places: &mut [Node; MAX_CHILDREN])
     *places = Default::default();
 }
 
-/// A list of no node.
-#[inline(always)]
-pub(super) fn empty_list(alloc: Global) -> Made<Rc<Children>>
-    ensures { IfOk result (λ list. list.value ≡ []) }
-{
-    let none = Children {
-        height: 1,
-        breaks: LineBreaks::Unicode,
-        last: 0,
-        totals: Totals::new(),
-        nodes: Default::default(),
-    };
-    match Rc::new(alloc, none) {
-        Ok(list) => Ok(list),
-        Err(refused) => {
-            // It holds nothing; were it dropped here, it would be moved where none is refused, too.
-            mem::forget(refused);
-            Err(AllocError)
-        }
-    }
-}
-
 impl Children {
     /// Puts the nodes of three lists, which it shares, into a list that has none. Where memory is refused it has none again.
-    fn fill(&mut self, alloc: Global, before: Row<'_>, middle: &[Node], after: Row<'_>) -> Made<()>
+    fn fill(&mut self, alloc: Global, rows: Rows<'_>) -> Made<()>
         requires none { self.old ≡ [] }
-        requires before { IsRow before }
-        requires after { IsRow after }
-        requires children { let ts = before.nodes.now ++ (middle.now ++ after.nodes.now) in AreChildren (breaks_of ts) (height_of ts) ts }
-        ensures { OnOk result (self.new ≡ before.entry.nodes.now ++ (middle.now ++ after.entry.nodes.now)) }
+        requires before { IsRow rows.0 }
+        requires after { IsRow rows.2 }
+        requires children { let ts = rows.0.nodes.now ++ (rows.1.now ++ rows.2.nodes.now) in AreChildren (breaks_of ts) (height_of ts) ts }
+        ensures { OnOk result (self.new ≡ rows.entry.0.nodes.now ++ (rows.entry.1.now ++ rows.entry.2.nodes.now)) }
     {
-        let filled = push_three(
-            alloc,
-            &mut self.totals,
-            &mut self.nodes,
-            before,
-            middle,
-            after,
-        );
+        let filled = push_three(alloc, &mut self.totals, &mut self.nodes, rows);
         if filled.is_ok() {
             self.height = (self.nodes[0].height() + 1) as u8;
             self.breaks = self.nodes[0].line_breaks();
@@ -181,25 +149,52 @@ impl Children {
     }
 }
 
-/// A node over the nodes of three lists, which it shares. The list is filled where it stays, so that no node is moved.
+/// A list of the nodes of three lists, which it shares. It is filled where it stays, so that no node is moved.
 #[inline(never)]
-fn make_over(maker: &mut Maker, before: Row<'_>, middle: &[Node], after: Row<'_>) -> Made<Node>
-    requires before { IsRow before }
-    requires after { IsRow after }
-    requires children { let ts = before.nodes.now ++ (middle.now ++ after.nodes.now) in AreChildren (breaks_of ts) (height_of ts) ts }
-    ensures ok { IfOk result (λ node. node ≡ tree_over (before.entry.nodes.now ++ (middle.now ++ after.entry.nodes.now))) }
+pub(super) fn list_of(maker: &mut Maker, rows: Rows<'_>) -> Made<Rc<Children>>
+    requires before { IsRow rows.0 }
+    requires after { IsRow rows.2 }
+    requires children { let ts = rows.0.nodes.now ++ (rows.1.now ++ rows.2.nodes.now) in AreChildren (breaks_of ts) (height_of ts) ts }
+    ensures ok { IfOk result (λ list. list.value ≡ rows.entry.0.nodes.now ++ (rows.entry.1.now ++ rows.entry.2.nodes.now)) }
     ensures made { maker.new.made ≤ maker.old.made + 1 }
     ensures added { maker.old.made < 18446744073709551615 → maker.new.made ≡ maker.old.made + 1 }
     ensures rises { maker.old.made ≤ maker.new.made }
 {
     maker.add_made();
-    let mut list = empty_list(maker.alloc)?;
+    let none = Children {
+        height: 1,
+        breaks: LineBreaks::Unicode,
+        last: 0,
+        totals: Totals::new(),
+        nodes: Default::default(),
+    };
+    let mut list = match Rc::new(maker.alloc, none) {
+        Ok(list) => list,
+        Err(refused) => {
+            // It holds nothing; were it dropped here, it would be moved where none is refused, too.
+            mem::forget(refused);
+            return Err(AllocError);
+        }
+    };
     // A list that was just made has no other owner, so that it can always be changed.
     let Some(children) = Rc::get_mut(&mut list) else {
         return Err(AllocError);
     };
-    children.fill(maker.alloc, before, middle, after)?;
-    let form = Form::Inner(list);
+    children.fill(maker.alloc, rows)?;
+    Ok(list)
+}
+
+/// A node over the nodes of three lists, which it shares.
+fn make_over(maker: &mut Maker, rows: Rows<'_>) -> Made<Node>
+    requires before { IsRow rows.0 }
+    requires after { IsRow rows.2 }
+    requires children { let ts = rows.0.nodes.now ++ (rows.1.now ++ rows.2.nodes.now) in AreChildren (breaks_of ts) (height_of ts) ts }
+    ensures ok { IfOk result (λ node. node ≡ tree_over (rows.entry.0.nodes.now ++ (rows.entry.1.now ++ rows.entry.2.nodes.now))) }
+    ensures made { maker.new.made ≤ maker.old.made + 1 }
+    ensures added { maker.old.made < 18446744073709551615 → maker.new.made ≡ maker.old.made + 1 }
+    ensures rises { maker.old.made ≤ maker.new.made }
+{
+    let form = Form::Inner(list_of(maker, rows)?);
     Ok(Node { form })
 }
 
@@ -211,7 +206,7 @@ pub fn node_over(maker: &mut Maker, nodes: &[Node]) -> Made<Node>
     ensures added { maker.old.made < 18446744073709551615 → maker.new.made ≡ maker.old.made + 1 }
     ensures rises { maker.old.made ≤ maker.new.made }
 {
-    make_over(maker, Row::none(), nodes, Row::none())
+    make_over(maker, (Row::none(), nodes, Row::none()))
 }
 
 impl<'a> Row<'a> {
@@ -221,17 +216,8 @@ impl<'a> Row<'a> {
         ensures row { IsRow result }
         ensures nodes { result.nodes.now ≡ [] }
     {
-        Row::plain(&[])
-    }
-
-    /// Nodes whose counts are not known together.
-    #[inline(always)]
-    fn plain(nodes: &'a [Node]) -> Row<'a>
-        ensures row { IsRow result }
-        ensures nodes { result.nodes.now ≡ nodes.now }
-    {
         Row {
-            nodes,
+            nodes: &[],
             totals: None,
             from: 0,
         }
@@ -295,17 +281,15 @@ pub fn pack_over(maker: &mut Maker, before: Row<'_>, middle: &[Node], after: Row
 {
     let count = before.nodes.len() + middle.len() + after.nodes.len();
     if count <= MAX_CHILDREN {
-        let node = make_over(maker, before, middle, after)?;
+        let node = make_over(maker, (before, middle, after))?;
         return Ok(Nodes::One(node));
     }
     let half = count / 2;
     let more = half.saturating_sub(before.nodes.len());
     let most = more.saturating_sub(middle.len());
-    let middle = Row::plain(middle);
-    let (left, mid, right) = (before.first(half), middle.first(more), after.first(most));
-    let first = make_over(maker, left, mid.nodes, right)?;
-    let (left, mid, right) = (before.rest(half), middle.rest(more), after.rest(most));
-    let second = make_over(maker, left, mid.nodes, right)?;
+    let (left, right) = middle.split_at(more.min(middle.len()));
+    let first = make_over(maker, (before.first(half), left, after.first(most)))?;
+    let second = make_over(maker, (before.rest(half), right, after.rest(most)))?;
     Ok(Nodes::Two(first, second))
 }
 

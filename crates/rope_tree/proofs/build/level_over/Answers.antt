@@ -1,11 +1,30 @@
 -- Each turn makes a node over the next group of nodes.
-use Rattle.std.proofs.Common.{◌≡◌, ℕ, List, [], ◌∷◌, take, length, refl, ap, sym, subst, arith}
+use Rattle.std.proofs.Common.{◌≡◌, ℕ, ◌-◌, ◌*◌, ◌/◌, ◌≤◌, List, [], ◌∷◌, take, length, refl, ap, sym, subst, arith}
 use Rattle.std.proofs.lemmas.List.{length-drop, length-append}
 use Rattle.rope_text.specs.declared.line_breaks.LineBreaks.{LineBreaks}
 use Rattle.rope_tree.specs.Tree.{Tree}
 use Rattle.rope_tree.proofs.NodeLaws.{children_of_first}
 use Rattle.rope_tree.proofs.BuildLaws.{AreOver, group_children, over_more, back_of}
+use Rattle.rope_tree.proofs.BuildLaws.{share_least, share_most, least_after, most_after}
+use Rattle.std.proofs.Math.Nat.{div-le_self}
 use Rattle.rope_tree.proofs.build.level_over.Goals as goal
+
+-- an even share of the nodes that are left
+record IsShare (left groups n : ℕ) : Type 0 where
+  least : 12 ≤ n
+  most : n ≤ 24
+  within : n ≤ left
+  least_after : 12 * (groups - 1) ≤ left - n
+  most_after : left - n ≤ 24 * (groups - 1)
+
+share : (left groups : ℕ) → 1 ≤ groups → 12 * groups ≤ left → left ≤ 24 * groups → IsShare left groups (left / groups)
+share left groups some least most = record {
+  least = share_least left groups some least;
+  most = share_most left groups most;
+  within = div-le_self left groups;
+  least_after = least_after left groups some least;
+  most_after = most_after left groups some most;
+}
 
 over_at : {breaks : LineBreaks} {h : ℕ} {whole : List Tree} {done more rest left : List Tree} → more ≡ done → left ≡ rest → AreOver breaks h whole done rest → AreOver breaks h whole more left
 over_at {breaks = breaks} {h = h} {whole = whole} {more = more} {rest = rest} e f a = subst (AreOver breaks h whole more) (sym f) (subst (λ ts. AreOver breaks h whole ts rest) (sym e) a)
@@ -13,18 +32,19 @@ over_at {breaks = breaks} {h = h} {whole = whole} {more = more} {rest = rest} e 
 pub node_over-requires : goal.node_over-requires
 node_over-requires c =
     let rest = c.loop-groups.rest.now in
-    let n = c.group_len-len.result in
-    let a = group_children _ _ rest n c.loop-groups.invariant.over.left c.group_len-len.ensures.least c.group_len-len.ensures.most (omega (arith, c.group_len-len.ensures.within)) in
+    let n = length rest / c.loop-groups.groups in
+    let g = share (length rest) c.loop-groups.groups (omega arith) c.loop-groups.invariant.least c.loop-groups.invariant.most in
+    let a = group_children _ _ rest n c.loop-groups.invariant.over.left g.least g.most (omega (arith, g.within)) in
     children_of_first _ _ (take n rest) a
 
 pub loop-groups-preserved : goal.loop-groups-preserved
 loop-groups-preserved c =
     let rest = c.loop-groups.rest.now in
-    let n = c.group_len-len.result in
-    let over = over_more _ _ _ _ rest n c.in_ok-node_over.field-0 c.loop-groups.invariant.over c.group_len-len.ensures.least c.group_len-len.ensures.most (omega (arith, c.group_len-len.ensures.within))
+    let n = length rest / c.loop-groups.groups in
+    let g = share (length rest) c.loop-groups.groups (omega arith) c.loop-groups.invariant.least c.loop-groups.invariant.most in
+    let over = over_more _ _ _ _ rest n c.in_ok-node_over.field-0 c.loop-groups.invariant.over g.least g.most (omega (arith, g.within))
     c.in_ok-node_over.ensures.ok in
     let pushed = c.in_ok-push.ensures.items in
-    let g = c.group_len-len.ensures in
     let after = back_of rest _ n refl in
     let m = ap length after in
     let k = length-drop n rest in

@@ -10,7 +10,9 @@ use Rattle.rope_tree.specs.Removal.{KeepsEnds}
 use Rattle.rope_text.proofs.Measures.{size_le, IsMeasure-byte_len}
 use Rattle.rope_text.proofs.TextParts.{chars_front, chars_back}
 use Rattle.rope_text.proofs.Walks.{byte_len-chars}
-use Rattle.rope_tree.proofs.counts.take_out.Goals.{After-as_str-text, After-range_from-back}
+use Rattle.rope_tree.proofs.counts.take_out.Goals.{After-as_str-text, After-range_from-back, After-shared_breaks-meeting}
+use Rattle.rope_tree.proofs.Infos.{small_info}
+use Rattle.rope_tree.proofs.CountLaws.{Uncounts, uncounts}
 use Rattle.rope_tree.proofs.counts.take_out.Goals as goal
 
 -- the three parts of a text, cut at the bytes of two characters
@@ -41,22 +43,22 @@ parted bs cs front part back start end from to u v same from_is to_is order with
     }
 
 -- the places of the bytes, by the characters of the bytes
-from_place : (c : After-as_str-text) → c.byte_range-range.result.from ≡ byte_len (take c.args.start (chars c.as_str-text.result.now))
-from_place c = c.byte_range-range.ensures.from ∙ ap (λ l. byte_len (take c.args.start l)) (sym c.as_str-text.ensures.chars)
+from_place : (c : After-as_str-text) → c.byte_range-from.result.0 ≡ byte_len (take c.args.start (chars c.as_str-text.result.now))
+from_place c = c.byte_range-from.ensures.from ∙ ap (λ l. byte_len (take c.args.start l)) (sym c.as_str-text.ensures.chars)
 
-to_place : (c : After-as_str-text) → c.byte_range-range.result.to ≡ byte_len (take c.args.end (chars c.as_str-text.result.now))
-to_place c = c.byte_range-range.ensures.to ∙ ap (λ l. byte_len (take c.args.end l)) (sym c.as_str-text.ensures.chars)
+to_place : (c : After-as_str-text) → c.byte_range-from.result.1 ≡ byte_len (take c.args.end (chars c.as_str-text.result.now))
+to_place c = c.byte_range-from.ensures.to ∙ ap (λ l. byte_len (take c.args.end l)) (sym c.as_str-text.ensures.chars)
 
-from_boundary : (c : After-as_str-text) → IsCharBoundary c.as_str-text.result.now c.byte_range-range.result.from
-from_boundary c = subst (λ bs. IsCharBoundary bs c.byte_range-range.result.from) (sym c.as_str-text.ensures.bytes) c.byte_range-range.ensures.from_boundary
+from_boundary : (c : After-as_str-text) → IsCharBoundary c.as_str-text.result.now c.byte_range-from.result.0
+from_boundary c = subst (λ bs. IsCharBoundary bs c.byte_range-from.result.0) (sym c.as_str-text.ensures.bytes) c.byte_range-from.ensures.from_boundary
 
-to_boundary : (c : After-as_str-text) → IsCharBoundary c.as_str-text.result.now c.byte_range-range.result.to
-to_boundary c = subst (λ bs. IsCharBoundary bs c.byte_range-range.result.to) (sym c.as_str-text.ensures.bytes) c.byte_range-range.ensures.to_boundary
+to_boundary : (c : After-as_str-text) → IsCharBoundary c.as_str-text.result.now c.byte_range-from.result.1
+to_boundary c = subst (λ bs. IsCharBoundary bs c.byte_range-from.result.1) (sym c.as_str-text.ensures.bytes) c.byte_range-from.ensures.to_boundary
 
 parts : (c : After-range_from-back) → IsParted c.args.leaf.now c.range-front.result.now c.range-part.result.now c.range_from-back.result.now c.args.start c.args.end
 parts c =
-    parted c.as_str-text.result.now c.args.leaf.now c.range-front.result.now c.range-part.result.now c.range_from-back.result.now c.args.start c.args.end c.byte_range-range.result.from c.byte_range-range.result.to
-    c.as_str-text.utf8 c.range-part.utf8 c.as_str-text.ensures.chars c.byte_range-range.ensures.from c.byte_range-range.ensures.to c.requires.ordered c.requires.within
+    parted c.as_str-text.result.now c.args.leaf.now c.range-front.result.now c.range-part.result.now c.range_from-back.result.now c.args.start c.args.end c.byte_range-from.result.0 c.byte_range-from.result.1
+    c.as_str-text.utf8 c.range-part.utf8 c.as_str-text.ensures.chars c.byte_range-from.ensures.from c.byte_range-from.ensures.to c.requires.ordered c.requires.within
     c.range-front.ensures.value c.range-part.ensures.value c.range_from-back.ensures.value
 
 pub range-front-requires-clause-end_boundary : goal.range-front-requires-clause-end_boundary
@@ -71,28 +73,48 @@ range-part-requires-clause-end_boundary c = to_boundary (goal.at.range-part-requ
 pub range_from-back-requires : goal.range_from-back-requires
 range_from-back-requires c = λ _. to_boundary (goal.at.range_from-back-requires c).After-as_str-text
 
-pub info_without-info-requires-clause-info : goal.info_without-info-requires-clause-info
-info_without-info-requires-clause-info c =
-    c.requires.info ∙ ap (info_of c.args.breaks) (sym (parts (goal.at.info_without-info-requires-clause-info c).After-range_from-back).whole)
+-- what the leaf has less without the part
+less : (c : After-shared_breaks-meeting) → IsParted c.args.leaf.now c.range-front.result.now c.range-part.result.now c.range_from-back.result.now c.args.start c.args.end
+    → Uncounts c.args.breaks (chars c.range-front.result.now) (chars c.range_from-back.result.now) c.args.info c.of_short-less.result (c.shared_breaks.result + c.shared_breaks-2.result) c.shared_breaks-meeting.result
+less c p =
+    uncounts c.args.breaks (chars c.range-front.result.now) (chars c.range-part.result.now) (chars c.range_from-back.result.now) c.args.info c.of_short-less.result c.shared_breaks.result c.shared_breaks-2.result c.shared_breaks-meeting.result
+    p.some (c.requires.info ∙ ap (info_of c.args.breaks) (sym p.whole)) c.of_short-less.ensures c.shared_breaks.ensures c.shared_breaks-2.ensures c.shared_breaks-meeting.ensures
 
-pub info_without-info-requires-clause-some : goal.info_without-info-requires-clause-some
-info_without-info-requires-clause-some c = (parts (goal.at.info_without-info-requires-clause-some c).After-range_from-back).some
+pub overflow_sub-left : goal.overflow_sub-left
+overflow_sub-left c = (less (goal.at.overflow_sub-left c).After-shared_breaks-meeting (parts (goal.at.overflow_sub-left c).After-range_from-back)).bytes_le
+
+pub overflow_sub-left-2 : goal.overflow_sub-left-2
+overflow_sub-left-2 c = (less (goal.at.overflow_sub-left-2 c).After-shared_breaks-meeting (parts (goal.at.overflow_sub-left-2 c).After-range_from-back)).chars_le
+
+pub overflow_sub-left-3 : goal.overflow_sub-left-3
+overflow_sub-left-3 c = (less (goal.at.overflow_sub-left-3 c).After-shared_breaks-meeting (parts (goal.at.overflow_sub-left-3 c).After-range_from-back)).pairs_le
+
+pub overflow_add-left : goal.overflow_add-left
+overflow_add-left c =
+    let small = small_info c.args.breaks c.args.leaf.now (omega (arith, c.as_str-text.ensures.fits)) in
+    omega (arith, small.count, small.chars, ap (λ i. i.bytes) c.requires.info, ap (λ i. i.break_count) c.requires.info, c.as_str-text.ensures.fits, (less (goal.at.overflow_add-left c).After-shared_breaks-meeting (parts (goal.at.overflow_add-left c).After-range_from-back)).met_le)
+
+pub overflow_sub-left-4 : goal.overflow_sub-left-4
+overflow_sub-left-4 c = (less (goal.at.overflow_sub-left-4 c).After-shared_breaks-meeting (parts (goal.at.overflow_sub-left-4 c).After-range_from-back)).breaks_le
+
+pub overflow_sub-left-5 : goal.overflow_sub-left-5
+overflow_sub-left-5 c = (less (goal.at.overflow_sub-left-5 c).After-shared_breaks-meeting (parts (goal.at.overflow_sub-left-5 c).After-range_from-back)).meeting_le
 
 pub returns-clause-text : goal.returns-clause-text
 returns-clause-text c =
     let e = (goal.at.returns-clause-text c).After-as_str-text in
     let bs = c.as_str-text.result.now in
-    let range = c.byte_range-range.result in
+    let range = c.byte_range-from.result in
     let u = c.as_str-text.utf8 in
-    let front = chars_front bs (take range.from bs) c.args.leaf.now c.args.start range.from u c.as_str-text.ensures.chars (from_place e) (ap (λ n. take n bs) (omega arith)) in
-    let back = chars_back bs (drop range.to bs) c.args.leaf.now c.args.end range.to u c.as_str-text.ensures.chars (to_place e) refl in
-    c.remove_bytes.ensures ∙ ap (λ l. chars (remove_range l range.from range.to)) (sym c.as_str-text.ensures.bytes)
-    ∙ chars-append (take range.from bs) (drop range.to bs) (IsUtf8-take bs range.from u (from_boundary e)) ∙ ap₂ (λ x y. x ++ y) front back
+    let front = chars_front bs (take range.0 bs) c.args.leaf.now c.args.start range.0 u c.as_str-text.ensures.chars (from_place e) (ap (λ n. take n bs) (omega arith)) in
+    let back = chars_back bs (drop range.1 bs) c.args.leaf.now c.args.end range.1 u c.as_str-text.ensures.chars (to_place e) refl in
+    c.remove_bytes.ensures ∙ ap (λ l. chars (remove_range l range.0 range.1)) (sym c.as_str-text.ensures.bytes)
+    ∙ chars-append (take range.0 bs) (drop range.1 bs) (IsUtf8-take bs range.0 u (from_boundary e)) ∙ ap₂ (λ x y. x ++ y) front back
 
 pub returns-clause-info : goal.returns-clause-info
 returns-clause-info c =
     let p = parts (goal.at.returns-clause-info c).After-range_from-back in
-    c.info_without-info.ensures ∙ ap (info_of c.args.breaks) (ap₂ (λ x y. x ++ y) p.front_is p.back_is)
+    (less (goal.at.returns-clause-info c).After-shared_breaks-meeting p).whole ∙ ap (info_of c.args.breaks) (ap₂ (λ x y. x ++ y) p.front_is p.back_is)
 
 pub returns-clause-some : goal.returns-clause-some
 returns-clause-some c =

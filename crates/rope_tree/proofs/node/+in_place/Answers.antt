@@ -17,7 +17,7 @@ use Rattle.rope_tree.proofs.FormLaws.{inner_of, inner_seen, leaf_seen, by_outcom
 use Rattle.rope_tree.proofs.ListedLaws.{seen_at}
 use Rattle.rope_tree.proofs.ChangeLaws.{change_from, change_seen}
 use Rattle.rope_tree.proofs.ChildLaws.{Finds, read, child_fits, may, change_part, change_narrow, fields_changed, all_changed, list_changed, list_has, list_grown}
-use Rattle.rope_tree.proofs.node.+in_place.Goals.{Children::insert_in_place-After-total, Children::insert_in_place-After-index-self-way-2, Node::insert_in_place-in-Empty, Node::insert_in_place-in-Leaf+in-Some, Node::insert_in_place-in-Leaf+in-None, Node::insert_in_place-in-Inner+in-Some-get_mut, Node::insert_in_place-in-Inner+in-None-get_mut}
+use Rattle.rope_tree.proofs.node.+in_place.Goals.{Children::insert_in_place-After-total, Children::insert_in_place-After-index-self-place-2, Node::insert_in_place-in-Empty, Node::insert_in_place-in-Leaf+in-Some, Node::insert_in_place-in-Leaf+in-None, Node::insert_in_place-in-Inner+in-Some-get_mut, Node::insert_in_place-in-Inner+in-None-get_mut}
 use Rattle.rope_tree.proofs.node.+in_place.Goals as goal
 
 -- the counts where a leaf was cut
@@ -27,21 +27,21 @@ cut_has t c =
     c.total-before.result c.total.result c.total-before.ensures c.total.ensures
 
 -- the child that takes the text
-found : (t : ℕ) (c : Children::insert_in_place-After-index-self-way-2 t) → Finds c.self.inside c.args.self.now c.way_in-way.result.place (get_or c.self.inside.nodes c.way_in-way.result.place c.index-self-way-2.result)
-    c.args.at c.way_in-way.result.at c.args.to_right
+found : (t : ℕ) (c : Children::insert_in_place-After-index-self-place-2 t) → Finds c.self.inside c.args.self.now c.way_in-place.result.0 (get_or c.self.inside.nodes c.way_in-place.result.0 c.index-self-place-2.result)
+    c.args.at c.way_in-place.result.1 c.args.to_right
 found t c = record {
   view = c.self.view_is;
   fields = c.self.invariant;
-  taken = takes c.args.self.now c.way_in-way.result.place (get_or c.self.inside.nodes c.way_in-way.result.place c.index-self-way-2.result) c.args.at c.way_in-way.result.at c.args.to_right
-      c.requires.children c.way_in-way.ensures.child (seen_at c.self.inside c.args.self.now c.way_in-way.result.place c.index-self-way-2.result c.self.view_is c.way_in-way.ensures.child)
-      c.way_in-way.ensures.place c.way_in-way.ensures.goes;
+  taken = takes c.args.self.now c.way_in-place.result.0 (get_or c.self.inside.nodes c.way_in-place.result.0 c.index-self-place-2.result) c.args.at c.way_in-place.result.1 c.args.to_right
+      c.requires.children c.way_in-place.ensures.child (seen_at c.self.inside c.args.self.now c.way_in-place.result.0 c.index-self-place-2.result c.self.view_is c.way_in-place.ensures.child)
+      c.way_in-place.ensures.place c.way_in-place.ensures.goes;
 }
 
 pub Children::insert_in_place-insert_in_place-requires :
     goal.Children::insert_in_place-insert_in_place-requires
 Children::insert_in_place-insert_in_place-requires t c =
-    let f = found t (goal.at.Children::insert_in_place-insert_in_place-requires t c).After-index-self-way-2 in
-    let low = rw f.taken.child_is at (tallest_above c.args.self.now c.way_in-way.result.place (get_or c.self.inside.nodes c.way_in-way.result.place c.index-self-way-2.result) f.taken.within) in
+    let f = found t (goal.at.Children::insert_in_place-insert_in_place-requires t c).After-index-self-place-2 in
+    let low = rw f.taken.child_is at (tallest_above c.args.self.now c.way_in-place.result.0 (get_or c.self.inside.nodes c.way_in-place.result.0 c.index-self-place-2.result) f.taken.within) in
     let fits = child_fits _ _ _ _ _ _ _ f c.args.added.now c.requires.takes.some c.requires.side c.requires.takes.fits in
     let side = may _ _ _ _ _ _ _ f c.args.added.now c.requires.takes.some c.requires.side c.requires.takes.fits in
     (omega (arith, c.decreases, low), (record { within = f.taken.goes.within; some = c.requires.takes.some; short = c.requires.takes.short; fits = fits }, side))
@@ -49,13 +49,13 @@ Children::insert_in_place-insert_in_place-requires t c =
 pub Children::insert_in_place-retotal-requires-clause-small :
     goal.Children::insert_in_place-retotal-requires-clause-small
 Children::insert_in_place-retotal-requires-clause-small t c =
-    let f = found t (goal.at.Children::insert_in_place-retotal-requires-clause-small t c).After-index-self-way-2 in
+    let f = found t (goal.at.Children::insert_in_place-retotal-requires-clause-small t c).After-index-self-place-2 in
     small_totals (breaks_of c.args.self.now) c.self.inside.totals c.args.self.now (read _ _ _ _ _ _ _ f c.self.inside.totals refl) c.requires.children.fits
 
 pub Children::insert_in_place-retotal-requires-clause-part :
     goal.Children::insert_in_place-retotal-requires-clause-part
 Children::insert_in_place-retotal-requires-clause-part t c =
-    change_part _ _ _ _ _ _ _ (found t (goal.at.Children::insert_in_place-retotal-requires-clause-part t c).After-index-self-way-2) c.args.added.now c.requires.takes.some c.requires.side c.requires.takes.fits
+    change_part _ _ _ _ _ _ _ (found t (goal.at.Children::insert_in_place-retotal-requires-clause-part t c).After-index-self-place-2) c.args.added.now c.requires.takes.some c.requires.side c.requires.takes.fits
     c.insert_in_place.new.self (c.in_ok-insert_in_place.ensures.tried.done c.if-not-branch-2.false) c.new.result c.insert_in_place.new.more (change_from c.new.result c.insert_in_place.new.more _ _ c.new.ensures (c.in_ok-insert_in_place.ensures.change c.if-not-branch-2.false)) c.self.inside.totals refl
 
 pub Children::insert_in_place-retotal-requires-clause-new :
@@ -65,14 +65,14 @@ Children::insert_in_place-retotal-requires-clause-new t c = (c.in_ok-insert_in_p
 pub Children::insert_in_place-retotal-requires-clause-fits :
     goal.Children::insert_in_place-retotal-requires-clause-fits
 Children::insert_in_place-retotal-requires-clause-fits t c =
-    change_narrow _ _ _ _ _ _ _ (found t (goal.at.Children::insert_in_place-retotal-requires-clause-fits t c).After-index-self-way-2) c.args.added.now c.requires.takes.some c.requires.side c.requires.takes.fits
+    change_narrow _ _ _ _ _ _ _ (found t (goal.at.Children::insert_in_place-retotal-requires-clause-fits t c).After-index-self-place-2) c.args.added.now c.requires.takes.some c.requires.side c.requires.takes.fits
     c.insert_in_place.new.self (c.in_ok-insert_in_place.ensures.tried.done c.if-not-branch-2.false) c.new.result c.insert_in_place.new.more (change_from c.new.result c.insert_in_place.new.more _ _ c.new.ensures (c.in_ok-insert_in_place.ensures.change c.if-not-branch-2.false)) c.self.inside.totals refl
     (rw c.len.ensures.value at c.has_room_for.ensures c.if-not-has_room_for.false)
 
 pub Children::insert_in_place-invariant_of-self-2 :
     goal.Children::insert_in_place-invariant_of-self-2
 Children::insert_in_place-invariant_of-self-2 t c =
-    fields_changed _ _ _ _ _ _ _ (found t (goal.at.Children::insert_in_place-invariant_of-self-2 t c).After-index-self-way-2) c.args.added.now c.requires.takes.some c.requires.side c.requires.takes.fits
+    fields_changed _ _ _ _ _ _ _ (found t (goal.at.Children::insert_in_place-invariant_of-self-2 t c).After-index-self-place-2) c.args.added.now c.requires.takes.some c.requires.side c.requires.takes.fits
     c.insert_in_place.new.self (c.in_ok-insert_in_place.ensures.tried.done c.if-not-branch-2.false) c.new.result c.insert_in_place.new.more (change_from c.new.result c.insert_in_place.new.more _ _ c.new.ensures (c.in_ok-insert_in_place.ensures.change c.if-not-branch-2.false)) _ refl refl refl
     c.self.inside.totals c.retotal.new.self refl c.retotal.ensures.len c.retotal.ensures.before c.retotal.ensures.after refl
 
@@ -80,7 +80,7 @@ pub Children::insert_in_place-returns-clause-tried :
     goal.Children::insert_in_place-returns-clause-tried
 Children::insert_in_place-returns-clause-tried t c = record {
   done = λ yes.
-      all_changed _ _ _ _ _ _ _ (found t (goal.at.Children::insert_in_place-returns-clause-tried t c).After-index-self-way-2) c.args.added.now c.requires.takes.some c.requires.side c.requires.takes.fits
+      all_changed _ _ _ _ _ _ _ (found t (goal.at.Children::insert_in_place-returns-clause-tried t c).After-index-self-place-2) c.args.added.now c.requires.takes.some c.requires.side c.requires.takes.fits
       c.insert_in_place.new.self (c.in_ok-insert_in_place.ensures.tried.done c.if-not-branch-2.false) c.new.result c.insert_in_place.new.more (change_from c.new.result c.insert_in_place.new.more _ _ c.new.ensures (c.in_ok-insert_in_place.ensures.change c.if-not-branch-2.false)) (record { height = _; breaks = _; last = c.self.inside.last; totals = _; nodes = _ }) refl refl refl
       c.self.inside.totals c.retotal.new.self refl c.retotal.ensures.len c.retotal.ensures.before c.retotal.ensures.after refl;
   kept = λ no. cc;
@@ -90,7 +90,7 @@ Children::insert_in_place-returns-clause-tried t c = record {
 pub Children::insert_in_place-returns-clause-change :
     goal.Children::insert_in_place-returns-clause-change
 Children::insert_in_place-returns-clause-change t c = λ yes. change_seen c.new.result c.insert_in_place.new.more _ _ c.new.ensures
-    (list_changed _ _ _ _ _ _ _ (found t (goal.at.Children::insert_in_place-returns-clause-change t c).After-index-self-way-2) c.args.added.now c.requires.takes.some c.requires.side c.requires.takes.fits
+    (list_changed _ _ _ _ _ _ _ (found t (goal.at.Children::insert_in_place-returns-clause-change t c).After-index-self-place-2) c.args.added.now c.requires.takes.some c.requires.side c.requires.takes.fits
     c.insert_in_place.new.self (c.in_ok-insert_in_place.ensures.tried.done c.if-not-branch-2.false) c.new.result c.insert_in_place.new.more (change_from c.new.result c.insert_in_place.new.more _ _ c.new.ensures (c.in_ok-insert_in_place.ensures.change c.if-not-branch-2.false)) (record { height = _; breaks = _; last = c.self.inside.last; totals = _; nodes = _ }) refl refl refl
     c.self.inside.totals c.retotal.new.self refl c.retotal.ensures.len c.retotal.ensures.before c.retotal.ensures.after refl)
 
@@ -106,26 +106,26 @@ Children::insert_in_place-minus-requires-clause-utf16_surrogates t c = (cut_has 
 pub Children::insert_in_place-minus-requires-clause-break_count : goal.Children::insert_in_place-minus-requires-clause-break_count
 Children::insert_in_place-minus-requires-clause-break_count t c = (cut_has t (goal.at.Children::insert_in_place-minus-requires-clause-break_count t c).After-total).count
 
-pub Children::insert_in_place-returns-then-lacks_room_for-clause-change :
-    goal.Children::insert_in_place-returns-then-lacks_room_for-clause-change
-Children::insert_in_place-returns-then-lacks_room_for-clause-change t c = λ yes.
+pub Children::insert_in_place-returns-then-matches-clause-change :
+    goal.Children::insert_in_place-returns-then-matches-clause-change
+Children::insert_in_place-returns-then-matches-clause-change t c = λ yes.
     list_grown c.args.self.now c.cut_leaf.new.self c.args.added.now c.args.at c.requires.children (c.in_ok-cut_leaf.ensures.tried.done c.if-not-branch.false) c.requires.takes.some
     c.total-before.result c.total.result c.total-before.ensures c.total.ensures c.minus.result c.minus.ensures.sum
 
 pub Children::insert_in_place-returns-in_err-insert_in_place-clause-made :
     goal.Children::insert_in_place-returns-in_err-insert_in_place-clause-made
 Children::insert_in_place-returns-in_err-insert_in_place-clause-made t c =
-    omega (arith, c.insert_in_place.ensures.made, (found t (goal.at.Children::insert_in_place-returns-in_err-insert_in_place-clause-made t c).After-index-self-way-2).taken.own.at_height)
+    omega (arith, c.insert_in_place.ensures.made, (found t (goal.at.Children::insert_in_place-returns-in_err-insert_in_place-clause-made t c).After-index-self-place-2).taken.own.at_height)
 
 pub Children::insert_in_place-returns-then-not-branch-2-clause-made :
     goal.Children::insert_in_place-returns-then-not-branch-2-clause-made
 Children::insert_in_place-returns-then-not-branch-2-clause-made t c =
-    omega (arith, c.insert_in_place.ensures.made, (found t (goal.at.Children::insert_in_place-returns-then-not-branch-2-clause-made t c).After-index-self-way-2).taken.own.at_height)
+    omega (arith, c.insert_in_place.ensures.made, (found t (goal.at.Children::insert_in_place-returns-then-not-branch-2-clause-made t c).After-index-self-place-2).taken.own.at_height)
 
 pub Children::insert_in_place-returns-clause-made :
     goal.Children::insert_in_place-returns-clause-made
 Children::insert_in_place-returns-clause-made t c =
-    let f = found t (goal.at.Children::insert_in_place-returns-clause-made t c).After-index-self-way-2 in
+    let f = found t (goal.at.Children::insert_in_place-returns-clause-made t c).After-index-self-place-2 in
     omega (arith, c.insert_in_place.ensures.made, f.taken.own.at_height)
 
 -- the node as it is once what it has is its own
@@ -135,7 +135,7 @@ own_form f = record { form = f }
 pub Node::insert_in_place-insert_in_place-requires-in-Some-get_mut : goal.Node::insert_in_place-insert_in_place-requires-in-Some-get_mut
 Node::insert_in_place-insert_in_place-requires-in-Some-get_mut t c =
     let ts = c.in-Some-get_mut.children.now in
-    let is_node : IsNode (own_form c.own.new.form) = record { form = c.in_ok-own.ensures.kept c.self.invariant.form } in
+    let is_node : IsNode (own_form c.own.new.form) = record { form = c.in_ok-own.ensures.kept } in
     let i = inner_seen (own_form c.own.new.form) c.args.self.now c.in-Inner.children ts is_node c.in-Inner.is (c.in_ok-own.ensures.same ∙ c.self.view_is) c.in-Some-get_mut.ensures.value in
     let low = tallest_below (breaks_of ts) (height_of ts) ts i.children.each in (
       omega (arith, c.decreases, low, ap (λ x. x.height) i.is),
@@ -151,7 +151,7 @@ Node::insert_in_place-insert_in_place-requires-in-Some-get_mut t c =
 pub Node::insert_in_place-invariant_of-self-2 : goal.Node::insert_in_place-invariant_of-self-2
 Node::insert_in_place-invariant_of-self-2 t c =
     let mine = own_form c.own.new.form in
-    let is_node : IsNode mine = record { form = c.in_ok-own.ensures.kept c.self.invariant.form } in
+    let is_node : IsNode mine = record { form = c.in_ok-own.ensures.kept } in
     let view = c.in_ok-own.ensures.same ∙ c.self.view_is in
     elim c.match-self.branch [
       | Node::insert_in_place-in-Empty w ↦ rw w.self-inside-is is_node
@@ -172,7 +172,7 @@ Node::insert_in_place-invariant_of-self-2 t c =
 pub Node::insert_in_place-returns-clause-tried : goal.Node::insert_in_place-returns-clause-tried
 Node::insert_in_place-returns-clause-tried t c =
     let mine = own_form c.own.new.form in
-    let is_node : IsNode mine = record { form = c.in_ok-own.ensures.kept c.self.invariant.form } in
+    let is_node : IsNode mine = record { form = c.in_ok-own.ensures.kept } in
     let view = c.in_ok-own.ensures.same ∙ c.self.view_is in
     elim c.match-self.branch [
       | Node::insert_in_place-in-Empty w ↦ rw (w.result-is, w.self-inside-is) (not_tried c.args.self.now _ view)
@@ -196,7 +196,7 @@ Node::insert_in_place-returns-clause-tried t c =
 pub Node::insert_in_place-returns-clause-change : goal.Node::insert_in_place-returns-clause-change
 Node::insert_in_place-returns-clause-change t c =
     let mine = own_form c.own.new.form in
-    let is_node : IsNode mine = record { form = c.in_ok-own.ensures.kept c.self.invariant.form } in
+    let is_node : IsNode mine = record { form = c.in_ok-own.ensures.kept } in
     let view = c.in_ok-own.ensures.same ∙ c.self.view_is in
     elim c.match-self.branch [
       | Node::insert_in_place-in-Empty w ↦ rw w.result-is (λ no. cc)

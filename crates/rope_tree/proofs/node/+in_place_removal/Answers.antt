@@ -3,11 +3,10 @@ use Rattle.rope_tree.specs.declared.node.Form.{Form}
 use Rattle.rope_tree.specs.declared.node.Node.TheInside.{Inside}
 use Rattle.rope_tree.specs.Shape.{IsNode}
 use Rattle.rope_tree.specs.Falls.{tallest_below}
-use Rattle.std.proofs.Common.{◌≡◌, true, ℕ, ◌-◌, ◌<◌, ◌≤◌, ◌^◌, length, get_or, set, sym, ap, subst, refl, ◌∙◌, arith}
+use Rattle.std.proofs.Common.{◌≡◌, true, ℕ, ◌-◌, ◌<◌, ◌^◌, length, get_or, set, sym, ap, subst, refl, ◌∙◌, arith}
 use Rattle.rope_text.specs.declared.text_info.TextInfo.{TextInfo}
 use Rattle.rope_text.specs.Text.{byte_len}
 use Rattle.rope_text.specs.TextInfo.{info_of}
-use Rattle.rope_tree.specs.declared.search.Unit.TheVariants.{Char}
 use Rattle.rope_tree.specs.Tree.{Tree, text, joined, height_of, breaks_of, tree_over}
 use Rattle.rope_tree.specs.Listed.{listed}
 use Rattle.rope_tree.specs.Totals.{AreBelow}
@@ -15,8 +14,7 @@ use Rattle.rope_tree.specs.Change.{IsChange, no_counts}
 use Rattle.rope_tree.specs.Removal.{IsRemoved, AreRemoved}
 use Rattle.rope_tree.proofs.ChangeLaws.{change_to, part_of_part, part_fits, whole_changed, change_by, change_own, change_of_list}
 use Rattle.rope_tree.proofs.NodeLaws.{small_totals}
-use Rattle.rope_tree.proofs.Descents.{Descends, descends}
-use Rattle.rope_tree.proofs.InsertDescents.{last_total}
+use Rattle.rope_tree.proofs.InsertDescents.{Takes, takes, last_total}
 use Rattle.rope_tree.proofs.TotalLaws.{has_part, fits_after}
 use Rattle.rope_tree.proofs.GrownLaws.{totals_seen, tallest_above}
 use Rattle.rope_tree.proofs.ListedLaws.{seen_at, set_seen, set_listed, set_totals}
@@ -28,52 +26,29 @@ use Rattle.rope_tree.proofs.node.+in_place_removal.Goals.{Children::remove_in_pl
 none : TextInfo
 none = record { chars = 0; utf16_surrogates = 0; break_count = 0; bytes = 0 }
 
--- the way down to the child that holds the characters
+-- the child that holds the characters
 down : (t : ℕ) (c : Children::remove_in_place-After-index-self-place t)
-    → Descends (breaks_of c.args.self.now) Char c.args.start c.args.self.now c.try_place-child.result.place (get_or c.self.inside.nodes c.try_place-child.result.place c.index-self-place.result) c.total_before-before.result
+    → Takes c.args.self.now c.way_in-place.result.0 (get_or c.self.inside.nodes c.way_in-place.result.0 c.index-self-place.result) c.args.start c.way_in-place.result.1 true
 down t c =
-    let ts = c.args.self.now in
-    let totals = totals_seen (listed c.self.inside) ts c.self.inside.totals c.self.inside.totals c.self.view_is refl c.self.invariant.totals_right in
-    let within : c.try_place-child.result.place < length ts = omega (arith, c.try_place-child.ensures.within, totals.as_many) in
-    descends Char c.args.start ts c.self.inside.totals c.try_place-child.result.place (get_or c.self.inside.nodes c.try_place-child.result.place c.index-self-place.result) c.total_before-before.result
-    c.requires.children totals c.try_place-child.ensures.within (seen_at c.self.inside ts c.try_place-child.result.place c.index-self-place.result c.self.view_is within)
-    c.total_before-before.ensures.first c.total_before-before.ensures.later c.try_place-child.ensures.before c.try_place-child.ensures.past
+    takes c.args.self.now c.way_in-place.result.0 (get_or c.self.inside.nodes c.way_in-place.result.0 c.index-self-place.result) c.args.start c.way_in-place.result.1 true
+    c.requires.children c.way_in-place.ensures.child (seen_at c.self.inside c.args.self.now c.way_in-place.result.0 c.index-self-place.result c.self.view_is c.way_in-place.ensures.child)
+    c.way_in-place.ensures.place c.way_in-place.ensures.goes
 
-held : (t : ℕ) (c : Children::remove_in_place-After-index-self-place t) → (c.total_before-before.result.chars ≤ c.args.start)
-    × Holds c.args.self.now c.try_place-child.result.place (get_or c.self.inside.nodes c.try_place-child.result.place c.index-self-place.result)
-    (c.args.start - c.total_before-before.result.chars) (c.args.end - c.total_before-before.result.chars) c.args.start c.args.end
+held : (t : ℕ) (c : Children::remove_in_place-After-index-self-place t)
+    → Holds c.args.self.now c.way_in-place.result.0 (get_or c.self.inside.nodes c.way_in-place.result.0 c.index-self-place.result) c.way_in-place.result.1 (c.args.end - (c.args.start - c.way_in-place.result.1)) c.args.start c.args.end
 held t c =
     let ts = c.args.self.now in
     let totals = totals_seen (listed c.self.inside) ts c.self.inside.totals c.self.inside.totals c.self.view_is refl c.self.invariant.totals_right in
-    holds (breaks_of ts) ts c.try_place-child.result.place (get_or c.self.inside.nodes c.try_place-child.result.place c.index-self-place.result) c.total_before-before.result c.args.start c.args.end c.self.inside.totals none
+    holds ts c.way_in-place.result.0 (get_or c.self.inside.nodes c.way_in-place.result.0 c.index-self-place.result) c.way_in-place.result.1 c.args.start c.args.end c.self.inside.totals none
     (down t c) totals c.requires.ordered (rw (c.get.ensures none) at c.if-get-end.false)
-
-pub Children::remove_in_place-try_place-child-requires-clause-small :
-    goal.Children::remove_in_place-try_place-child-requires-clause-small
-Children::remove_in_place-try_place-child-requires-clause-small t c =
-    small_totals (breaks_of c.args.self.now) c.self.inside.totals c.args.self.now
-    (totals_seen (listed c.self.inside) c.args.self.now c.self.inside.totals c.self.inside.totals c.self.view_is refl c.self.invariant.totals_right) c.requires.children.fits
-
-pub Children::remove_in_place-try_place-child-requires-clause-last :
-    goal.Children::remove_in_place-try_place-child-requires-clause-last
-Children::remove_in_place-try_place-child-requires-clause-last t c =
-    let ts = c.args.self.now in
-    let totals = totals_seen (listed c.self.inside) ts c.self.inside.totals c.self.inside.totals c.self.view_is refl c.self.invariant.totals_right in
-    λ d. rw (last_total (breaks_of ts) c.self.inside.totals ts totals (omega (arith, c.requires.children.at_least_two)) d) (omega (arith, c.requires.ordered, c.requires.within))
-
-pub Children::remove_in_place-overflow_sub-start : goal.Children::remove_in_place-overflow_sub-start
-Children::remove_in_place-overflow_sub-start t c = (held t (goal.at.Children::remove_in_place-overflow_sub-start t c).After-index-self-place).0
-
-pub Children::remove_in_place-overflow_sub-end : goal.Children::remove_in_place-overflow_sub-end
-Children::remove_in_place-overflow_sub-end t c = omega (arith, (held t (goal.at.Children::remove_in_place-overflow_sub-end t c).After-index-self-place).0, c.requires.ordered)
 
 pub Children::remove_in_place-remove_in_place-requires :
     goal.Children::remove_in_place-remove_in_place-requires
 Children::remove_in_place-remove_in_place-requires t c =
     let e = (goal.at.Children::remove_in_place-remove_in_place-requires t c).After-index-self-place in
     let d = down t e in
-    let g = (held t e).1 in
-    let low = rw d.child_is at (tallest_above c.args.self.now c.try_place-child.result.place (get_or c.self.inside.nodes c.try_place-child.result.place c.index-self-place.result) d.within) in
+    let g = held t e in
+    let low = rw d.child_is at (tallest_above c.args.self.now c.way_in-place.result.0 (get_or c.self.inside.nodes c.way_in-place.result.0 c.index-self-place.result) d.within) in
     (omega (arith, c.decreases, low), (g.order, g.within))
 
 pub Children::remove_in_place-retotal-requires-clause-small :
@@ -86,13 +61,13 @@ pub Children::remove_in_place-retotal-requires-clause-part :
     goal.Children::remove_in_place-retotal-requires-clause-part
 Children::remove_in_place-retotal-requires-clause-part t c = λ j e from within.
     let ts = c.args.self.now in
-    let child = get_or c.self.inside.nodes c.try_place-child.result.place c.index-self-place.result in
+    let child = get_or c.self.inside.nodes c.way_in-place.result.0 c.index-self-place.result in
     let u = c.remove_in_place.new.self in
     let d = down t (goal.at.Children::remove_in_place-retotal-requires-clause-part t c).After-index-self-place in
     let totals = totals_seen (listed c.self.inside) ts c.self.inside.totals c.self.inside.totals c.self.view_is refl c.self.invariant.totals_right in
     let inside : j < length ts = omega (arith, totals.as_many) in
     let change = change_by (breaks_of ts) child u c.remove_in_place.new.less c.new.result d.own.same_breaks (change_to c.new.result c.remove_in_place.new.less _ _ c.new.ensures (c.in_ok-remove_in_place.ensures.change c.if-not-branch.false)) in
-    part_of_part _ _ _ _ change _ (rw (totals.total_at j e inside) (has_part (breaks_of ts) (height_of ts) ts ts c.try_place-child.result.place child child d.children d.within d.child_is j from inside))
+    part_of_part _ _ _ _ change _ (rw (totals.total_at j e inside) (has_part (breaks_of ts) (height_of ts) ts ts c.way_in-place.result.0 child child d.children d.within d.child_is j from inside))
 
 pub Children::remove_in_place-retotal-requires-clause-new :
     goal.Children::remove_in_place-retotal-requires-clause-new
@@ -100,33 +75,33 @@ Children::remove_in_place-retotal-requires-clause-new t c = (change_to c.new.res
 
 -- the children where something was taken out
 left : (t : ℕ) (c : Children::remove_in_place-After-index-self-place t) (u : Tree)
-    → IsRemoved c.least_at-least.result.first c.least_at-least.result.last (get_or c.self.inside.nodes c.try_place-child.result.place c.index-self-place.result) u (c.args.start - c.total_before-before.result.chars) (c.args.end - c.total_before-before.result.chars)
-    → AreRemoved c.args.least.first c.args.least.last c.args.self.now (set c.args.self.now c.try_place-child.result.place u) c.args.start c.args.end
+    → IsRemoved c.least_at-least.result.first c.least_at-least.result.last (get_or c.self.inside.nodes c.way_in-place.result.0 c.index-self-place.result) u c.way_in-place.result.1 (c.args.end - (c.args.start - c.way_in-place.result.1))
+    → AreRemoved c.args.least.first c.args.least.last c.args.self.now (set c.args.self.now c.way_in-place.result.0 u) c.args.start c.args.end
 left t c u done =
     let ts = c.args.self.now in
     let d = down t c in
     let totals = totals_seen (listed c.self.inside) ts c.self.inside.totals c.self.inside.totals c.self.view_is refl c.self.invariant.totals_right in
-    let below : AreBelow c.from-2.result c.self.inside.totals ts = record { above = omega (arith, c.from-2.ensures, c.self.invariant.above, ap height_of c.self.view_is); children = d.children; totals_right = totals } in
-    children_removed (breaks_of ts) (height_of ts) ts c.try_place-child.result.place (get_or c.self.inside.nodes c.try_place-child.result.place c.index-self-place.result)
-    d.children d.within d.child_is _ _ c.args.start c.args.end (held t c).1 c.args.least.first c.args.least.last c.least_at-least.result.first c.least_at-least.result.last u done (c.least_at-least.ensures.behind ts below) (c.least_at-least.ensures.ahead ts below) refl refl
+    let below : AreBelow c.from.result c.self.inside.totals ts = record { above = omega (arith, c.from.ensures, c.self.invariant.above, ap height_of c.self.view_is); children = d.children; totals_right = totals } in
+    children_removed (breaks_of ts) (height_of ts) ts c.way_in-place.result.0 (get_or c.self.inside.nodes c.way_in-place.result.0 c.index-self-place.result)
+    d.children d.within d.child_is _ _ c.args.start c.args.end (held t c) c.args.least.first c.args.least.last c.least_at-least.result.first c.least_at-least.result.last u done (c.least_at-least.ensures.behind ts below) (c.least_at-least.ensures.ahead ts below) refl refl
 
 pub Children::remove_in_place-retotal-requires-clause-fits :
     goal.Children::remove_in_place-retotal-requires-clause-fits
 Children::remove_in_place-retotal-requires-clause-fits t c = λ narrow j e from within.
     let i = (goal.at.Children::remove_in_place-retotal-requires-clause-fits t c).After-index-self-place in
     let ts = c.args.self.now in
-    let child = get_or c.self.inside.nodes c.try_place-child.result.place c.index-self-place.result in
+    let child = get_or c.self.inside.nodes c.way_in-place.result.0 c.index-self-place.result in
     let u = c.remove_in_place.new.self in
     let d = down t i in
     let totals = totals_seen (listed c.self.inside) ts c.self.inside.totals c.self.inside.totals c.self.view_is refl c.self.invariant.totals_right in
     let inside : j < length ts = omega (arith, totals.as_many, within) in
     let r = left t i u (c.in_ok-remove_in_place.ensures.tried.done c.if-not-branch.false) in
     let last = last_total (breaks_of ts) c.self.inside.totals ts totals (omega (arith, c.requires.children.at_least_two)) e in
-    let few : byte_len (joined (set ts c.try_place-child.result.place u)) < 2 ^ 32 =
+    let few : byte_len (joined (set ts c.way_in-place.result.0 u)) < 2 ^ 32 =
     omega (arith, (narrow (length c.self.inside.totals - 1) e (omega (arith, within))).bytes, ap (λ x. x.bytes) last, ap byte_len r.text_is, byte_len-removed (joined ts) c.args.start c.args.end (omega (arith, c.requires.ordered))) in
     let change = change_by (breaks_of ts) child u c.remove_in_place.new.less c.new.result d.own.same_breaks (change_to c.new.result c.remove_in_place.new.less _ _ c.new.ensures (c.in_ok-remove_in_place.ensures.change c.if-not-branch.false)) in
     part_fits _ _ _ _ change _ (rw (totals.total_at j e inside)
-    (fits_after (breaks_of ts) (height_of ts) ts (set ts c.try_place-child.result.place u) c.try_place-child.result.place child u d.children d.within d.child_is r.children refl few j from inside))
+    (fits_after (breaks_of ts) (height_of ts) ts (set ts c.way_in-place.result.0 u) c.way_in-place.result.0 child u d.children d.within d.child_is r.children refl few j from inside))
 
 pub Children::remove_in_place-invariant_of-self-2 :
     goal.Children::remove_in_place-invariant_of-self-2
@@ -137,10 +112,10 @@ Children::remove_in_place-invariant_of-self-2 t c =
     let done = c.in_ok-remove_in_place.ensures.tried.done c.if-not-branch.false in
     let b = (left t i c.remove_in_place.new.self done).children in
     let seen = totals_seen (listed c.self.inside) ts c.self.inside.totals c.self.inside.totals c.self.view_is refl c.self.invariant.totals_right in
-    let change = change_own (get_or c.self.inside.nodes c.try_place-child.result.place c.index-self-place.result) c.remove_in_place.new.self c.remove_in_place.new.less c.new.result done.same_breaks (change_to c.new.result c.remove_in_place.new.less _ _ c.new.ensures (c.in_ok-remove_in_place.ensures.change c.if-not-branch.false)) in
+    let change = change_own (get_or c.self.inside.nodes c.way_in-place.result.0 c.index-self-place.result) c.remove_in_place.new.self c.remove_in_place.new.less c.new.result done.same_breaks (change_to c.new.result c.remove_in_place.new.less _ _ c.new.ensures (c.in_ok-remove_in_place.ensures.change c.if-not-branch.false)) in
     let totals = set_totals _ _ _ _ _ _ _ _ _ d.children d.within d.child_is d.own.same_breaks b (done.same_breaks ∙ d.own.same_breaks) seen refl refl refl
     c.retotal.ensures.len c.retotal.ensures.before (λ j e from within. whole_changed _ _ _ _ change _ _ (c.retotal.ensures.after j e from within)) in
-    set_listed c.self.inside _ ts c.try_place-child.result.place c.remove_in_place.new.self c.self.invariant c.self.view_is d.within b refl refl refl totals
+    set_listed c.self.inside _ ts c.way_in-place.result.0 c.remove_in_place.new.self c.self.invariant c.self.view_is d.within b refl refl refl totals
 
 pub Children::remove_in_place-returns-clause-tried :
     goal.Children::remove_in_place-returns-clause-tried
@@ -152,10 +127,10 @@ Children::remove_in_place-returns-clause-tried t c = record {
       let done = c.in_ok-remove_in_place.ensures.tried.done c.if-not-branch.false in
       let r = left t i c.remove_in_place.new.self done in
       let seen = totals_seen (listed c.self.inside) ts c.self.inside.totals c.self.inside.totals c.self.view_is refl c.self.invariant.totals_right in
-      let change = change_own (get_or c.self.inside.nodes c.try_place-child.result.place c.index-self-place.result) c.remove_in_place.new.self c.remove_in_place.new.less c.new.result done.same_breaks (change_to c.new.result c.remove_in_place.new.less _ _ c.new.ensures (c.in_ok-remove_in_place.ensures.change c.if-not-branch.false)) in
+      let change = change_own (get_or c.self.inside.nodes c.way_in-place.result.0 c.index-self-place.result) c.remove_in_place.new.self c.remove_in_place.new.less c.new.result done.same_breaks (change_to c.new.result c.remove_in_place.new.less _ _ c.new.ensures (c.in_ok-remove_in_place.ensures.change c.if-not-branch.false)) in
       let totals = set_totals _ _ _ _ _ _ _ _ _ d.children d.within d.child_is d.own.same_breaks r.children (done.same_breaks ∙ d.own.same_breaks) seen refl refl refl
       c.retotal.ensures.len c.retotal.ensures.before (λ j e from within. whole_changed _ _ _ _ change _ _ (c.retotal.ensures.after j e from within)) in
-      rw (set_seen c.self.inside (record { height = _; breaks = _; last = c.self.inside.last; totals = _; nodes = _ }) ts c.try_place-child.result.place c.remove_in_place.new.self c.self.invariant c.self.view_is d.within r.children refl refl refl totals) r;
+      rw (set_seen c.self.inside (record { height = _; breaks = _; last = c.self.inside.last; totals = _; nodes = _ }) ts c.way_in-place.result.0 c.remove_in_place.new.self c.self.invariant c.self.view_is d.within r.children refl refl refl totals) r;
   kept = λ no. cc;
   err = tt;
 }
@@ -165,7 +140,7 @@ pub Children::remove_in_place-returns-clause-change :
 Children::remove_in_place-returns-clause-change t c = λ yes.
     let i = (goal.at.Children::remove_in_place-returns-clause-change t c).After-index-self-place in
     let ts = c.args.self.now in
-    let child = get_or c.self.inside.nodes c.try_place-child.result.place c.index-self-place.result in
+    let child = get_or c.self.inside.nodes c.way_in-place.result.0 c.index-self-place.result in
     let u = c.remove_in_place.new.self in
     let d = down t i in
     let done = c.in_ok-remove_in_place.ensures.tried.done c.if-not-branch.false in
@@ -174,8 +149,8 @@ Children::remove_in_place-returns-clause-change t c = λ yes.
     let change = change_own child u c.remove_in_place.new.less c.new.result done.same_breaks (change_to c.new.result c.remove_in_place.new.less _ _ c.new.ensures (c.in_ok-remove_in_place.ensures.change c.if-not-branch.false)) in
     let totals = set_totals _ _ _ _ _ _ _ _ _ d.children d.within d.child_is d.own.same_breaks r.children (done.same_breaks ∙ d.own.same_breaks) seen refl refl refl
     c.retotal.ensures.len c.retotal.ensures.before (λ j e from within. whole_changed _ _ _ _ change _ _ (c.retotal.ensures.after j e from within)) in
-    rw (set_seen c.self.inside (record { height = _; breaks = _; last = c.self.inside.last; totals = _; nodes = _ }) ts c.try_place-child.result.place u c.self.invariant c.self.view_is d.within r.children refl refl refl totals)
-    (change_of_list (breaks_of ts) (height_of ts) ts c.try_place-child.result.place child u d.children d.within d.child_is r.children _ _ (change_by (breaks_of ts) child u _ _ d.own.same_breaks (c.in_ok-remove_in_place.ensures.change c.if-not-branch.false)))
+    rw (set_seen c.self.inside (record { height = _; breaks = _; last = c.self.inside.last; totals = _; nodes = _ }) ts c.way_in-place.result.0 u c.self.invariant c.self.view_is d.within r.children refl refl refl totals)
+    (change_of_list (breaks_of ts) (height_of ts) ts c.way_in-place.result.0 child u d.children d.within d.child_is r.children _ _ (change_by (breaks_of ts) child u _ _ d.own.same_breaks (c.in_ok-remove_in_place.ensures.change c.if-not-branch.false)))
 
 pub Children::remove_in_place-returns-in_err-remove_in_place-clause-made :
     goal.Children::remove_in_place-returns-in_err-remove_in_place-clause-made
@@ -199,7 +174,7 @@ own_form f = record { form = f }
 pub Node::remove_in_place-remove_in_place-requires-in-Some-get_mut : goal.Node::remove_in_place-remove_in_place-requires-in-Some-get_mut
 Node::remove_in_place-remove_in_place-requires-in-Some-get_mut t c =
     let ts = c.in-Some-get_mut.children.now in
-    let is_node : IsNode (own_form c.own.new.form) = record { form = c.in_ok-own.ensures.kept c.self.invariant.form } in
+    let is_node : IsNode (own_form c.own.new.form) = record { form = c.in_ok-own.ensures.kept } in
     let i = inner_seen (own_form c.own.new.form) c.args.self.now c.in-Inner.children ts is_node c.in-Inner.is (c.in_ok-own.ensures.same ∙ c.self.view_is) c.in-Some-get_mut.ensures.value in
     let low = tallest_below (breaks_of ts) (height_of ts) ts i.children.each in
     (omega (arith, c.decreases, low, ap (λ x. x.height) i.is), (i.children, (c.requires.ordered, omega (arith, c.requires.within, ap (λ x. length (text x)) i.is))))
@@ -207,7 +182,7 @@ Node::remove_in_place-remove_in_place-requires-in-Some-get_mut t c =
 pub Node::remove_in_place-invariant_of-self-2 : goal.Node::remove_in_place-invariant_of-self-2
 Node::remove_in_place-invariant_of-self-2 t c =
     let mine = own_form c.own.new.form in
-    let is_node : IsNode mine = record { form = c.in_ok-own.ensures.kept c.self.invariant.form } in
+    let is_node : IsNode mine = record { form = c.in_ok-own.ensures.kept } in
     let view = c.in_ok-own.ensures.same ∙ c.self.view_is in
     elim c.match-self.branch [
       | Node::remove_in_place-in-Empty w ↦ rw w.self-inside-is is_node
@@ -228,7 +203,7 @@ Node::remove_in_place-invariant_of-self-2 t c =
 pub Node::remove_in_place-returns-clause-tried : goal.Node::remove_in_place-returns-clause-tried
 Node::remove_in_place-returns-clause-tried t c =
     let mine = own_form c.own.new.form in
-    let is_node : IsNode mine = record { form = c.in_ok-own.ensures.kept c.self.invariant.form } in
+    let is_node : IsNode mine = record { form = c.in_ok-own.ensures.kept } in
     let view = c.in_ok-own.ensures.same ∙ c.self.view_is in
     elim c.match-self.branch [
       | Node::remove_in_place-in-Empty w ↦ rw (w.result-is, w.self-inside-is) (not_tried c.args.self.now _ view)
@@ -252,7 +227,7 @@ Node::remove_in_place-returns-clause-tried t c =
 pub Node::remove_in_place-returns-clause-change : goal.Node::remove_in_place-returns-clause-change
 Node::remove_in_place-returns-clause-change t c =
     let mine = own_form c.own.new.form in
-    let is_node : IsNode mine = record { form = c.in_ok-own.ensures.kept c.self.invariant.form } in
+    let is_node : IsNode mine = record { form = c.in_ok-own.ensures.kept } in
     let view = c.in_ok-own.ensures.same ∙ c.self.view_is in
     elim c.match-self.branch [
       | Node::remove_in_place-in-Empty w ↦ rw w.result-is (λ no. cc)

@@ -13,16 +13,16 @@ use Rattle.rope_tree.proofs.leaf.Leaf.cut.Goals.{After-from_str-front_info}
 use Rattle.rope_tree.proofs.leaf.Leaf.cut.Goals as goal
 
 -- the two parts are the leaf with the text
-whole : (c : After-from_str-front_info) → chars c.halves_of-halves.result.front.now ++ chars c.halves_of-halves.result.back.now ≡ inserted c.text-old.result c.args.at c.args.added.now
-whole c = c.halves_of-halves.ensures.joined ∙ ap chars c.as_str.ensures.value ∙ c.leaf_with-grown.ensures.text
+whole : (c : After-from_str-front_info) → chars c.halves_of.result.0.now ++ chars c.halves_of.result.1.now ≡ inserted c.text-old.result c.args.at c.args.added.now
+whole c = c.halves_of.ensures.joined ∙ ap chars c.as_str.ensures.value ∙ c.leaf_with-grown.ensures.text
 
-parted : (c : After-from_str-front_info) → c.leaf_with-grown.result.1 ≡ info_sum c.from_str-front_info.result (info_of c.line_breaks-breaks.result (chars c.halves_of-halves.result.back.now))
+parted : (c : After-from_str-front_info) → c.leaf_with-grown.result.1 ≡ info_sum c.from_str-front_info.result (info_of c.line_breaks-breaks.result (chars c.halves_of.result.1.now))
 parted c =
     let breaks = c.line_breaks-breaks.result in
-    let halves = c.halves_of-halves in
+    let halves = c.halves_of in
     c.leaf_with-grown.ensures.info ∙ ap (info_of breaks) (sym (whole c))
-    ∙ info_of-append_apart breaks (chars halves.result.front.now) (chars halves.result.back.now) halves.ensures.apart
-    ∙ ap (λ i. info_sum i (info_of breaks (chars halves.result.back.now))) (sym c.from_str-front_info.ensures)
+    ∙ info_of-append_apart breaks (chars halves.result.0.now) (chars halves.result.1.now) halves.ensures.apart
+    ∙ ap (λ i. info_sum i (info_of breaks (chars halves.result.1.now))) (sym c.from_str-front_info.ensures)
 
 pub minus-back_info-requires-clause-bytes : goal.minus-back_info-requires-clause-bytes
 minus-back_info-requires-clause-bytes c = omega (arith, ap (λ i. i.bytes) (parted (goal.at.minus-back_info-requires-clause-bytes c).After-from_str-front_info))
@@ -33,9 +33,9 @@ minus-back_info-requires-clause-break_count c = omega (arith, ap (λ i. i.break_
 pub returns-clause-cut : goal.returns-clause-cut
 returns-clause-cut c =
     let f = (goal.at.returns-clause-cut c).After-from_str-front_info in
-    let halves = c.halves_of-halves in
-    let front = halves.result.front.now in
-    let back = halves.result.back.now in
+    let halves = c.halves_of in
+    let front = halves.result.0.now in
+    let back = halves.result.1.now in
     let breaks = c.args.self.now.breaks in
     let behind = c.in_ok-behind.behind in
     let s = c.args.added.now in

@@ -1,7 +1,10 @@
-use Rattle.std.proofs.Common.{ap, arith}
+use Rattle.std.proofs.Common.{◌≡◌, sym, ap, ◌∙◌, arith}
 use Rattle.rope_text.specs.Text.{byte_len}
-use Rattle.rope_text.proofs.Walks.{byte_len-chars}
+use Rattle.rope_tree.specs.Tree.{text}
+use Rattle.rope_tree.proofs.NodeLaws.{leaf_text}
 use Rattle.rope_tree.proofs.leaf.Leaf.known_text.Goals as goal
 
 pub with_chars-requires-clause-short : goal.with_chars-requires-clause-short
-with_chars-requires-clause-short c = omega (arith, byte_len-chars c.as_str_of_len.result.now c.as_str_of_len.utf8, ap byte_len c.as_str_of_len.ensures, c.self.invariant.fits)
+with_chars-requires-clause-short c =
+    let bytes : c.args.info.bytes ≡ byte_len c.self.inside.text = ap (λ i. i.bytes) c.requires ∙ ap (λ t. byte_len (text t)) (sym c.self.view_is) ∙ ap byte_len (leaf_text c.self.inside.text) in
+    omega (arith, bytes, c.range.ensures.len, c.self.invariant.fits)

@@ -15,19 +15,19 @@ removed_len bs i j order within = omega (arith, length-append (take i bs) (drop 
 
 pub take_bytes-requires-clause-within : goal.take_bytes-requires-clause-within
 take_bytes-requires-clause-within c =
-    (subst (λ x. IsCharBoundary x c.args.range.to) (bytes_of c.self.inside.bytes.items c.args.self.now c.self.invariant.0 c.self.view_is) c.requires.to).0
+    (subst (λ x. IsCharBoundary x c.args.to) (bytes_of c.self.inside.bytes.items c.args.self.now c.self.invariant.0 c.self.view_is) c.requires.to).0
 
 pub invariant_of-self : goal.invariant_of-self
 invariant_of-self c =
     let bs = c.self.inside.bytes.items in
     let same = bytes_of bs c.args.self.now c.self.invariant.0 c.self.view_is in
     let u = IsUtf8-from_is_utf8 bs c.self.invariant.0 in
-    let from : IsCharBoundary bs c.args.range.from = subst (λ x. IsCharBoundary x c.args.range.from) same c.requires.from in
-    let to : IsCharBoundary bs c.args.range.to = subst (λ x. IsCharBoundary x c.args.range.to) same c.requires.to in
-    let less = removed_len bs c.args.range.from c.args.range.to c.requires.ordered to.0 in
-    rw c.take_bytes.ensures (is_utf8-from_IsUtf8 _ (removed_utf8 bs c.args.range.from c.args.range.to u from to), omega (arith, less, c.self.invariant.1))
+    let from : IsCharBoundary bs c.args.from = subst (λ x. IsCharBoundary x c.args.from) same c.requires.from in
+    let to : IsCharBoundary bs c.args.to = subst (λ x. IsCharBoundary x c.args.to) same c.requires.to in
+    let less = removed_len bs c.args.from c.args.to c.requires.ordered to.0 in
+    rw c.take_bytes.ensures (is_utf8-from_IsUtf8 _ (removed_utf8 bs c.args.from c.args.to u from to), omega (arith, less, c.self.invariant.1))
 
 pub returns : goal.returns
 returns c =
     let same = bytes_of c.self.inside.bytes.items c.args.self.now c.self.invariant.0 c.self.view_is in
-    ap chars (c.take_bytes.ensures ∙ ap (λ bs. remove_range bs c.args.range.from c.args.range.to) (sym same))
+    ap chars (c.take_bytes.ensures ∙ ap (λ bs. remove_range bs c.args.from c.args.to) (sym same))

@@ -1,91 +1,118 @@
-use Rattle.std.proofs.Common.{rules, ◌≡◌, ℕ, ◌<◌, ◌≤◌, length, refl, ◌∙◌, arith}
-use Rattle.std.proofs.lemmas.List.{length-map}
+use Rattle.std.proofs.Common.{◌≡◌, ℕ, ◌<◌, ◌≤◌, ◌^◌, length, refl, arith}
 use Rattle.rope_tree.specs.Search.{HasPart}
-use Rattle.rope_tree.specs.Narrow.{IsBelow, IsBelowWith}
+use Rattle.rope_tree.specs.Narrow.{IsNarrow, FitsWith}
 use Rattle.rope_tree.specs.CountRows.{counts_at}
 use Rattle.rope_tree.proofs.CountsKept.{many, total_seen, all_below, was_below, is_below, early_same, late_sums, shifted_totals}
-use Rattle.rope_tree.proofs.search.count_rows.CountRows.retotal.Goals.{After-self}
+use Rattle.rope_tree.proofs.CellRows.{shifted_row}
+use Rattle.rope_tree.specs.Shifted.{IsShifted}
+use Rattle.rope_tree.proofs.search.count_rows.CountRows.retotal.Goals.{After-self, After-shift-4}
 use Rattle.rope_tree.proofs.search.count_rows.CountRows.retotal.Goals as goal
 
 -- what is known of each total from the place on
-module _ (g : _) (c : After-self g) where
+module _ (c : After-self) where
   n : c.self.inside.len ≡ length c.args.self.now
-  n = many g.T.Cell.value c.self.inside c.args.self.now c.self.view_is
+  n = many c.self.inside c.args.self.now c.self.view_is
 
-  part : (j : ℕ) → c.args.place ≤ j → j < c.self.inside.len → HasPart (counts_at g.T.Cell.value c.self.inside j) c.args.old
+  part : (j : ℕ) → c.args.place ≤ j → j < c.self.inside.len → HasPart (counts_at c.self.inside j) c.args.old
   part j le lt =
-      let d = counts_at g.T.Cell.value c.self.inside 0 in
+      let d = counts_at c.self.inside 0 in
       let to : j < length c.args.self.now = omega (arith, n) in
-      rw (total_seen g.T.Cell.value c.self.inside c.args.self.now j d c.self.view_is to) at (c.requires.part j d le to)
+      rw (total_seen c.self.inside c.args.self.now j d c.self.view_is to) at (c.requires.part j d le to)
 
-  fits : (j : ℕ) → c.args.place ≤ j → j < c.self.inside.len → IsBelowWith g.T.Cell.bound (counts_at g.T.Cell.value c.self.inside j) c.args.old c.args.new
+  fits : (j : ℕ) → c.args.place ≤ j → j < c.self.inside.len → FitsWith (counts_at c.self.inside j) c.args.old c.args.new
   fits j le lt =
-      let d = counts_at g.T.Cell.value c.self.inside 0 in
+      let d = counts_at c.self.inside 0 in
       let to : j < length c.args.self.now = omega (arith, n) in
-      let all = all_below g.T.Cell.value g.T.Cell.bound c.self.inside c.args.self.now c.self.invariant c.self.view_is in
-      rw (total_seen g.T.Cell.value c.self.inside c.args.self.now j d c.self.view_is to) at (c.requires.fits all j d le to)
+      let all = all_below c.self.inside c.args.self.now c.self.invariant c.self.view_is in
+      rw (total_seen c.self.inside c.args.self.now j d c.self.view_is to) at (c.requires.fits all j d le to)
 
   first : c.args.place < c.self.inside.len
   first = omega (arith, c.requires.within, n)
 
-  was : IsBelow g.T.Cell.bound c.args.old
-  was = was_below g.T.Cell.bound (counts_at g.T.Cell.value c.self.inside c.args.place) c.args.old (c.self.invariant.below c.args.place first) (part c.args.place (omega arith) first)
+  was : IsNarrow c.args.old
+  was = was_below (2 ^ 32) (counts_at c.self.inside c.args.place) c.args.old (c.self.invariant.below c.args.place first) (part c.args.place (omega arith) first)
 
-  is : IsBelow g.T.Cell.bound c.args.new
-  is = is_below g.T.Cell.bound (counts_at g.T.Cell.value c.self.inside c.args.place) c.args.old c.args.new (part c.args.place (omega arith) first) (fits c.args.place (omega arith) first)
+  is : IsNarrow c.args.new
+  is = is_below (2 ^ 32) (counts_at c.self.inside c.args.place) c.args.old c.args.new (part c.args.place (omega arith) first) (fits c.args.place (omega arith) first)
 
-pub shift-requires : goal.shift-requires
-shift-requires g c =
-    let e = (goal.at.shift-requires g c).After-self in
-    let n = many g.T.Cell.value c.self.inside c.args.self.now c.self.view_is in (
-      search rules,
-      (
-        omega (arith, c.requires.within, n),
-        (
-          c.self.invariant.few,
-          (
-            record {
-              len = length-map c.self.inside.rows.bytes g.T.Cell.value ∙ c.self.invariant.bytes;
-              was_below = (was g e).bytes;
-              is_below = (is g e).bytes;
-              has = λ j le lt. (part g e j le lt).bytes;
-              fits = λ j le lt. (fits g e j le lt).bytes;
-            },
-            (
-              record {
-                len = length-map c.self.inside.rows.chars g.T.Cell.value ∙ c.self.invariant.chars;
-                was_below = (was g e).chars;
-                is_below = (is g e).chars;
-                has = λ j le lt. (part g e j le lt).chars;
-                fits = λ j le lt. (fits g e j le lt).chars;
-              },
-              (
-                record {
-                  len = length-map c.self.inside.rows.pairs g.T.Cell.value ∙ c.self.invariant.pairs;
-                  was_below = (was g e).surrogates;
-                  is_below = (is g e).surrogates;
-                  has = λ j le lt. (part g e j le lt).surrogates;
-                  fits = λ j le lt. (fits g e j le lt).surrogates;
-                },
-                record {
-                  len = length-map c.self.inside.rows.breaks g.T.Cell.value ∙ c.self.invariant.breaks;
-                  was_below = (was g e).count;
-                  is_below = (is g e).count;
-                  has = λ j le lt. (part g e j le lt).count;
-                  fits = λ j le lt. (fits g e j le lt).count;
-                },
-              ),
-            ),
-          ),
-        ),
-      ),
-    )
+pub shift-requires-clause-place : goal.shift-requires-clause-place
+shift-requires-clause-place c = omega (arith, c.requires.within, c.self.invariant.few, many c.self.inside c.args.self.now c.self.view_is)
+
+pub shift-requires-clause-old : goal.shift-requires-clause-old
+shift-requires-clause-old c = (was (goal.at.shift-requires-clause-old c).After-self).bytes
+
+pub shift-requires-clause-new : goal.shift-requires-clause-new
+shift-requires-clause-new c = (is (goal.at.shift-requires-clause-new c).After-self).bytes
+
+pub shift-requires-2-clause-place : goal.shift-requires-2-clause-place
+shift-requires-2-clause-place c = omega (arith, c.requires.within, c.self.invariant.few, many c.self.inside c.args.self.now c.self.view_is)
+
+pub shift-requires-2-clause-old : goal.shift-requires-2-clause-old
+shift-requires-2-clause-old c = (was (goal.at.shift-requires-2-clause-old c).After-self).chars
+
+pub shift-requires-2-clause-new : goal.shift-requires-2-clause-new
+shift-requires-2-clause-new c = (is (goal.at.shift-requires-2-clause-new c).After-self).chars
+
+pub shift-requires-3-clause-place : goal.shift-requires-3-clause-place
+shift-requires-3-clause-place c = omega (arith, c.requires.within, c.self.invariant.few, many c.self.inside c.args.self.now c.self.view_is)
+
+pub shift-requires-3-clause-old : goal.shift-requires-3-clause-old
+shift-requires-3-clause-old c = (was (goal.at.shift-requires-3-clause-old c).After-self).surrogates
+
+pub shift-requires-3-clause-new : goal.shift-requires-3-clause-new
+shift-requires-3-clause-new c = (is (goal.at.shift-requires-3-clause-new c).After-self).surrogates
+
+pub shift-requires-4-clause-place : goal.shift-requires-4-clause-place
+shift-requires-4-clause-place c = omega (arith, c.requires.within, c.self.invariant.few, many c.self.inside c.args.self.now c.self.view_is)
+
+pub shift-requires-4-clause-old : goal.shift-requires-4-clause-old
+shift-requires-4-clause-old c = (was (goal.at.shift-requires-4-clause-old c).After-self).count
+
+pub shift-requires-4-clause-new : goal.shift-requires-4-clause-new
+shift-requires-4-clause-new c = (is (goal.at.shift-requires-4-clause-new c).After-self).count
+
+-- each row has the new counts
+bytes : (c : After-shift-4) → ((j : ℕ) → c.args.place ≤ j → j < c.self.inside.len → HasPart (counts_at c.self.inside j) c.args.old) → ((j : ℕ) → c.args.place ≤ j → j < c.self.inside.len → FitsWith (counts_at c.self.inside j) c.args.old c.args.new)
+    → IsShifted c.self.inside.bytes c.shift.new.counts c.args.place c.self.inside.len c.args.old.bytes c.args.new.bytes
+bytes c p f =
+    shifted_row c.self.inside.bytes c.shift.new.counts c.args.place c.self.inside.len c.args.old.bytes c.args.new.bytes c.self.invariant.few c.self.invariant.bytes c.shift.ensures.len c.shift.ensures.before c.shift.ensures.after
+    (λ j le lt. ((p j le lt).bytes, (f j le lt).bytes))
+
+chars : (c : After-shift-4) → ((j : ℕ) → c.args.place ≤ j → j < c.self.inside.len → HasPart (counts_at c.self.inside j) c.args.old) → ((j : ℕ) → c.args.place ≤ j → j < c.self.inside.len → FitsWith (counts_at c.self.inside j) c.args.old c.args.new)
+    → IsShifted c.self.inside.chars c.shift-2.new.counts c.args.place c.self.inside.len c.args.old.chars c.args.new.chars
+chars c p f =
+    shifted_row c.self.inside.chars c.shift-2.new.counts c.args.place c.self.inside.len c.args.old.chars c.args.new.chars c.self.invariant.few c.self.invariant.chars c.shift-2.ensures.len c.shift-2.ensures.before c.shift-2.ensures.after
+    (λ j le lt. ((p j le lt).chars, (f j le lt).chars))
+
+pairs : (c : After-shift-4) → ((j : ℕ) → c.args.place ≤ j → j < c.self.inside.len → HasPart (counts_at c.self.inside j) c.args.old) → ((j : ℕ) → c.args.place ≤ j → j < c.self.inside.len → FitsWith (counts_at c.self.inside j) c.args.old c.args.new)
+    → IsShifted c.self.inside.pairs c.shift-3.new.counts c.args.place c.self.inside.len c.args.old.utf16_surrogates c.args.new.utf16_surrogates
+pairs c p f =
+    shifted_row c.self.inside.pairs c.shift-3.new.counts c.args.place c.self.inside.len c.args.old.utf16_surrogates c.args.new.utf16_surrogates c.self.invariant.few c.self.invariant.pairs c.shift-3.ensures.len c.shift-3.ensures.before c.shift-3.ensures.after
+    (λ j le lt. ((p j le lt).surrogates, (f j le lt).surrogates))
+
+breaks : (c : After-shift-4) → ((j : ℕ) → c.args.place ≤ j → j < c.self.inside.len → HasPart (counts_at c.self.inside j) c.args.old) → ((j : ℕ) → c.args.place ≤ j → j < c.self.inside.len → FitsWith (counts_at c.self.inside j) c.args.old c.args.new)
+    → IsShifted c.self.inside.breaks c.shift-4.new.counts c.args.place c.self.inside.len c.args.old.break_count c.args.new.break_count
+breaks c p f =
+    shifted_row c.self.inside.breaks c.shift-4.new.counts c.args.place c.self.inside.len c.args.old.break_count c.args.new.break_count c.self.invariant.few c.self.invariant.breaks c.shift-4.ensures.len c.shift-4.ensures.before c.shift-4.ensures.after
+    (λ j le lt. ((p j le lt).count, (f j le lt).count))
 
 pub invariant_of-self : goal.invariant_of-self
-invariant_of-self g c = shifted_totals g.T.Cell.value g.T.Cell.bound c.self.inside _ c.args.self.now c.self.invariant c.self.view_is c.args.place c.args.old c.args.new refl c.shift.ensures.bytes c.shift.ensures.chars c.shift.ensures.pairs c.shift.ensures.breaks (fits g (goal.at.invariant_of-self g c).After-self)
+invariant_of-self c =
+    let e = (goal.at.invariant_of-self c).After-shift-4 in
+    let p = part (goal.at.invariant_of-self c).After-self in
+    let f = fits (goal.at.invariant_of-self c).After-self in
+    shifted_totals c.self.inside _ c.args.self.now c.self.invariant c.self.view_is c.args.place c.args.old c.args.new refl (bytes e p f) (chars e p f) (pairs e p f) (breaks e p f) f
 
 pub returns-clause-before : goal.returns-clause-before
-returns-clause-before g c = λ j d early. early_same g.T.Cell.value g.T.Cell.bound c.self.inside _ c.args.self.now c.self.invariant c.self.view_is c.args.place c.args.old c.args.new refl c.shift.ensures.bytes c.shift.ensures.chars c.shift.ensures.pairs c.shift.ensures.breaks j d (omega (arith, early, c.requires.within)) early
+returns-clause-before c =
+    let e = (goal.at.returns-clause-before c).After-shift-4 in
+    let p = part (goal.at.returns-clause-before c).After-self in
+    let f = fits (goal.at.returns-clause-before c).After-self in
+    λ j d early. early_same c.self.inside _ c.args.self.now c.self.invariant c.self.view_is c.args.place c.args.old c.args.new refl (bytes e p f) (chars e p f) (pairs e p f) (breaks e p f) j d (omega (arith, early, c.requires.within)) early
 
 pub returns-clause-after : goal.returns-clause-after
-returns-clause-after g c = λ j d late lt. late_sums g.T.Cell.value g.T.Cell.bound c.self.inside _ c.args.self.now c.self.invariant c.self.view_is c.args.place c.args.old c.args.new refl c.shift.ensures.bytes c.shift.ensures.chars c.shift.ensures.pairs c.shift.ensures.breaks j d late lt
+returns-clause-after c =
+    let e = (goal.at.returns-clause-after c).After-shift-4 in
+    let p = part (goal.at.returns-clause-after c).After-self in
+    let f = fits (goal.at.returns-clause-after c).After-self in
+    λ j d late lt. late_sums c.self.inside _ c.args.self.now c.self.invariant c.self.view_is c.args.place c.args.old c.args.new refl (bytes e p f) (chars e p f) (pairs e p f) (breaks e p f) j d late lt

@@ -1,0 +1,112 @@
+use Rattle.std.proofs.Common.{◌≡◌, ℕ, ◌+◌, ◌-◌, ◌<◌, ◌≤◌, ◌^◌, ◌++◌, length, take, drop, ap, arith}
+use Rattle.rope_text.specs.Text.{byte_len}
+use Rattle.rope_text.proofs.Measures.{IsMeasure-byte_len}
+use Rattle.rope_tree.specs.declared.search.Unit.TheVariants.{Char}
+use Rattle.rope_tree.specs.Tree.{text, joined, height_of, breaks_of}
+use Rattle.rope_tree.specs.View.{trees_in}
+use Rattle.rope_tree.specs.Insert.{MayInsert, GoesIn}
+use Rattle.rope_tree.proofs.NodeLaws.{small_totals}
+use Rattle.rope_tree.proofs.Descents.{Descends, descends}
+use Rattle.rope_tree.proofs.InsertDescents.{last_total, inner_some, held_within, goes_in}
+use Rattle.rope_tree.proofs.InsertTrees.{siblings_of_first, text_around, child_may, new_siblings, new_length, new_node}
+use Rattle.rope_tree.proofs.edit.+insert.Goals.{After-index-children-place, In_ok-middle-in-Inner}
+use Rattle.rope_tree.proofs.edit.+insert.Goals as goal
+
+down : (t : ℕ) (c : After-index-children-place t) → Descends (breaks_of c.in-Inner.children.now) Char c.char_to_hold-held.result c.in-Inner.children.now c.place_of-place.result c.index-children-place.result c.total_before-front.result
+down t c =
+    descends Char c.char_to_hold-held.result c.in-Inner.children.now c.in-Inner.totals.now c.place_of-place.result c.index-children-place.result c.total_before-front.result
+    c.in-Inner.ensures.children c.in-Inner.ensures.totals_right c.place_of-place.ensures.within c.index-children-place.is
+    c.total_before-front.ensures.first c.total_before-front.ensures.later c.place_of-place.ensures.before c.place_of-place.ensures.past
+
+goes : (t : ℕ) (c : After-index-children-place t) → (c.total_before-front.result.chars ≤ c.args.at) × GoesIn c.args.at (c.args.at - c.total_before-front.result.chars) (length (text c.index-children-place.result)) c.args.to_right
+goes t c =
+    let d = down t c in
+    goes_in c.args.at c.char_to_hold-held.result c.total_before-front.result.chars (length (text c.index-children-place.result)) c.args.to_right d.not_past d.past
+    c.char_to_hold-held.ensures.right c.char_to_hold-held.ensures.first c.char_to_hold-held.ensures.left
+
+place : (t : ℕ) (c : After-index-children-place t) → c.args.at ≡ length (joined (take c.place_of-place.result c.in-Inner.children.now)) + (c.args.at - c.total_before-front.result.chars)
+place t c =
+    let front = ap (λ x. x.chars) (down t c).front_is in
+    let g = (goes t c).0 in
+    omega arith
+
+may : (t : ℕ) (c : After-index-children-place t) → MayInsert c.index-children-place.result (c.args.at - c.total_before-front.result.chars) c.args.added.now c.args.to_right
+may t c =
+    let d = down t c in
+    let g = (goes t c).1 in
+    child_may (breaks_of c.in-Inner.children.now) (height_of c.in-Inner.children.now) c.in-Inner.children.now c.place_of-place.result c.index-children-place.result d.children d.within d.child_is
+    c.args.node.now c.in-Inner.ensures.is c.args.at (c.args.at - c.total_before-front.result.chars) c.args.added.now c.requires.takes.some (place t c) g.within c.args.to_right g.inside c.requires.side
+
+pub place_of-place-requires-clause-small : goal.place_of-place-requires-clause-small
+place_of-place-requires-clause-small t c = small_totals _ c.in-Inner.totals.now c.in-Inner.children.now c.in-Inner.ensures.totals_right c.in-Inner.ensures.children.fits
+
+pub place_of-place-requires-clause-last : goal.place_of-place-requires-clause-last
+place_of-place-requires-clause-last t c =
+    let ts = c.in-Inner.children.now in
+    let some = inner_some _ _ ts c.in-Inner.ensures.children in
+    let whole = ap (λ u. length (text u)) c.in-Inner.ensures.is in
+    let held = held_within c.args.node.now c.args.at c.char_to_hold-held.result c.args.added.now c.args.to_right c.requires.takes.within (omega (arith, whole, some)) c.requires.side
+    c.char_to_hold-held.ensures.right c.char_to_hold-held.ensures.first c.char_to_hold-held.ensures.left in
+    λ d. rw (last_total (breaks_of ts) c.in-Inner.totals.now ts c.in-Inner.ensures.totals_right (omega (arith, c.in-Inner.ensures.children.at_least_two)) d) (omega (arith, whole, held))
+
+pub overflow_sub-at : goal.overflow_sub-at
+overflow_sub-at t c = (goes t (goal.at.overflow_sub-at t c).After-index-children-place).0
+
+child_fits : (t : ℕ) (c : After-index-children-place t) → byte_len (text c.index-children-place.result) ≤ byte_len (text c.args.node.now)
+child_fits t c =
+    let d = down t c in
+    let ts = c.in-Inner.children.now in
+    let k = c.place_of-place.result in
+    let whole = ap (λ u. byte_len (text u)) c.in-Inner.ensures.is in
+    let parts = ap byte_len (text_around (breaks_of ts) (height_of ts) ts k c.index-children-place.result d.children d.within d.child_is) in
+    omega (arith, whole, parts, IsMeasure-byte_len.joined (joined (take k ts)) (text c.index-children-place.result ++ joined (drop (k + 1) ts)), IsMeasure-byte_len.joined (text c.index-children-place.result) (joined (drop (k + 1) ts)))
+
+pub insert-requires : goal.insert-requires
+insert-requires t c =
+    let e = (goal.at.insert-requires t c).After-index-children-place in
+    let d = down t e in
+    let above = ap (λ u. u.height) c.in-Inner.ensures.is in
+    (omega (arith, c.decreases, above, d.own.at_height), (record { within = (goes t e).1.within; some = c.requires.takes.some; short = c.requires.takes.short; fits = omega (arith, c.requires.takes.fits, child_fits t e) }, may t e))
+
+fits : (t : ℕ) (c : In_ok-middle-in-Inner t) → byte_len (text c.args.node.now) + byte_len c.args.added.now < 2 ^ 63
+fits t c = omega (arith, c.requires.takes.fits)
+
+made_by : (t : ℕ) (c : After-index-children-place t) → c.index-children-place.result.height + 1 ≡ c.args.node.now.height
+made_by t c = omega (arith, ap (λ u. u.height) c.in-Inner.ensures.is, (down t c).own.at_height)
+
+pub returns-in_err-middle-in-Inner-clause-made : goal.returns-in_err-middle-in-Inner-clause-made
+returns-in_err-middle-in-Inner-clause-made t c = omega (arith, made_by t (goal.at.returns-in_err-middle-in-Inner-clause-made t c).After-index-children-place, c.insert.ensures.made)
+
+pub returns-in_err-pack-in-Inner-clause-made : goal.returns-in_err-pack-in-Inner-clause-made
+returns-in_err-pack-in-Inner-clause-made t c = omega (arith, made_by t (goal.at.returns-in_err-pack-in-Inner-clause-made t c).After-index-children-place, c.in_ok-middle-in-Inner.ensures.made, c.pack.ensures.made)
+
+pub returns-in_ok-pack-in-Inner-clause-made : goal.returns-in_ok-pack-in-Inner-clause-made
+returns-in_ok-pack-in-Inner-clause-made t c = omega (arith, made_by t (goal.at.returns-in_ok-pack-in-Inner-clause-made t c).After-index-children-place, c.in_ok-middle-in-Inner.ensures.made, c.in_ok-pack-in-Inner.ensures.made)
+
+pub pack-requires-clause-siblings : goal.pack-requires-clause-siblings
+pack-requires-clause-siblings t c =
+    let e = (goal.at.pack-requires-clause-siblings t c).After-index-children-place in
+    let n = (goal.at.pack-requires-clause-siblings t c).In_ok-middle-in-Inner in
+    let d = down t e in
+    let g = (goes t e).1 in
+    let ts = c.in-Inner.children.now in
+    let ps = trees_in c.in_ok-middle-in-Inner.middle in
+    let more = new_length (breaks_of ts) (height_of ts) ts c.place_of-place.result c.index-children-place.result d.children d.within d.child_is c.args.node.now c.in-Inner.ensures.is c.args.at (c.args.at - c.total_before-front.result.chars) c.args.added.now c.requires.takes.some (place t e) g.within
+    ps c.args.to_right g.inside g.outside c.requires.side c.in_ok-middle-in-Inner.ensures.ok (fits t n) in
+    let s = new_siblings (breaks_of ts) (height_of ts) ts c.place_of-place.result c.index-children-place.result d.children d.within d.child_is c.args.node.now c.in-Inner.ensures.is c.args.at (c.args.at - c.total_before-front.result.chars) c.args.added.now c.requires.takes.some (place t e) g.within
+    ps c.args.to_right g.inside g.outside c.requires.side c.in_ok-middle-in-Inner.ensures.ok (fits t n) in
+    rw (c.first-before.ensures.nodes, c.rest-after.ensures.nodes, c.of-row.ensures.nodes) (siblings_of_first (breaks_of ts) (height_of ts) (take c.place_of-place.result ts ++ (ps ++ drop (c.place_of-place.result + 1) ts))
+    (omega (arith, more, d.children.at_least_two, c.in_ok-middle-in-Inner.ensures.ok.parts.some)) s)
+
+pub returns-in_ok-pack-in-Inner-clause-ok : goal.returns-in_ok-pack-in-Inner-clause-ok
+returns-in_ok-pack-in-Inner-clause-ok t c =
+    let e = (goal.at.returns-in_ok-pack-in-Inner-clause-ok t c).After-index-children-place in
+    let n = (goal.at.returns-in_ok-pack-in-Inner-clause-ok t c).In_ok-middle-in-Inner in
+    let d = down t e in
+    let g = (goes t e).1 in
+    let ts = c.in-Inner.children.now in
+    let ps = trees_in c.in_ok-middle-in-Inner.middle in
+    let leaves = c.in_ok-pack-in-Inner.ensures.leaves in
+    let shape = c.in_ok-pack-in-Inner.ensures.shape in
+    new_node (breaks_of ts) (height_of ts) ts c.place_of-place.result c.index-children-place.result d.children d.within d.child_is c.args.node.now c.in-Inner.ensures.is c.args.at (c.args.at - c.total_before-front.result.chars) c.args.added.now c.requires.takes.some (place t e) g.within
+    ps c.args.to_right g.inside g.outside c.requires.side c.in_ok-middle-in-Inner.ensures.ok (fits t n) (trees_in c.in_ok-pack-in-Inner.field-0) (rw (c.first-before.ensures.nodes, c.rest-after.ensures.nodes, c.of-row.ensures.nodes) at leaves) (rw (c.first-before.ensures.nodes, c.rest-after.ensures.nodes, c.of-row.ensures.nodes) at shape)

@@ -1,4 +1,0 @@
-use Rattle.rope_tree.proofs.insert.+insert.Given as goal
-
-abbrev pub decreases-insert : goal.decreases-insert
-decreases-insert l = l.node.now.height
