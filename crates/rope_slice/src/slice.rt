@@ -8,7 +8,6 @@ ghost use Rattle.rope_text.specs.declared.line_breaks.LineBreaks.TheVariants.{Un
 ghost use Rattle.rope_text.specs.Text.{byte_len, utf16_len};
 ghost use Rattle.rope_text.specs.Lines.{line_count};
 ghost use Rattle.rope_text.specs.Cutting.{single_chunk};
-ghost use Rattle.rope_tree.specs.Tree.{text};
 ghost use Rattle.rope_part.specs.Kept.{IsPart};
 ghost use Rattle.rope_slice.specs.Found.{GivesWithin, GivesUnless};
 ghost use Rattle.rope_text.specs.Edit.{range_start, range_end, given, is_char_boundary, char_range_error, byte_range_error};
@@ -17,7 +16,6 @@ ghost use Rattle.rope_slice.specs.Sliced.{IsCharRange, IsByteRange};
 use rope_part::Part;
 use rope_text::range::char_bounds;
 use rope_text::{Error, IndexRange, LineBreaks, Result};
-use rope_tree::Node;
 
 /// The index, or none where it is past the end.
 pub(crate) fn within(idx: usize, len: usize) -> Option<usize>
@@ -49,16 +47,6 @@ impl<'a> RopeSlice<'a> {
         ensures breaks { breaks_of result ≡ breaks }
     {
         let part = Part::from_str_with(text, breaks);
-        RopeSlice { part }
-    }
-
-    /// A slice of the whole text of a tree. Takes constant time and no memory.
-    pub fn of_node(node: &'a Node) -> RopeSlice<'a>
-        ensures text { text_of result ≡ text node.now }
-        ensures chunks { chunks_of result ≡ node.now.leaves }
-        ensures breaks { breaks_of result ≡ node.now.breaks }
-    {
-        let part = Part::of_node(node);
         RopeSlice { part }
     }
 

@@ -19,7 +19,6 @@ use rope_io::ReadResult;
 use rope_io::reading::read_tree;
 use rope_io::writing::write_part;
 pub use rope_io::{Mark, ReadError, Sink, Source, Watched};
-use rope_part::Part;
 use rope_text::LineBreaks;
 use std::alloc::Global;
 use std::io::{self, Read, Write};
@@ -123,6 +122,6 @@ impl Rope {
         ensures failed { IsErr result ↔ (S.marked sink.new ≡ true) }
         ensures failure { IsCounted (failure_of result) (S.failure sink.new) (S.failures sink.old) (S.failures sink.new) }
     {
-        write_part(&Part::of_node(&self.root), sink)
+        write_part(&self.whole().part, sink)
     }
 }

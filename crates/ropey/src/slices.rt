@@ -32,7 +32,8 @@ impl Rope {
     pub(crate) fn whole(&self) -> RopeSlice<'_>
         ensures { content_of result ≡ content self.now }
     {
-        RopeSlice::of_node(&self.root)
+        let part = Part::of_node(&self.root);
+        RopeSlice { part }
     }
 
     /// The characters of a range, as a slice that borrows them: their text, the chunks clipped to them, and the
