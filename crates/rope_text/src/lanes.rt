@@ -228,13 +228,17 @@ fn breaks_in_quarters(bytes: &[u8], to: usize, breaks: LineBreaks) -> (usize, us
     known_set!(breaks => marks_in_quarters(bytes, to, Mark::Break(breaks)))
 }
 
-/// How many marks begin before the byte `to`. The mark is known where this is expanded.
+/// How many marks begin from the byte `from` on and before `to`. The mark is known where this is expanded.
 #[inline(always)]
-pub(crate) fn count_before(bytes: &[u8], to: usize, mark: Mark) -> usize
-    requires { to ≤ length bytes.now - ahead mark }
-    ensures { marks mark bytes.now ≡ result + marks mark (drop to bytes.now) }
+pub(crate) fn count_marks(bytes: &[u8], from: usize, to: usize, mark: Mark) -> usize
+    requires from { from ≤ to }
+    requires to { to ≤ length bytes.now - ahead mark }
+    ensures { marks mark (drop from bytes.now) ≡ result + marks mark (drop to bytes.now) }
 {
-    let (mut i, mut total) = marks_in_quarters(bytes, to, mark);
+    let (mut i, mut total) = (from, 0);
+    if from == 0 {
+        (i, total) = marks_in_quarters(bytes, to, mark);
+    }
     while to - i >= 32 {
         total += marks_in(bytes, i, mark);
         i += 32;
