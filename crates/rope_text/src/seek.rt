@@ -83,9 +83,8 @@ pub(crate) fn skip_chars_back(bytes: &[u8], n: usize, chars: usize) -> (usize, u
     requires chars { chars ≡ count_by begins_char bytes.now }
     ensures { IsPassed Mark.Char bytes.now n result.0 result.1 }
 {
-    let mut at = bytes.len();
-    // The characters from `n` on that begin before `at`.
-    let mut left = chars - n;
+    // What is left are the characters from `n` on that begin before `at`.
+    let (mut at, mut left) = (bytes.len(), chars - n);
     while at >= 64 {
         let passed = marks_in(bytes, at - 64, Mark::Char) + marks_in(bytes, at - 32, Mark::Char);
         if left <= passed {
