@@ -83,13 +83,6 @@ marks_le Char xs = begins_le xs
 marks_le Pair xs = pairs_le xs
 marks_le (Break b) xs = byte_break_count_le b xs
 
-pub ahead_le : (m : Mark) → ahead m ≤ 2
-ahead_le Char = omega arith
-ahead_le Pair = omega arith
-ahead_le (Break Lf) = omega arith
-ahead_le (Break CrLf) = omega arith
-ahead_le (Break Unicode) = omega arith
-
 -- a test as a number
 pub one_where : (a b : Bool) → a ≡ b → bool_byte a ≡ cond b 1 0
 one_where a true same = ap bool_byte same

@@ -2,13 +2,12 @@
 //! lanes, and the lanes are summed once a run.
 #![tactic(auto, using(crate::proofs::Blocks::begins_le, crate::proofs::Blocks::pairs_le, crate::proofs::Blocks::byte_break_count_le, crate::proofs::Blocks::marks_le))]
 
-ghost use Rattle.std.specs.Prelude.{◌≡◌, ◌+◌, ◌-◌, ◌*◌, ◌<◌, ◌≤◌, length, cond, count_by, drop, List, ℕ, take, IsTrue};
+ghost use Rattle.std.specs.Prelude.{◌≡◌, ◌+◌, ◌-◌, ◌*◌, ◌<◌, ◌≤◌, length, cond, count_by, drop, List, ℕ, take};
 ghost use Rattle.rope_text.specs.Bytes.{begins_char, begins_pair};
-ghost use Rattle.rope_text.specs.ByteBreaks.{byte_break_count, unit_count, AreCounts};
+ghost use Rattle.rope_text.specs.ByteBreaks.{byte_break_count, AreCounts};
 ghost use Rattle.rope_text.specs.Marks.{IsLanes, IsBlockMask, narrow_mark, mark_at, marks, ahead, lf_or_cr_lf};
 ghost use lib.Lanes.{sum_l};
-ghost use Rattle.rope_text.specs.Bits.{ones_below};
-ghost use Rattle.rope_text.specs.Runs.{IsSum, IsRun, count_of, wide_of, wide_at, high_of, wide_begin, places};
+ghost use Rattle.rope_text.specs.Runs.{IsSum, count_of, wide_of, wide_at, wide_begin, places};
 
 use crate::bits::{first_mark, ones_before, ones_between};
 use crate::{LineBreaks, TextInfo, known_set};
@@ -228,13 +227,17 @@ fn breaks_in_quarters(bytes: &[u8], to: usize, breaks: LineBreaks) -> (usize, us
     known_set!(breaks => marks_in_quarters(bytes, to, Mark::Break(breaks)))
 }
 
-/// How many marks begin before the byte `to`. The mark is known where this is expanded.
+/// How many marks begin from the byte `from` on and before `to`. The mark is known where this is expanded.
 #[inline(always)]
-pub(crate) fn count_before(bytes: &[u8], to: usize, mark: Mark) -> usize
-    requires { to ≤ length bytes.now - ahead mark }
-    ensures { marks mark bytes.now ≡ result + marks mark (drop to bytes.now) }
+pub(crate) fn count_marks(bytes: &[u8], from: usize, to: usize, mark: Mark) -> usize
+    requires from { from ≤ to }
+    requires to { to ≤ length bytes.now - ahead mark }
+    ensures { marks mark (drop from bytes.now) ≡ result + marks mark (drop to bytes.now) }
 {
-    let (mut i, mut total) = marks_in_quarters(bytes, to, mark);
+    let (mut i, mut total) = (from, 0);
+    if from == 0 {
+        (i, total) = marks_in_quarters(bytes, to, mark);
+    }
     while to - i >= 32 {
         total += marks_in(bytes, i, mark);
         i += 32;

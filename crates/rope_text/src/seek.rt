@@ -58,6 +58,44 @@ pub(crate) fn find_from(bytes: &[u8], from: usize, n: usize, mark: Mark) -> usiz
     find(bytes, at, left, mark)
 }
 
+/// The pairs of blocks before the character `n`: their end, and which character it is from there on.
+#[inline(always)]
+pub(crate) fn skip_chars(bytes: &[u8], n: usize) -> (usize, usize)
+    ensures { IsPassed Mark.Char bytes.now n result.0 result.1 }
+{
+    let (mut at, mut left) = (0, n);
+    while bytes.len() - at >= 64 {
+        let passed = marks_in(bytes, at, Mark::Char) + marks_in(bytes, at + 32, Mark::Char);
+        if left < passed {
+            return (at, left);
+        }
+        left -= passed;
+        at += 64;
+    }
+    (at, left)
+}
+
+/// The same from the end, where it is known how many characters there are: the last pair of blocks that begins at or before the
+/// character `n`, or the start, and which character it is from there on.
+#[inline(always)]
+pub(crate) fn skip_chars_back(bytes: &[u8], n: usize, chars: usize) -> (usize, usize)
+    requires within { n ≤ chars }
+    requires chars { chars ≡ count_by begins_char bytes.now }
+    ensures { IsPassed Mark.Char bytes.now n result.0 result.1 }
+{
+    // What is left are the characters from `n` on that begin before `at`.
+    let (mut at, mut left) = (bytes.len(), chars - n);
+    while at >= 64 {
+        let passed = marks_in(bytes, at - 64, Mark::Char) + marks_in(bytes, at - 32, Mark::Char);
+        if left <= passed {
+            return (at - 64, passed - left);
+        }
+        left -= passed;
+        at -= 64;
+    }
+    (0, n)
+}
+
 /// The byte at which the character begins that holds the code unit `n`, counted from the byte `from` on, byte by byte.
 pub(crate) fn find_unit(bytes: &[u8], from: usize, n: usize) -> usize
     requires { from ≤ length bytes.now }
