@@ -48,16 +48,6 @@ fn can_merge(left: &Node, right: &Node) -> bool
         && (height == 0 || last_leaf_len(left) + first_leaf_len(right) >= MIN_PAIR_BYTES)
 }
 
-/// Whether two leaves of so many bytes become one: they fit in it, and one of them is short.
-fn become_one(first: usize, second: usize) -> bool
-    requires first { first ≤ MAX_BYTES }
-    requires second { second ≤ MAX_BYTES }
-    ensures fit { result ≡ true → first + second ≤ MAX_BYTES }
-    ensures near { result ≡ false → MIN_PAIR_BYTES ≤ first + second }
-{
-    first + second <= MAX_BYTES && (first < MIN_BYTES || second < MIN_BYTES)
-}
-
 /// Two trees that can be merged as one tree or two of their height. Leaves become one where they fit in it and one of them is
 /// short; other nodes where one can have all children, and where one of them has few they share the children evenly.
 fn merge(maker: &mut Maker, left: &Node, right: &Node) -> Made<Nodes>
@@ -75,7 +65,8 @@ fn merge(maker: &mut Maker, left: &Node, right: &Node) -> Made<Nodes>
             let View::Leaf(second) = right.view() else {
                 unreachable!()
             };
-            if become_one(first.len(), second.len()) {
+            let is_short = first.len() < MIN_BYTES || second.len() < MIN_BYTES;
+            if first.len() + second.len() <= MAX_BYTES && is_short {
                 let info = left.info().plus(right.info());
                 let mut text = NodeText::from_str(first.as_str());
                 text.push_str(second.as_str());

@@ -24,19 +24,6 @@ pub struct Row<'a> {
     pub from: usize,
 }
 
-/// Shares nodes, and puts them in the places of as many others, from a place on.
-#[inline(always)]
-fn share_all(places: &mut [Node], from: usize, nodes: &[Node]) -> Made<()>
-    requires { from + length nodes.now ≤ length places.old }
-    ensures { OnOk result (places.new ≡ take from places.old ++ (nodes.now ++ drop (from + length nodes.now) places.old)) }
-{
-    let places = &mut places[from..from + nodes.len()];
-    for k in 0..nodes.len() {
-        places[k] = nodes[k].share()?;
-    }
-    Ok(())
-}
-
 /// Shares the nodes, and puts them behind the others of a list, whose counts the caller knows; returns the counts with them. So no
 /// total is read that was written just before.
 #[inline(always)]
@@ -91,7 +78,10 @@ fn push_row(
             if !totals.append(alloc, known, from, nodes.len(), base, before)? {
                 return push_all(alloc, totals, places, nodes, before);
             }
-            share_all(places, count, nodes)?;
+            let places = &mut places[count..count + nodes.len()];
+            for k in 0..nodes.len() {
+                places[k] = nodes[k].share()?;
+            }
             Ok(totals.get(totals.len() - 1))
         }
         _ => push_all(alloc, totals, places, nodes, before),

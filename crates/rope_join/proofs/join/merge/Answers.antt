@@ -1,4 +1,4 @@
-use Rattle.std.proofs.Common.{ap, ap₂, ◌∙◌, ◌++◌, arith, sym, ◌≡◌}
+use Rattle.std.proofs.Common.{ap, ap₂, ◌∙◌, ◌++◌, ◌+◌, ◌≤◌, arith, sym, ◌≡◌}
 use Rattle.rope_text.specs.TextInfo.{info_of}
 use Rattle.rope_tree.specs.Search.{IsSmall}
 use Rattle.rope_tree.proofs.Infos.{small_info}
@@ -8,13 +8,14 @@ use Rattle.rope_tree.specs.Siblings.{AreSiblings}
 use Rattle.rope_tree.specs.View.{trees_in}
 use Rattle.rope_join.specs.Join.{IsUnion}
 use Rattle.rope_join.proofs.Unions.{merged_leaves, kept, leaves_near, inner_siblings, inner_union, both_ok}
-use Rattle.rope_join.proofs.join.merge.Goals.{After-info-then-become_one, After-push_str, In-Inner-view}
+use Rattle.std.proofs.lemmas.Bool.Decides.{nat_tests}
+use Rattle.rope_join.proofs.join.merge.Goals.{After-info-then-is_short, After-push_str, In-Inner-view, then-len-lt-MIN_BYTES, else-len-lt-MIN_BYTES, else-len-le-MAX_BYTES-via-then-len-le-MAX_BYTES+else-is_short, else-len-le-MAX_BYTES-via-else-len-le-MAX_BYTES}
 use Rattle.rope_join.proofs.join.merge.Goals as goal
 
-both : (c : After-info-then-become_one) → IsSmall c.info.result × IsSmall c.info-then-become_one.result
+both : (c : After-info-then-is_short) → IsSmall c.info.result × IsSmall c.info-then-is_short.result
 both c = (
   rw c.info.ensures (small_info _ _ (c.height.ensures.tree).fits),
-  rw c.info-then-become_one.ensures (small_info _ _ (c.height-2.ensures.tree).fits),
+  rw c.info-then-is_short.ensures (small_info _ _ (c.height-2.ensures.tree).fits),
 )
 
 pub plus-info-requires-clause-chars : goal.plus-info-requires-clause-chars
@@ -40,7 +41,7 @@ returns-else-first-ge-MIN_CHILDREN-clause-union c =
     (rw (c.of-before.ensures.nodes, c.of-after.ensures.nodes) at leaves) (rw (c.of-before.ensures.nodes, c.of-after.ensures.nodes) at shape)) c.pack_over.ensures.leaves c.pack_over.ensures.shape
 
 new_text : (c : After-push_str) → c.push_str.new.self ≡ c.in-Leaf.first ++ c.in-Leaf-view.second
-new_text c = c.push_str.ensures.value ∙ ap₂ (λ s t. s ++ t) (c.from_str-text.ensures.value ∙ c.as_str.ensures.chars) c.as_str-then-become_one.ensures.chars
+new_text c = c.push_str.ensures.value ∙ ap₂ (λ s t. s ++ t) (c.from_str-text.ensures.value ∙ c.as_str.ensures.chars) c.as_str-then-is_short.ensures.chars
 
 pub make_leaf-requires-clause-info : goal.make_leaf-requires-clause-info
 make_leaf-requires-clause-info c =
@@ -48,14 +49,14 @@ make_leaf-requires-clause-info c =
     let right = c.args.right.now in
     let e = (goal.at.make_leaf-requires-clause-info c).After-push_str in
     let parts = ap₂ (λ s t. s ++ t) (text_of_leaf _ left c.in-Leaf.first c.in-Leaf.ensures.is) (text_of_leaf _ right c.in-Leaf-view.second c.in-Leaf-view.ensures.is) in
-    c.plus-info.ensures.joined left.breaks (text left) (text right) c.info.ensures (c.info-then-become_one.ensures ∙ ap (λ b. info_of b (text right)) c.requires.join.same_breaks) c.requires.join.seam.apart
-    ∙ ap₂ info_of (sym c.line_breaks.ensures) (parts ∙ sym (new_text e) ∙ sym c.as_str-then-become_one-2.ensures.chars)
+    c.plus-info.ensures.joined left.breaks (text left) (text right) c.info.ensures (c.info-then-is_short.ensures ∙ ap (λ b. info_of b (text right)) c.requires.join.same_breaks) c.requires.join.seam.apart
+    ∙ ap₂ info_of (sym c.line_breaks.ensures) (parts ∙ sym (new_text e) ∙ sym c.as_str-then-is_short-2.ensures.chars)
 
-pub returns-then-become_one-clause-union : goal.returns-then-become_one-clause-union
-returns-then-become_one-clause-union c =
+pub returns-then-is_short-clause-union : goal.returns-then-is_short-clause-union
+returns-then-is_short-clause-union c =
     let right = c.in-Leaf-view.ensures.is ∙ ap (λ b. leaf_tree b c.in-Leaf-view.second) c.requires.join.same_breaks in
-    let one = c.in_ok-node-in-Leaf.ensures.ok ∙ ap₂ leaf_tree c.line_breaks.ensures c.as_str-then-become_one-2.ensures.chars in
-    merged_leaves c.args.left.now.breaks _ _ _ _ _ _ c.in-Leaf.ensures.is right (new_text (goal.at.returns-then-become_one-clause-union c).After-push_str) one c.in_ok-node-in-Leaf.ensures.tree c.requires.left_some c.requires.right_some
+    let one = c.in_ok-node-in-Leaf.ensures.ok ∙ ap₂ leaf_tree c.line_breaks.ensures c.as_str-then-is_short-2.ensures.chars in
+    merged_leaves c.args.left.now.breaks _ _ _ _ _ _ c.in-Leaf.ensures.is right (new_text (goal.at.returns-then-is_short-clause-union c).After-push_str) one c.in_ok-node-in-Leaf.ensures.tree c.requires.left_some c.requires.right_some
 
 pub returns-then-first-second-gt-MAX_CHILDREN-clause-union : goal.returns-then-first-second-gt-MAX_CHILDREN-clause-union
 returns-then-first-second-gt-MAX_CHILDREN-clause-union c =
@@ -70,8 +71,14 @@ pub returns-in_ok-share-in-Leaf-2-clause-union : goal.returns-in_ok-share-in-Lea
 returns-in_ok-share-in-Leaf-2-clause-union c =
     let right = c.in-Leaf-view.ensures.is ∙ ap (λ b. leaf_tree b c.in-Leaf-view.second) c.requires.join.same_breaks in
     let low = ap (λ u. u.height) c.in-Leaf.ensures.is in
-    let enough = c.become_one.ensures.near c.if-become_one.false in
-    let near = leaves_near c.args.left.now.breaks _ _ _ _ c.in-Leaf.ensures.is right c.requires.left_some c.requires.right_some (omega (arith, enough, c.len.ensures.value, c.len-in-Leaf.ensures.value)) in
+    let enough : 492 ≤ c.len-in-Leaf.result + c.len-in-Leaf-2.result = elim c.else-len-le-MAX_BYTES.branch [
+      | else-len-le-MAX_BYTES-via-then-len-le-MAX_BYTES+else-is_short w ↦ elim c.if-len-lt-MIN_BYTES.branch [
+        | then-len-lt-MIN_BYTES v ↦ let test = sym v.is_short-is ∙ w.if-is_short.false in grind (arith, nat_tests)
+        | else-len-lt-MIN_BYTES v ↦ let test = sym v.is_short-is ∙ w.if-is_short.false in grind (arith, nat_tests)
+      ]
+      | else-len-le-MAX_BYTES-via-else-len-le-MAX_BYTES w ↦ omega arith
+    ] in
+    let near = leaves_near c.args.left.now.breaks _ _ _ _ c.in-Leaf.ensures.is right c.requires.left_some c.requires.right_some (omega (arith, enough, c.len-in-Leaf.ensures.value, c.len-in-Leaf-2.ensures.value)) in
     rw (c.in_ok-share-in-Leaf.ensures, c.in_ok-share-in-Leaf-2.ensures)
     (kept _ _ c.height.ensures.tree c.height-2.ensures.tree c.requires.left_some c.requires.right_some c.requires.join c.requires.merge.level
     (λ high. absurd (omega (arith, high, low))) (λ high. absurd (omega (arith, high, low))) (λ high. absurd (omega (arith, high, low))) near)

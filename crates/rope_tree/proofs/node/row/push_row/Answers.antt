@@ -1,7 +1,9 @@
-use Rattle.std.proofs.Common.{◌≡◌, ◌≤◌, length, take, IfSome, subst, refl, arith}
+use Rattle.std.proofs.Common.{◌≡◌, ℕ, ◌+◌, ◌-◌, ◌≤◌, List, ◌++◌, length, take, drop, IfSome, subst, refl, sym, ◌∙◌, arith}
+use Rattle.std.proofs.lemmas.List.{take_all, drop-drop}
+use borrow.Rule.Slice.PartMut.{put_mid}
 use Rattle.std.proofs.lemmas.Grind.{common_steps}
 use Rattle.rope_text.specs.TextInfo.{info_of}
-use Rattle.rope_tree.specs.Tree.{joined, breaks_of}
+use Rattle.rope_tree.specs.Tree.{Tree, joined, breaks_of}
 use Rattle.rope_tree.specs.NewList.{new_list, nodes_in}
 use Rattle.rope_tree.specs.Rows.{IsPart}
 use Rattle.rope_tree.proofs.NodeLaws.{small_totals}
@@ -10,6 +12,14 @@ use Rattle.rope_tree.proofs.Descents.{front_is}
 use Rattle.rope_tree.proofs.PartLaws.{small_before, small_part, has_base, part_fits, part_in, is_new_list_part, part_counted}
 use Rattle.rope_tree.proofs.node.row.push_row.Goals.{After-total_before-base}
 use Rattle.rope_tree.proofs.node.row.push_row.Goals as goal
+
+-- nodes put in the places of as many others
+put_over : (count k : ℕ) (places nodes now : List Tree) → length now ≡ length nodes → take k now ≡ take k nodes → length nodes ≤ k
+    → put_mid count (count + length nodes - count) places now ≡ take count places ++ (nodes ++ drop (count + length nodes) places)
+put_over count k places nodes now len front le =
+    let same : now ≡ nodes = sym (take_all k now (omega arith)) ∙ front ∙ take_all k nodes le in
+    let many : count + length nodes - count ≡ length nodes = omega arith in
+    rw (same, many, drop-drop (length nodes) count places) refl
 
 -- the row's totals are those of a node of which it is a part
 part : (c : After-total_before-base) → IsPart c.args.row.nodes.now c.in-Some.known.now c.args.row.from
@@ -52,27 +62,27 @@ append-requires-clause-fits c =
     let b = base e in
     part_fits (nodes_in (new_list c.args.totals.now c.args.places.now)) c.args.row.nodes.now c.in-Some.known.now c.args.row.from (part e) (some e) c.requires.siblings c.total_before-base.result c.args.before b c.requires.before
 
-pub returns-in_ok-share_all-in-Some-clause-list : goal.returns-in_ok-share_all-in-Some-clause-list
-returns-in_ok-share_all-in-Some-clause-list c =
-    let e = (goal.at.returns-in_ok-share_all-in-Some-clause-list c).After-total_before-base in
+pub returns-after-loop-k-clause-list : goal.returns-after-loop-k-clause-list
+returns-after-loop-k-clause-list c =
+    let e = (goal.at.returns-after-loop-k-clause-list c).After-total_before-base in
     let b = base e in
     let did = c.if-not-branch.false in
     is_new_list_part (nodes_in (new_list c.args.totals.now c.args.places.now)) c.args.row.nodes.now c.in-Some.known.now c.args.row.from (part e) (some e) c.requires.siblings c.total_before-base.result c.args.before b c.requires.before
-    (new_list c.args.totals.now c.args.places.now) _ c.requires.list refl c.len-count.result c.len-count.ensures (c.in_ok-append-in-Some.ensures.len did) (c.in_ok-append-in-Some.ensures.before did) (c.in_ok-append-in-Some.ensures.behind did) c.in_ok-share_all-in-Some.ensures c.requires.room
+    (new_list c.args.totals.now c.args.places.now) _ c.requires.list refl c.len-count.result c.len-count.ensures (c.in_ok-append-in-Some.ensures.len did) (c.in_ok-append-in-Some.ensures.before did) (c.in_ok-append-in-Some.ensures.behind did) (put_over c.len-count.result c.loop-k.k c.args.places.now c.args.row.nodes.now c.loop-k.places c.loop-k.invariant.long c.loop-k.invariant.front (omega arith)) c.requires.room
 
-pub returns-in_ok-share_all-in-Some-clause-nodes : goal.returns-in_ok-share_all-in-Some-clause-nodes
-returns-in_ok-share_all-in-Some-clause-nodes c =
-    let e = (goal.at.returns-in_ok-share_all-in-Some-clause-nodes c).After-total_before-base in
+pub returns-after-loop-k-clause-nodes : goal.returns-after-loop-k-clause-nodes
+returns-after-loop-k-clause-nodes c =
+    let e = (goal.at.returns-after-loop-k-clause-nodes c).After-total_before-base in
     let b = base e in
     let did = c.if-not-branch.false in
     part_in (nodes_in (new_list c.args.totals.now c.args.places.now)) c.args.row.nodes.now c.in-Some.known.now c.args.row.from (part e) (some e) c.requires.siblings c.total_before-base.result c.args.before b c.requires.before
-    (new_list c.args.totals.now c.args.places.now) _ c.requires.list refl c.len-count.result c.len-count.ensures (c.in_ok-append-in-Some.ensures.len did) (c.in_ok-append-in-Some.ensures.before did) (c.in_ok-append-in-Some.ensures.behind did) c.in_ok-share_all-in-Some.ensures c.requires.room
+    (new_list c.args.totals.now c.args.places.now) _ c.requires.list refl c.len-count.result c.len-count.ensures (c.in_ok-append-in-Some.ensures.len did) (c.in_ok-append-in-Some.ensures.before did) (c.in_ok-append-in-Some.ensures.behind did) (put_over c.len-count.result c.loop-k.k c.args.places.now c.args.row.nodes.now c.loop-k.places c.loop-k.invariant.long c.loop-k.invariant.front (omega arith)) c.requires.room
 
-pub returns-in_ok-share_all-in-Some-clause-total : goal.returns-in_ok-share_all-in-Some-clause-total
-returns-in_ok-share_all-in-Some-clause-total c =
-    let e = (goal.at.returns-in_ok-share_all-in-Some-clause-total c).After-total_before-base in
+pub returns-after-loop-k-clause-total : goal.returns-after-loop-k-clause-total
+returns-after-loop-k-clause-total c =
+    let e = (goal.at.returns-after-loop-k-clause-total c).After-total_before-base in
     let b = base e in
     let did = c.if-not-branch.false in
     part_counted (nodes_in (new_list c.args.totals.now c.args.places.now)) c.args.row.nodes.now c.in-Some.known.now c.args.row.from (part e) (some e) c.requires.siblings c.total_before-base.result c.args.before b c.requires.before
-    (new_list c.args.totals.now c.args.places.now) _ c.requires.list refl c.len-count.result c.len-count.ensures (c.in_ok-append-in-Some.ensures.len did) (c.in_ok-append-in-Some.ensures.before did) (c.in_ok-append-in-Some.ensures.behind did) c.in_ok-share_all-in-Some.ensures c.requires.room
+    (new_list c.args.totals.now c.args.places.now) _ c.requires.list refl c.len-count.result c.len-count.ensures (c.in_ok-append-in-Some.ensures.len did) (c.in_ok-append-in-Some.ensures.before did) (c.in_ok-append-in-Some.ensures.behind did) (put_over c.len-count.result c.loop-k.k c.args.places.now c.args.row.nodes.now c.loop-k.places c.loop-k.invariant.long c.loop-k.invariant.front (omega arith)) c.requires.room
     c.get.result (λ d. rw (← c.len.ensures) (c.get.ensures d))

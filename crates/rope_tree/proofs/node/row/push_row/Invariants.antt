@@ -1,6 +1,6 @@
 -- The first of the places have the nodes, and the others stay.
 use Rattle.std.proofs.Common.{◌≡◌, length, take}
-use Rattle.rope_tree.proofs.node.row.share_all.Given as goal
+use Rattle.rope_tree.proofs.node.row.push_row.Given as goal
 
 abbrev pub invariant-loop-k : goal.invariant-loop-k
 invariant-loop-k l = record {
