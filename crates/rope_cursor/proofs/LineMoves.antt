@@ -1,7 +1,7 @@
 -- The place and the counts of a cursor over lines, from line to line.
-use Rattle.std.proofs.Common.{◌≡◌, ℕ, ◌+◌, ◌-◌, ◌<◌, ◌≤◌, false, List, ◌++◌, length, take, drop, sym, ap, ◌∙◌, arith}
+use Rattle.std.proofs.Common.{◌≡◌, ℕ, ◌+◌, ◌-◌, ◌<◌, ◌≤◌, false, ◌++◌, length, take, drop, sym, ap, ◌∙◌, arith}
 use Rattle.std.specs.List.{slice_range}
-use Rattle.std.proofs.lemmas.List.{take-append-drop, length-take-le, take-take, drop-drop}
+use Rattle.std.proofs.lemmas.List.{take-append-drop, take-take, drop-drop}
 use Rattle.std.proofs.Math.Seq.{drop-append_seam}
 use Rattle.rope_text.specs.declared.line_breaks.LineBreaks.{LineBreaks}
 use Rattle.rope_text.specs.declared.text_info.TextInfo.{TextInfo}
@@ -9,7 +9,7 @@ use Rattle.rope_text.specs.Content.{Content}
 use Rattle.rope_text.specs.TextInfo.{info_of, info_sum}
 use Rattle.rope_text.specs.Lines.{line_start, line_count}
 use Rattle.rope_text.specs.Cutting.{parts_crlf}
-use Rattle.rope_text.specs.LineParts.{part_between, line_of, first_line, last_start}
+use Rattle.rope_text.specs.LineParts.{first_line, last_start}
 use Rattle.rope_text.proofs.LineLaws.{line_start-le-length, line_start_mono}
 use Rattle.rope_text.proofs.LineSeams.{line_start_apart, break_count-front, first_line-drop, last_start-take}
 use Rattle.rope_part.proofs.LeafLines.{next_counts}
@@ -18,7 +18,6 @@ use Rattle.rope_part.proofs.Stretches.{front_and_part, part_of_front, length_par
 use Rattle.rope_cursor.specs.Gap.{Halves}
 use Rattle.rope_cursor.specs.Lines.{IsLineStart}
 use Rattle.rope_cursor.proofs.Gaps.{AreHalf, half_of, size_front}
-use Rattle.rope_part.proofs.PartsBetween.{counts_at, line_from}
 
 -- a step forward
 module _ (c : Content) (h new : Halves) (before passed : TextInfo) (l total : ℕ) (breaks : LineBreaks) (s : IsLineStart c h before l total) (less : l < total) (same : breaks ≡ c.breaks)

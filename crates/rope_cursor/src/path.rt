@@ -54,9 +54,7 @@ impl<'a> Model for Path<'a> {
 fn are_leaves(nodes: &[Node]) -> bool
     ensures { OnTrue result (All (λ rc. rc.height ≡ 0) nodes.now) }
 {
-    nodes
-        .iter()
-        .all(|node| matches!(node.view(), View::Leaf(_)) && node.info().bytes > 0)
+    nodes.iter().all(|node| matches!(node.view(), View::Leaf(_)) && node.info().bytes > 0)
 }
 
 // The text of a node with no levels below it. What it is, is asked again, of what has been read just before.
