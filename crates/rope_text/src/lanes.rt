@@ -375,52 +375,40 @@ pub(crate) fn count_blocks(bytes: &[u8], from: usize, to: usize, breaks: LineBre
     counts
 }
 
-// How many breaks of the set begin before the byte `to`. The set is known where this is expanded.
-#[inline(always)]
-fn known_breaks_before(bytes: &[u8], to: usize, breaks: LineBreaks) -> usize
-    requires { to ≤ length bytes.now }
-    ensures { byte_break_count breaks bytes.now ≡ result + byte_break_count breaks (drop to bytes.now) }
-{
-    // A block is read two bytes past its end.
-    let end = to.min(bytes.len().saturating_sub(2));
-    let mark = Mark::Break(breaks);
-    let (from, before) = breaks_in_quarters(bytes, end, breaks);
-    let blocks = count_blocks(bytes, from, end, breaks);
-    let more = marks_between(bytes, from + blocks.bytes, end, mark);
-    before + blocks.break_count + more + marks_byte_by_byte(bytes, end, to, mark)
-}
-
 /// How many breaks begin before the byte `to`.
 pub(crate) fn count_breaks_before(bytes: &[u8], to: usize, breaks: LineBreaks) -> usize
     requires { to ≤ length bytes.now }
     ensures { byte_break_count breaks bytes.now ≡ result + byte_break_count breaks (drop to bytes.now) }
 {
-    known_set!(breaks => known_breaks_before(bytes, to, breaks))
+    // A block is read two bytes past its end.
+    let end = to.min(bytes.len().saturating_sub(2));
+    let (from, before) = breaks_in_quarters(bytes, end, breaks);
+    known_set!(breaks => {
+        let blocks = count_blocks(bytes, from, end, breaks);
+        let more = marks_between(bytes, from + blocks.bytes, end, Mark::Break(breaks));
+        let last = marks_byte_by_byte(bytes, end, to, Mark::Break(breaks));
+        before + blocks.break_count + more + last
+    })
 }
 
-// What the bytes count, in blocks. The set is known where this is expanded.
-#[inline(always)]
-fn count_known(bytes: &[u8], breaks: LineBreaks) -> TextInfo
-    ensures { AreCounts breaks bytes.now result }
-{
-    let end = bytes.len();
-    let last = end.saturating_sub(2);
-    let mut counts = count_blocks(bytes, 0, last, breaks);
-    let at = counts.bytes;
-    counts.bytes = end;
-    counts.chars += marks_between(bytes, at, end, Mark::Char);
-    counts.utf16_surrogates += marks_between(bytes, at, end, Mark::Pair);
-    counts.break_count += marks_between(bytes, at, last, Mark::Break(breaks));
-    counts.break_count += marks_byte_by_byte(bytes, last, end, Mark::Break(breaks));
-    counts
-}
-
-// The same in blocks. It stands by itself, since where it is expanded the few would wait for what it answers through memory.
+// What the bytes count, in blocks. It stands by itself, since where it is expanded the few would wait for what it answers through
+// memory.
 #[inline(never)]
 fn count_many(bytes: &[u8], breaks: LineBreaks) -> TextInfo
     ensures { AreCounts breaks bytes.now result }
 {
-    known_set!(breaks => count_known(bytes, breaks))
+    let end = bytes.len();
+    let last = end.saturating_sub(2);
+    known_set!(breaks => {
+        let mut counts = count_blocks(bytes, 0, last, breaks);
+        let at = counts.bytes;
+        counts.bytes = end;
+        counts.chars += marks_between(bytes, at, end, Mark::Char);
+        counts.utf16_surrogates += marks_between(bytes, at, end, Mark::Pair);
+        counts.break_count += marks_between(bytes, at, last, Mark::Break(breaks));
+        counts.break_count += marks_byte_by_byte(bytes, last, end, Mark::Break(breaks));
+        counts
+    })
 }
 
 /// What the bytes of a text count, by one pass.
