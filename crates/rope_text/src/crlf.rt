@@ -6,14 +6,7 @@
 
 ghost use Rattle.std.specs.Prelude.{◌≡◌, ℕ, ◌-◌, ◌<◌, ◌≤◌, false, length, ◌++◌, IsTrue};
 ghost use Rattle.std.specs.Str.{IsUtf8, IsCharBoundary};
-ghost use Rattle.rope_text.specs.Cuts.{is_cut, is_cut_between, distance};
-
-#[inline]
-fn is_between(x: u8, y: u8) -> bool
-    ensures { result ≡ is_cut_between x y }
-{
-    (y < 0x80 || y >= 0xC0) && (x != b'\r' || y != b'\n')
-}
+ghost use Rattle.rope_text.specs.Cuts.{is_cut, distance};
 
 /// Whether a text may be cut into `left` and `right`, neither of which is empty. Reads two bytes; takes no memory.
 pub fn seam_is_break(left: &[u8], right: &[u8]) -> bool
@@ -21,7 +14,8 @@ pub fn seam_is_break(left: &[u8], right: &[u8]) -> bool
     requires right { 0 < length right.now }
     ensures { result ≡ is_cut (left.now ++ right.now) (length left.now) }
 {
-    is_between(left[left.len() - 1], right[0])
+    let (x, y) = (left[left.len() - 1], right[0]);
+    (y < 0x80 || y >= 0xC0) && (x != b'\r' || y != b'\n')
 }
 
 /// Whether the text may be cut before the byte `at`, which is at most its length. Either end may be cut. Reads the
@@ -30,7 +24,7 @@ pub fn is_break(at: usize, text: &[u8]) -> bool
     requires { at ≤ length text.now }
     ensures value { result ≡ is_cut text.now at }
 {
-    at == 0 || at == text.len() || is_between(text[at - 1], text[at])
+    at == 0 || at == text.len() || seam_is_break(&text[..at], &text[at..])
 }
 
 /// The last place before the byte `at` where the text may be cut, or 0 where `at` is 0. `at` is at most the length.
