@@ -102,8 +102,8 @@ fn has_ranges(leaf: &NodeText, text: &str, len: usize) -> bool {
     let count = count_chars(leaf.as_str());
     for start in 0..count.saturating_add(2) {
         let end = start.saturating_add(len);
-        let range = leaf.byte_range(start, end, count);
-        if [range.from, range.to] != [front_len(text, start), front_len(text, end)] {
+        let (from, to) = leaf.byte_range(start, end, count);
+        if [from, to] != [front_len(text, start), front_len(text, end)] {
             return false;
         }
     }

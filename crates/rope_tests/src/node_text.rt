@@ -14,7 +14,7 @@ fn hello() -> NodeText
 #[test]
 fn inserts(rt: HostRuntime) {
     let mut inner = hello();
-    let place = inner.byte_range(3, 3, count_chars(inner.as_str())).from;
+    let (place, _) = inner.byte_range(3, 3, count_chars(inner.as_str()));
     inner.insert_bytes(place, "oz");
     let mut last = hello();
     last.push_str("oz");
@@ -25,15 +25,15 @@ fn inserts(rt: HostRuntime) {
 #[test]
 fn removals(rt: HostRuntime) {
     let mut text = hello();
-    let range = text.byte_range(2, 4, count_chars(text.as_str()));
-    text.remove_bytes(range);
+    let (from, to) = text.byte_range(2, 4, count_chars(text.as_str()));
+    text.remove_bytes(from, to);
     assert!(rt; text.as_str() == "Heo!");
 }
 
 #[test]
 fn removals_of_a_wide_character(rt: HostRuntime) {
     let mut text = NodeText::from_str("H\u{e9}llo!");
-    let range = text.byte_range(1, 3, count_chars(text.as_str()));
-    text.remove_bytes(range);
+    let (from, to) = text.byte_range(1, 3, count_chars(text.as_str()));
+    text.remove_bytes(from, to);
     assert!(rt; text.as_str() == "Hlo!");
 }
