@@ -37,17 +37,6 @@ fn first_leaf_len(node: &Node) -> usize
     }
 }
 
-/// Whether two trees can be merged at their roots.
-fn can_merge(left: &Node, right: &Node) -> bool
-    requires left_some { 1 ≤ length left.now.leaves }
-    requires right_some { 1 ≤ length right.now.leaves }
-    ensures { IsTrue result ↔ CanMerge left.now right.now }
-{
-    let height = left.height();
-    height == right.height()
-        && (height == 0 || last_leaf_len(left) + first_leaf_len(right) >= MIN_PAIR_BYTES)
-}
-
 /// Two trees that can be merged as one tree or two of their height. Leaves become one where they fit in it and one of them is
 /// short; other nodes where one can have all children, and where one of them has few they share the children evenly.
 fn merge(maker: &mut Maker, left: &Node, right: &Node) -> Made<Nodes>
@@ -135,11 +124,14 @@ fn unite(maker: &mut Maker, left: &Node, right: &Node) -> Made<Nodes>
     ensures made { maker.new.made ≤ maker.old.made + 2 * max left.now.height right.now.height + 2 }
     ensures made_near { IsNear left.now right.now → maker.new.made ≤ maker.old.made + 2 * ((left.now.height - right.now.height) + (right.now.height - left.now.height)) + 2 }
 {
-    if can_merge(left, right) {
+    let height = left.height();
+    if height == right.height()
+        && (height == 0 || last_leaf_len(left) + first_leaf_len(right) >= MIN_PAIR_BYTES)
+    {
         return merge(maker, left, right);
     }
     let (before, last) = last_of(left, right.height());
-    let (first, after) = first_of(right, left.height());
+    let (first, after) = first_of(right, height);
     let middle = unite(maker, last, first)?;
     pack(maker, before, middle, after)
 }
