@@ -15,16 +15,6 @@ use rope_text::{BUFFER_BYTES, Error, LineBreaks, MAX_TEXT_BYTES, Result};
 use rope_tree::{Builder, Maker, Node};
 use std::alloc::Global;
 
-// The longest front of the bytes that is a text.
-fn front_of(bytes: &[u8]) -> &str
-    ensures { result.now ≡ text_front bytes.now }
-{
-    match str::from_utf8(bytes) {
-        Ok(text) => text,
-        Err(error) => str::from_utf8(&bytes[..error.valid_up_to()]).unwrap(),
-    }
-}
-
 /// Puts a text behind those that were passed in. It takes memory, and an empty text none.
 ///
 /// # Errors
@@ -58,7 +48,11 @@ fn settle(builder: &mut Builder, buffer: &mut [u8], filled: usize) -> Result<usi
     ensures refused { IfErr result
         (IsRefusal (size_error (byte_len builder.old.text + length (text_front (take filled buffer.old))))) }
 {
-    let text = front_of(&buffer[..filled]);
+    let bytes = &buffer[..filled];
+    let text = match str::from_utf8(bytes) {
+        Ok(text) => text,
+        Err(error) => str::from_utf8(&bytes[..error.valid_up_to()]).unwrap(),
+    };
     let decoded = text.len();
     append(builder, text)?;
     buffer.copy_within(decoded..filled, 0);

@@ -1,5 +1,5 @@
 -- The counts of the two parts of a text.
-use Rattle.std.proofs.Common.{◌≡◌, ℕ, ◌+◌, List, ◌++◌, ap, arith}
+use Rattle.std.proofs.Common.{◌≡◌, ℕ, ◌+◌, List, ◌++◌, ap, ◌∙◌, arith}
 use Rattle.std.proofs.lemmas.List.{length-append}
 use Rattle.rope_text.specs.declared.line_breaks.LineBreaks.{LineBreaks}
 use Rattle.rope_text.specs.declared.text_info.TextInfo.{TextInfo}
@@ -20,3 +20,13 @@ parts_sum breaks info more s t whole shared =
 
 pub sum_turned : (a b : TextInfo) → info_sum a b ≡ info_sum b a
 sum_turned a b = same_info (info_sum a b) (info_sum b a) (omega arith) (omega arith) (omega arith) (omega arith)
+
+-- the sum less the one part is the other
+pub rest_is : (both part other front rest : TextInfo) → both ≡ info_sum part other → front ≡ other → info_sum front rest ≡ both → rest ≡ part
+rest_is both part other front rest sum is r =
+    let parts = r ∙ sum in
+    same_info rest part
+    (omega (arith, ap (λ i. i.bytes) parts, ap (λ i. i.bytes) is))
+    (omega (arith, ap (λ i. i.chars) parts, ap (λ i. i.chars) is))
+    (omega (arith, ap (λ i. i.utf16_surrogates) parts, ap (λ i. i.utf16_surrogates) is))
+    (omega (arith, ap (λ i. i.break_count) parts, ap (λ i. i.break_count) is))

@@ -20,19 +20,8 @@ enum Side {
     Back,
 }
 
-/// The counts of a part of a text, by the sum of its counts and the other part's: only the shorter of them is gone over.
-fn part_info(both: TextInfo, part: &str, other: &str, breaks: LineBreaks) -> TextInfo
-    requires sum { both ≡ info_sum (info_of breaks (chars part.now)) (info_of breaks (chars other.now)) }
-    ensures { result ≡ info_of breaks (chars part.now) }
-{
-    if part.len() < other.len() {
-        return TextInfo::of_short(part, breaks);
-    }
-    both.minus(TextInfo::of_short(other, breaks))
-}
-
 /// A leaf of the first `at` characters of a leaf, or of what follows them. It stands by itself, since a way down would clear room
-/// for its text at each node.
+/// for its text at each node. Only the shorter part is gone over: the longer one's counts are the sum less those.
 #[inline(never)]
 fn leaf_part(
     maker: &mut Maker,
@@ -61,7 +50,12 @@ fn leaf_part(
     if let Side::Back = side {
         (part, other) = (back, front);
     }
-    make_leaf(maker, breaks, part, part_info(both, part, other, breaks))
+    let info = if part.len() < other.len() {
+        TextInfo::of_short(part, breaks)
+    } else {
+        both.minus(TextInfo::of_short(other, breaks))
+    };
+    make_leaf(maker, breaks, part, info)
 }
 
 /// The first `at` characters, perhaps none.

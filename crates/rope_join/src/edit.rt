@@ -13,15 +13,6 @@ use rope_text::Steps;
 use rope_tree::build::build;
 use rope_tree::{Made, Maker, Node, char_at, is_lf, leaf_of, remove_at};
 
-/// Whether CR is the last of the first `at` characters.
-fn is_cr_before(node: &Node, at: usize) -> bool
-    requires { at ≤ length (text node.now) }
-    ensures { result ≡ ends_in_cr (take at (text node.now)) }
-{
-    let _ = node.height();
-    at > 0 && char_at(node, at - 1, &mut Steps::new()) == '\r'
-}
-
 /// The first `end` characters of the one tree, and behind them what follows the first `start` of the other.
 fn join_parts(maker: &mut Maker, left: &Node, end: usize, right: &Node, start: usize) -> Made<Node>
     requires end { end ≤ length (text left.now) }
@@ -32,8 +23,9 @@ fn join_parts(maker: &mut Maker, left: &Node, end: usize, right: &Node, start: u
     ensures breaks { IfOk result (λ node. node.breaks ≡ left.now.breaks) }
     ensures made { maker.new.made ≤ maker.old.made + 16 * max left.now.height right.now.height + 11 }
 {
+    let _ = left.height();
     let _ = right.height();
-    if is_cr_before(left, end) && is_lf(right, start) {
+    if end > 0 && char_at(left, end - 1, &mut Steps::new()) == '\r' && is_lf(right, start) {
         let first = front(maker, left, end - 1)?;
         let second = back(maker, right, start + 1)?;
         let pair = leaf_of(maker, left.line_breaks(), "\r\n")?;

@@ -13,39 +13,18 @@ use rope_tree::{
     Made, Maker, Node, NodeText, Nodes, Row, View, make_leaf, pack, pack_over, root_of,
 };
 
-/// The bytes of a tree's last leaf.
-fn last_leaf_len(node: &Node) -> usize
+/// The bytes of a tree's last leaf or of its first: those of the one and of the other that stands behind it say whether it may.
+fn end_leaf_len(node: &Node, is_last: bool) -> usize
     requires { 1 ≤ length node.now.leaves }
-    ensures value { (n : ℕ) → result ≡ last_bytes n node.now.leaves }
+    ensures last { IsTrue is_last → (n : ℕ) → result ≡ last_bytes n node.now.leaves }
+    ensures first { is_last ≡ false → (n : ℕ) → MIN_PAIR_BYTES ≤ n + result ↔ IsDenseBehind n node.now.leaves }
     ensures fits { result ≤ MAX_BYTES }
 {
     match node.view() {
         View::Leaf(leaf) => leaf.len(),
-        View::Inner(children, _) => last_leaf_len(&children[children.len() - 1]),
+        View::Inner(children, _) if is_last => end_leaf_len(&children[children.len() - 1], true),
+        View::Inner(children, _) => end_leaf_len(&children[0], false),
     }
-}
-
-/// The bytes of a tree's first leaf: with those of what stands before it, they say whether the tree may stand there.
-fn first_leaf_len(node: &Node) -> usize
-    requires { 1 ≤ length node.now.leaves }
-    ensures value { (n : ℕ) → MIN_PAIR_BYTES ≤ n + result ↔ IsDenseBehind n node.now.leaves }
-    ensures fits { result ≤ MAX_BYTES }
-{
-    match node.view() {
-        View::Leaf(leaf) => leaf.len(),
-        View::Inner(children, _) => first_leaf_len(&children[0]),
-    }
-}
-
-/// Whether two trees can be merged at their roots.
-fn can_merge(left: &Node, right: &Node) -> bool
-    requires left_some { 1 ≤ length left.now.leaves }
-    requires right_some { 1 ≤ length right.now.leaves }
-    ensures { IsTrue result ↔ CanMerge left.now right.now }
-{
-    let height = left.height();
-    height == right.height()
-        && (height == 0 || last_leaf_len(left) + first_leaf_len(right) >= MIN_PAIR_BYTES)
 }
 
 /// Two trees that can be merged as one tree or two of their height. Leaves become one where they fit in it and one of them is
@@ -135,11 +114,15 @@ fn unite(maker: &mut Maker, left: &Node, right: &Node) -> Made<Nodes>
     ensures made { maker.new.made ≤ maker.old.made + 2 * max left.now.height right.now.height + 2 }
     ensures made_near { IsNear left.now right.now → maker.new.made ≤ maker.old.made + 2 * ((left.now.height - right.now.height) + (right.now.height - left.now.height)) + 2 }
 {
-    if can_merge(left, right) {
+    let height = left.height();
+    if height == right.height()
+        && (height == 0
+            || end_leaf_len(left, true) + end_leaf_len(right, false) >= MIN_PAIR_BYTES)
+    {
         return merge(maker, left, right);
     }
     let (before, last) = last_of(left, right.height());
-    let (first, after) = first_of(right, left.height());
+    let (first, after) = first_of(right, height);
     let middle = unite(maker, last, first)?;
     pack(maker, before, middle, after)
 }

@@ -1,9 +1,9 @@
-use Rattle.std.proofs.Common.{◌≡◌, ℕ, List, ◌++◌, take, refl, ap, ap₂, sym, ◌∙◌, arith}
+use Rattle.std.proofs.Common.{◌≡◌, ℕ, ◌+◌, List, ◌++◌, take, refl, ap, ap₂, sym, ◌∙◌, arith}
 use Rattle.std.specs.Str.{chars}
 use Rattle.std.proofs.lemmas.Result.{IfOk-weaker}
 use Rattle.std.proofs.lemmas.Str.{length-le-encodes}
 use Rattle.rope_text.specs.Text.{byte_len}
-use Rattle.rope_text.specs.TextInfo.{info_of}
+use Rattle.rope_text.specs.TextInfo.{info_of, info_sum}
 use Rattle.rope_text.proofs.InfoLaws.{break_count-le-length}
 use Rattle.rope_text.proofs.Walks.{byte_len-chars}
 use Rattle.rope_tree.proofs.CountLaws.{shared_le}
@@ -12,9 +12,9 @@ use Rattle.rope_tree.specs.Tree.{leaf_tree}
 use Rattle.rope_join.specs.declared.cut.Side.{Side}
 use Rattle.rope_join.specs.declared.cut.Side.TheVariants.{Front, Back}
 use Rattle.rope_join.specs.Cut.{side_of}
-use Rattle.rope_join.proofs.PartCounts.{parts_sum, sum_turned}
+use Rattle.rope_join.proofs.PartCounts.{parts_sum, sum_turned, rest_is}
 use Rattle.rope_join.proofs.PartTexts.{AreCut, are_cut}
-use Rattle.rope_join.proofs.cut.leaf_part.Goals.{After-shared_breaks, After-range_from-back, in-Back, in_default}
+use Rattle.rope_join.proofs.cut.leaf_part.Goals.{After-shared_breaks, After-range_from-back, Joined-side, in-Back, in_default, then-part-other, else-part-other}
 use Rattle.rope_join.proofs.cut.leaf_part.Goals as goal
 
 cut : (c : After-range_from-back) → AreCut c.as_str-text.result.now c.range-front.result.now c.range_from-back.result.now c.args.leaf.now c.args.at
@@ -45,18 +45,38 @@ overflow_add-both c =
       c.as_str-text.ensures.fits,
     )
 
-pub part_info-requires : goal.part_info-requires
-part_info-requires c =
-    let e = (goal.at.part_info-requires c).After-shared_breaks in
+part_sum : (c : Joined-side) → record { bytes = c.info-info.result.bytes; chars = c.info-info.result.chars; utf16_surrogates = c.info-info.result.utf16_surrogates; break_count = c.info-info.result.break_count + c.shared_breaks.result }
+    ≡ info_sum (info_of c.line_breaks-breaks.result (chars c.match-side.part.now)) (info_of c.line_breaks-breaks.result (chars c.match-side.other.now))
+part_sum c =
     let front = chars c.range-front.result.now in
     let back = chars c.range_from-back.result.now in
-    let sum = parts_sum c.line_breaks-breaks.result c.info-info.result c.shared_breaks.result front back (whole e) c.shared_breaks.ensures in
-    record {
-      sum = elim c.match-side.branch [
-        | in-Back w ↦ rw (w.part-is, w.other-is) (sum ∙ sum_turned (info_of c.line_breaks-breaks.result front) (info_of c.line_breaks-breaks.result back))
-        | in_default w ↦ rw (w.part-is, w.other-is) sum
-      ];
-    }
+    let sum = parts_sum c.line_breaks-breaks.result c.info-info.result c.shared_breaks.result front back (whole (goal.at.Joined-side c).After-shared_breaks) c.shared_breaks.ensures in
+    elim c.match-side.branch [
+      | in-Back w ↦ rw (w.part-is, w.other-is) (sum ∙ sum_turned (info_of c.line_breaks-breaks.result front) (info_of c.line_breaks-breaks.result back))
+      | in_default w ↦ rw (w.part-is, w.other-is) sum
+    ]
+
+pub minus-info-requires-clause-bytes : goal.minus-info-requires-clause-bytes
+minus-info-requires-clause-bytes c = omega (arith, ap (λ i. i.bytes) (part_sum (goal.at.minus-info-requires-clause-bytes c).Joined-side), ap (λ i. i.bytes) c.of_short.ensures)
+
+pub minus-info-requires-clause-chars : goal.minus-info-requires-clause-chars
+minus-info-requires-clause-chars c = omega (arith, ap (λ i. i.chars) (part_sum (goal.at.minus-info-requires-clause-chars c).Joined-side), ap (λ i. i.chars) c.of_short.ensures)
+
+pub minus-info-requires-clause-utf16_surrogates : goal.minus-info-requires-clause-utf16_surrogates
+minus-info-requires-clause-utf16_surrogates c =
+    omega (arith, ap (λ i. i.utf16_surrogates) (part_sum (goal.at.minus-info-requires-clause-utf16_surrogates c).Joined-side), ap (λ i. i.utf16_surrogates) c.of_short.ensures)
+
+pub minus-info-requires-clause-break_count : goal.minus-info-requires-clause-break_count
+minus-info-requires-clause-break_count c =
+    omega (arith, ap (λ i. i.break_count) (part_sum (goal.at.minus-info-requires-clause-break_count c).Joined-side), ap (λ i. i.break_count) c.of_short.ensures)
+
+pub make_leaf-requires-clause-info : goal.make_leaf-requires-clause-info
+make_leaf-requires-clause-info c =
+    let sum = part_sum (goal.at.make_leaf-requires-clause-info c).Joined-side in
+    elim c.if-part-other.branch [
+      | then-part-other w ↦ w.info-is ∙ w.of_short-info.ensures
+      | else-part-other w ↦ w.info-is ∙ rest_is _ _ _ _ _ sum w.of_short.ensures w.minus-info.ensures.sum
+    ]
 
 not_back : (side : Side) (at : ℕ) (cs : List ℕ) → (side ≡ Back → ⊥) → take at cs ≡ side_of side at cs
 not_back Front at cs other = refl

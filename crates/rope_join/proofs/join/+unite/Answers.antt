@@ -1,9 +1,10 @@
-use Rattle.std.proofs.Common.{ℕ, arith}
+use Rattle.std.proofs.Common.{ℕ, ◌≤◌, refl, arith}
+use Rattle.rope_text.specs.Dense.{last_bytes}
 use Rattle.rope_tree.specs.View.{trees_in}
 use Rattle.rope_join.specs.Join.{CanMerge, IsUnion}
 use Rattle.rope_join.proofs.Unions.{both_ok}
 use Rattle.rope_join.proofs.Sides.{AreSides, sides_below, sides_some, sides_can_join, sides_near, sides_apart, sides_count, sides_siblings, sides_union}
-use Rattle.rope_join.proofs.join.+unite.Goals.{After-first_of}
+use Rattle.rope_join.proofs.join.+unite.Goals.{After-first_of, else-height-via-then-height+else-end_leaf_len-ge-MIN_PAIR_BYTES, else-height-via-else-height, then-height-eq0, else-height-eq0}
 use Rattle.rope_join.proofs.join.+unite.Goals as goal
 
 sides : (t : ℕ) (c : After-first_of t) → AreSides c.args.left.now c.args.right.now c.last_of.result.1.now c.first_of.result.0.now c.last_of.result.0.nodes.now c.first_of.result.1.nodes.now
@@ -18,7 +19,19 @@ sides t c = record {
 }
 
 far : (t : ℕ) (c : After-first_of t) → CanMerge c.args.left.now c.args.right.now → ⊥
-far t c can = grind (arith, c.can_merge.ensures.1 can, c.if-can_merge.false)
+far t c can = elim c.else-height.branch [
+  | else-height-via-then-height+else-end_leaf_len-ge-MIN_PAIR_BYTES w ↦
+      let no = w.if-end_leaf_len-ge-MIN_PAIR_BYTES.false in
+      elim w.if-height-eq0.branch [
+        | then-height-eq0 v ↦ grind (arith, no, v.value-is)
+        | else-height-eq0 v ↦
+            let high : 1 ≤ c.args.left.now.height = grind (arith, v.if-height-eq0.false, c.height-height.ensures.value) in
+            let last = v.end_leaf_len.ensures.last refl 492 in
+            let dense = (v.end_leaf_len-else-height-eq0.ensures.first refl (last_bytes 492 c.args.left.now.leaves)).1 (can.near high) in
+            grind (arith, no, v.value-is, last, dense)
+      ]
+  | else-height-via-else-height w ↦ absurd (w.if-height.false (grind (arith, can.level, c.height-height.ensures.value, c.height.ensures.value)))
+]
 
 pub unite-requires : goal.unite-requires
 unite-requires t c =
