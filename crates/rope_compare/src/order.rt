@@ -94,13 +94,6 @@ pub fn order(left: &Part<'_>, right: &Part<'_>) -> Ordering
     order_of_pieces(Pieces::of(left), Pieces::of(right))
 }
 
-/// Whether two texts are the same, however each is cut. No memory is taken, and no text is read where the lengths differ.
-pub fn is_same(left: &Part<'_>, right: &Part<'_>) -> bool
-    ensures { IsTrue result ↔ (text_of left.now ≡ text_of right.now) }
-{
-    left.info().bytes == right.info().bytes && order(left, right).is_eq()
-}
-
 /// Whether the text is this one. No memory is taken, and no text is read where the lengths differ.
 pub fn is_text(part: &Part<'_>, text: &str) -> bool
     ensures { IsTrue result ↔ (text_of part.now ≡ chars text.now) }

@@ -76,22 +76,6 @@ impl<'a> Chunks<'a> {
         (chunks, bytes, chars, break_count)
     }
 
-    /// A cursor before the first chunk by whose end so many line breaks have ended, facing forward; one more than there are
-    /// line breaks is past the last chunk. With it the bytes, the characters and the line breaks of the text before its place.
-    pub fn at_line_break(part: &Part<'a>, break_idx: usize) -> (Chunks<'a>, usize, usize, usize)
-        requires { break_idx ≤ line_count (breaks_of part.now) (text_of part.now) }
-        ensures { StandsAt (breaks_of part.now) (chunks_of part.now)
-            (chunk_place_at_line_break (breaks_of part.now) (chunks_of part.now) break_idx)
-            result.0 result.1 result.2 result.3 }
-    {
-        let start = part.convert(Unit::LineBreak, Unit::Char, break_idx);
-        let is_past = break_idx > part.info().break_count;
-        // the last of these breaks ends right before the line that starts there
-        let before = start.saturating_sub(1);
-        let char_idx = if is_past { start } else { before };
-        Chunks::at(part, Unit::Char, char_idx)
-    }
-
     // One chunk to the right, or to the left.
     fn step(&mut self, is_left: bool) -> Option<&'a str>
         ensures { MatchBool is_left (GoesLeft (λ x. chars x.now) self.old result self.new) (GoesRight (λ x. chars x.now) self.old result self.new) }

@@ -76,7 +76,7 @@ impl<'a> RopeSlice<'a> {
     pub fn len_lines(&self) -> usize
         ensures { result ≡ line_count (breaks_of self.now) (text_of self.now) }
     {
-        self.part.len_lines()
+        self.part.info().break_count + 1
     }
 
     /// The length in UTF-16 code units. Takes constant time and no memory.
@@ -132,10 +132,11 @@ impl<'a> RopeSlice<'a> {
         if from.max(to) > len {
             return Err(Error::ByteRangeOutOfBounds(start, end, len));
         }
-        if !self.part.is_char_boundary(from) || !self.part.is_char_boundary(to) {
+        let (first, last) = (self.byte_to_char(from), self.byte_to_char(to));
+        if self.char_to_byte(first) != from || self.char_to_byte(last) != to {
             return Err(Error::ByteRangeNotCharBoundary(start, end));
         }
-        let part = self.part.byte_range(from, to);
+        let part = self.part.char_range(first, last);
         Ok(RopeSlice { part })
     }
 

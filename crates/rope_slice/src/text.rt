@@ -15,7 +15,7 @@ ghost use Rattle.rope_text.specs.declared.error.Error.TheVariants.{OutOfMemory};
 
 use crate::slice::RopeSlice;
 use rope_compare::hashing::feed;
-use rope_compare::order::{is_same, is_text, order};
+use rope_compare::order::{is_text, order};
 use rope_compare::text_out::{copy, show};
 use rope_text::Result;
 use std::alloc::Global;
@@ -77,7 +77,7 @@ impl<'a> PartialEq for RopeSlice<'a> {
     ghost laws = { Prim.search (comparing, rules) };
 
     fn eq(&self, other: &RopeSlice<'a>) -> bool {
-        is_same(&self.part, &other.part)
+        self.len_bytes() == other.len_bytes() && order(&self.part, &other.part).is_eq()
     }
 }
 
