@@ -4,8 +4,7 @@ ghost use Rattle.std.specs.Bool.{MatchBool};
 ghost use Rattle.std.specs.Str.{chars};
 ghost use Rattle.std.specs.Iterator.{YieldsFirstBy, item_count};
 ghost use Rattle.rope_text.specs.Cutting.{IsCutting};
-ghost use Rattle.rope_text.specs.Lines.{line_count};
-ghost use Rattle.rope_text.specs.Lookup.{StandsAt, chunk_place_at_line_break};
+ghost use Rattle.rope_text.specs.Lookup.{StandsAt};
 ghost use Rattle.rope_text.specs.Sides.{ahead, at_start, turned, GoesRight, GoesLeft, GoesAhead, StepsBack};
 ghost use Rattle.rope_part.specs.Part.{text_of, chunks_of, breaks_of};
 ghost use Rattle.rope_cursor.specs.Starts.{IsItem, size_in, chunk_place};
@@ -74,22 +73,6 @@ impl<'a> Chunks<'a> {
             return (chunks, info.bytes, info.chars, info.break_count);
         }
         (chunks, bytes, chars, break_count)
-    }
-
-    /// A cursor before the first chunk by whose end so many line breaks have ended, facing forward; one more than there are
-    /// line breaks is past the last chunk. With it the bytes, the characters and the line breaks of the text before its place.
-    pub fn at_line_break(part: &Part<'a>, break_idx: usize) -> (Chunks<'a>, usize, usize, usize)
-        requires { break_idx ≤ line_count (breaks_of part.now) (text_of part.now) }
-        ensures { StandsAt (breaks_of part.now) (chunks_of part.now)
-            (chunk_place_at_line_break (breaks_of part.now) (chunks_of part.now) break_idx)
-            result.0 result.1 result.2 result.3 }
-    {
-        let start = part.convert(Unit::LineBreak, Unit::Char, break_idx);
-        let is_past = break_idx > part.info().break_count;
-        // the last of these breaks ends right before the line that starts there
-        let before = start.saturating_sub(1);
-        let char_idx = if is_past { start } else { before };
-        Chunks::at(part, Unit::Char, char_idx)
     }
 
     // One chunk to the right, or to the left.

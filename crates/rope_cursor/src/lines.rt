@@ -86,7 +86,7 @@ impl<'a, T: OfPart<'a>> Lines<'a, T> {
             gap: Gap { span, inside, near },
             before,
             line: line_idx,
-            total: part.len_lines(),
+            total: info.break_count + 1,
             is_backward: false,
             item: PhantomData,
         }

@@ -5,10 +5,8 @@ ghost use Rattle.std.specs.Str.{chars, encode_utf8_all};
 ghost use Rattle.rope_text.specs.Text.{byte_len};
 ghost use Rattle.rope_text.specs.TextInfo.{info_of};
 ghost use Rattle.rope_text.specs.Lines.{line_count};
-ghost use Rattle.rope_text.specs.Conversions.{byte_to_char};
 ghost use Rattle.rope_text.specs.Cutting.{clip, single_chunk, parts_crlf};
 ghost use Rattle.rope_text.specs.LineParts.{part_between, line_of};
-ghost use Rattle.rope_text.specs.Edit.{is_char_boundary};
 ghost use Rattle.rope_text.specs.Lookup.{found_chunk, chunk_index_at_line_break};
 ghost use Rattle.rope_tree.specs.Conversions.{end_index, are_converted, converted};
 ghost use Rattle.rope_tree.specs.Tree.{text};
@@ -88,13 +86,6 @@ impl<'a> Part<'a> {
         }
     }
 
-    /// The number of lines: one more than there are line breaks. No text is read.
-    pub fn len_lines(&self) -> usize
-        ensures { result ≡ line_count (breaks_of self.now) (text_of self.now) }
-    {
-        self.info().break_count + 1
-    }
-
     /// Its characters from `start` up to `end`, with its set of line breaks: its text and its chunks, clipped.
     pub fn char_range(&self, start: usize, end: usize) -> Part<'a>
         requires ordered { start ≤ end }
@@ -119,22 +110,6 @@ impl<'a> Part<'a> {
                 Part::from_str_with(&rest[..len], plain.breaks)
             }
         }
-    }
-
-    /// Its characters from the one that holds the byte `start` up to the one that holds the byte `end`, as `char_range`
-    /// gives them.
-    pub fn byte_range(&self, start: usize, end: usize) -> Part<'a>
-        requires ordered { start ≤ end }
-        requires within { end ≤ byte_len (text_of self.now) }
-        ensures text { text_of result ≡ slice_range (text_of self.now)
-            (byte_to_char (text_of self.now) start) (byte_to_char (text_of self.now) end) }
-        ensures chunks { chunks_of result ≡ clip (chunks_of self.now)
-            (byte_to_char (text_of self.now) start) (byte_to_char (text_of self.now) end) }
-        ensures breaks { breaks_of result ≡ breaks_of self.now }
-    {
-        let start = self.convert(Unit::Byte, Unit::Char, start);
-        let end = self.convert(Unit::Byte, Unit::Char, end);
-        self.char_range(start, end)
     }
 
     /// The counts of its text before a line; past the last line those of all of it. One look-up in a rope's text.
@@ -327,14 +302,5 @@ impl<'a> Part<'a> {
                 convert_in(plain.as_str(), plain.info, plain.breaks, from, to, idx)
             }
         }
-    }
-
-    /// Whether a character begins at a byte, or the text ends there.
-    pub fn is_char_boundary(&self, byte_idx: usize) -> bool
-        requires { byte_idx ≤ byte_len (text_of self.now) }
-        ensures { result ≡ is_char_boundary (text_of self.now) byte_idx }
-    {
-        let char_idx = self.convert(Unit::Byte, Unit::Char, byte_idx);
-        self.convert(Unit::Char, Unit::Byte, char_idx) == byte_idx
     }
 }

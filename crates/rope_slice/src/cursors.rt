@@ -103,7 +103,12 @@ impl<'a> RopeSlice<'a> {
         requires { line_break_idx ≤ line_count (breaks_of self.now) (text_of self.now) }
         ensures { StandsBefore (content_of self.now) (chunk_place_at_line_break (breaks_of self.now) (chunks_of self.now) line_break_idx) result }
     {
-        Chunks::at_line_break(&self.part, line_break_idx)
+        let start = self.line_to_char(line_break_idx);
+        let is_past = line_break_idx == self.len_lines();
+        // the last of these breaks ends right before the line that starts there
+        let before = start.saturating_sub(1);
+        let char_idx = if is_past { start } else { before };
+        Chunks::at(&self.part, Unit::Char, char_idx)
     }
 
     /// As `bytes_at`, or `None` exactly where the index is past `len_bytes()`. Costs one or two look-ups; takes no

@@ -2,7 +2,7 @@
 //!
 //! `RopeSlice::from("one\ntwo")` is a slice of a plain text: it has 7 characters, 2 lines and one chunk. The slice `2..9`
 //! of `"hello world"` is `"llo wor"`, and of that the slice `1..4` is `"lo "`. No call takes memory.
-ghost use Rattle.std.specs.Prelude.{◌≡◌, length, not, false, nat_lt, None, Some, Ok, Err, IfOk, IfErr, MatchOption};
+ghost use Rattle.std.specs.Prelude.{◌≡◌, length, None, Some, Ok, Err, IfOk, IfErr};
 ghost use Rattle.std.specs.Str.{chars};
 ghost use Rattle.rope_text.specs.declared.line_breaks.LineBreaks.TheVariants.{Unicode};
 ghost use Rattle.rope_text.specs.Text.{byte_len, utf16_len};
@@ -10,7 +10,7 @@ ghost use Rattle.rope_text.specs.Lines.{line_count};
 ghost use Rattle.rope_text.specs.Cutting.{single_chunk};
 ghost use Rattle.rope_part.specs.Kept.{IsPart};
 ghost use Rattle.rope_slice.specs.Found.{GivesWithin, GivesUnless};
-ghost use Rattle.rope_text.specs.Edit.{range_start, range_end, given, is_char_boundary, char_range_error, byte_range_error};
+ghost use Rattle.rope_text.specs.Edit.{given, char_range_error, byte_range_error};
 ghost use Rattle.rope_slice.specs.Sliced.{IsCharRange, IsByteRange};
 
 use rope_part::Part;
@@ -76,7 +76,7 @@ impl<'a> RopeSlice<'a> {
     pub fn len_lines(&self) -> usize
         ensures { result ≡ line_count (breaks_of self.now) (text_of self.now) }
     {
-        self.part.len_lines()
+        self.part.info().break_count + 1
     }
 
     /// The length in UTF-16 code units. Takes constant time and no memory.
@@ -132,10 +132,11 @@ impl<'a> RopeSlice<'a> {
         if from.max(to) > len {
             return Err(Error::ByteRangeOutOfBounds(start, end, len));
         }
-        if !self.part.is_char_boundary(from) || !self.part.is_char_boundary(to) {
+        let (first, last) = (self.byte_to_char(from), self.byte_to_char(to));
+        if self.char_to_byte(first) != from || self.char_to_byte(last) != to {
             return Err(Error::ByteRangeNotCharBoundary(start, end));
         }
-        let part = self.part.byte_range(from, to);
+        let part = self.part.char_range(first, last);
         Ok(RopeSlice { part })
     }
 

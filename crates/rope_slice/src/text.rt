@@ -15,8 +15,9 @@ ghost use Rattle.rope_text.specs.declared.error.Error.TheVariants.{OutOfMemory};
 
 use crate::slice::RopeSlice;
 use rope_compare::hashing::feed;
-use rope_compare::order::{is_same, is_text, order};
+use rope_compare::order::{order, order_of_pieces};
 use rope_compare::text_out::{copy, show};
+use rope_cursor::Pieces;
 use rope_text::Result;
 use std::alloc::Global;
 use std::borrow::CowStr;
@@ -32,7 +33,8 @@ impl<'a> RopeSlice<'a> {
     pub fn eq_str(&self, other: &str) -> bool
         ensures { IsTrue result ↔ (text_of self.now ≡ chars other.now) }
     {
-        is_text(&self.part, other)
+        self.len_bytes() == other.len()
+            && order_of_pieces(Pieces::of(&self.part), Pieces::of_text(other)).is_eq()
     }
 
     /// A copy of the text as a string. Takes time in proportion to the text, and memory once.
@@ -77,7 +79,7 @@ impl<'a> PartialEq for RopeSlice<'a> {
     ghost laws = { Prim.search (comparing, rules) };
 
     fn eq(&self, other: &RopeSlice<'a>) -> bool {
-        is_same(&self.part, &other.part)
+        self.len_bytes() == other.len_bytes() && order(&self.part, &other.part).is_eq()
     }
 }
 

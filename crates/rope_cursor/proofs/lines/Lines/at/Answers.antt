@@ -1,5 +1,7 @@
-use Rattle.std.proofs.Common.{ℕ, ◌-◌, ◌∙◌, ap, length, take, drop, arith}
+use Rattle.std.proofs.Common.{ℕ, ◌+◌, ◌-◌, ◌∙◌, ap, length, take, drop, arith}
 use Rattle.std.specs.List.{concat}
+use Rattle.std.proofs.lemmas.Str.{length-le-encodes}
+use Rattle.rope_text.proofs.InfoLaws.{break_count-le-length}
 use Rattle.rope_text.specs.Lines.{line_start}
 use Rattle.rope_text.proofs.LineLaws.{line_start-le-length}
 use Rattle.rope_part.specs.Part.{content_of, text_of, breaks_of}
@@ -13,6 +15,11 @@ at-span-requires-clause-within g c =
     let t = text_of c.args.part.now in
     let short = line_start-le-length breaks t c.args.line_idx in
     rw (counts_at breaks t (line_start breaks t c.args.line_idx) c.before_line-before.result short c.before_line-before.ensures).0 short
+
+pub overflow_add-result : goal.overflow_add-result
+overflow_add-result g c =
+    let t = text_of c.args.part.now in
+    omega (arith, ap (λ x. x.break_count) c.info-info.ensures.value, break_count-le-length (breaks_of c.args.part.now) t, length-le-encodes t, c.info-info.ensures.kept.fits)
 
 pub invariant_of-result : goal.invariant_of-result
 invariant_of-result g c =
@@ -31,8 +38,8 @@ invariant_of-result-2 g c =
     let t = text_of c.args.part.now in
     let same = (counts_at breaks t (line_start breaks t c.args.line_idx) c.before_line-before.result (line_start-le-length breaks t c.args.line_idx) c.before_line-before.ensures).0 in
     record {
-      within = omega (arith, c.len_lines.ensures, c.requires);
-      total_is = c.len_lines.ensures;
+      within = omega (arith, c.requires, ap (λ x. x.break_count) c.info-info.ensures.value);
+      total_is = ap (λ x. x.break_count + 1) c.info-info.ensures.value;
       front_is = front_at (content_of c.args.part.now) p within place c.at-span.result.1 c.info-info.ensures.kept e.text e.chunks (omega (arith, e.starts)) (omega (arith, e.within)) e.byte ∙ ap (λ n. take n t) same;
       back_is = back_at (content_of c.args.part.now) p within place c.at-span.result.1 c.info-info.ensures.kept e.text e.chunks (omega (arith, e.starts)) (omega (arith, e.within)) e.byte ∙ ap (λ n. drop n t) same;
       before_is = c.before_line-before.ensures;

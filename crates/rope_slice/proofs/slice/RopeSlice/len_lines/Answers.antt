@@ -1,7 +1,7 @@
 use Rattle.std.proofs.Common.{ap, arith}
 use Rattle.rope_tree.proofs.Infos.{small_info}
-use Rattle.rope_part.specs.Part.{text_of, breaks_of}
-use Rattle.rope_part.proofs.part.Part.len_lines.Goals as goal
+use Rattle.rope_slice.specs.Slice.{text_of, breaks_of}
+use Rattle.rope_slice.proofs.slice.RopeSlice.len_lines.Goals as goal
 
 pub overflow_add-result : goal.overflow_add-result
 overflow_add-result c =
