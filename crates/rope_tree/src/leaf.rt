@@ -155,7 +155,10 @@ impl Leaf {
         requires { info ≡ info_of self.now.breaks (text self.now) }
         ensures { IsLeafOf self.now result }
     {
-        ShortText::with_chars(&self.text.as_str()[..info.bytes], info.chars)
+        ShortText {
+            text: &self.text.as_str()[..info.bytes],
+            count: info.chars,
+        }
     }
 
     /// Whether some bytes of its text, the last of `len` and one in each 64 from `from` on, have a sum that none have: so it never is. It

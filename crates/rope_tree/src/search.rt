@@ -96,20 +96,6 @@ fn shift_wide(totals: &mut [TextInfo], from: usize, old: TextInfo, new: TextInfo
     }
 }
 
-/// Puts other totals behind these, with the counts `new` in each for the part `old`.
-fn append_wide(totals: &mut WideTotals, others: &[TextInfo], old: TextInfo, new: TextInfo)
-    requires room { length totals.old.items + length others.now ≤ MAX_CHILDREN }
-    requires part { (j : ℕ) (d : TextInfo) → j < length others.now → HasPart (slice_index_or others.now j d) old }
-    requires fits { (j : ℕ) (d : TextInfo) → j < length others.now → IsBelowWith (2 ^ 64) (slice_index_or others.now j d) old new }
-    ensures len { length totals.new.items ≡ length totals.old.items + length others.now }
-    ensures before { (j : ℕ) (d : TextInfo) → j < length totals.old.items → slice_index_or totals.new.items j d ≡ slice_index_or totals.old.items j d }
-    ensures behind { (j : ℕ) (d : TextInfo) → j < length others.now → info_sum (slice_index_or totals.new.items (length totals.old.items + j) d) old ≡ info_sum (slice_index_or others.now j d) new }
-{
-    for other in others {
-        totals.push(other.minus(old).plus(new));
-    }
-}
-
 /// The bytes of a text whose counts may not all fit in 32 bits.
 const TOO_WIDE: usize = 4_294_967_296;
 
@@ -217,7 +203,9 @@ impl Totals {
                 Ok(true)
             }
             (Width::Wide(totals), Width::Wide(others)) => {
-                append_wide(totals, &others[from..from + count], old, new);
+                for other in &others[from..from + count] {
+                    totals.push(other.minus(old).plus(new));
+                }
                 Ok(true)
             }
             _ => Ok(false),
