@@ -20,6 +20,14 @@ same_counts a b bytes chars pairs breaks =
     (record { bytes = b.bytes; chars = b.chars; utf16_surrogates = b.utf16_surrogates; break_count = b.break_count }) = cc in
     same
 
+-- the counts of one of a list, with others for those of a part
+pub sum_at : (xs : List TextInfo) (i : ℕ) (d e old new less more : TextInfo) → i < length xs → info_sum old less ≡ get_or xs i e → more ≡ info_sum less new → info_sum more old ≡ info_sum (get_or xs i d) new
+sum_at xs i d e old new less more lt part sum =
+    let is : info_sum old less ≡ get_or xs i d = part ∙ get_or_default xs i e d lt in
+    same_counts (info_sum more old) (info_sum (get_or xs i d) new)
+    (omega (arith, ap (λ t. t.bytes) is, ap (λ t. t.bytes) sum)) (omega (arith, ap (λ t. t.chars) is, ap (λ t. t.chars) sum))
+    (omega (arith, ap (λ t. t.utf16_surrogates) is, ap (λ t. t.utf16_surrogates) sum)) (omega (arith, ap (λ t. t.break_count) is, ap (λ t. t.break_count) sum))
+
 pub sums_more : (x y i j n : TextInfo) → info_sum x i ≡ info_sum y j → info_sum (info_sum x n) i ≡ info_sum (info_sum y n) j
 sums_more x y i j n e =
     same_counts (info_sum (info_sum x n) i) (info_sum (info_sum y n) j)

@@ -18,20 +18,6 @@ use std::marker::Model;
 // More bytes than a leaf can have, even where the last of them begin a character or are a CR.
 const MAX_AHEAD_BYTES: usize = MAX_BYTES + 4;
 
-// How many bytes of a text are looked at for the end of a leaf that begins before it.
-fn ahead_len(text: &str) -> usize
-    ensures boundary { IsCharBoundary text.now result }
-    ensures short { result ≤ MAX_AHEAD_BYTES }
-    ensures long { min (MAX_BYTES + 1) (length text.now) ≤ result }
-    ensures within { result ≤ length text.now }
-{
-    if text.len() <= MAX_AHEAD_BYTES {
-        text.len()
-    } else {
-        prev_break(MAX_AHEAD_BYTES + 1, text.as_bytes())
-    }
-}
-
 // Cuts the first leaf off a text that begins with `rest` and goes on with `text`, wherever it ends. Answers it, what of `rest` is
 // behind it, and how many bytes of the text are in it.
 fn cut_at_seam(rest: &NodeText, text: &str) -> (NodeText, NodeText, usize)
@@ -44,7 +30,12 @@ fn cut_at_seam(rest: &NodeText, text: &str) -> (NodeText, NodeText, usize)
     ensures left { byte_len result.0 + (byte_len result.1 + (length text.now - result.2)) ≡ byte_len rest.now + length text.now }
 {
     let first = rest.as_str();
-    let ahead = join_parts::<1972>(first, &text[..ahead_len(text)], "");
+    let ahead_len = if text.len() <= MAX_AHEAD_BYTES {
+        text.len()
+    } else {
+        prev_break(MAX_AHEAD_BYTES + 1, text.as_bytes())
+    };
+    let ahead = join_parts::<1972>(first, &text[..ahead_len], "");
     let ahead = ahead.as_str();
     let len = first_leaf_len(ahead);
     let leaf = NodeText::from_str(&ahead[..len]);

@@ -11,6 +11,7 @@ ghost use Rattle.rope_tree.specs.Removal.{KeepsEnds};
 use crate::node_text::join_parts;
 use crate::{NodeText, ShortText};
 use arrayvec::ArrayString;
+use rope_text::str_utils::char_to_byte_idx_of;
 use rope_text::{LineBreaks, MAX_JOINED_BYTES, TextInfo};
 
 /// Whether CR is the last character.
@@ -106,7 +107,12 @@ pub fn put_in(
     ensures info { result ≡ info_of breaks (inserted leaf.old at added.now) }
 {
     let text = leaf.as_str();
-    let place = leaf.char_start(at, info.chars, info.bytes);
+    // Of a text that has as many bytes as characters nothing is read, and nothing is waited for.
+    let place = if info.chars == info.bytes {
+        at
+    } else {
+        char_to_byte_idx_of(text, info.chars, at)
+    };
     let added = added.as_str();
     let info = info_between(info, &text[..place], added, &text[place..], breaks);
     leaf.insert_bytes(place, added);

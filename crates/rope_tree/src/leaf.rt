@@ -71,13 +71,6 @@ impl Summary {
             bytes: usize::from(self.bytes),
         }
     }
-
-    /// The set.
-    fn line_breaks(self) -> LineBreaks
-        ensures { result ≡ self.breaks }
-    {
-        self.breaks
-    }
 }
 
 /// A text of at most `MAX_BYTES` bytes, its counts and its set of line breaks. It is seen as the tree that is a leaf.
@@ -138,7 +131,7 @@ impl Leaf {
     pub(crate) fn line_breaks(&self) -> LineBreaks
         ensures { result ≡ self.now.breaks }
     {
-        self.summary.line_breaks()
+        self.summary.breaks
     }
 
     /// The counts of its text.
@@ -162,13 +155,26 @@ impl Leaf {
         requires { info ≡ info_of self.now.breaks (text self.now) }
         ensures { IsLeafOf self.now result }
     {
-        ShortText::with_chars(&self.text.as_str()[..info.bytes], info.chars)
+        ShortText {
+            text: &self.text.as_str()[..info.bytes],
+            count: info.chars,
+        }
     }
 
-    /// Whether it has no text, which none has: to ask it reads the leaf ahead.
+    /// Whether some bytes of its text, the last of `len` and one in each 64 from `from` on, have a sum that none have: so it never is. It
+    /// is asked before an edit, for then the leaf's places in memory are read side by side, where the edit would wait for each. The length
+    /// is the caller's, since the text's own would be waited for.
     #[inline(always)]
     pub(crate) fn is_no_text(&self, from: usize, len: usize) -> bool {
-        self.text.is_no_text(from, len)
+        let bytes = self.text.as_str().as_bytes();
+        let len = len.min(MAX_BYTES);
+        let mut sum = usize::from(*bytes.get(len.saturating_sub(1)).unwrap_or(&0));
+        let mut at = from;
+        while at < len {
+            sum = sum.wrapping_add(usize::from(*bytes.get(at).unwrap_or(&0)));
+            at += 64;
+        }
+        sum == usize::MAX
     }
 
     /// Puts a text before the character `at`, if there is room for it; returns whether it did, and in `more` by how much the
@@ -184,7 +190,7 @@ impl Leaf {
             return false;
         }
         let old = self.summary;
-        let breaks = old.line_breaks();
+        let breaks = old.breaks;
         let before = old.info();
         let after = put_in(&mut self.text, at, added, before, breaks);
         let _ = self.text.as_str();
@@ -234,7 +240,7 @@ impl Leaf {
         ensures kept { result ≡ false → self.new ≡ self.old }
     {
         let old = self.summary;
-        let breaks = old.line_breaks();
+        let breaks = old.breaks;
         let least = least.first.max(least.last);
         let before = old.info();
         let Some(after) = take_out(&mut self.text, start, end, least, before, breaks) else {

@@ -154,22 +154,6 @@ impl NodeText {
         self.as_str().len()
     }
 
-    /// Whether some bytes of it, the last of `len` and one in each 64 from `from` on, have a sum that none have: so it never is. It is
-    /// asked before an edit, for then the leaf's places in memory are read side by side, where the edit would wait for each. The length
-    /// is the caller's, since the text's own would be waited for.
-    #[inline(always)]
-    pub(crate) fn is_no_text(&self, from: usize, len: usize) -> bool {
-        let bytes = self.bytes.as_slice();
-        let len = len.min(MAX_BYTES);
-        let mut sum = usize::from(*bytes.get(len.saturating_sub(1)).unwrap_or(&0));
-        let mut at = from;
-        while at < len {
-            sum = sum.wrapping_add(usize::from(*bytes.get(at).unwrap_or(&0)));
-            at += 64;
-        }
-        sum == usize::MAX
-    }
-
     /// Puts `added` where a character starts, or at the end. What follows it moves down, and what stands before it stays.
     pub fn insert_bytes(&mut self, place: usize, added: &str)
         requires boundary { IsCharBoundary (encode_utf8_all self.old) place }
@@ -196,22 +180,6 @@ impl NodeText {
         ensures len { byte_len self.new ≡ byte_len self.old + length text.now }
     {
         append_bytes(&mut self.bytes, text.as_bytes());
-    }
-
-    /// The byte at which the character `at` starts, or the end, of a text that is known to have so many characters and bytes: where
-    /// it has as many of both, nothing is read, and nothing is waited for.
-    pub fn char_start(&self, at: usize, chars: usize, bytes: usize) -> usize
-        requires within { at ≤ length self.now }
-        requires chars { chars ≡ length self.now }
-        requires bytes { bytes ≡ byte_len self.now }
-        ensures value { result ≡ byte_len (take at self.now) }
-        ensures boundary { IsCharBoundary (encode_utf8_all self.now) result }
-    {
-        let text = self.as_str();
-        if chars == bytes {
-            return at;
-        }
-        char_to_byte_idx_of(text, chars, at)
     }
 
     /// The bytes that the characters from `start` up to `end` take, where the text is known to have `chars` characters: where

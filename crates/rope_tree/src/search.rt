@@ -96,20 +96,6 @@ fn shift_wide(totals: &mut [TextInfo], from: usize, old: TextInfo, new: TextInfo
     }
 }
 
-/// Puts other totals behind these, with the counts `new` in each for the part `old`.
-fn append_wide(totals: &mut WideTotals, others: &[TextInfo], old: TextInfo, new: TextInfo)
-    requires room { length totals.old.items + length others.now ≤ MAX_CHILDREN }
-    requires part { (j : ℕ) (d : TextInfo) → j < length others.now → HasPart (slice_index_or others.now j d) old }
-    requires fits { (j : ℕ) (d : TextInfo) → j < length others.now → IsBelowWith (2 ^ 64) (slice_index_or others.now j d) old new }
-    ensures len { length totals.new.items ≡ length totals.old.items + length others.now }
-    ensures before { (j : ℕ) (d : TextInfo) → j < length totals.old.items → slice_index_or totals.new.items j d ≡ slice_index_or totals.old.items j d }
-    ensures behind { (j : ℕ) (d : TextInfo) → j < length others.now → info_sum (slice_index_or totals.new.items (length totals.old.items + j) d) old ≡ info_sum (slice_index_or others.now j d) new }
-{
-    for other in others {
-        totals.push(other.minus(old).plus(new));
-    }
-}
-
 /// The bytes of a text whose counts may not all fit in 32 bits.
 const TOO_WIDE: usize = 4_294_967_296;
 
@@ -146,16 +132,6 @@ impl Totals {
         }
     }
 
-    /// One of these counts.
-    #[inline(always)]
-    pub fn count(&self, place: usize, unit: Unit) -> usize
-        requires within { place < length self.now }
-        requires small { (d : TextInfo) → IsSmall (slice_index_or self.now place d) }
-        ensures { (d : TextInfo) → result ≡ count_of unit (slice_index_or self.now place d) }
-    {
-        count(self.get(place), unit)
-    }
-
     /// Whether a text of so many bytes more leaves the totals in the width that they have.
     #[inline(always)]
     pub(crate) fn has_room_for(&self, bytes: usize) -> bool
@@ -189,17 +165,6 @@ impl Totals {
         Ok(())
     }
 
-    /// The same totals in words.
-    fn widen(&mut self, alloc: Global) -> Made<()>
-        requires { length self.old ≤ MAX_CHILDREN }
-        ensures { self.new ≡ self.old }
-    {
-        if let Width::Narrow(totals) = &self.width {
-            self.width = Width::Wide(widened(alloc, totals)?);
-        }
-        Ok(())
-    }
-
     /// Puts totals of another list behind these: `count` of them from one place on, with the counts `new` in each for the part
     /// `old`. Returns whether it did: not where they would be of two widths, and then nothing has changed.
     pub(crate) fn append(
@@ -228,7 +193,9 @@ impl Totals {
         let last = others.get(from + count - 1);
         let is_wide = last.bytes - old.bytes + new.bytes >= TOO_WIDE;
         if is_wide {
-            self.widen(alloc)?;
+            if let Width::Narrow(totals) = &self.width {
+                self.width = Width::Wide(widened(alloc, totals)?);
+            }
         }
         match (&mut self.width, &others.width) {
             (Width::Narrow(totals), Width::Narrow(others)) if !is_wide => {
@@ -236,7 +203,9 @@ impl Totals {
                 Ok(true)
             }
             (Width::Wide(totals), Width::Wide(others)) => {
-                append_wide(totals, &others[from..from + count], old, new);
+                for other in &others[from..from + count] {
+                    totals.push(other.minus(old).plus(new));
+                }
                 Ok(true)
             }
             _ => Ok(false),
@@ -300,28 +269,12 @@ pub fn place_of(totals: &Totals, unit: Unit, at: usize, steps: &mut Steps) -> us
         let half = room / 2;
         if base + half < totals.len() {
             steps.compares += 1;
-            let passes = totals.count(base + half - 1, unit) <= at;
+            let passes = count(totals.get(base + half - 1), unit) <= at;
             base += half * usize::from(passes);
         }
         room = half;
     }
     base
-}
-
-/// Whether the child at a place holds a character: two comparisons of which a processor guesses what they give.
-#[inline(always)]
-pub(crate) fn holds_char(totals: &Totals, place: usize, at: usize) -> bool
-    requires small { (j : ℕ) (d : TextInfo) → j < length totals.now → IsSmall (slice_index_or totals.now j d) }
-    ensures within { result ≡ true → place < length totals.now }
-    ensures before { result ≡ true → (d : TextInfo) → 0 < place → count_of Char (slice_index_or totals.now (place - 1) d) ≤ at }
-    ensures past { result ≡ true → (d : TextInfo) → at < count_of Char (slice_index_or totals.now place d) }
-{
-    if place >= totals.len() {
-        return false;
-    }
-    let is_before = at < totals.count(place, Unit::Char);
-    let is_behind = place == 0 || totals.count(place - 1, Unit::Char) <= at;
-    is_before & is_behind
 }
 
 /// The child that holds a character, and whether the way there still follows another. Where the way follows another, that one's child is tried first: so nothing waits for a search
@@ -337,8 +290,13 @@ pub(crate) fn try_place(totals: &Totals, at: usize, likely: usize, follows: bool
     ensures past { (d : TextInfo) → at < count_of Char (slice_index_or totals.now result.0 d) }
 {
     let are_few = totals.len() < MIN_CHILDREN;
-    if follows && !are_few && holds_char(totals, likely, at) {
-        return (likely, true);
+    if follows && !are_few && likely < totals.len() {
+        // Both comparisons are made, of which a processor guesses what they give.
+        let is_before = at < count(totals.get(likely), Unit::Char);
+        let is_behind = likely == 0 || count(totals.get(likely - 1), Unit::Char) <= at;
+        if is_before & is_behind {
+            return (likely, true);
+        }
     }
     let place = place_of(totals, Unit::Char, at, &mut Steps::new());
     (place, follows && are_few)

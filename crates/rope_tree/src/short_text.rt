@@ -14,9 +14,9 @@ use std::marker::Model;
 /// it. Where it is known to have another number of characters, the shorter side of the character is read.
 #[derive(Drop)]
 pub struct ShortText<'a> {
-    text: &'a str,
+    pub(crate) text: &'a str,
     /// The number of its characters, or more than that of its bytes, where it isn't known.
-    count: usize,
+    pub(crate) count: usize,
 }
 
 // More than any short text has: its characters were not counted.
@@ -42,15 +42,6 @@ impl<'a> ShortText<'a> {
         ensures len { byte_len result ≡ length text.now }
     {
         let count = UNCOUNTED;
-        ShortText { text, count }
-    }
-
-    /// A text of at most `MAX_BYTES` bytes that is known to have so many characters.
-    pub(crate) fn with_chars(text: &'a str, count: usize) -> ShortText<'a>
-        requires short { length text.now ≤ MAX_BYTES }
-        requires count { count ≡ length (chars text.now) }
-        ensures { result ≡ chars text.now }
-    {
         ShortText { text, count }
     }
 

@@ -13,8 +13,8 @@ use Rattle.rope_tree.proofs.leaf.Leaf.insert_in_place.Goals as goal
 -- the counts of a leaf that took the text
 low : (c : After-as_str) → IsLow c.put_in-after.result 984
 low c =
-    let now = c.put_in-after.ensures.info ∙ ap (info_of c.line_breaks-breaks.result) (sym c.put_in-after.ensures.text) in
-    subst (λ i. IsLow i 984) (sym now) (low_info c.line_breaks-breaks.result c.put_in-after.new.leaf 984 c.as_str.ensures.fits)
+    let now = c.put_in-after.ensures.info ∙ ap (info_of c.old.inside.breaks) (sym c.put_in-after.ensures.text) in
+    subst (λ i. IsLow i 984) (sym now) (low_info c.old.inside.breaks c.put_in-after.new.leaf 984 c.as_str.ensures.fits)
 
 pub new-self-inside-requires-clause-chars : goal.new-self-inside-requires-clause-chars
 new-self-inside-requires-clause-chars c = (low c).chars
@@ -27,13 +27,13 @@ new-self-inside-requires-clause-break_count c = (low c).count
 
 pub returns-clause-done : goal.returns-clause-done
 returns-clause-done c = λ yes.
-    rw (← c.self.view_is, c.new-self-inside.ensures.breaks, ← c.line_breaks-breaks.ensures) (leaf_inserted c.line_breaks-breaks.result c.self.inside.text c.put_in-after.new.leaf c.as_str.ensures.fits c.as_str.ensures.scalars c.args.at c.args.added.now c.put_in-after.ensures.text c.requires.some)
+    rw (← c.self.view_is, c.new-self-inside.ensures.breaks, ← ap (λ s. s.breaks) c.old.view_is) (leaf_inserted c.old.inside.breaks c.self.inside.text c.put_in-after.new.leaf c.as_str.ensures.fits c.as_str.ensures.scalars c.args.at c.args.added.now c.put_in-after.ensures.text c.requires.some)
 
 old_is : (c : After-as_str) → c.info-before.result ≡ info_of c.self.inside.summary.breaks c.self.inside.text
 old_is c = c.info-before.ensures ∙ c.self.invariant.counted
 
 new_is : (c : After-as_str) → c.put_in-after.result ≡ info_of c.self.inside.summary.breaks (inserted c.self.inside.text c.args.at c.args.added.now)
-new_is c = c.put_in-after.ensures.info ∙ ap (λ b. info_of b (inserted c.self.inside.text c.args.at c.args.added.now)) c.line_breaks-breaks.ensures
+new_is c = c.put_in-after.ensures.info ∙ ap (λ b. info_of b (inserted c.self.inside.text c.args.at c.args.added.now)) (ap (λ s. s.breaks) c.old.view_is)
 
 has : (c : After-as_str) → HasPart c.put_in-after.result c.info-before.result
 has c = rw (old_is c, new_is c) (counts_grow c.self.inside.summary.breaks c.self.inside.text c.args.added.now c.args.at c.requires.some)

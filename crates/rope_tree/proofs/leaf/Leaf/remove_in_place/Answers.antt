@@ -13,8 +13,8 @@ use Rattle.rope_tree.proofs.leaf.Leaf.remove_in_place.Goals as goal
 -- the counts of a leaf that lost the characters
 low : (c : After-as_str) → IsLow c.in-Some.after 984
 low c =
-    let now = c.in-Some.ensures.info ∙ ap (info_of c.line_breaks-breaks.result) (sym c.in-Some.ensures.text) in
-    subst (λ i. IsLow i 984) (sym now) (low_info c.line_breaks-breaks.result c.take_out.new.leaf 984 c.as_str.ensures.fits)
+    let now = c.in-Some.ensures.info ∙ ap (info_of c.old.inside.breaks) (sym c.in-Some.ensures.text) in
+    subst (λ i. IsLow i 984) (sym now) (low_info c.old.inside.breaks c.take_out.new.leaf 984 c.as_str.ensures.fits)
 
 pub new-self-inside-requires-clause-chars : goal.new-self-inside-requires-clause-chars
 new-self-inside-requires-clause-chars c = (low c).chars
@@ -27,14 +27,14 @@ new-self-inside-requires-clause-break_count c = (low c).count
 
 pub returns-clause-done : goal.returns-clause-done
 returns-clause-done c = λ yes.
-    rw (← c.self.view_is, c.new-self-inside.ensures.breaks, ← c.line_breaks-breaks.ensures) (leaf_left c.args.least.first c.args.least.last c.line_breaks-breaks.result c.self.inside.text c.take_out.new.leaf c.args.start c.args.end c.in-Some.ensures.text c.requires.ordered (rw (← c.self.view_is) at c.requires.within)
+    rw (← c.self.view_is, c.new-self-inside.ensures.breaks, ← ap (λ s. s.breaks) c.old.view_is) (leaf_left c.args.least.first c.args.least.last c.old.inside.breaks c.self.inside.text c.take_out.new.leaf c.args.start c.args.end c.in-Some.ensures.text c.requires.ordered (rw (← c.self.view_is) at c.requires.within)
     c.in-Some.ensures.some c.in-Some.ensures.ends (rw c.max-least.ensures at c.in-Some.ensures.least) c.as_str.ensures.fits c.as_str.ensures.scalars)
 
 old_is : (c : After-as_str) → c.info-before.result ≡ info_of c.self.inside.summary.breaks c.self.inside.text
 old_is c = c.info-before.ensures ∙ c.self.invariant.counted
 
 new_is : (c : After-as_str) → c.in-Some.after ≡ info_of c.self.inside.summary.breaks (removed c.self.inside.text c.args.start c.args.end)
-new_is c = c.in-Some.ensures.info ∙ ap (λ b. info_of b (removed c.self.inside.text c.args.start c.args.end)) c.line_breaks-breaks.ensures
+new_is c = c.in-Some.ensures.info ∙ ap (λ b. info_of b (removed c.self.inside.text c.args.start c.args.end)) (ap (λ s. s.breaks) c.old.view_is)
 
 has : (c : After-as_str) → HasPart c.info-before.result c.in-Some.after
 has c = rw (old_is c, new_is c) (counts_fall c.self.inside.summary.breaks c.self.inside.text c.args.start c.args.end c.requires.ordered (rw (← c.self.view_is, leaf_text c.self.inside.text) at c.requires.within))
