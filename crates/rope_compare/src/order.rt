@@ -12,7 +12,6 @@ use std::cmp::Ordering;
 use std::simd::prelude::*;
 
 // Whether the 64 bytes from `at` on, and those from `next` on, are the same in both, by one test.
-#[inline(always)]
 fn are_same_blocks(left: &[u8], right: &[u8], at: usize, next: usize) -> bool
     requires size { length left.now ≡ length right.now }
     requires first { at + 64 ≤ length left.now }
@@ -50,7 +49,6 @@ fn are_same(left: &[u8], right: &[u8]) -> bool
 }
 
 // The bytes of a piece, or those of the next one where it has none: so they are none only at the end.
-#[inline(always)]
 fn filled<'a>(front: &'a [u8], pieces: &mut Pieces<'a>) -> &'a [u8]
     ensures same { result.now ++ pieces.new ≡ front.now ++ pieces.old }
     ensures some { length result.now ≡ 0 → pieces.new ≡ [] }

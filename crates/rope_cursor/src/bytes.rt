@@ -67,7 +67,6 @@ impl<'a> Bytes<'a> {
 
     // One byte to the left, or to the right. Expanded where it is called, by a constant: mostly it stays in the chunk, and a call
     // costs more.
-    #[inline(always)]
     fn step(&mut self, is_left: bool) -> Option<u8>
         ensures { MatchBool is_left (GoesLeft (λ x. x) self.old result self.new) (GoesRight (λ x. x) self.old result self.new) }
     {
@@ -125,7 +124,6 @@ impl<'a> Iterator for Bytes<'a> {
     ghost remaining = { item_count ahead };
 
     /// The next byte, or none at the end, where it stays.
-    #[inline(always)]
     fn next(&mut self) -> Option<u8>
         ensures steps { YieldsFirstBy (λ x. x) ahead self.old result self.new }
         ensures goes { GoesAhead (λ x. x) self.old result self.new }

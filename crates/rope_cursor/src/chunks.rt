@@ -52,7 +52,6 @@ impl<'a> Chunks<'a> {
     /// A cursor before the chunk that holds a byte or a character, facing forward; at the end of the text past the last chunk.
     /// With it the bytes, the characters and the line breaks of the text before its place.
     // Expanded where it is called, by a constant: a way is half a kilobyte, and is then moved once less.
-    #[inline(always)]
     pub fn at(part: &Part<'a>, unit: Unit, idx: usize) -> (Chunks<'a>, usize, usize, usize)
         requires unit { IsItem unit }
         requires within { idx ≤ size_in unit (text_of part.now) }

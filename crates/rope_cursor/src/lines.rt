@@ -117,7 +117,6 @@ impl<'a, T: OfPart<'a>> Lines<'a, T> {
     }
 
     /// The line behind, to which it steps back; or none at that end, where it stays. Takes no memory.
-    #[inline(always)]
     pub fn prev(&mut self) -> Option<T>
         ensures { StepsBack (λ x. T.content x) self.old result self.new }
     {
@@ -148,7 +147,6 @@ impl<'a, T: OfPart<'a>> Iterator for Lines<'a, T> {
     ghost remaining = { item_count ahead };
 
     /// The next line, or none at the end, where it stays.
-    #[inline(always)]
     fn next(&mut self) -> Option<T>
         ensures steps { YieldsFirstBy (λ x. T.content x) ahead self.old result self.new }
         ensures goes { GoesAhead (λ x. T.content x) self.old result self.new }

@@ -58,7 +58,6 @@ fn are_leaves(nodes: &[Node]) -> bool
 }
 
 // The text of a node with no levels below it. What it is, is asked again, of what has been read just before.
-#[inline(always)]
 pub(crate) fn lowest_text(node: &Node) -> &str
     requires { IsLow node.now 0 }
     ensures { node.now.leaves ≡ chars result.now ∷ [] }
@@ -171,7 +170,6 @@ impl<'a> Path<'a> {
 
     /// Goes to the next leaf, or backward to the one before. Answers whether there is one; else it stays.
     // Expanded where it is called, where it is known which way it goes: so no step asks for it at each frame.
-    #[inline(always)]
     pub fn step(&mut self, is_backward: bool) -> bool
         ensures moved { OnTrue result (IsBeside is_backward self.old self.new) }
         ensures stays { OnFalse result (self.new ≡ self.old) }
@@ -312,7 +310,6 @@ impl<'a> Span<'a> {
 
     /// The same way.
     // Expanded where it is called, since a call would be told where the way lies.
-    #[inline(always)]
     pub fn copy(&self) -> Span<'a>
         ensures { result ≡ self.now }
     {

@@ -116,7 +116,6 @@ impl<'a> Pieces<'a> {
     }
 
     /// The next piece; an empty one only at the end, where it stays.
-    #[inline(always)]
     pub fn next_piece(&mut self) -> &'a [u8]
         ensures bytes { result.now ++ self.new ≡ self.old }
         ensures some { length result.now ≡ 0 → self.new ≡ [] }

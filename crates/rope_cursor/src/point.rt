@@ -7,7 +7,6 @@ ghost use Rattle.rope_cursor.specs.Point.{IsChunkAt, IsCharBetween};
 use crate::path::Span;
 
 // The end of so many places, to the left or to the right.
-#[inline(always)]
 pub(crate) fn end_of(count: usize, is_left: bool) -> usize
     ensures { result ≡ if is_left then 0 else count }
 {
@@ -31,7 +30,6 @@ fn chunk_beside<'a>(mut span: Span<'a>, is_left: bool) -> (Span<'a>, Option<&'a 
 // is kept out of the callers, whose steps within a chunk are to stay short. It is given a copy of the span: were it told where the
 // span lies, it could reach the cursor round it too, and a loop over a cursor would read and write the cursor's place in memory at
 // each step.
-#[inline(always)]
 pub(crate) fn step_chunk<'a>(span: &mut Span<'a>, is_left: bool) -> Option<(&'a str, usize)>
     ensures moved { IfSome result (λ found. IsBeside is_left span.old span.new) }
     ensures chunk { IfSome result (λ found. IsChunkAt span.new found.0.now) }

@@ -215,7 +215,6 @@ impl<'a> Part<'a> {
     /// of a line break, counted from 0. With it the bytes, the characters and the line breaks that end before it. With no chunk it
     /// is `("", 0, 0, 0)`.
     // Expanded where it is called, by a constant: so each search is that of its unit.
-    #[inline(always)]
     pub fn chunk_at(&self, unit: Unit, idx: usize) -> (&'a str, usize, usize, usize)
         requires { MayHold unit (breaks_of self.now) (text_of self.now) idx }
         ensures { IsFoundChunk (found_chunk (breaks_of self.now) (chunks_of self.now)

@@ -46,7 +46,6 @@ impl<'a> Stretch<'a> {
     ghost use Rattle.rope_part.specs.Stretch.{content_of, text_of, breaks_of};
 
     /// A place of its text, as one of the tree's. Of lines it may be the one past the last.
-    #[inline(always)]
     pub fn place(&self, unit: Unit, idx: usize) -> usize
         requires { idx ≤ count_of unit (info_of (breaks_of self.now) (text_of self.now)) + 1 }
         ensures value { result ≡ count_of unit self.now.start + idx }

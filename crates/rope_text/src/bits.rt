@@ -3,7 +3,6 @@ ghost use Rattle.std.specs.Prelude.{◌≡◌, ◌+◌, ◌<◌, ◌≤◌};
 ghost use Rattle.rope_text.specs.Bits.{ones_below, marks_below};
 
 /// How many of the first `n` bytes have a mark.
-#[inline(always)]
 pub(crate) fn ones_before(mask: u64, n: usize) -> usize
     requires { n ≤ 32 }
     ensures { result ≡ ones_below mask n }
@@ -12,7 +11,6 @@ pub(crate) fn ones_before(mask: u64, n: usize) -> usize
 }
 
 /// How many of the bytes from `from` on and before `to` have a mark.
-#[inline(always)]
 pub(crate) fn ones_between(mask: u64, from: usize, to: usize) -> usize
     requires from { from ≤ to }
     requires to { to ≤ 32 }
@@ -22,7 +20,6 @@ pub(crate) fn ones_between(mask: u64, from: usize, to: usize) -> usize
 }
 
 /// The first place that has a mark, or 64.
-#[inline(always)]
 pub(crate) fn first_mark(mask: u64) -> usize
     ensures bound { result ≤ 64 }
     ensures before { ones_below mask result ≡ 0 }
@@ -34,7 +31,6 @@ pub(crate) fn first_mark(mask: u64) -> usize
 }
 
 /// The byte with the mark `n` of two masks, counted from 0: it has at most `n` marks before it.
-#[inline(always)]
 pub(crate) fn place_of_mark(first: u64, second: u64, n: usize) -> usize
     requires { n < marks_below first second 32 }
     ensures bound { result < 32 }

@@ -25,7 +25,6 @@ pub(crate) enum Mark {
 }
 
 /// How many bytes behind a block say with it which marks begin there.
-#[inline(always)]
 pub(crate) fn ahead(mark: Mark) -> usize
     ensures { result ≡ ahead mark }
 {
@@ -38,7 +37,6 @@ pub(crate) fn ahead(mark: Mark) -> usize
 
 // For each lane 1 where a mark begins with it, a break only where it is below 128, else 0: the lanes `y` are the bytes behind
 // those of `x`. The mark is known where this is expanded.
-#[inline(always)]
 fn ones<const N: usize>(x: Simd<u8, N>, y: Simd<u8, N>, mark: Mark) -> Simd<u8, N>
     requires { N ≤ 64 }
     ensures { (ks : List ℕ) (g h : ℕ → ℕ) → length ks ≡ N → ((k : ℕ) → g k < 256) → IsLanes ks g x.entry → IsLanes ks h y.entry → IsLanes ks (λ k. cond (narrow_mark mark (g k) (h k)) 1 0) result }
@@ -78,7 +76,6 @@ fn unicode_mask(bytes: &[u8], at: usize) -> u64
 
 /// The bytes, of the 32 from `at` on, with which a mark begins: loads one and two bytes on see a break across the end of the
 /// block. The mark is known where this is expanded.
-#[inline(always)]
 pub(crate) fn known_mask(bytes: &[u8], at: usize, mark: Mark) -> u64
     requires { (at + 32) + ahead mark ≤ length bytes.now }
     ensures { IsBlockMask mark bytes.now at result }
@@ -112,7 +109,6 @@ fn mask_apart<const HAS_CR: bool>(bytes: &[u8], at: usize) -> u64
 }
 
 /// The same mask, where the set of breaks is not known.
-#[inline(always)]
 pub(crate) fn mask(bytes: &[u8], at: usize, mark: Mark) -> u64
     requires { (at + 32) + ahead mark ≤ length bytes.now }
     ensures { IsBlockMask mark bytes.now at result }
@@ -125,7 +121,6 @@ pub(crate) fn mask(bytes: &[u8], at: usize, mark: Mark) -> u64
 }
 
 /// How many marks begin in the 32 bytes from `at` on. The mark is known where this is expanded.
-#[inline(always)]
 pub(crate) fn marks_in(bytes: &[u8], at: usize, mark: Mark) -> usize
     requires { (at + 32) + ahead mark ≤ length bytes.now }
     ensures { marks mark (drop at bytes.now) ≡ result + marks mark (drop (at + 32) bytes.now) }
@@ -134,7 +129,6 @@ pub(crate) fn marks_in(bytes: &[u8], at: usize, mark: Mark) -> usize
 }
 
 /// Whether a mark begins with the byte `at`.
-#[inline(always)]
 pub(crate) fn is_mark(bytes: &[u8], at: usize, mark: Mark) -> bool
     requires { at < length bytes.now }
     ensures { result ≡ mark_at mark bytes.now at }
@@ -176,7 +170,6 @@ fn marks_byte_by_byte(bytes: &[u8], from: usize, to: usize, mark: Mark) -> usize
 
 /// How many marks begin from the byte `from` on and before `to`, at once where they are few: near the end of the bytes by the
 /// last block that can be read, without what it has before `from`.
-#[inline(always)]
 pub(crate) fn marks_between(bytes: &[u8], from: usize, to: usize, mark: Mark) -> usize
     requires from { from ≤ to }
     requires to { to ≤ length bytes.now }
@@ -228,7 +221,6 @@ fn breaks_in_quarters(bytes: &[u8], to: usize, breaks: LineBreaks) -> (usize, us
 }
 
 /// How many marks begin from the byte `from` on and before `to`. The mark is known where this is expanded.
-#[inline(always)]
 pub(crate) fn count_marks(bytes: &[u8], from: usize, to: usize, mark: Mark) -> usize
     requires from { from ≤ to }
     requires to { to ≤ length bytes.now - ahead mark }
@@ -250,7 +242,6 @@ const BLOCKS: usize = 63;
 
 // For each of the 16 bytes from `at` on, 1 where a mark begins, a break only where it is below 128, else 0. The mark is known
 // where this is expanded.
-#[inline(always)]
 fn ones_from(bytes: &[u8], at: usize, mark: Mark) -> u8x16
     requires { at + 17 ≤ length bytes.now }
     ensures { IsSum 1 (count_of mark bytes.now at 16) result }
@@ -261,7 +252,6 @@ fn ones_from(bytes: &[u8], at: usize, mark: Mark) -> u8x16
 }
 
 // The 64 bytes from `at` on more.
-#[inline(always)]
 fn add_ones(sums: u8x16, bytes: &[u8], at: usize, mark: Mark) -> u8x16
     requires { at + 65 ≤ length bytes.now }
     ensures { (most total : ℕ) → most + 4 < 256 → IsSum most total sums → IsSum (most + 4) (total + count_of mark bytes.now at 64) result }
@@ -272,7 +262,6 @@ fn add_ones(sums: u8x16, bytes: &[u8], at: usize, mark: Mark) -> u8x16
     third + ones_from(bytes, at + 48, mark)
 }
 
-#[inline(always)]
 fn is_wide_break(x: u8, y: u8, z: u8) -> bool
     ensures { result ≡ wide_at LineBreaks.Unicode x y z }
 {
@@ -281,7 +270,6 @@ fn is_wide_break(x: u8, y: u8, z: u8) -> bool
 
 // How many NEL, LS and PS begin in the 64 bytes from `at` on, where they are breaks: their first bytes are rare, and each is
 // looked at by itself.
-#[inline(always)]
 fn wide_in(bytes: &[u8], at: usize, breaks: LineBreaks) -> usize
     requires { at + 66 ≤ length bytes.now }
     ensures { result ≡ wide_of breaks bytes.now at 64 }
@@ -305,7 +293,6 @@ fn wide_in(bytes: &[u8], at: usize, breaks: LineBreaks) -> usize
     total
 }
 
-#[inline(always)]
 fn sum_of(lanes: u8x16) -> usize
     ensures { result ≡ sum_l lanes }
 {

@@ -22,7 +22,6 @@ use crate::lanes::{Mark, ahead, is_mark, known_mask, marks_between, marks_in, ma
 use crate::{LineBreaks, TextInfo, known_set};
 
 // The byte with which the mark `n` begins, counted from the byte `from` on, byte by byte.
-#[inline(always)]
 fn find(bytes: &[u8], from: usize, n: usize, mark: Mark) -> usize
     requires { from ≤ length bytes.now }
     ensures { IsPlaceOf mark bytes.now from n result }
@@ -59,7 +58,6 @@ pub(crate) fn find_from(bytes: &[u8], from: usize, n: usize, mark: Mark) -> usiz
 }
 
 /// The pairs of blocks before the character `n`: their end, and which character it is from there on.
-#[inline(always)]
 pub(crate) fn skip_chars(bytes: &[u8], n: usize) -> (usize, usize)
     ensures { IsPassed Mark.Char bytes.now n result.0 result.1 }
 {
@@ -77,7 +75,6 @@ pub(crate) fn skip_chars(bytes: &[u8], n: usize) -> (usize, usize)
 
 /// The same from the end, where it is known how many characters there are: the last pair of blocks that begins at or before the
 /// character `n`, or the start, and which character it is from there on.
-#[inline(always)]
 pub(crate) fn skip_chars_back(bytes: &[u8], n: usize, chars: usize) -> (usize, usize)
     requires within { n ≤ chars }
     requires chars { chars ≡ count_by begins_char bytes.now }
@@ -137,7 +134,6 @@ pub(crate) fn line_of_char(bytes: &[u8], n: usize, breaks: LineBreaks) -> (usize
 
 // The blocks before the break `n`: which break it is from their end on, and what they count but for breaks. What a caller takes
 // no count of isn't counted, since this is expanded there, where the set is known.
-#[inline(always)]
 fn skip_known(bytes: &[u8], n: usize, breaks: LineBreaks) -> (usize, TextInfo)
     ensures passed { IsPassed (Mark.Break breaks) bytes.now n result.1.bytes result.0 }
     ensures chars { count_by begins_char bytes.now ≡ result.1.chars + count_by begins_char (drop result.1.bytes bytes.now) }
@@ -159,7 +155,6 @@ fn skip_known(bytes: &[u8], n: usize, breaks: LineBreaks) -> (usize, TextInfo)
 }
 
 /// How many bytes the character has that begins with the byte.
-#[inline(always)]
 pub(crate) fn width_of(byte: u8) -> usize
     ensures { result ≡ char_width byte }
 {
@@ -199,7 +194,6 @@ pub(crate) fn front_of_line(text: &str, line_idx: usize, breaks: LineBreaks) -> 
 }
 
 // From a place near the end up to the next break or to where the last block ends that can be read; from behind that no further.
-#[inline(always)]
 fn go_in_last_block(
     bytes: &[u8],
     from: (usize, usize, usize),

@@ -11,7 +11,6 @@ use crate::{Node, Unit, count, leaf_at};
 use rope_text::{LineBreaks, Steps, TextInfo, str_utils};
 
 /// The first index for which a tree is entered: where the first line starts is known.
-#[inline(always)]
 pub fn first_sought(unit: Unit) -> usize
     ensures { result ≡ first_sought unit }
 {

@@ -150,7 +150,6 @@ impl Leaf {
     }
 
     /// The same by its counts, which the caller knows: nothing of the leaf is read.
-    #[inline(always)]
     pub(crate) fn known_text(&self, info: TextInfo) -> ShortText<'_>
         requires { info ≡ info_of self.now.breaks (text self.now) }
         ensures { IsLeafOf self.now result }
@@ -164,7 +163,6 @@ impl Leaf {
     /// Whether some bytes of its text, the last of `len` and one in each 64 from `from` on, have a sum that none have: so it never is. It
     /// is asked before an edit, for then the leaf's places in memory are read side by side, where the edit would wait for each. The length
     /// is the caller's, since the text's own would be waited for.
-    #[inline(always)]
     pub(crate) fn is_no_text(&self, from: usize, len: usize) -> bool {
         let bytes = self.text.as_str().as_bytes();
         let len = len.min(MAX_BYTES);

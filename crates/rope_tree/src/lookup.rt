@@ -23,7 +23,6 @@ pub struct Found<'a> {
 }
 
 /// The counts of the children before a place.
-#[inline(always)]
 pub fn total_before(totals: &Totals, place: usize) -> TextInfo
     requires { place ≤ length totals.now }
     ensures first { place ≡ 0 → (breaks : LineBreaks) → result ≡ info_of breaks [] }

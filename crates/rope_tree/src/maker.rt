@@ -15,7 +15,6 @@ pub struct Maker {
 
 impl Maker {
     /// It has made none.
-    #[inline(always)]
     pub fn new(alloc: Global) -> Maker
         ensures { result.made ≡ 0 }
     {

@@ -143,7 +143,6 @@ impl Node {
     }
 
     /// The counts of its text.
-    #[inline(always)]
     pub fn info(&self) -> TextInfo
         ensures { result ≡ info_of self.now.breaks (text self.now) }
     {
@@ -162,7 +161,6 @@ impl Node {
     }
 
     /// The same by the counts of its text, which the caller knows: nothing of a leaf is read.
-    #[inline(always)]
     pub fn known_view(&self, info: TextInfo) -> View<'_>
         requires { info ≡ info_of self.now.breaks (text self.now) }
         ensures { IsViewOf self.now result }

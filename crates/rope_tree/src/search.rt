@@ -27,7 +27,6 @@ pub enum Unit {
 }
 
 /// One of the counts.
-#[inline(always)]
 pub fn count(info: TextInfo, unit: Unit) -> usize
     requires { IsSmall info }
     ensures { result ≡ count_of unit info }
@@ -101,7 +100,6 @@ const TOO_WIDE: usize = 4_294_967_296;
 
 impl Totals {
     /// Those of no child.
-    #[inline(always)]
     pub(crate) fn new() -> Totals
         ensures { result ≡ [] }
     {
@@ -110,7 +108,6 @@ impl Totals {
     }
 
     /// How many children there are.
-    #[inline(always)]
     pub fn len(&self) -> usize
         ensures { result ≡ length self.now }
     {
@@ -121,7 +118,6 @@ impl Totals {
     }
 
     /// The counts of all children up to the one at a place, and with it.
-    #[inline(always)]
     pub fn get(&self, place: usize) -> TextInfo
         requires { place < length self.now }
         ensures { (d : TextInfo) → result ≡ slice_index_or self.now place d }
@@ -133,7 +129,6 @@ impl Totals {
     }
 
     /// Whether a text of so many bytes more leaves the totals in the width that they have.
-    #[inline(always)]
     pub(crate) fn has_room_for(&self, bytes: usize) -> bool
         requires { 1 ≤ length self.now }
         ensures { result ≡ true → AreNarrow self.now → (d : TextInfo) → (slice_index_or self.now (length self.now - 1) d).bytes + bytes < 2 ^ 32 }
@@ -143,7 +138,6 @@ impl Totals {
     }
 
     /// Puts the total of one child more behind the others.
-    #[inline(always)]
     pub(crate) fn push(&mut self, alloc: Global, total: TextInfo) -> Made<()>
         requires room { length self.old < MAX_CHILDREN }
         requires small { IsSmall total }

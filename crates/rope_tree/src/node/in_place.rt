@@ -51,7 +51,6 @@ fn copy_children(children: &mut Rc<Children>, maker: &mut Maker) -> Made<()>
 }
 
 /// Makes what a node has its own: where another node has it too, a copy takes its place.
-#[inline(always)]
 fn own(form: &mut Form, maker: &mut Maker) -> Made<()>
     requires { IsForm form.old }
     ensures same { form_tree form.new ≡ form_tree form.old }
@@ -264,7 +263,6 @@ impl Node {
     }
 
     /// Whether it has no text and no children.
-    #[inline(always)]
     fn is_empty(&self) -> bool {
         matches!(self.form, Form::Empty(_))
     }

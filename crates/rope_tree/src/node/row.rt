@@ -92,7 +92,6 @@ fn push_row(
 pub(super) type Rows<'a> = (Row<'a>, &'a [Node], Row<'a>);
 
 /// Puts the nodes of three lists into one that has none.
-#[inline(always)]
 fn push_three(alloc: Global, totals: &mut Totals, places: &mut [Node], rows: Rows<'_>) -> Made<()>
     requires list { IsNewList (new_list totals.old places.old) }
     requires none { nodes_in (new_list totals.old places.old) ≡ [] }
@@ -201,7 +200,6 @@ pub fn node_over(maker: &mut Maker, nodes: &[Node]) -> Made<Node>
 
 impl<'a> Row<'a> {
     /// No node.
-    #[inline(always)]
     pub fn none() -> Row<'a>
         ensures row { IsRow result }
         ensures nodes { result.nodes.now ≡ [] }
@@ -214,7 +212,6 @@ impl<'a> Row<'a> {
     }
 
     /// All children of a node, with their running totals.
-    #[inline(always)]
     pub fn of(nodes: &'a [Node], totals: &'a Totals) -> Row<'a>
         requires children { AreChildren (breaks_of nodes.now) (height_of nodes.now) nodes.now }
         requires totals { HasTotals (breaks_of nodes.now) totals.now nodes.now }
@@ -229,7 +226,6 @@ impl<'a> Row<'a> {
     }
 
     /// The first nodes, so many, or all.
-    #[inline(always)]
     pub fn first(self, most: usize) -> Row<'a>
         requires { IsRow self }
         ensures row { IsRow result }
@@ -242,7 +238,6 @@ impl<'a> Row<'a> {
     }
 
     /// The nodes behind the first so many, or none.
-    #[inline(always)]
     pub fn rest(self, past: usize) -> Row<'a>
         requires { IsRow self }
         ensures row { IsRow result }

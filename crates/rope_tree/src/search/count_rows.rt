@@ -45,7 +45,6 @@ static MASKS: [u32; 2 * MAX_CHILDREN] = [
 ];
 
 /// For each of 24 places all bits where it is `from` or behind it, and none before.
-#[inline(always)]
 fn masks_from(from: usize) -> &'static [u32]
     requires { from ≤ MAX_CHILDREN }
     ensures len { length result.now ≡ MAX_CHILDREN }
@@ -80,7 +79,6 @@ fn shift(counts: &mut [u32], from: usize, old: usize, new: usize)
 }
 
 /// The count at a place of a row.
-#[inline(always)]
 fn at(row: &[u32], place: usize) -> usize
     requires { place < length row.now }
     ensures { result ≡ slice_index row.now place }
@@ -99,7 +97,6 @@ fn put_in(row: &mut [u32], place: usize, count: u32)
 }
 
 /// Puts counts of another row, `count` of them from one place on, into a row, from another place on.
-#[inline(always)]
 fn put_row(row: &mut [u32], place: usize, others: &[u32], from: usize, count: usize)
     requires room { place + count ≤ length row.old }
     requires within { from + count ≤ length others.now }
@@ -110,7 +107,6 @@ fn put_row(row: &mut [u32], place: usize, others: &[u32], from: usize, count: us
 
 impl CountRows {
     /// Those of no child.
-    #[inline(always)]
     pub fn new() -> CountRows
         ensures { result ≡ [] }
     {
@@ -124,7 +120,6 @@ impl CountRows {
     }
 
     /// How many children there are.
-    #[inline(always)]
     pub fn len(&self) -> usize
         ensures { result ≡ length self.now }
     {
@@ -132,7 +127,6 @@ impl CountRows {
     }
 
     /// The counts of all children up to the one at a place, and with it.
-    #[inline(always)]
     pub fn get(&self, place: usize) -> TextInfo
         requires { place < length self.now }
         ensures { (d : TextInfo) → result ≡ slice_index_or self.now place d }
@@ -146,7 +140,6 @@ impl CountRows {
     }
 
     /// Puts the total of one child more behind the others.
-    #[inline(always)]
     pub fn push(&mut self, total: TextInfo)
         requires room { length self.old < MAX_CHILDREN }
         requires narrow { IsNarrow total }
