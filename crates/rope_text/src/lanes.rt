@@ -221,6 +221,7 @@ fn breaks_in_quarters(bytes: &[u8], to: usize, breaks: LineBreaks) -> (usize, us
 }
 
 /// How many marks begin from the byte `from` on and before `to`. The mark is known where this is expanded.
+#[inline(always)]
 pub(crate) fn count_marks(bytes: &[u8], from: usize, to: usize, mark: Mark) -> usize
     requires from { from ≤ to }
     requires to { to ≤ length bytes.now - ahead mark }
