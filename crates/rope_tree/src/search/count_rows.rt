@@ -55,9 +55,9 @@ fn masks_from(from: usize) -> &'static [u32]
 }
 
 /// Puts the count `new` of a part for its count `old`, in the counts from a place on. It goes over all places, four at once, and adds
-/// nothing before that place, so that it has no branch that depends on one.
+/// nothing before that place, so that it has no branch that depends on one. Where it mostly adds nothing, it asks that first.
 #[inline(always)]
-fn shift(counts: &mut [u32], from: usize, old: usize, new: usize)
+fn shift(counts: &mut [u32], from: usize, old: usize, new: usize, mostly_same: bool)
     requires len { length counts.old ≡ MAX_CHILDREN }
     requires place { from ≤ MAX_CHILDREN }
     requires old { old < 2 ^ 32 }
@@ -67,8 +67,7 @@ fn shift(counts: &mut [u32], from: usize, old: usize, new: usize)
     ensures after { (j : ℕ) → from ≤ j → j < MAX_CHILDREN → old ≤ slice_index counts.old j → slice_index counts.old j + new < 2 ^ 32 + old
         → slice_index counts.new j + old ≡ slice_index counts.old j + new }
 {
-    // Most edits change neither surrogate pairs nor line breaks.
-    if old == new {
+    if mostly_same && old == new {
         return;
     }
     let more = (new as u32).wrapping_sub(old as u32);
@@ -180,15 +179,23 @@ impl CountRows {
         ensures before { (j : ℕ) (d : TextInfo) → j < place → slice_index_or self.new j d ≡ slice_index_or self.old j d }
         ensures after { (j : ℕ) (d : TextInfo) → place ≤ j → j < length self.old → info_sum (slice_index_or self.new j d) old ≡ info_sum (slice_index_or self.old j d) new }
     {
-        shift(&mut self.bytes, place, old.bytes, new.bytes);
-        shift(&mut self.chars, place, old.chars, new.chars);
+        shift(&mut self.bytes, place, old.bytes, new.bytes, false);
+        shift(&mut self.chars, place, old.chars, new.chars, false);
+        // Most edits change neither surrogate pairs nor line breaks.
         shift(
             &mut self.pairs,
             place,
             old.utf16_surrogates,
             new.utf16_surrogates,
+            true,
         );
-        shift(&mut self.breaks, place, old.break_count, new.break_count);
+        shift(
+            &mut self.breaks,
+            place,
+            old.break_count,
+            new.break_count,
+            true,
+        );
     }
 
     /// Puts totals of another list behind these: `count` of them, from a place on, with the counts `new` in each for the part `old`.
