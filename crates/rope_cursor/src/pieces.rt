@@ -37,24 +37,6 @@ fn leave_node<'a>(path: &mut Path<'a>, is_far: bool) -> Option<(&'a str, &'a [No
     Some((leaf, siblings))
 }
 
-// The next leaf, of those beside the path first, or none at the end, where it stays. Where the way goes far, more leaves are made
-// ready.
-#[inline(always)]
-fn next_leaf<'a>(path: &mut Path<'a>, beside: &mut &'a [Node], is_far: bool) -> Option<&'a str>
-    requires { All (λ rc. IsLow rc 0) beside.old.now }
-    ensures low { All (λ rc. IsLow rc 0) beside.new.now }
-    ensures some { IfSome result (λ text. ahead_of beside.old.now path.old ≡ chars text.now ∷ ahead_of beside.new.now path.new) }
-    ensures none { IfNone result ((ahead_of beside.old.now path.old ≡ []) × (ahead_of beside.new.now path.new ≡ [])) }
-{
-    if let Some((node, rest)) = beside.split_first() {
-        *beside = rest;
-        return Some(lowest_text(node));
-    }
-    let (leaf, rest) = leave_node(path, is_far)?;
-    *beside = rest;
-    Some(leaf)
-}
-
 /// The bytes of a part from a place on, in pieces as the leaves hold them, forward only.
 ///
 /// The leaves under one node are taken from the list of its children, one after the other: the path, which could turn round at any
@@ -124,8 +106,19 @@ impl<'a> Pieces<'a> {
             return &[];
         }
         let is_far = self.left > MANY_BYTES;
-        let Some(leaf) = next_leaf(&mut self.path, &mut self.beside, is_far) else {
-            return &[];
+        // those beside the path come first
+        let leaf = match self.beside.split_first() {
+            Some((node, rest)) => {
+                self.beside = rest;
+                lowest_text(node)
+            }
+            None => {
+                let Some((leaf, rest)) = leave_node(&mut self.path, is_far) else {
+                    return &[];
+                };
+                self.beside = rest;
+                leaf
+            }
         };
         let bytes = bytes_of(leaf);
         let count = bytes.len().min(self.left);
