@@ -14,13 +14,6 @@ use std::marker::Model;
 // Of so many bytes it pays to read the heads of more leaves than the next one side by side; of fewer most may not be needed.
 const MANY_BYTES: usize = 8 * MAX_BYTES;
 
-/// The bytes of a chunk, by its characters.
-pub fn bytes_of(chunk: &str) -> &[u8]
-    ensures { result.now ≡ encode_utf8_all (chars chunk.now) }
-{
-    chunk.as_bytes()
-}
-
 // Goes on to the leaf after a path, and, on a way that goes far, past those beside it, whose heads are all read then. Answers
 // the leaf and these. Never inlined: a step mostly takes one of the siblings, and is kept short.
 #[inline(never)]
@@ -76,7 +69,7 @@ impl<'a> Pieces<'a> {
                 let start = stretch.start.bytes;
                 let size = stretch.end.bytes - start;
                 let (path, before) = Path::at(stretch.node, Unit::Byte, start);
-                let (_, front) = bytes_of(path.leaf()).split_at(start - before.bytes);
+                let (_, front) = path.leaf().as_bytes().split_at(start - before.bytes);
                 let count = front.len().min(size);
                 let (piece, _) = front.split_at(count);
                 let beside: &[Node] = &[];
@@ -94,7 +87,7 @@ impl<'a> Pieces<'a> {
     {
         let (path, left) = (Path::text(text), 0);
         let beside: &[Node] = &[];
-        (bytes_of(text), Pieces { path, beside, left })
+        (text.as_bytes(), Pieces { path, beside, left })
     }
 
     /// The next piece; an empty one only at the end, where it stays.
@@ -120,7 +113,7 @@ impl<'a> Pieces<'a> {
                 leaf
             }
         };
-        let bytes = bytes_of(leaf);
+        let bytes = leaf.as_bytes();
         let count = bytes.len().min(self.left);
         self.left -= count;
         &bytes[..count]
