@@ -3,7 +3,6 @@ ghost use Rattle.std.specs.Prelude.{◌≡◌, ◌++◌, ◌∷◌, [], All, len
 ghost use Rattle.std.specs.Str.{chars, encode_utf8_all};
 ghost use Rattle.rope_part.specs.Part.{text_of};
 ghost use Rattle.rope_cursor.specs.Path.{leaves_below, IsLow};
-ghost use Rattle.rope_cursor.specs.Pieces.{ahead_of};
 
 use crate::path::{Path, lowest_text};
 use rope_part::Part;
