@@ -4,7 +4,6 @@ ghost use Rattle.rope_text.specs.Compare.{blocks, hash_writes};
 ghost use Rattle.rope_part.specs.Part.{text_of};
 
 use rope_cursor::Chunks;
-use rope_cursor::pieces::bytes_of;
 use rope_part::Part;
 use std::hash::Hasher;
 
@@ -19,7 +18,7 @@ pub fn feed<H: Hasher>(part: &Part<'_>, state: &mut H)
     let mut block = [0u8; BLOCK_BYTES];
     let mut held = 0;
     for chunk in Chunks::new(part) {
-        held = feed_piece(state, &mut block, held, bytes_of(chunk));
+        held = feed_piece(state, &mut block, held, chunk.as_bytes());
     }
     if held > 0 {
         state.write(&block[..held]);

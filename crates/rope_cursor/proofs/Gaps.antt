@@ -1,6 +1,7 @@
 -- Lines that lie over several chunks.
 use Rattle.std.proofs.Common.{◌≡◌, ℕ, ◌+◌, ◌^◌, ◌<◌, ◌≤◌, false, List, [], ◌∷◌, ◌++◌, length, take, drop, refl, sym, ap, subst, ◌∙◌, arith, append_assoc, nat_le, inl, inr}
 use Rattle.std.specs.List.{concat}
+use Rattle.std.specs.Str.{chars, IsUtf8, IsCharBoundary}
 use Rattle.std.proofs.lemmas.Bool.{cases_lt}
 use Rattle.std.proofs.lemmas.List.{append-nil, take_at, take_all, drop_all, take-append-drop}
 use Rattle.std.proofs.lemmas.List.Sums.{count_by-le-length}
@@ -14,6 +15,7 @@ use Rattle.rope_text.specs.Lines.{line_start}
 use Rattle.rope_text.specs.Conversions.{byte_to_char}
 use Rattle.rope_text.specs.Cutting.{parts_crlf, KeepsCrlf}
 use Rattle.rope_text.specs.LineParts.{first_line}
+use Rattle.rope_text.proofs.TextParts.{chars_back, byte_len_boundary}
 use Rattle.rope_text.proofs.Measures.{IsMeasure-byte_len}
 use Rattle.rope_text.proofs.BreakLaws.{break_ends-nil}
 use Rattle.rope_text.proofs.ConversionLaws.{byte_to_char-char_to_byte}
@@ -24,7 +26,7 @@ use Rattle.rope_text.proofs.LineLaws.{line_start-le-length}
 use Rattle.rope_text.proofs.LineSeams.{parts_crlf-take, first_line-left, first_line-right, first_line-all, no_break_at_all, break_count-apart}
 use Rattle.rope_text.proofs.InfoLaws.{break_count-le-length}
 use Rattle.rope_cursor.specs.Path.{Place, IsNext, leaves}
-use Rattle.rope_cursor.specs.Gap.{AreChunks, PassesLine, PassedTexts, PassedChunks}
+use Rattle.rope_cursor.specs.Gap.{after_byte, IsBetween, AreChunks, PassesLine, PassedTexts, PassedChunks}
 use Rattle.rope_cursor.proofs.Spans.{leaves_next}
 
 -- no CR meets LF behind joined texts, or before part of a text
@@ -71,6 +73,13 @@ size_two s t = IsMeasure-byte_len.joined s t
 
 pub size_front : (n : ℕ) (t : List ℕ) → byte_len (take n t) ≤ byte_len t
 size_front n t = omega (arith, ap byte_len (take-append-drop n t), size_two (take n t) (drop n t))
+
+-- where a character begins, bytes may be cut, and what follows is the text from there on
+pub between_boundary : (bytes : List ℕ) (b : ℕ) → IsUtf8 bytes → IsBetween (chars bytes) b → IsCharBoundary bytes b
+between_boundary bytes b utf8 between = subst (λ (n : ℕ). IsCharBoundary bytes n) between (byte_len_boundary bytes (byte_to_char (chars bytes) b) utf8)
+
+pub between_after : (bytes rest : List ℕ) (b : ℕ) → IsUtf8 bytes → IsBetween (chars bytes) b → rest ≡ drop b bytes → chars rest ≡ after_byte (chars bytes) b
+between_after bytes rest b utf8 between cut = chars_back bytes rest (chars bytes) (byte_to_char (chars bytes) b) b utf8 refl (sym between) cut
 
 -- the bytes of a front are its place
 pub front_place : (here : List ℕ) (n : ℕ) → n ≤ length here → byte_to_char here (byte_len (take n here)) ≡ n

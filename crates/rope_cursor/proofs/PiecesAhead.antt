@@ -3,10 +3,10 @@ use Rattle.std.proofs.Common.{◌≡◌, ℕ, ◌+◌, ◌-◌, ◌<◌, min, Li
 use Rattle.std.proofs.lemmas.Bool.{cases_lt}
 use Rattle.std.proofs.lemmas.List.{append-nil, take_all, take-append-le, drop-append-le, length-take-le, length-drop}
 use Rattle.std.proofs.lemmas.List.Elements.{All-drop}
-use Rattle.std.proofs.lemmas.Str.{encodes-append}
+use Rattle.std.proofs.lemmas.Str.{encodes-append, encodes-chars}
 use Rattle.std.proofs.Math.Seq.{take-append-add, drop-append-add}
 use Rattle.std.specs.List.{concat, slice_range}
-use Rattle.std.specs.Str.{encode_utf8_all}
+use Rattle.std.specs.Str.{chars, encode_utf8_all, IsUtf8}
 use Rattle.rope_text.specs.declared.text_info.TextInfo.{TextInfo}
 use Rattle.rope_text.specs.Text.{byte_len}
 use Rattle.rope_text.proofs.Measures.{IsMeasure-byte_len}
@@ -18,6 +18,10 @@ use Rattle.rope_part.proofs.Measured.{measured}
 use Rattle.rope_part.proofs.Stretches.{bytes_of_part}
 use Rattle.rope_cursor.specs.Path.{Place, leaves, HoldsPlace}
 use Rattle.rope_cursor.proofs.LeafStarts.{text_is}
+
+-- the bytes of a chunk, by its characters
+pub bytes_of : (chunk bytes : List ℕ) → IsUtf8 bytes → bytes ≡ chunk → bytes ≡ encode_utf8_all (chars chunk)
+bytes_of chunk bytes utf8 same = sym (encodes-chars bytes utf8) ∙ ap (λ t. encode_utf8_all (chars t)) same
 
 -- the first of them, and then the rest
 pub piece_and_rest : (bytes rest : List ℕ) (left n : ℕ) → n ≡ min (length bytes) left → take n bytes ++ take (left - n) rest ≡ take left (bytes ++ rest)

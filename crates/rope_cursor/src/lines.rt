@@ -201,14 +201,6 @@ impl<'a> Model for Gap<'a> {
     ghost invariant = { λ a. IsGap a.span a.inside };
 }
 
-// The text from a byte on at which a character begins.
-fn text_after(text: &str, byte: usize) -> &str
-    requires { IsBetween (chars text.now) byte }
-    ensures { chars result.now ≡ after_byte (chars text.now) byte }
-{
-    &text[byte..]
-}
-
 // From the end of a chunk to the end of a line: the place in the last chunk, and the counts of what was passed. Never
 // inlined, so that a step within one chunk is kept short.
 #[inline(never)]
@@ -257,7 +249,7 @@ fn count_last(
     loop {
         // so many bytes before the end or more, in no CR LF
         let cut = prev_break(end.saturating_sub(back), text.as_bytes());
-        let near = text_after(text, cut);
+        let near = &text[cut..];
         let len = end - cut;
         let break_count = byte_to_line_with(near, len, breaks);
         if break_count <= skip && cut > 0 {
@@ -272,7 +264,7 @@ fn count_last(
         } else {
             line_to_byte_with(near, line_idx, breaks)
         };
-        let rest = text_after(near, start);
+        let rest = &near[start..];
         let bytes = len - start;
         let info = TextInfo {
             bytes,
@@ -313,7 +305,7 @@ impl<'a> Gap<'a> {
         ensures back { self.old.back ≡ first_line breaks self.old.back ++ self.new.back }
         ensures counts { result ≡ info_of breaks (first_line breaks self.old.back) }
     {
-        let first = TextInfo::of_first_line(text_after(self.span.chunk(), self.inside), breaks);
+        let first = TextInfo::of_first_line(&self.span.chunk()[self.inside..], breaks);
         if first.break_count > 0 {
             self.inside += first.bytes;
             return first;

@@ -3,7 +3,6 @@ ghost use Rattle.std.specs.Prelude.{◌≡◌, ◌++◌, ◌∷◌, [], All, len
 ghost use Rattle.std.specs.Str.{chars, encode_utf8_all};
 ghost use Rattle.rope_part.specs.Part.{text_of};
 ghost use Rattle.rope_cursor.specs.Path.{leaves_below, IsLow};
-ghost use Rattle.rope_cursor.specs.Pieces.{ahead_of};
 
 use crate::path::{Path, lowest_text};
 use rope_part::Part;
@@ -13,13 +12,6 @@ use std::marker::Model;
 
 // Of so many bytes it pays to read the heads of more leaves than the next one side by side; of fewer most may not be needed.
 const MANY_BYTES: usize = 8 * MAX_BYTES;
-
-/// The bytes of a chunk, by its characters.
-pub fn bytes_of(chunk: &str) -> &[u8]
-    ensures { result.now ≡ encode_utf8_all (chars chunk.now) }
-{
-    chunk.as_bytes()
-}
 
 // Goes on to the leaf after a path, and, on a way that goes far, past those beside it, whose heads are all read then. Answers
 // the leaf and these. Never inlined: a step mostly takes one of the siblings, and is kept short.
@@ -35,24 +27,6 @@ fn leave_node<'a>(path: &mut Path<'a>, is_far: bool) -> Option<(&'a str, &'a [No
     let leaf = path.leaf();
     let siblings = if is_far { path.pass_siblings() } else { &[] };
     Some((leaf, siblings))
-}
-
-// The next leaf, of those beside the path first, or none at the end, where it stays. Where the way goes far, more leaves are made
-// ready.
-#[inline(always)]
-fn next_leaf<'a>(path: &mut Path<'a>, beside: &mut &'a [Node], is_far: bool) -> Option<&'a str>
-    requires { All (λ rc. IsLow rc 0) beside.old.now }
-    ensures low { All (λ rc. IsLow rc 0) beside.new.now }
-    ensures some { IfSome result (λ text. ahead_of beside.old.now path.old ≡ chars text.now ∷ ahead_of beside.new.now path.new) }
-    ensures none { IfNone result ((ahead_of beside.old.now path.old ≡ []) × (ahead_of beside.new.now path.new ≡ [])) }
-{
-    if let Some((node, rest)) = beside.split_first() {
-        *beside = rest;
-        return Some(lowest_text(node));
-    }
-    let (leaf, rest) = leave_node(path, is_far)?;
-    *beside = rest;
-    Some(leaf)
 }
 
 /// The bytes of a part from a place on, in pieces as the leaves hold them, forward only.
@@ -94,7 +68,7 @@ impl<'a> Pieces<'a> {
                 let start = stretch.start.bytes;
                 let size = stretch.end.bytes - start;
                 let (path, before) = Path::at(stretch.node, Unit::Byte, start);
-                let (_, front) = bytes_of(path.leaf()).split_at(start - before.bytes);
+                let (_, front) = path.leaf().as_bytes().split_at(start - before.bytes);
                 let count = front.len().min(size);
                 let (piece, _) = front.split_at(count);
                 let beside: &[Node] = &[];
@@ -112,7 +86,7 @@ impl<'a> Pieces<'a> {
     {
         let (path, left) = (Path::text(text), 0);
         let beside: &[Node] = &[];
-        (bytes_of(text), Pieces { path, beside, left })
+        (text.as_bytes(), Pieces { path, beside, left })
     }
 
     /// The next piece; an empty one only at the end, where it stays.
@@ -124,10 +98,21 @@ impl<'a> Pieces<'a> {
             return &[];
         }
         let is_far = self.left > MANY_BYTES;
-        let Some(leaf) = next_leaf(&mut self.path, &mut self.beside, is_far) else {
-            return &[];
+        // those beside the path come first
+        let leaf = match self.beside.split_first() {
+            Some((node, rest)) => {
+                self.beside = rest;
+                lowest_text(node)
+            }
+            None => {
+                let Some((leaf, rest)) = leave_node(&mut self.path, is_far) else {
+                    return &[];
+                };
+                self.beside = rest;
+                leaf
+            }
         };
-        let bytes = bytes_of(leaf);
+        let bytes = leaf.as_bytes();
         let count = bytes.len().min(self.left);
         self.left -= count;
         &bytes[..count]

@@ -4,6 +4,7 @@ use Rattle.std.specs.Str.{encode_utf8_all}
 use Rattle.rope_text.specs.Compare.{blocks}
 use Rattle.rope_part.specs.Part.{text_of}
 use Rattle.rope_compare.specs.Rest.{bytes_ahead}
+use Rattle.rope_cursor.proofs.PiecesAhead.{bytes_of}
 use Rattle.rope_compare.proofs.Feeding.{feed_chunk, fed_last, fed_even}
 use Rattle.rope_compare.proofs.Taken.{chunk_taken, none_taken}
 use Rattle.rope_compare.proofs.hashing.feed.Goals as goal
@@ -14,13 +15,13 @@ loop-chunk-preserved g c =
     let i = c.loop-chunk.invariant in
     let now = c.loop-chunk.chunk-iterator in
     let next = c.next.new.self in
-    let bytes = c.bytes_of.result.now in
+    let bytes = c.as_bytes.result.now in
     record {
       size = c.feed_piece-held.ensures.size;
       room = c.feed_piece-held.ensures.room;
       feeding = feed_chunk g.H.Hasher.write c.args.state.now c.loop-chunk.state c.feed_piece-held.new.state (encode_utf8_all (text_of c.args.part.now))
           (take c.loop-chunk.held c.loop-chunk.block) (take c.feed_piece-held.result c.feed_piece-held.new.block) bytes (bytes_ahead now) (bytes_ahead next)
-          i.feeding (chunk_taken now next _ bytes c.in-Some.ensures.steps c.bytes_of.ensures) c.feed_piece-held.ensures.writes;
+          i.feeding (chunk_taken now next _ bytes c.in-Some.ensures.steps (bytes_of _ bytes c.as_bytes.ensures.utf8 c.as_bytes.ensures.value)) c.feed_piece-held.ensures.writes;
     }
 
 pub returns : goal.returns

@@ -6,7 +6,7 @@ use Rattle.rope_text.proofs.Walks.{byte_len-chars}
 use Rattle.rope_text.specs.Text.{byte_len}
 use Rattle.rope_text.specs.TextInfo.{info_of}
 use Rattle.rope_cursor.specs.Gap.{before_byte, IsBetween}
-use Rattle.rope_cursor.proofs.Gaps.{size_front}
+use Rattle.rope_cursor.proofs.Gaps.{size_front, between_boundary, between_after}
 use Rattle.rope_cursor.proofs.LineCounts.{cut_at}
 use Rattle.rope_cursor.proofs.LineNear.{few_left, more_left, same_start, start_between, start_inside, found_start, found_fits, rest_between, rest_breaks, found_counts, front_counts}
 use Rattle.rope_cursor.proofs.lines.count_last.Goals.{After-prev_break-cut, Joined-line_idx-eq1, then-line_idx-eq1, else-line_idx-eq1}
@@ -25,36 +25,41 @@ cut_here c = cut_at c.args.text.now c.prev_break-cut.result c.utf8.text (rw c.as
 pub prev_break-cut-requires : goal.prev_break-cut-requires
 prev_break-cut-requires c = omega (arith, c.as_bytes.ensures.len, c.saturating_sub.ensures, end_within c.args.text.now c.args.end c.utf8.text c.requires.between)
 
-pub text_after-near-requires : goal.text_after-near-requires
-text_after-near-requires c = (cut_here c).0
+pub range_from-near-requires : goal.range_from-near-requires
+range_from-near-requires c = λ _. between_boundary c.args.text.now c.prev_break-cut.result c.utf8.text (cut_here (goal.at.range_from-near-requires c).After-prev_break-cut).0
 
-start_is : (c : Joined-line_idx-eq1) → c.if-line_idx-eq1.start ≡ line_to_byte c.args.breaks (chars c.text_after-near.result.now) (c.byte_to_line_with-break_count.result - c.min-skip.result)
+start_is : (c : Joined-line_idx-eq1) → c.if-line_idx-eq1.start ≡ line_to_byte c.args.breaks (chars c.range_from-near.result.now) (c.byte_to_line_with-break_count.result - c.min-skip.result)
 start_is c = elim c.if-line_idx-eq1.branch [
-  | then-line_idx-eq1 w ↦ w.start-is ∙ ap (λ info. info.bytes) w.of_first_line.ensures ∙ ap (line_to_byte c.args.breaks (chars c.text_after-near.result.now)) (sym w.if-line_idx-eq1.true)
+  | then-line_idx-eq1 w ↦ w.start-is ∙ ap (λ info. info.bytes) w.of_first_line.ensures ∙ ap (line_to_byte c.args.breaks (chars c.range_from-near.result.now)) (sym w.if-line_idx-eq1.true)
   | else-line_idx-eq1 w ↦ w.start-is ∙ w.line_to_byte_with-start.ensures.value
 ]
 
-pub text_after-rest-requires : goal.text_after-rest-requires
-text_after-rest-requires c =
-    let d = (goal.at.text_after-rest-requires c).After-prev_break-cut in
-    start_between c.args.breaks (chars c.args.text.now) (chars c.text_after-near.result.now) c.min-skip.result c.args.end c.prev_break-cut.result c.byte_to_line_with-break_count.result c.if-line_idx-eq1.start
-    c.requires.between (cut_here d).0 (before_end d) (cut_here d).1 c.requires.apart c.text_after-near.ensures c.byte_to_line_with-break_count.ensures (omega (arith, c.min-skip.ensures)) (few_left c.else-break_count-skip.either c.min-skip.ensures)
-    (start_is c)
+pub range_from-rest-requires : goal.range_from-rest-requires
+range_from-rest-requires c =
+    let d = (goal.at.range_from-rest-requires c).After-prev_break-cut in
+    let e = (goal.at.range_from-rest-requires c).Joined-line_idx-eq1 in
+    let near = between_after c.args.text.now c.range_from-near.result.now c.prev_break-cut.result c.utf8.text (cut_here d).0 c.range_from-near.ensures.value in
+    λ _. between_boundary c.range_from-near.result.now c.if-line_idx-eq1.start c.range_from-near.utf8
+    (start_between c.args.breaks (chars c.args.text.now) (chars c.range_from-near.result.now) c.min-skip.result c.args.end c.prev_break-cut.result c.byte_to_line_with-break_count.result c.if-line_idx-eq1.start
+    c.requires.between (cut_here d).0 (before_end d) (cut_here d).1 c.requires.apart near c.byte_to_line_with-break_count.ensures (omega (arith, c.min-skip.ensures)) (few_left c.else-break_count-skip.either c.min-skip.ensures)
+    (start_is e))
 
 pub overflow_sub-bytes : goal.overflow_sub-bytes
 overflow_sub-bytes c =
     let d = (goal.at.overflow_sub-bytes c).After-prev_break-cut in
     let e = (goal.at.overflow_sub-bytes c).Joined-line_idx-eq1 in
-    start_inside c.args.breaks (chars c.args.text.now) (chars c.text_after-near.result.now) c.min-skip.result c.args.end c.prev_break-cut.result c.byte_to_line_with-break_count.result c.if-line_idx-eq1.start
-    c.requires.between (cut_here d).0 (before_end d) (cut_here d).1 c.requires.apart c.text_after-near.ensures c.byte_to_line_with-break_count.ensures (omega (arith, c.min-skip.ensures)) (few_left c.else-break_count-skip.either c.min-skip.ensures)
+    let near = between_after c.args.text.now c.range_from-near.result.now c.prev_break-cut.result c.utf8.text (cut_here d).0 c.range_from-near.ensures.value in
+    start_inside c.args.breaks (chars c.args.text.now) (chars c.range_from-near.result.now) c.min-skip.result c.args.end c.prev_break-cut.result c.byte_to_line_with-break_count.result c.if-line_idx-eq1.start
+    c.requires.between (cut_here d).0 (before_end d) (cut_here d).1 c.requires.apart near c.byte_to_line_with-break_count.ensures (omega (arith, c.min-skip.ensures)) (few_left c.else-break_count-skip.either c.min-skip.ensures)
     (start_is e)
 
 pub overflow_add-result : goal.overflow_add-result
 overflow_add-result c =
     let d = (goal.at.overflow_add-result c).After-prev_break-cut in
     let e = (goal.at.overflow_add-result c).Joined-line_idx-eq1 in
-    let fits = found_fits c.args.breaks (chars c.args.text.now) (chars c.text_after-near.result.now) c.min-skip.result c.args.end c.prev_break-cut.result c.byte_to_line_with-break_count.result c.if-line_idx-eq1.start
-    c.requires.between (cut_here d).0 (before_end d) (cut_here d).1 c.requires.apart c.text_after-near.ensures c.byte_to_line_with-break_count.ensures (omega (arith, c.min-skip.ensures)) (few_left c.else-break_count-skip.either c.min-skip.ensures)
+    let near = between_after c.args.text.now c.range_from-near.result.now c.prev_break-cut.result c.utf8.text (cut_here d).0 c.range_from-near.ensures.value in
+    let fits = found_fits c.args.breaks (chars c.args.text.now) (chars c.range_from-near.result.now) c.min-skip.result c.args.end c.prev_break-cut.result c.byte_to_line_with-break_count.result c.if-line_idx-eq1.start
+    c.requires.between (cut_here d).0 (before_end d) (cut_here d).1 c.requires.apart near c.byte_to_line_with-break_count.ensures (omega (arith, c.min-skip.ensures)) (few_left c.else-break_count-skip.either c.min-skip.ensures)
     (start_is e) in
     omega (arith, fits, c.byte_len_of.ensures)
 
@@ -62,28 +67,34 @@ pub returns-in-loop-near-clause-start : goal.returns-in-loop-near-clause-start
 returns-in-loop-near-clause-start c =
     let d = (goal.at.returns-in-loop-near-clause-start c).After-prev_break-cut in
     let e = (goal.at.returns-in-loop-near-clause-start c).Joined-line_idx-eq1 in
-    found_start c.args.breaks (chars c.args.text.now) (chars c.text_after-near.result.now) c.min-skip.result c.args.end c.prev_break-cut.result c.byte_to_line_with-break_count.result c.if-line_idx-eq1.start
-    c.requires.between (cut_here d).0 (before_end d) (cut_here d).1 c.requires.apart c.text_after-near.ensures c.byte_to_line_with-break_count.ensures (omega (arith, c.min-skip.ensures)) (few_left c.else-break_count-skip.either c.min-skip.ensures)
+    let near = between_after c.args.text.now c.range_from-near.result.now c.prev_break-cut.result c.utf8.text (cut_here d).0 c.range_from-near.ensures.value in
+    found_start c.args.breaks (chars c.args.text.now) (chars c.range_from-near.result.now) c.min-skip.result c.args.end c.prev_break-cut.result c.byte_to_line_with-break_count.result c.if-line_idx-eq1.start
+    c.requires.between (cut_here d).0 (before_end d) (cut_here d).1 c.requires.apart near c.byte_to_line_with-break_count.ensures (omega (arith, c.min-skip.ensures)) (few_left c.else-break_count-skip.either c.min-skip.ensures)
     (start_is e)
-    ∙ ap (λ k. byte_len (take k (before_byte (chars c.args.text.now) c.args.end))) (same_start c.args.breaks (chars c.args.text.now) (chars c.text_after-near.result.now) c.min-skip.result c.args.end c.prev_break-cut.result c.byte_to_line_with-break_count.result c.if-line_idx-eq1.start
-    c.requires.between (cut_here d).0 (before_end d) (cut_here d).1 c.requires.apart c.text_after-near.ensures c.byte_to_line_with-break_count.ensures (omega (arith, c.min-skip.ensures)) (few_left c.else-break_count-skip.either c.min-skip.ensures)
+    ∙ ap (λ k. byte_len (take k (before_byte (chars c.args.text.now) c.args.end))) (same_start c.args.breaks (chars c.args.text.now) (chars c.range_from-near.result.now) c.min-skip.result c.args.end c.prev_break-cut.result c.byte_to_line_with-break_count.result c.if-line_idx-eq1.start
+    c.requires.between (cut_here d).0 (before_end d) (cut_here d).1 c.requires.apart near c.byte_to_line_with-break_count.ensures (omega (arith, c.min-skip.ensures)) (few_left c.else-break_count-skip.either c.min-skip.ensures)
     (start_is e) c.args.skip c.min-skip.ensures (more_left c.else-break_count-skip.either))
 
 pub returns-in-loop-near-clause-counts : goal.returns-in-loop-near-clause-counts
 returns-in-loop-near-clause-counts c =
     let d = (goal.at.returns-in-loop-near-clause-counts c).After-prev_break-cut in
     let e = (goal.at.returns-in-loop-near-clause-counts c).Joined-line_idx-eq1 in
-    let counts = front_counts c.args.breaks (chars c.text_after-rest.result.now) _
-    (rest_between c.args.breaks (chars c.args.text.now) (chars c.text_after-near.result.now) c.min-skip.result c.args.end c.prev_break-cut.result c.byte_to_line_with-break_count.result c.if-line_idx-eq1.start
-    c.requires.between (cut_here d).0 (before_end d) (cut_here d).1 c.requires.apart c.text_after-near.ensures c.byte_to_line_with-break_count.ensures (omega (arith, c.min-skip.ensures)) (few_left c.else-break_count-skip.either c.min-skip.ensures)
-    (start_is e) (chars c.text_after-rest.result.now) c.text_after-rest.ensures) c.byte_to_char_idx.ensures c.byte_to_surrogates.ensures
-    (rest_breaks c.args.breaks (chars c.args.text.now) (chars c.text_after-near.result.now) c.min-skip.result c.args.end c.prev_break-cut.result c.byte_to_line_with-break_count.result c.if-line_idx-eq1.start
-    c.requires.between (cut_here d).0 (before_end d) (cut_here d).1 c.requires.apart c.text_after-near.ensures c.byte_to_line_with-break_count.ensures (omega (arith, c.min-skip.ensures)) (few_left c.else-break_count-skip.either c.min-skip.ensures)
-    (start_is e) (chars c.text_after-rest.result.now) c.text_after-rest.ensures) in
-    found_counts c.args.breaks (chars c.args.text.now) (chars c.text_after-near.result.now) c.min-skip.result c.args.end c.prev_break-cut.result c.byte_to_line_with-break_count.result c.if-line_idx-eq1.start
-    c.requires.between (cut_here d).0 (before_end d) (cut_here d).1 c.requires.apart c.text_after-near.ensures c.byte_to_line_with-break_count.ensures (omega (arith, c.min-skip.ensures)) (few_left c.else-break_count-skip.either c.min-skip.ensures)
-    (start_is e) (chars c.text_after-rest.result.now) c.text_after-rest.ensures
+    let near = between_after c.args.text.now c.range_from-near.result.now c.prev_break-cut.result c.utf8.text (cut_here d).0 c.range_from-near.ensures.value in
+    let rest = between_after c.range_from-near.result.now c.range_from-rest.result.now c.if-line_idx-eq1.start c.range_from-near.utf8
+    (start_between c.args.breaks (chars c.args.text.now) (chars c.range_from-near.result.now) c.min-skip.result c.args.end c.prev_break-cut.result c.byte_to_line_with-break_count.result c.if-line_idx-eq1.start
+    c.requires.between (cut_here d).0 (before_end d) (cut_here d).1 c.requires.apart near c.byte_to_line_with-break_count.ensures (omega (arith, c.min-skip.ensures)) (few_left c.else-break_count-skip.either c.min-skip.ensures)
+    (start_is e)) c.range_from-rest.ensures.value in
+    let counts = front_counts c.args.breaks (chars c.range_from-rest.result.now) _
+    (rest_between c.args.breaks (chars c.args.text.now) (chars c.range_from-near.result.now) c.min-skip.result c.args.end c.prev_break-cut.result c.byte_to_line_with-break_count.result c.if-line_idx-eq1.start
+    c.requires.between (cut_here d).0 (before_end d) (cut_here d).1 c.requires.apart near c.byte_to_line_with-break_count.ensures (omega (arith, c.min-skip.ensures)) (few_left c.else-break_count-skip.either c.min-skip.ensures)
+    (start_is e) (chars c.range_from-rest.result.now) rest) c.byte_to_char_idx.ensures c.byte_to_surrogates.ensures
+    (rest_breaks c.args.breaks (chars c.args.text.now) (chars c.range_from-near.result.now) c.min-skip.result c.args.end c.prev_break-cut.result c.byte_to_line_with-break_count.result c.if-line_idx-eq1.start
+    c.requires.between (cut_here d).0 (before_end d) (cut_here d).1 c.requires.apart near c.byte_to_line_with-break_count.ensures (omega (arith, c.min-skip.ensures)) (few_left c.else-break_count-skip.either c.min-skip.ensures)
+    (start_is e) (chars c.range_from-rest.result.now) rest) in
+    found_counts c.args.breaks (chars c.args.text.now) (chars c.range_from-near.result.now) c.min-skip.result c.args.end c.prev_break-cut.result c.byte_to_line_with-break_count.result c.if-line_idx-eq1.start
+    c.requires.between (cut_here d).0 (before_end d) (cut_here d).1 c.requires.apart near c.byte_to_line_with-break_count.ensures (omega (arith, c.min-skip.ensures)) (few_left c.else-break_count-skip.either c.min-skip.ensures)
+    (start_is e) (chars c.range_from-rest.result.now) rest
     _ counts
-    ∙ ap (λ k. info_of c.args.breaks (drop k (before_byte (chars c.args.text.now) c.args.end))) (same_start c.args.breaks (chars c.args.text.now) (chars c.text_after-near.result.now) c.min-skip.result c.args.end c.prev_break-cut.result c.byte_to_line_with-break_count.result c.if-line_idx-eq1.start
-    c.requires.between (cut_here d).0 (before_end d) (cut_here d).1 c.requires.apart c.text_after-near.ensures c.byte_to_line_with-break_count.ensures (omega (arith, c.min-skip.ensures)) (few_left c.else-break_count-skip.either c.min-skip.ensures)
+    ∙ ap (λ k. info_of c.args.breaks (drop k (before_byte (chars c.args.text.now) c.args.end))) (same_start c.args.breaks (chars c.args.text.now) (chars c.range_from-near.result.now) c.min-skip.result c.args.end c.prev_break-cut.result c.byte_to_line_with-break_count.result c.if-line_idx-eq1.start
+    c.requires.between (cut_here d).0 (before_end d) (cut_here d).1 c.requires.apart near c.byte_to_line_with-break_count.ensures (omega (arith, c.min-skip.ensures)) (few_left c.else-break_count-skip.either c.min-skip.ensures)
     (start_is e) c.args.skip c.min-skip.ensures (more_left c.else-break_count-skip.either))

@@ -1,88 +1,92 @@
-use Rattle.std.proofs.Common.{◌≡◌, ℕ, List, drop, ◌∙◌, ap, arith}
-use Rattle.std.specs.Str.{chars}
-use Rattle.rope_text.specs.declared.line_breaks.LineBreaks.{LineBreaks}
-use Rattle.rope_text.specs.declared.text_info.TextInfo.{TextInfo}
+use Rattle.std.proofs.Common.{◌≡◌, ◌∙◌, ap, arith}
 use Rattle.rope_text.specs.TextInfo.{info_of}
-use Rattle.rope_text.specs.Conversions.{byte_to_char}
 use Rattle.rope_text.specs.LineParts.{first_line}
+use Rattle.rope_cursor.specs.Gap.{after_byte}
+use Rattle.rope_cursor.proofs.Gaps.{between_boundary, between_after}
 use Rattle.rope_cursor.proofs.GapSteps.{info_half, place_fits, pass_inside, more_half, pass_over}
+use Rattle.rope_cursor.proofs.lines.Gap.pass_line.Goals.{After-of_first_line-first}
 use Rattle.rope_cursor.proofs.lines.Gap.pass_line.Goals as goal
 
-first_is : (breaks : LineBreaks) (here chunk rest : List ℕ) (b : ℕ) (first : TextInfo) → chunk ≡ here → rest ≡ drop (byte_to_char chunk b) chunk → first ≡ info_of breaks (first_line breaks rest)
-    → first ≡ info_of breaks (first_line breaks (drop (byte_to_char here b) here))
-first_is breaks here chunk rest b first same cut counts = counts ∙ ap (λ t. info_of breaks (first_line breaks t)) (cut ∙ ap (λ t. drop (byte_to_char t b) t) same)
+pub range_from-requires : goal.range_from-requires
+range_from-requires c = λ _. between_boundary c.chunk.result.now c.self.inside.inside c.chunk.utf8 (rw c.chunk.ensures c.self.invariant.between)
+
+first_is : (c : After-of_first_line-first) → c.of_first_line-first.result ≡ info_of c.args.breaks (first_line c.args.breaks (after_byte c.self.inside.span.here c.self.inside.inside))
+first_is c =
+    let b = c.self.inside.inside in
+    let cut = between_after c.chunk.result.now c.range_from.result.now b c.chunk.utf8 (rw c.chunk.ensures c.self.invariant.between) c.range_from.ensures.value in
+    c.of_first_line-first.ensures ∙ ap (λ t. info_of c.args.breaks (first_line c.args.breaks t)) (cut ∙ ap (λ t. after_byte t b) c.chunk.ensures)
 
 pub overflow_add-self : goal.overflow_add-self
 overflow_add-self c =
     let small = place_fits c.args.breaks c.self.inside.span c.self.inside.inside c.self.invariant c.of_first_line-first.result
-    (first_is c.args.breaks c.self.inside.span.here (chars c.chunk.result.now) (chars c.text_after.result.now) c.self.inside.inside c.of_first_line-first.result c.chunk.ensures c.text_after.ensures c.of_first_line-first.ensures) in
+    (first_is (goal.at.overflow_add-self c).After-of_first_line-first) in
     omega (arith, small)
 
 pub invariant_of-self : goal.invariant_of-self
 invariant_of-self c =
     (pass_inside c.args.breaks c.self.inside.span c.self.inside.inside c.self.invariant c.of_first_line-first.result
-    (first_is c.args.breaks c.self.inside.span.here (chars c.chunk.result.now) (chars c.text_after.result.now) c.self.inside.inside c.of_first_line-first.result c.chunk.ensures c.text_after.ensures c.of_first_line-first.ensures)
+    (first_is (goal.at.invariant_of-self c).After-of_first_line-first)
     c.if-first-gt0.true).gap
 
 pub returns-then-first-gt0-clause-front : goal.returns-then-first-gt0-clause-front
 returns-then-first-gt0-clause-front c =
     rw (← c.self.view_is) (pass_inside c.args.breaks c.self.inside.span c.self.inside.inside c.self.invariant c.of_first_line-first.result
-    (first_is c.args.breaks c.self.inside.span.here (chars c.chunk.result.now) (chars c.text_after.result.now) c.self.inside.inside c.of_first_line-first.result c.chunk.ensures c.text_after.ensures c.of_first_line-first.ensures)
+    (first_is (goal.at.returns-then-first-gt0-clause-front c).After-of_first_line-first)
     c.if-first-gt0.true).front_is
 
 pub returns-then-first-gt0-clause-back : goal.returns-then-first-gt0-clause-back
 returns-then-first-gt0-clause-back c =
     rw (← c.self.view_is) (pass_inside c.args.breaks c.self.inside.span c.self.inside.inside c.self.invariant c.of_first_line-first.result
-    (first_is c.args.breaks c.self.inside.span.here (chars c.chunk.result.now) (chars c.text_after.result.now) c.self.inside.inside c.of_first_line-first.result c.chunk.ensures c.text_after.ensures c.of_first_line-first.ensures)
+    (first_is (goal.at.returns-then-first-gt0-clause-back c).After-of_first_line-first)
     c.if-first-gt0.true).back_is
 
 pub returns-then-first-gt0-clause-counts : goal.returns-then-first-gt0-clause-counts
 returns-then-first-gt0-clause-counts c =
     rw (← c.self.view_is) (pass_inside c.args.breaks c.self.inside.span c.self.inside.inside c.self.invariant c.of_first_line-first.result
-    (first_is c.args.breaks c.self.inside.span.here (chars c.chunk.result.now) (chars c.text_after.result.now) c.self.inside.inside c.of_first_line-first.result c.chunk.ensures c.text_after.ensures c.of_first_line-first.ensures)
+    (first_is (goal.at.returns-then-first-gt0-clause-counts c).After-of_first_line-first)
     c.if-first-gt0.true).counts
 
 pub plus-requires-clause-bytes : goal.plus-requires-clause-bytes
 plus-requires-clause-bytes c =
     let one = info_half c.args.breaks c.self.inside.span c.self.inside.inside c.self.invariant c.of_first_line-first.result
-    (first_is c.args.breaks c.self.inside.span.here (chars c.chunk.result.now) (chars c.text_after.result.now) c.self.inside.inside c.of_first_line-first.result c.chunk.ensures c.text_after.ensures c.of_first_line-first.ensures) in
+    (first_is (goal.at.plus-requires-clause-bytes c).After-of_first_line-first) in
     let two = more_half c.args.breaks c.self.inside.span c.self.inside.inside c.self.invariant c.of_first_line-first.result
-    (first_is c.args.breaks c.self.inside.span.here (chars c.chunk.result.now) (chars c.text_after.result.now) c.self.inside.inside c.of_first_line-first.result c.chunk.ensures c.text_after.ensures c.of_first_line-first.ensures)
+    (first_is (goal.at.plus-requires-clause-bytes c).After-of_first_line-first)
     c.pass_chunks-inside.new.span c.pass_chunks-inside.result.0 c.pass_chunks-inside.result.1 c.if-first-gt0.false c.pass_chunks-inside.ensures in
     omega (arith, one.bytes, two.bytes)
 
 pub plus-requires-clause-chars : goal.plus-requires-clause-chars
 plus-requires-clause-chars c =
     let one = info_half c.args.breaks c.self.inside.span c.self.inside.inside c.self.invariant c.of_first_line-first.result
-    (first_is c.args.breaks c.self.inside.span.here (chars c.chunk.result.now) (chars c.text_after.result.now) c.self.inside.inside c.of_first_line-first.result c.chunk.ensures c.text_after.ensures c.of_first_line-first.ensures) in
+    (first_is (goal.at.plus-requires-clause-chars c).After-of_first_line-first) in
     let two = more_half c.args.breaks c.self.inside.span c.self.inside.inside c.self.invariant c.of_first_line-first.result
-    (first_is c.args.breaks c.self.inside.span.here (chars c.chunk.result.now) (chars c.text_after.result.now) c.self.inside.inside c.of_first_line-first.result c.chunk.ensures c.text_after.ensures c.of_first_line-first.ensures)
+    (first_is (goal.at.plus-requires-clause-chars c).After-of_first_line-first)
     c.pass_chunks-inside.new.span c.pass_chunks-inside.result.0 c.pass_chunks-inside.result.1 c.if-first-gt0.false c.pass_chunks-inside.ensures in
     omega (arith, one.chars, two.chars)
 
 pub plus-requires-clause-utf16_surrogates : goal.plus-requires-clause-utf16_surrogates
 plus-requires-clause-utf16_surrogates c =
     let one = info_half c.args.breaks c.self.inside.span c.self.inside.inside c.self.invariant c.of_first_line-first.result
-    (first_is c.args.breaks c.self.inside.span.here (chars c.chunk.result.now) (chars c.text_after.result.now) c.self.inside.inside c.of_first_line-first.result c.chunk.ensures c.text_after.ensures c.of_first_line-first.ensures) in
+    (first_is (goal.at.plus-requires-clause-utf16_surrogates c).After-of_first_line-first) in
     let two = more_half c.args.breaks c.self.inside.span c.self.inside.inside c.self.invariant c.of_first_line-first.result
-    (first_is c.args.breaks c.self.inside.span.here (chars c.chunk.result.now) (chars c.text_after.result.now) c.self.inside.inside c.of_first_line-first.result c.chunk.ensures c.text_after.ensures c.of_first_line-first.ensures)
+    (first_is (goal.at.plus-requires-clause-utf16_surrogates c).After-of_first_line-first)
     c.pass_chunks-inside.new.span c.pass_chunks-inside.result.0 c.pass_chunks-inside.result.1 c.if-first-gt0.false c.pass_chunks-inside.ensures in
     omega (arith, one.utf16_surrogates, two.utf16_surrogates)
 
 pub returns-clause-front : goal.returns-clause-front
 returns-clause-front c =
     rw (← c.self.view_is) (pass_over c.args.breaks c.self.inside.span c.self.inside.inside c.self.invariant c.of_first_line-first.result
-    (first_is c.args.breaks c.self.inside.span.here (chars c.chunk.result.now) (chars c.text_after.result.now) c.self.inside.inside c.of_first_line-first.result c.chunk.ensures c.text_after.ensures c.of_first_line-first.ensures)
+    (first_is (goal.at.returns-clause-front c).After-of_first_line-first)
     c.pass_chunks-inside.new.span c.pass_chunks-inside.result.0 c.pass_chunks-inside.result.1 c.if-first-gt0.false c.pass_chunks-inside.ensures c.plus.result c.plus.ensures.sum).front_is
 
 pub returns-clause-back : goal.returns-clause-back
 returns-clause-back c =
     rw (← c.self.view_is) (pass_over c.args.breaks c.self.inside.span c.self.inside.inside c.self.invariant c.of_first_line-first.result
-    (first_is c.args.breaks c.self.inside.span.here (chars c.chunk.result.now) (chars c.text_after.result.now) c.self.inside.inside c.of_first_line-first.result c.chunk.ensures c.text_after.ensures c.of_first_line-first.ensures)
+    (first_is (goal.at.returns-clause-back c).After-of_first_line-first)
     c.pass_chunks-inside.new.span c.pass_chunks-inside.result.0 c.pass_chunks-inside.result.1 c.if-first-gt0.false c.pass_chunks-inside.ensures c.plus.result c.plus.ensures.sum).back_is
 
 pub returns-clause-counts : goal.returns-clause-counts
 returns-clause-counts c =
     rw (← c.self.view_is) (pass_over c.args.breaks c.self.inside.span c.self.inside.inside c.self.invariant c.of_first_line-first.result
-    (first_is c.args.breaks c.self.inside.span.here (chars c.chunk.result.now) (chars c.text_after.result.now) c.self.inside.inside c.of_first_line-first.result c.chunk.ensures c.text_after.ensures c.of_first_line-first.ensures)
+    (first_is (goal.at.returns-clause-counts c).After-of_first_line-first)
     c.pass_chunks-inside.new.span c.pass_chunks-inside.result.0 c.pass_chunks-inside.result.1 c.if-first-gt0.false c.pass_chunks-inside.ensures c.plus.result c.plus.ensures.sum).counts

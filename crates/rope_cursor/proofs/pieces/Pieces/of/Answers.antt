@@ -5,12 +5,12 @@ use Rattle.rope_text.specs.Text.{byte_len}
 use Rattle.rope_tree.specs.Tree.{Tree}
 use Rattle.rope_part.proofs.Measured.{measured}
 use Rattle.rope_cursor.specs.Path.{IsLow}
-use Rattle.rope_cursor.proofs.PiecesAhead.{starts_here, stretch_bytes, some_here, solid_after, none_left}
+use Rattle.rope_cursor.proofs.PiecesAhead.{bytes_of, starts_here, stretch_bytes, some_here, solid_after, none_left}
 use Rattle.rope_cursor.proofs.pieces.Pieces.of.Goals.{After-split_at-in-InTree}
 use Rattle.rope_cursor.proofs.pieces.Pieces.of.Goals as goal
 
 front_is : (c : After-split_at-in-InTree) → c.split_at.result.1.now ≡ drop (c.in-InTree.stretch.start.bytes - c.at-path.result.1.bytes) (encode_utf8_all c.at-path.result.0.here)
-front_is c = c.split_at.ensures.back ∙ ap (drop (c.in-InTree.stretch.start.bytes - c.at-path.result.1.bytes)) (c.bytes_of.ensures ∙ ap encode_utf8_all c.leaf.ensures)
+front_is c = c.split_at.ensures.back ∙ ap (drop (c.in-InTree.stretch.start.bytes - c.at-path.result.1.bytes)) ((bytes_of c.leaf.result.now c.as_bytes.result.now c.as_bytes.ensures.utf8 c.as_bytes.ensures.value) ∙ ap encode_utf8_all c.leaf.ensures)
 
 pub overflow_sub-size : goal.overflow_sub-size
 overflow_sub-size c = let m = measured _ _ _ _ c.in-InTree.stretch.is_stretch in omega (arith, m.some_bytes)
@@ -22,7 +22,7 @@ pub split_at-requires : goal.split_at-requires
 split_at-requires c =
     let s = c.in-InTree.stretch in
     let h = c.at-path.ensures in
-    omega (arith, ap length c.bytes_of.ensures, ap byte_len c.leaf.ensures, starts_here s.node.now s.start s.end c.at-path.result.0 c.at-path.result.1 c.height.ensures.tree s.is_stretch h.leaves h.holds)
+    omega (arith, ap length (bytes_of c.leaf.result.now c.as_bytes.result.now c.as_bytes.ensures.utf8 c.as_bytes.ensures.value), ap byte_len c.leaf.ensures, starts_here s.node.now s.start s.end c.at-path.result.0 c.at-path.result.1 c.height.ensures.tree s.is_stretch h.leaves h.holds)
 
 pub invariant_of-result : goal.invariant_of-result
 invariant_of-result c =
