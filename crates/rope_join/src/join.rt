@@ -71,37 +71,28 @@ fn merge(maker: &mut Maker, left: &Node, right: &Node) -> Made<Nodes>
     }
 }
 
-/// A tree's last child and the children before it, where the tree is so high at least; else the tree itself, and none.
-fn last_of(node: &Node, least: usize) -> (Row<'_>, &Node)
+/// A tree's last child or its first, between the children before it and those behind it, where the tree is so high at least; else
+/// the tree itself, and none.
+fn end_of(node: &Node, least: usize, is_last: bool) -> (Row<'_>, &Node, Row<'_>)
     requires { least ≤ node.now.height → 1 ≤ node.now.height }
-    ensures row { IsRow result.0 }
-    ensures child { least ≤ node.now.height → EndsIn node.now result.0.nodes.now result.1.now }
-    ensures whole { node.now.height < least → (result.0.nodes.now ≡ []) × (result.1.now ≡ node.now) }
+    ensures before { IsRow result.0 }
+    ensures after { IsRow result.2 }
+    ensures last { IsTrue is_last → least ≤ node.now.height → EndsIn node.now result.0.nodes.now result.1.now }
+    ensures first { is_last ≡ false → least ≤ node.now.height → BeginsIn node.now result.1.now result.2.nodes.now }
+    ensures whole { node.now.height < least → (result.0.nodes.now ≡ []) × (result.1.now ≡ node.now) × (result.2.nodes.now ≡ []) }
 {
     if node.height() < least {
-        return (Row::none(), node);
+        return (Row::none(), node, Row::none());
     }
     let View::Inner(children, totals) = node.view() else {
         unreachable!()
     };
-    let last = children.len() - 1;
-    (Row::of(children, totals).first(last), &children[last])
-}
-
-/// A tree's first child and the children behind it, where the tree is so high at least; else the tree itself, and none.
-fn first_of(node: &Node, least: usize) -> (&Node, Row<'_>)
-    requires { least ≤ node.now.height → 1 ≤ node.now.height }
-    ensures child { least ≤ node.now.height → BeginsIn node.now result.0.now result.1.nodes.now }
-    ensures whole { node.now.height < least → (result.0.now ≡ node.now) × (result.1.nodes.now ≡ []) }
-    ensures row { IsRow result.1 }
-{
-    if node.height() < least {
-        return (node, Row::none());
+    let row = Row::of(children, totals);
+    if is_last {
+        let last = children.len() - 1;
+        return (row.first(last), &children[last], Row::none());
     }
-    let View::Inner(children, totals) = node.view() else {
-        unreachable!()
-    };
-    (&children[0], Row::of(children, totals).rest(1))
+    (Row::none(), &children[0], row.rest(1))
 }
 
 /// Two trees that aren't empty as one tree or two of the greater height. It goes down the sides on which they meet to nodes of
@@ -121,8 +112,8 @@ fn unite(maker: &mut Maker, left: &Node, right: &Node) -> Made<Nodes>
     {
         return merge(maker, left, right);
     }
-    let (before, last) = last_of(left, right.height());
-    let (first, after) = first_of(right, height);
+    let (before, last, _) = end_of(left, right.height(), true);
+    let (_, first, after) = end_of(right, height, false);
     let middle = unite(maker, last, first)?;
     pack(maker, before, middle, after)
 }
