@@ -118,26 +118,6 @@ fn clear(totals: &mut Totals, places: &mut [Node; MAX_CHILDREN])
     *places = Default::default();
 }
 
-impl Children {
-    /// Puts the nodes of three lists, which it shares, into a list that has none. Where memory is refused it has none again.
-    fn fill(&mut self, alloc: Global, rows: Rows<'_>) -> Made<()>
-        requires none { self.old ≡ [] }
-        requires before { IsRow rows.0 }
-        requires after { IsRow rows.2 }
-        requires children { let ts = rows.0.nodes.now ++ (rows.1.now ++ rows.2.nodes.now) in AreChildren (breaks_of ts) (height_of ts) ts }
-        ensures { OnOk result (self.new ≡ rows.entry.0.nodes.now ++ (rows.entry.1.now ++ rows.entry.2.nodes.now)) }
-    {
-        let filled = push_three(alloc, &mut self.totals, &mut self.nodes, rows);
-        if filled.is_ok() {
-            self.height = (self.nodes[0].height() + 1) as u8;
-            self.breaks = self.nodes[0].line_breaks();
-        } else {
-            clear(&mut self.totals, &mut self.nodes);
-        }
-        filled
-    }
-}
-
 /// A list of the nodes of three lists, which it shares. It is filled where it stays, so that no node is moved.
 #[inline(never)]
 pub(super) fn list_of(maker: &mut Maker, rows: Rows<'_>) -> Made<Rc<Children>>
@@ -169,7 +149,15 @@ pub(super) fn list_of(maker: &mut Maker, rows: Rows<'_>) -> Made<Rc<Children>>
     let Some(children) = Rc::get_mut(&mut list) else {
         return Err(AllocError);
     };
-    children.fill(maker.alloc, rows)?;
+    let filled = push_three(maker.alloc, &mut children.totals, &mut children.nodes, rows);
+    if filled.is_ok() {
+        children.height = (children.nodes[0].height() + 1) as u8;
+        children.breaks = children.nodes[0].line_breaks();
+    } else {
+        // Where memory is refused it has none again.
+        clear(&mut children.totals, &mut children.nodes);
+    }
+    filled?;
     Ok(list)
 }
 
