@@ -119,19 +119,6 @@ pub fn put_in(
     info
 }
 
-/// Whether the front and the back of a text, with nothing between them, are empty, begin with an LF that wasn't first, or end
-/// in a CR that wasn't last.
-fn bares_an_end(front: &str, back: &str) -> bool
-    ensures some { result ≡ false → 1 ≤ length (chars front.now ++ chars back.now) }
-    ensures ends { result ≡ false → (part : List ℕ) → KeepsEnds (chars front.now ++ (part ++ chars back.now)) (chars front.now ++ chars back.now) }
-{
-    if front.is_empty() {
-        back.is_empty() || begins_with_lf(back)
-    } else {
-        back.is_empty() && ends_in_cr(front)
-    }
-}
-
 /// Takes the characters from `start` up to `end` out of a leaf, and gives the counts of what stays, by those of what was: only
 /// the part that goes is gone over, and the ends. None, and the leaf as it was, where nothing would stay, or fewer bytes than `least`, or where what stays could not stand between
 /// the same neighbours with no CR before an LF.
@@ -158,7 +145,10 @@ pub fn take_out(
     let front = &text[..from];
     let part = &text[from..to];
     let back = &text[to..];
-    if front.len() + back.len() < least || bares_an_end(front, back) {
+    if front.len() + back.len() < least.max(1)
+        || front.is_empty() && begins_with_lf(back)
+        || back.is_empty() && ends_in_cr(front)
+    {
         return None;
     }
     let less = TextInfo::of_short(part, breaks);

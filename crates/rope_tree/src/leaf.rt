@@ -141,15 +141,8 @@ impl Leaf {
         self.summary.info()
     }
 
-    /// Its text. The length is read in the leaf's counts: the one that is kept with the text lies behind it, and a walk over
-    /// leaves would wait for one more place in memory at each.
-    pub(crate) fn text(&self) -> ShortText<'_>
-        ensures { IsLeafOf self.now result }
-    {
-        self.known_text(self.info())
-    }
-
-    /// The same by its counts, which the caller knows: nothing of the leaf is read.
+    /// Its text, by its counts, which the caller knows or reads in the leaf: the length that is kept with the text lies behind it, and a
+    /// walk over leaves would wait for one more place in memory at each.
     pub(crate) fn known_text(&self, info: TextInfo) -> ShortText<'_>
         requires { info ≡ info_of self.now.breaks (text self.now) }
         ensures { IsLeafOf self.now result }
@@ -208,7 +201,7 @@ impl Leaf {
         ensures unmade { IfOk result (λ found. IfNone found (maker.new.made ≡ maker.old.made)) }
         ensures made { maker.new.made ≤ maker.old.made + 1 }
     {
-        let old = self.text();
+        let old = self.known_text(self.info());
         if old.len() + added.len() <= MAX_BYTES {
             return Ok(None);
         }

@@ -124,7 +124,7 @@ impl Node {
         match &self.form {
             Form::Empty(_) => 0,
             Form::Leaf(leaf) => {
-                let _ = leaf.text();
+                let _ = leaf.known_text(leaf.info());
                 0
             }
             Form::Inner(children) => usize::from(children.height),

@@ -32,7 +32,7 @@ fn copy_leaf(leaf: &mut Rc<Leaf>, maker: &mut Maker) -> Made<()>
     *leaf = Leaf::of_text(
         maker.alloc,
         leaf.line_breaks(),
-        leaf.text().as_str(),
+        leaf.known_text(leaf.info()).as_str(),
         leaf.info(),
     )?;
     Ok(())

@@ -91,23 +91,6 @@ fn push_row(
 /// The nodes of three lists, one behind the other.
 pub(super) type Rows<'a> = (Row<'a>, &'a [Node], Row<'a>);
 
-/// Puts the nodes of three lists into one that has none.
-fn push_three(alloc: Global, totals: &mut Totals, places: &mut [Node], rows: Rows<'_>) -> Made<()>
-    requires list { IsNewList (new_list totals.old places.old) }
-    requires none { nodes_in (new_list totals.old places.old) ≡ [] }
-    requires before { IsRow rows.0 }
-    requires after { IsRow rows.2 }
-    requires children { let ts = rows.0.nodes.now ++ (rows.1.now ++ rows.2.nodes.now) in AreChildren (breaks_of ts) (height_of ts) ts }
-    ensures list { OnOk result (IsNewList (new_list totals.new places.new)) }
-    ensures nodes { OnOk result (nodes_in (new_list totals.new places.new) ≡ rows.entry.0.nodes.now ++ (rows.entry.1.now ++ rows.entry.2.nodes.now)) }
-{
-    let (before, middle, after) = rows;
-    let total = push_row(alloc, totals, places, before, TextInfo::new())?;
-    let total = push_all(alloc, totals, places, middle, total)?;
-    push_row(alloc, totals, places, after, total)?;
-    Ok(())
-}
-
 /// Takes all nodes out of a list. It stands by itself, since a caller would clear room for the empty ones at each call.
 #[inline(never)]
 fn clear(totals: &mut Totals, places: &mut [Node; MAX_CHILDREN])
@@ -116,26 +99,6 @@ fn clear(totals: &mut Totals, places: &mut [Node; MAX_CHILDREN])
 {
     *totals = Totals::new();
     *places = Default::default();
-}
-
-impl Children {
-    /// Puts the nodes of three lists, which it shares, into a list that has none. Where memory is refused it has none again.
-    fn fill(&mut self, alloc: Global, rows: Rows<'_>) -> Made<()>
-        requires none { self.old ≡ [] }
-        requires before { IsRow rows.0 }
-        requires after { IsRow rows.2 }
-        requires children { let ts = rows.0.nodes.now ++ (rows.1.now ++ rows.2.nodes.now) in AreChildren (breaks_of ts) (height_of ts) ts }
-        ensures { OnOk result (self.new ≡ rows.entry.0.nodes.now ++ (rows.entry.1.now ++ rows.entry.2.nodes.now)) }
-    {
-        let filled = push_three(alloc, &mut self.totals, &mut self.nodes, rows);
-        if filled.is_ok() {
-            self.height = (self.nodes[0].height() + 1) as u8;
-            self.breaks = self.nodes[0].line_breaks();
-        } else {
-            clear(&mut self.totals, &mut self.nodes);
-        }
-        filled
-    }
 }
 
 /// A list of the nodes of three lists, which it shares. It is filled where it stays, so that no node is moved.
@@ -169,8 +132,20 @@ pub(super) fn list_of(maker: &mut Maker, rows: Rows<'_>) -> Made<Rc<Children>>
     let Some(children) = Rc::get_mut(&mut list) else {
         return Err(AllocError);
     };
-    children.fill(maker.alloc, rows)?;
-    Ok(list)
+    let alloc = maker.alloc;
+    let (totals, places) = (&mut children.totals, &mut children.nodes);
+    let (before, middle, after) = rows;
+    if let Ok(total) = push_row(alloc, totals, places, before, TextInfo::new())
+        && let Ok(total) = push_all(alloc, totals, places, middle, total)
+        && push_row(alloc, totals, places, after, total).is_ok()
+    {
+        children.height = (children.nodes[0].height() + 1) as u8;
+        children.breaks = children.nodes[0].line_breaks();
+        return Ok(list);
+    }
+    // Where memory is refused it has none again.
+    clear(&mut children.totals, &mut children.nodes);
+    Err(AllocError)
 }
 
 /// A node over the nodes of three lists, which it shares.

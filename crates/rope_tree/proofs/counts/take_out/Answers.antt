@@ -1,5 +1,7 @@
-use Rattle.std.proofs.Common.{◌≡◌, ℕ, ◌+◌, ◌-◌, ◌<◌, ◌≤◌, ◌++◌, List, length, take, drop, refl, sym, ap, ap₂, subst, ◌∙◌, arith}
+use Rattle.std.proofs.Common.{◌≡◌, ℕ, ◌+◌, ◌-◌, ◌<◌, ◌≤◌, ◌++◌, Bool, true, false, List, length, take, drop, refl, sym, ap, ap₂, subst, ◌∙◌, arith}
+use Rattle.std.specs.Prelude.{◌==◌}
 use Rattle.std.specs.List.{remove_range}
+use Rattle.std.proofs.lemmas.Bool.Decides.{nat_tests}
 use Rattle.std.specs.Str.{chars, IsUtf8, IsCharBoundary}
 use Rattle.std.proofs.lemmas.List.{take-append-drop, drop-drop, length-append, length-drop}
 use Rattle.std.proofs.lemmas.Str.{chars-append, IsUtf8-take}
@@ -8,9 +10,12 @@ use Rattle.rope_text.specs.TextInfo.{info_of}
 use Rattle.rope_text.specs.Edit.{removed}
 use Rattle.rope_tree.specs.Removal.{KeepsEnds}
 use Rattle.rope_text.proofs.Measures.{size_le, IsMeasure-byte_len}
+use Rattle.rope_text.proofs.Apart.{has_chars}
+use Rattle.rope_tree.proofs.BuildLaws.{no_chars}
+use Rattle.rope_tree.proofs.RemovalEnds.{ends_of_both, ends_of_back, ends_of_front}
 use Rattle.rope_text.proofs.TextParts.{chars_front, chars_back}
 use Rattle.rope_text.proofs.Walks.{byte_len-chars}
-use Rattle.rope_tree.proofs.counts.take_out.Goals.{After-as_str-text, After-range_from-back, After-shared_breaks-meeting}
+use Rattle.rope_tree.proofs.counts.take_out.Goals.{After-as_str-text, After-range_from-back, After-shared_breaks-meeting, After-remove_bytes, then-is_empty, else-is_empty, then-is_empty-2, else-is_empty-2}
 use Rattle.rope_tree.proofs.Infos.{small_info}
 use Rattle.rope_tree.proofs.CountLaws.{Uncounts, uncounts}
 use Rattle.rope_tree.proofs.counts.take_out.Goals as goal
@@ -116,17 +121,39 @@ returns-clause-info c =
     let p = parts (goal.at.returns-clause-info c).After-range_from-back in
     (less (goal.at.returns-clause-info c).After-shared_breaks-meeting p).whole ∙ ap (info_of c.args.breaks) (ap₂ (λ x y. x ++ y) p.front_is p.back_is)
 
-pub returns-clause-some : goal.returns-clause-some
-returns-clause-some c =
-    let p = parts (goal.at.returns-clause-some c).After-range_from-back in
-    rw (p.front_is, p.back_is) at (c.bares_an_end.ensures.some c.if-bares_an_end.false)
+has_some : (bs : List ℕ) (b : Bool) → IsUtf8 bs → b ≡ (length bs == 0) → b ≡ false → 1 ≤ length (chars bs)
+has_some bs b u e is =
+    let test : (length bs == 0) ≡ false = sym e ∙ is in
+    let some : 0 < length bs = grind (arith, nat_tests) in
+    has_chars bs u some
+
+is_none : (bs : List ℕ) (b : Bool) → b ≡ (length bs == 0) → b ≡ true → length bs ≡ 0
+is_none bs b e is = let test : (length bs == 0) ≡ true = sym e ∙ is in grind (arith, nat_tests)
+
+-- no end is bared
+kept_ends : (c : After-remove_bytes) → KeepsEnds (chars c.range-front.result.now ++ (chars c.range-part.result.now ++ chars c.range_from-back.result.now)) (chars c.range-front.result.now ++ chars c.range_from-back.result.now)
+kept_ends c =
+    let front = c.range-front.result.now in
+    let back = c.range_from-back.result.now in
+    let part = chars c.range-part.result.now in
+    elim c.if-is_empty.branch [
+      | then-is_empty w ↦
+          let none = is_none front _ c.is_empty.ensures w.if-is_empty.true in
+          ends_of_back (chars front) part (chars back) (no_chars front none) (has_chars back c.range_from-back.utf8 (omega (arith, none, c.if-front-back.false, c.max.ensures))) (sym w.begins_with_lf.ensures ∙ sym w.value-is ∙ c.if-begins_with_lf.false)
+      | else-is_empty w ↦
+          let some = has_some front _ c.range-front.utf8 c.is_empty.ensures w.if-is_empty.false in
+          elim c.if-is_empty-2.branch [
+            | then-is_empty-2 v ↦
+                ends_of_front (chars front) part (chars back) some (no_chars back (is_none back _ c.is_empty-else-begins_with_lf.ensures v.if-is_empty-2.true)) (sym v.ends_in_cr.ensures ∙ sym v.value-is ∙ c.if-ends_in_cr.false)
+            | else-is_empty-2 v ↦ ends_of_both (chars front) part (chars back) some (has_some back _ c.range_from-back.utf8 c.is_empty-else-begins_with_lf.ensures v.if-is_empty-2.false)
+          ]
+    ]
 
 pub returns-clause-ends : goal.returns-clause-ends
 returns-clause-ends c =
     let p = parts (goal.at.returns-clause-ends c).After-range_from-back in
-    let ends = c.bares_an_end.ensures.ends c.if-bares_an_end.false (chars c.range-part.result.now) in
     subst (λ x. KeepsEnds x (removed c.args.leaf.now c.args.start c.args.end)) p.whole
-    (subst (KeepsEnds (chars c.range-front.result.now ++ (chars c.range-part.result.now ++ chars c.range_from-back.result.now))) (ap₂ (λ x y. x ++ y) p.front_is p.back_is) ends)
+    (subst (KeepsEnds (chars c.range-front.result.now ++ (chars c.range-part.result.now ++ chars c.range_from-back.result.now))) (ap₂ (λ x y. x ++ y) p.front_is p.back_is) (kept_ends (goal.at.returns-clause-ends c).After-remove_bytes))
 
 pub returns-clause-least : goal.returns-clause-least
 returns-clause-least c =

@@ -13,7 +13,7 @@ use Rattle.rope_tree.proofs.leaf.Leaf.cut.Goals.{After-from_str-front_info}
 use Rattle.rope_tree.proofs.leaf.Leaf.cut.Goals as goal
 
 -- the two parts are the leaf with the text
-whole : (c : After-from_str-front_info) → chars c.halves_of.result.0.now ++ chars c.halves_of.result.1.now ≡ inserted c.text-old.result c.args.at c.args.added.now
+whole : (c : After-from_str-front_info) → chars c.halves_of.result.0.now ++ chars c.halves_of.result.1.now ≡ inserted c.known_text-old.result c.args.at c.args.added.now
 whole c = c.halves_of.ensures.joined ∙ ap chars c.as_str.ensures.value ∙ c.leaf_with-grown.ensures.text
 
 parted : (c : After-from_str-front_info) → c.leaf_with-grown.result.1 ≡ info_sum c.from_str-front_info.result (info_of c.line_breaks-breaks.result (chars c.halves_of.result.1.now))
@@ -41,6 +41,6 @@ returns-clause-cut c =
     let s = c.args.added.now in
     let long = byte_len-chars front halves.ensures.utf8.0 in
     let least : (491 ≤ byte_len (chars front)) × (491 ≤ byte_len (chars back)) = (omega (arith, long, halves.ensures.least), omega (arith, byte_len-chars back halves.ensures.utf8.1, halves.ensures.least)) in
-    rw (c.fill.ensures, c.line_breaks-breaks.ensures) (subst (λ t. IsInserted t (leaf_tree breaks (chars front) ∷ behind ∷ []) (inserted (text t) c.args.at s)) (sym c.text-old.ensures.is)
-    (leaf_parted breaks c.text-old.result (chars front) (omega (arith, long, halves.ensures.most)) (scalars-chars front halves.ensures.utf8.0) c.args.at s (chars back) behind
+    rw (c.fill.ensures, c.line_breaks-breaks.ensures) (subst (λ t. IsInserted t (leaf_tree breaks (chars front) ∷ behind ∷ []) (inserted (text t) c.args.at s)) (sym c.known_text-old.ensures.is)
+    (leaf_parted breaks c.known_text-old.result (chars front) (omega (arith, long, halves.ensures.most)) (scalars-chars front halves.ensures.utf8.0) c.args.at s (chars back) behind
     (c.in_ok-behind.ensures.ok ∙ ap (λ b. leaf_tree b (chars back)) c.line_breaks-breaks.ensures) c.in_ok-behind.ensures.tree (whole f) (halves.ensures.some.0, halves.ensures.some.1, halves.ensures.apart) least))
