@@ -72,6 +72,9 @@ module _ (br : LineBreaks) (h : ℕ) (xs : List Tree) (g : Tree) (each : All (Is
     | inr ge ↦ omega (arith, i.more ge, height_of_is br h xs some each)
   ]
 
+  pub gathered_some : 1 ≤ length g.leaves
+  gathered_some = rw i.leaves (omega (arith, some, nodes_le br h xs each))
+
   pub gathered_width : h < g.height → g.width ≡ length xs
   gathered_width low = elim (cases_lt (length xs) 2) [
     | inl l ↦ absurd (omega (arith, i.alone (omega arith), height_of_is br h xs some each))

@@ -6,7 +6,7 @@ ghost use Rattle.rope_text.specs.TextInfo.{info_of, info_sum};
 ghost use Rattle.rope_tree.specs.Tree.{text, leaf_tree, IsTree};
 ghost use Rattle.rope_join.specs.Cut.{side_of, IsFront, IsBack};
 
-use crate::join::{join_before, join_behind};
+use crate::join::join_rows;
 use rope_text::{LineBreaks, Steps, TextInfo};
 use rope_tree::{
     Made, Maker, Node, Row, ShortText, Unit, View, leaf_of, make_leaf, place_of, shared_breaks,
@@ -81,8 +81,8 @@ pub fn front(maker: &mut Maker, node: &Node, at: usize) -> Made<Node>
             if place == 0 {
                 return Ok(part);
             }
-            let before = Row::of(children, totals).first(place);
-            join_behind(maker, before, &part)
+            let before = Row::of(children, totals).first(place - 1);
+            join_rows(maker, before, &children[place - 1], &part, Row::none())
         }
     }
 }
@@ -110,8 +110,8 @@ pub fn back(maker: &mut Maker, node: &Node, at: usize) -> Made<Node>
             if place + 1 == children.len() {
                 return Ok(part);
             }
-            let after = Row::of(children, totals).rest(place + 1);
-            join_before(maker, &part, after)
+            let after = Row::of(children, totals).rest(place + 2);
+            join_rows(maker, Row::none(), &part, &children[place + 1], after)
         }
     }
 }

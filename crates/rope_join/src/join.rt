@@ -4,7 +4,7 @@ ghost use Rattle.rope_text.specs.declared.TheConstants.{MAX_BYTES, MAX_CHILDREN,
 ghost use Rattle.rope_text.specs.Dense.{IsDenseBehind, last_bytes};
 ghost use Rattle.rope_tree.specs.Tree.{height_of};
 ghost use Rattle.rope_tree.specs.View.{trees_in};
-ghost use Rattle.rope_tree.specs.Siblings.{AreSiblings, gathered};
+ghost use Rattle.rope_tree.specs.Siblings.{gathered};
 ghost use Rattle.rope_tree.specs.Rows.{IsRow};
 ghost use Rattle.rope_join.specs.Join.{CanGather, CanJoin, CanMerge, EndsIn, BeginsIn, IsNear, IsUnion, IsJoin};
 
@@ -138,46 +138,31 @@ pub fn join(maker: &mut Maker, left: &Node, right: &Node) -> Made<Node>
     root_of(maker, nodes)
 }
 
-/// Nodes side by side and behind them a tree that is no higher, as one tree: as `join` makes it of the only one of them, or of a
-/// node over them, which isn't made.
-pub fn join_behind(maker: &mut Maker, row: Row<'_>, right: &Node) -> Made<Node>
-    requires row { IsRow row }
-    requires gather { CanGather row.nodes.now }
-    requires right_some { 1 ≤ length right.now.leaves }
-    requires no_higher { right.now.height ≤ height_of row.nodes.now }
-    requires join { CanJoin (gathered row.nodes.now) right.now }
-    requires near { IsNear (gathered row.nodes.now) right.now }
-    ensures join { IfOk result (λ node. IsJoin (gathered row.entry.nodes.now) right.now node) }
-    ensures made_ok { IfOk result (λ node. maker.new.made + 2 * right.now.height ≤ maker.old.made + 2 * node.height + 3) }
-    ensures made { maker.new.made ≤ maker.old.made + 2 * (height_of row.entry.nodes.now - right.now.height) + 5 }
+/// Two trees with the nodes beside the one of them, if any, as one tree: what `join` makes of the other and of a node over those,
+/// which isn't made. The other is no higher than they are.
+pub fn join_rows(
+    maker: &mut Maker,
+    before: Row<'_>,
+    left: &Node,
+    right: &Node,
+    after: Row<'_>,
+) -> Made<Node>
+    requires before { IsRow before }
+    requires after { IsRow after }
+    requires left_some { 1 ≤ length (gathered (before.nodes.now ++ left.now ∷ [])).leaves }
+    requires right_some { 1 ≤ length (gathered (right.now ∷ after.nodes.now)).leaves }
+    requires left_row { 1 ≤ length before.nodes.now → CanGather (before.nodes.now ++ left.now ∷ []) × (right.now.height ≤ left.now.height) × (after.nodes.now ≡ []) }
+    requires right_row { 1 ≤ length after.nodes.now → CanGather (right.now ∷ after.nodes.now) × (left.now.height ≤ right.now.height) × (before.nodes.now ≡ []) }
+    requires join { CanJoin (gathered (before.nodes.now ++ left.now ∷ [])) (gathered (right.now ∷ after.nodes.now)) }
+    requires near { IsNear (gathered (before.nodes.now ++ left.now ∷ [])) (gathered (right.now ∷ after.nodes.now)) }
+    ensures join { IfOk result (λ node. IsJoin (gathered (before.entry.nodes.now ++ left.now ∷ [])) (gathered (right.now ∷ after.entry.nodes.now)) node) }
+    ensures made_ok { IfOk result (λ node. maker.new.made + 2 * (left.now.height + right.now.height) ≤ maker.old.made + 2 * (max left.now.height right.now.height + node.height) + 3) }
+    ensures made { maker.new.made ≤ maker.old.made + 2 * ((left.now.height - right.now.height) + (right.now.height - left.now.height)) + 5 }
 {
-    let nodes = row.nodes;
-    let last = nodes.len() - 1;
-    if last == 0 {
-        return join(maker, &nodes[0], right);
+    let nodes = unite(maker, left, right)?;
+    if before.nodes.is_empty() && after.nodes.is_empty() {
+        return root_of(maker, nodes);
     }
-    let middle = unite(maker, &nodes[last], right)?;
-    let parts = pack(maker, row.first(last), middle, Row::none())?;
-    root_of(maker, parts)
-}
-
-/// The same with the tree before the nodes.
-pub fn join_before(maker: &mut Maker, left: &Node, row: Row<'_>) -> Made<Node>
-    requires row { IsRow row }
-    requires gather { CanGather row.nodes.now }
-    requires left_some { 1 ≤ length left.now.leaves }
-    requires no_higher { left.now.height ≤ height_of row.nodes.now }
-    requires join { CanJoin left.now (gathered row.nodes.now) }
-    requires near { IsNear left.now (gathered row.nodes.now) }
-    ensures join { IfOk result (λ node. IsJoin left.now (gathered row.entry.nodes.now) node) }
-    ensures made_ok { IfOk result (λ node. maker.new.made + 2 * left.now.height ≤ maker.old.made + 2 * node.height + 3) }
-    ensures made { maker.new.made ≤ maker.old.made + 2 * (height_of row.entry.nodes.now - left.now.height) + 5 }
-{
-    let nodes = row.nodes;
-    if nodes.len() == 1 {
-        return join(maker, left, &nodes[0]);
-    }
-    let middle = unite(maker, left, &nodes[0])?;
-    let parts = pack(maker, Row::none(), middle, row.rest(1))?;
+    let parts = pack(maker, before, nodes, after)?;
     root_of(maker, parts)
 }

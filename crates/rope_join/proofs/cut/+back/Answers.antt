@@ -1,18 +1,19 @@
-use Rattle.std.proofs.Common.{◌≡◌, ℕ, ◌+◌, ◌-◌, ◌<◌, ◌≤◌, [], length, take, drop, ap, ◌∙◌, arith}
+use Rattle.std.proofs.Common.{◌≡◌, ℕ, ◌+◌, ◌-◌, ◌<◌, ◌≤◌, [], ◌∷◌, ◌++◌, length, take, drop, get_or, sym, subst, ap, ◌∙◌, arith}
 use Rattle.std.specs.Str.{chars}
 use Rattle.std.proofs.lemmas.Str.{chars-nil}
-use Rattle.std.proofs.lemmas.List.{length-drop}
+use Rattle.std.proofs.lemmas.List.{length-drop, drop_more}
 use Rattle.rope_tree.specs.declared.search.Unit.TheVariants.{Char}
 use Rattle.rope_tree.specs.Tree.{text, joined, height_of, breaks_of, leaf_tree}
-use Rattle.rope_tree.proofs.NodeLaws.{small_totals}
+use Rattle.rope_tree.proofs.NodeLaws.{small_totals, child_at}
 use Rattle.rope_tree.proofs.Descents.{Descends, descends}
 use Rattle.std.proofs.lemmas.Result.{IfOk-weaker}
 use Rattle.rope_join.specs.Cut.{IsBack}
+use Rattle.rope_join.specs.Join.{CanJoin, IsNear, IsJoin}
 use Rattle.rope_tree.specs.Siblings.{gathered}
-use Rattle.rope_join.proofs.Cuts.{CutsAt, cuts_at, back_alone, after_siblings, some_back, back_can_join, back_near, back_joined, whole_back, after_height}
+use Rattle.rope_join.proofs.Cuts.{CutsAt, cuts_at, back_alone, after_siblings, some_back, back_can_join, back_near, back_joined, whole_back}
 use Rattle.rope_join.proofs.Empty.{empty_back}
 use Rattle.rope_tree.proofs.Gathered.{IsGathered, is_gathered}
-use Rattle.rope_join.proofs.cut.+back.Goals.{After-index-children-place}
+use Rattle.rope_join.proofs.cut.+back.Goals.{After-index-children-place, After-index-children-place-in-Inner}
 use Rattle.rope_join.proofs.cut.+back.Goals as goal
 
 down : (t : ℕ) (c : After-index-children-place t) → Descends (breaks_of c.in-Inner.children.now) Char c.args.at c.in-Inner.children.now c.place_of-place.result c.index-children-place.result c.total_before-before.result
@@ -84,52 +85,6 @@ after : (t : ℕ) (c : After-index-children-place t) → (c.place_of-place.resul
     → IsGathered (drop (c.place_of-place.result + 1) c.in-Inner.children.now) (gathered (drop (c.place_of-place.result + 1) c.in-Inner.children.now))
 after t c past = is_gathered _ (some t c past)
 
-height : (t : ℕ) (c : After-index-children-place t) → (c.place_of-place.result + 1 ≡ length c.in-Inner.children.now → ⊥)
-    → height_of (drop (c.place_of-place.result + 1) c.in-Inner.children.now) ≡ c.index-children-place.result.height
-height t c past = after_height _ _ _ _ (parts t c) (some t c past)
-
-pub join_before-requires-clause-gather : goal.join_before-requires-clause-gather
-join_before-requires-clause-gather t c =
-    let e = (goal.at.join_before-requires-clause-gather t c).After-index-children-place in
-    let past = c.if-place-children.false in
-    rw (c.rest-after.ensures.nodes, c.of.ensures.nodes) (record { siblings = after_siblings _ _ _ _ (parts t e) (some t e past); some = some t e past; at_most_24 = omega (arith, (parts t e).few) })
-
-pub join_before-requires-clause-left_some : goal.join_before-requires-clause-left_some
-join_before-requires-clause-left_some t c =
-    let e = (goal.at.join_before-requires-clause-left_some t c).After-index-children-place in
-    some_back _ c.index-children-place.result c.in_ok-part-in-Inner.part (inside t e) c.in_ok-part-in-Inner.ensures.back
-
-pub join_before-requires-clause-no_higher : goal.join_before-requires-clause-no_higher
-join_before-requires-clause-no_higher t c =
-    let e = (goal.at.join_before-requires-clause-no_higher t c).After-index-children-place in
-    rw (c.rest-after.ensures.nodes, c.of.ensures.nodes) (omega (arith, height t e c.if-place-children.false, c.in_ok-part-in-Inner.ensures.back.not_higher))
-
-pub join_before-requires-clause-join : goal.join_before-requires-clause-join
-join_before-requires-clause-join t c =
-    let e = (goal.at.join_before-requires-clause-join t c).After-index-children-place in
-    let less = inside t e in
-    rw (c.rest-after.ensures.nodes, c.of.ensures.nodes)
-    (back_can_join _ _ _ _ (parts t e) c.args.at _ _ (place t e) (omega (arith, less)) _ (some t e c.if-place-children.false) (after t e c.if-place-children.false) c.in_ok-part-in-Inner.ensures.back)
-
-pub returns-else-place-children-clause-back : goal.returns-else-place-children-clause-back
-returns-else-place-children-clause-back t c =
-    let e = (goal.at.returns-else-place-children-clause-back t c).After-index-children-place in
-    let less = inside t e in
-    let past = c.if-place-children.false in
-    IfOk-weaker c.join_before.result _ (IsBack c.args.at c.args.node.now) (λ part joined.
-    back_joined _ _ _ _ (parts t e) c.args.at _ _ (place t e) (omega (arith, less)) _ (some t e past) (after t e past) c.in_ok-part-in-Inner.ensures.back part (rw (c.rest-after.ensures.nodes, c.of.ensures.nodes) at joined)) c.join_before.ensures.join
-
-pub returns-else-place-children-clause-made_ok : goal.returns-else-place-children-clause-made_ok
-returns-else-place-children-clause-made_ok t c =
-    let e = (goal.at.returns-else-place-children-clause-made_ok t c).After-index-children-place in
-    IfOk-weaker c.join_before.result _ _ (λ part made. omega (arith, (parts t e).above, c.in_ok-part-in-Inner.ensures.made_ok, made)) c.join_before.ensures.made_ok
-
-pub returns-else-place-children-clause-made : goal.returns-else-place-children-clause-made
-returns-else-place-children-clause-made t c =
-    let e = (goal.at.returns-else-place-children-clause-made t c).After-index-children-place in
-    let part = c.in_ok-part-in-Inner.ensures.back.not_higher in
-    omega (arith, (parts t e).above, height t e c.if-place-children.false, c.in_ok-part-in-Inner.ensures.made_ok, rw (c.rest-after.ensures.nodes, c.of.ensures.nodes) at c.join_before.ensures.made)
-
 pub returns-then-at-info-clause-back : goal.returns-then-at-info-clause-back
 returns-then-at-info-clause-back t c =
     let n = c.args.node.now in
@@ -142,9 +97,64 @@ returns-then-at-eq0-clause-back t c =
     let some : 1 ≤ length (text n) = omega (arith, c.if-at-eq0.true, c.if-at-info.false, ap (λ i. i.chars) c.info.ensures) in
     IfOk-weaker c.share.result (λ part. part ≡ n) (IsBack c.args.at n) (λ part same. whole_back n part c.args.at c.height.ensures.tree c.if-at-eq0.true some same) c.share.ensures
 
-pub join_before-requires-clause-near : goal.join_before-requires-clause-near
-join_before-requires-clause-near t c =
-    let e = (goal.at.join_before-requires-clause-near t c).After-index-children-place in
-    let less = inside t e in
+row_is : (t : ℕ) (c : After-index-children-place-in-Inner t) → c.index-children-place-in-Inner.result ∷ c.rest-after.result.nodes.now ≡ drop (c.place_of-place.result + 1) c.in-Inner.children.now
+row_is t c =
+    let d = down t (goal.at.After-index-children-place-in-Inner t c).After-index-children-place in
+    let ts = c.in-Inner.children.now in
+    let two : c.place_of-place.result + 2 ≡ c.place_of-place.result + 1 + 1 = omega arith in
     rw (c.rest-after.ensures.nodes, c.of.ensures.nodes)
-    (back_near _ _ _ _ (parts t e) c.args.at _ _ (place t e) (omega (arith, less)) _ (some t e c.if-place-children.false) (after t e c.if-place-children.false) c.in_ok-part-in-Inner.ensures.back)
+    (ap (λ x. x ∷ drop (c.place_of-place.result + 2) ts) c.index-children-place-in-Inner.is
+    ∙ ap (λ k. get_or ts (c.place_of-place.result + 1) c.index-children-place-in-Inner.result ∷ drop k ts) two ∙ sym (drop_more ts (c.place_of-place.result + 1) c.index-children-place-in-Inner.result (omega (arith, d.within, c.if-place-children.false))))
+
+level : (t : ℕ) (c : After-index-children-place-in-Inner t) → c.index-children-place-in-Inner.result.height ≡ c.index-children-place.result.height
+level t c =
+    let d = down t (goal.at.After-index-children-place-in-Inner t c).After-index-children-place in
+    let ts = c.in-Inner.children.now in
+    let one = child_at (breaks_of ts) (height_of ts) ts (c.place_of-place.result + 1) c.index-children-place-in-Inner.result d.children (omega (arith, d.within, c.if-place-children.false)) (sym c.index-children-place-in-Inner.is) in
+    let other = child_at (breaks_of ts) (height_of ts) ts c.place_of-place.result c.index-children-place.result d.children d.within d.child_is in
+    omega (arith, one.at_height, other.at_height)
+
+pub join_rows-requires-clause-left_some : goal.join_rows-requires-clause-left_some
+join_rows-requires-clause-left_some t c =
+    let e = (goal.at.join_rows-requires-clause-left_some t c).After-index-children-place in
+    rw c.none.ensures.nodes (some_back _ c.index-children-place.result c.in_ok-part-in-Inner.part (inside t e) c.in_ok-part-in-Inner.ensures.back)
+
+pub join_rows-requires-clause-right_row : goal.join_rows-requires-clause-right_row
+join_rows-requires-clause-right_row t c =
+    let e = goal.at.join_rows-requires-clause-right_row t c in
+    let o = e.After-index-children-place in
+    let past = c.if-place-children.false in
+    λ _. (
+      rw (row_is t e.After-index-children-place-in-Inner) (record { siblings = after_siblings _ _ _ _ (parts t o) (some t o past); some = some t o past; at_most_24 = omega (arith, (parts t o).few) }),
+      omega (arith, level t e.After-index-children-place-in-Inner, c.in_ok-part-in-Inner.ensures.back.not_higher),
+      c.none.ensures.nodes,
+    )
+
+pub join_rows-requires-clause-join : goal.join_rows-requires-clause-join
+join_rows-requires-clause-join t c =
+    let e = goal.at.join_rows-requires-clause-join t c in
+    let o = e.After-index-children-place in
+    let past = c.if-place-children.false in
+    let less = inside t o in
+    subst (λ ts. CanJoin (gathered (c.none.result.nodes.now ++ c.in_ok-part-in-Inner.part ∷ [])) (gathered ts)) (sym (row_is t e.After-index-children-place-in-Inner))
+    (rw c.none.ensures.nodes (back_can_join _ _ _ _ (parts t o) c.args.at _ _ (place t o) (omega (arith, less)) _ (some t o past) (after t o past) c.in_ok-part-in-Inner.ensures.back))
+
+pub join_rows-requires-clause-near : goal.join_rows-requires-clause-near
+join_rows-requires-clause-near t c =
+    let e = goal.at.join_rows-requires-clause-near t c in
+    let o = e.After-index-children-place in
+    let past = c.if-place-children.false in
+    let less = inside t o in
+    subst (λ ts. IsNear (gathered (c.none.result.nodes.now ++ c.in_ok-part-in-Inner.part ∷ [])) (gathered ts)) (sym (row_is t e.After-index-children-place-in-Inner))
+    (rw c.none.ensures.nodes (back_near _ _ _ _ (parts t o) c.args.at _ _ (place t o) (omega (arith, less)) _ (some t o past) (after t o past) c.in_ok-part-in-Inner.ensures.back))
+
+pub returns-else-place-children-clause-back : goal.returns-else-place-children-clause-back
+returns-else-place-children-clause-back t c =
+    let e = goal.at.returns-else-place-children-clause-back t c in
+    let o = e.After-index-children-place in
+    let past = c.if-place-children.false in
+    let less = inside t o in
+    IfOk-weaker c.join_rows.result _ (IsBack c.args.at c.args.node.now) (λ part joined.
+    let whole : IsJoin (gathered (c.none.result.nodes.now ++ c.in_ok-part-in-Inner.part ∷ [])) (gathered (drop (c.place_of-place.result + 1) c.in-Inner.children.now)) part =
+    subst (λ ts. IsJoin (gathered (c.none.result.nodes.now ++ c.in_ok-part-in-Inner.part ∷ [])) (gathered ts) part) (row_is t e.After-index-children-place-in-Inner) joined in
+    back_joined _ _ _ _ (parts t o) c.args.at _ _ (place t o) (omega (arith, less)) _ (some t o past) (after t o past) c.in_ok-part-in-Inner.ensures.back part (rw c.none.ensures.nodes at whole)) c.join_rows.ensures.join
