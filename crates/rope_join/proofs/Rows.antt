@@ -46,30 +46,34 @@ module _ (a b : Tree) where
   pub row_sides : (xs ys : List Tree) → AreRows xs ys → 1 ≤ length xs + length ys → AreSides (left_of xs) (right_of ys) a b xs ys × ((left_of xs).height ≡ (right_of ys).height → ⊥)
   row_sides [] [] r some = absurd (omega (arith, some))
   row_sides [] (y ∷ ys) r some =
-      let g = r.right (omega arith) in
-      (record {
-        left_some = r.left_some;
-        right_some = r.right_some;
-        join = r.join;
-        left = λ le. absurd (omega (arith, le, g.1));
-        left_whole = λ _. (refl, refl);
-        right = λ _. first_in (y ∷ ys) b (omega arith) g.0;
-        right_whole = λ low. absurd (omega (arith, low, g.1));
-      }, λ level. omega (arith, level, g.1))
+      let g = r.right (omega arith) in (
+        record {
+          left_some = r.left_some;
+          right_some = r.right_some;
+          join = r.join;
+          left = λ le. absurd (omega (arith, le, g.1));
+          left_whole = λ _. (refl, refl);
+          right = λ _. first_in (y ∷ ys) b (omega arith) g.0;
+          right_whole = λ low. absurd (omega (arith, low, g.1));
+        },
+        λ level. omega (arith, level, g.1),
+      )
   row_sides (x ∷ xs) [] r some =
       let g = r.left (omega arith) in
       let over = gathered_over ((x ∷ xs) ++ a ∷ []) (omega (arith, length-append xs (a ∷ []))) in
       let e = last_in (x ∷ xs) a (omega arith) g.0 in
-      let above : a.height + 1 ≡ (left_of (x ∷ xs)).height = rw over e.above in
-      (record {
-        left_some = r.left_some;
-        right_some = r.right_some;
-        join = r.join;
-        left = λ _. rw over e;
-        left_whole = λ low. absurd (omega (arith, low, g.1, above));
-        right = λ le. absurd (omega (arith, le, g.1, above));
-        right_whole = λ _. (refl, refl);
-      }, λ level. omega (arith, level, g.1, above))
+      let above : a.height + 1 ≡ (left_of (x ∷ xs)).height = rw over e.above in (
+        record {
+          left_some = r.left_some;
+          right_some = r.right_some;
+          join = r.join;
+          left = λ _. rw over e;
+          left_whole = λ low. absurd (omega (arith, low, g.1, above));
+          right = λ le. absurd (omega (arith, le, g.1, above));
+          right_whole = λ _. (refl, refl);
+        },
+        λ level. omega (arith, level, g.1, above),
+      )
   row_sides (x ∷ xs) (y ∷ ys) r some = absurd (omega (arith, ap length (r.left (omega arith)).2))
 
   pub row_meets : (xs ys : List Tree) → AreRows xs ys → (1 ≤ length a.leaves) × (1 ≤ length b.leaves) × CanJoin a b × IsNear a b
