@@ -97,12 +97,6 @@ module _ (n : Tree) (xs : List Tree) (t : Tree) (ys : List Tree) (s : CutsAt n x
   pub after_siblings : 1 ≤ length ys → AreSiblings (breaks_of ys) (height_of ys) ys
   after_siblings some = gather_siblings t.breaks t.height ys s.after some (leaves_right t.leaves (leaves_of ys) right_leaves) (omega (arith, s.fits))
 
-  pub before_height : 1 ≤ length xs → height_of xs ≡ t.height
-  before_height some = height_of_is t.breaks t.height xs some s.before
-
-  pub after_height : 1 ≤ length ys → height_of ys ≡ t.height
-  after_height some = height_of_is t.breaks t.height ys some s.after
-
   module _ (at k : ℕ) (p : Tree) (e : at ≡ length (joined xs) + k) (le : k ≤ length (text t)) where
     front_text : take at (text n) ≡ joined xs ++ take k (text t)
     front_text = ap (take at) s.text_is ∙ front_of (joined xs) (text t) (joined ys) [] k at e le
