@@ -11,7 +11,7 @@
 mod cursors;
 pub mod laws;
 mod lookups;
-pub mod slice;
+mod slice;
 mod text;
 
 pub use cursors::{ChunksAt, Lines};

@@ -159,10 +159,16 @@ impl Leaf {
     pub(crate) fn is_no_text(&self, from: usize, len: usize) -> bool {
         let bytes = self.text.as_str().as_bytes();
         let len = len.min(MAX_BYTES);
-        let mut sum = usize::from(*bytes.get(len.saturating_sub(1)).unwrap_or(&0));
+        let mut sum = 0;
+        // Each test is a branch, which a processor guesses: a choice between two addresses would wait for the text's own length.
+        if let Some(last) = bytes.get(len.saturating_sub(1)) {
+            sum = usize::from(*last);
+        }
         let mut at = from;
         while at < len {
-            sum = sum.wrapping_add(usize::from(*bytes.get(at).unwrap_or(&0)));
+            if let Some(byte) = bytes.get(at) {
+                sum = sum.wrapping_add(usize::from(*byte));
+            }
             at += 64;
         }
         sum == usize::MAX

@@ -3,17 +3,17 @@
 
 mod beside;
 pub mod build;
-pub mod builder;
-pub mod conversions;
-pub mod counts;
-pub mod edit;
+mod builder;
+mod conversions;
+mod counts;
+mod edit;
 mod leaf;
-pub mod lookup;
-pub mod maker;
-pub mod node;
-pub mod node_text;
-pub mod search;
-pub mod short_text;
+mod lookup;
+mod maker;
+mod node;
+mod node_text;
+mod search;
+mod short_text;
 
 pub use builder::Builder;
 pub use conversions::{convert, convert_in, first_sought};

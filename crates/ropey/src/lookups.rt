@@ -29,7 +29,7 @@ ghost use Rattle.ropey.specs.Counted.{IsLookUp, WentDown, IsLookUpAt, IsLineLook
 use crate::rope::Rope;
 use rope_slice::ChunkAt;
 use rope_text::{Result, Steps};
-use rope_tree::search::Unit::{Byte, Char, CodeUnit, LineBreak};
+use rope_tree::Unit::{Byte, Char, CodeUnit, LineBreak};
 use rope_tree::{Node, byte_at, char_at, convert};
 
 impl Rope {

@@ -266,8 +266,8 @@ pub fn pack(maker: &mut Maker, before: Row<'_>, middle: Nodes, after: Row<'_>) -
     ensures rises { maker.old.made ≤ maker.new.made }
 {
     match middle {
-        Nodes::One(node) => Ok(pack_over(maker, before, &[node], after)?),
-        Nodes::Two(first, second) => Ok(pack_over(maker, before, &[first, second], after)?),
+        Nodes::One(node) => pack_over(maker, before, &[node], after),
+        Nodes::Two(first, second) => pack_over(maker, before, &[first, second], after),
     }
 }
 
