@@ -23,18 +23,6 @@ use crate::{
 };
 use rope_text::{LineBreaks, MAX_BYTES, Steps, TextInfo};
 
-/// A leaf of its own with this text.
-pub fn leaf_of(maker: &mut Maker, breaks: LineBreaks, text: &str) -> Made<Node>
-    requires { length text.now ≤ MAX_BYTES }
-    ensures ok { IfOk result (λ node. node ≡ leaf_tree breaks (chars text.now)) }
-    ensures tree { IfOk result (λ node. IsTree node) }
-    ensures made { maker.new.made ≤ maker.old.made + 1 }
-    ensures added { maker.old.made < 18446744073709551615 → maker.new.made ≡ maker.old.made + 1 }
-{
-    let info = TextInfo::from_str(text, breaks);
-    make_leaf(maker, breaks, text, info)
-}
-
 /// The leaf with another text before its character `at`, or two leaves where one can't hold both. The counts of the leaf
 /// that was are not taken again: only the new text is counted, and of two leaves the first.
 fn insert_into_leaf(

@@ -10,7 +10,7 @@ ghost use Rattle.rope_tree.specs.Tree.{text};
 ghost use Rattle.rope_tree.specs.Found.{IsFound};
 ghost use Rattle.rope_tree.specs.StepBounds.{HaveRoom, LooksUp};
 
-use crate::{Node, ShortText, Totals, Unit, View, count, place_of};
+use crate::{Node, ShortText, Unit, View, count, place_of, total_before};
 use rope_text::str_utils::first_char;
 use rope_text::{Steps, TextInfo};
 
@@ -20,19 +20,6 @@ pub struct Found<'a> {
     pub leaf: ShortText<'a>,
     pub inside: TextInfo,
     pub before: TextInfo,
-}
-
-/// The counts of the children before a place.
-pub fn total_before(totals: &Totals, place: usize) -> TextInfo
-    requires { place ≤ length totals.now }
-    ensures first { place ≡ 0 → (breaks : LineBreaks) → result ≡ info_of breaks [] }
-    ensures later { (d : TextInfo) → 0 < place → result ≡ slice_index_or totals.now (place - 1) d }
-{
-    if place == 0 {
-        TextInfo::new()
-    } else {
-        totals.get(place - 1)
-    }
 }
 
 /// The leaf that holds the place `at`. It takes no memory, enters each node on the way once, and compares at most five

@@ -222,3 +222,15 @@ pub fn make_leaf(maker: &mut Maker, breaks: LineBreaks, text: &str, info: TextIn
     let _ = node.height();
     Ok(node)
 }
+
+/// A leaf of its own with this text.
+pub fn leaf_of(maker: &mut Maker, breaks: LineBreaks, text: &str) -> Made<Node>
+    requires { length text.now ≤ MAX_BYTES }
+    ensures ok { IfOk result (λ node. node ≡ leaf_tree breaks (chars text.now)) }
+    ensures tree { IfOk result (λ node. IsTree node) }
+    ensures made { maker.new.made ≤ maker.old.made + 1 }
+    ensures added { maker.old.made < 18446744073709551615 → maker.new.made ≡ maker.old.made + 1 }
+{
+    let info = TextInfo::from_str(text, breaks);
+    make_leaf(maker, breaks, text, info)
+}

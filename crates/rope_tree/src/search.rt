@@ -1,8 +1,9 @@
 //! Running totals over children, and the child that holds a place, found by halving over them.
 ghost use Rattle.std.specs.Prelude.{◌≡◌, ℕ, ◌+◌, ◌-◌, ◌<◌, ◌≤◌, ◌^◌, [], ◌∷◌, ◌++◌, true, false, length, slice_index_or, IfOk, OnOk, OnErr};
 ghost use Rattle.rope_text.specs.declared.TheConstants.{MAX_CHILDREN};
+ghost use Rattle.rope_text.specs.declared.line_breaks.LineBreaks.{LineBreaks};
 ghost use Rattle.rope_text.specs.declared.text_info.TextInfo.{TextInfo};
-ghost use Rattle.rope_text.specs.TextInfo.{info_sum};
+ghost use Rattle.rope_text.specs.TextInfo.{info_of, info_sum};
 ghost use Rattle.rope_tree.specs.declared.search.Unit.TheVariants.{Char};
 ghost use Rattle.rope_tree.specs.Search.{count_of, IsSmall, HasPart};
 ghost use Rattle.rope_tree.specs.Narrow.{IsBelow, IsNarrow, AreNarrow, IsBelowWith, FitsWith};
@@ -238,6 +239,19 @@ impl Totals {
             Width::Narrow(totals) => totals.retotal(place, old, new),
             Width::Wide(totals) => shift_wide(totals.as_mut_slice(), place, old, new),
         }
+    }
+}
+
+/// The counts of the children before a place.
+pub fn total_before(totals: &Totals, place: usize) -> TextInfo
+    requires { place ≤ length totals.now }
+    ensures first { place ≡ 0 → (breaks : LineBreaks) → result ≡ info_of breaks [] }
+    ensures later { (d : TextInfo) → 0 < place → result ≡ slice_index_or totals.now (place - 1) d }
+{
+    if place == 0 {
+        TextInfo::new()
+    } else {
+        totals.get(place - 1)
     }
 }
 
