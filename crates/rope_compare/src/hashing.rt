@@ -33,7 +33,8 @@ fn feed_piece<H: Hasher>(state: &mut H, block: &mut [u8], held: usize, bytes: &[
     requires room { held < 256 }
     ensures size { length block.new ≡ 256 }
     ensures room { result < 256 }
-    ensures writes { (rest : List ℕ) → fold H.write state.new (blocks (take result block.new ++ rest))
+    ensures writes { (rest : List ℕ)
+        → fold H.write state.new (blocks (take result block.new ++ rest))
         ≡ fold H.write state.old (blocks (take held block.old ++ (bytes.now ++ rest))) }
 {
     let mut rest = bytes;

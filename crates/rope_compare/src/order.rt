@@ -64,7 +64,8 @@ fn filled<'a>(front: &'a [u8], pieces: &mut Pieces<'a>) -> &'a [u8]
 pub fn order_of_pieces<'a>(left: (&'a [u8], Pieces<'a>), right: (&'a [u8], Pieces<'a>)) -> Ordering
     requires left { length left.0.now ≡ 0 → left.1 ≡ [] }
     requires right { length right.0.now ≡ 0 → right.1 ≡ [] }
-    ensures { result ≡ slice_cmp nat_cmp (left.entry.0.now ++ left.entry.1) (right.entry.0.now ++ right.entry.1) }
+    ensures { result ≡ slice_cmp nat_cmp (left.entry.0.now ++ left.entry.1)
+        (right.entry.0.now ++ right.entry.1) }
 {
     let (mut x, mut lefts) = left;
     let (mut y, mut rights) = right;

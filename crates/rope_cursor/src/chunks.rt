@@ -55,8 +55,8 @@ impl<'a> Chunks<'a> {
     pub fn at(part: &Part<'a>, unit: Unit, idx: usize) -> (Chunks<'a>, usize, usize, usize)
         requires unit { IsItem unit }
         requires within { idx ≤ size_in unit (text_of part.now) }
-        ensures stands { StandsAt (breaks_of part.now) (chunks_of part.now) (chunk_place unit (chunks_of part.now) idx)
-            result.0 result.1 result.2 result.3 }
+        ensures stands { StandsAt (breaks_of part.now) (chunks_of part.now)
+            (chunk_place unit (chunks_of part.now) idx) result.0 result.1 result.2 result.3 }
         ensures cut { IsCutting (text_of part.now) (chunks_of part.now) }
     {
         let info = part.info();
@@ -76,7 +76,8 @@ impl<'a> Chunks<'a> {
 
     // One chunk to the right, or to the left.
     fn step(&mut self, is_left: bool) -> Option<&'a str>
-        ensures { MatchBool is_left (GoesLeft (λ x. chars x.now) self.old result self.new) (GoesRight (λ x. chars x.now) self.old result self.new) }
+        ensures { MatchBool is_left (GoesLeft (λ x. chars x.now) self.old result self.new)
+            (GoesRight (λ x. chars x.now) self.old result self.new) }
     {
         if self.is_empty {
             return None;

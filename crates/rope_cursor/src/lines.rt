@@ -96,7 +96,8 @@ impl<'a, T: OfPart<'a>> Lines<'a, T> {
     // the text is read in a call.
     #[inline(always)]
     fn step(&mut self, is_left: bool) -> Option<Part<'a>>
-        ensures { MatchBool is_left (GoesLeft (λ x. content_of x) self.old result self.new) (GoesRight (λ x. content_of x) self.old result self.new) }
+        ensures { MatchBool is_left (GoesLeft (λ x. content_of x) self.old result self.new)
+            (GoesRight (λ x. content_of x) self.old result self.new) }
     {
         if self.line == end_of(self.total, is_left) {
             return None;
@@ -206,7 +207,8 @@ impl<'a> Model for Gap<'a> {
 #[inline(never)]
 fn pass_chunks(span: &mut Span<'_>, breaks: LineBreaks) -> (usize, TextInfo)
     requires { AreChunks span.old }
-    ensures { PassesLine breaks (concat span.old.before ++ span.old.here) (concat span.old.after) span.new result.0 result.1 }
+    ensures { PassesLine breaks (concat span.old.before ++ span.old.here) (concat span.old.after)
+        span.new result.0 result.1 }
 {
     let mut passed = TextInfo::new();
     while span.step(false) {
@@ -238,7 +240,8 @@ fn count_last(
     breaks: LineBreaks,
 ) -> (usize, TextInfo)
     requires between { IsBetween (chars text.now) end }
-    requires apart { parts_crlf (before_byte (chars text.now) end) (after_byte (chars text.now) end) ≡ false }
+    requires apart { parts_crlf (before_byte (chars text.now) end) (after_byte (chars text.now) end)
+        ≡ false }
     requires more { 1 < times }
     ensures start { result.0 ≡ last_line_byte breaks (chars text.now) end skip }
     ensures counts { result.1 ≡ last_line_info breaks (chars text.now) end skip }
@@ -279,7 +282,8 @@ fn count_last(
 // From the start of a chunk back to the start of a line: the place in the last chunk, and the counts of what was passed.
 fn pass_chunks_back(span: &mut Span<'_>, skip: usize, breaks: LineBreaks) -> (usize, TextInfo)
     requires { AreChunks span.old }
-    ensures { PassesBack breaks skip (concat span.old.before) (span.old.here ++ concat span.old.after) span.new result.0 result.1 }
+    ensures { PassesBack breaks skip (concat span.old.before)
+        (span.old.here ++ concat span.old.after) span.new result.0 result.1 }
 {
     let mut passed = TextInfo::new();
     let mut left = skip;
@@ -320,9 +324,12 @@ impl<'a> Gap<'a> {
     #[inline(never)]
     fn pass_line_back(&mut self, skip: usize, breaks: LineBreaks) -> TextInfo
         requires { parts_crlf self.old.front self.old.back ≡ false }
-        ensures front { self.new.front ≡ take (last_start breaks self.old.front skip) self.old.front }
-        ensures back { self.new.back ≡ drop (last_start breaks self.old.front skip) self.old.front ++ self.old.back }
-        ensures counts { result ≡ info_of breaks (drop (last_start breaks self.old.front skip) self.old.front) }
+        ensures front { self.new.front
+            ≡ take (last_start breaks self.old.front skip) self.old.front }
+        ensures back { self.new.back
+            ≡ drop (last_start breaks self.old.front skip) self.old.front ++ self.old.back }
+        ensures counts { result
+            ≡ info_of breaks (drop (last_start breaks self.old.front skip) self.old.front) }
     {
         let (start, last) = count_last(self.span.chunk(), self.inside, self.near, 2, skip, breaks);
         if start > 0 {

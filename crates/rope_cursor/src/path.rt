@@ -45,7 +45,8 @@ impl<'a> Model for Path<'a> {
 
     ghost view = { λ a. place_of a.frames a.depth (chars a.leaf.now) };
 
-    ghost invariant = { λ a. AreFrames a.frames a.depth (around a.frames a.depth (chars a.leaf.now ∷ [])) };
+    ghost invariant = { λ a.
+        AreFrames a.frames a.depth (around a.frames a.depth (chars a.leaf.now ∷ [])) };
 }
 
 // Whether all nodes are leaves, as far as their heads show. A walk comes to one after the other, and would wait for memory at
@@ -78,8 +79,10 @@ fn enter<'a>(
 ) -> (usize, &'a str)
     requires frames { AreFrames frames.old level (around frames.old level node.now.leaves) }
     requires low { IsLow node.now (MAX_HEIGHT - level) }
-    ensures leads { LeadsTo frames.new result.0 (chars result.1.now) (around frames.old level node.now.leaves) }
-    ensures behind { beyond (not is_backward) (take result.0 frames.new) ≡ beyond (not is_backward) (take level frames.old) }
+    ensures leads { LeadsTo frames.new result.0 (chars result.1.now)
+        (around frames.old level node.now.leaves) }
+    ensures behind { beyond (not is_backward) (take result.0 frames.new)
+        ≡ beyond (not is_backward) (take level frames.old) }
 {
     match node.view() {
         View::Leaf(leaf) => (level, leaf.as_str()),
@@ -108,12 +111,14 @@ fn enter_at<'a>(
     requires frames { AreFrames frames.old level (around frames.old level node.now.leaves) }
     requires low { IsLow node.now (MAX_HEIGHT - level) }
     requires within { idx < count_of unit (info_of node.now.breaks (text node.now)) }
-    requires before { before ≡ info_of node.now.breaks (concat (before_of (take level frames.old))) }
+    requires before { before
+        ≡ info_of node.now.breaks (concat (before_of (take level frames.old))) }
     requires leaves { AreLeaves (around frames.old level node.now.leaves) }
     requires fits { byte_len (concat (around frames.old level node.now.leaves)) < 2 ^ 63 }
-    ensures leads { LeadsTo frames.new result.0 (chars result.1.now) (around frames.old level node.now.leaves) }
-    ensures holds { HoldsPlace unit node.now.breaks (count_of unit before + idx) (before_of (take result.0 frames.new))
-        (chars result.1.now) result.2 }
+    ensures leads { LeadsTo frames.new result.0 (chars result.1.now)
+        (around frames.old level node.now.leaves) }
+    ensures holds { HoldsPlace unit node.now.breaks (count_of unit before + idx)
+        (before_of (take result.0 frames.new)) (chars result.1.now) result.2 }
 {
     match node.view() {
         View::Leaf(leaf) => (level, leaf.as_str(), before),
@@ -296,7 +301,8 @@ impl<'a> Span<'a> {
         ensures chunks { 0 < length (text_of part.now) → leaves result.0 ≡ chunks_of part.now }
         ensures starts { length (concat result.0.before) ≤ char_idx }
         ensures within { char_idx ≤ length (concat result.0.before) + length result.0.here }
-        ensures byte { result.1 ≡ char_to_byte result.0.here (char_idx - length (concat result.0.before)) }
+        ensures byte { result.1
+            ≡ char_to_byte result.0.here (char_idx - length (concat result.0.before)) }
     {
         let (span, _, chars, _) = Span::holding(part, Unit::Char, char_idx);
         let within = char_idx - chars;

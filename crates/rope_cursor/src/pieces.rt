@@ -18,7 +18,8 @@ const MANY_BYTES: usize = 8 * MAX_BYTES;
 #[inline(never)]
 fn leave_node<'a>(path: &mut Path<'a>, is_far: bool) -> Option<(&'a str, &'a [Node])>
     ensures leaves { IfSome result (λ found. All (λ rc. IsLow rc 0) found.1.now) }
-    ensures some { IfSome result (λ found. path.old.after ≡ chars found.0.now ∷ (leaves_below found.1.now ++ path.new.after)) }
+    ensures some { IfSome result (λ found.
+        path.old.after ≡ chars found.0.now ∷ (leaves_below found.1.now ++ path.new.after)) }
     ensures none { IfNone result ((path.old.after ≡ []) × (path.new ≡ path.old)) }
 {
     if !path.step(false) {

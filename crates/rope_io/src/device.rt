@@ -51,7 +51,8 @@ pub trait Source: Mark {
         ensures ok { OnOk result (Self.marked self.new ≡ Self.marked self.old) }
         ensures err { OnErr result (Self.marked self.new ≡ true) }
         ensures failure { Self.failure self.new ≡ failure_of result }
-        ensures failures { Self.failures self.new ≡ count_failure (failure_of result) (Self.failures self.old) };
+        ensures failures { Self.failures self.new
+            ≡ count_failure (failure_of result) (Self.failures self.old) };
 
     ghost cleared_remaining: { (s : Self) → remaining (Self.cleared s) ≡ remaining s };
 }
@@ -66,11 +67,13 @@ pub trait Sink: Mark {
     fn give(&mut self, buf: &[u8]) -> io::Result<usize>
         ensures bound { WritesAtMost result buf.now }
         ensures bytes { WriteAppends (contents self.old) (contents self.new) result buf.now }
-        ensures ok { IfOk result (λ n. (0 < n) ⊎ (length buf.now ≡ 0) → Self.marked self.new ≡ Self.marked self.old) }
+        ensures ok { IfOk result (λ n.
+            (0 < n) ⊎ (length buf.now ≡ 0) → Self.marked self.new ≡ Self.marked self.old) }
         ensures none { IfOk result (λ n. n ≡ 0 → 0 < length buf.now → Self.marked self.new ≡ true) }
         ensures err { OnErr result (Self.marked self.new ≡ true) }
         ensures failure { Self.failure self.new ≡ write_failure result buf.now }
-        ensures failures { Self.failures self.new ≡ count_failure (write_failure result buf.now) (Self.failures self.old) };
+        ensures failures { Self.failures self.new
+            ≡ count_failure (write_failure result buf.now) (Self.failures self.old) };
 
     ghost cleared_contents: { (s : Self) → contents (Self.cleared s) ≡ contents s };
 }
@@ -112,7 +115,8 @@ impl<T> Watched<T> {
         ensures inner { watched_inner self.new ≡ watched_inner self.old }
         ensures failed { watched_failed self.new ≡ true }
         ensures failure { watched_failure self.new ≡ Some kind }
-        ensures failures { watched_failures self.new ≡ count_failure (Some kind) (watched_failures self.old) }
+        ensures failures { watched_failures self.new
+            ≡ count_failure (Some kind) (watched_failures self.old) }
     {
         self.failed = true;
         self.failure = Some(kind);

@@ -140,11 +140,13 @@ impl<'a> Part<'a> {
     /// The part between two of its places, by the counts of its text up to them. The first lies in no CR LF.
     #[inline(always)]
     pub fn between(&self, from: TextInfo, to: TextInfo) -> Part<'a>
-        requires from_is { from ≡ info_of (breaks_of self.now) (take from.chars (text_of self.now)) }
+        requires from_is { from
+            ≡ info_of (breaks_of self.now) (take from.chars (text_of self.now)) }
         requires to_is { to ≡ info_of (breaks_of self.now) (take to.chars (text_of self.now)) }
         requires ordered { from.chars ≤ to.chars }
         requires within { to.chars ≤ length (text_of self.now) }
-        requires apart { parts_crlf (take from.chars (text_of self.now)) (drop from.chars (text_of self.now)) ≡ false }
+        requires apart { parts_crlf (take from.chars (text_of self.now))
+            (drop from.chars (text_of self.now)) ≡ false }
         ensures { content_of result ≡ part_between (content_of self.now) from.chars to.chars }
     {
         if from.chars == to.chars {

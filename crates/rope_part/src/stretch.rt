@@ -16,7 +16,8 @@ fn line_start_at(node: &Node, line_idx: usize) -> (TextInfo, &str)
     requires later { 0 < line_idx }
     requires within { line_idx < line_count node.now.breaks (text node.now) }
     ensures before { result.0 ≡ line_info node.now.breaks (text node.now) line_idx }
-    ensures rest { IsLeafFrom node.now (line_start node.now.breaks (text node.now) line_idx) (chars result.1.now) }
+    ensures rest { IsLeafFrom node.now (line_start node.now.breaks (text node.now) line_idx)
+        (chars result.1.now) }
 {
     // a proof needs what `height` says of every node
     let _ = node.height();
@@ -37,7 +38,8 @@ pub struct Stretch<'a> {
     pub node: &'a Node,
     pub start: TextInfo,
     pub end: TextInfo,
-    ghost is_stretch: { IsStretch node.now.breaks (text node.now) start end } by { IsStretch-prop node.now.breaks (text node.now) start end },
+    ghost is_stretch: { IsStretch node.now.breaks (text node.now) start end }
+        by { IsStretch-prop node.now.breaks (text node.now) start end },
 }
 
 impl<'a> Stretch<'a> {
@@ -70,7 +72,8 @@ impl<'a> Stretch<'a> {
     /// The counts before the start of its part from a character on.
     pub(crate) fn start_of(&self, char_idx: usize) -> TextInfo
         requires { char_idx < length (text_of self.now) }
-        ensures { result ≡ start_info self.now.node.now.breaks (text self.now.node.now) (self.now.start.chars + char_idx) }
+        ensures { result ≡ start_info self.now.node.now.breaks (text self.now.node.now)
+            (self.now.start.chars + char_idx) }
     {
         if char_idx == 0 {
             return self.start;
@@ -94,7 +97,8 @@ impl<'a> Stretch<'a> {
     /// The counts before the end of its part up to a character.
     pub(crate) fn end_of(&self, char_idx: usize) -> TextInfo
         requires { char_idx ≤ length (text_of self.now) }
-        ensures { result ≡ end_info self.now.node.now.breaks (text self.now.node.now) (self.now.start.chars + char_idx) }
+        ensures { result ≡ end_info self.now.node.now.breaks (text self.now.node.now)
+            (self.now.start.chars + char_idx) }
     {
         let place = self.place(Unit::Char, char_idx);
         if place == self.end.chars {
@@ -111,8 +115,10 @@ impl<'a> Stretch<'a> {
     fn counts_to(&self, place: TextInfo) -> TextInfo
         requires later { self.now.start.chars < place.chars }
         requires within { place.chars ≤ length (text self.now.node.now) }
-        requires counts { place ≡ end_info (breaks_of self.now) (text self.now.node.now) place.chars }
-        ensures { result ≡ info_of (breaks_of self.now) (take (place.chars - self.now.start.chars) (text_of self.now)) }
+        requires counts { place
+            ≡ end_info (breaks_of self.now) (text self.now.node.now) place.chars }
+        ensures { result ≡ info_of (breaks_of self.now)
+            (take (place.chars - self.now.start.chars) (text_of self.now)) }
     {
         if place.chars >= self.end.chars {
             return self.info();

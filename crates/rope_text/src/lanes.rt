@@ -39,7 +39,9 @@ pub(crate) fn ahead(mark: Mark) -> usize
 // those of `x`. The mark is known where this is expanded.
 fn ones<const N: usize>(x: Simd<u8, N>, y: Simd<u8, N>, mark: Mark) -> Simd<u8, N>
     requires { N ≤ 64 }
-    ensures { (ks : List ℕ) (g h : ℕ → ℕ) → length ks ≡ N → ((k : ℕ) → g k < 256) → IsLanes ks g x.entry → IsLanes ks h y.entry → IsLanes ks (λ k. cond (narrow_mark mark (g k) (h k)) 1 0) result }
+    ensures { (ks : List ℕ) (g h : ℕ → ℕ) → length ks ≡ N → ((k : ℕ) → g k < 256)
+        → IsLanes ks g x.entry → IsLanes ks h y.entry
+        → IsLanes ks (λ k. cond (narrow_mark mark (g k) (h k)) 1 0) result }
 {
     let marks = match mark {
         Mark::Char => x.simd_lt(Simd::splat(0x80)) | x.simd_ge(Simd::splat(0xC0)),
@@ -215,7 +217,8 @@ fn marks_in_quarters(bytes: &[u8], to: usize, mark: Mark) -> (usize, usize)
 fn breaks_in_quarters(bytes: &[u8], to: usize, breaks: LineBreaks) -> (usize, usize)
     requires { to ≤ length bytes.now - 2 }
     ensures bound { result.0 ≤ to }
-    ensures counted { byte_break_count breaks bytes.now ≡ result.1 + byte_break_count breaks (drop result.0 bytes.now) }
+    ensures counted { byte_break_count breaks bytes.now
+        ≡ result.1 + byte_break_count breaks (drop result.0 bytes.now) }
 {
     known_set!(breaks => marks_in_quarters(bytes, to, Mark::Break(breaks)))
 }
@@ -255,7 +258,8 @@ fn ones_from(bytes: &[u8], at: usize, mark: Mark) -> u8x16
 // The 64 bytes from `at` on more.
 fn add_ones(sums: u8x16, bytes: &[u8], at: usize, mark: Mark) -> u8x16
     requires { at + 65 ≤ length bytes.now }
-    ensures { (most total : ℕ) → most + 4 < 256 → IsSum most total sums → IsSum (most + 4) (total + count_of mark bytes.now at 64) result }
+    ensures { (most total : ℕ) → most + 4 < 256 → IsSum most total sums
+        → IsSum (most + 4) (total + count_of mark bytes.now at 64) result }
 {
     let first = sums + ones_from(bytes, at, mark);
     let second = first + ones_from(bytes, at + 16, mark);
@@ -308,9 +312,12 @@ fn count_run(bytes: &[u8], from: usize, to: usize, breaks: LineBreaks) -> TextIn
     requires to { to ≤ length bytes.now - 2 }
     ensures bound { from + result.bytes ≤ to }
     ensures further { from + 64 ≤ to → 64 ≤ result.bytes }
-    ensures chars { count_by begins_char (drop from bytes.now) ≡ result.chars + count_by begins_char (drop (from + result.bytes) bytes.now) }
-    ensures pairs { count_by begins_pair (drop from bytes.now) ≡ result.utf16_surrogates + count_by begins_pair (drop (from + result.bytes) bytes.now) }
-    ensures break_count { byte_break_count breaks (drop from bytes.now) ≡ result.break_count + byte_break_count breaks (drop (from + result.bytes) bytes.now) }
+    ensures chars { count_by begins_char (drop from bytes.now)
+        ≡ result.chars + count_by begins_char (drop (from + result.bytes) bytes.now) }
+    ensures pairs { count_by begins_pair (drop from bytes.now)
+        ≡ result.utf16_surrogates + count_by begins_pair (drop (from + result.bytes) bytes.now) }
+    ensures break_count { byte_break_count breaks (drop from bytes.now)
+        ≡ result.break_count + byte_break_count breaks (drop (from + result.bytes) bytes.now) }
 {
     let size = 64 * ((to - from) / 64).min(BLOCKS);
     let none = u8x16::splat(0);
@@ -345,9 +352,12 @@ pub(crate) fn count_blocks(bytes: &[u8], from: usize, to: usize, breaks: LineBre
     requires from { from ≤ to }
     requires to { to ≤ length bytes.now - 2 }
     ensures bound { from + result.bytes ≤ to }
-    ensures chars { count_by begins_char (drop from bytes.now) ≡ result.chars + count_by begins_char (drop (from + result.bytes) bytes.now) }
-    ensures pairs { count_by begins_pair (drop from bytes.now) ≡ result.utf16_surrogates + count_by begins_pair (drop (from + result.bytes) bytes.now) }
-    ensures break_count { byte_break_count breaks (drop from bytes.now) ≡ result.break_count + byte_break_count breaks (drop (from + result.bytes) bytes.now) }
+    ensures chars { count_by begins_char (drop from bytes.now)
+        ≡ result.chars + count_by begins_char (drop (from + result.bytes) bytes.now) }
+    ensures pairs { count_by begins_pair (drop from bytes.now)
+        ≡ result.utf16_surrogates + count_by begins_pair (drop (from + result.bytes) bytes.now) }
+    ensures break_count { byte_break_count breaks (drop from bytes.now)
+        ≡ result.break_count + byte_break_count breaks (drop (from + result.bytes) bytes.now) }
 {
     let mut counts = TextInfo::new();
     while to - from - counts.bytes >= 64 {
@@ -366,7 +376,8 @@ pub(crate) fn count_blocks(bytes: &[u8], from: usize, to: usize, breaks: LineBre
 /// How many breaks begin before the byte `to`.
 pub(crate) fn count_breaks_before(bytes: &[u8], to: usize, breaks: LineBreaks) -> usize
     requires { to ≤ length bytes.now }
-    ensures { byte_break_count breaks bytes.now ≡ result + byte_break_count breaks (drop to bytes.now) }
+    ensures { byte_break_count breaks bytes.now
+        ≡ result + byte_break_count breaks (drop to bytes.now) }
 {
     // A block is read two bytes past its end.
     let end = to.min(bytes.len().saturating_sub(2));

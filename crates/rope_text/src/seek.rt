@@ -115,7 +115,8 @@ pub(crate) fn find_unit(bytes: &[u8], from: usize, n: usize) -> usize
 #[inline(always)]
 pub(crate) fn line_of_char(bytes: &[u8], n: usize, breaks: LineBreaks) -> (usize, usize)
     ensures place { IsPlaceOf Mark.Char bytes.now 0 n result.0 }
-    ensures break_count { byte_break_count breaks bytes.now ≡ result.1 + byte_break_count breaks (drop result.0 bytes.now) }
+    ensures break_count { byte_break_count breaks bytes.now
+        ≡ result.1 + byte_break_count breaks (drop result.0 bytes.now) }
 {
     let (mut at, mut left, mut break_count) = (0, n, 0);
     while bytes.len() - at >= 34 {
@@ -136,8 +137,10 @@ pub(crate) fn line_of_char(bytes: &[u8], n: usize, breaks: LineBreaks) -> (usize
 // no count of isn't counted, since this is expanded there, where the set is known.
 fn skip_known(bytes: &[u8], n: usize, breaks: LineBreaks) -> (usize, TextInfo)
     ensures passed { IsPassed (Mark.Break breaks) bytes.now n result.1.bytes result.0 }
-    ensures chars { count_by begins_char bytes.now ≡ result.1.chars + count_by begins_char (drop result.1.bytes bytes.now) }
-    ensures pairs { count_by begins_pair bytes.now ≡ result.1.utf16_surrogates + count_by begins_pair (drop result.1.bytes bytes.now) }
+    ensures chars { count_by begins_char bytes.now
+        ≡ result.1.chars + count_by begins_char (drop result.1.bytes bytes.now) }
+    ensures pairs { count_by begins_pair bytes.now
+        ≡ result.1.utf16_surrogates + count_by begins_pair (drop result.1.bytes bytes.now) }
 {
     let (mut left, mut counts) = (n, TextInfo::new());
     while bytes.len() - counts.bytes >= 34 {
@@ -173,7 +176,8 @@ pub(crate) fn front_of_line(text: &str, line_idx: usize, breaks: LineBreaks) -> 
     ensures bytes { result.bytes ≡ line_to_byte breaks (chars text.now) line_idx }
     ensures chars { result.chars ≡ line_to_char breaks (chars text.now) line_idx }
     ensures counts { 0 < line_idx → line_idx ≤ break_count breaks (chars text.now)
-        → result ≡ info_of breaks (take (line_start breaks (chars text.now) line_idx) (chars text.now)) }
+        → result
+        ≡ info_of breaks (take (line_start breaks (chars text.now) line_idx) (chars text.now)) }
 {
     if line_idx == 0 {
         return TextInfo::new();

@@ -80,7 +80,8 @@ impl TextInfo {
     pub fn before_line(text: &str, line_idx: usize, breaks: LineBreaks) -> TextInfo
         requires later { 0 < line_idx }
         requires within { line_idx ≤ break_count breaks (chars text.now) }
-        ensures { result ≡ info_of breaks (take (line_start breaks (chars text.now) line_idx) (chars text.now)) }
+        ensures { result
+            ≡ info_of breaks (take (line_start breaks (chars text.now) line_idx) (chars text.now)) }
     {
         front_of_line(text, line_idx, breaks)
     }
@@ -93,7 +94,8 @@ impl TextInfo {
         requires utf16_surrogates { self.utf16_surrogates + other.utf16_surrogates < 2 ^ 64 }
         requires break_count { self.break_count + other.break_count < 2 ^ 64 }
         ensures sum { result ≡ info_sum self other }
-        ensures joined { (breaks : LineBreaks) (s t : List ℕ) → self ≡ info_of breaks s → other ≡ info_of breaks t → parts_crlf s t ≡ false
+        ensures joined { (breaks : LineBreaks) (s t : List ℕ)
+            → self ≡ info_of breaks s → other ≡ info_of breaks t → parts_crlf s t ≡ false
             → result ≡ info_of breaks (s ++ t) }
     {
         TextInfo {
@@ -112,7 +114,8 @@ impl TextInfo {
         requires utf16_surrogates { front.utf16_surrogates ≤ self.utf16_surrogates }
         requires break_count { front.break_count ≤ self.break_count }
         ensures sum { info_sum front result ≡ self }
-        ensures rest { (breaks : LineBreaks) (s t : List ℕ) → self ≡ info_of breaks (s ++ t) → front ≡ info_of breaks s → parts_crlf s t ≡ false
+        ensures rest { (breaks : LineBreaks) (s t : List ℕ)
+            → self ≡ info_of breaks (s ++ t) → front ≡ info_of breaks s → parts_crlf s t ≡ false
             → result ≡ info_of breaks t }
     {
         TextInfo {
