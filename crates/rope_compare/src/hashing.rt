@@ -10,8 +10,8 @@ use std::hash::Hasher;
 // How many bytes a hasher is handed at once.
 const BLOCK_BYTES: usize = 256;
 
-/// Hands a hasher the bytes of the text in blocks of 256, the last one shorter where need be, one write a block, and then
-/// 0xff: however the text is cut. No memory is taken.
+/// Hands a hasher the bytes of the text in blocks of 256, one write a block, the last block perhaps shorter, and then 0xff. So the
+/// writes are the same however the text is cut into chunks. No memory is taken.
 pub fn feed<H: Hasher>(part: &Part<'_>, state: &mut H)
     ensures { state.new ≡ fold H.write state.old (hash_writes (text_of part.now)) }
 {

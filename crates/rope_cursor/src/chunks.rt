@@ -51,7 +51,6 @@ impl<'a> Chunks<'a> {
 
     /// A cursor before the chunk that holds a byte or a character, facing forward; at the end of the text past the last chunk.
     /// With it the bytes, the characters and the line breaks of the text before its place.
-    // Expanded where it is called, by a constant: a way is half a kilobyte, and is then moved once less.
     pub fn at(part: &Part<'a>, unit: Unit, idx: usize) -> (Chunks<'a>, usize, usize, usize)
         requires unit { IsItem unit }
         requires within { idx ≤ size_in unit (text_of part.now) }
@@ -89,7 +88,7 @@ impl<'a> Chunks<'a> {
         Some(self.span.chunk())
     }
 
-    /// The item behind, to which it steps back; or none at that end, where it stays.
+    /// The chunk behind, to which it steps back; or none at that end, where it stays.
     pub fn prev(&mut self) -> Option<&'a str>
         ensures { StepsBack (λ x. chars x.now) self.old result self.new }
     {

@@ -49,16 +49,16 @@ impl<'a> Model for Path<'a> {
         AreFrames a.frames a.depth (around a.frames a.depth (chars a.leaf.now ∷ [])) };
 }
 
-// Whether all nodes are leaves, as far as their heads show. A walk comes to one after the other, and would wait for memory at
-// each: here what it will read of their heads is read side by side, so that their waits are one. No leaf below another node is
-// empty; its bytes are asked for so that they are read too.
+// Whether all nodes are leaves with bytes. A walk comes to one after the other, and would wait for memory at each: here what it
+// will read of their heads is read side by side, so that their waits are one. No leaf below another node is empty: its bytes are
+// asked for only so that they are read here, too.
 fn are_leaves(nodes: &[Node]) -> bool
     ensures { OnTrue result (All (λ rc. rc.height ≡ 0) nodes.now) }
 {
     nodes.iter().all(|node| matches!(node.view(), View::Leaf(_)) && node.info().bytes > 0)
 }
 
-// The text of a node with no levels below it. What it is, is asked again, of what has been read just before.
+// The text of a node with no levels below it.
 pub(crate) fn lowest_text(node: &Node) -> &str
     requires { IsLow node.now 0 }
     ensures { node.now.leaves ≡ chars result.now ∷ [] }
@@ -137,14 +137,14 @@ fn enter_at<'a>(
 impl<'a> Path<'a> {
     /// The way to the leaf that holds a place of a tree's text, and the counts of the text before the leaf. It enters each
     /// node on the way once.
-    // Expanded where it is called, since a call would answer the way through memory.
+    // Inlined, since a call would answer the way through memory.
     #[inline(always)]
     pub fn at(node: &'a Node, unit: Unit, at: usize) -> (Path<'a>, TextInfo)
         requires { at < count_of unit (info_of node.now.breaks (text node.now)) }
         ensures leaves { leaves result.0 ≡ node.now.leaves }
         ensures holds { HoldsPlace unit node.now.breaks at result.0.before result.0.here result.1 }
     {
-        // a proof needs what `height` says of every node: how high it may be
+        // For the proof: `height` says that the tree has at most as many levels as there are frames.
         let _ = node.height();
         let mut path = Path::text("");
         let (depth, leaf, before) = enter_at(&mut path.frames, 0, node, TextInfo::new(), unit, at);
@@ -174,7 +174,6 @@ impl<'a> Path<'a> {
     }
 
     /// Goes to the next leaf, or backward to the one before. Answers whether there is one; else it stays.
-    // Expanded where it is called, where it is known which way it goes: so no step asks for it at each frame.
     pub fn step(&mut self, is_backward: bool) -> bool
         ensures moved { OnTrue result (IsBeside is_backward self.old self.new) }
         ensures stays { OnFalse result (self.new ≡ self.old) }
@@ -193,8 +192,8 @@ impl<'a> Path<'a> {
                 let at = if is_backward { at - 1 } else { at + 1 };
                 frames[level] = Frame { nodes, at };
                 let child: &Node = &nodes[at];
-                // Most nodes that a step comes to are leaves. These are taken here: what `enter` answers comes through memory, and
-                // has to be waited for.
+                // Most nodes that a step comes to are leaves, and are taken here: what `enter` answers comes through memory, and has
+                // to be waited for.
                 if let View::Leaf(leaf) = child.view() {
                     self.depth = level + 1;
                     self.leaf = leaf.as_str();
@@ -209,8 +208,8 @@ impl<'a> Path<'a> {
         false
     }
 
-    /// Goes to the last leaf under the node right over its own, and answers the leaves that it passes and that one: so that who
-    /// only goes forward takes them from there. Where some are no leaves, it answers none and stays.
+    /// Goes to the last leaf under the node right over its own. Answers that leaf and those that it passed on the way, so that a walk
+    /// that only goes forward takes them from there. Where some of these are no leaves, it answers none and stays.
     pub(crate) fn pass_siblings(&mut self) -> &'a [Node]
         ensures leaves { All (λ rc. IsLow rc 0) result.now }
         ensures ahead { self.old.after ≡ leaves_below result.now ++ self.new.after }
@@ -259,7 +258,7 @@ impl<'a> Model for Span<'a> {
 impl<'a> Span<'a> {
     /// The chunk of a part that holds a byte or a character; at the end of the text the last chunk. With it the bytes, the
     /// characters and the line breaks of the text before it. An empty part has no chunk: then it is the empty text.
-    // Expanded where it is called, by a constant: a way is half a kilobyte, and is then moved once less.
+    // Inlined: a way is half a kilobyte, and is then moved once less.
     #[inline(always)]
     pub fn holding(part: &Part<'a>, unit: Unit, idx: usize) -> (Span<'a>, usize, usize, usize)
         requires unit { IsItem unit }
@@ -291,8 +290,8 @@ impl<'a> Span<'a> {
     /// The chunk of a part that holds a character, and the byte of the chunk at which that character starts. At the end of the
     /// text it is the last chunk, and its end. An empty part has no chunk: then it is the empty text. The part's counts are handed
     /// in by who has them.
-    // Expanded where it is called: a way is half a kilobyte, and is then moved once less. Of a narrow text, which has as many
-    // bytes as characters, nothing is read: no byte of it has to be waited for.
+    // Inlined: a way is half a kilobyte, and is then moved once less. Of a narrow text, which has as many bytes as characters,
+    // nothing is read: no byte of it has to be waited for.
     #[inline(always)]
     pub fn at(part: &Part<'a>, info: TextInfo, char_idx: usize) -> (Span<'a>, usize)
         requires info { info ≡ info_of (breaks_of part.now) (text_of part.now) }
@@ -314,8 +313,7 @@ impl<'a> Span<'a> {
         (span, byte)
     }
 
-    /// The same way.
-    // Expanded where it is called, since a call would be told where the way lies.
+    /// The same chunk, with a way of its own.
     pub fn copy(&self) -> Span<'a>
         ensures { result ≡ self.now }
     {

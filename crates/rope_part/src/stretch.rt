@@ -54,7 +54,7 @@ impl<'a> Stretch<'a> {
         ensures low { self.now.node.now.height ≤ MAX_HEIGHT }
         ensures tree { IsTree self.now.node.now }
     {
-        // a proof needs what `height` says of every node
+        // For the proof: `height` says how high a tree may be and how long its text, so the sum fits; callers need the same.
         let _ = self.node.height();
         count(self.start, unit) + idx
     }
@@ -64,7 +64,7 @@ impl<'a> Stretch<'a> {
         ensures value { result ≡ info_of (breaks_of self.now) (text_of self.now) }
         ensures kept { IsPart (content_of self.now) }
     {
-        // a proof needs what `height` says of every node: how long its text may be, and how it is cut
+        // For the proof: `height` says how long the tree's text may be and how it is cut, which holds of each part of it.
         let _ = self.node.height();
         self.end.minus(self.start)
     }

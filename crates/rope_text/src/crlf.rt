@@ -99,9 +99,9 @@ pub fn nearest_internal_break(at: usize, text: &[u8]) -> usize
     right
 }
 
-/// The cut at `at`, or else the nearest cut before it or after it, before it where `bias_left` says so,
-/// unless no cut inside the text lies on that side: then it is the nearest on the other one, the ends of the text among them.
-/// `at` is at most the length. Reads the bytes around the place; takes no memory.
+/// The place `at` itself, where it may be cut; else the nearest such place before it, if `bias_left`, or after it. Where none inside
+/// the text lies on that side, it is the nearest on the other side, which may be an end of the text. `at` is at most the length.
+/// Reads the bytes around the place; takes no memory.
 pub fn find_good_split(at: usize, text: &[u8], bias_left: bool) -> usize
     requires { at ≤ length text.now }
     ensures boundary { IsUtf8 text.now → IsCharBoundary text.now result }

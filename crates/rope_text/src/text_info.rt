@@ -12,9 +12,8 @@ use crate::lanes::count_all;
 use crate::seek::{front_of_line, to_first_break, width_of};
 use crate::{LineBreaks, known_set};
 
-/// What a text counts.
-// The bytes stand last: in a leaf they then lie beside the text, and a walk over leaves reads both at once.
 /// How many bytes, characters, surrogate pairs in UTF-16 and line breaks a text has. Copying it takes no memory.
+// The bytes stand last: in a leaf they then lie beside the text, and a walk over leaves reads both at once.
 #[derive(Clone, Copy, Debug, Default, PartialEq, Eq)]
 pub struct TextInfo {
     /// The characters.
