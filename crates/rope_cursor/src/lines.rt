@@ -246,8 +246,6 @@ fn count_last(
     ensures start { result.0 ≡ last_line_byte breaks (chars text.now) end skip }
     ensures counts { result.1 ≡ last_line_info breaks (chars text.now) end skip }
 {
-    // a proof needs how long a text in memory may be
-    let _ = byte_len_of(text);
     let mut back = first.max(NEAR_BYTES);
     loop {
         // the last `back` bytes of the front, or a few more, so that no character and no CR LF is cut

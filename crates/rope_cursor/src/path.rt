@@ -10,7 +10,7 @@ ghost use Rattle.rope_text.specs.Text.{byte_len};
 ghost use Rattle.rope_text.specs.TextInfo.{info_of};
 ghost use Rattle.rope_tree.specs.Search.{count_of};
 ghost use Rattle.rope_tree.specs.Leaves.{AreLeaves};
-ghost use Rattle.rope_tree.specs.Tree.{text};
+ghost use Rattle.rope_tree.specs.Tree.{IsTree, text};
 ghost use Rattle.rope_part.specs.Part.{content_of, text_of, chunks_of, breaks_of};
 ghost use Rattle.rope_cursor.specs.Path.{before_of, beyond, around, place_of, AreFrames, LeadsTo, IsLow, IsBeside, IsLast, HoldsPlace, leaves, leaves_below};
 ghost use Rattle.rope_cursor.specs.Starts.{IsItem, IsHolding, size_in};
@@ -143,8 +143,9 @@ impl<'a> Path<'a> {
         requires { at < count_of unit (info_of node.now.breaks (text node.now)) }
         ensures leaves { leaves result.0 ≡ node.now.leaves }
         ensures holds { HoldsPlace unit node.now.breaks at result.0.before result.0.here result.1 }
+        ensures tree { IsTree node.now }
     {
-        // For the proof: `height` says that the tree has at most as many levels as there are frames.
+        // For the proof: `height` says that the tree has at most as many levels as there are frames, and what callers need of it.
         let _ = node.height();
         let mut path = Path::text("");
         let (depth, leaf, before) = enter_at(&mut path.frames, 0, node, TextInfo::new(), unit, at);

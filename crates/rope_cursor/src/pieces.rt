@@ -66,8 +66,6 @@ impl<'a> Pieces<'a> {
     {
         match part {
             Part::InTree(stretch) => {
-                // a proof needs what `height` says of every node: no leaf is empty
-                let _ = stretch.node.height();
                 let start = stretch.start.bytes;
                 let size = stretch.end.bytes - start;
                 let (path, before) = Path::at(stretch.node, Unit::Byte, start);

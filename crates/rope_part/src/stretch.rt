@@ -1,6 +1,7 @@
 //! Characters of a tree's text, one at least.
 ghost use Rattle.std.specs.Prelude.{◌≡◌, ◌+◌, ◌-◌, ◌≤◌, ◌<◌, length, take};
 ghost use Rattle.std.specs.Str.{chars};
+ghost use Rattle.rope_text.specs.declared.TheConstants.{MAX_HEIGHT};
 ghost use Rattle.rope_text.specs.TextInfo.{info_of};
 ghost use Rattle.rope_text.specs.Lines.{line_start, line_count};
 ghost use Rattle.rope_tree.specs.Search.{count_of};
@@ -15,12 +16,12 @@ use rope_tree::{Found, Node, Unit, count, leaf_at};
 fn line_start_at(node: &Node, line_idx: usize) -> (TextInfo, &str)
     requires later { 0 < line_idx }
     requires within { line_idx < line_count node.now.breaks (text node.now) }
+    requires low { node.now.height ≤ MAX_HEIGHT }
+    requires tree { IsTree node.now }
     ensures before { result.0 ≡ line_info node.now.breaks (text node.now) line_idx }
     ensures rest { IsLeafFrom node.now (line_start node.now.breaks (text node.now) line_idx)
         (chars result.1.now) }
 {
-    // a proof needs what `height` says of every node
-    let _ = node.height();
     let found = leaf_at(node, Unit::LineBreak, line_idx - 1, &mut Steps::new());
     let leaf = found.leaf.as_str();
     let line = line_idx - found.before.break_count;
@@ -43,7 +44,6 @@ pub struct Stretch<'a> {
 }
 
 impl<'a> Stretch<'a> {
-    ghost use Rattle.rope_text.specs.declared.TheConstants.{MAX_HEIGHT};
     ghost use Rattle.rope_part.specs.Kept.{IsPart};
     ghost use Rattle.rope_part.specs.Stretch.{content_of, text_of, breaks_of};
 
