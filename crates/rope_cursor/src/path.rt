@@ -30,7 +30,7 @@ struct Frame<'a> {
 
 /// A way to a leaf, seen as the leaves before it, the leaf, and the leaves after it.
 #[derive(Drop)]
-pub struct Path<'a> {
+pub(crate) struct Path<'a> {
     leaf: &'a str,
     depth: usize,
     frames: [Frame<'a>; MAX_HEIGHT],
@@ -139,7 +139,7 @@ impl<'a> Path<'a> {
     /// node on the way once.
     // Inlined, since a call would answer the way through memory.
     #[inline(always)]
-    pub fn at(node: &'a Node, unit: Unit, at: usize) -> (Path<'a>, TextInfo)
+    pub(crate) fn at(node: &'a Node, unit: Unit, at: usize) -> (Path<'a>, TextInfo)
         requires { at < count_of unit (info_of node.now.breaks (text node.now)) }
         ensures leaves { leaves result.0 ≡ node.now.leaves }
         ensures holds { HoldsPlace unit node.now.breaks at result.0.before result.0.here result.1 }
@@ -155,7 +155,7 @@ impl<'a> Path<'a> {
     }
 
     /// A text as the only leaf.
-    pub fn text(text: &'a str) -> Path<'a>
+    pub(crate) fn text(text: &'a str) -> Path<'a>
         ensures before { result.before ≡ [] }
         ensures here { result.here ≡ chars text.now }
         ensures after { result.after ≡ [] }
@@ -168,14 +168,14 @@ impl<'a> Path<'a> {
     }
 
     /// The text of the leaf.
-    pub fn leaf(&self) -> &'a str
+    pub(crate) fn leaf(&self) -> &'a str
         ensures { chars result.now ≡ self.now.here }
     {
         self.leaf
     }
 
     /// Goes to the next leaf, or backward to the one before. Answers whether there is one; else it stays.
-    pub fn step(&mut self, is_backward: bool) -> bool
+    pub(crate) fn step(&mut self, is_backward: bool) -> bool
         ensures moved { OnTrue result (IsBeside is_backward self.old self.new) }
         ensures stays { OnFalse result (self.new ≡ self.old) }
         ensures ended { OnFalse result (IsLast is_backward self.old) }
@@ -236,7 +236,7 @@ impl<'a> Path<'a> {
 
 /// A chunk of a part, seen as the chunks before it, the chunk, and the chunks after it.
 #[derive(Drop)]
-pub struct Span<'a> {
+pub(crate) struct Span<'a> {
     path: Path<'a>,
     // the bytes of the text before the leaf, of which the chunk is a part
     at: usize,
@@ -261,7 +261,7 @@ impl<'a> Span<'a> {
     /// characters and the line breaks of the text before it. An empty part has no chunk: then it is the empty text.
     // Inlined: a way is half a kilobyte, and is then moved once less.
     #[inline(always)]
-    pub fn holding(part: &Part<'a>, unit: Unit, idx: usize) -> (Span<'a>, usize, usize, usize)
+    pub(crate) fn holding(part: &Part<'a>, unit: Unit, idx: usize) -> (Span<'a>, usize, usize, usize)
         requires unit { IsItem unit }
         requires within { idx ≤ size_in unit (text_of part.now) }
         ensures { IsHolding unit idx (content_of part.now) result.0 result.1 result.2 result.3 }
@@ -294,7 +294,7 @@ impl<'a> Span<'a> {
     // Inlined: a way is half a kilobyte, and is then moved once less. Of a narrow text, which has as many bytes as characters,
     // nothing is read: no byte of it has to be waited for.
     #[inline(always)]
-    pub fn at(part: &Part<'a>, info: TextInfo, char_idx: usize) -> (Span<'a>, usize)
+    pub(crate) fn at(part: &Part<'a>, info: TextInfo, char_idx: usize) -> (Span<'a>, usize)
         requires info { info ≡ info_of (breaks_of part.now) (text_of part.now) }
         requires within { char_idx ≤ length (text_of part.now) }
         ensures text { concat (leaves result.0) ≡ text_of part.now }
@@ -315,7 +315,7 @@ impl<'a> Span<'a> {
     }
 
     /// The same chunk, with a way of its own.
-    pub fn copy(&self) -> Span<'a>
+    pub(crate) fn copy(&self) -> Span<'a>
         ensures { result ≡ self.now }
     {
         let path = Path { ..self.path };
@@ -323,7 +323,7 @@ impl<'a> Span<'a> {
     }
 
     /// The chunk.
-    pub fn chunk(&self) -> &'a str
+    pub(crate) fn chunk(&self) -> &'a str
         ensures { chars result.now ≡ self.now.here }
     {
         let leaf = self.path.leaf();
@@ -333,7 +333,7 @@ impl<'a> Span<'a> {
     }
 
     /// Goes to the next chunk, or backward to the one before. Answers whether there is one; else it stays.
-    pub fn step(&mut self, is_backward: bool) -> bool
+    pub(crate) fn step(&mut self, is_backward: bool) -> bool
         ensures moved { OnTrue result (IsBeside is_backward self.old self.new) }
         ensures stays { OnFalse result (self.new ≡ self.old) }
         ensures ended { OnFalse result (IsLast is_backward self.old) }

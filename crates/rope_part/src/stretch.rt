@@ -60,7 +60,7 @@ impl<'a> Stretch<'a> {
     }
 
     /// The counts of its text.
-    pub fn info(&self) -> TextInfo
+    pub(crate) fn info(&self) -> TextInfo
         ensures value { result ≡ info_of (breaks_of self.now) (text_of self.now) }
         ensures kept { IsPart (content_of self.now) }
     {
@@ -127,7 +127,7 @@ impl<'a> Stretch<'a> {
     }
 
     /// The counts of its text before a line; past the last line those of all of it.
-    pub fn before_line(&self, line_idx: usize) -> TextInfo
+    pub(crate) fn before_line(&self, line_idx: usize) -> TextInfo
         requires { line_idx ≤ line_count (breaks_of self.now) (text_of self.now) }
         ensures { result ≡ line_info (breaks_of self.now) (text_of self.now) line_idx }
     {
@@ -144,7 +144,7 @@ impl<'a> Stretch<'a> {
 
     /// The counts of its text before a line, and before the next one; past the last line those of all of it. It is one look-up
     /// where the line ends before the leaf does.
-    pub fn around_line(&self, line_idx: usize) -> (TextInfo, TextInfo)
+    pub(crate) fn around_line(&self, line_idx: usize) -> (TextInfo, TextInfo)
         requires { line_idx < line_count (breaks_of self.now) (text_of self.now) }
         ensures start { result.0 ≡ line_info (breaks_of self.now) (text_of self.now) line_idx }
         ensures end { result.1 ≡ line_info (breaks_of self.now) (text_of self.now) (line_idx + 1) }
