@@ -209,8 +209,8 @@ impl<'a> Path<'a> {
         false
     }
 
-    /// Goes to the last leaf under the node right over its own. Answers that leaf and those that it passed on the way, so that a walk
-    /// that only goes forward takes them from there. Where some of these are no leaves, it answers none and stays.
+    /// Goes to the last leaf under the node right over its own. Answers that leaf and those that it passed on the way, so that a
+    /// walk that only goes forward takes them from there. Where some of these are no leaves, it answers none and stays.
     pub(crate) fn pass_siblings(&mut self) -> &'a [Node]
         ensures leaves { All (λ rc. IsLow rc 0) result.now }
         ensures ahead { self.old.after ≡ leaves_below result.now ++ self.new.after }

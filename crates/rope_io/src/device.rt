@@ -15,7 +15,7 @@ pub trait Mark {
     ghost marked: { Self → Bool };
 
     /// The kind in which the last read or write failed since the mark was last cleared. There is none where it didn't
-    /// fail, and none where nothing was read or written since. A write that takes no byte of some fails as `WriteZero`.
+    /// fail, and none where nothing was read or written since. A write that is given bytes and takes none fails as `WriteZero`.
     ghost failure: { Self → Option ErrorKind };
 
     /// How many reads and writes have failed. It is never cleared, and stops at `u64::MAX`.
@@ -62,8 +62,8 @@ pub trait Sink: Mark {
     /// The bytes that it holds, where they are known.
     ghost contents: { Self → Option (List ℕ) };
 
-    /// Writes and answers as `Write::write` does. It sets the mark exactly where it answers an error or takes no byte
-    /// of some, and else leaves it.
+    /// Writes and answers as `Write::write` does. It sets the mark exactly where it answers an error, or is given bytes and
+    /// takes none; else it leaves it.
     fn give(&mut self, buf: &[u8]) -> io::Result<usize>
         ensures bound { WritesAtMost result buf.now }
         ensures bytes { WriteAppends (contents self.old) (contents self.new) result buf.now }

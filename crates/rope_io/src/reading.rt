@@ -15,7 +15,7 @@ use rope_text::{BUFFER_BYTES, Error, LineBreaks, MAX_TEXT_BYTES, Result};
 use rope_tree::{Builder, Maker, Node};
 use std::alloc::Global;
 
-/// Puts a text behind those that were passed in. It takes memory, and an empty text none.
+/// Puts a text behind those that were passed in. It takes memory, but none for an empty text.
 ///
 /// # Errors
 ///
@@ -93,15 +93,14 @@ fn read_texts<S: Source>(source: &mut S, builder: &mut Builder) -> ReadResult<()
     }
 }
 
-/// Reads a text to the end of the source, as the tree of it with these line breaks, in at most one leaf for each 981
-/// bytes and one for the rest. The mark is cleared first. It takes memory.
+/// Reads a text to the end of the source, and answers its tree with this set of line breaks, which has at most one leaf for
+/// each 981 bytes and one for the rest. The mark is cleared first. It takes memory.
 ///
 /// # Errors
 ///
-/// A failed read is answered at once as `Read`, an interrupted one too, and the source is not called again. Bytes that
-/// are no UTF-8 are answered as `InvalidData`, at the end of the source or once 1,968 bytes have been read from the
-/// first on that is not. A text of more than `isize::MAX` bytes so far, and a refusal of memory, are returned as
-/// `Rope`.
+/// A failed read is answered at once as `Read`, an interrupted one too, and the source is not called again. Bytes that are
+/// not UTF-8 are answered as `InvalidData`, at the end of the source or once 1,968 bytes have been read from the first
+/// wrong one on. A text of more than `isize::MAX` bytes so far, and a refusal of memory, are answered as `Rope`.
 pub fn read_tree<S: Source>(alloc: Global, source: &mut S, breaks: LineBreaks) -> ReadResult<Node>
     ensures answer { Reads (λ node. text node) (S.remaining source.old) (S.remaining source.new)
         (S.marked source.new) result }

@@ -37,8 +37,8 @@ fn write_bytes<S: Sink>(sink: &mut S, bytes: &[u8]) -> io::Result<()>
 ///
 /// # Errors
 ///
-/// An error of the sink is answered at once, an interrupted write's too, and a write that takes no byte of some is an
-/// error of the kind `WriteZero`. Then a beginning of the text has been written, and the sink is not called again.
+/// An error of the sink is answered at once, an interrupted write's too, and a write that takes none of the bytes that are
+/// left is an error of the kind `WriteZero`. Then a beginning of the text has been written, and the sink is not called again.
 pub fn write_part<S: Sink>(part: &Part<'_>, sink: &mut S) -> io::Result<()>
     ensures ok { OnOk result
         (Appends (S.contents sink.old) (S.contents sink.new) (encode_utf8_all (text_of part.now))) }

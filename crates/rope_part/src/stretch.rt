@@ -1,4 +1,4 @@
-//! Characters of a tree's text, one at least.
+//! One character or more of a tree's text.
 ghost use Rattle.std.specs.Prelude.{◌≡◌, ◌+◌, ◌-◌, ◌≤◌, ◌<◌, length, take};
 ghost use Rattle.std.specs.Str.{chars};
 ghost use Rattle.rope_text.specs.declared.TheConstants.{MAX_HEIGHT};
@@ -12,7 +12,7 @@ use rope_text::str_utils::count_surrogates;
 use rope_text::{Steps, TextInfo};
 use rope_tree::{Found, Node, Unit, count, leaf_at};
 
-// The counts of the text before a line that is not the first, and from there on the leaf in which the break before it ends.
+// The counts of the text before a line that is not the first, and what follows there of the leaf in which the break before it ends.
 fn line_start_at(node: &Node, line_idx: usize) -> (TextInfo, &str)
     requires later { 0 < line_idx }
     requires within { line_idx < line_count node.now.breaks (text node.now) }
@@ -29,7 +29,7 @@ fn line_start_at(node: &Node, line_idx: usize) -> (TextInfo, &str)
     (found.before.plus(front), &leaf[front.bytes..])
 }
 
-/// Characters of a tree's text, one at least. It keeps the counts of the text before their start and before their end, so
+/// One character or more of a tree's text. It keeps the counts of the text before their start and before their end, so
 /// that a length is a difference of two of them, and a conversion is one of the tree's.
 ///
 /// The breaks before the start are those that end there or before it; those before the end are the breaks of the text up to
@@ -47,7 +47,7 @@ impl<'a> Stretch<'a> {
     ghost use Rattle.rope_part.specs.Kept.{IsPart};
     ghost use Rattle.rope_part.specs.Stretch.{content_of, text_of, breaks_of};
 
-    /// A place of its text, as one of the tree's. Of lines it may be the one past the last.
+    /// A place in its text as a place in the tree's. For lines it may be the one past the last.
     pub fn place(&self, unit: Unit, idx: usize) -> usize
         requires { idx ≤ count_of unit (info_of (breaks_of self.now) (text_of self.now)) + 1 }
         ensures value { result ≡ count_of unit self.now.start + idx }
@@ -69,7 +69,7 @@ impl<'a> Stretch<'a> {
         self.end.minus(self.start)
     }
 
-    /// The counts before the start of its part from a character on.
+    /// The `start` of its part from a character on.
     pub(crate) fn start_of(&self, char_idx: usize) -> TextInfo
         requires { char_idx < length (text_of self.now) }
         ensures { result ≡ start_info self.now.node.now.breaks (text self.now.node.now)
@@ -94,7 +94,7 @@ impl<'a> Stretch<'a> {
         }
     }
 
-    /// The counts before the end of its part up to a character.
+    /// The `end` of its part up to a character.
     pub(crate) fn end_of(&self, char_idx: usize) -> TextInfo
         requires { char_idx ≤ length (text_of self.now) }
         ensures { result ≡ end_info self.now.node.now.breaks (text self.now.node.now)
