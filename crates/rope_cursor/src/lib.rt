@@ -2,13 +2,13 @@
 //! only. No call takes memory.
 #![tactic(auto)]
 
-pub mod bytes;
-pub mod chars;
-pub mod chunks;
+mod bytes;
+mod chars;
+mod chunks;
 pub mod laws;
 pub mod lines;
 mod path;
-pub mod pieces;
+mod pieces;
 mod point;
 
 pub use bytes::Bytes;

@@ -1,8 +1,8 @@
 //! Ropes read from devices and written to them: readers and writers that mark their failures, and the two loops.
 #![tactic(auto)]
 
-pub mod device;
-pub mod error;
+mod device;
+mod error;
 pub mod laws;
 pub mod reading;
 pub mod writing;

@@ -13,8 +13,7 @@ pub struct Plain<'a> {
     pub text: &'a str,
     pub info: TextInfo,
     pub breaks: LineBreaks,
-    ghost counted: { info ≡ info_of breaks (chars text.now) }
-        by { IsInfo-prop breaks (chars text.now) info },
+    ghost counted: { info ≡ info_of breaks (chars text.now) } by { IsInfo-prop _ _ _ },
 }
 
 impl<'a> Plain<'a> {

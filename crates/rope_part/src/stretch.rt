@@ -39,8 +39,7 @@ pub struct Stretch<'a> {
     pub node: &'a Node,
     pub start: TextInfo,
     pub end: TextInfo,
-    ghost is_stretch: { IsStretch node.now.breaks (text node.now) start end }
-        by { IsStretch-prop node.now.breaks (text node.now) start end },
+    ghost is_stretch: { IsStretch node.now.breaks (text node.now) start end } by { IsStretch-prop },
 }
 
 impl<'a> Stretch<'a> {

@@ -4,15 +4,15 @@
 
 mod bits;
 pub mod crlf;
-pub mod error;
+mod error;
 mod lanes;
 pub mod laws;
-pub mod line_breaks;
+mod line_breaks;
 pub mod range;
 mod seek;
-pub mod steps;
+mod steps;
 pub mod str_utils;
-pub mod text_info;
+mod text_info;
 
 pub use error::{Error, Result};
 pub use line_breaks::LineBreaks;
