@@ -261,7 +261,11 @@ impl<'a> Span<'a> {
     /// characters and the line breaks of the text before it. An empty part has no chunk: then it is the empty text.
     // Inlined: a way is half a kilobyte, and is then moved once less.
     #[inline(always)]
-    pub(crate) fn holding(part: &Part<'a>, unit: Unit, idx: usize) -> (Span<'a>, usize, usize, usize)
+    pub(crate) fn holding(
+        part: &Part<'a>,
+        unit: Unit,
+        idx: usize,
+    ) -> (Span<'a>, usize, usize, usize)
         requires unit { IsItem unit }
         requires within { idx ≤ size_in unit (text_of part.now) }
         ensures { IsHolding unit idx (content_of part.now) result.0 result.1 result.2 result.3 }
