@@ -188,7 +188,7 @@ impl<'a, T> Clone for Lines<'a, T> {
 struct Gap<'a> {
     span: Span<'a>,
     inside: usize,
-    // in how many bytes before the place a step backward looks first; in `NEAR_BYTES` at the least
+    // in how many bytes before the place a step backward looks first, but in no fewer than `NEAR_BYTES`
     near: usize,
 }
 

@@ -293,8 +293,8 @@ impl<'a> Span<'a> {
     }
 
     /// The chunk of a part that holds a character, and the byte of the chunk at which that character starts. At the end of the
-    /// text it is the last chunk, and its end. An empty part has no chunk: then it is the empty text. The part's counts are handed
-    /// in by who has them.
+    /// text it is the last chunk, and its end. An empty part has no chunk: then it is the empty text. The caller has the part's
+    /// counts, and passes them in.
     // Inlined: a way is half a kilobyte, and is then moved once less. Of a narrow text, which has as many bytes as characters,
     // nothing is read: no byte of it has to be waited for.
     #[inline(always)]

@@ -14,8 +14,9 @@ pub trait Mark {
     /// Whether the mark is set.
     ghost marked: { Self → Bool };
 
-    /// The kind in which the last read or write failed since the mark was last cleared. There is none where it didn't
-    /// fail, and none where nothing was read or written since. A write that is given bytes and takes none fails as `WriteZero`.
+    /// How the last read or write failed since the mark was last cleared, as the kind of its error. There is none where it
+    /// didn't fail, and none where nothing was read or written since. A write that is given bytes and takes none fails as
+    /// `WriteZero`.
     ghost failure: { Self → Option ErrorKind };
 
     /// How many reads and writes have failed. It is never cleared, and stops at `u64::MAX`.

@@ -33,7 +33,7 @@ fn line_start_at(node: &Node, line_idx: usize) -> (TextInfo, &str)
 /// that a length is a difference of two of them, and a conversion is one of the tree's.
 ///
 /// The breaks before the start are those that end there or before it; those before the end are the breaks of the text up to
-/// there by itself. So a CR LF that is cut at either end gives a break to either side.
+/// there by itself. So a CR LF that is cut at an end gives a break to each side.
 #[derive(Clone, Copy)]
 pub struct Stretch<'a> {
     pub node: &'a Node,

@@ -45,7 +45,7 @@ impl TextInfo {
         TextInfo::of_short(text, breaks)
     }
 
-    /// The same, for a text that mostly has few bytes, as one that is put in or taken out.
+    /// The same, for a text that mostly has few bytes, such as one that is put in or taken out.
     // Inlined, since what a call answers through memory has to be waited for.
     #[inline(always)]
     pub fn of_short(text: &str, breaks: LineBreaks) -> TextInfo
