@@ -227,10 +227,10 @@ const NEAR_BYTES: usize = 64;
 // And in at most so many, however long the line was that was found before.
 const FAR_BYTES: usize = 256;
 
-// The byte at which the last line of a text's front starts, or the one `skip` lines before it, and what lies from there to the
-// front's end counts. It is looked for in the last `first` bytes of the front, and then in `times` as many, until it is found: so a
-// line costs its own length, however long the text before it is. The text behind the front is passed in, too, since it fills the
-// blocks that are counted at once.
+// The byte at which the last line of a text's front starts, or the one `skip` lines before it, and the counts from there to the
+// front's end, which is the byte `end`. It is looked for in the last `first` bytes of the front, and then in `times` as many, until
+// it is found: so a line costs its own length, however long the text before it is. The text behind the front is passed in, too,
+// since it fills the blocks that are counted at once.
 fn count_last(
     text: &str,
     end: usize,

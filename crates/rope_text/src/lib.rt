@@ -43,7 +43,7 @@ pub const MIN_BYTES: usize = 462;
 pub const MIN_PAIR_BYTES: usize = 492;
 
 /// A leaf of so many bytes may stand beside any other, since every leaf has at least one. Where a leaf without room is cut in two,
-/// each half has so many.
+/// each half has at least so many.
 pub const MIN_HALF_BYTES: usize = MIN_PAIR_BYTES - 1;
 
 /// How many bytes of a device are held at once. If so many are held and no text stands at their front, they are refused.
