@@ -10,8 +10,8 @@ use std::hash::Hasher;
 // How many bytes a hasher is handed at once.
 const BLOCK_BYTES: usize = 256;
 
-/// Hands a hasher the bytes of the text in blocks of 256, the last one shorter where need be, one write a block, and then
-/// 0xff: however the text is cut. No memory is taken.
+/// Hands a hasher the bytes of the text in blocks of 256, one write a block, the last block perhaps shorter, and then 0xff. So the
+/// writes are the same however the text is cut into chunks. No memory is taken.
 pub fn feed<H: Hasher>(part: &Part<'_>, state: &mut H)
     ensures { state.new ≡ fold H.write state.old (hash_writes (text_of part.now)) }
 {
@@ -33,7 +33,8 @@ fn feed_piece<H: Hasher>(state: &mut H, block: &mut [u8], held: usize, bytes: &[
     requires room { held < 256 }
     ensures size { length block.new ≡ 256 }
     ensures room { result < 256 }
-    ensures writes { (rest : List ℕ) → fold H.write state.new (blocks (take result block.new ++ rest))
+    ensures writes { (rest : List ℕ)
+        → fold H.write state.new (blocks (take result block.new ++ rest))
         ≡ fold H.write state.old (blocks (take held block.old ++ (bytes.now ++ rest))) }
 {
     let mut rest = bytes;

@@ -27,8 +27,8 @@ fn are_same_blocks(left: &[u8], right: &[u8], at: usize, next: usize) -> bool
     (x.simd_ne(y) | z.simd_ne(w)).to_bitmask() == 0
 }
 
-// Whether two pieces of as many bytes are the same. The last blocks may overlap: so no byte is compared by itself, but in
-// pieces of fewer bytes than a block has.
+// Whether two pieces of the same length are the same. The last two blocks may overlap: so no bytes are left over to be compared one
+// by one, unless the pieces are shorter than a block.
 fn are_same(left: &[u8], right: &[u8]) -> bool
     requires { length left.now ≡ length right.now }
     ensures { IsTrue result ↔ (left.now ≡ right.now) }
@@ -48,7 +48,7 @@ fn are_same(left: &[u8], right: &[u8]) -> bool
     are_same_blocks(left, right, at.min(last), last)
 }
 
-// The bytes of a piece, or those of the next one where it has none: so they are none only at the end.
+// A piece, or the next one where it is empty: so it is empty only at the end.
 fn filled<'a>(front: &'a [u8], pieces: &mut Pieces<'a>) -> &'a [u8]
     ensures same { result.now ++ pieces.new ≡ front.now ++ pieces.old }
     ensures some { length result.now ≡ 0 → pieces.new ≡ [] }
@@ -59,16 +59,17 @@ fn filled<'a>(front: &'a [u8], pieces: &mut Pieces<'a>) -> &'a [u8]
     pieces.next_piece()
 }
 
-/// The lexicographic order of bytes, of each their first piece and those after it. A first piece is empty only where there are no
-/// bytes.
+/// The lexicographic order of two lists of bytes, each given as its first piece and the pieces after it. A first piece is empty only
+/// where the list is.
 pub fn order_of_pieces<'a>(left: (&'a [u8], Pieces<'a>), right: (&'a [u8], Pieces<'a>)) -> Ordering
     requires left { length left.0.now ≡ 0 → left.1 ≡ [] }
     requires right { length right.0.now ≡ 0 → right.1 ≡ [] }
-    ensures { result ≡ slice_cmp nat_cmp (left.entry.0.now ++ left.entry.1) (right.entry.0.now ++ right.entry.1) }
+    ensures { result ≡ slice_cmp nat_cmp (left.entry.0.now ++ left.entry.1)
+        (right.entry.0.now ++ right.entry.1) }
 {
     let (mut x, mut lefts) = left;
     let (mut y, mut rights) = right;
-    // Fronts of one length are compared, and are then both passed.
+    // Of both pieces as many bytes are compared as the shorter one has, and are then passed.
     'pieces: loop {
         let n = x.len().min(y.len());
         if n == 0 {
@@ -76,7 +77,7 @@ pub fn order_of_pieces<'a>(left: (&'a [u8], Pieces<'a>), right: (&'a [u8], Piece
         }
         let (front, rest) = x.split_at(n);
         let (other_front, other_rest) = y.split_at(n);
-        // Mostly they are the same, and that is found faster than where they differ.
+        // Mostly they are the same, which is found faster than where they differ.
         if !are_same(front, other_front) {
             return front.cmp(other_front);
         }

@@ -21,17 +21,20 @@ pub fn copy(alloc: Global, part: &Part<'_>) -> Result<String, AllocError>
     Ok(text)
 }
 
-// Puts a chunk behind the text, by its characters.
+// Puts a chunk behind the text. Its contract speaks of characters, as the chunks of a cursor do.
 fn push_chunk(text: &mut String, chunk: &str) -> Result<(), AllocError>
-    ensures { OnOk result (string_bytes text.new ≡ string_bytes text.old ++ encode_utf8_all (chars chunk.now)) }
+    ensures { OnOk result
+        (string_bytes text.new ≡ string_bytes text.old ++ encode_utf8_all (chars chunk.now)) }
 {
     text.push_str(chunk)
 }
 
 /// Writes the text, chunk by chunk. A width, a fill or a precision has no effect. It takes no memory itself.
 pub fn show<W: fmt::Write>(part: &Part<'_>, f: &mut fmt::Formatter<W>) -> fmt::Result
-    ensures writes { WritesOnOk W.write_str_gives f.old result (encode_utf8_all (text_of part.now)) f.new }
-    ensures styled { WritesStyledOnOk W.write_str_gives f.old result (encode_utf8_all (text_of part.now)) f.new }
+    ensures writes { WritesOnOk W.write_str_gives f.old result
+        (encode_utf8_all (text_of part.now)) f.new }
+    ensures styled { WritesStyledOnOk W.write_str_gives f.old result
+        (encode_utf8_all (text_of part.now)) f.new }
 {
     for chunk in Chunks::new(part) {
         show_chunk(chunk, f)?;
@@ -39,10 +42,12 @@ pub fn show<W: fmt::Write>(part: &Part<'_>, f: &mut fmt::Formatter<W>) -> fmt::R
     Ok(())
 }
 
-// Writes a chunk, by its characters.
+// Writes a chunk. Its contract speaks of characters, as the chunks of a cursor do.
 fn show_chunk<W: fmt::Write>(chunk: &str, f: &mut fmt::Formatter<W>) -> fmt::Result
-    ensures writes { WritesOnOk W.write_str_gives f.old result (encode_utf8_all (chars chunk.now)) f.new }
-    ensures styled { WritesStyledOnOk W.write_str_gives f.old result (encode_utf8_all (chars chunk.now)) f.new }
+    ensures writes { WritesOnOk W.write_str_gives f.old result
+        (encode_utf8_all (chars chunk.now)) f.new }
+    ensures styled { WritesStyledOnOk W.write_str_gives f.old result
+        (encode_utf8_all (chars chunk.now)) f.new }
 {
     f.write_str(chunk)
 }

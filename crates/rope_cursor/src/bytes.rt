@@ -65,10 +65,10 @@ impl<'a> Bytes<'a> {
         }
     }
 
-    // One byte to the left, or to the right. Expanded where it is called, by a constant: mostly it stays in the chunk, and a call
-    // costs more.
+    // One byte to the left, or to the right.
     fn step(&mut self, is_left: bool) -> Option<u8>
-        ensures { MatchBool is_left (GoesLeft (λ x. x) self.old result self.new) (GoesRight (λ x. x) self.old result self.new) }
+        ensures { MatchBool is_left (GoesLeft (λ x. x) self.old result self.new)
+            (GoesRight (λ x. x) self.old result self.new) }
     {
         if self.at == end_of(self.chunk.len(), is_left) {
             if end_of(self.total, is_left) == self.before + self.at {

@@ -62,7 +62,7 @@ impl<'a> Chars<'a> {
         }
     }
 
-    // One character to the right. Expanded where it is called: mostly it stays in the chunk, and a call costs as much.
+    // One character to the right. Inlined: mostly it stays in the chunk, and a call costs as much.
     #[inline(always)]
     fn right(&mut self) -> Option<char>
         ensures { GoesRight (λ x. x) self.old result self.new }

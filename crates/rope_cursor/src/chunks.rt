@@ -51,12 +51,11 @@ impl<'a> Chunks<'a> {
 
     /// A cursor before the chunk that holds a byte or a character, facing forward; at the end of the text past the last chunk.
     /// With it the bytes, the characters and the line breaks of the text before its place.
-    // Expanded where it is called, by a constant: a way is half a kilobyte, and is then moved once less.
     pub fn at(part: &Part<'a>, unit: Unit, idx: usize) -> (Chunks<'a>, usize, usize, usize)
         requires unit { IsItem unit }
         requires within { idx ≤ size_in unit (text_of part.now) }
-        ensures stands { StandsAt (breaks_of part.now) (chunks_of part.now) (chunk_place unit (chunks_of part.now) idx)
-            result.0 result.1 result.2 result.3 }
+        ensures stands { StandsAt (breaks_of part.now) (chunks_of part.now)
+            (chunk_place unit (chunks_of part.now) idx) result.0 result.1 result.2 result.3 }
         ensures cut { IsCutting (text_of part.now) (chunks_of part.now) }
     {
         let info = part.info();
@@ -76,7 +75,8 @@ impl<'a> Chunks<'a> {
 
     // One chunk to the right, or to the left.
     fn step(&mut self, is_left: bool) -> Option<&'a str>
-        ensures { MatchBool is_left (GoesLeft (λ x. chars x.now) self.old result self.new) (GoesRight (λ x. chars x.now) self.old result self.new) }
+        ensures { MatchBool is_left (GoesLeft (λ x. chars x.now) self.old result self.new)
+            (GoesRight (λ x. chars x.now) self.old result self.new) }
     {
         if self.is_empty {
             return None;
@@ -88,7 +88,7 @@ impl<'a> Chunks<'a> {
         Some(self.span.chunk())
     }
 
-    /// The item behind, to which it steps back; or none at that end, where it stays.
+    /// The chunk behind, to which it steps back; or none at that end, where it stays.
     pub fn prev(&mut self) -> Option<&'a str>
         ensures { StepsBack (λ x. chars x.now) self.old result self.new }
     {

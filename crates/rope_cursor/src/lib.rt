@@ -14,5 +14,4 @@ mod point;
 pub use bytes::Bytes;
 pub use chars::Chars;
 pub use chunks::Chunks;
-pub use lines::Lines;
 pub use pieces::Pieces;

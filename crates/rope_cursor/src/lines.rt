@@ -92,11 +92,12 @@ impl<'a, T: OfPart<'a>> Lines<'a, T> {
         }
     }
 
-    // One line to the left, or to the right. Expanded where it is called, so that of the part only what is asked for is worked out;
-    // the text is read in a call.
+    // One line to the left, or to the right. Inlined, so that of the part only what the caller asks for is worked out; the text is
+    // read in a call.
     #[inline(always)]
     fn step(&mut self, is_left: bool) -> Option<Part<'a>>
-        ensures { MatchBool is_left (GoesLeft (λ x. content_of x) self.old result self.new) (GoesRight (λ x. content_of x) self.old result self.new) }
+        ensures { MatchBool is_left (GoesLeft (λ x. content_of x) self.old result self.new)
+            (GoesRight (λ x. content_of x) self.old result self.new) }
     {
         if self.line == end_of(self.total, is_left) {
             return None;
@@ -154,7 +155,7 @@ impl<'a, T: OfPart<'a>> Iterator for Lines<'a, T> {
         Some(T::of_part(self.step(self.is_backward)?))
     }
 
-    /// How many lines are still to come, twice.
+    /// How many lines it still gives, which is exact.
     fn size_hint(&self) -> (usize, Option<usize>)
         ensures { CountsAhead self.now result.0 result.1 }
     {
@@ -163,7 +164,7 @@ impl<'a, T: OfPart<'a>> Iterator for Lines<'a, T> {
 }
 
 impl<'a, T: OfPart<'a>> ExactSizeIterator for Lines<'a, T> {
-    /// How many lines are still to come.
+    /// How many lines it still gives.
     fn len(&self) -> usize {
         let left = self.total - self.line;
         if self.is_backward { self.line } else { left }
@@ -187,7 +188,7 @@ impl<'a, T> Clone for Lines<'a, T> {
 struct Gap<'a> {
     span: Span<'a>,
     inside: usize,
-    // where a step backward looks first: so many bytes before the place, or `NEAR_BYTES`
+    // in how many bytes before the place a step backward looks first, but in no fewer than `NEAR_BYTES`
     near: usize,
 }
 
@@ -206,7 +207,8 @@ impl<'a> Model for Gap<'a> {
 #[inline(never)]
 fn pass_chunks(span: &mut Span<'_>, breaks: LineBreaks) -> (usize, TextInfo)
     requires { AreChunks span.old }
-    ensures { PassesLine breaks (concat span.old.before ++ span.old.here) (concat span.old.after) span.new result.0 result.1 }
+    ensures { PassesLine breaks (concat span.old.before ++ span.old.here) (concat span.old.after)
+        span.new result.0 result.1 }
 {
     let mut passed = TextInfo::new();
     while span.step(false) {
@@ -219,16 +221,16 @@ fn pass_chunks(span: &mut Span<'_>, breaks: LineBreaks) -> (usize, TextInfo)
     (byte_len_of(span.chunk()), passed)
 }
 
-// Where the last line of a text is looked for first: so many bytes before its end at the least.
+// The last line of a text is looked for first in at least so many bytes before its end.
 const NEAR_BYTES: usize = 64;
 
-// And so many at the most, however long the line was that was found last.
+// And in at most so many, however long the line was that was found before.
 const FAR_BYTES: usize = 256;
 
-// The byte at which the last line of a text's front starts, or the one so many line breaks before it, and the counts from there
-// on. It is looked for in so many bytes before the front's end, and then in `times` as many, until it is found: so a line costs
-// its own length, however long the text is before it. What follows the front helps to count, since whole blocks are counted at
-// once.
+// The byte at which the last line of a text's front starts, or the one `skip` lines before it, and the counts from there to the
+// front's end, which is the byte `end`. It is looked for in the last `first` bytes of the front, and then in `times` as many, until
+// it is found: so a line costs its own length, however long the text before it is. The text behind the front is passed in, too,
+// since it fills the blocks that are counted at once.
 fn count_last(
     text: &str,
     end: usize,
@@ -238,16 +240,15 @@ fn count_last(
     breaks: LineBreaks,
 ) -> (usize, TextInfo)
     requires between { IsBetween (chars text.now) end }
-    requires apart { parts_crlf (before_byte (chars text.now) end) (after_byte (chars text.now) end) ≡ false }
+    requires apart { parts_crlf (before_byte (chars text.now) end) (after_byte (chars text.now) end)
+        ≡ false }
     requires more { 1 < times }
     ensures start { result.0 ≡ last_line_byte breaks (chars text.now) end skip }
     ensures counts { result.1 ≡ last_line_info breaks (chars text.now) end skip }
 {
-    // a proof needs how long a text in memory may be
-    let _ = byte_len_of(text);
     let mut back = first.max(NEAR_BYTES);
     loop {
-        // so many bytes before the end or more, in no CR LF
+        // the last `back` bytes of the front, or a few more, so that no character and no CR LF is cut
         let cut = prev_break(end.saturating_sub(back), text.as_bytes());
         let near = &text[cut..];
         let len = end - cut;
@@ -257,7 +258,7 @@ fn count_last(
             continue;
         }
         let skip = skip.min(break_count);
-        // mostly it is the second line, since so little text is looked at
+        // in so little text it mostly is the second line
         let line_idx = break_count - skip;
         let start = if line_idx == 1 {
             TextInfo::of_first_line(near, breaks).bytes
@@ -279,14 +280,15 @@ fn count_last(
 // From the start of a chunk back to the start of a line: the place in the last chunk, and the counts of what was passed.
 fn pass_chunks_back(span: &mut Span<'_>, skip: usize, breaks: LineBreaks) -> (usize, TextInfo)
     requires { AreChunks span.old }
-    ensures { PassesBack breaks skip (concat span.old.before) (span.old.here ++ concat span.old.after) span.new result.0 result.1 }
+    ensures { PassesBack breaks skip (concat span.old.before)
+        (span.old.here ++ concat span.old.after) span.new result.0 result.1 }
 {
     let mut passed = TextInfo::new();
     let mut left = skip;
     while span.step(true) {
         let chunk = span.chunk();
         let end = byte_len_of(chunk);
-        // near its end, and then in all of it
+        // first near the chunk's end, and then in all of it
         let (start, more) = count_last(chunk, end, NEAR_BYTES, MAX_BYTES, left, breaks);
         passed = more.plus(passed);
         if start > 0 {
@@ -315,19 +317,23 @@ impl<'a> Gap<'a> {
         first.plus(more)
     }
 
-    // Goes back past so many line breaks, and on to the end of the one before, or to the start. Answers the counts of what it
-    // passed. It is in no CR LF.
+    // Goes back past `skip` line breaks, and on to the end of the one before them, or to the start. Answers the counts of what it
+    // passed. The place is in no CR LF.
     #[inline(never)]
     fn pass_line_back(&mut self, skip: usize, breaks: LineBreaks) -> TextInfo
         requires { parts_crlf self.old.front self.old.back ≡ false }
-        ensures front { self.new.front ≡ take (last_start breaks self.old.front skip) self.old.front }
-        ensures back { self.new.back ≡ drop (last_start breaks self.old.front skip) self.old.front ++ self.old.back }
-        ensures counts { result ≡ info_of breaks (drop (last_start breaks self.old.front skip) self.old.front) }
+        ensures front { self.new.front
+            ≡ take (last_start breaks self.old.front skip) self.old.front }
+        ensures back { self.new.back
+            ≡ drop (last_start breaks self.old.front skip) self.old.front ++ self.old.back }
+        ensures counts { result
+            ≡ info_of breaks (drop (last_start breaks self.old.front skip) self.old.front) }
     {
         let (start, last) = count_last(self.span.chunk(), self.inside, self.near, 2, skip, breaks);
         if start > 0 {
             self.inside = start;
-            // lines mostly are of much the same length: so the next is looked for a quarter more behind, and a break before it
+            // neighbouring lines are mostly of much the same length: the next one is looked for in a quarter more, and a few bytes
+            // for its break
             let most = last.bytes.min(FAR_BYTES);
             self.near = (most + most / 4 + 8).min(FAR_BYTES);
             return last;

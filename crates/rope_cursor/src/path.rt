@@ -10,7 +10,7 @@ ghost use Rattle.rope_text.specs.Text.{byte_len};
 ghost use Rattle.rope_text.specs.TextInfo.{info_of};
 ghost use Rattle.rope_tree.specs.Search.{count_of};
 ghost use Rattle.rope_tree.specs.Leaves.{AreLeaves};
-ghost use Rattle.rope_tree.specs.Tree.{text};
+ghost use Rattle.rope_tree.specs.Tree.{IsTree, text};
 ghost use Rattle.rope_part.specs.Part.{content_of, text_of, chunks_of, breaks_of};
 ghost use Rattle.rope_cursor.specs.Path.{before_of, beyond, around, place_of, AreFrames, LeadsTo, IsLow, IsBeside, IsLast, HoldsPlace, leaves, leaves_below};
 ghost use Rattle.rope_cursor.specs.Starts.{IsItem, IsHolding, size_in};
@@ -30,7 +30,7 @@ struct Frame<'a> {
 
 /// A way to a leaf, seen as the leaves before it, the leaf, and the leaves after it.
 #[derive(Drop)]
-pub struct Path<'a> {
+pub(crate) struct Path<'a> {
     leaf: &'a str,
     depth: usize,
     frames: [Frame<'a>; MAX_HEIGHT],
@@ -45,19 +45,20 @@ impl<'a> Model for Path<'a> {
 
     ghost view = { λ a. place_of a.frames a.depth (chars a.leaf.now) };
 
-    ghost invariant = { λ a. AreFrames a.frames a.depth (around a.frames a.depth (chars a.leaf.now ∷ [])) };
+    ghost invariant = { λ a.
+        AreFrames a.frames a.depth (around a.frames a.depth (chars a.leaf.now ∷ [])) };
 }
 
-// Whether all nodes are leaves, as far as their heads show. A walk comes to one after the other, and would wait for memory at
-// each: here what it will read of their heads is read side by side, so that their waits are one. No leaf below another node is
-// empty; its bytes are asked for so that they are read too.
+// Whether all nodes are leaves with bytes. A walk comes to one after the other, and would wait for memory at each: here what it
+// will read of their heads is read side by side, so that their waits are one. No leaf below another node is empty: its bytes are
+// asked for only so that they are read here, too.
 fn are_leaves(nodes: &[Node]) -> bool
     ensures { OnTrue result (All (λ rc. rc.height ≡ 0) nodes.now) }
 {
     nodes.iter().all(|node| matches!(node.view(), View::Leaf(_)) && node.info().bytes > 0)
 }
 
-// The text of a node with no levels below it. What it is, is asked again, of what has been read just before.
+// The text of a node with no levels below it.
 pub(crate) fn lowest_text(node: &Node) -> &str
     requires { IsLow node.now 0 }
     ensures { node.now.leaves ≡ chars result.now ∷ [] }
@@ -78,8 +79,10 @@ fn enter<'a>(
 ) -> (usize, &'a str)
     requires frames { AreFrames frames.old level (around frames.old level node.now.leaves) }
     requires low { IsLow node.now (MAX_HEIGHT - level) }
-    ensures leads { LeadsTo frames.new result.0 (chars result.1.now) (around frames.old level node.now.leaves) }
-    ensures behind { beyond (not is_backward) (take result.0 frames.new) ≡ beyond (not is_backward) (take level frames.old) }
+    ensures leads { LeadsTo frames.new result.0 (chars result.1.now)
+        (around frames.old level node.now.leaves) }
+    ensures behind { beyond (not is_backward) (take result.0 frames.new)
+        ≡ beyond (not is_backward) (take level frames.old) }
 {
     match node.view() {
         View::Leaf(leaf) => (level, leaf.as_str()),
@@ -108,12 +111,14 @@ fn enter_at<'a>(
     requires frames { AreFrames frames.old level (around frames.old level node.now.leaves) }
     requires low { IsLow node.now (MAX_HEIGHT - level) }
     requires within { idx < count_of unit (info_of node.now.breaks (text node.now)) }
-    requires before { before ≡ info_of node.now.breaks (concat (before_of (take level frames.old))) }
+    requires before { before
+        ≡ info_of node.now.breaks (concat (before_of (take level frames.old))) }
     requires leaves { AreLeaves (around frames.old level node.now.leaves) }
     requires fits { byte_len (concat (around frames.old level node.now.leaves)) < 2 ^ 63 }
-    ensures leads { LeadsTo frames.new result.0 (chars result.1.now) (around frames.old level node.now.leaves) }
-    ensures holds { HoldsPlace unit node.now.breaks (count_of unit before + idx) (before_of (take result.0 frames.new))
-        (chars result.1.now) result.2 }
+    ensures leads { LeadsTo frames.new result.0 (chars result.1.now)
+        (around frames.old level node.now.leaves) }
+    ensures holds { HoldsPlace unit node.now.breaks (count_of unit before + idx)
+        (before_of (take result.0 frames.new)) (chars result.1.now) result.2 }
 {
     match node.view() {
         View::Leaf(leaf) => (level, leaf.as_str(), before),
@@ -132,14 +137,15 @@ fn enter_at<'a>(
 impl<'a> Path<'a> {
     /// The way to the leaf that holds a place of a tree's text, and the counts of the text before the leaf. It enters each
     /// node on the way once.
-    // Expanded where it is called, since a call would answer the way through memory.
+    // Inlined, since a call would answer the way through memory.
     #[inline(always)]
-    pub fn at(node: &'a Node, unit: Unit, at: usize) -> (Path<'a>, TextInfo)
+    pub(crate) fn at(node: &'a Node, unit: Unit, at: usize) -> (Path<'a>, TextInfo)
         requires { at < count_of unit (info_of node.now.breaks (text node.now)) }
         ensures leaves { leaves result.0 ≡ node.now.leaves }
         ensures holds { HoldsPlace unit node.now.breaks at result.0.before result.0.here result.1 }
+        ensures tree { IsTree node.now }
     {
-        // a proof needs what `height` says of every node: how high it may be
+        // For the proof: `height` says that the tree has at most as many levels as there are frames, and what callers need of it.
         let _ = node.height();
         let mut path = Path::text("");
         let (depth, leaf, before) = enter_at(&mut path.frames, 0, node, TextInfo::new(), unit, at);
@@ -149,7 +155,7 @@ impl<'a> Path<'a> {
     }
 
     /// A text as the only leaf.
-    pub fn text(text: &'a str) -> Path<'a>
+    pub(crate) fn text(text: &'a str) -> Path<'a>
         ensures before { result.before ≡ [] }
         ensures here { result.here ≡ chars text.now }
         ensures after { result.after ≡ [] }
@@ -162,15 +168,14 @@ impl<'a> Path<'a> {
     }
 
     /// The text of the leaf.
-    pub fn leaf(&self) -> &'a str
+    pub(crate) fn leaf(&self) -> &'a str
         ensures { chars result.now ≡ self.now.here }
     {
         self.leaf
     }
 
     /// Goes to the next leaf, or backward to the one before. Answers whether there is one; else it stays.
-    // Expanded where it is called, where it is known which way it goes: so no step asks for it at each frame.
-    pub fn step(&mut self, is_backward: bool) -> bool
+    pub(crate) fn step(&mut self, is_backward: bool) -> bool
         ensures moved { OnTrue result (IsBeside is_backward self.old self.new) }
         ensures stays { OnFalse result (self.new ≡ self.old) }
         ensures ended { OnFalse result (IsLast is_backward self.old) }
@@ -188,8 +193,8 @@ impl<'a> Path<'a> {
                 let at = if is_backward { at - 1 } else { at + 1 };
                 frames[level] = Frame { nodes, at };
                 let child: &Node = &nodes[at];
-                // Most nodes that a step comes to are leaves. These are taken here: what `enter` answers comes through memory, and
-                // has to be waited for.
+                // Most nodes that a step comes to are leaves, and are taken here: what `enter` answers comes through memory, and has
+                // to be waited for.
                 if let View::Leaf(leaf) = child.view() {
                     self.depth = level + 1;
                     self.leaf = leaf.as_str();
@@ -204,8 +209,8 @@ impl<'a> Path<'a> {
         false
     }
 
-    /// Goes to the last leaf under the node right over its own, and answers the leaves that it passes and that one: so that who
-    /// only goes forward takes them from there. Where some are no leaves, it answers none and stays.
+    /// Goes to the last leaf under the node right over its own. Answers that leaf and those that it passed on the way, so that a
+    /// walk that only goes forward takes them from there. Where some of these are no leaves, it answers none and stays.
     pub(crate) fn pass_siblings(&mut self) -> &'a [Node]
         ensures leaves { All (λ rc. IsLow rc 0) result.now }
         ensures ahead { self.old.after ≡ leaves_below result.now ++ self.new.after }
@@ -231,7 +236,7 @@ impl<'a> Path<'a> {
 
 /// A chunk of a part, seen as the chunks before it, the chunk, and the chunks after it.
 #[derive(Drop)]
-pub struct Span<'a> {
+pub(crate) struct Span<'a> {
     path: Path<'a>,
     // the bytes of the text before the leaf, of which the chunk is a part
     at: usize,
@@ -254,9 +259,13 @@ impl<'a> Model for Span<'a> {
 impl<'a> Span<'a> {
     /// The chunk of a part that holds a byte or a character; at the end of the text the last chunk. With it the bytes, the
     /// characters and the line breaks of the text before it. An empty part has no chunk: then it is the empty text.
-    // Expanded where it is called, by a constant: a way is half a kilobyte, and is then moved once less.
+    // Inlined: a way is half a kilobyte, and is then moved once less.
     #[inline(always)]
-    pub fn holding(part: &Part<'a>, unit: Unit, idx: usize) -> (Span<'a>, usize, usize, usize)
+    pub(crate) fn holding(
+        part: &Part<'a>,
+        unit: Unit,
+        idx: usize,
+    ) -> (Span<'a>, usize, usize, usize)
         requires unit { IsItem unit }
         requires within { idx ≤ size_in unit (text_of part.now) }
         ensures { IsHolding unit idx (content_of part.now) result.0 result.1 result.2 result.3 }
@@ -284,19 +293,20 @@ impl<'a> Span<'a> {
     }
 
     /// The chunk of a part that holds a character, and the byte of the chunk at which that character starts. At the end of the
-    /// text it is the last chunk, and its end. An empty part has no chunk: then it is the empty text. The part's counts are handed
-    /// in by who has them.
-    // Expanded where it is called: a way is half a kilobyte, and is then moved once less. Of a narrow text, which has as many
-    // bytes as characters, nothing is read: no byte of it has to be waited for.
+    /// text it is the last chunk, and its end. An empty part has no chunk: then it is the empty text. The caller has the part's
+    /// counts, and passes them in.
+    // Inlined: a way is half a kilobyte, and is then moved once less. Of a narrow text, which has as many bytes as characters,
+    // nothing is read: no byte of it has to be waited for.
     #[inline(always)]
-    pub fn at(part: &Part<'a>, info: TextInfo, char_idx: usize) -> (Span<'a>, usize)
+    pub(crate) fn at(part: &Part<'a>, info: TextInfo, char_idx: usize) -> (Span<'a>, usize)
         requires info { info ≡ info_of (breaks_of part.now) (text_of part.now) }
         requires within { char_idx ≤ length (text_of part.now) }
         ensures text { concat (leaves result.0) ≡ text_of part.now }
         ensures chunks { 0 < length (text_of part.now) → leaves result.0 ≡ chunks_of part.now }
         ensures starts { length (concat result.0.before) ≤ char_idx }
         ensures within { char_idx ≤ length (concat result.0.before) + length result.0.here }
-        ensures byte { result.1 ≡ char_to_byte result.0.here (char_idx - length (concat result.0.before)) }
+        ensures byte { result.1
+            ≡ char_to_byte result.0.here (char_idx - length (concat result.0.before)) }
     {
         let (span, _, chars, _) = Span::holding(part, Unit::Char, char_idx);
         let within = char_idx - chars;
@@ -308,9 +318,8 @@ impl<'a> Span<'a> {
         (span, byte)
     }
 
-    /// The same way.
-    // Expanded where it is called, since a call would be told where the way lies.
-    pub fn copy(&self) -> Span<'a>
+    /// The same chunk, with a way of its own.
+    pub(crate) fn copy(&self) -> Span<'a>
         ensures { result ≡ self.now }
     {
         let path = Path { ..self.path };
@@ -318,7 +327,7 @@ impl<'a> Span<'a> {
     }
 
     /// The chunk.
-    pub fn chunk(&self) -> &'a str
+    pub(crate) fn chunk(&self) -> &'a str
         ensures { chars result.now ≡ self.now.here }
     {
         let leaf = self.path.leaf();
@@ -328,7 +337,7 @@ impl<'a> Span<'a> {
     }
 
     /// Goes to the next chunk, or backward to the one before. Answers whether there is one; else it stays.
-    pub fn step(&mut self, is_backward: bool) -> bool
+    pub(crate) fn step(&mut self, is_backward: bool) -> bool
         ensures moved { OnTrue result (IsBeside is_backward self.old self.new) }
         ensures stays { OnFalse result (self.new ≡ self.old) }
         ensures ended { OnFalse result (IsLast is_backward self.old) }

@@ -10,15 +10,18 @@ use rope_text::MAX_BYTES;
 use rope_tree::{Node, Unit};
 use std::marker::Model;
 
-// Of so many bytes it pays to read the heads of more leaves than the next one side by side; of fewer most may not be needed.
+// With so many bytes ahead it pays to read the heads of all leaves under a node side by side; with fewer, most of them may not be
+// needed.
 const MANY_BYTES: usize = 8 * MAX_BYTES;
 
-// Goes on to the leaf after a path, and, on a way that goes far, past those beside it, whose heads are all read then. Answers
-// the leaf and these. Never inlined: a step mostly takes one of the siblings, and is kept short.
+// Goes on to the leaf after a path. Where many bytes are ahead, it goes on past the leaves behind that one under the same node, and
+// all their heads are read. Answers the leaf, and those that it passed. Never inlined: a step mostly takes one of these, and is to
+// stay short.
 #[inline(never)]
 fn leave_node<'a>(path: &mut Path<'a>, is_far: bool) -> Option<(&'a str, &'a [Node])>
     ensures leaves { IfSome result (λ found. All (λ rc. IsLow rc 0) found.1.now) }
-    ensures some { IfSome result (λ found. path.old.after ≡ chars found.0.now ∷ (leaves_below found.1.now ++ path.new.after)) }
+    ensures some { IfSome result (λ found.
+        path.old.after ≡ chars found.0.now ∷ (leaves_below found.1.now ++ path.new.after)) }
     ensures none { IfNone result ((path.old.after ≡ []) × (path.new ≡ path.old)) }
 {
     if !path.step(false) {
@@ -31,8 +34,8 @@ fn leave_node<'a>(path: &mut Path<'a>, is_far: bool) -> Option<(&'a str, &'a [No
 
 /// The bytes of a part from a place on, in pieces as the leaves hold them, forward only.
 ///
-/// The leaves under one node are taken from the list of its children, one after the other: the path, which could turn round at any
-/// leaf, goes a step only where they end. Nothing is read before the next piece is asked for.
+/// The leaves under one node are taken from the list of its children, one after the other: the path, by which a cursor could turn
+/// round at any leaf, goes a step only where they end. Nothing is read before the next piece is asked for.
 #[derive(Drop)]
 pub struct Pieces<'a> {
     path: Path<'a>,
@@ -63,8 +66,6 @@ impl<'a> Pieces<'a> {
     {
         match part {
             Part::InTree(stretch) => {
-                // a proof needs what `height` says of every node: no leaf is empty
-                let _ = stretch.node.height();
                 let start = stretch.start.bytes;
                 let size = stretch.end.bytes - start;
                 let (path, before) = Path::at(stretch.node, Unit::Byte, start);

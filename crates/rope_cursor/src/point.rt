@@ -6,14 +6,14 @@ ghost use Rattle.rope_cursor.specs.Point.{IsChunkAt, IsCharBetween};
 
 use crate::path::Span;
 
-// The end of so many places, to the left or to the right.
+// Where a walk over so many items ends, to the left or to the right.
 pub(crate) fn end_of(count: usize, is_left: bool) -> usize
     ensures { result ≡ if is_left then 0 else count }
 {
     if is_left { 0 } else { count }
 }
 
-// Goes to the chunk beside a span's, of a span that is moved in and moved out: no call is told where the span lies.
+// Goes to the chunk beside a span's own. The span is moved in and out, so that no call is told where the caller's lies.
 #[inline(never)]
 fn chunk_beside<'a>(mut span: Span<'a>, is_left: bool) -> (Span<'a>, Option<&'a str>)
     ensures moved { IfSome result.1 (λ chunk. IsBeside is_left span.entry result.0) }

@@ -14,8 +14,9 @@ pub trait Mark {
     /// Whether the mark is set.
     ghost marked: { Self → Bool };
 
-    /// The kind in which the last read or write failed since the mark was last cleared. There is none where it didn't
-    /// fail, and none where nothing was read or written since. A write that takes no byte of some fails as `WriteZero`.
+    /// How the last read or write failed since the mark was last cleared, as the kind of its error. There is none where it
+    /// didn't fail, and none where nothing was read or written since. A write that is given bytes and takes none fails as
+    /// `WriteZero`.
     ghost failure: { Self → Option ErrorKind };
 
     /// How many reads and writes have failed. It is never cleared, and stops at `u64::MAX`.
@@ -51,7 +52,8 @@ pub trait Source: Mark {
         ensures ok { OnOk result (Self.marked self.new ≡ Self.marked self.old) }
         ensures err { OnErr result (Self.marked self.new ≡ true) }
         ensures failure { Self.failure self.new ≡ failure_of result }
-        ensures failures { Self.failures self.new ≡ count_failure (failure_of result) (Self.failures self.old) };
+        ensures failures { Self.failures self.new
+            ≡ count_failure (failure_of result) (Self.failures self.old) };
 
     ghost cleared_remaining: { (s : Self) → remaining (Self.cleared s) ≡ remaining s };
 }
@@ -61,16 +63,18 @@ pub trait Sink: Mark {
     /// The bytes that it holds, where they are known.
     ghost contents: { Self → Option (List ℕ) };
 
-    /// Writes and answers as `Write::write` does. It sets the mark exactly where it answers an error or takes no byte
-    /// of some, and else leaves it.
+    /// Writes and answers as `Write::write` does. It sets the mark exactly where it answers an error, or is given bytes and
+    /// takes none; else it leaves it.
     fn give(&mut self, buf: &[u8]) -> io::Result<usize>
         ensures bound { WritesAtMost result buf.now }
         ensures bytes { WriteAppends (contents self.old) (contents self.new) result buf.now }
-        ensures ok { IfOk result (λ n. (0 < n) ⊎ (length buf.now ≡ 0) → Self.marked self.new ≡ Self.marked self.old) }
+        ensures ok { IfOk result (λ n.
+            (0 < n) ⊎ (length buf.now ≡ 0) → Self.marked self.new ≡ Self.marked self.old) }
         ensures none { IfOk result (λ n. n ≡ 0 → 0 < length buf.now → Self.marked self.new ≡ true) }
         ensures err { OnErr result (Self.marked self.new ≡ true) }
         ensures failure { Self.failure self.new ≡ write_failure result buf.now }
-        ensures failures { Self.failures self.new ≡ count_failure (write_failure result buf.now) (Self.failures self.old) };
+        ensures failures { Self.failures self.new
+            ≡ count_failure (write_failure result buf.now) (Self.failures self.old) };
 
     ghost cleared_contents: { (s : Self) → contents (Self.cleared s) ≡ contents s };
 }
@@ -112,7 +116,8 @@ impl<T> Watched<T> {
         ensures inner { watched_inner self.new ≡ watched_inner self.old }
         ensures failed { watched_failed self.new ≡ true }
         ensures failure { watched_failure self.new ≡ Some kind }
-        ensures failures { watched_failures self.new ≡ count_failure (Some kind) (watched_failures self.old) }
+        ensures failures { watched_failures self.new
+            ≡ count_failure (Some kind) (watched_failures self.old) }
     {
         self.failed = true;
         self.failure = Some(kind);

@@ -11,7 +11,7 @@ use std::{fmt, io};
 pub enum ReadError {
     /// The reader failed, with this error.
     Read(io::Error),
-    /// The bytes are no UTF-8.
+    /// The bytes are not UTF-8.
     InvalidData,
     /// The text would be too long, or memory was refused.
     Rope(Error),

@@ -15,7 +15,7 @@ use rope_text::{BUFFER_BYTES, Error, LineBreaks, MAX_TEXT_BYTES, Result};
 use rope_tree::{Builder, Maker, Node};
 use std::alloc::Global;
 
-/// Puts a text behind those that were passed in. It takes memory, and an empty text none.
+/// Puts a text behind those that were passed in. It takes memory, but none for an empty text.
 ///
 /// # Errors
 ///
@@ -23,11 +23,13 @@ use std::alloc::Global;
 pub fn append(builder: &mut Builder, text: &str) -> Result<()>
     ensures ok { OnOk result ((size_error (byte_len builder.old.text + length text.now) ≡ None)
         × (builder.new.text ≡ builder.old.text ++ chars text.now)) }
-    ensures text { OnOk result (encode_utf8_all builder.new.text ≡ encode_utf8_all builder.old.text ++ text.now) }
+    ensures text { OnOk result
+        (encode_utf8_all builder.new.text ≡ encode_utf8_all builder.old.text ++ text.now) }
     ensures empty { length text.now ≡ 0 → IsOk result }
     ensures fits { OnOk result (byte_len builder.new.text < 2 ^ 63) }
     ensures breaks { builder.new.breaks ≡ builder.old.breaks }
-    ensures refused { IfErr result (IsRefusal (size_error (byte_len builder.old.text + length text.now))) }
+    ensures refused { IfErr result
+        (IsRefusal (size_error (byte_len builder.old.text + length text.now))) }
 {
     if text.len() > MAX_TEXT_BYTES - builder.len_bytes() {
         return Err(Error::TooLong);
@@ -45,8 +47,8 @@ fn settle(builder: &mut Builder, buffer: &mut [u8], filled: usize) -> Result<usi
         ≡ encode_utf8_all builder.old.text ++ text_front (take filled buffer.old)) }
     ensures fits { OnOk result (byte_len builder.new.text < 2 ^ 63) }
     ensures breaks { builder.new.breaks ≡ builder.old.breaks }
-    ensures refused { IfErr result
-        (IsRefusal (size_error (byte_len builder.old.text + length (text_front (take filled buffer.old))))) }
+    ensures refused { IfErr result (IsRefusal
+        (size_error (byte_len builder.old.text + length (text_front (take filled buffer.old))))) }
 {
     let bytes = &buffer[..filled];
     let text = match str::from_utf8(bytes) {
@@ -65,7 +67,8 @@ fn read_texts<S: Source>(source: &mut S, builder: &mut Builder) -> ReadResult<()
     requires clear { S.marked source.old ≡ false }
     ensures answer { Reads (λ _. builder.new.text) (S.remaining source.old) (S.remaining source.new)
         (S.marked source.new) result }
-    ensures failure { IsCounted (reader_failure result) (S.failure source.new) (S.failures source.old) (S.failures source.new) }
+    ensures failure { IsCounted (reader_failure result) (S.failure source.new)
+        (S.failures source.old) (S.failures source.new) }
     ensures utf8 { OnOk result (IsUtf8 (encode_utf8_all builder.new.text)) }
     ensures fits { OnOk result (byte_len builder.new.text < 2 ^ 63) }
     ensures breaks { builder.new.breaks ≡ builder.old.breaks }
@@ -90,22 +93,23 @@ fn read_texts<S: Source>(source: &mut S, builder: &mut Builder) -> ReadResult<()
     }
 }
 
-/// Reads a text to the end of the source, as the tree of it with these line breaks, in at most one leaf for each 981
-/// bytes and one for the rest. The mark is cleared first. It takes memory.
+/// Reads a text to the end of the source, and answers its tree with this set of line breaks, which has at most one leaf for
+/// each 981 bytes and one for the rest. The mark is cleared first. It takes memory.
 ///
 /// # Errors
 ///
-/// A failed read is answered at once as `Read`, an interrupted one too, and the source is not called again. Bytes that
-/// are no UTF-8 are answered as `InvalidData`, at the end of the source or once 1,968 bytes have been read from the
-/// first on that is not. A text of more than `isize::MAX` bytes so far, and a refusal of memory, are returned as
-/// `Rope`.
+/// A failed read is answered at once as `Read`, an interrupted one too, and the source is not called again. Bytes that are
+/// not UTF-8 are answered as `InvalidData`, at the end of the source or once 1,968 bytes have been read from the first
+/// wrong one on. A text of more than `isize::MAX` bytes so far, and a refusal of memory, are answered as `Rope`.
 pub fn read_tree<S: Source>(alloc: Global, source: &mut S, breaks: LineBreaks) -> ReadResult<Node>
     ensures answer { Reads (λ node. text node) (S.remaining source.old) (S.remaining source.new)
         (S.marked source.new) result }
-    ensures failure { IsCounted (reader_failure result) (S.failure source.new) (S.failures source.old) (S.failures source.new) }
+    ensures failure { IsCounted (reader_failure result) (S.failure source.new)
+        (S.failures source.old) (S.failures source.new) }
     ensures breaks { IfOk result (λ node. node.breaks ≡ breaks) }
     ensures tree { IfOk result (λ node. IsTree node) }
-    ensures few { IfOk result (λ node. length node.leaves ≤ (byte_len (text node) + (MIN_CUT_BYTES - 1)) / MIN_CUT_BYTES) }
+    ensures few { IfOk result (λ node.
+        length node.leaves ≤ (byte_len (text node) + (MIN_CUT_BYTES - 1)) / MIN_CUT_BYTES) }
 {
     source.clear();
     let mut builder = Builder::new(alloc, breaks);

@@ -19,7 +19,8 @@ fn write_bytes<S: Sink>(sink: &mut S, bytes: &[u8]) -> io::Result<()>
     ensures clear { OnOk result (S.marked sink.new ≡ false) }
     ensures err { OnErr result (S.marked sink.new ≡ true) }
     ensures front { AppendsFront (S.contents sink.old) (S.contents sink.new) bytes.now }
-    ensures failure { IsCounted (failure_of result) (S.failure sink.new) (S.failures sink.old) (S.failures sink.new) }
+    ensures failure { IsCounted (failure_of result) (S.failure sink.new)
+        (S.failures sink.old) (S.failures sink.new) }
 {
     let mut rest = bytes;
     while !rest.is_empty() {
@@ -36,13 +37,16 @@ fn write_bytes<S: Sink>(sink: &mut S, bytes: &[u8]) -> io::Result<()>
 ///
 /// # Errors
 ///
-/// An error of the sink is answered at once, an interrupted write's too, and a write that takes no byte of some is an
-/// error of the kind `WriteZero`. Then a beginning of the text has been written, and the sink is not called again.
+/// An error of the sink is answered at once, an interrupted write's too, and a write that takes none of the bytes that are
+/// left is an error of the kind `WriteZero`. Then a beginning of the text has been written, and the sink is not called again.
 pub fn write_part<S: Sink>(part: &Part<'_>, sink: &mut S) -> io::Result<()>
-    ensures ok { OnOk result (Appends (S.contents sink.old) (S.contents sink.new) (encode_utf8_all (text_of part.now))) }
-    ensures front { AppendsFront (S.contents sink.old) (S.contents sink.new) (encode_utf8_all (text_of part.now)) }
+    ensures ok { OnOk result
+        (Appends (S.contents sink.old) (S.contents sink.new) (encode_utf8_all (text_of part.now))) }
+    ensures front { AppendsFront (S.contents sink.old) (S.contents sink.new)
+        (encode_utf8_all (text_of part.now)) }
     ensures failed { IsErr result ↔ (S.marked sink.new ≡ true) }
-    ensures failure { IsCounted (failure_of result) (S.failure sink.new) (S.failures sink.old) (S.failures sink.new) }
+    ensures failure { IsCounted (failure_of result) (S.failure sink.new)
+        (S.failures sink.old) (S.failures sink.new) }
 {
     sink.clear();
     for chunk in Chunks::new(part) {

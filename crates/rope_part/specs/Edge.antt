@@ -37,8 +37,8 @@ pub record IsStretch (breaks : LineBreaks) (text : List ℕ) (start end : TextIn
   pub end_is : end ≡ end_info breaks text end.chars
 
 -- there is at most one proof of it
-pub IsStretch-prop : (breaks : LineBreaks) (text : List ℕ) (start end : TextInfo) → IsProp (IsStretch breaks text start end)
-IsStretch-prop breaks text start end = hlevel props
+pub IsStretch-prop : {breaks : LineBreaks} {text : List ℕ} {start end : TextInfo} → IsProp (IsStretch breaks text start end)
+IsStretch-prop = hlevel props
 
 pub IsInfo-prop : (breaks : LineBreaks) (text : List ℕ) (info : TextInfo) → IsProp (info ≡ info_of breaks text)
 IsInfo-prop breaks text info = hlevel props

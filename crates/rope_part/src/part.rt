@@ -51,7 +51,7 @@ impl<'a> Part<'a> {
         ensures chunks { chunks_of result ≡ node.now.leaves }
         ensures breaks { breaks_of result ≡ node.now.breaks }
     {
-        // a proof needs what `height` says of every node: no leaf is empty
+        // For the proof: `height` says that no leaf is empty, so the chunks of the whole text are the leaves, and none are cut off.
         let _ = node.height();
         let end = node.info();
         if end.chars == 0 {
@@ -79,7 +79,7 @@ impl<'a> Part<'a> {
         match self {
             Part::InTree(stretch) => stretch.info(),
             Part::Alone(plain) => {
-                // a proof needs how long a text in memory may be
+                // For the proof: `as_bytes` says that a text in memory has at most `isize::MAX` bytes, as every part has.
                 let _ = plain.as_str().as_bytes();
                 plain.info
             }
@@ -129,7 +129,7 @@ impl<'a> Part<'a> {
         ensures start { result.0 ≡ line_info (breaks_of self.now) (text_of self.now) line_idx }
         ensures end { result.1 ≡ line_info (breaks_of self.now) (text_of self.now) (line_idx + 1) }
     {
-        // a proof needs what `info` says of every part: there is a number for the line past the last
+        // For the proof: `info` says that a part has at most `isize::MAX` bytes, so there is a number for the line past the last.
         let _ = self.info();
         match self {
             Part::InTree(stretch) => stretch.around_line(line_idx),
@@ -140,11 +140,13 @@ impl<'a> Part<'a> {
     /// The part between two of its places, by the counts of its text up to them. The first lies in no CR LF.
     #[inline(always)]
     pub fn between(&self, from: TextInfo, to: TextInfo) -> Part<'a>
-        requires from_is { from ≡ info_of (breaks_of self.now) (take from.chars (text_of self.now)) }
+        requires from_is { from
+            ≡ info_of (breaks_of self.now) (take from.chars (text_of self.now)) }
         requires to_is { to ≡ info_of (breaks_of self.now) (take to.chars (text_of self.now)) }
         requires ordered { from.chars ≤ to.chars }
         requires within { to.chars ≤ length (text_of self.now) }
-        requires apart { parts_crlf (take from.chars (text_of self.now)) (drop from.chars (text_of self.now)) ≡ false }
+        requires apart { parts_crlf (take from.chars (text_of self.now))
+            (drop from.chars (text_of self.now)) ≡ false }
         ensures { content_of result ≡ part_between (content_of self.now) from.chars to.chars }
     {
         if from.chars == to.chars {
@@ -153,7 +155,7 @@ impl<'a> Part<'a> {
         match self {
             Part::InTree(stretch) => {
                 let node = stretch.node;
-                // a proof needs what `height` says of every node: how long its text may be
+                // For the proof: `height` says that the tree's text has at most `isize::MAX` bytes, so the sums below fit.
                 let _ = node.height();
                 let start = stretch.start.plus(from);
                 let end = stretch.start.plus(to);
@@ -214,7 +216,6 @@ impl<'a> Part<'a> {
     /// The chunk that holds a byte or a character; at the end of the text the last chunk. Or the one that holds the last character
     /// of a line break, counted from 0. With it the bytes, the characters and the line breaks that end before it. With no chunk it
     /// is `("", 0, 0, 0)`.
-    // Expanded where it is called, by a constant: so each search is that of its unit.
     pub fn chunk_at(&self, unit: Unit, idx: usize) -> (&'a str, usize, usize, usize)
         requires { MayHold unit (breaks_of self.now) (text_of self.now) idx }
         ensures { IsFoundChunk (found_chunk (breaks_of self.now) (chunks_of self.now)
@@ -282,8 +283,8 @@ impl<'a> Part<'a> {
         ensures { result ≡ converted from to (breaks_of self.now) (text_of self.now) idx }
     {
         match self {
-            // The tree's, less what lies before the start. The last line of a part that ends between a CR and its LF starts at
-            // that end, and the tree's behind the LF.
+            // The tree's answer, less what lies before the start. Where a part ends between CR and LF, its last line starts at that
+            // end, while the tree's line starts behind the LF: so the answer is cut at the end.
             Part::InTree(stretch) => {
                 let first = first_sought(from);
                 if idx < first {

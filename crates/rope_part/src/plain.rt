@@ -13,21 +13,21 @@ pub struct Plain<'a> {
     pub text: &'a str,
     pub info: TextInfo,
     pub breaks: LineBreaks,
-    ghost counted: { info ≡ info_of breaks (chars text.now) } by { IsInfo-prop breaks (chars text.now) info },
+    ghost counted: { info ≡ info_of breaks (chars text.now) } by { IsInfo-prop _ _ _ },
 }
 
 impl<'a> Plain<'a> {
     ghost use Rattle.rope_part.specs.Plain.{text_of};
 
     /// The text.
-    pub fn as_str(&self) -> &'a str
+    pub(crate) fn as_str(&self) -> &'a str
         ensures { chars result.now ≡ text_of self.now }
     {
         self.text
     }
 
     /// The counts of the text before a line; past the last line those of all of it.
-    pub fn before_line(&self, line_idx: usize) -> TextInfo
+    pub(crate) fn before_line(&self, line_idx: usize) -> TextInfo
         ensures { result ≡ line_info self.now.breaks (text_of self.now) line_idx }
     {
         let text = self.as_str();

@@ -1,6 +1,7 @@
-//! Characters of a tree's text, one at least.
+//! One character or more of a tree's text.
 ghost use Rattle.std.specs.Prelude.{◌≡◌, ◌+◌, ◌-◌, ◌≤◌, ◌<◌, length, take};
 ghost use Rattle.std.specs.Str.{chars};
+ghost use Rattle.rope_text.specs.declared.TheConstants.{MAX_HEIGHT};
 ghost use Rattle.rope_text.specs.TextInfo.{info_of};
 ghost use Rattle.rope_text.specs.Lines.{line_start, line_count};
 ghost use Rattle.rope_tree.specs.Search.{count_of};
@@ -11,15 +12,16 @@ use rope_text::str_utils::count_surrogates;
 use rope_text::{Steps, TextInfo};
 use rope_tree::{Found, Node, Unit, count, leaf_at};
 
-// The counts of the text before a line that is not the first, and from there on the leaf in which the break before it ends.
+// The counts of the text before a line that is not the first, and what follows there of the leaf in which the break before it ends.
 fn line_start_at(node: &Node, line_idx: usize) -> (TextInfo, &str)
     requires later { 0 < line_idx }
     requires within { line_idx < line_count node.now.breaks (text node.now) }
+    requires low { node.now.height ≤ MAX_HEIGHT }
+    requires tree { IsTree node.now }
     ensures before { result.0 ≡ line_info node.now.breaks (text node.now) line_idx }
-    ensures rest { IsLeafFrom node.now (line_start node.now.breaks (text node.now) line_idx) (chars result.1.now) }
+    ensures rest { IsLeafFrom node.now (line_start node.now.breaks (text node.now) line_idx)
+        (chars result.1.now) }
 {
-    // a proof needs what `height` says of every node
-    let _ = node.height();
     let found = leaf_at(node, Unit::LineBreak, line_idx - 1, &mut Steps::new());
     let leaf = found.leaf.as_str();
     let line = line_idx - found.before.break_count;
@@ -27,50 +29,50 @@ fn line_start_at(node: &Node, line_idx: usize) -> (TextInfo, &str)
     (found.before.plus(front), &leaf[front.bytes..])
 }
 
-/// Characters of a tree's text, one at least. It keeps the counts of the text before their start and before their end, so
+/// One character or more of a tree's text. It keeps the counts of the text before their start and before their end, so
 /// that a length is a difference of two of them, and a conversion is one of the tree's.
 ///
 /// The breaks before the start are those that end there or before it; those before the end are the breaks of the text up to
-/// there by itself. So a CR LF that is cut at either end gives a break to either side.
+/// there by itself. So a CR LF that is cut at an end gives a break to each side.
 #[derive(Clone, Copy)]
 pub struct Stretch<'a> {
     pub node: &'a Node,
     pub start: TextInfo,
     pub end: TextInfo,
-    ghost is_stretch: { IsStretch node.now.breaks (text node.now) start end } by { IsStretch-prop node.now.breaks (text node.now) start end },
+    ghost is_stretch: { IsStretch node.now.breaks (text node.now) start end } by { IsStretch-prop },
 }
 
 impl<'a> Stretch<'a> {
-    ghost use Rattle.rope_text.specs.declared.TheConstants.{MAX_HEIGHT};
     ghost use Rattle.rope_part.specs.Kept.{IsPart};
     ghost use Rattle.rope_part.specs.Stretch.{content_of, text_of, breaks_of};
 
-    /// A place of its text, as one of the tree's. Of lines it may be the one past the last.
+    /// A place in its text as a place in the tree's. For lines it may be the one past the last.
     pub fn place(&self, unit: Unit, idx: usize) -> usize
         requires { idx ≤ count_of unit (info_of (breaks_of self.now) (text_of self.now)) + 1 }
         ensures value { result ≡ count_of unit self.now.start + idx }
         ensures low { self.now.node.now.height ≤ MAX_HEIGHT }
         ensures tree { IsTree self.now.node.now }
     {
-        // a proof needs what `height` says of every node
+        // For the proof: `height` says how high a tree may be and how long its text, so the sum fits; callers need the same.
         let _ = self.node.height();
         count(self.start, unit) + idx
     }
 
     /// The counts of its text.
-    pub fn info(&self) -> TextInfo
+    pub(crate) fn info(&self) -> TextInfo
         ensures value { result ≡ info_of (breaks_of self.now) (text_of self.now) }
         ensures kept { IsPart (content_of self.now) }
     {
-        // a proof needs what `height` says of every node: how long its text may be, and how it is cut
+        // For the proof: `height` says how long the tree's text may be and how it is cut, which holds of each part of it.
         let _ = self.node.height();
         self.end.minus(self.start)
     }
 
-    /// The counts before the start of its part from a character on.
+    /// The `start` of its part from a character on.
     pub(crate) fn start_of(&self, char_idx: usize) -> TextInfo
         requires { char_idx < length (text_of self.now) }
-        ensures { result ≡ start_info self.now.node.now.breaks (text self.now.node.now) (self.now.start.chars + char_idx) }
+        ensures { result ≡ start_info self.now.node.now.breaks (text self.now.node.now)
+            (self.now.start.chars + char_idx) }
     {
         if char_idx == 0 {
             return self.start;
@@ -91,10 +93,11 @@ impl<'a> Stretch<'a> {
         }
     }
 
-    /// The counts before the end of its part up to a character.
+    /// The `end` of its part up to a character.
     pub(crate) fn end_of(&self, char_idx: usize) -> TextInfo
         requires { char_idx ≤ length (text_of self.now) }
-        ensures { result ≡ end_info self.now.node.now.breaks (text self.now.node.now) (self.now.start.chars + char_idx) }
+        ensures { result ≡ end_info self.now.node.now.breaks (text self.now.node.now)
+            (self.now.start.chars + char_idx) }
     {
         let place = self.place(Unit::Char, char_idx);
         if place == self.end.chars {
@@ -111,8 +114,10 @@ impl<'a> Stretch<'a> {
     fn counts_to(&self, place: TextInfo) -> TextInfo
         requires later { self.now.start.chars < place.chars }
         requires within { place.chars ≤ length (text self.now.node.now) }
-        requires counts { place ≡ end_info (breaks_of self.now) (text self.now.node.now) place.chars }
-        ensures { result ≡ info_of (breaks_of self.now) (take (place.chars - self.now.start.chars) (text_of self.now)) }
+        requires counts { place
+            ≡ end_info (breaks_of self.now) (text self.now.node.now) place.chars }
+        ensures { result ≡ info_of (breaks_of self.now)
+            (take (place.chars - self.now.start.chars) (text_of self.now)) }
     {
         if place.chars >= self.end.chars {
             return self.info();
@@ -121,7 +126,7 @@ impl<'a> Stretch<'a> {
     }
 
     /// The counts of its text before a line; past the last line those of all of it.
-    pub fn before_line(&self, line_idx: usize) -> TextInfo
+    pub(crate) fn before_line(&self, line_idx: usize) -> TextInfo
         requires { line_idx ≤ line_count (breaks_of self.now) (text_of self.now) }
         ensures { result ≡ line_info (breaks_of self.now) (text_of self.now) line_idx }
     {
@@ -138,7 +143,7 @@ impl<'a> Stretch<'a> {
 
     /// The counts of its text before a line, and before the next one; past the last line those of all of it. It is one look-up
     /// where the line ends before the leaf does.
-    pub fn around_line(&self, line_idx: usize) -> (TextInfo, TextInfo)
+    pub(crate) fn around_line(&self, line_idx: usize) -> (TextInfo, TextInfo)
         requires { line_idx < line_count (breaks_of self.now) (text_of self.now) }
         ensures start { result.0 ≡ line_info (breaks_of self.now) (text_of self.now) line_idx }
         ensures end { result.1 ≡ line_info (breaks_of self.now) (text_of self.now) (line_idx + 1) }

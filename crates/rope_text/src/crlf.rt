@@ -55,7 +55,8 @@ pub fn next_break(at: usize, text: &[u8]) -> usize
     ensures cut { IsTrue (is_cut text.now result) }
     ensures after { at < length text.now → at < result }
     ensures bound { result ≤ length text.now }
-    ensures nearest { (k : ℕ) → at < k → k ≤ length text.now → IsTrue (is_cut text.now k) → result ≤ k }
+    ensures nearest { (k : ℕ) → at < k → k ≤ length text.now → IsTrue (is_cut text.now k)
+        → result ≤ k }
     ensures not_before { at ≤ result }
 {
     if at == text.len() {
@@ -98,9 +99,9 @@ pub fn nearest_internal_break(at: usize, text: &[u8]) -> usize
     right
 }
 
-/// The cut at `at`, or else the nearest cut before it or after it, before it where `bias_left` says so,
-/// unless no cut inside the text lies on that side: then it is the nearest on the other one, the ends of the text among them.
-/// `at` is at most the length. Reads the bytes around the place; takes no memory.
+/// The place `at` itself, where it may be cut; else the nearest such place before it, if `bias_left`, or after it. Where none inside
+/// the text lies on that side, it is the nearest on the other side, which may be an end of the text. `at` is at most the length.
+/// Reads the bytes around the place; takes no memory.
 pub fn find_good_split(at: usize, text: &[u8], bias_left: bool) -> usize
     requires { at ≤ length text.now }
     ensures boundary { IsUtf8 text.now → IsCharBoundary text.now result }
@@ -109,11 +110,13 @@ pub fn find_good_split(at: usize, text: &[u8], bias_left: bool) -> usize
     ensures exact { IsTrue (is_cut text.now at) → result ≡ at }
     ensures left { IsTrue bias_left → (k : ℕ) → 0 < k → k < at → IsTrue (is_cut text.now k)
         → (k ≤ result) × (result ≤ at) }
-    ensures right { bias_left ≡ false → (k : ℕ) → at < k → k < length text.now → IsTrue (is_cut text.now k)
-        → (at ≤ result) × (result ≤ k) }
+    ensures right { bias_left ≡ false → (k : ℕ) → at < k → k < length text.now
+        → IsTrue (is_cut text.now k) → (at ≤ result) × (result ≤ k) }
     ensures no_left { IsTrue bias_left → ((k : ℕ) → 0 < k → k < at → IsTrue (is_cut text.now k) → ⊥)
-        → (at ≤ result) × ((k : ℕ) → at ≤ k → k ≤ length text.now → IsTrue (is_cut text.now k) → result ≤ k) }
-    ensures no_right { bias_left ≡ false → ((k : ℕ) → at < k → k < length text.now → IsTrue (is_cut text.now k) → ⊥)
+        → (at ≤ result)
+        × ((k : ℕ) → at ≤ k → k ≤ length text.now → IsTrue (is_cut text.now k) → result ≤ k) }
+    ensures no_right { bias_left ≡ false
+        → ((k : ℕ) → at < k → k < length text.now → IsTrue (is_cut text.now k) → ⊥)
         → (result ≤ at) × ((k : ℕ) → k ≤ at → IsTrue (is_cut text.now k) → k ≤ result) }
 {
     if is_break(at, text) {

@@ -1,5 +1,8 @@
 //! Counts over the bytes of a text, 32 bytes at once; over runs of blocks of 64 bytes, what each block counts is added up in 16
 //! lanes, and the lanes are summed once a run.
+//!
+//! Most functions take what they count as an argument, which is a constant at nearly all calls: where the compiler expands such a
+//! call, it keeps the code for that mark alone.
 #![tactic(auto, using(crate::proofs::Blocks::begins_le, crate::proofs::Blocks::pairs_le, crate::proofs::Blocks::byte_break_count_le, crate::proofs::Blocks::marks_le))]
 
 ghost use Rattle.std.specs.Prelude.{◌≡◌, ◌+◌, ◌-◌, ◌*◌, ◌<◌, ◌≤◌, length, cond, count_by, drop, List, ℕ, take};
@@ -13,7 +16,7 @@ use crate::bits::{first_mark, ones_before, ones_between};
 use crate::{LineBreaks, TextInfo, known_set};
 use std::simd::prelude::*;
 
-/// What begins with a byte, and is counted.
+/// What is counted: each begins with one byte.
 #[derive(Clone, Copy)]
 pub(crate) enum Mark {
     /// A character.
@@ -35,11 +38,13 @@ pub(crate) fn ahead(mark: Mark) -> usize
     }
 }
 
-// For each lane 1 where a mark begins with it, a break only where it is below 128, else 0: the lanes `y` are the bytes behind
-// those of `x`. The mark is known where this is expanded.
+// 1 in each lane of `x` with which a mark begins, else 0. The lanes of `y` are the bytes behind those of `x`; of breaks only those
+// are seen that begin below 128.
 fn ones<const N: usize>(x: Simd<u8, N>, y: Simd<u8, N>, mark: Mark) -> Simd<u8, N>
     requires { N ≤ 64 }
-    ensures { (ks : List ℕ) (g h : ℕ → ℕ) → length ks ≡ N → ((k : ℕ) → g k < 256) → IsLanes ks g x.entry → IsLanes ks h y.entry → IsLanes ks (λ k. cond (narrow_mark mark (g k) (h k)) 1 0) result }
+    ensures { (ks : List ℕ) (g h : ℕ → ℕ) → length ks ≡ N → ((k : ℕ) → g k < 256)
+        → IsLanes ks g x.entry → IsLanes ks h y.entry
+        → IsLanes ks (λ k. cond (narrow_mark mark (g k) (h k)) 1 0) result }
 {
     let marks = match mark {
         Mark::Char => x.simd_lt(Simd::splat(0x80)) | x.simd_ge(Simd::splat(0xC0)),
@@ -74,8 +79,8 @@ fn unicode_mask(bytes: &[u8], at: usize) -> u64
     (low | (nel | wide)).to_bitmask()
 }
 
-/// The bytes, of the 32 from `at` on, with which a mark begins: loads one and two bytes on see a break across the end of the
-/// block. The mark is known where this is expanded.
+/// With which of the 32 bytes from `at` on a mark begins. Where a break takes more bytes than one, those behind the block are read
+/// too, since it may go on there.
 pub(crate) fn known_mask(bytes: &[u8], at: usize, mark: Mark) -> u64
     requires { (at + 32) + ahead mark ≤ length bytes.now }
     ensures { IsBlockMask mark bytes.now at result }
@@ -95,7 +100,7 @@ pub(crate) fn known_mask(bytes: &[u8], at: usize, mark: Mark) -> u64
     ones(x, y, mark).simd_eq(u8x32::splat(1)).to_bitmask()
 }
 
-// The masks of two sets are not expanded where they are chosen: the compiler would take all three apart, bit by bit.
+// Never inlined: with the masks of all three sets side by side, the compiler would put the chosen one together bit by bit.
 #[inline(never)]
 fn mask_apart<const HAS_CR: bool>(bytes: &[u8], at: usize) -> u64
     requires { (at + 32) + ahead (Mark.Break (lf_or_cr_lf HAS_CR)) ≤ length bytes.now }
@@ -108,7 +113,7 @@ fn mask_apart<const HAS_CR: bool>(bytes: &[u8], at: usize) -> u64
     }
 }
 
-/// The same mask, where the set of breaks is not known.
+/// The same mask, where the set of breaks is known only as the program runs.
 pub(crate) fn mask(bytes: &[u8], at: usize, mark: Mark) -> u64
     requires { (at + 32) + ahead mark ≤ length bytes.now }
     ensures { IsBlockMask mark bytes.now at result }
@@ -120,7 +125,7 @@ pub(crate) fn mask(bytes: &[u8], at: usize, mark: Mark) -> u64
     }
 }
 
-/// How many marks begin in the 32 bytes from `at` on. The mark is known where this is expanded.
+/// How many marks begin in the 32 bytes from `at` on.
 pub(crate) fn marks_in(bytes: &[u8], at: usize, mark: Mark) -> usize
     requires { (at + 32) + ahead mark ≤ length bytes.now }
     ensures { marks mark (drop at bytes.now) ≡ result + marks mark (drop (at + 32) bytes.now) }
@@ -139,7 +144,7 @@ pub(crate) fn is_mark(bytes: &[u8], at: usize, mark: Mark) -> bool
         Mark::Pair => return x >= 0xF0,
         Mark::Break(breaks) => breaks,
     };
-    // No other byte begins one.
+    // Of the bytes from 0E on, only C2 and E2 begin a break.
     if x >= 0x0E && x != 0xC2 && x != 0xE2 {
         return false;
     }
@@ -168,8 +173,8 @@ fn marks_byte_by_byte(bytes: &[u8], from: usize, to: usize, mark: Mark) -> usize
     total
 }
 
-/// How many marks begin from the byte `from` on and before `to`, at once where they are few: near the end of the bytes by the
-/// last block that can be read, without what it has before `from`.
+/// How many marks begin from the byte `from` on and before `to`. So few bytes as fit into a block are counted at once: near the end
+/// by the last block that can be read, of which what lies before `from` is left out.
 pub(crate) fn marks_between(bytes: &[u8], from: usize, to: usize, mark: Mark) -> usize
     requires from { from ≤ to }
     requires to { to ≤ length bytes.now }
@@ -183,8 +188,8 @@ pub(crate) fn marks_between(bytes: &[u8], from: usize, to: usize, mark: Mark) ->
     marks_byte_by_byte(bytes, from, to, mark)
 }
 
-// A text of so many bytes or more is counted at four places side by side. It comes from far memory: so the waits for the four
-// are one, where a single pass would wait for each in turn.
+// A text of so many bytes or more is counted at four places side by side. It lies in slow memory, and so the waits for the four
+// places pass together, where a single pass would wait for each in turn.
 const LONG_BYTES: usize = 65_536;
 
 // The first whole blocks of a long text, none of a shorter one: their end, and how many marks begin in them.
@@ -210,17 +215,18 @@ fn marks_in_quarters(bytes: &[u8], to: usize, mark: Mark) -> (usize, usize)
     (4 * quarter, first + second + third + fourth)
 }
 
-// The same of breaks, for each set. It stands by itself: expanded where it is called, it would make that too long to be expanded
-// for each set.
+// The same of breaks, for each set. It is a function of its own, since its three copies would make its caller too long to be
+// expanded for each set.
 fn breaks_in_quarters(bytes: &[u8], to: usize, breaks: LineBreaks) -> (usize, usize)
     requires { to ≤ length bytes.now - 2 }
     ensures bound { result.0 ≤ to }
-    ensures counted { byte_break_count breaks bytes.now ≡ result.1 + byte_break_count breaks (drop result.0 bytes.now) }
+    ensures counted { byte_break_count breaks bytes.now
+        ≡ result.1 + byte_break_count breaks (drop result.0 bytes.now) }
 {
     known_set!(breaks => marks_in_quarters(bytes, to, Mark::Break(breaks)))
 }
 
-/// How many marks begin from the byte `from` on and before `to`. The mark is known where this is expanded.
+/// How many marks begin from the byte `from` on and before `to`. Inlined, since each caller's mark is a constant.
 #[inline(always)]
 pub(crate) fn count_marks(bytes: &[u8], from: usize, to: usize, mark: Mark) -> usize
     requires from { from ≤ to }
@@ -238,11 +244,10 @@ pub(crate) fn count_marks(bytes: &[u8], from: usize, to: usize, mark: Mark) -> u
     total + marks_between(bytes, i, to, mark)
 }
 
-/// The blocks of a run at the most: a lane gets four at each, and holds 255.
+/// The most blocks of a run: a lane takes up to four at each of them, and holds 255.
 const BLOCKS: usize = 63;
 
-// For each of the 16 bytes from `at` on, 1 where a mark begins, a break only where it is below 128, else 0. The mark is known
-// where this is expanded.
+// 1 for each of the 16 bytes from `at` on with which a mark begins, a break only where it begins below 128, else 0.
 fn ones_from(bytes: &[u8], at: usize, mark: Mark) -> u8x16
     requires { at + 17 ≤ length bytes.now }
     ensures { IsSum 1 (count_of mark bytes.now at 16) result }
@@ -252,10 +257,11 @@ fn ones_from(bytes: &[u8], at: usize, mark: Mark) -> u8x16
     ones(x, y, mark)
 }
 
-// The 64 bytes from `at` on more.
+// The sums with those of the 64 bytes from `at` on.
 fn add_ones(sums: u8x16, bytes: &[u8], at: usize, mark: Mark) -> u8x16
     requires { at + 65 ≤ length bytes.now }
-    ensures { (most total : ℕ) → most + 4 < 256 → IsSum most total sums → IsSum (most + 4) (total + count_of mark bytes.now at 64) result }
+    ensures { (most total : ℕ) → most + 4 < 256 → IsSum most total sums
+        → IsSum (most + 4) (total + count_of mark bytes.now at 64) result }
 {
     let first = sums + ones_from(bytes, at, mark);
     let second = first + ones_from(bytes, at + 16, mark);
@@ -278,7 +284,7 @@ fn wide_in(bytes: &[u8], at: usize, breaks: LineBreaks) -> usize
     if ahead(Mark::Break(breaks)) < 2 {
         return 0;
     }
-    // C2 and E2.
+    // C2 in each lane where the byte is C2 or E2.
     let lanes = u8x64::from_slice(&bytes[at..]) & u8x64::splat(0xDF);
     let mut begins = lanes.simd_eq(u8x64::splat(0xC2)).to_bitmask();
     let (mut i, mut total) = (at, 0);
@@ -308,9 +314,12 @@ fn count_run(bytes: &[u8], from: usize, to: usize, breaks: LineBreaks) -> TextIn
     requires to { to ≤ length bytes.now - 2 }
     ensures bound { from + result.bytes ≤ to }
     ensures further { from + 64 ≤ to → 64 ≤ result.bytes }
-    ensures chars { count_by begins_char (drop from bytes.now) ≡ result.chars + count_by begins_char (drop (from + result.bytes) bytes.now) }
-    ensures pairs { count_by begins_pair (drop from bytes.now) ≡ result.utf16_surrogates + count_by begins_pair (drop (from + result.bytes) bytes.now) }
-    ensures break_count { byte_break_count breaks (drop from bytes.now) ≡ result.break_count + byte_break_count breaks (drop (from + result.bytes) bytes.now) }
+    ensures chars { count_by begins_char (drop from bytes.now)
+        ≡ result.chars + count_by begins_char (drop (from + result.bytes) bytes.now) }
+    ensures pairs { count_by begins_pair (drop from bytes.now)
+        ≡ result.utf16_surrogates + count_by begins_pair (drop (from + result.bytes) bytes.now) }
+    ensures break_count { byte_break_count breaks (drop from bytes.now)
+        ≡ result.break_count + byte_break_count breaks (drop (from + result.bytes) bytes.now) }
 {
     let size = 64 * ((to - from) / 64).min(BLOCKS);
     let none = u8x16::splat(0);
@@ -338,16 +347,19 @@ fn count_run(bytes: &[u8], from: usize, to: usize, breaks: LineBreaks) -> TextIn
     }
 }
 
-// The counts of whole blocks from `from` on and before `to`, behind which two more bytes are read: fewer bytes than a block are
-/// left. What a caller takes no count of isn't counted, since this is expanded there.
+/// The counts of whole blocks from `from` on and before `to`, behind which two more bytes are read: fewer bytes than a block are
+/// left. Inlined, so that what a caller makes no use of isn't counted.
 #[inline(always)]
 pub(crate) fn count_blocks(bytes: &[u8], from: usize, to: usize, breaks: LineBreaks) -> TextInfo
     requires from { from ≤ to }
     requires to { to ≤ length bytes.now - 2 }
     ensures bound { from + result.bytes ≤ to }
-    ensures chars { count_by begins_char (drop from bytes.now) ≡ result.chars + count_by begins_char (drop (from + result.bytes) bytes.now) }
-    ensures pairs { count_by begins_pair (drop from bytes.now) ≡ result.utf16_surrogates + count_by begins_pair (drop (from + result.bytes) bytes.now) }
-    ensures break_count { byte_break_count breaks (drop from bytes.now) ≡ result.break_count + byte_break_count breaks (drop (from + result.bytes) bytes.now) }
+    ensures chars { count_by begins_char (drop from bytes.now)
+        ≡ result.chars + count_by begins_char (drop (from + result.bytes) bytes.now) }
+    ensures pairs { count_by begins_pair (drop from bytes.now)
+        ≡ result.utf16_surrogates + count_by begins_pair (drop (from + result.bytes) bytes.now) }
+    ensures break_count { byte_break_count breaks (drop from bytes.now)
+        ≡ result.break_count + byte_break_count breaks (drop (from + result.bytes) bytes.now) }
 {
     let mut counts = TextInfo::new();
     while to - from - counts.bytes >= 64 {
@@ -366,7 +378,8 @@ pub(crate) fn count_blocks(bytes: &[u8], from: usize, to: usize, breaks: LineBre
 /// How many breaks begin before the byte `to`.
 pub(crate) fn count_breaks_before(bytes: &[u8], to: usize, breaks: LineBreaks) -> usize
     requires { to ≤ length bytes.now }
-    ensures { byte_break_count breaks bytes.now ≡ result + byte_break_count breaks (drop to bytes.now) }
+    ensures { byte_break_count breaks bytes.now
+        ≡ result + byte_break_count breaks (drop to bytes.now) }
 {
     // A block is read two bytes past its end.
     let end = to.min(bytes.len().saturating_sub(2));
@@ -379,8 +392,8 @@ pub(crate) fn count_breaks_before(bytes: &[u8], to: usize, breaks: LineBreaks) -
     })
 }
 
-// What the bytes count, in blocks. It stands by itself, since where it is expanded the few would wait for what it answers through
-// memory.
+// What the bytes count, in blocks. Never inlined: in one function with the count of a few bytes, it would make that one's counts go
+// through memory, too, and they would have to be waited for.
 #[inline(never)]
 fn count_many(bytes: &[u8], breaks: LineBreaks) -> TextInfo
     ensures { AreCounts breaks bytes.now result }

@@ -21,43 +21,43 @@ pub use range::IndexRange;
 pub use steps::Steps;
 pub use text_info::TextInfo;
 
-/// The bytes that a text may have at the most.
+/// The most bytes that a text may have.
 pub const MAX_TEXT_BYTES: usize = isize::MAX as usize;
 
-/// The bytes that a leaf holds at the most.
+/// The most bytes that a leaf holds.
 pub const MAX_BYTES: usize = 984;
 
-/// The bytes that a leaf has at the least which is cut off a longer text: no cut is further from another.
+/// The fewest bytes of a leaf that is cut off a longer text: a place that may be cut is never more than three bytes back.
 pub const MIN_CUT_BYTES: usize = MAX_BYTES - 3;
 
-/// The bytes of the longest text that goes into a leaf: with it in, a full leaf can be cut into two wherever it goes.
+/// The most bytes of a text that goes into a leaf: wherever it goes, a full leaf with it in can be cut into two leaves.
 pub const MAX_SHORT_BYTES: usize = 981;
 
-/// The bytes that a leaf and a text that goes into it have together at the most.
+/// The most bytes that a leaf and a text that goes into it have together.
 pub const MAX_JOINED_BYTES: usize = MAX_BYTES + MAX_SHORT_BYTES;
 
-/// The bytes below which two neighbouring leaves are merged where they fit together into one.
+/// Two neighbouring leaves that fit into one are merged where either has fewer bytes than this.
 pub const MIN_BYTES: usize = 462;
 
-/// The bytes that two neighbouring leaves have together at the least.
+/// The fewest bytes that two neighbouring leaves have together.
 pub const MIN_PAIR_BYTES: usize = 492;
 
-/// The bytes of a leaf that may stand beside any other, since each has one at the least. Each part has as many where a leaf that
-/// has no room is cut into two.
+/// A leaf of so many bytes may stand beside any other, since every leaf has at least one. Where a leaf without room is cut in two,
+/// each half has at least so many.
 pub const MIN_HALF_BYTES: usize = MIN_PAIR_BYTES - 1;
 
-/// The bytes of a device that are held at once. Where so many are no text, they are refused.
+/// How many bytes of a device are held at once. If so many are held and no text stands at their front, they are refused.
 pub const BUFFER_BYTES: usize = 2 * MAX_BYTES;
 
-/// The children that an inner node has at the most.
+/// The most children that an inner node has.
 pub const MAX_CHILDREN: usize = 24;
 
-/// The children that an inner node has at the least, unless it is the root.
+/// The fewest children that an inner node has, unless it is the root.
 pub const MIN_CHILDREN: usize = 12;
 
-/// The children of a node that is made with others of its level: not as many as it can have, so that the first leaf below it that
-/// is cut in two stays under it, and no node on the way has to be made anew.
+/// The children of a node that is made with others of its level: fewer than it can have, so that it has room for the other half
+/// when a leaf below it is cut in two, and no node on the way has to be made anew.
 pub const FRESH_CHILDREN: usize = 22;
 
-/// The levels that a tree has above its leaves at the most.
+/// The most levels that a tree has above its leaves.
 pub const MAX_HEIGHT: usize = 18;

@@ -2,8 +2,8 @@
 //! the place, and that one is halved. What is left behind the last block is gone through byte by byte.
 //! A place that isn't there is the end.
 //!
-//! The first line break of a text is found with what the text before it counts, in one pass. That goes as characters, bytes and
-//! pairs: with the two counts side by side, the compiler would add them up in one vector register, which takes longer.
+//! The first line break of a text is found with what the text before it counts, in one pass. The three numbers stand as characters,
+//! bytes and pairs: with the two counts side by side, the compiler would add them up in one vector register, which takes longer.
 #![tactic(auto, using(crate::proofs::Blocks::begins_le, crate::proofs::Blocks::pairs_le, crate::proofs::Blocks::byte_break_count_le))]
 
 ghost use Rattle.std.specs.Prelude.{◌≡◌, ◌+◌, ◌<◌, ◌≤◌, length, count_by, drop, take, IsTrue};
@@ -111,11 +111,12 @@ pub(crate) fn find_unit(bytes: &[u8], from: usize, n: usize) -> usize
     bytes.len()
 }
 
-/// The byte at which the character `n` begins, and how many breaks begin before it. The set is known where this is expanded.
+/// The byte at which the character `n` begins, and how many breaks begin before it. Inlined, since each caller's set is a constant.
 #[inline(always)]
 pub(crate) fn line_of_char(bytes: &[u8], n: usize, breaks: LineBreaks) -> (usize, usize)
     ensures place { IsPlaceOf Mark.Char bytes.now 0 n result.0 }
-    ensures break_count { byte_break_count breaks bytes.now ≡ result.1 + byte_break_count breaks (drop result.0 bytes.now) }
+    ensures break_count { byte_break_count breaks bytes.now
+        ≡ result.1 + byte_break_count breaks (drop result.0 bytes.now) }
 {
     let (mut at, mut left, mut break_count) = (0, n, 0);
     while bytes.len() - at >= 34 {
@@ -132,12 +133,13 @@ pub(crate) fn line_of_char(bytes: &[u8], n: usize, breaks: LineBreaks) -> (usize
     (to, break_count + more)
 }
 
-// The blocks before the break `n`: which break it is from their end on, and what they count but for breaks. What a caller takes
-// no count of isn't counted, since this is expanded there, where the set is known.
+// The whole blocks before the break `n`: which break it is from their end on, and what they count but for breaks.
 fn skip_known(bytes: &[u8], n: usize, breaks: LineBreaks) -> (usize, TextInfo)
     ensures passed { IsPassed (Mark.Break breaks) bytes.now n result.1.bytes result.0 }
-    ensures chars { count_by begins_char bytes.now ≡ result.1.chars + count_by begins_char (drop result.1.bytes bytes.now) }
-    ensures pairs { count_by begins_pair bytes.now ≡ result.1.utf16_surrogates + count_by begins_pair (drop result.1.bytes bytes.now) }
+    ensures chars { count_by begins_char bytes.now
+        ≡ result.1.chars + count_by begins_char (drop result.1.bytes bytes.now) }
+    ensures pairs { count_by begins_pair bytes.now
+        ≡ result.1.utf16_surrogates + count_by begins_pair (drop result.1.bytes bytes.now) }
 {
     let (mut left, mut counts) = (n, TextInfo::new());
     while bytes.len() - counts.bytes >= 34 {
@@ -166,14 +168,15 @@ pub(crate) fn width_of(byte: u8) -> usize
     }
 }
 
-/// What the text before the line `line_idx` counts, or all of it where no line has that number. What a caller takes no count of
-/// isn't counted, since this is expanded there.
+/// What the text before the line `line_idx` counts, or all of it where no line has that number. Inlined, so that what a caller makes
+/// no use of isn't counted.
 #[inline(always)]
 pub(crate) fn front_of_line(text: &str, line_idx: usize, breaks: LineBreaks) -> TextInfo
     ensures bytes { result.bytes ≡ line_to_byte breaks (chars text.now) line_idx }
     ensures chars { result.chars ≡ line_to_char breaks (chars text.now) line_idx }
     ensures counts { 0 < line_idx → line_idx ≤ break_count breaks (chars text.now)
-        → result ≡ info_of breaks (take (line_start breaks (chars text.now) line_idx) (chars text.now)) }
+        → result
+        ≡ info_of breaks (take (line_start breaks (chars text.now) line_idx) (chars text.now)) }
 {
     if line_idx == 0 {
         return TextInfo::new();
@@ -193,7 +196,8 @@ pub(crate) fn front_of_line(text: &str, line_idx: usize, breaks: LineBreaks) -> 
     counts
 }
 
-// From a place near the end up to the next break or to where the last block ends that can be read; from behind that no further.
+// Goes on from a place near the end to the next break, or to the end of the last block that can be read; a place behind that end
+// stays.
 fn go_in_last_block(
     bytes: &[u8],
     from: (usize, usize, usize),
@@ -220,7 +224,7 @@ fn go_in_last_block(
     )
 }
 
-// From behind the last whole block on. Never inlined: it is done once a chunk.
+// The same to the next break or to the end of the bytes. Never inlined: it is needed once a chunk, and the loops stay short.
 #[inline(never)]
 fn go_to_end(bytes: &[u8], from: (usize, usize, usize), breaks: LineBreaks) -> (usize, usize, usize)
     requires near { length bytes.now ≤ from.1 + 34 }

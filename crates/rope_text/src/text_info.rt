@@ -12,9 +12,8 @@ use crate::lanes::count_all;
 use crate::seek::{front_of_line, to_first_break, width_of};
 use crate::{LineBreaks, known_set};
 
-/// What a text counts.
-// The bytes stand last: in a leaf they then lie beside the text, and a walk over leaves reads both at once.
 /// How many bytes, characters, surrogate pairs in UTF-16 and line breaks a text has. Copying it takes no memory.
+// The bytes stand last: in a leaf they then lie beside the text, and a walk over leaves reads both at once.
 #[derive(Clone, Copy, Debug, Default, PartialEq, Eq)]
 pub struct TextInfo {
     /// The characters.
@@ -46,7 +45,7 @@ impl TextInfo {
         TextInfo::of_short(text, breaks)
     }
 
-    /// The same, for a text that mostly has few bytes, as one that is put in or taken out.
+    /// The same, for a text that mostly has few bytes, such as one that is put in or taken out.
     // Inlined, since what a call answers through memory has to be waited for.
     #[inline(always)]
     pub fn of_short(text: &str, breaks: LineBreaks) -> TextInfo
@@ -80,7 +79,8 @@ impl TextInfo {
     pub fn before_line(text: &str, line_idx: usize, breaks: LineBreaks) -> TextInfo
         requires later { 0 < line_idx }
         requires within { line_idx ≤ break_count breaks (chars text.now) }
-        ensures { result ≡ info_of breaks (take (line_start breaks (chars text.now) line_idx) (chars text.now)) }
+        ensures { result
+            ≡ info_of breaks (take (line_start breaks (chars text.now) line_idx) (chars text.now)) }
     {
         front_of_line(text, line_idx, breaks)
     }
@@ -93,7 +93,8 @@ impl TextInfo {
         requires utf16_surrogates { self.utf16_surrogates + other.utf16_surrogates < 2 ^ 64 }
         requires break_count { self.break_count + other.break_count < 2 ^ 64 }
         ensures sum { result ≡ info_sum self other }
-        ensures joined { (breaks : LineBreaks) (s t : List ℕ) → self ≡ info_of breaks s → other ≡ info_of breaks t → parts_crlf s t ≡ false
+        ensures joined { (breaks : LineBreaks) (s t : List ℕ)
+            → self ≡ info_of breaks s → other ≡ info_of breaks t → parts_crlf s t ≡ false
             → result ≡ info_of breaks (s ++ t) }
     {
         TextInfo {
@@ -112,7 +113,8 @@ impl TextInfo {
         requires utf16_surrogates { front.utf16_surrogates ≤ self.utf16_surrogates }
         requires break_count { front.break_count ≤ self.break_count }
         ensures sum { info_sum front result ≡ self }
-        ensures rest { (breaks : LineBreaks) (s t : List ℕ) → self ≡ info_of breaks (s ++ t) → front ≡ info_of breaks s → parts_crlf s t ≡ false
+        ensures rest { (breaks : LineBreaks) (s t : List ℕ)
+            → self ≡ info_of breaks (s ++ t) → front ≡ info_of breaks s → parts_crlf s t ≡ false
             → result ≡ info_of breaks t }
     {
         TextInfo {

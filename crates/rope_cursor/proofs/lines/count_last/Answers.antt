@@ -61,7 +61,7 @@ overflow_add-result c =
     let fits = found_fits c.args.breaks (chars c.args.text.now) (chars c.range_from-near.result.now) c.min-skip.result c.args.end c.prev_break-cut.result c.byte_to_line_with-break_count.result c.if-line_idx-eq1.start
     c.requires.between (cut_here d).0 (before_end d) (cut_here d).1 c.requires.apart near c.byte_to_line_with-break_count.ensures (omega (arith, c.min-skip.ensures)) (few_left c.else-break_count-skip.either c.min-skip.ensures)
     (start_is e) in
-    omega (arith, fits, c.byte_len_of.ensures)
+    omega (arith, fits, byte_len-chars c.args.text.now c.utf8.text, c.as_bytes.ensures.len)
 
 pub returns-in-loop-near-clause-start : goal.returns-in-loop-near-clause-start
 returns-in-loop-near-clause-start c =

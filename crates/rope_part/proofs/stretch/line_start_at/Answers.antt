@@ -37,7 +37,7 @@ range_from-requires c = λ some.
 
 pub plus-requires : goal.plus-requires
 plus-requires c =
-    let small = small_found _ _ _ _ _ c.height.ensures.tree c.leaf_at-found.ensures.found in
+    let small = small_found _ _ _ _ _ c.requires.tree c.leaf_at-found.ensures.found in
     let leaf : List ℕ = c.leaf_at-found.result.leaf in
     let k : ℕ = line_start c.args.node.now.breaks leaf (c.args.line_idx - c.leaf_at-found.result.before.break_count) in
     let is = front_is (goal.at.plus-requires c).After-before_line-front in
@@ -61,7 +61,7 @@ returns-clause-before c =
     omega (arith, ap (λ x. x.break_count) front, break_count-front c.args.node.now.breaks leaf l (omega arith)) in
     c.plus.ensures.sum
     ∙ ap (λ (n : ℕ). (let r : TextInfo = record { bytes = c.leaf_at-found.result.before.bytes + c.before_line-front.result.bytes; chars = c.leaf_at-found.result.before.chars + c.before_line-front.result.chars; utf16_surrogates = c.leaf_at-found.result.before.utf16_surrogates + c.before_line-front.result.utf16_surrogates; break_count = n } in r)) here
-    ∙ line_found c.args.line_idx c.args.node.now c.leaf_at-found.result.leaf c.leaf_at-found.result.before c.height.ensures.tree c.leaf_at-found.ensures.found (omega arith) (omega arith)
+    ∙ line_found c.args.line_idx c.args.node.now c.leaf_at-found.result.leaf c.leaf_at-found.result.before c.requires.tree c.leaf_at-found.ensures.found (omega arith) (omega arith)
     c.before_line-front.result.bytes c.before_line-front.result.chars c.before_line-front.result.utf16_surrogates
     (ap (λ x. x.bytes) front) (ap (λ x. x.chars) front) (ap (λ x. x.utf16_surrogates) front)
 
@@ -71,4 +71,4 @@ returns-clause-rest c =
     let k : ℕ = line_start c.args.node.now.breaks leaf (c.args.line_idx - c.leaf_at-found.result.before.break_count) in
     rw (chars_back c.as_str-leaf.result.now c.range_from.result.now leaf k c.before_line-front.result.bytes c.as_str-leaf.utf8 c.as_str-leaf.ensures.chars
     (ap (λ x. x.bytes) (front_is (goal.at.returns-clause-rest c).After-before_line-front) ∙ ap (λ s. byte_len (take k s)) (sym c.as_str-leaf.ensures.chars)) c.range_from.ensures.value)
-    (line_rest c.args.line_idx c.args.node.now leaf c.leaf_at-found.result.before c.height.ensures.tree c.leaf_at-found.ensures.found (omega arith) (omega arith))
+    (line_rest c.args.line_idx c.args.node.now leaf c.leaf_at-found.result.before c.requires.tree c.leaf_at-found.ensures.found (omega arith) (omega arith))
