@@ -12,7 +12,8 @@ use std::hash::Hash;
 pub fn texts_are_compared()
     ensures equal { (a b : RopeView) → (IsTrue (⟦<Rope as PartialEq>⟧.eq a b) ↔ (a.text ≡ b.text)) }
     ensures total { IsTotalOrder ⟦<Rope as Ord>⟧.cmp }
-    ensures ties { (a b : RopeView) → ((⟦<Rope as Ord>⟧.cmp a b ≡ Equal) ↔ IsTrue (⟦<Rope as PartialEq>⟧.eq a b)) }
+    ensures ties { (a b : RopeView) →
+        ((⟦<Rope as Ord>⟧.cmp a b ≡ Equal) ↔ IsTrue (⟦<Rope as PartialEq>⟧.eq a b)) }
     ensures hash { (a b : RopeView) → IsTrue (⟦<Rope as PartialEq>⟧.eq a b) →
         ⟦<Rope as Hash>⟧.hash_input a ≡ ⟦<Rope as Hash>⟧.hash_input b }
 {}
