@@ -9,11 +9,11 @@ use Rattle.ropey.specs.View.{RopeView, IsRope}
 abbrev pub IsEdit : {A : Type 0} → Result A Error → RopeView → RopeView → Type 0
 IsEdit result old new = OnErr result (new ≡ old) × (new.breaks ≡ old.breaks) × IsRope new
 
--- an edit that has nothing to do: it is not refused, and leaves the very rope
+-- an edit that had nothing to do: it was not refused, and the rope is what it was, its chunks too
 abbrev pub IsIdle : {A : Type 0} → Result A Error → RopeView → RopeView → Type 0
 IsIdle result old new = IsOk result × (new ≡ old)
 
--- a text may be inserted before a character: only memory can still refuse it
+-- a text may be inserted before a character: it is a character of the old text, or its end, and the new text is not too long
 abbrev pub CanInsert : List ℕ → ℕ → List ℕ → Type 0
 CanInsert old char_idx text = insert_error old char_idx text ≡ None
 
@@ -34,7 +34,7 @@ IsRemoval old start end new =
 abbrev pub IsRemovalRefusal : List ℕ → Option ℕ → Option ℕ → Error → Type 0
 IsRemovalRefusal old start end = IsRefusal (char_range_error start end (length old))
 
--- a rope may be appended to another: they have one set of line breaks, and only memory can still refuse it
+-- a rope may be appended to another: the two have the same set of line breaks, and the new text is not too long
 abbrev pub CanAppend : RopeView → RopeView → Type 0
 CanAppend old other = append_error old.breaks other.breaks old.text other.text ≡ None
 
