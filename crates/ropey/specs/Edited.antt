@@ -13,7 +13,7 @@ IsEdit result old new = OnErr result (new ≡ old) × (new.breaks ≡ old.breaks
 abbrev pub IsIdle : {A : Type 0} → Result A Error → RopeView → RopeView → Type 0
 IsIdle result old new = IsOk result × (new ≡ old)
 
--- a text may be inserted before a character: it is a character of the old text, or its end, and the new text is not too long
+-- a text may be inserted: before a character of the old text or at its end, and the new text is not too long
 abbrev pub CanInsert : List ℕ → ℕ → List ℕ → Type 0
 CanInsert old char_idx text = insert_error old char_idx text ≡ None
 

@@ -67,9 +67,10 @@ impl Rope {
 
     /// Inserts `text` before the character `char_idx`; for `len_chars()`, at the end.
     ///
-    /// The index is at most `len_chars()`. An empty text takes no memory. A short one goes into the chunk where the
-    /// place lies, without memory where that has room and is shared with no clone; else nodes on the way down are
-    /// made. A text of more than 981 bytes becomes a tree of its own first. No text of the rope is walked.
+    /// The index is at most `len_chars()`. An empty text takes no memory and changes nothing. A short one goes into
+    /// the chunk around that place, and takes no memory where the chunk has room and nothing on the way down to it is
+    /// shared with a clone; else nodes on the way down are made. A text of more than 981 bytes becomes a tree of its
+    /// own first. The rope's text is not walked.
     ///
     /// # Errors
     ///
@@ -103,9 +104,9 @@ impl Rope {
 
     /// Inserts the character `c` before the character `char_idx`; for `len_chars()`, at the end.
     ///
-    /// The index is at most `len_chars()`. It goes into the chunk where the place lies, without memory where that has
-    /// room and is shared with no clone; else it takes memory for at most 8 d + 16 nodes, where d is the rope's
-    /// depth. No text is walked.
+    /// The index is at most `len_chars()`. The character goes into the chunk around that place, and takes no memory
+    /// where the chunk has room and nothing on the way down to it is shared with a clone; else it takes memory for at
+    /// most 8 d + 16 nodes, where d is the rope's depth. No text is walked.
     ///
     /// # Errors
     ///
@@ -122,7 +123,7 @@ impl Rope {
 
     /// As `insert_char`, and sets `steps` to what it did: `made` counts the nodes that were made, at most 8 d + 16
     /// for a rope of depth d, refused or not.
-    /// Of the other two counts nothing is promised.
+    /// Nothing is promised of the other two counts.
     ///
     /// The index is at most `len_chars()`.
     ///
@@ -183,7 +184,7 @@ impl Rope {
 
     /// As `split_off`, and sets `steps` to what it did: `made` counts the nodes that were made, at most 16 d + 32
     /// for a rope of depth d, refused or not.
-    /// Of the other two counts nothing is promised.
+    /// Nothing is promised of the other two counts.
     ///
     /// The index is at most `len_chars()`.
     ///
@@ -259,7 +260,7 @@ impl Rope {
 
     /// As `remove`, and sets `steps` to what it did: `made` counts the nodes that were made, at most 16 d + 32 for
     /// a rope of depth d, refused or not.
-    /// Of the other two counts nothing is promised.
+    /// Nothing is promised of the other two counts.
     ///
     /// The range's bounds are at most `len_chars()`, and its start is at most its end.
     ///
@@ -289,7 +290,7 @@ impl Rope {
 
     /// Puts the text of another rope behind this one's. The rope shares what it can of the other's tree.
     ///
-    /// Where one of the two is empty it takes no memory, and the rope has the chunks of the other; else it takes
+    /// Where one of the two is empty, it takes no memory, and the rope has the chunks of the other; else it takes
     /// memory for at most 16 h + 11 nodes, where h is the greater depth of the two. No text is walked.
     ///
     /// # Errors
@@ -311,7 +312,7 @@ impl Rope {
 
     /// As `append`, and sets `steps` to what it did: `made` counts the nodes that were made, at most 16 d + 32
     /// where d is the greater depth of the two, refused or not.
-    /// Of the other two counts nothing is promised.
+    /// Nothing is promised of the other two counts.
     ///
     /// # Errors
     ///

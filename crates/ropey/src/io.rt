@@ -47,7 +47,8 @@ impl Rope {
     /// # Errors
     ///
     /// `Read`, `InvalidData` and `Rope`, as for `from_reader`; the mark is set afterwards exactly where the answer
-    /// is `Read`. Then one read has failed, with the kind that is answered, and the source was not called again.
+    /// is `Read`. Then one read has failed, with the kind of the error that is returned, and the source was not
+    /// called again.
     pub fn from_watched<S: Source>(alloc: Global, source: &mut S) -> ReadResult<Rope>
         // The bytes that were given decide the answer,
         ensures answer { Reads text_of (S.remaining source.old) (S.remaining source.new)
@@ -86,7 +87,8 @@ impl Rope {
     /// # Errors
     ///
     /// `Read`, `InvalidData` and `Rope`, as for `from_reader`; the mark is set afterwards exactly where the answer
-    /// is `Read`. Then one read has failed, with the kind that is answered, and the source was not called again.
+    /// is `Read`. Then one read has failed, with the kind of the error that is returned, and the source was not
+    /// called again.
     pub fn from_watched_with<S: Source>(
         alloc: Global,
         source: &mut S,
@@ -108,8 +110,8 @@ impl Rope {
     ///
     /// # Errors
     ///
-    /// A write's error, at once, an interrupted one too; of the kind `WriteZero` where the writer takes no byte of
-    /// some. Then a beginning of the text has been written.
+    /// A write's error, at once, an interrupted one too; of the kind `WriteZero` where the writer takes none of the
+    /// bytes that it is given. Then a beginning of the text has been written.
     pub fn write_to<T: Write + Drop>(&self, writer: T) -> io::Result<()> {
         self.write_watched(&mut Watched::new(writer))
     }
@@ -118,9 +120,10 @@ impl Rope {
     ///
     /// # Errors
     ///
-    /// A write's error, at once, an interrupted one too; of the kind `WriteZero` where the writer takes no byte of
-    /// some. Then a beginning of the text has been written. The mark is set afterwards exactly where an error is
-    /// returned; then one write has failed, with that kind, and the sink was not called again.
+    /// A write's error, at once, an interrupted one too; of the kind `WriteZero` where the writer takes none of the
+    /// bytes that it is given. Then a beginning of the text has been written. The mark is set afterwards exactly
+    /// where an error is returned; then one write has failed, with that error's kind, and the sink was not called
+    /// again.
     pub fn write_watched<S: Sink>(&self, sink: &mut S) -> io::Result<()>
         ensures ok { OnOk result
             (Appends (S.contents sink.old) (S.contents sink.new) (encode_utf8_all self.now.text)) }

@@ -66,8 +66,8 @@ impl Rope {
     }
 
     /// The chunk that holds the character `char_idx`, and at the end of the text the last chunk. With it the
-    /// numbers of bytes, of characters and of line breaks that end before the chunk; with no chunk at all `("", 0,
-    /// 0, 0)`.
+    /// numbers of bytes, of characters and of line breaks that end before the chunk; with no chunk at all
+    /// `("", 0, 0, 0)`.
     ///
     /// The index is at most `len_chars()`. Costs one look-up; takes no memory.
     pub fn chunk_at_char(&self, char_idx: usize) -> ChunkAt<'_>
@@ -78,9 +78,9 @@ impl Rope {
         self.whole().chunk_at_char(char_idx)
     }
 
-    /// The first chunk by whose end `line_break_idx` line breaks have ended, and the last chunk where there is none
-    /// such. With it the numbers of bytes, of characters and of line breaks that end before the chunk; with no
-    /// chunk at all `("", 0, 0, 0)`.
+    /// The first chunk by whose end `line_break_idx` line breaks have ended, or else the last chunk. With it the
+    /// numbers of bytes, of characters and of line breaks that end before the chunk; with no chunk at all
+    /// `("", 0, 0, 0)`.
     ///
     /// The index is at most `len_lines()`. Costs one look-up; takes no memory.
     pub fn chunk_at_line_break(&self, line_break_idx: usize) -> ChunkAt<'_>

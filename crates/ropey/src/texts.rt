@@ -51,8 +51,8 @@ impl Rope {
         Rope::from_str(alloc, cow.as_str())
     }
 
-    /// A rope of the texts that the iterator gives, one behind the other, with Unicode's line breaks, in at most (n
-    /// + 980) / 981 chunks for n bytes.
+    /// A rope of the texts that the iterator gives, one behind the other, with Unicode's line breaks. It has at most
+    /// (n + 980) / 981 chunks for n bytes.
     ///
     /// The iterator must end. Takes time and memory in proportion to the text.
     ///
