@@ -19,12 +19,12 @@ module _ {U S A : Type 0} (becomes : U → S → Type 0) (steps : S → Option A
   -- all that the source gives until it ends
   abbrev pub IsAllOf : U → List ℕ → Type 0
   IsAllOf source text = (it : S) × (texts : List A)
-    × becomes source it × Drains steps it texts × (text ≡ joined_texts bytes texts)
+      × becomes source it × Drains steps it texts × (text ≡ joined_texts bytes texts)
 
   -- what the source gives up to some point
   abbrev pub IsBeginningOf : U → List ℕ → Type 0
   IsBeginningOf source text = (it : S) × (texts : List A) × (rest : S)
-    × becomes source it × Yields steps it texts rest × (text ≡ joined_texts bytes texts)
+      × becomes source it × Yields steps it texts rest × (text ≡ joined_texts bytes texts)
 
   -- what the source gives up to some point is refused so, for its size or for memory
   abbrev pub IsRefusedOf : U → Error → Type 0
