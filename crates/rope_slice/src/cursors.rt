@@ -77,7 +77,8 @@ impl<'a> RopeSlice<'a> {
     /// The index is at most `len_bytes()`. Costs one or two look-ups; takes no memory.
     pub fn chunks_at_byte(&self, byte_idx: usize) -> ChunksAt<'a>
         requires { byte_idx ≤ byte_len (text_of self.now) }
-        ensures { StandsBefore (content_of self.now) (chunk_place_at_byte (chunks_of self.now) byte_idx) result }
+        ensures { StandsBefore (content_of self.now)
+            (chunk_place_at_byte (chunks_of self.now) byte_idx) result }
     {
         Chunks::at(&self.part, Unit::Byte, byte_idx)
     }
@@ -89,7 +90,8 @@ impl<'a> RopeSlice<'a> {
     /// The index is at most `len_chars()`. Costs one or two look-ups; takes no memory.
     pub fn chunks_at_char(&self, char_idx: usize) -> ChunksAt<'a>
         requires { char_idx ≤ length (text_of self.now) }
-        ensures { StandsBefore (content_of self.now) (chunk_place_at_char (chunks_of self.now) char_idx) result }
+        ensures { StandsBefore (content_of self.now)
+            (chunk_place_at_char (chunks_of self.now) char_idx) result }
     {
         Chunks::at(&self.part, Unit::Char, char_idx)
     }
@@ -101,7 +103,9 @@ impl<'a> RopeSlice<'a> {
     /// The index is at most `len_lines()`. Costs one or two look-ups; takes no memory.
     pub fn chunks_at_line_break(&self, line_break_idx: usize) -> ChunksAt<'a>
         requires { line_break_idx ≤ line_count (breaks_of self.now) (text_of self.now) }
-        ensures { StandsBefore (content_of self.now) (chunk_place_at_line_break (breaks_of self.now) (chunks_of self.now) line_break_idx) result }
+        ensures { StandsBefore (content_of self.now)
+            (chunk_place_at_line_break (breaks_of self.now) (chunks_of self.now) line_break_idx)
+            result }
     {
         let start = self.line_to_char(line_break_idx);
         let is_past = line_break_idx == self.len_lines();
@@ -114,7 +118,8 @@ impl<'a> RopeSlice<'a> {
     /// As `bytes_at`, or `None` exactly where the index is past `len_bytes()`. Costs one or two look-ups; takes no
     /// memory.
     pub fn get_bytes_at(&self, byte_idx: usize) -> Option<Bytes<'a>>
-        ensures { GivesWithin byte_idx (byte_len (text_of self.now)) result (λ bytes. bytes ≡ at_place (encode_utf8_all (text_of self.now)) byte_idx) }
+        ensures { GivesWithin byte_idx (byte_len (text_of self.now)) result
+            (λ bytes. bytes ≡ at_place (encode_utf8_all (text_of self.now)) byte_idx) }
     {
         Some(self.bytes_at(within(byte_idx, self.len_bytes())?))
     }
@@ -122,7 +127,8 @@ impl<'a> RopeSlice<'a> {
     /// As `chars_at`, or `None` exactly where the index is past `len_chars()`. Costs one or two look-ups; takes no
     /// memory.
     pub fn get_chars_at(&self, char_idx: usize) -> Option<Chars<'a>>
-        ensures { GivesWithin char_idx (length (text_of self.now)) result (λ chars. chars ≡ at_place (text_of self.now) char_idx) }
+        ensures { GivesWithin char_idx (length (text_of self.now)) result
+            (λ chars. chars ≡ at_place (text_of self.now) char_idx) }
     {
         Some(self.chars_at(within(char_idx, self.len_chars())?))
     }
@@ -131,7 +137,8 @@ impl<'a> RopeSlice<'a> {
     /// takes no memory.
     pub fn get_chunks_at_byte(&self, byte_idx: usize) -> Option<ChunksAt<'a>>
         ensures { GivesWithin byte_idx (byte_len (text_of self.now)) result
-            (StandsBefore (content_of self.now) (chunk_place_at_byte (chunks_of self.now) byte_idx)) }
+            (StandsBefore (content_of self.now)
+            (chunk_place_at_byte (chunks_of self.now) byte_idx)) }
     {
         Some(self.chunks_at_byte(within(byte_idx, self.len_bytes())?))
     }
@@ -140,7 +147,8 @@ impl<'a> RopeSlice<'a> {
     /// takes no memory.
     pub fn get_chunks_at_char(&self, char_idx: usize) -> Option<ChunksAt<'a>>
         ensures { GivesWithin char_idx (length (text_of self.now)) result
-            (StandsBefore (content_of self.now) (chunk_place_at_char (chunks_of self.now) char_idx)) }
+            (StandsBefore (content_of self.now)
+            (chunk_place_at_char (chunks_of self.now) char_idx)) }
     {
         Some(self.chunks_at_char(within(char_idx, self.len_chars())?))
     }
@@ -148,8 +156,9 @@ impl<'a> RopeSlice<'a> {
     /// As `chunks_at_line_break`, or `None` exactly where the index is past `len_lines()`. Costs one or two
     /// look-ups; takes no memory.
     pub fn get_chunks_at_line_break(&self, line_break_idx: usize) -> Option<ChunksAt<'a>>
-        ensures { GivesWithin line_break_idx (line_count (breaks_of self.now) (text_of self.now)) result
-            (StandsBefore (content_of self.now) (chunk_place_at_line_break (breaks_of self.now) (chunks_of self.now) line_break_idx)) }
+        ensures { GivesWithin line_break_idx (line_count (breaks_of self.now) (text_of self.now))
+            result (StandsBefore (content_of self.now)
+            (chunk_place_at_line_break (breaks_of self.now) (chunks_of self.now) line_break_idx)) }
     {
         Some(self.chunks_at_line_break(within(line_break_idx, self.len_lines())?))
     }

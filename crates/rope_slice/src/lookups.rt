@@ -50,31 +50,35 @@ impl<'a> RopeSlice<'a> {
     /// The index is at most `len_bytes()`. Costs one or two look-ups; takes no memory.
     pub fn chunk_at_byte(&self, byte_idx: usize) -> ChunkAt<'a>
         requires { byte_idx ≤ byte_len (text_of self.now) }
-        ensures { ShowsChunk (content_of self.now) (chunk_index_at_byte (chunks_of self.now) byte_idx) result }
+        ensures { ShowsChunk (content_of self.now)
+            (chunk_index_at_byte (chunks_of self.now) byte_idx) result }
     {
         self.part.chunk_at(Unit::Byte, byte_idx)
     }
 
     /// The chunk that holds the character `char_idx`, and at the end of the text the last chunk. With it the
-    /// numbers of bytes, of characters and of line breaks that end before the chunk; with no chunk at all `("", 0,
-    /// 0, 0)`.
+    /// numbers of bytes, of characters and of line breaks that end before the chunk; with no chunk at all
+    /// `("", 0, 0, 0)`.
     ///
     /// The index is at most `len_chars()`. Costs one or two look-ups; takes no memory.
     pub fn chunk_at_char(&self, char_idx: usize) -> ChunkAt<'a>
         requires { char_idx ≤ length (text_of self.now) }
-        ensures { ShowsChunk (content_of self.now) (chunk_index_at_char (chunks_of self.now) char_idx) result }
+        ensures { ShowsChunk (content_of self.now)
+            (chunk_index_at_char (chunks_of self.now) char_idx) result }
     {
         self.part.chunk_at(Unit::Char, char_idx)
     }
 
-    /// The first chunk by whose end `line_break_idx` line breaks have ended, and the last chunk where there is none
-    /// such. With it the numbers of bytes, of characters and of line breaks that end before the chunk; with no
-    /// chunk at all `("", 0, 0, 0)`.
+    /// The first chunk by whose end `line_break_idx` line breaks have ended, or else the last chunk. With it the
+    /// numbers of bytes, of characters and of line breaks that end before the chunk; with no chunk at all
+    /// `("", 0, 0, 0)`.
     ///
     /// The index is at most `len_lines()`. Costs one or two look-ups; takes no memory.
     pub fn chunk_at_line_break(&self, line_break_idx: usize) -> ChunkAt<'a>
         requires { line_break_idx ≤ line_count (breaks_of self.now) (text_of self.now) }
-        ensures { ShowsChunk (content_of self.now) (chunk_index_at_line_break (breaks_of self.now) (chunks_of self.now) line_break_idx) result }
+        ensures { ShowsChunk (content_of self.now)
+            (chunk_index_at_line_break (breaks_of self.now) (chunks_of self.now) line_break_idx)
+            result }
     {
         self.part.chunk_at_line_break(line_break_idx)
     }
@@ -115,7 +119,8 @@ impl<'a> RopeSlice<'a> {
     /// `len_bytes()`.
     pub fn try_chunk_at_byte(&self, byte_idx: usize) -> Result<ChunkAt<'a>>
         ensures { MatchOption (byte_index_error byte_idx (byte_len (text_of self.now)))
-            (IsOkAnd result (ShowsChunk (content_of self.now) (chunk_index_at_byte (chunks_of self.now) byte_idx)))
+            (IsOkAnd result (ShowsChunk (content_of self.now)
+            (chunk_index_at_byte (chunks_of self.now) byte_idx)))
             (λ fault. result ≡ Err fault) }
     {
         let len = self.len_bytes();
@@ -135,8 +140,9 @@ impl<'a> RopeSlice<'a> {
     /// As `chunk_at_line_break`, or `None` exactly where the index is past `len_lines()`. Costs one or two
     /// look-ups; takes no memory.
     pub fn get_chunk_at_line_break(&self, line_break_idx: usize) -> Option<ChunkAt<'a>>
-        ensures { GivesWithin line_break_idx (line_count (breaks_of self.now) (text_of self.now)) result
-            (ShowsChunk (content_of self.now) (chunk_index_at_line_break (breaks_of self.now) (chunks_of self.now) line_break_idx)) }
+        ensures { GivesWithin line_break_idx (line_count (breaks_of self.now) (text_of self.now))
+            result (ShowsChunk (content_of self.now)
+            (chunk_index_at_line_break (breaks_of self.now) (chunks_of self.now) line_break_idx)) }
     {
         Some(self.chunk_at_line_break(within(line_break_idx, self.len_lines())?))
     }
@@ -145,7 +151,8 @@ impl<'a> RopeSlice<'a> {
     #[inline(always)]
     fn try_convert(&self, from: Unit, to: Unit, idx: usize) -> Result<usize>
         requires { are_converted from to ≡ true }
-        ensures { result ≡ checked (index_error from idx (end_index from (breaks_of self.now) (text_of self.now)))
+        ensures { result ≡ checked
+            (index_error from idx (end_index from (breaks_of self.now) (text_of self.now)))
             (converted from to (breaks_of self.now) (text_of self.now) idx) }
     {
         let len = count(self.part.info(), from) + first_sought(from);
@@ -319,7 +326,8 @@ impl<'a> RopeSlice<'a> {
     /// `LineIndexOutOfBounds`, with the index and the number of lines, exactly where the index is past
     /// `len_lines()`.
     pub fn try_line_to_byte(&self, line_idx: usize) -> Result<usize>
-        ensures { result ≡ checked (line_index_error line_idx (line_count (breaks_of self.now) (text_of self.now)))
+        ensures { result ≡ checked
+            (line_index_error line_idx (line_count (breaks_of self.now) (text_of self.now)))
             (line_to_byte (breaks_of self.now) (text_of self.now) line_idx) }
     {
         self.try_convert(Unit::LineBreak, Unit::Byte, line_idx)
@@ -342,7 +350,8 @@ impl<'a> RopeSlice<'a> {
     /// `LineIndexOutOfBounds`, with the index and the number of lines, exactly where the index is past
     /// `len_lines()`.
     pub fn try_line_to_char(&self, line_idx: usize) -> Result<usize>
-        ensures { result ≡ checked (line_index_error line_idx (line_count (breaks_of self.now) (text_of self.now)))
+        ensures { result ≡ checked
+            (line_index_error line_idx (line_count (breaks_of self.now) (text_of self.now)))
             (line_to_char (breaks_of self.now) (text_of self.now) line_idx) }
     {
         self.try_convert(Unit::LineBreak, Unit::Char, line_idx)

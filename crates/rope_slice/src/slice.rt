@@ -9,9 +9,9 @@ ghost use Rattle.rope_text.specs.Text.{byte_len, utf16_len};
 ghost use Rattle.rope_text.specs.Lines.{line_count};
 ghost use Rattle.rope_text.specs.Cutting.{single_chunk};
 ghost use Rattle.rope_part.specs.Kept.{IsPart};
-ghost use Rattle.rope_slice.specs.Found.{GivesWithin, GivesUnless};
-ghost use Rattle.rope_text.specs.Edit.{given, char_range_error, byte_range_error};
-ghost use Rattle.rope_slice.specs.Sliced.{IsCharRange, IsByteRange};
+ghost use Rattle.rope_slice.specs.Found.{GivesWithin};
+ghost use Rattle.rope_text.specs.Edit.{given, byte_range_error};
+ghost use Rattle.rope_slice.specs.Sliced.{HasCharRange, HasByteRange, IsCharRange, IsByteRange};
 
 use rope_part::Part;
 use rope_text::range::char_bounds;
@@ -38,6 +38,7 @@ pub struct RopeSlice<'a> {
 
 impl<'a> RopeSlice<'a> {
     ghost use Rattle.rope_slice.specs.Slice.{content_of, text_of, chunks_of, breaks_of};
+    ghost use Rattle.rope_slice.specs.Ranges.{GivesChars, GivesBytes, IsByteSlice};
 
     /// A slice of a plain text, with this set of line breaks. The text is read once, to be counted; takes no
     /// memory.
@@ -93,8 +94,9 @@ impl<'a> RopeSlice<'a> {
     /// The range's bounds are at most `len_chars()`, and its start is at most its end. Costs a few look-ups, or a
     /// count of the text where it is plain; takes no memory.
     pub fn slice<R: IndexRange>(&self, range: R) -> RopeSlice<'a>
-        requires { char_range_error (R.given_start range) (R.given_end range) (length (text_of self.now)) ≡ None }
-        ensures { IsCharRange (content_of self.now) (R.given_start range) (R.given_end range) (content_of result) }
+        requires { HasCharRange (text_of self.now) (R.given_start range) (R.given_end range) }
+        ensures { IsCharRange (content_of self.now) (R.given_start range) (R.given_end range)
+            (content_of result) }
     {
         self.get_slice(range).unwrap()
     }
@@ -102,8 +104,8 @@ impl<'a> RopeSlice<'a> {
     /// As `slice`, or `None` exactly where a bound is past `len_chars()` or the range's start is past its end.
     /// Costs a few look-ups, or a count of the text where it is plain; takes no memory.
     pub fn get_slice<R: IndexRange>(&self, range: R) -> Option<RopeSlice<'a>>
-        ensures { GivesUnless (char_range_error (R.given_start range) (R.given_end range) (length (text_of self.now))) result
-            (λ slice. IsCharRange (content_of self.now) (R.given_start range) (R.given_end range) (content_of slice)) }
+        ensures { GivesChars (content_of self.now) (R.given_start range) (R.given_end range)
+            result }
     {
         let (start, end) = char_bounds(&range, self.len_chars()).ok()?;
         let part = self.part.char_range(start, end);
@@ -119,9 +121,11 @@ impl<'a> RopeSlice<'a> {
     /// `ByteRangeOutOfBounds`, where a given bound is past `len_bytes()`; then `ByteRangeNotCharBoundary`, where a
     /// given bound lies inside a character.
     pub fn try_byte_slice<R: IndexRange>(&self, range: R) -> Result<RopeSlice<'a>>
-        ensures ok { IfOk result (λ slice. (byte_range_error (text_of self.now) (R.given_start range) (R.given_end range) ≡ None)
-            × IsByteRange (content_of self.now) (R.given_start range) (R.given_end range) (content_of slice)) }
-        ensures refused { IfErr result (λ fault. byte_range_error (text_of self.now) (R.given_start range) (R.given_end range) ≡ Some fault) }
+        ensures ok { IfOk result
+            (IsByteSlice (content_of self.now) (R.given_start range) (R.given_end range)) }
+        ensures refused { IfErr result (λ fault.
+            byte_range_error (text_of self.now) (R.given_start range) (R.given_end range)
+            ≡ Some fault) }
     {
         let (start, end, len) = (range.start(), range.end(), self.len_bytes());
         match (start, end) {
@@ -143,8 +147,8 @@ impl<'a> RopeSlice<'a> {
     /// As `byte_slice`, or `None` exactly where `try_byte_slice` returns an error. Costs a few look-ups, or a count
     /// of the text where it is plain; takes no memory.
     pub fn get_byte_slice<R: IndexRange>(&self, range: R) -> Option<RopeSlice<'a>>
-        ensures { GivesUnless (byte_range_error (text_of self.now) (R.given_start range) (R.given_end range)) result
-            (λ slice. IsByteRange (content_of self.now) (R.given_start range) (R.given_end range) (content_of slice)) }
+        ensures { GivesBytes (content_of self.now) (R.given_start range) (R.given_end range)
+            result }
     {
         self.try_byte_slice(range).ok()
     }
@@ -154,8 +158,9 @@ impl<'a> RopeSlice<'a> {
     /// The range's bounds are at most `len_bytes()`, its start is at most its end, and no bound lies inside a
     /// character. Costs a few look-ups, or a count of the text where it is plain; takes no memory.
     pub fn byte_slice<R: IndexRange>(&self, range: R) -> RopeSlice<'a>
-        requires { byte_range_error (text_of self.now) (R.given_start range) (R.given_end range) ≡ None }
-        ensures { IsByteRange (content_of self.now) (R.given_start range) (R.given_end range) (content_of result) }
+        requires { HasByteRange (text_of self.now) (R.given_start range) (R.given_end range) }
+        ensures { IsByteRange (content_of self.now) (R.given_start range) (R.given_end range)
+            (content_of result) }
     {
         self.try_byte_slice(range).unwrap()
     }

@@ -57,7 +57,8 @@ impl<'a> RopeSlice<'a> {
     /// `OutOfMemory`, only where the slice has more than one chunk.
     pub fn try_to_cow(&self, alloc: Global) -> Result<CowStr<'a>>
         ensures text { IfOk result (λ cow. chars (cow_str_bytes cow) ≡ text_of self.now) }
-        ensures borrowed { IfOk result (λ cow. IsBorrowedStr cow ↔ (length (chunks_of self.now) ≤ 1)) }
+        ensures borrowed { IfOk result (λ cow.
+            IsBorrowedStr cow ↔ (length (chunks_of self.now) ≤ 1)) }
         ensures ok { length (chunks_of self.now) ≤ 1 → IsOk result }
         ensures err { IfErr result (λ e. e ≡ OutOfMemory) }
     {
@@ -108,7 +109,8 @@ impl<'a> PartialOrd for RopeSlice<'a> {
 
     ghost partial_cmp = { as_partial_cmp (on text_of text_cmp) };
 
-    ghost laws = { partial_order_from_own_ties (Prim.search (comparing, rules)) (Prim.search (comparing, rules)) };
+    ghost laws = { partial_order_from_own_ties
+        (Prim.search (comparing, rules)) (Prim.search (comparing, rules)) };
 
     fn partial_cmp(&self, other: &RopeSlice<'a>) -> Option<Ordering> {
         Some(self.cmp(other))

@@ -65,7 +65,8 @@ impl PartialOrd for Rope {
 
     ghost partial_cmp = { as_partial_cmp (on text_of text_cmp) };
 
-    ghost laws = { partial_order_from_own_ties (Prim.search (comparing, rules)) (Prim.search (comparing, rules)) };
+    ghost laws = { partial_order_from_own_ties
+        (Prim.search (comparing, rules)) (Prim.search (comparing, rules)) };
 
     fn partial_cmp(&self, other: &Rope) -> Option<Ordering> {
         Some(self.cmp(other))

@@ -2,11 +2,12 @@
 //!
 //! With the text `"held"`, `insert(3, "lo worl")` makes `"hello world"`. From there `remove(5..)` leaves `"hello"`;
 //! `split_off(6)` leaves `"hello "` and returns a rope of `"world"`, and an `append` of that puts it back.
-ghost use Rattle.std.specs.Prelude.{◌≡◌, ◌+◌, ◌*◌, ◌<◌, ◌≤◌, [], ◌∷◌, length, None, IsOk, IfErr, OnOk, ◌++◌, max, IfOk};
+ghost use Rattle.std.specs.Prelude.{◌≡◌, ◌+◌, ◌*◌, ◌<◌, ◌≤◌, [], ◌∷◌, length, None, IsOk, IfErr, OnOk, max, IfOk};
 ghost use Rattle.std.specs.Str.{chars};
 ghost use Rattle.rope_text.specs.declared.TheConstants.{MAX_SHORT_BYTES};
-ghost use Rattle.rope_text.specs.Edit.{inserted, insert_error, IsRefusal, char_index_error, char_range_error, range_start, range_end, removed, append_error};
-ghost use Rattle.ropey.specs.Edited.{IsEdit, IsCutAt};
+ghost use Rattle.rope_text.specs.Edit.{IsRefusal, char_index_error};
+ghost use Rattle.rope_slice.specs.Sliced.{HasCharRange, IsEmptyRange};
+ghost use Rattle.ropey.specs.Edited.{IsEdit, IsIdle, CanInsert, IsInsert, IsInsertRefusal, IsRemoval, IsRemovalRefusal, CanAppend, IsAppend, IsAppendRefusal, IsCutAt};
 ghost use Rattle.rope_text.specs.declared.error.Error.TheVariants.{OutOfMemory};
 
 use crate::rope::Rope;
@@ -20,12 +21,13 @@ use std::mem;
 impl Rope {
     // Puts a text before a character, and counts the nodes that are made.
     fn insert_made(&mut self, char_idx: usize, text: &str, maker: &mut Maker) -> Result<()>
-        ensures ok { OnOk result ((insert_error self.old.text char_idx (chars text.now) ≡ None) × (self.new.text ≡ inserted self.old.text char_idx (chars text.now))) }
-        ensures refused { IfErr result (IsRefusal (insert_error self.old.text char_idx (chars text.now))) }
-        ensures empty { length (chars text.now) ≡ 0 → insert_error self.old.text char_idx (chars text.now) ≡ None
-            → IsOk result × (self.new ≡ self.old) }
+        ensures ok { OnOk result (IsInsert self.old.text char_idx (chars text.now) self.new.text) }
+        ensures refused { IfErr result (IsInsertRefusal self.old.text char_idx (chars text.now)) }
+        ensures empty { length (chars text.now) ≡ 0
+            → CanInsert self.old.text char_idx (chars text.now) → IsIdle result self.old self.new }
         ensures kept { IsEdit result self.old self.new }
-        ensures made { length text.now ≤ MAX_SHORT_BYTES → maker.new.made ≤ maker.old.made + 3 * self.old.depth + 5 }
+        ensures made { length text.now ≤ MAX_SHORT_BYTES
+            → maker.new.made ≤ maker.old.made + 3 * self.old.depth + 5 }
     {
         let bytes = self.len_bytes();
         let chars = self.len_chars();
@@ -54,10 +56,10 @@ impl Rope {
     /// `len_chars()`; then `TooLong`, where the text would have more than `isize::MAX` bytes; then `OutOfMemory`. A
     /// refused call leaves the rope as it was.
     pub fn try_insert(&mut self, char_idx: usize, text: &str) -> Result<()>
-        ensures ok { OnOk result ((insert_error self.old.text char_idx (chars text.now) ≡ None) × (self.new.text ≡ inserted self.old.text char_idx (chars text.now))) }
-        ensures refused { IfErr result (IsRefusal (insert_error self.old.text char_idx (chars text.now))) }
-        ensures empty { length (chars text.now) ≡ 0 → insert_error self.old.text char_idx (chars text.now) ≡ None
-            → IsOk result × (self.new ≡ self.old) }
+        ensures ok { OnOk result (IsInsert self.old.text char_idx (chars text.now) self.new.text) }
+        ensures refused { IfErr result (IsInsertRefusal self.old.text char_idx (chars text.now)) }
+        ensures empty { length (chars text.now) ≡ 0
+            → CanInsert self.old.text char_idx (chars text.now) → IsIdle result self.old self.new }
         ensures kept { IsEdit result self.old self.new }
     {
         self.insert_made(char_idx, text, &mut Maker::new(self.alloc))
@@ -65,9 +67,10 @@ impl Rope {
 
     /// Inserts `text` before the character `char_idx`; for `len_chars()`, at the end.
     ///
-    /// The index is at most `len_chars()`. An empty text takes no memory. A short one goes into the chunk where the
-    /// place lies, without memory where that has room and is shared with no clone; else nodes on the way down are
-    /// made. A text of more than 981 bytes becomes a tree of its own first. No text of the rope is walked.
+    /// The index is at most `len_chars()`. An empty text takes no memory and changes nothing. A short one goes into
+    /// the chunk around that place, and takes no memory where the chunk has room and nothing on the way down to it is
+    /// shared with a clone; else nodes on the way down are made. A text of more than 981 bytes becomes a tree of its
+    /// own first. The rope's text is not walked.
     ///
     /// # Errors
     ///
@@ -75,10 +78,10 @@ impl Rope {
     /// leaves the rope as it was.
     pub fn insert(&mut self, char_idx: usize, text: &str) -> Result<()>
         requires { char_idx ≤ length self.old.text }
-        ensures ok { OnOk result ((insert_error self.old.text char_idx (chars text.now) ≡ None) × (self.new.text ≡ inserted self.old.text char_idx (chars text.now))) }
-        ensures refused { IfErr result (IsRefusal (insert_error self.old.text char_idx (chars text.now))) }
-        ensures empty { length (chars text.now) ≡ 0 → insert_error self.old.text char_idx (chars text.now) ≡ None
-            → IsOk result × (self.new ≡ self.old) }
+        ensures ok { OnOk result (IsInsert self.old.text char_idx (chars text.now) self.new.text) }
+        ensures refused { IfErr result (IsInsertRefusal self.old.text char_idx (chars text.now)) }
+        ensures empty { length (chars text.now) ≡ 0
+            → CanInsert self.old.text char_idx (chars text.now) → IsIdle result self.old self.new }
         ensures kept { IsEdit result self.old self.new }
     {
         self.try_insert(char_idx, text)
@@ -92,8 +95,8 @@ impl Rope {
     /// `len_chars()`; then `TooLong`, where the text would have more than `isize::MAX` bytes; then `OutOfMemory`. A
     /// refused call leaves the rope as it was.
     pub fn try_insert_char(&mut self, char_idx: usize, c: char) -> Result<()>
-        ensures ok { OnOk result ((insert_error self.old.text char_idx (c ∷ []) ≡ None) × (self.new.text ≡ inserted self.old.text char_idx (c ∷ []))) }
-        ensures refused { IfErr result (IsRefusal (insert_error self.old.text char_idx (c ∷ []))) }
+        ensures ok { OnOk result (IsInsert self.old.text char_idx (c ∷ []) self.new.text) }
+        ensures refused { IfErr result (IsInsertRefusal self.old.text char_idx (c ∷ [])) }
         ensures kept { IsEdit result self.old self.new }
     {
         self.try_insert(char_idx, c.encode_utf8(&mut [0; 4]))
@@ -101,9 +104,9 @@ impl Rope {
 
     /// Inserts the character `c` before the character `char_idx`; for `len_chars()`, at the end.
     ///
-    /// The index is at most `len_chars()`. It goes into the chunk where the place lies, without memory where that has
-    /// room and is shared with no clone; else it takes memory for at most 8 d + 16 nodes, where d is the rope's
-    /// depth. No text is walked.
+    /// The index is at most `len_chars()`. The character goes into the chunk around that place, and takes no memory
+    /// where the chunk has room and nothing on the way down to it is shared with a clone; else it takes memory for at
+    /// most 8 d + 16 nodes, where d is the rope's depth. No text is walked.
     ///
     /// # Errors
     ///
@@ -111,8 +114,8 @@ impl Rope {
     /// leaves the rope as it was.
     pub fn insert_char(&mut self, char_idx: usize, c: char) -> Result<()>
         requires { char_idx ≤ length self.old.text }
-        ensures ok { OnOk result ((insert_error self.old.text char_idx (c ∷ []) ≡ None) × (self.new.text ≡ inserted self.old.text char_idx (c ∷ []))) }
-        ensures refused { IfErr result (IsRefusal (insert_error self.old.text char_idx (c ∷ []))) }
+        ensures ok { OnOk result (IsInsert self.old.text char_idx (c ∷ []) self.new.text) }
+        ensures refused { IfErr result (IsInsertRefusal self.old.text char_idx (c ∷ [])) }
         ensures kept { IsEdit result self.old self.new }
     {
         self.try_insert_char(char_idx, c)
@@ -120,7 +123,7 @@ impl Rope {
 
     /// As `insert_char`, and sets `steps` to what it did: `made` counts the nodes that were made, at most 8 d + 16
     /// for a rope of depth d, refused or not.
-    /// Of the other two counts nothing is promised.
+    /// Nothing is promised of the other two counts.
     ///
     /// The index is at most `len_chars()`.
     ///
@@ -129,8 +132,8 @@ impl Rope {
     /// First `TooLong`, then `OutOfMemory`, as for `insert_char`. A refused call leaves the rope as it was.
     pub fn insert_char_counted(&mut self, char_idx: usize, c: char, steps: &mut Steps) -> Result<()>
         requires { char_idx ≤ length self.old.text }
-        ensures ok { OnOk result ((insert_error self.old.text char_idx (c ∷ []) ≡ None) × (self.new.text ≡ inserted self.old.text char_idx (c ∷ []))) }
-        ensures refused { IfErr result (IsRefusal (insert_error self.old.text char_idx (c ∷ []))) }
+        ensures ok { OnOk result (IsInsert self.old.text char_idx (c ∷ []) self.new.text) }
+        ensures refused { IfErr result (IsInsertRefusal self.old.text char_idx (c ∷ [])) }
         ensures kept { IsEdit result self.old self.new }
         ensures made { steps.new.made ≤ 8 * self.old.depth + 16 }
     {
@@ -148,8 +151,10 @@ impl Rope {
     /// `CharIndexOutOfBounds`, with the index and the number of characters, exactly where the index is past
     /// `len_chars()`; else `OutOfMemory`. A refused call leaves the rope as it was.
     pub fn try_split_off(&mut self, char_idx: usize) -> Result<Rope>
-        ensures ok { IfOk result (λ back. (char_index_error char_idx (length self.old.text) ≡ None) × IsCutAt char_idx self.old self.new back) }
-        ensures refused { IfErr result (IsRefusal (char_index_error char_idx (length self.old.text))) }
+        ensures ok { IfOk result (λ back. (char_index_error char_idx (length self.old.text) ≡ None)
+            × IsCutAt char_idx self.old self.new back) }
+        ensures refused { IfErr result
+            (IsRefusal (char_index_error char_idx (length self.old.text))) }
         ensures kept { IsEdit result self.old self.new }
     {
         let len = self.len_chars();
@@ -179,7 +184,7 @@ impl Rope {
 
     /// As `split_off`, and sets `steps` to what it did: `made` counts the nodes that were made, at most 16 d + 32
     /// for a rope of depth d, refused or not.
-    /// Of the other two counts nothing is promised.
+    /// Nothing is promised of the other two counts.
     ///
     /// The index is at most `len_chars()`.
     ///
@@ -218,11 +223,13 @@ impl Rope {
     /// `len_chars()`; then `CharRangeInvalid`, where the start is past the end; then `OutOfMemory`. A refused call
     /// leaves the rope as it was.
     pub fn try_remove<R: IndexRange>(&mut self, range: R) -> Result<()>
-        ensures ok { OnOk result ((char_range_error (R.given_start range) (R.given_end range) (length self.old.text) ≡ None)
-            × (self.new.text ≡ removed self.old.text (range_start (R.given_start range)) (range_end (R.given_end range) (length self.old.text)))) }
-        ensures refused { IfErr result (IsRefusal (char_range_error (R.given_start range) (R.given_end range) (length self.old.text))) }
-        ensures empty { char_range_error (R.given_start range) (R.given_end range) (length self.old.text) ≡ None
-            → range_start (R.given_start range) ≡ range_end (R.given_end range) (length self.old.text) → IsOk result × (self.new ≡ self.old) }
+        ensures ok { OnOk result
+            (IsRemoval self.old.text (R.given_start range) (R.given_end range) self.new.text) }
+        ensures refused { IfErr result
+            (IsRemovalRefusal self.old.text (R.given_start range) (R.given_end range)) }
+        ensures empty { HasCharRange self.old.text (R.given_start range) (R.given_end range)
+            → IsEmptyRange self.old.text (R.given_start range) (R.given_end range)
+            → IsIdle result self.old self.new }
         ensures kept { IsEdit result self.old self.new }
     {
         let (start, end) = char_bounds(&range, self.len_chars())?;
@@ -233,17 +240,19 @@ impl Rope {
     ///
     /// The range's bounds are at most `len_chars()`, and its start is at most its end. An empty range takes no
     /// memory and changes nothing; any other takes memory for at most 17 h + 12 nodes, where h is the rope's depth.
-    /// Where the characters lie in one chunk that keeps enough bytes, it takes memory for the nodes alone that are shared with
-    /// clones, on the way down to it, and else for none. No text is walked.
+    /// Where the characters lie in one chunk that keeps enough bytes, memory is taken only for copies of those nodes
+    /// on the way down that are shared with clones, and for none where nothing is shared. No text is walked.
     ///
     /// # Errors
     ///
     /// `OutOfMemory`. A refused call leaves the rope as it was.
     pub fn remove<R: IndexRange>(&mut self, range: R) -> Result<()>
-        requires { char_range_error (R.given_start range) (R.given_end range) (length self.old.text) ≡ None }
-        ensures ok { OnOk result (self.new.text ≡ removed self.old.text (range_start (R.given_start range)) (range_end (R.given_end range) (length self.old.text))) }
+        requires { HasCharRange self.old.text (R.given_start range) (R.given_end range) }
+        ensures ok { OnOk result
+            (IsRemoval self.old.text (R.given_start range) (R.given_end range) self.new.text) }
         ensures refused { IfErr result (λ e. e ≡ OutOfMemory) }
-        ensures empty { range_start (R.given_start range) ≡ range_end (R.given_end range) (length self.old.text) → IsOk result × (self.new ≡ self.old) }
+        ensures empty { IsEmptyRange self.old.text (R.given_start range) (R.given_end range)
+            → IsIdle result self.old self.new }
         ensures kept { IsEdit result self.old self.new }
     {
         self.remove_counted(range, &mut Steps::new())
@@ -251,7 +260,7 @@ impl Rope {
 
     /// As `remove`, and sets `steps` to what it did: `made` counts the nodes that were made, at most 16 d + 32 for
     /// a rope of depth d, refused or not.
-    /// Of the other two counts nothing is promised.
+    /// Nothing is promised of the other two counts.
     ///
     /// The range's bounds are at most `len_chars()`, and its start is at most its end.
     ///
@@ -259,10 +268,12 @@ impl Rope {
     ///
     /// `OutOfMemory`. A refused call leaves the rope as it was.
     pub fn remove_counted<R: IndexRange>(&mut self, range: R, steps: &mut Steps) -> Result<()>
-        requires { char_range_error (R.given_start range) (R.given_end range) (length self.old.text) ≡ None }
-        ensures ok { OnOk result (self.new.text ≡ removed self.old.text (range_start (R.given_start range)) (range_end (R.given_end range) (length self.old.text))) }
+        requires { HasCharRange self.old.text (R.given_start range) (R.given_end range) }
+        ensures ok { OnOk result
+            (IsRemoval self.old.text (R.given_start range) (R.given_end range) self.new.text) }
         ensures refused { IfErr result (λ e. e ≡ OutOfMemory) }
-        ensures empty { range_start (R.given_start range) ≡ range_end (R.given_end range) (length self.old.text) → IsOk result × (self.new ≡ self.old) }
+        ensures empty { IsEmptyRange self.old.text (R.given_start range) (R.given_end range)
+            → IsIdle result self.old self.new }
         ensures kept { IsEdit result self.old self.new }
         ensures made { steps.new.made ≤ 16 * self.old.depth + 32 }
     {
@@ -279,7 +290,7 @@ impl Rope {
 
     /// Puts the text of another rope behind this one's. The rope shares what it can of the other's tree.
     ///
-    /// Where one of the two is empty it takes no memory, and the rope has the chunks of the other; else it takes
+    /// Where one of the two is empty, it takes no memory, and the rope has the chunks of the other; else it takes
     /// memory for at most 16 h + 11 nodes, where h is the greater depth of the two. No text is walked.
     ///
     /// # Errors
@@ -288,10 +299,12 @@ impl Rope {
     /// where the text would have more than `isize::MAX` bytes; then `OutOfMemory`. A refused call leaves the rope
     /// as it was.
     pub fn append(&mut self, other: Rope) -> Result<()>
-        ensures ok { OnOk result ((append_error self.old.breaks other.breaks self.old.text other.text ≡ None) × (self.new.text ≡ self.old.text ++ other.text)) }
-        ensures refused { IfErr result (IsRefusal (append_error self.old.breaks other.breaks self.old.text other.text)) }
-        ensures empty_other { append_error self.old.breaks other.breaks self.old.text other.text ≡ None → length other.text ≡ 0 → IsOk result × (self.new ≡ self.old) }
-        ensures empty_self { append_error self.old.breaks other.breaks self.old.text other.text ≡ None → length self.old.text ≡ 0 → 0 < length other.text → IsOk result × (self.new ≡ other) }
+        ensures ok { OnOk result (IsAppend self.old other self.new) }
+        ensures refused { IfErr result (IsAppendRefusal self.old other) }
+        ensures empty_other { CanAppend self.old other → length other.text ≡ 0
+            → IsIdle result self.old self.new }
+        ensures empty_self { CanAppend self.old other → length self.old.text ≡ 0
+            → 0 < length other.text → IsOk result × (self.new ≡ other) }
         ensures kept { IsEdit result self.old self.new }
     {
         self.append_counted(other, &mut Steps::new())
@@ -299,17 +312,19 @@ impl Rope {
 
     /// As `append`, and sets `steps` to what it did: `made` counts the nodes that were made, at most 16 d + 32
     /// where d is the greater depth of the two, refused or not.
-    /// Of the other two counts nothing is promised.
+    /// Nothing is promised of the other two counts.
     ///
     /// # Errors
     ///
     /// First `LineBreaksDiffer`, then `TooLong`, then `OutOfMemory`, as for `append`. A refused call leaves the
     /// rope as it was.
     pub fn append_counted(&mut self, mut other: Rope, steps: &mut Steps) -> Result<()>
-        ensures ok { OnOk result ((append_error self.old.breaks other.breaks self.old.text other.text ≡ None) × (self.new.text ≡ self.old.text ++ other.text)) }
-        ensures refused { IfErr result (IsRefusal (append_error self.old.breaks other.breaks self.old.text other.text)) }
-        ensures empty_other { append_error self.old.breaks other.breaks self.old.text other.text ≡ None → length other.text ≡ 0 → IsOk result × (self.new ≡ self.old) }
-        ensures empty_self { append_error self.old.breaks other.breaks self.old.text other.text ≡ None → length self.old.text ≡ 0 → 0 < length other.text → IsOk result × (self.new ≡ other) }
+        ensures ok { OnOk result (IsAppend self.old other self.new) }
+        ensures refused { IfErr result (IsAppendRefusal self.old other) }
+        ensures empty_other { CanAppend self.old other → length other.text ≡ 0
+            → IsIdle result self.old self.new }
+        ensures empty_self { CanAppend self.old other → length self.old.text ≡ 0
+            → 0 < length other.text → IsOk result × (self.new ≡ other) }
         ensures kept { IsEdit result self.old self.new }
         ensures made { steps.new.made ≤ 16 * max self.old.depth other.depth + 32 }
     {

@@ -5,13 +5,14 @@
 //!
 //! A reader or a writer may be handed over, or lent as a `Source` or a `Sink`, which marks its failures: then it
 //! can be asked afterwards whether it was the device that failed. `Watched` makes one of any reader or writer.
-ghost use Rattle.std.specs.Prelude.{◌≡◌, ℕ, List, Bool, Option, true, ◌↔◌, OnOk, IfOk, IfSome, IsErr};
+ghost use Rattle.std.specs.Prelude.{◌≡◌, ℕ, List, Bool, Option, true, ◌↔◌, OnOk, IfOk, IsErr};
 ghost use Rattle.std.specs.Io.KnownBytes.{Appends};
 ghost use Rattle.std.specs.Str.{encode_utf8_all};
 ghost use Rattle.rope_text.specs.declared.line_breaks.LineBreaks.TheVariants.{Unicode};
 ghost use Rattle.rope_io.specs.Failing.{failure_of, reader_failure, IsCounted};
 ghost use Rattle.rope_io.specs.Reading.{Reads, IsReadFailure};
 ghost use Rattle.rope_io.specs.Writing.{AppendsFront};
+ghost use Rattle.ropey.specs.Texts.{AreUtf8Of};
 ghost use Rattle.ropey.specs.View.{IsBuilt, text_of};
 
 use crate::rope::Rope;
@@ -35,7 +36,7 @@ impl Rope {
     pub fn from_reader<T: Read + Drop>(alloc: Global, reader: T) -> ReadResult<Rope>
         ensures answer { (left : Option (List ℕ)) × (failed : Bool)
             × Reads text_of (T.remaining reader) left failed result }
-        ensures ok { IfOk result (λ rope. IfSome (T.remaining reader) (λ bytes. encode_utf8_all rope.text ≡ bytes)) }
+        ensures ok { IfOk result (λ rope. AreUtf8Of (T.remaining reader) rope.text) }
         ensures kept { IfOk result (IsBuilt Unicode) }
     {
         Rope::from_reader_with(alloc, reader, LineBreaks::Unicode)
@@ -46,14 +47,17 @@ impl Rope {
     /// # Errors
     ///
     /// `Read`, `InvalidData` and `Rope`, as for `from_reader`; the mark is set afterwards exactly where the answer
-    /// is `Read`. Then one read has failed, with the kind that is answered, and the source was not called again.
+    /// is `Read`. Then one read has failed, with the kind of the error that is returned, and the source was not
+    /// called again.
     pub fn from_watched<S: Source>(alloc: Global, source: &mut S) -> ReadResult<Rope>
         // The bytes that were given decide the answer,
-        ensures answer { Reads text_of (S.remaining source.old) (S.remaining source.new) (S.marked source.new) result }
-        ensures failure { IsCounted (reader_failure result) (S.failure source.new) (S.failures source.old) (S.failures source.new) }
+        ensures answer { Reads text_of (S.remaining source.old) (S.remaining source.new)
+            (S.marked source.new) result }
+        ensures failure { IsCounted (reader_failure result) (S.failure source.new)
+            (S.failures source.old) (S.failures source.new) }
 
         // so an `Ok` has the text of the whole input, and the mark says a failed device.
-        ensures ok { IfOk result (λ rope. IfSome (S.remaining source.old) (λ bytes. encode_utf8_all rope.text ≡ bytes)) }
+        ensures ok { IfOk result (λ rope. AreUtf8Of (S.remaining source.old) rope.text) }
         ensures failed { IsReadFailure result ↔ (S.marked source.new ≡ true) }
         ensures kept { IfOk result (IsBuilt Unicode) }
     {
@@ -72,7 +76,7 @@ impl Rope {
     ) -> ReadResult<Rope>
         ensures answer { (left : Option (List ℕ)) × (failed : Bool)
             × Reads text_of (T.remaining reader) left failed result }
-        ensures ok { IfOk result (λ rope. IfSome (T.remaining reader) (λ bytes. encode_utf8_all rope.text ≡ bytes)) }
+        ensures ok { IfOk result (λ rope. AreUtf8Of (T.remaining reader) rope.text) }
         ensures kept { IfOk result (IsBuilt breaks) }
     {
         Rope::from_watched_with(alloc, &mut Watched::new(reader), breaks)
@@ -83,15 +87,18 @@ impl Rope {
     /// # Errors
     ///
     /// `Read`, `InvalidData` and `Rope`, as for `from_reader`; the mark is set afterwards exactly where the answer
-    /// is `Read`. Then one read has failed, with the kind that is answered, and the source was not called again.
+    /// is `Read`. Then one read has failed, with the kind of the error that is returned, and the source was not
+    /// called again.
     pub fn from_watched_with<S: Source>(
         alloc: Global,
         source: &mut S,
         breaks: LineBreaks,
     ) -> ReadResult<Rope>
-        ensures answer { Reads text_of (S.remaining source.old) (S.remaining source.new) (S.marked source.new) result }
-        ensures failure { IsCounted (reader_failure result) (S.failure source.new) (S.failures source.old) (S.failures source.new) }
-        ensures ok { IfOk result (λ rope. IfSome (S.remaining source.old) (λ bytes. encode_utf8_all rope.text ≡ bytes)) }
+        ensures answer { Reads text_of (S.remaining source.old) (S.remaining source.new)
+            (S.marked source.new) result }
+        ensures failure { IsCounted (reader_failure result) (S.failure source.new)
+            (S.failures source.old) (S.failures source.new) }
+        ensures ok { IfOk result (λ rope. AreUtf8Of (S.remaining source.old) rope.text) }
         ensures failed { IsReadFailure result ↔ (S.marked source.new ≡ true) }
         ensures kept { IfOk result (IsBuilt breaks) }
     {
@@ -103,8 +110,8 @@ impl Rope {
     ///
     /// # Errors
     ///
-    /// A write's error, at once, an interrupted one too; of the kind `WriteZero` where the writer takes no byte of
-    /// some. Then a beginning of the text has been written.
+    /// A write's error, at once, an interrupted one too; of the kind `WriteZero` where the writer takes none of the
+    /// bytes that it is given. Then a beginning of the text has been written.
     pub fn write_to<T: Write + Drop>(&self, writer: T) -> io::Result<()> {
         self.write_watched(&mut Watched::new(writer))
     }
@@ -113,14 +120,18 @@ impl Rope {
     ///
     /// # Errors
     ///
-    /// A write's error, at once, an interrupted one too; of the kind `WriteZero` where the writer takes no byte of
-    /// some. Then a beginning of the text has been written. The mark is set afterwards exactly where an error is
-    /// returned; then one write has failed, with that kind, and the sink was not called again.
+    /// A write's error, at once, an interrupted one too; of the kind `WriteZero` where the writer takes none of the
+    /// bytes that it is given. Then a beginning of the text has been written. The mark is set afterwards exactly
+    /// where an error is returned; then one write has failed, with that error's kind, and the sink was not called
+    /// again.
     pub fn write_watched<S: Sink>(&self, sink: &mut S) -> io::Result<()>
-        ensures ok { OnOk result (Appends (S.contents sink.old) (S.contents sink.new) (encode_utf8_all self.now.text)) }
-        ensures front { AppendsFront (S.contents sink.old) (S.contents sink.new) (encode_utf8_all self.now.text) }
+        ensures ok { OnOk result
+            (Appends (S.contents sink.old) (S.contents sink.new) (encode_utf8_all self.now.text)) }
+        ensures front { AppendsFront (S.contents sink.old) (S.contents sink.new)
+            (encode_utf8_all self.now.text) }
         ensures failed { IsErr result ↔ (S.marked sink.new ≡ true) }
-        ensures failure { IsCounted (failure_of result) (S.failure sink.new) (S.failures sink.old) (S.failures sink.new) }
+        ensures failure { IsCounted (failure_of result) (S.failure sink.new)
+            (S.failures sink.old) (S.failures sink.new) }
     {
         write_part(&self.whole().part, sink)
     }

@@ -59,31 +59,34 @@ impl Rope {
     /// The index is at most `len_bytes()`. Costs one look-up; takes no memory.
     pub fn chunk_at_byte(&self, byte_idx: usize) -> ChunkAt<'_>
         requires { byte_idx ≤ byte_len self.now.text }
-        ensures { ShowsChunk (content self.now) (chunk_index_at_byte self.now.chunks byte_idx) result }
+        ensures { ShowsChunk (content self.now)
+            (chunk_index_at_byte self.now.chunks byte_idx) result }
     {
         self.whole().chunk_at_byte(byte_idx)
     }
 
     /// The chunk that holds the character `char_idx`, and at the end of the text the last chunk. With it the
-    /// numbers of bytes, of characters and of line breaks that end before the chunk; with no chunk at all `("", 0,
-    /// 0, 0)`.
+    /// numbers of bytes, of characters and of line breaks that end before the chunk; with no chunk at all
+    /// `("", 0, 0, 0)`.
     ///
     /// The index is at most `len_chars()`. Costs one look-up; takes no memory.
     pub fn chunk_at_char(&self, char_idx: usize) -> ChunkAt<'_>
         requires { char_idx ≤ length self.now.text }
-        ensures { ShowsChunk (content self.now) (chunk_index_at_char self.now.chunks char_idx) result }
+        ensures { ShowsChunk (content self.now)
+            (chunk_index_at_char self.now.chunks char_idx) result }
     {
         self.whole().chunk_at_char(char_idx)
     }
 
-    /// The first chunk by whose end `line_break_idx` line breaks have ended, and the last chunk where there is none
-    /// such. With it the numbers of bytes, of characters and of line breaks that end before the chunk; with no
-    /// chunk at all `("", 0, 0, 0)`.
+    /// The first chunk by whose end `line_break_idx` line breaks have ended, or else the last chunk. With it the
+    /// numbers of bytes, of characters and of line breaks that end before the chunk; with no chunk at all
+    /// `("", 0, 0, 0)`.
     ///
     /// The index is at most `len_lines()`. Costs one look-up; takes no memory.
     pub fn chunk_at_line_break(&self, line_break_idx: usize) -> ChunkAt<'_>
         requires { line_break_idx ≤ line_count self.now.breaks self.now.text }
-        ensures { ShowsChunk (content self.now) (chunk_index_at_line_break self.now.breaks self.now.chunks line_break_idx) result }
+        ensures { ShowsChunk (content self.now)
+            (chunk_index_at_line_break self.now.breaks self.now.chunks line_break_idx) result }
     {
         self.whole().chunk_at_line_break(line_break_idx)
     }
@@ -126,7 +129,8 @@ impl Rope {
     /// no memory.
     pub fn get_chunk_at_line_break(&self, line_break_idx: usize) -> Option<ChunkAt<'_>>
         ensures { GivesWithin line_break_idx (line_count self.now.breaks self.now.text) result
-            (ShowsChunk (content self.now) (chunk_index_at_line_break self.now.breaks self.now.chunks line_break_idx)) }
+            (ShowsChunk (content self.now)
+            (chunk_index_at_line_break self.now.breaks self.now.chunks line_break_idx)) }
     {
         self.whole().get_chunk_at_line_break(line_break_idx)
     }
@@ -294,7 +298,8 @@ impl Rope {
     /// `LineIndexOutOfBounds`, with the index and the number of lines, exactly where the index is past
     /// `len_lines()`.
     pub fn try_line_to_byte(&self, line_idx: usize) -> Result<usize>
-        ensures { result ≡ checked (line_index_error line_idx (line_count self.now.breaks self.now.text))
+        ensures { result ≡ checked
+            (line_index_error line_idx (line_count self.now.breaks self.now.text))
             (line_to_byte self.now.breaks self.now.text line_idx) }
     {
         self.whole().try_line_to_byte(line_idx)
@@ -307,7 +312,8 @@ impl Rope {
         requires { line_idx ≤ line_count self.now.breaks self.now.text }
         ensures value { result ≡ line_to_char self.now.breaks self.now.text line_idx }
         ensures within { result ≤ length self.now.text }
-        ensures ordered { (later : ℕ) → line_idx ≤ later → result ≤ line_to_char self.now.breaks self.now.text later }
+        ensures ordered { (later : ℕ) → line_idx ≤ later
+            → result ≤ line_to_char self.now.breaks self.now.text later }
     {
         self.line_to_char_counted(line_idx, &mut Steps::new())
     }
@@ -319,7 +325,8 @@ impl Rope {
     /// `LineIndexOutOfBounds`, with the index and the number of lines, exactly where the index is past
     /// `len_lines()`.
     pub fn try_line_to_char(&self, line_idx: usize) -> Result<usize>
-        ensures { result ≡ checked (line_index_error line_idx (line_count self.now.breaks self.now.text))
+        ensures { result ≡ checked
+            (line_index_error line_idx (line_count self.now.breaks self.now.text))
             (line_to_char self.now.breaks self.now.text line_idx) }
     {
         self.whole().try_line_to_char(line_idx)
@@ -402,7 +409,8 @@ impl Rope {
     pub fn line_to_byte_counted(&self, line_idx: usize, steps: &mut Steps) -> usize
         requires { line_idx ≤ line_count self.now.breaks self.now.text }
         ensures value { result ≡ line_to_byte self.now.breaks self.now.text line_idx }
-        ensures steps { IsLineLookUp line_idx (line_count self.now.breaks self.now.text) self.now.depth steps.new }
+        ensures steps { IsLineLookUp line_idx (line_count self.now.breaks self.now.text)
+            self.now.depth steps.new }
     {
         convert(self.begin(steps), LineBreak, Byte, line_idx, steps)
     }
@@ -412,7 +420,8 @@ impl Rope {
     pub fn line_to_char_counted(&self, line_idx: usize, steps: &mut Steps) -> usize
         requires { line_idx ≤ line_count self.now.breaks self.now.text }
         ensures value { result ≡ line_to_char self.now.breaks self.now.text line_idx }
-        ensures steps { IsLineLookUp line_idx (line_count self.now.breaks self.now.text) self.now.depth steps.new }
+        ensures steps { IsLineLookUp line_idx (line_count self.now.breaks self.now.text)
+            self.now.depth steps.new }
     {
         convert(self.begin(steps), LineBreak, Char, line_idx, steps)
     }

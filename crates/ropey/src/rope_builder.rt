@@ -1,11 +1,11 @@
 //! Ropes made of texts that are passed in one after the other.
 //!
 //! After `append("one\n")` and `append("two")`, `finish` returns a rope of `"one\ntwo"`.
-ghost use Rattle.std.specs.Prelude.{◌≡◌, ◌+◌, ◌++◌, [], Some, None, length, IsOk, IfOk, IfErr, OnOk};
+ghost use Rattle.std.specs.Prelude.{◌≡◌, ◌++◌, [], Some, None, length, IsOk, IfOk, IfErr, OnOk};
 ghost use Rattle.std.specs.Str.{chars};
 ghost use Rattle.rope_text.specs.declared.line_breaks.LineBreaks.TheVariants.{Unicode};
-ghost use Rattle.rope_text.specs.Text.{byte_len};
-ghost use Rattle.rope_text.specs.Edit.{or_else, size_error, IsRefusal};
+ghost use Rattle.rope_text.specs.Edit.{IsRefusal};
+ghost use Rattle.ropey.specs.Building.{text_error};
 ghost use Rattle.ropey.specs.View.{IsBuilt};
 
 use crate::rope::Rope;
@@ -30,7 +30,8 @@ impl Model for RopeBuilder {
 
     ghost Value = { Building };
 
-    ghost view = { λ b. record { text = b.builder.text; breaks = b.builder.breaks; failed = b.failed } };
+    ghost view = { λ b.
+        record { text = b.builder.text; breaks = b.builder.breaks; failed = b.failed } };
 }
 
 impl RopeBuilder {
@@ -70,9 +71,9 @@ impl RopeBuilder {
     /// First the error of an earlier refusal; then `TooLong`, where all texts so far would have more than
     /// `isize::MAX` bytes; then `OutOfMemory`. After a refusal every later call returns that error.
     pub fn append(&mut self, text: &str) -> Result<()>
-        ensures ok { OnOk result ((or_else self.old.failed (size_error (byte_len self.old.text + length text.now)) ≡ None)
+        ensures ok { OnOk result ((text_error self.old (length text.now) ≡ None)
             × (self.new.text ≡ self.old.text ++ chars text.now) × (self.new.failed ≡ None)) }
-        ensures refused { IfErr result (IsRefusal (or_else self.old.failed (size_error (byte_len self.old.text + length text.now)))) }
+        ensures refused { IfErr result (IsRefusal (text_error self.old (length text.now))) }
         ensures failed { IfErr result (λ e. self.new.failed ≡ Some e) }
         ensures empty { self.old.failed ≡ None → length text.now ≡ 0 → IsOk result }
         ensures breaks { self.new.breaks ≡ self.old.breaks }

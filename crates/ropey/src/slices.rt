@@ -4,12 +4,13 @@
 //!
 //! A cursor stands between two items. Over the characters of `"abc"`, `chars_at(1)` gives `b` by `next`, and then
 //! `b` again by `prev`. No slice and no cursor takes memory.
-ghost use Rattle.std.specs.Prelude.{◌≡◌, length, None, Some, IfOk, IfErr, ◌≤◌, ◌<◌, MatchOption};
-ghost use Rattle.rope_text.specs.Edit.{char_range_error, byte_range_error};
+ghost use Rattle.std.specs.Prelude.{◌≡◌, length, Some, IfOk, IfErr, ◌≤◌, ◌<◌, MatchOption};
+ghost use Rattle.rope_text.specs.Edit.{byte_range_error};
 ghost use Rattle.rope_text.specs.declared.error.Error.TheVariants.{OutOfMemory};
-ghost use Rattle.rope_slice.specs.Sliced.{IsCharRange, IsByteRange};
+ghost use Rattle.rope_slice.specs.Sliced.{HasCharRange, HasByteRange, IsCharRange, IsByteRange};
+ghost use Rattle.rope_slice.specs.Ranges.{GivesChars, GivesBytes, IsByteSlice};
 ghost use Rattle.rope_slice.specs.Slice.{content_of, text_of, breaks_of};
-ghost use Rattle.rope_slice.specs.Found.{GivesUnless, GivesWithin, StandsBefore};
+ghost use Rattle.rope_slice.specs.Found.{GivesWithin, StandsBefore};
 ghost use Rattle.ropey.specs.View.{content, IsRope};
 ghost use Rattle.std.specs.Str.{encode_utf8_all};
 ghost use Rattle.rope_text.specs.Text.{byte_len};
@@ -42,8 +43,9 @@ impl Rope {
     /// The range's bounds are at most `len_chars()`, and its start is at most its end. Costs two look-ups; takes no
     /// memory.
     pub fn slice<R: IndexRange>(&self, range: R) -> RopeSlice<'_>
-        requires { char_range_error (R.given_start range) (R.given_end range) (length self.now.text) ≡ None }
-        ensures { IsCharRange (content self.now) (R.given_start range) (R.given_end range) (content_of result) }
+        requires { HasCharRange self.now.text (R.given_start range) (R.given_end range) }
+        ensures { IsCharRange (content self.now) (R.given_start range) (R.given_end range)
+            (content_of result) }
     {
         self.whole().slice(range)
     }
@@ -51,8 +53,7 @@ impl Rope {
     /// As `slice`, or `None` exactly where a bound is past `len_chars()` or the range's start is past its end.
     /// Costs two look-ups; takes no memory.
     pub fn get_slice<R: IndexRange>(&self, range: R) -> Option<RopeSlice<'_>>
-        ensures { GivesUnless (char_range_error (R.given_start range) (R.given_end range) (length self.now.text)) result
-            (λ slice. IsCharRange (content self.now) (R.given_start range) (R.given_end range) (content_of slice)) }
+        ensures { GivesChars (content self.now) (R.given_start range) (R.given_end range) result }
     {
         self.whole().get_slice(range)
     }
@@ -62,8 +63,9 @@ impl Rope {
     /// The range's bounds are at most `len_bytes()`, its start is at most its end, and no bound lies inside a
     /// character. Costs two look-ups; takes no memory.
     pub fn byte_slice<R: IndexRange>(&self, range: R) -> RopeSlice<'_>
-        requires { byte_range_error self.now.text (R.given_start range) (R.given_end range) ≡ None }
-        ensures { IsByteRange (content self.now) (R.given_start range) (R.given_end range) (content_of result) }
+        requires { HasByteRange self.now.text (R.given_start range) (R.given_end range) }
+        ensures { IsByteRange (content self.now) (R.given_start range) (R.given_end range)
+            (content_of result) }
     {
         self.whole().byte_slice(range)
     }
@@ -76,9 +78,10 @@ impl Rope {
     /// `ByteRangeOutOfBounds`, where a given bound is past `len_bytes()`; then `ByteRangeNotCharBoundary`, where a
     /// given bound lies inside a character.
     pub fn try_byte_slice<R: IndexRange>(&self, range: R) -> Result<RopeSlice<'_>>
-        ensures ok { IfOk result (λ slice. (byte_range_error self.now.text (R.given_start range) (R.given_end range) ≡ None)
-            × IsByteRange (content self.now) (R.given_start range) (R.given_end range) (content_of slice)) }
-        ensures refused { IfErr result (λ fault. byte_range_error self.now.text (R.given_start range) (R.given_end range) ≡ Some fault) }
+        ensures ok { IfOk result
+            (IsByteSlice (content self.now) (R.given_start range) (R.given_end range)) }
+        ensures refused { IfErr result (λ fault.
+            byte_range_error self.now.text (R.given_start range) (R.given_end range) ≡ Some fault) }
     {
         self.whole().try_byte_slice(range)
     }
@@ -86,8 +89,7 @@ impl Rope {
     /// As `byte_slice`, or `None` exactly where `try_byte_slice` returns an error. Costs two look-ups; takes no
     /// memory.
     pub fn get_byte_slice<R: IndexRange>(&self, range: R) -> Option<RopeSlice<'_>>
-        ensures { GivesUnless (byte_range_error self.now.text (R.given_start range) (R.given_end range)) result
-            (λ slice. IsByteRange (content self.now) (R.given_start range) (R.given_end range) (content_of slice)) }
+        ensures { GivesBytes (content self.now) (R.given_start range) (R.given_end range) result }
     {
         self.whole().get_byte_slice(range)
     }
@@ -158,7 +160,8 @@ impl Rope {
     /// The index is at most `len_bytes()`. Costs one look-up; takes no memory.
     pub fn chunks_at_byte(&self, byte_idx: usize) -> ChunksAt<'_>
         requires { byte_idx ≤ byte_len self.now.text }
-        ensures { StandsBefore (content self.now) (chunk_place_at_byte self.now.chunks byte_idx) result }
+        ensures { StandsBefore (content self.now)
+            (chunk_place_at_byte self.now.chunks byte_idx) result }
     {
         self.whole().chunks_at_byte(byte_idx)
     }
@@ -170,7 +173,8 @@ impl Rope {
     /// The index is at most `len_chars()`. Costs one look-up; takes no memory.
     pub fn chunks_at_char(&self, char_idx: usize) -> ChunksAt<'_>
         requires { char_idx ≤ length self.now.text }
-        ensures { StandsBefore (content self.now) (chunk_place_at_char self.now.chunks char_idx) result }
+        ensures { StandsBefore (content self.now)
+            (chunk_place_at_char self.now.chunks char_idx) result }
     {
         self.whole().chunks_at_char(char_idx)
     }
@@ -182,7 +186,8 @@ impl Rope {
     /// The index is at most `len_lines()`. Costs one look-up; takes no memory.
     pub fn chunks_at_line_break(&self, line_break_idx: usize) -> ChunksAt<'_>
         requires { line_break_idx ≤ line_count self.now.breaks self.now.text }
-        ensures { StandsBefore (content self.now) (chunk_place_at_line_break self.now.breaks self.now.chunks line_break_idx) result }
+        ensures { StandsBefore (content self.now)
+            (chunk_place_at_line_break self.now.breaks self.now.chunks line_break_idx) result }
     {
         self.whole().chunks_at_line_break(line_break_idx)
     }
@@ -217,14 +222,16 @@ impl Rope {
 
     /// As `bytes_at`, or `None` exactly where the index is past `len_bytes()`. Costs one look-up; takes no memory.
     pub fn get_bytes_at(&self, byte_idx: usize) -> Option<Bytes<'_>>
-        ensures { GivesWithin byte_idx (byte_len self.now.text) result (λ bytes. bytes ≡ at_place (encode_utf8_all self.now.text) byte_idx) }
+        ensures { GivesWithin byte_idx (byte_len self.now.text) result
+            (λ bytes. bytes ≡ at_place (encode_utf8_all self.now.text) byte_idx) }
     {
         self.whole().get_bytes_at(byte_idx)
     }
 
     /// As `chars_at`, or `None` exactly where the index is past `len_chars()`. Costs one look-up; takes no memory.
     pub fn get_chars_at(&self, char_idx: usize) -> Option<Chars<'_>>
-        ensures { GivesWithin char_idx (length self.now.text) result (λ chars. chars ≡ at_place self.now.text char_idx) }
+        ensures { GivesWithin char_idx (length self.now.text) result
+            (λ chars. chars ≡ at_place self.now.text char_idx) }
     {
         self.whole().get_chars_at(char_idx)
     }
@@ -251,7 +258,8 @@ impl Rope {
     /// no memory.
     pub fn get_chunks_at_line_break(&self, line_break_idx: usize) -> Option<ChunksAt<'_>>
         ensures { GivesWithin line_break_idx (line_count self.now.breaks self.now.text) result
-            (StandsBefore (content self.now) (chunk_place_at_line_break self.now.breaks self.now.chunks line_break_idx)) }
+            (StandsBefore (content self.now)
+            (chunk_place_at_line_break self.now.breaks self.now.chunks line_break_idx)) }
     {
         self.whole().get_chunks_at_line_break(line_break_idx)
     }
@@ -268,7 +276,8 @@ impl Rope {
 
     /// As `lines_at`, or `None` exactly where the index is past `len_lines()`. Costs one look-up; takes no memory.
     pub fn get_lines_at(&self, line_idx: usize) -> Option<Lines<'_>>
-        ensures { GivesWithin line_idx (line_count self.now.breaks self.now.text) result (λ lines. lines ≡ at_place (lines_of (content self.now)) line_idx) }
+        ensures { GivesWithin line_idx (line_count self.now.breaks self.now.text) result
+            (λ lines. lines ≡ at_place (lines_of (content self.now)) line_idx) }
     {
         self.whole().get_lines_at(line_idx)
     }

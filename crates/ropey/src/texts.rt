@@ -51,8 +51,8 @@ impl Rope {
         Rope::from_str(alloc, cow.as_str())
     }
 
-    /// A rope of the texts that the iterator gives, one behind the other, with Unicode's line breaks, in at most (n
-    /// + 980) / 981 chunks for n bytes.
+    /// A rope of the texts that the iterator gives, one behind the other, with Unicode's line breaks. It has at most
+    /// (n + 980) / 981 chunks for n bytes.
     ///
     /// The iterator must end. Takes time and memory in proportion to the text.
     ///
@@ -64,10 +64,13 @@ impl Rope {
         alloc: Global,
         iter: I,
     ) -> Result<Rope>
-        requires ends { IsFiniteIterable I.into_iter_gives I.IntoIter.can_next I.IntoIter.remaining iter }
-        ensures text { IfOk result (λ rope. IsAllOf I.into_iter_gives I.IntoIter.next_gives (λ x. x.now) iter rope.text) }
+        requires ends { IsFiniteIterable I.into_iter_gives I.IntoIter.can_next
+            I.IntoIter.remaining iter }
+        ensures text { IfOk result (λ rope.
+            IsAllOf I.into_iter_gives I.IntoIter.next_gives (λ x. x.now) iter rope.text) }
         ensures kept { IfOk result (IsBuilt Unicode) }
-        ensures refused { IfErr result (IsRefusedOf I.into_iter_gives I.IntoIter.next_gives (λ x. x.now) iter) }
+        ensures refused { IfErr result
+            (IsRefusedOf I.into_iter_gives I.IntoIter.next_gives (λ x. x.now) iter) }
     {
         from_texts(alloc, iter)
     }
@@ -80,10 +83,13 @@ impl Rope {
     ///
     /// `TooLong`, then `OutOfMemory`, as for `from_str_iter`.
     pub fn from_string_iter<I: IntoIterator<Item = String>>(alloc: Global, iter: I) -> Result<Rope>
-        requires ends { IsFiniteIterable I.into_iter_gives I.IntoIter.can_next I.IntoIter.remaining iter }
-        ensures text { IfOk result (λ rope. IsAllOf I.into_iter_gives I.IntoIter.next_gives string_bytes iter rope.text) }
+        requires ends { IsFiniteIterable I.into_iter_gives I.IntoIter.can_next
+            I.IntoIter.remaining iter }
+        ensures text { IfOk result (λ rope.
+            IsAllOf I.into_iter_gives I.IntoIter.next_gives string_bytes iter rope.text) }
         ensures kept { IfOk result (IsBuilt Unicode) }
-        ensures refused { IfErr result (IsRefusedOf I.into_iter_gives I.IntoIter.next_gives string_bytes iter) }
+        ensures refused { IfErr result
+            (IsRefusedOf I.into_iter_gives I.IntoIter.next_gives string_bytes iter) }
     {
         from_texts(alloc, iter)
     }
@@ -99,10 +105,13 @@ impl Rope {
         alloc: Global,
         iter: I,
     ) -> Result<Rope>
-        requires ends { IsFiniteIterable I.into_iter_gives I.IntoIter.can_next I.IntoIter.remaining iter }
-        ensures text { IfOk result (λ rope. IsAllOf I.into_iter_gives I.IntoIter.next_gives cow_str_bytes iter rope.text) }
+        requires ends { IsFiniteIterable I.into_iter_gives I.IntoIter.can_next
+            I.IntoIter.remaining iter }
+        ensures text { IfOk result (λ rope.
+            IsAllOf I.into_iter_gives I.IntoIter.next_gives cow_str_bytes iter rope.text) }
         ensures kept { IfOk result (IsBuilt Unicode) }
-        ensures refused { IfErr result (IsRefusedOf I.into_iter_gives I.IntoIter.next_gives cow_str_bytes iter) }
+        ensures refused { IfErr result
+            (IsRefusedOf I.into_iter_gives I.IntoIter.next_gives cow_str_bytes iter) }
     {
         from_texts(alloc, iter)
     }
@@ -163,10 +172,13 @@ impl Rope {
 
 // Hands the texts to a builder, one after the other.
 fn from_texts<T: AsStr + Drop, I: IntoIterator<Item = T>>(alloc: Global, iter: I) -> Result<Rope>
-    requires ends { IsFiniteIterable I.into_iter_gives I.IntoIter.can_next I.IntoIter.remaining iter }
-    ensures text { IfOk result (λ rope. IsAllOf I.into_iter_gives I.IntoIter.next_gives T.text iter rope.text) }
+    requires ends { IsFiniteIterable I.into_iter_gives I.IntoIter.can_next
+        I.IntoIter.remaining iter }
+    ensures text { IfOk result (λ rope.
+        IsAllOf I.into_iter_gives I.IntoIter.next_gives T.text iter rope.text) }
     ensures kept { IfOk result (IsBuilt Unicode) }
-    ensures refused { IfErr result (IsRefusedOf I.into_iter_gives I.IntoIter.next_gives T.text iter) }
+    ensures refused { IfErr result
+        (IsRefusedOf I.into_iter_gives I.IntoIter.next_gives T.text iter) }
 {
     let mut builder = RopeBuilder::new(alloc).unwrap();
     for text in iter {

@@ -1,8 +1,8 @@
 -- The bytes of a character are the text of that character.
-use Rattle.std.proofs.Common.{◌≡◌, ◌∙◌, ap, subst, None}
+use Rattle.std.proofs.Common.{◌∙◌, ap, subst}
 use Rattle.std.specs.Result.{OnOk, IfErr}
 use Rattle.std.specs.Str.{chars}
-use Rattle.rope_text.specs.Edit.{inserted, insert_error, IsRefusal}
+use Rattle.ropey.specs.Edited.{IsInsert, IsInsertRefusal}
 use Rattle.ropey.proofs.Ropes.{one_char}
 use Rattle.ropey.proofs.rope.Rope.insert_char_counted.Goals as goal
 
@@ -10,9 +10,9 @@ pub returns-clause-ok : goal.returns-clause-ok
 returns-clause-ok c =
     let text = c.args.self.now.text in
     let one = ap chars c.encode_utf8.ensures.value ∙ one_char c.args.c c.ranges.c.0 in
-    subst (λ new. OnOk c.insert_made-inserted.result ((insert_error text c.args.char_idx new ≡ None) × (c.insert_made-inserted.new.self.text ≡ inserted text c.args.char_idx new))) one c.insert_made-inserted.ensures.ok
+    subst (λ new. OnOk c.insert_made-inserted.result (IsInsert text c.args.char_idx new c.insert_made-inserted.new.self.text)) one c.insert_made-inserted.ensures.ok
 
 pub returns-clause-refused : goal.returns-clause-refused
 returns-clause-refused c =
     let one = ap chars c.encode_utf8.ensures.value ∙ one_char c.args.c c.ranges.c.0 in
-    subst (λ new. IfErr c.insert_made-inserted.result (IsRefusal (insert_error c.args.self.now.text c.args.char_idx new))) one c.insert_made-inserted.ensures.refused
+    subst (λ new. IfErr c.insert_made-inserted.result (IsInsertRefusal c.args.self.now.text c.args.char_idx new)) one c.insert_made-inserted.ensures.refused
