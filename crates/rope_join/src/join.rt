@@ -2,7 +2,7 @@
 ghost use Rattle.std.specs.Prelude.{◌≡◌, ℕ, ◌+◌, ◌-◌, ◌*◌, ◌<◌, ◌≤◌, ◌↔◌, [], ◌∷◌, ◌++◌, true, false, length, max, IsTrue, IfOk};
 ghost use Rattle.rope_text.specs.declared.TheConstants.{MAX_BYTES, MAX_CHILDREN, MIN_PAIR_BYTES};
 ghost use Rattle.rope_text.specs.Dense.{IsDenseBehind, last_bytes};
-ghost use Rattle.rope_tree.specs.Tree.{height_of};
+ghost use Rattle.rope_tree.specs.Tree.{height_of, IsTree};
 ghost use Rattle.rope_tree.specs.View.{trees_in};
 ghost use Rattle.rope_tree.specs.Siblings.{gathered};
 ghost use Rattle.rope_tree.specs.Rows.{IsRow};
@@ -37,8 +37,6 @@ fn merge(maker: &mut Maker, left: &Node, right: &Node) -> Made<Nodes>
     ensures union { IfOk result (λ nodes. IsUnion left.now right.now (trees_in nodes)) }
     ensures made { maker.new.made ≤ maker.old.made + 2 }
 {
-    let _ = left.height();
-    let _ = right.height();
     match left.view() {
         View::Leaf(first) => {
             let View::Leaf(second) = right.view() else {
@@ -123,11 +121,10 @@ fn unite(maker: &mut Maker, left: &Node, right: &Node) -> Made<Nodes>
 pub fn join(maker: &mut Maker, left: &Node, right: &Node) -> Made<Node>
     requires { CanJoin left.now right.now }
     ensures join { IfOk result (λ node. IsJoin left.now right.now node) }
+    ensures tree { IfOk result (λ node. IsTree node) }
     ensures made { maker.new.made ≤ maker.old.made + 2 * max left.now.height right.now.height + 3 }
     ensures made_near { IsNear left.now right.now → maker.new.made ≤ maker.old.made + 2 * ((left.now.height - right.now.height) + (right.now.height - left.now.height)) + 3 }
 {
-    let _ = left.height();
-    let _ = right.height();
     if right.info().bytes == 0 {
         return left.share();
     }
@@ -156,6 +153,7 @@ pub fn join_rows(
     requires join { CanJoin (gathered (before.nodes.now ++ left.now ∷ [])) (gathered (right.now ∷ after.nodes.now)) }
     requires near { IsNear (gathered (before.nodes.now ++ left.now ∷ [])) (gathered (right.now ∷ after.nodes.now)) }
     ensures join { IfOk result (λ node. IsJoin (gathered (before.entry.nodes.now ++ left.now ∷ [])) (gathered (right.now ∷ after.entry.nodes.now)) node) }
+    ensures tree { IfOk result (λ node. IsTree node) }
     ensures made_ok { IfOk result (λ node. maker.new.made + 2 * (left.now.height + right.now.height) ≤ maker.old.made + 2 * (max left.now.height right.now.height + node.height) + 3) }
     ensures made { maker.new.made ≤ maker.old.made + 2 * ((left.now.height - right.now.height) + (right.now.height - left.now.height)) + 5 }
 {

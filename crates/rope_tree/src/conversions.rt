@@ -62,7 +62,6 @@ pub fn convert(node: &Node, from: Unit, to: Unit, idx: usize, steps: &mut Steps)
     ensures at_start { idx < first_sought from → steps.new ≡ steps.old }
     ensures at_end { idx ≡ end_index from node.now.breaks (text node.now) → steps.new ≡ steps.old }
 {
-    let _ = node.height();
     let first = first_sought(from);
     if idx < first {
         return 0;

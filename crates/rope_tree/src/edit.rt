@@ -83,7 +83,6 @@ fn insert(
     ensures some_made { maker.old.made < 18446744073709551615 → maker.old.made < maker.new.made }
     ensures rises { maker.old.made ≤ maker.new.made }
 {
-    let _ = node.height();
     match node.view() {
         View::Leaf(leaf) => insert_into_leaf(maker, node, &leaf, at, added),
         View::Inner(children, totals) => {
@@ -101,9 +100,9 @@ fn insert(
 /// Whether an LF stands at a place.
 pub fn is_lf(node: &Node, at: usize) -> bool
     requires { at ≤ length (text node.now) }
-    ensures { result ≡ begins_with_lf (drop at (text node.now)) }
+    ensures value { result ≡ begins_with_lf (drop at (text node.now)) }
+    ensures tree { IsTree node.now }
 {
-    let _ = node.height();
     at < node.info().chars && char_at(node, at, &mut Steps::new()) == '\n'
 }
 
@@ -121,7 +120,6 @@ pub fn insert_at(maker: &mut Maker, root: &mut Node, at: usize, added: &str) -> 
     ensures err { OnErr result (root.new ≡ root.old) }
     ensures made { maker.new.made ≤ maker.old.made + 3 * root.old.height + 5 }
 {
-    let _ = root.height();
     let added = ShortText::new(added);
     // At a seam it goes to the right where it ends in CR, so that it can't part that CR from an LF there. No CR stands before the LF
     // across a seam.
@@ -148,6 +146,5 @@ pub fn remove_at(maker: &mut Maker, root: &mut Node, start: usize, end: usize) -
     ensures tree { IsTree root.new }
     ensures made { maker.new.made ≤ maker.old.made + root.old.height + 1 }
 {
-    let _ = root.height();
     root.remove_in_place(maker, start, end, ANY, true, &mut TextInfo::new())
 }

@@ -184,7 +184,6 @@ impl Leaf {
         let breaks = old.breaks;
         let before = old.info();
         let after = put_in(&mut self.text, at, added, before, breaks);
-        let _ = self.text.as_str();
         self.summary = Summary::new(breaks, after);
         *more = after.minus(before);
         true
@@ -237,7 +236,6 @@ impl Leaf {
         let Some(after) = take_out(&mut self.text, start, end, least, before, breaks) else {
             return false;
         };
-        let _ = self.text.as_str();
         self.summary = Summary::new(breaks, after);
         *less = before.minus(after);
         true

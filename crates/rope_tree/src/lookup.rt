@@ -49,7 +49,6 @@ pub fn leaf_at<'a>(node: &'a Node, unit: Unit, at: usize, steps: &mut Steps) -> 
     ensures counted { steps.old.compares + node.now.height ≤ steps.new.compares }
     ensures made { steps.new.made ≡ steps.old.made }
 {
-    let _ = node.height();
     let mut here = node;
     // A leaf's counts are told by its list's totals, so that no look-up has to wait for the leaf's own.
     let mut inside = node.info();

@@ -160,6 +160,7 @@ impl NodeText {
         requires fits { byte_len self.old + length added.now ≤ MAX_BYTES }
         ensures value { self.new ≡ chars (insert_slice (encode_utf8_all self.old) place added.now) }
         ensures len { byte_len self.new ≡ byte_len self.old + length added.now }
+        ensures scalars { all_scalars self.new ≡ true }
     {
         put_bytes(&mut self.bytes, place, added.as_bytes());
     }
@@ -208,7 +209,8 @@ impl NodeText {
         requires ordered { from ≤ to }
         requires from { IsCharBoundary (encode_utf8_all self.old) from }
         requires to { IsCharBoundary (encode_utf8_all self.old) to }
-        ensures { self.new ≡ chars (remove_range (encode_utf8_all self.old) from to) }
+        ensures value { self.new ≡ chars (remove_range (encode_utf8_all self.old) from to) }
+        ensures scalars { all_scalars self.new ≡ true }
     {
         take_bytes(&mut self.bytes, from, to);
     }

@@ -6,7 +6,7 @@ ghost use Rattle.rope_text.specs.declared.TheConstants.{MAX_SHORT_BYTES};
 ghost use Rattle.rope_text.specs.Text.{byte_len};
 ghost use Rattle.rope_text.specs.Edit.{inserted};
 ghost use Rattle.rope_text.specs.TextInfo.{info_of};
-ghost use Rattle.rope_tree.specs.Tree.{Tree, text, joined, breaks_of, height_of, tree_over, AreChildren};
+ghost use Rattle.rope_tree.specs.Tree.{Tree, text, joined, breaks_of, height_of, tree_over, IsTree, AreChildren};
 ghost use Rattle.rope_tree.specs.Shape.{form_tree, IsForm};
 ghost use Rattle.rope_tree.specs.Change.{IsChange, no_counts};
 ghost use Rattle.rope_tree.specs.Insert.{TakesShort, MayInsert, GoesIn, IsInserted, AreGrown};
@@ -286,6 +286,7 @@ impl Node {
         requires side { MayInsert self.old at added.now to_right }
         ensures change { IfOk result (λ did. did ≡ true → IsChange no_counts more.new (info_of self.old.breaks (text self.old)) (info_of self.old.breaks (text self.new))) }
         ensures made { maker.new.made ≤ maker.old.made + self.old.height + 2 }
+        ensures tree { IsTree self.new }
         ensures tried { IsTried result self.old self.new (IsInserted self.old (self.new ∷ []) (inserted (text self.old) at added.now)) }
     {
         own(&mut self.form, maker)?;
@@ -343,6 +344,7 @@ impl Node {
         requires within { end ≤ length (text self.old) }
         ensures change { IfOk result (λ did. did ≡ true → IsChange less.new no_counts (info_of self.old.breaks (text self.old)) (info_of self.old.breaks (text self.new))) }
         ensures made { maker.new.made ≤ maker.old.made + self.old.height + 1 }
+        ensures tree { IsTree self.new }
         ensures tried { IsTried result self.old self.new (IsRemoved least.first least.last self.old self.new start end) }
     {
         own(&mut self.form, maker)?;
