@@ -6,9 +6,15 @@ use Rattle.rope_text.specs.Text.{byte_len}
 use Rattle.rope_text.specs.Breaks.{ends_in_cr}
 use Rattle.rope_text.specs.Cutting.{parts_crlf}
 use Rattle.rope_tree.specs.Tree.{text, leaf_tree}
+use Rattle.rope_tree.proofs.TreeLaws.{low_tree}
 use Rattle.rope_join.proofs.Seams.{Meets, can_join, ends_at, meets, pair_first, pair_second, pair_joined, chars_crlf, join_text}
 use Rattle.rope_join.proofs.edit.join_parts.Goals.{After-is_lf, In_ok-pair, else-end-gt0-via-then-end-gt0+then-char_at-eq13+else-is_lf, else-end-gt0-via-then-end-gt0+else-char_at-eq13, else-end-gt0-via-else-end-gt0}
 use Rattle.rope_join.proofs.edit.join_parts.Goals as goal
+
+pub char_at-requires-clause-room : goal.char_at-requires-clause-room
+char_at-requires-clause-room c =
+    let low = low_tree c.args.left.now c.requires.tree in
+    record { nodes = omega (arith, low, ap (λ s. s.nodes) c.new.ensures); compares = omega (arith, low, ap (λ s. s.compares) c.new.ensures) }
 
 -- where the CR and the LF meet
 meet : (c : After-is_lf) → IsTrue c.is_lf.result → Meets (text c.args.left.now) (text c.args.right.now) c.args.end c.args.start
