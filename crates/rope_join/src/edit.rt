@@ -3,7 +3,6 @@
 ghost use Rattle.std.specs.Prelude.{◌≡◌, ◌+◌, ◌*◌, ◌<◌, ◌≤◌, ◌^◌, ◌++◌, length, take, drop, max, IfOk, OnOk, OnErr};
 ghost use Rattle.std.specs.Str.{chars};
 ghost use Rattle.rope_text.specs.Text.{byte_len};
-ghost use Rattle.rope_text.specs.Breaks.{ends_in_cr};
 ghost use Rattle.rope_text.specs.Edit.{inserted, removed};
 ghost use Rattle.rope_tree.specs.Tree.{text, IsTree};
 
@@ -19,11 +18,14 @@ fn join_parts(maker: &mut Maker, left: &Node, end: usize, right: &Node, start: u
     requires end { end ≤ length (text left.now) }
     requires start { start ≤ length (text right.now) }
     requires same_breaks { right.now.breaks ≡ left.now.breaks }
-    requires fits { byte_len (take end (text left.now)) + byte_len (drop start (text right.now)) < 2 ^ 63 }
-    ensures text { IfOk result (λ node. text node ≡ take end (text left.now) ++ drop start (text right.now)) }
+    requires fits { byte_len (take end (text left.now)) + byte_len (drop start (text right.now))
+        < 2 ^ 63 }
+    ensures text { IfOk result (λ node. text node
+        ≡ take end (text left.now) ++ drop start (text right.now)) }
     ensures breaks { IfOk result (λ node. node.breaks ≡ left.now.breaks) }
     ensures tree { IfOk result (λ node. IsTree node) }
-    ensures made { maker.new.made ≤ maker.old.made + 16 * max left.now.height right.now.height + 11 }
+    ensures made { maker.new.made
+        ≤ maker.old.made + 16 * max left.now.height right.now.height + 11 }
 {
     if end > 0 && char_at(left, end - 1, &mut Steps::new()) == '\r' && is_lf(right, start) {
         let first = front(maker, left, end - 1)?;
@@ -44,7 +46,8 @@ pub fn append(maker: &mut Maker, left: &Node, right: &Node) -> Made<Node>
     ensures text { IfOk result (λ node. text node ≡ text left.now ++ text right.now) }
     ensures breaks { IfOk result (λ node. node.breaks ≡ left.now.breaks) }
     ensures tree { IfOk result (λ node. IsTree node) }
-    ensures made { maker.new.made ≤ maker.old.made + 16 * max left.now.height right.now.height + 11 }
+    ensures made { maker.new.made
+        ≤ maker.old.made + 16 * max left.now.height right.now.height + 11 }
 {
     join_parts(maker, left, left.info().chars, right, 0)
 }

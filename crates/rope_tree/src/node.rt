@@ -1,10 +1,9 @@
 //! Nodes: an empty text, or a pointer to a leaf or to a list of children. No other module sees their fields.
-ghost use Rattle.std.specs.Prelude.{◌≡◌, ◌+◌, ◌<◌, ◌≤◌, List, length, take, drop, IfOk};
-ghost use Rattle.std.specs.List.{All};
+ghost use Rattle.std.specs.Prelude.{◌≡◌, ◌+◌, ◌<◌, ◌≤◌, List, length, IfOk};
 ghost use Rattle.std.specs.Str.{chars};
 ghost use Rattle.rope_text.specs.declared.TheConstants.{MAX_BYTES, MAX_CHILDREN, MAX_HEIGHT};
 ghost use Rattle.rope_text.specs.TextInfo.{info_of};
-ghost use Rattle.rope_tree.specs.Tree.{Tree, text, joined, height_of, breaks_of, leaf_tree, tree_over, IsTree, AreChildren};
+ghost use Rattle.rope_tree.specs.Tree.{Tree, text, joined, breaks_of, leaf_tree, IsTree};
 ghost use Rattle.rope_tree.specs.Totals.{HasTotals};
 ghost use Rattle.rope_tree.specs.Flat.{IsFlat};
 ghost use Rattle.rope_tree.specs.View.{IsViewOf};
