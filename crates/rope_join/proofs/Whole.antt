@@ -12,7 +12,7 @@ use Rattle.rope_text.proofs.DenseLaws.{last_bytes-some}
 use Rattle.rope_tree.specs.Leaves.{Recuts}
 use Rattle.rope_tree.specs.Tree.{Tree, text, joined, leaves_of, height_of, breaks_of, tree_over, IsTree, IsWide, IsChild, AreChildren}
 use Rattle.rope_tree.specs.Siblings.{AreParts, gathered}
-use Rattle.rope_tree.proofs.TreeLaws.{height_of_is, breaks_of_is}
+use Rattle.rope_tree.proofs.TreeLaws.{height_of_is, breaks_of_is, is_tree_over}
 use Rattle.rope_tree.proofs.NodeLaws.{children_of_first}
 use Rattle.rope_tree.proofs.EmptyTrees.{no_leaves_of, lone_of_none}
 use Rattle.rope_tree.specs.declared.node.Nodes.{Nodes}
@@ -125,6 +125,22 @@ module _ (a b x y : Tree) (u : IsUnion a b (x ∷ y ∷ [])) (j : CanJoin a b) w
       }
 
 -- one or two of them as one
+one_tree : (br : LineBreaks) (least most h : ℕ) (t : Tree) → AreParts br least most h (t ∷ []) → IsTree t
+one_tree br least most h t p = (All-head (IsWide br (min 12 least) h) t [] p.each).tree
+
+union_tree : (a b t : Tree) → IsUnion a b (t ∷ []) → IsTree t
+union_tree a b t u = elim (cases_lt a.height b.height) [
+  | inl l ↦ one_tree a.breaks b.width (b.width + 1) b.height t (u.lower l)
+  | inr ge ↦ elim (cases_lt b.height a.height) [
+    | inl l ↦ one_tree a.breaks a.width (a.width + 1) a.height t (u.higher l)
+    | inr same ↦ let e : a.height ≡ b.height = omega arith in one_tree a.breaks (max a.width b.width) (a.width + b.width) a.height t (u.equal e)
+  ]
+]
+
+pub join_tree : (a b t : Tree) (p : Nodes) → IsUnion a b (trees_in p) → CanJoin a b → t ≡ gathered (trees_in p) → IsTree t
+join_tree a b t (One x) u j e = rw e (union_tree a b x u)
+join_tree a b t (Two x y) u j e = rw e (is_tree_over _ _ (x ∷ y ∷ []) (root_children a b x y u j))
+
 pub root_siblings : (a b : Tree) (p : Nodes) → IsUnion a b (trees_in p) → CanJoin a b → length (trees_in p) ≡ 2 → AreChildren (breaks_of (trees_in p)) (height_of (trees_in p)) (trees_in p)
 root_siblings a b (One x) u j two = absurd (omega (arith, two))
 root_siblings a b (Two x y) u j two = root_children a b x y u j

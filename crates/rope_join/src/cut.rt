@@ -1,8 +1,6 @@
 //! The front and the back of a tree, as trees no higher than it, and what lies between two places.
-ghost use Rattle.std.specs.Prelude.{◌≡◌, ◌+◌, ◌-◌, ◌*◌, ◌<◌, ◌≤◌, length, take, drop, IfOk};
+ghost use Rattle.std.specs.Prelude.{◌≡◌, ◌+◌, ◌-◌, ◌*◌, ◌<◌, ◌≤◌, length, IfOk};
 ghost use Rattle.std.specs.List.{slice_range};
-ghost use Rattle.std.specs.Str.{chars};
-ghost use Rattle.rope_text.specs.TextInfo.{info_of, info_sum};
 ghost use Rattle.rope_tree.specs.Tree.{text, leaf_tree, IsTree};
 ghost use Rattle.rope_join.specs.Cut.{side_of, IsFront, IsBack};
 
@@ -62,10 +60,11 @@ fn leaf_part(
 pub fn front(maker: &mut Maker, node: &Node, at: usize) -> Made<Node>
     requires { at ≤ length (text node.now) }
     ensures front { IfOk result (λ part. IsFront at node.now part) }
-    ensures made_ok { IfOk result (λ part. maker.new.made ≤ maker.old.made + 4 * node.now.height + 2 * part.height + 1) }
+    ensures tree { IfOk result (λ part. IsTree part) }
+    ensures made_ok { IfOk result (λ part. maker.new.made
+        ≤ maker.old.made + 4 * node.now.height + 2 * part.height + 1) }
     ensures made { maker.new.made ≤ maker.old.made + 6 * node.now.height + 1 }
 {
-    let _ = node.height();
     if at == 0 {
         return leaf_of(maker, node.line_breaks(), "");
     }
@@ -91,10 +90,11 @@ pub fn front(maker: &mut Maker, node: &Node, at: usize) -> Made<Node>
 pub fn back(maker: &mut Maker, node: &Node, at: usize) -> Made<Node>
     requires { at ≤ length (text node.now) }
     ensures back { IfOk result (λ part. IsBack at node.now part) }
+    ensures tree { IfOk result (λ part. IsTree part) }
     ensures made { maker.new.made ≤ maker.old.made + 6 * node.now.height + 1 }
-    ensures made_ok { IfOk result (λ part. maker.new.made ≤ maker.old.made + 4 * node.now.height + 2 * part.height + 1) }
+    ensures made_ok { IfOk result (λ part. maker.new.made
+        ≤ maker.old.made + 4 * node.now.height + 2 * part.height + 1) }
 {
-    let _ = node.height();
     if at == node.info().chars {
         return leaf_of(maker, node.line_breaks(), "");
     }
@@ -126,7 +126,5 @@ pub fn between(maker: &mut Maker, node: &Node, start: usize, end: usize) -> Made
     ensures made { maker.new.made ≤ maker.old.made + 12 * node.now.height + 3 }
 {
     let front = front(maker, node, end)?;
-    let part = back(maker, &front, start)?;
-    let _ = part.height();
-    Ok(part)
+    back(maker, &front, start)
 }

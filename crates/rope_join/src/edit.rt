@@ -3,7 +3,6 @@
 ghost use Rattle.std.specs.Prelude.{◌≡◌, ◌+◌, ◌*◌, ◌<◌, ◌≤◌, ◌^◌, ◌++◌, length, take, drop, max, IfOk, OnOk, OnErr};
 ghost use Rattle.std.specs.Str.{chars};
 ghost use Rattle.rope_text.specs.Text.{byte_len};
-ghost use Rattle.rope_text.specs.Breaks.{ends_in_cr};
 ghost use Rattle.rope_text.specs.Edit.{inserted, removed};
 ghost use Rattle.rope_tree.specs.Tree.{text, IsTree};
 
@@ -15,16 +14,19 @@ use rope_tree::{Made, Maker, Node, char_at, is_lf, leaf_of, remove_at};
 
 /// The first `end` characters of the one tree, and behind them what follows the first `start` of the other.
 fn join_parts(maker: &mut Maker, left: &Node, end: usize, right: &Node, start: usize) -> Made<Node>
+    requires tree { IsTree left.now }
     requires end { end ≤ length (text left.now) }
     requires start { start ≤ length (text right.now) }
     requires same_breaks { right.now.breaks ≡ left.now.breaks }
-    requires fits { byte_len (take end (text left.now)) + byte_len (drop start (text right.now)) < 2 ^ 63 }
-    ensures text { IfOk result (λ node. text node ≡ take end (text left.now) ++ drop start (text right.now)) }
+    requires fits { byte_len (take end (text left.now)) + byte_len (drop start (text right.now))
+        < 2 ^ 63 }
+    ensures text { IfOk result (λ node. text node
+        ≡ take end (text left.now) ++ drop start (text right.now)) }
     ensures breaks { IfOk result (λ node. node.breaks ≡ left.now.breaks) }
-    ensures made { maker.new.made ≤ maker.old.made + 16 * max left.now.height right.now.height + 11 }
+    ensures tree { IfOk result (λ node. IsTree node) }
+    ensures made { maker.new.made
+        ≤ maker.old.made + 16 * max left.now.height right.now.height + 11 }
 {
-    let _ = left.height();
-    let _ = right.height();
     if end > 0 && char_at(left, end - 1, &mut Steps::new()) == '\r' && is_lf(right, start) {
         let first = front(maker, left, end - 1)?;
         let second = back(maker, right, start + 1)?;
@@ -43,7 +45,9 @@ pub fn append(maker: &mut Maker, left: &Node, right: &Node) -> Made<Node>
     requires fits { byte_len (text left.now) + byte_len (text right.now) < 2 ^ 63 }
     ensures text { IfOk result (λ node. text node ≡ text left.now ++ text right.now) }
     ensures breaks { IfOk result (λ node. node.breaks ≡ left.now.breaks) }
-    ensures made { maker.new.made ≤ maker.old.made + 16 * max left.now.height right.now.height + 11 }
+    ensures tree { IfOk result (λ node. IsTree node) }
+    ensures made { maker.new.made
+        ≤ maker.old.made + 16 * max left.now.height right.now.height + 11 }
 {
     join_parts(maker, left, left.info().chars, right, 0)
 }
@@ -59,13 +63,10 @@ pub fn remove(maker: &mut Maker, root: &mut Node, start: usize, end: usize) -> M
     ensures err { OnErr result (root.new ≡ root.old) }
     ensures made { maker.new.made ≤ maker.old.made + 17 * root.old.height + 12 }
 {
-    let _ = root.height();
     if remove_at(maker, root, start, end)? {
         return Ok(());
     }
-    let new = join_parts(maker, root, start, root, end)?;
-    let _ = new.height();
-    *root = new;
+    *root = join_parts(maker, root, start, root, end)?;
     Ok(())
 }
 
@@ -76,6 +77,7 @@ pub fn insert(maker: &mut Maker, node: &Node, at: usize, added: &str) -> Made<No
     requires fits { byte_len (text node.now) + length added.now < 2 ^ 63 }
     ensures text { IfOk result (λ new. text new ≡ inserted (text node.now) at (chars added.now)) }
     ensures breaks { IfOk result (λ new. new.breaks ≡ node.now.breaks) }
+    ensures tree { IfOk result (λ new. IsTree new) }
 {
     let front = front(maker, node, at)?;
     let back = back(maker, node, at)?;

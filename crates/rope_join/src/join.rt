@@ -1,8 +1,9 @@
 //! Two trees as one.
 ghost use Rattle.std.specs.Prelude.{◌≡◌, ℕ, ◌+◌, ◌-◌, ◌*◌, ◌<◌, ◌≤◌, ◌↔◌, [], ◌∷◌, ◌++◌, true, false, length, max, IsTrue, IfOk};
 ghost use Rattle.rope_text.specs.declared.TheConstants.{MAX_BYTES, MAX_CHILDREN, MIN_PAIR_BYTES};
+ghost use Rattle.rope_text.specs.Cuts.{distance};
 ghost use Rattle.rope_text.specs.Dense.{IsDenseBehind, last_bytes};
-ghost use Rattle.rope_tree.specs.Tree.{height_of};
+ghost use Rattle.rope_tree.specs.Tree.{IsTree};
 ghost use Rattle.rope_tree.specs.View.{trees_in};
 ghost use Rattle.rope_tree.specs.Siblings.{gathered};
 ghost use Rattle.rope_tree.specs.Rows.{IsRow};
@@ -17,7 +18,8 @@ use rope_tree::{
 fn end_leaf_len(node: &Node, is_last: bool) -> usize
     requires { 1 ≤ length node.now.leaves }
     ensures last { IsTrue is_last → (n : ℕ) → result ≡ last_bytes n node.now.leaves }
-    ensures first { is_last ≡ false → (n : ℕ) → MIN_PAIR_BYTES ≤ n + result ↔ IsDenseBehind n node.now.leaves }
+    ensures first { is_last ≡ false → (n : ℕ)
+        → MIN_PAIR_BYTES ≤ n + result ↔ IsDenseBehind n node.now.leaves }
     ensures fits { result ≤ MAX_BYTES }
 {
     match node.view() {
@@ -37,8 +39,6 @@ fn merge(maker: &mut Maker, left: &Node, right: &Node) -> Made<Nodes>
     ensures union { IfOk result (λ nodes. IsUnion left.now right.now (trees_in nodes)) }
     ensures made { maker.new.made ≤ maker.old.made + 2 }
 {
-    let _ = left.height();
-    let _ = right.height();
     match left.view() {
         View::Leaf(first) => {
             let View::Leaf(second) = right.view() else {
@@ -77,9 +77,12 @@ fn end_of(node: &Node, least: usize, is_last: bool) -> (Row<'_>, &Node, Row<'_>)
     requires { least ≤ node.now.height → 1 ≤ node.now.height }
     ensures before { IsRow result.0 }
     ensures after { IsRow result.2 }
-    ensures last { IsTrue is_last → least ≤ node.now.height → EndsIn node.now result.0.nodes.now result.1.now }
-    ensures first { is_last ≡ false → least ≤ node.now.height → BeginsIn node.now result.1.now result.2.nodes.now }
-    ensures whole { node.now.height < least → (result.0.nodes.now ≡ []) × (result.1.now ≡ node.now) × (result.2.nodes.now ≡ []) }
+    ensures last { IsTrue is_last → least ≤ node.now.height
+        → EndsIn node.now result.0.nodes.now result.1.now }
+    ensures first { is_last ≡ false → least ≤ node.now.height
+        → BeginsIn node.now result.1.now result.2.nodes.now }
+    ensures whole { node.now.height < least
+        → (result.0.nodes.now ≡ []) × (result.1.now ≡ node.now) × (result.2.nodes.now ≡ []) }
 {
     if node.height() < least {
         return (Row::none(), node, Row::none());
@@ -103,7 +106,8 @@ fn unite(maker: &mut Maker, left: &Node, right: &Node) -> Made<Nodes>
     requires join { CanJoin left.now right.now }
     ensures union { IfOk result (λ nodes. IsUnion left.now right.now (trees_in nodes)) }
     ensures made { maker.new.made ≤ maker.old.made + 2 * max left.now.height right.now.height + 2 }
-    ensures made_near { IsNear left.now right.now → maker.new.made ≤ maker.old.made + 2 * ((left.now.height - right.now.height) + (right.now.height - left.now.height)) + 2 }
+    ensures made_near { IsNear left.now right.now
+        → maker.new.made ≤ maker.old.made + 2 * distance left.now.height right.now.height + 2 }
 {
     let height = left.height();
     if height == right.height()
@@ -123,11 +127,11 @@ fn unite(maker: &mut Maker, left: &Node, right: &Node) -> Made<Nodes>
 pub fn join(maker: &mut Maker, left: &Node, right: &Node) -> Made<Node>
     requires { CanJoin left.now right.now }
     ensures join { IfOk result (λ node. IsJoin left.now right.now node) }
+    ensures tree { IfOk result (λ node. IsTree node) }
     ensures made { maker.new.made ≤ maker.old.made + 2 * max left.now.height right.now.height + 3 }
-    ensures made_near { IsNear left.now right.now → maker.new.made ≤ maker.old.made + 2 * ((left.now.height - right.now.height) + (right.now.height - left.now.height)) + 3 }
+    ensures made_near { IsNear left.now right.now
+        → maker.new.made ≤ maker.old.made + 2 * distance left.now.height right.now.height + 3 }
 {
-    let _ = left.height();
-    let _ = right.height();
     if right.info().bytes == 0 {
         return left.share();
     }
@@ -151,13 +155,23 @@ pub fn join_rows(
     requires after { IsRow after }
     requires left_some { 1 ≤ length (gathered (before.nodes.now ++ left.now ∷ [])).leaves }
     requires right_some { 1 ≤ length (gathered (right.now ∷ after.nodes.now)).leaves }
-    requires left_row { 1 ≤ length before.nodes.now → CanGather (before.nodes.now ++ left.now ∷ []) × (right.now.height ≤ left.now.height) × (after.nodes.now ≡ []) }
-    requires right_row { 1 ≤ length after.nodes.now → CanGather (right.now ∷ after.nodes.now) × (left.now.height ≤ right.now.height) × (before.nodes.now ≡ []) }
-    requires join { CanJoin (gathered (before.nodes.now ++ left.now ∷ [])) (gathered (right.now ∷ after.nodes.now)) }
-    requires near { IsNear (gathered (before.nodes.now ++ left.now ∷ [])) (gathered (right.now ∷ after.nodes.now)) }
-    ensures join { IfOk result (λ node. IsJoin (gathered (before.entry.nodes.now ++ left.now ∷ [])) (gathered (right.now ∷ after.entry.nodes.now)) node) }
-    ensures made_ok { IfOk result (λ node. maker.new.made + 2 * (left.now.height + right.now.height) ≤ maker.old.made + 2 * (max left.now.height right.now.height + node.height) + 3) }
-    ensures made { maker.new.made ≤ maker.old.made + 2 * ((left.now.height - right.now.height) + (right.now.height - left.now.height)) + 5 }
+    requires left_row { 1 ≤ length before.nodes.now
+        → CanGather (before.nodes.now ++ left.now ∷ []) × (right.now.height ≤ left.now.height)
+        × (after.nodes.now ≡ []) }
+    requires right_row { 1 ≤ length after.nodes.now
+        → CanGather (right.now ∷ after.nodes.now) × (left.now.height ≤ right.now.height)
+        × (before.nodes.now ≡ []) }
+    requires join { CanJoin (gathered (before.nodes.now ++ left.now ∷ []))
+        (gathered (right.now ∷ after.nodes.now)) }
+    requires near { IsNear (gathered (before.nodes.now ++ left.now ∷ []))
+        (gathered (right.now ∷ after.nodes.now)) }
+    ensures join { IfOk result (λ node. IsJoin (gathered (before.entry.nodes.now ++ left.now ∷ []))
+        (gathered (right.now ∷ after.entry.nodes.now)) node) }
+    ensures tree { IfOk result (λ node. IsTree node) }
+    ensures made_ok { IfOk result (λ node. maker.new.made + 2 * (left.now.height + right.now.height)
+        ≤ maker.old.made + 2 * (max left.now.height right.now.height + node.height) + 3) }
+    ensures made { maker.new.made
+        ≤ maker.old.made + 2 * distance left.now.height right.now.height + 5 }
 {
     let nodes = unite(maker, left, right)?;
     if before.nodes.is_empty() && after.nodes.is_empty() {

@@ -1,22 +1,26 @@
 -- What the form of a node says of it.
-use Rattle.std.proofs.Common.{◌≡◌, ℕ, Bool, true, false, Result, Ok, Err, List, [], ◌∷◌, refl, sym, ap, subst, ◌∙◌, arith}
+use Rattle.std.proofs.Common.{◌≡◌, ℕ, Bool, true, false, min, Option, Some, None, Result, Ok, Err, List, [], ◌∷◌, ◌<◌, ◌≤◌, refl, sym, ap, subst, ◌∙◌, arith}
+use Rattle.std.specs.Prelude.{IfOk, OnErr, IfSome, IfNone}
 use Rattle.std.proofs.lemmas.List.{nil_from_length}
+use Rattle.std.proofs.lemmas.List.Elements.{All-head}
 use Rattle.std.proofs.lemmas.Str.{length-le-encodes}
 use Rattle.std.specs.declared.alloc.Global.{Global}
 use Rattle.std.specs.declared.rc.Rc.{Rc}
 use Rattle.rope_text.specs.Text.{byte_len}
 use Rattle.rope_text.specs.Edit.{inserted}
 use Rattle.rope_tree.specs.declared.node.Node.TheInside.{Inside}
+use Rattle.rope_tree.specs.declared.node.Form.{Form}
 use Rattle.rope_tree.specs.declared.node.Children.{Children}
 use Rattle.rope_tree.specs.declared.leaf.Leaf.{Leaf}
-use Rattle.rope_tree.specs.declared.node.Form.TheVariants.{Leaf as LeafForm, Inner}
-use Rattle.rope_tree.specs.Tree.{Tree, text, joined, height_of, breaks_of, tree_over, AreChildren}
-use Rattle.rope_tree.specs.Shape.{form_tree, tree_of, IsForm, IsNode}
+use Rattle.rope_tree.specs.declared.node.Form.TheVariants.{Empty, Leaf as LeafForm, Inner}
+use Rattle.rope_tree.specs.Tree.{Tree, text, joined, height_of, breaks_of, tree_over, IsTree, IsWide, AreChildren}
+use Rattle.rope_tree.specs.Shape.{form_tree, tree_of, IsLeafNode, IsForm, IsNode}
 use Rattle.rope_tree.specs.Insert.{IsInserted, AreGrown}
 use Rattle.rope_tree.specs.Removal.{IsRemoved, AreRemoved}
 use Rattle.rope_tree.specs.Tries.{IsTried}
+use Rattle.rope_tree.proofs.TreeLaws.{is_leaf_tree, is_tree_over, low_tree}
 use Rattle.rope_tree.proofs.NodeLaws.{children_of_first}
-use Rattle.rope_tree.proofs.RemovalLaws.{over_removed}
+use Rattle.rope_tree.proofs.RemovalLaws.{over_removed, tree_removed}
 use Rattle.rope_tree.proofs.GrownLaws.{children_after, over_grown}
 
 -- the node over these children
@@ -30,6 +34,18 @@ inner_of a t rc i e view = record {
   children = subst IsForm e i.form;
 }
 
+-- what holds of every node
+form_is_tree : (f : Form) → IsForm f → IsTree (form_tree f)
+form_is_tree (Empty b) i = is_leaf_tree b [] (omega arith) refl (omega arith)
+form_is_tree (LeafForm rc) i = i.tree
+form_is_tree (Inner rc) i = is_tree_over (breaks_of rc.value) (height_of rc.value) rc.value i
+
+pub node_tree : (a : Inside) (t : Tree) → IsNode a → tree_of a ≡ t → IsTree t
+node_tree a t i view = subst IsTree view (form_is_tree a.form i.form)
+
+pub node_low : (a : Inside) (t : Tree) → IsNode a → tree_of a ≡ t → t.height ≤ 18
+node_low a t i view = low_tree t (node_tree a t i view)
+
 -- a text of no bytes
 pub no_text : (l : List ℕ) → byte_len l ≡ 0 → l ≡ []
 no_text l none = nil_from_length l (omega (arith, length-le-encodes l))
@@ -41,6 +57,26 @@ leaf_seen a t rc x e view is = sym view ∙ ap form_tree e ∙ sym is
 -- the children, as the pointer has them
 pub inner_seen : (a : Inside) (t : Tree) (rc : Rc Children Global) (ts : List Tree) → IsNode a → a.form ≡ Inner rc → tree_of a ≡ t → ts ≡ rc.value → IsInner t ts
 inner_seen a t rc ts i e view is = subst (IsInner t) (sym is) (inner_of a t rc i e view)
+
+-- a leaf that took a text
+pub grown_leaf : (old t : Tree) (ts : List Tree) (new : List ℕ) → IsLeafNode old → IsInserted old (t ∷ ts) new → IsLeafNode t
+grown_leaf old t ts new own i =
+    let w = All-head (IsWide old.breaks (min 12 old.width) old.height) t ts i.parts.each in
+    record { flat = w.at_height ∙ own.flat; tree = w.tree }
+
+-- one that was cut, or wasn't
+pub cut_leaf : {E : Type 0} (r : Result (Option Tree) E) (old new : Tree) (s : List ℕ) → IsLeafNode old → IfOk r (λ found. IfSome found (λ back. IsInserted old (new ∷ back ∷ []) s)) → IfOk r (λ found. IfNone found (new ≡ old)) → OnErr r (new ≡ old)
+    → IsLeafNode new
+cut_leaf (Ok (Some back)) old new s own cut kept err = grown_leaf old new (back ∷ []) s own cut
+cut_leaf (Ok None) old new s own cut kept err = rw kept own
+cut_leaf (Err e) old new s own cut kept err = rw err own
+
+-- and one that lost characters
+pub fallen_leaf : (first last : ℕ) (old t : Tree) (start end : ℕ) → start < end → IsLeafNode old → IsRemoved first last old t start end → IsLeafNode t
+fallen_leaf first last old t start end order own r = record {
+  flat = r.same_height ∙ own.flat;
+  tree = tree_removed first last old t start end (omega (arith, order)) own.tree r;
+}
 
 -- a node whose children took a text, or didn't
 pub by_answer : {P : Type 0} (b : Bool) → (b ≡ true → P) → (b ≡ false → P) → P

@@ -1,7 +1,8 @@
 -- By how much the counts of a text change.
-use Rattle.std.specs.Prelude.{◌≡◌, ◌^◌}
+use Rattle.std.specs.Prelude.{◌≡◌, ◌^◌, List}
 use Rattle.rope_text.specs.declared.text_info.TextInfo.{TextInfo}
-use Rattle.rope_text.specs.TextInfo.{info_sum}
+use Rattle.rope_text.specs.TextInfo.{info_of, info_sum}
+use Rattle.rope_tree.specs.Tree.{Tree, text, joined, breaks_of}
 use Rattle.rope_tree.specs.Narrow.{IsBelow}
 use Rattle.rope_tree.specs.Search.{HasPart}
 
@@ -14,3 +15,17 @@ pub record IsChange (before after old new : TextInfo) : Type 0 where
   pub sum : info_sum new before ≡ info_sum old after
   pub part : HasPart old before
   pub low : IsBelow (2 ^ 63) after
+
+-- a tree's counts have become more by so many, or fewer
+abbrev pub GrowsBy : TextInfo → Tree → Tree → Type 0
+GrowsBy more old new = IsChange no_counts more (info_of old.breaks (text old)) (info_of old.breaks (text new))
+
+abbrev pub FallsBy : TextInfo → Tree → Tree → Type 0
+FallsBy less old new = IsChange less no_counts (info_of old.breaks (text old)) (info_of old.breaks (text new))
+
+-- and so have those of trees side by side
+abbrev pub GrowBy : TextInfo → List Tree → List Tree → Type 0
+GrowBy more old new = IsChange no_counts more (info_of (breaks_of old) (joined old)) (info_of (breaks_of old) (joined new))
+
+abbrev pub FallBy : TextInfo → List Tree → List Tree → Type 0
+FallBy less old new = IsChange less no_counts (info_of (breaks_of old) (joined old)) (info_of (breaks_of old) (joined new))

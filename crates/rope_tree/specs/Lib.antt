@@ -4,6 +4,7 @@ pub mod Tree
 pub mod Search
 pub mod Totals
 pub mod Narrow
+pub mod RunningTotals
 pub mod Change
 pub mod CountRows
 pub mod Shifted

@@ -1,9 +1,15 @@
 -- What a node's form is seen as, and what holds of it.
 use Rattle.std.specs.Prelude.{[]}
-use Rattle.rope_tree.specs.Tree.{Tree, AreChildren, leaf_tree, tree_over, height_of, breaks_of}
+use Rattle.rope_tree.specs.Flat.{IsFlat}
+use Rattle.rope_tree.specs.Tree.{Tree, IsTree, AreChildren, leaf_tree, tree_over, height_of, breaks_of}
 use Rattle.rope_tree.specs.declared.node.Node.TheInside.{Inside}
 use Rattle.rope_tree.specs.declared.node.Form.{Form}
 use Rattle.rope_tree.specs.declared.node.Form.TheVariants.{Empty, Leaf, Inner}
+
+-- what holds of every node holds of it, and no level lies below it
+pub record IsLeafNode (t : Tree) : Type 0 where
+  pub flat : IsFlat t
+  pub tree : IsTree t
 
 abbrev pub form_tree : Form → Tree
 form_tree (Empty b) = leaf_tree b []
@@ -13,10 +19,10 @@ form_tree (Inner rc) = tree_over rc.value
 abbrev pub tree_of : Inside → Tree
 tree_of a = form_tree a.form
 
--- what an inner node has are the children of a node
+-- what is a leaf to the node is one, and what an inner node has are the children of a node
 abbrev pub IsForm : Form → Type 0
 IsForm (Empty b) = Unit {0}
-IsForm (Leaf rc) = Unit {0}
+IsForm (Leaf rc) = IsLeafNode rc.value
 IsForm (Inner rc) = AreChildren (breaks_of rc.value) (height_of rc.value) rc.value
 
 pub record IsNode (a : Inside) : Type 0 where

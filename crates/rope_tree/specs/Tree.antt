@@ -77,3 +77,7 @@ pub record AreChildren (breaks : LineBreaks) (h : ℕ) (ts : List Tree) : Type 0
   pub each : All (IsChild breaks h) ts
   pub leaves : AreLeaves (leaves_of ts)
   pub fits : byte_len (joined ts) < 2 ^ 63
+
+-- trees that can stand below one node
+abbrev pub AreFamily : List Tree → Type 0
+AreFamily ts = AreChildren (breaks_of ts) (height_of ts) ts

@@ -1,5 +1,5 @@
 //! How few bytes a leaf may keep beside its neighbours.
-ghost use Rattle.std.specs.Prelude.{◌≡◌, ℕ, ◌+◌, ◌<◌, ◌≤◌, List, length, take, drop};
+ghost use Rattle.std.specs.Prelude.{ℕ, ◌+◌, ◌<◌, ◌≤◌, List, length, take, drop};
 ghost use Rattle.rope_text.specs.declared.TheConstants.{MIN_PAIR_BYTES};
 ghost use Rattle.rope_text.specs.Dense.{IsDenseBehind, last_bytes};
 ghost use Rattle.rope_tree.specs.Leaves.{IsEnoughBehind, IsEnoughAhead};
@@ -24,8 +24,10 @@ const ENOUGH_BYTES: usize = MIN_PAIR_BYTES - 1;
 /// wanted. The totals tell how many it has, and it isn't looked at.
 fn least_next_to(height: usize, totals: &Totals, place: usize) -> usize
     requires { place < length totals.now }
-    ensures behind { (ts : List Tree) → AreBelow height totals.now ts → (n : ℕ) → MIN_PAIR_BYTES ≤ last_bytes n (leaves_of (take (place + 1) ts)) + result }
-    ensures ahead { (ts : List Tree) → AreBelow height totals.now ts → IsDenseBehind result (leaves_of (drop place ts)) }
+    ensures behind { (ts : List Tree) → AreBelow height totals.now ts
+        → (n : ℕ) → MIN_PAIR_BYTES ≤ last_bytes n (leaves_of (take (place + 1) ts)) + result }
+    ensures ahead { (ts : List Tree) → AreBelow height totals.now ts
+        → IsDenseBehind result (leaves_of (drop place ts)) }
 {
     if height > 1 {
         return ENOUGH_BYTES;
@@ -39,8 +41,10 @@ fn least_next_to(height: usize, totals: &Totals, place: usize) -> usize
 /// the ends of that node.
 pub fn least_at(height: usize, totals: &Totals, place: usize, wanted: Least) -> Least
     requires { place < length totals.now }
-    ensures behind { (ts : List Tree) → AreBelow height totals.now ts → IsEnoughBehind wanted.first result.first (leaves_of (take place ts)) }
-    ensures ahead { (ts : List Tree) → AreBelow height totals.now ts → IsEnoughAhead wanted.last result.last (leaves_of (drop (place + 1) ts)) }
+    ensures behind { (ts : List Tree) → AreBelow height totals.now ts
+        → IsEnoughBehind wanted.first result.first (leaves_of (take place ts)) }
+    ensures ahead { (ts : List Tree) → AreBelow height totals.now ts
+        → IsEnoughAhead wanted.last result.last (leaves_of (drop (place + 1) ts)) }
 {
     let mut least = wanted;
     if place > 0 {

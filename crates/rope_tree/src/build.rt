@@ -1,8 +1,8 @@
 //! Trees of whole texts, built from the bottom up.
 ghost use Rattle.std.specs.Prelude.{◌≡◌, ◌+◌, ◌-◌, ◌*◌, ◌/◌, ◌<◌, ◌≤◌, length, IfOk};
 ghost use Rattle.std.specs.Str.{chars};
-ghost use Rattle.rope_text.specs.declared.TheConstants.{FRESH_CHILDREN, MAX_CHILDREN, MIN_CHILDREN, MIN_CUT_BYTES};
-ghost use Rattle.rope_tree.specs.Tree.{text, joined, leaves_of, height_of, breaks_of, IsTree};
+ghost use Rattle.rope_text.specs.declared.TheConstants.{FRESH_CHILDREN, MAX_CHILDREN, MIN_CUT_BYTES};
+ghost use Rattle.rope_tree.specs.Tree.{text, leaves_of, height_of, breaks_of, IsTree};
 ghost use Rattle.rope_tree.specs.Siblings.{AreSiblings};
 
 use crate::node_text::first_leaf_len;
@@ -13,9 +13,11 @@ use rope_text::{FRESH_CHILDREN, LineBreaks, MAX_BYTES, MAX_CHILDREN};
 fn level_over(maker: &mut Maker, nodes: &[Node]) -> Made<Vec<Node>>
     requires siblings { AreSiblings (breaks_of nodes.now) (height_of nodes.now) nodes.now }
     requires many { MAX_CHILDREN < length nodes.now }
-    ensures siblings { IfOk result (λ level. AreSiblings (breaks_of nodes.now) (height_of nodes.now + 1) level.items) }
+    ensures siblings { IfOk result (λ level.
+        AreSiblings (breaks_of nodes.now) (height_of nodes.now + 1) level.items) }
     ensures leaves { IfOk result (λ level. leaves_of level.items ≡ leaves_of nodes.now) }
-    ensures few { IfOk result (λ level. length level.items ≡ (length nodes.now + (FRESH_CHILDREN - 1)) / FRESH_CHILDREN) }
+    ensures few { IfOk result (λ level. length level.items
+        ≡ (length nodes.now + (FRESH_CHILDREN - 1)) / FRESH_CHILDREN) }
     ensures made { IfOk result (λ level. maker.new.made ≤ maker.old.made + length level.items) }
 {
     let mut groups = nodes.len().div_ceil(FRESH_CHILDREN);
@@ -55,8 +57,10 @@ pub fn build(maker: &mut Maker, whole: &str, breaks: LineBreaks) -> Made<Node>
     ensures text { IfOk result (λ node. text node ≡ chars whole.now) }
     ensures breaks { IfOk result (λ node. node.breaks ≡ breaks) }
     ensures tree { IfOk result (λ node. IsTree node) }
-    ensures few { IfOk result (λ node. length node.leaves ≤ (length whole.now + (MIN_CUT_BYTES - 1)) / MIN_CUT_BYTES) }
-    ensures made { IfOk result (λ node. maker.new.made ≤ maker.old.made + 2 * length node.leaves + 1) }
+    ensures few { IfOk result (λ node. length node.leaves
+        ≤ (length whole.now + (MIN_CUT_BYTES - 1)) / MIN_CUT_BYTES) }
+    ensures made { IfOk result (λ node.
+        maker.new.made ≤ maker.old.made + 2 * length node.leaves + 1) }
 {
     if whole.len() <= MAX_BYTES {
         return Ok(leaf_of(maker, breaks, whole)?);

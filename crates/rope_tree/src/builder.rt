@@ -1,5 +1,5 @@
 //! Trees of texts that are passed in one after the other.
-ghost use Rattle.std.specs.Prelude.{◌≡◌, ◌+◌, ◌-◌, ◌*◌, ◌/◌, ◌<◌, ◌≤◌, ◌^◌, ◌++◌, [], false, length, drop, min, IsOk, IfOk, IfErr, OnOk, OnErr};
+ghost use Rattle.std.specs.Prelude.{◌≡◌, ◌+◌, ◌-◌, ◌*◌, ◌/◌, ◌<◌, ◌≤◌, ◌^◌, ◌++◌, [], false, length, drop, IsOk, IfOk, OnOk, OnErr};
 ghost use Rattle.std.specs.Str.{chars, IsCharBoundary};
 ghost use Rattle.rope_text.specs.declared.TheConstants.{MAX_BYTES, MIN_CUT_BYTES};
 ghost use Rattle.rope_text.specs.Text.{byte_len};
@@ -23,11 +23,13 @@ const MAX_AHEAD_BYTES: usize = MAX_BYTES + 4;
 fn cut_at_seam(rest: &NodeText, text: &str) -> (NodeText, NodeText, usize)
     requires { MAX_BYTES < byte_len rest.now + length text.now }
     ensures boundary { IsCharBoundary text.now result.2 }
-    ensures whole { result.0 ++ (result.1 ++ chars (drop result.2 text.now)) ≡ rest.now ++ chars text.now }
+    ensures whole { result.0 ++ (result.1 ++ chars (drop result.2 text.now))
+        ≡ rest.now ++ chars text.now }
     ensures apart { parts_crlf result.0 (result.1 ++ chars (drop result.2 text.now)) ≡ false }
     ensures long { MIN_CUT_BYTES ≤ byte_len result.0 }
     ensures short { byte_len result.0 ≤ MAX_BYTES }
-    ensures left { byte_len result.0 + (byte_len result.1 + (length text.now - result.2)) ≡ byte_len rest.now + length text.now }
+    ensures left { byte_len result.0 + (byte_len result.1 + (length text.now - result.2))
+        ≡ byte_len rest.now + length text.now }
 {
     let first = rest.as_str();
     let ahead_len = if text.len() <= MAX_AHEAD_BYTES {
@@ -51,11 +53,13 @@ fn fill_up(rest: &mut NodeText, text: &str) -> usize
     requires { MAX_BYTES < byte_len rest.old + length text.now }
     ensures boundary { IsCharBoundary text.now result }
     ensures kept { result ≡ 0 → rest.new ≡ rest.old }
-    ensures whole { 0 < result → rest.new ++ chars (drop result text.now) ≡ rest.old ++ chars text.now }
+    ensures whole { 0 < result
+        → rest.new ++ chars (drop result text.now) ≡ rest.old ++ chars text.now }
     ensures apart { 0 < result → parts_crlf rest.new (chars (drop result text.now)) ≡ false }
     ensures long { 0 < result → MIN_CUT_BYTES ≤ byte_len rest.new }
     ensures short { byte_len rest.new ≤ MAX_BYTES }
-    ensures left { byte_len rest.new + (length text.now - result) ≡ byte_len rest.old + length text.now }
+    ensures left { byte_len rest.new + (length text.now - result)
+        ≡ byte_len rest.old + length text.now }
 {
     let room = MAX_BYTES - rest.len();
     let taken = prev_break(room + 1, text.as_bytes());
@@ -76,10 +80,15 @@ fn cut_leaves(
     text: &str,
 ) -> Made<()>
     requires some { 0 < length text.now }
-    requires nodes { AreFrontNodes breaks (joined leaves.old.items ++ (rest.old ++ chars text.now)) leaves.old.items (rest.old ++ chars text.now) }
-    ensures nodes { IfOk result (λ _. AreFrontNodes breaks (joined leaves.old.items ++ (rest.old ++ chars text.now)) leaves.new.items rest.new) }
-    ensures long { IfOk result (λ _. MIN_CUT_BYTES * length (leaves_of leaves.new.items) + byte_len rest.new
-        ≤ MIN_CUT_BYTES * length (leaves_of leaves.old.items) + byte_len rest.old + length text.now) }
+    requires nodes { AreFrontNodes breaks (joined leaves.old.items ++ (rest.old ++ chars text.now))
+        leaves.old.items (rest.old ++ chars text.now) }
+    ensures nodes { IfOk result (λ _.
+        AreFrontNodes breaks (joined leaves.old.items ++ (rest.old ++ chars text.now))
+        leaves.new.items rest.new) }
+    ensures long { IfOk result (λ _.
+        MIN_CUT_BYTES * length (leaves_of leaves.new.items) + byte_len rest.new
+        ≤ MIN_CUT_BYTES * length (leaves_of leaves.old.items) + byte_len rest.old
+        + length text.now) }
     ensures followed { IfOk result (λ _. 0 < byte_len rest.new) }
 {
     let mut maker = Maker::new(alloc);
@@ -173,8 +182,10 @@ impl Builder {
         ensures text { IfOk result (λ node. text node ≡ self.text) }
         ensures breaks { IfOk result (λ node. node.breaks ≡ self.breaks) }
         ensures tree { IfOk result (λ node. IsTree node) }
-        ensures few { IfOk result (λ node. length node.leaves ≤ (byte_len self.text + (MIN_CUT_BYTES - 1)) / MIN_CUT_BYTES) }
-        ensures made { IfOk result (λ node. maker.new.made ≤ maker.old.made + length node.leaves + 1) }
+        ensures few { IfOk result (λ node. length node.leaves
+            ≤ (byte_len self.text + (MIN_CUT_BYTES - 1)) / MIN_CUT_BYTES) }
+        ensures made { IfOk result (λ node.
+            maker.new.made ≤ maker.old.made + length node.leaves + 1) }
     {
         let rest = leaf_of(maker, self.breaks, self.rest.as_str())?;
         if self.leaves.is_empty() {

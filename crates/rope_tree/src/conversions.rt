@@ -58,11 +58,11 @@ pub fn convert(node: &Node, from: Unit, to: Unit, idx: usize, steps: &mut Steps)
     requires room { HaveRoom node.now.height steps.old }
     ensures value { result ≡ converted from to node.now.breaks (text node.now) idx }
     ensures steps { LooksUp node.now.height steps.old steps.new }
-    ensures inside { first_sought from ≤ idx → idx < end_index from node.now.breaks (text node.now) → WentDown node.now.height steps.old steps.new }
+    ensures inside { first_sought from ≤ idx → idx < end_index from node.now.breaks (text node.now)
+        → WentDown node.now.height steps.old steps.new }
     ensures at_start { idx < first_sought from → steps.new ≡ steps.old }
     ensures at_end { idx ≡ end_index from node.now.breaks (text node.now) → steps.new ≡ steps.old }
 {
-    let _ = node.height();
     let first = first_sought(from);
     if idx < first {
         return 0;

@@ -1,6 +1,6 @@
 //! Counts of a text after an edit, by sums and differences.
-ghost use Rattle.std.specs.Prelude.{◌≡◌, ◌+◌, ◌<◌, ◌≤◌, ◌++◌, ℕ, List, false, length, IfSome, IfNone};
-ghost use Rattle.std.specs.Str.{chars, IsCharBoundary};
+ghost use Rattle.std.specs.Prelude.{◌≡◌, ◌+◌, ◌<◌, ◌≤◌, ◌++◌, true, length, IfSome, IfNone};
+ghost use Rattle.std.specs.Str.{chars, all_scalars};
 ghost use Rattle.rope_text.specs.declared.TheConstants.{MAX_BYTES, MAX_SHORT_BYTES};
 ghost use Rattle.rope_text.specs.Text.{byte_len};
 ghost use Rattle.rope_text.specs.TextInfo.{info_of, shared_breaks};
@@ -104,6 +104,8 @@ pub fn put_in(
     requires some { 1 ≤ length added.now }
     requires fits { byte_len leaf.old + byte_len added.now ≤ MAX_BYTES }
     ensures text { leaf.new ≡ inserted leaf.old at added.now }
+    ensures fits { byte_len leaf.new ≤ MAX_BYTES }
+    ensures scalars { all_scalars leaf.new ≡ true }
     ensures info { result ≡ info_of breaks (inserted leaf.old at added.now) }
 {
     let text = leaf.as_str();
@@ -134,6 +136,8 @@ pub fn take_out(
     requires ordered { start < end }
     requires within { end ≤ length leaf.old }
     ensures text { IfSome result (λ _. leaf.new ≡ removed leaf.old start end) }
+    ensures fits { IfSome result (λ _. byte_len leaf.new ≤ MAX_BYTES) }
+    ensures scalars { IfSome result (λ _. all_scalars leaf.new ≡ true) }
     ensures info { IfSome result (λ left. left ≡ info_of breaks (removed leaf.old start end)) }
     ensures some { IfSome result (λ _. 1 ≤ length (removed leaf.old start end)) }
     ensures least { IfSome result (λ _. least ≤ byte_len (removed leaf.old start end)) }

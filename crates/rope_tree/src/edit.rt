@@ -1,14 +1,11 @@
 //! Edits of whole trees: inserts of short texts, and removals of characters that lie in one leaf.
-ghost use Rattle.std.specs.Prelude.{◌≡◌, ◌+◌, ◌-◌, ◌*◌, ◌<◌, ◌≤◌, ◌^◌, ℕ, Bool, true, false, length, drop, IfOk, OnOk, OnErr};
+ghost use Rattle.std.specs.Prelude.{◌≡◌, ◌+◌, ◌-◌, ◌*◌, ◌<◌, ◌≤◌, ◌^◌, true, length, drop, IfOk, OnOk, OnErr};
 ghost use Rattle.std.specs.Str.{chars};
 ghost use Rattle.rope_text.specs.declared.TheConstants.{MAX_BYTES, MAX_SHORT_BYTES};
 ghost use Rattle.rope_text.specs.Text.{byte_len};
 ghost use Rattle.rope_text.specs.Breaks.{begins_with_lf};
 ghost use Rattle.rope_text.specs.Edit.{inserted, removed};
-ghost use Rattle.rope_text.specs.TextInfo.{info_of};
-ghost use Rattle.rope_tree.specs.Search.{count_of};
 ghost use Rattle.rope_tree.specs.Tree.{text, leaf_tree, IsTree};
-ghost use Rattle.rope_tree.specs.Totals.{HasTotals};
 ghost use Rattle.rope_tree.specs.View.{trees_in};
 ghost use Rattle.rope_tree.specs.Insert.{TakesShort, MayInsert, IsInserted};
 ghost use Rattle.rope_tree.specs.Tries.{IsTried};
@@ -35,7 +32,8 @@ fn insert_into_leaf(
     requires leaf { node.now ≡ leaf_tree node.now.breaks leaf.now }
     requires some { 1 ≤ length added.now }
     requires short { byte_len added.now ≤ MAX_SHORT_BYTES }
-    ensures ok { IfOk result (λ nodes. IsInserted node.now (trees_in nodes) (inserted leaf.now at added.now)) }
+    ensures ok { IfOk result (λ nodes.
+        IsInserted node.now (trees_in nodes) (inserted leaf.now at added.now)) }
     ensures made { maker.new.made ≤ maker.old.made + 2 }
     ensures some_made { maker.old.made < 18446744073709551615 → maker.old.made < maker.new.made }
     ensures rises { maker.old.made ≤ maker.new.made }
@@ -66,12 +64,12 @@ fn insert(
 ) -> Made<Nodes>
     requires takes { TakesShort node.now at added.now }
     requires side { MayInsert node.now at added.now to_right }
-    ensures ok { IfOk result (λ nodes. IsInserted node.now (trees_in nodes) (inserted (text node.now) at added.now)) }
+    ensures ok { IfOk result (λ nodes.
+        IsInserted node.now (trees_in nodes) (inserted (text node.now) at added.now)) }
     ensures made { maker.new.made ≤ maker.old.made + 2 * node.now.height + 2 }
     ensures some_made { maker.old.made < 18446744073709551615 → maker.old.made < maker.new.made }
     ensures rises { maker.old.made ≤ maker.new.made }
 {
-    let _ = node.height();
     match node.view() {
         View::Leaf(leaf) => insert_into_leaf(maker, node, &leaf, at, added),
         View::Inner(children, totals) => {
@@ -89,9 +87,9 @@ fn insert(
 /// Whether an LF stands at a place.
 pub fn is_lf(node: &Node, at: usize) -> bool
     requires { at ≤ length (text node.now) }
-    ensures { result ≡ begins_with_lf (drop at (text node.now)) }
+    ensures value { result ≡ begins_with_lf (drop at (text node.now)) }
+    ensures tree { IsTree node.now }
 {
-    let _ = node.height();
     at < node.info().chars && char_at(node, at, &mut Steps::new()) == '\n'
 }
 
@@ -109,7 +107,6 @@ pub fn insert_at(maker: &mut Maker, root: &mut Node, at: usize, added: &str) -> 
     ensures err { OnErr result (root.new ≡ root.old) }
     ensures made { maker.new.made ≤ maker.old.made + 3 * root.old.height + 5 }
 {
-    let _ = root.height();
     let added = ShortText::new(added);
     // At a seam it goes to the right where it ends in CR, so that it can't part that CR from an LF there. No CR stands before the LF
     // across a seam.
@@ -131,11 +128,11 @@ const ANY: Least = Least { first: 0, last: 0 };
 pub fn remove_at(maker: &mut Maker, root: &mut Node, start: usize, end: usize) -> Made<bool>
     requires ordered { start < end }
     requires within { end ≤ length (text root.old) }
-    ensures tried { IsTried result root.old root.new (text root.new ≡ removed (text root.old) start end) }
+    ensures tried { IsTried result root.old root.new
+        (text root.new ≡ removed (text root.old) start end) }
     ensures breaks { root.new.breaks ≡ root.old.breaks }
     ensures tree { IsTree root.new }
     ensures made { maker.new.made ≤ maker.old.made + root.old.height + 1 }
 {
-    let _ = root.height();
     root.remove_in_place(maker, start, end, ANY, true, &mut TextInfo::new())
 }

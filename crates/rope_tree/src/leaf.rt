@@ -7,7 +7,7 @@ ghost use Rattle.rope_text.specs.declared.TheConstants.{MAX_BYTES, MAX_SHORT_BYT
 ghost use Rattle.rope_text.specs.Edit.{inserted};
 ghost use Rattle.rope_tree.specs.Tree.{text, leaf_tree};
 ghost use Rattle.rope_tree.specs.LeafTree.{IsLeafOf};
-ghost use Rattle.rope_tree.specs.Change.{IsChange, no_counts};
+ghost use Rattle.rope_tree.specs.Change.{GrowsBy, FallsBy};
 ghost use Rattle.rope_tree.specs.Insert.{IsInserted};
 ghost use Rattle.rope_tree.specs.Removal.{IsRemoved};
 
@@ -36,9 +36,23 @@ impl Model for Summary {
 
     ghost Value = { Counted };
 
-    ghost view = { λ a. record { breaks = a.breaks; info = record { chars = a.chars; utf16_surrogates = a.utf16_surrogates; break_count = a.break_count; bytes = a.bytes } } };
+    ghost view = { λ a. record {
+      breaks = a.breaks;
+      info = record {
+        chars = a.chars;
+        utf16_surrogates = a.utf16_surrogates;
+        break_count = a.break_count;
+        bytes = a.bytes;
+      };
+    } };
 
-    ghost inverse = { λ v. record { chars = v.info.chars; break_count = v.info.break_count; bytes = v.info.bytes; utf16_surrogates = v.info.utf16_surrogates; breaks = v.breaks } };
+    ghost inverse = { λ v. record {
+      chars = v.info.chars;
+      break_count = v.info.break_count;
+      bytes = v.info.bytes;
+      utf16_surrogates = v.info.utf16_surrogates;
+      breaks = v.breaks;
+    } };
 }
 
 impl Summary {
@@ -179,8 +193,9 @@ impl Leaf {
     pub fn insert_in_place(&mut self, at: usize, added: &ShortText<'_>, more: &mut TextInfo) -> bool
         requires within { at ≤ length (text self.old) }
         requires some { 1 ≤ length added.now }
-        ensures done { result ≡ true → IsInserted self.old (self.new ∷ []) (inserted (text self.old) at added.now) }
-        ensures change { result ≡ true → IsChange no_counts more.new (info_of self.old.breaks (text self.old)) (info_of self.old.breaks (text self.new)) }
+        ensures done { result ≡ true
+            → IsInserted self.old (self.new ∷ []) (inserted (text self.old) at added.now) }
+        ensures change { result ≡ true → GrowsBy more.new self.old self.new }
         ensures kept { result ≡ false → self.new ≡ self.old }
     {
         if self.text.len() + added.len() > MAX_BYTES {
@@ -190,7 +205,6 @@ impl Leaf {
         let breaks = old.breaks;
         let before = old.info();
         let after = put_in(&mut self.text, at, added, before, breaks);
-        let _ = self.text.as_str();
         self.summary = Summary::new(breaks, after);
         *more = after.minus(before);
         true
@@ -201,7 +215,8 @@ impl Leaf {
     pub fn cut(&mut self, maker: &mut Maker, at: usize, added: &ShortText<'_>) -> Made<Option<Node>>
         requires some { 1 ≤ length added.now }
         requires short { byte_len added.now ≤ MAX_SHORT_BYTES }
-        ensures cut { IfOk result (λ found. IfSome found (λ back. IsInserted self.old (self.new ∷ back ∷ []) (inserted (text self.old) at added.now))) }
+        ensures cut { IfOk result (λ found. IfSome found (λ back.
+            IsInserted self.old (self.new ∷ back ∷ []) (inserted (text self.old) at added.now))) }
         ensures kept { IfOk result (λ found. IfNone found (self.new ≡ self.old)) }
         ensures err { OnErr result (self.new ≡ self.old) }
         ensures unmade { IfOk result (λ found. IfNone found (maker.new.made ≡ maker.old.made)) }
@@ -232,8 +247,9 @@ impl Leaf {
     ) -> bool
         requires ordered { start < end }
         requires within { end ≤ length (text self.old) }
-        ensures done { result ≡ true → IsRemoved least.first least.last self.old self.new start end }
-        ensures change { result ≡ true → IsChange less.new no_counts (info_of self.old.breaks (text self.old)) (info_of self.old.breaks (text self.new)) }
+        ensures done { result ≡ true
+            → IsRemoved least.first least.last self.old self.new start end }
+        ensures change { result ≡ true → FallsBy less.new self.old self.new }
         ensures kept { result ≡ false → self.new ≡ self.old }
     {
         let old = self.summary;
@@ -243,7 +259,6 @@ impl Leaf {
         let Some(after) = take_out(&mut self.text, start, end, least, before, breaks) else {
             return false;
         };
-        let _ = self.text.as_str();
         self.summary = Summary::new(breaks, after);
         *less = before.minus(after);
         true

@@ -1,6 +1,6 @@
 //! The way down to the leaf that holds a place.
-ghost use Rattle.std.specs.Prelude.{◌≡◌, ◌+◌, ◌-◌, ◌*◌, ◌<◌, ◌≤◌, ◌^◌, ℕ, [], length, slice_index_or, slice_get, Some};
-ghost use Rattle.std.specs.Str.{chars, encode_utf8_all};
+ghost use Rattle.std.specs.Prelude.{◌≡◌, ◌+◌, ◌-◌, ◌*◌, ◌<◌, ◌≤◌, ◌^◌, [], length, slice_index_or, slice_get, Some};
+ghost use Rattle.std.specs.Str.{encode_utf8_all};
 ghost use Rattle.rope_text.specs.declared.line_breaks.LineBreaks.{LineBreaks};
 ghost use Rattle.rope_text.specs.declared.text_info.TextInfo.{TextInfo};
 ghost use Rattle.rope_text.specs.Text.{byte_len};
@@ -36,7 +36,6 @@ pub fn leaf_at<'a>(node: &'a Node, unit: Unit, at: usize, steps: &mut Steps) -> 
     ensures counted { steps.old.compares + node.now.height ≤ steps.new.compares }
     ensures made { steps.new.made ≡ steps.old.made }
 {
-    let _ = node.height();
     let mut here = node;
     // A leaf's counts are told by its list's totals, so that no look-up has to wait for the leaf's own.
     let mut inside = node.info();

@@ -1,10 +1,9 @@
 //! Nodes: an empty text, or a pointer to a leaf or to a list of children. No other module sees their fields.
-ghost use Rattle.std.specs.Prelude.{◌≡◌, ◌+◌, ◌<◌, ◌≤◌, List, length, take, drop, IfOk};
-ghost use Rattle.std.specs.List.{All};
+ghost use Rattle.std.specs.Prelude.{◌≡◌, ◌+◌, ◌<◌, ◌≤◌, List, length, IfOk};
 ghost use Rattle.std.specs.Str.{chars};
 ghost use Rattle.rope_text.specs.declared.TheConstants.{MAX_BYTES, MAX_CHILDREN, MAX_HEIGHT};
 ghost use Rattle.rope_text.specs.TextInfo.{info_of};
-ghost use Rattle.rope_tree.specs.Tree.{Tree, text, joined, height_of, breaks_of, leaf_tree, tree_over, IsTree, AreChildren};
+ghost use Rattle.rope_tree.specs.Tree.{Tree, text, joined, breaks_of, leaf_tree, IsTree};
 ghost use Rattle.rope_tree.specs.Totals.{HasTotals};
 ghost use Rattle.rope_tree.specs.Flat.{IsFlat};
 ghost use Rattle.rope_tree.specs.View.{IsViewOf};
@@ -115,18 +114,14 @@ impl Default for Node {
 }
 
 impl Node {
-    /// How many levels lie below it: 0 for a leaf, and at most 18. A call of it also says a proof what holds of every node.
+    /// How many levels lie below it: 0 for a leaf, and at most 18. A call of it also tells a proof what holds of every node.
     pub fn height(&self) -> usize
         ensures value { result ≡ self.now.height }
         ensures low { self.now.height ≤ MAX_HEIGHT }
         ensures tree { IsTree self.now }
     {
         match &self.form {
-            Form::Empty(_) => 0,
-            Form::Leaf(leaf) => {
-                let _ = leaf.known_text(leaf.info());
-                0
-            }
+            Form::Empty(_) | Form::Leaf(_) => 0,
             Form::Inner(children) => usize::from(children.height),
         }
     }
@@ -142,9 +137,11 @@ impl Node {
         }
     }
 
-    /// The counts of its text.
+    /// The counts of its text. A call of it, too, tells a proof what holds of every node.
     pub fn info(&self) -> TextInfo
-        ensures { result ≡ info_of self.now.breaks (text self.now) }
+        ensures value { result ≡ info_of self.now.breaks (text self.now) }
+        ensures low { self.now.height ≤ MAX_HEIGHT }
+        ensures tree { IsTree self.now }
     {
         match &self.form {
             Form::Empty(_) => TextInfo::new(),
@@ -177,7 +174,8 @@ impl Node {
 
     /// The same node once more.
     pub fn share(&self) -> Made<Node>
-        ensures { IfOk result (λ node. node ≡ self.now) }
+        ensures same { IfOk result (λ node. node ≡ self.now) }
+        ensures tree { IfOk result (λ node. IsTree node) }
     {
         let form = match &self.form {
             Form::Empty(breaks) => Form::Empty(*breaks),
@@ -218,9 +216,7 @@ pub fn make_leaf(maker: &mut Maker, breaks: LineBreaks, text: &str, info: TextIn
     } else {
         Form::Leaf(Leaf::of_text(maker.alloc, breaks, text, info)?)
     };
-    let node = Node { form };
-    let _ = node.height();
-    Ok(node)
+    Ok(Node { form })
 }
 
 /// A leaf of its own with this text.

@@ -1,5 +1,5 @@
 //! The text of a leaf.
-ghost use Rattle.std.specs.Prelude.{◌≡◌, ℕ, ◌+◌, ◌<◌, ◌≤◌, ◌++◌, [], true, false, length, take, drop, IsTrue};
+ghost use Rattle.std.specs.Prelude.{◌≡◌, ℕ, ◌+◌, ◌<◌, ◌≤◌, ◌++◌, [], true, false, length, take, IsTrue};
 ghost use Rattle.std.specs.List.{insert_slice, remove_range};
 ghost use Rattle.std.specs.Str.{chars, all_scalars, IsUtf8, IsCharBoundary, encode_utf8_all};
 ghost use Rattle.rope_text.specs.declared.TheConstants.{MAX_BYTES, MAX_JOINED_BYTES, MIN_CUT_BYTES, MIN_HALF_BYTES};
@@ -87,7 +87,8 @@ pub(crate) fn halves_of(text: &str) -> (&str, &str)
     ensures joined { chars result.0.now ++ chars result.1.now ≡ chars text.now }
     ensures some { (0 < length (chars result.0.now)) × (0 < length (chars result.1.now)) }
     ensures apart { parts_crlf (chars result.0.now) (chars result.1.now) ≡ false }
-    ensures least { (MIN_HALF_BYTES ≤ length result.0.now) × (MIN_HALF_BYTES ≤ length result.1.now) }
+    ensures least { (MIN_HALF_BYTES ≤ length result.0.now)
+        × (MIN_HALF_BYTES ≤ length result.1.now) }
     ensures most { (length result.0.now ≤ MAX_BYTES) × (length result.1.now ≤ MAX_BYTES) }
 {
     let cut = next_break(text.len() / 2 - 2, text.as_bytes());
@@ -160,6 +161,7 @@ impl NodeText {
         requires fits { byte_len self.old + length added.now ≤ MAX_BYTES }
         ensures value { self.new ≡ chars (insert_slice (encode_utf8_all self.old) place added.now) }
         ensures len { byte_len self.new ≡ byte_len self.old + length added.now }
+        ensures scalars { all_scalars self.new ≡ true }
     {
         put_bytes(&mut self.bytes, place, added.as_bytes());
     }
@@ -208,7 +210,8 @@ impl NodeText {
         requires ordered { from ≤ to }
         requires from { IsCharBoundary (encode_utf8_all self.old) from }
         requires to { IsCharBoundary (encode_utf8_all self.old) to }
-        ensures { self.new ≡ chars (remove_range (encode_utf8_all self.old) from to) }
+        ensures value { self.new ≡ chars (remove_range (encode_utf8_all self.old) from to) }
+        ensures scalars { all_scalars self.new ≡ true }
     {
         take_bytes(&mut self.bytes, from, to);
     }

@@ -6,7 +6,8 @@ ghost use Rattle.rope_text.specs.declared.text_info.TextInfo.{TextInfo};
 ghost use Rattle.rope_text.specs.TextInfo.{info_of, info_sum};
 ghost use Rattle.rope_tree.specs.declared.search.Unit.TheVariants.{Char};
 ghost use Rattle.rope_tree.specs.Search.{count_of, IsSmall, HasPart};
-ghost use Rattle.rope_tree.specs.Narrow.{IsBelow, IsNarrow, AreNarrow, IsBelowWith, FitsWith};
+ghost use Rattle.rope_tree.specs.Narrow.{IsBelow, IsNarrow, AreNarrow, FitsWith};
+ghost use Rattle.rope_tree.specs.RunningTotals.{AreSmall, HavePart, FitFrom, SameBefore, ChangedFrom, MovedFrom};
 
 use crate::Made;
 use arrayvec::ArrayVec;
@@ -85,11 +86,11 @@ fn widened(alloc: Global, totals: &CountRows) -> Made<Box<WideTotals>>
 
 /// Puts other counts for those of one part of a text, in all totals from a place on.
 fn shift_wide(totals: &mut [TextInfo], from: usize, old: TextInfo, new: TextInfo)
-    requires part { (j : ℕ) (d : TextInfo) → from ≤ j → j < length totals.old → HasPart (slice_index_or totals.old j d) old }
-    requires fits { (j : ℕ) (d : TextInfo) → from ≤ j → j < length totals.old → IsBelowWith (2 ^ 64) (slice_index_or totals.old j d) old new }
+    requires part { HavePart from totals.old old }
+    requires fits { FitFrom (2 ^ 64) from totals.old old new }
     ensures len { length totals.new ≡ length totals.old }
-    ensures before { (j : ℕ) (d : TextInfo) → j < from → slice_index_or totals.new j d ≡ slice_index_or totals.old j d }
-    ensures after { (j : ℕ) (d : TextInfo) → from ≤ j → j < length totals.old → info_sum (slice_index_or totals.new j d) old ≡ info_sum (slice_index_or totals.old j d) new }
+    ensures before { SameBefore from totals.old totals.new }
+    ensures after { ChangedFrom from totals.old totals.new old new }
 {
     for j in from..totals.len() {
         totals[j] = totals[j].minus(old).plus(new);
@@ -132,7 +133,8 @@ impl Totals {
     /// Whether a text of so many bytes more leaves the totals in the width that they have.
     pub(crate) fn has_room_for(&self, bytes: usize) -> bool
         requires { 1 ≤ length self.now }
-        ensures { result ≡ true → AreNarrow self.now → (d : TextInfo) → (slice_index_or self.now (length self.now - 1) d).bytes + bytes < 2 ^ 32 }
+        ensures { result ≡ true → AreNarrow self.now → (d : TextInfo)
+            → (slice_index_or self.now (length self.now - 1) d).bytes + bytes < 2 ^ 32 }
     {
         let all = self.get(self.len() - 1).bytes;
         all >= TOO_WIDE || bytes < TOO_WIDE - all
@@ -175,14 +177,21 @@ impl Totals {
         requires within { from + count ≤ length others.now }
         requires few { length others.now ≤ MAX_CHILDREN }
         requires room { length self.old + count ≤ MAX_CHILDREN }
-        requires small { (j : ℕ) (d : TextInfo) → j < length self.old → IsSmall (slice_index_or self.old j d) }
-        requires small_others { (j : ℕ) (d : TextInfo) → j < count → IsSmall (slice_index_or others.now (from + j) d) }
-        requires part { (j : ℕ) (d : TextInfo) → j < count → HasPart (slice_index_or others.now (from + j) d) old }
+        requires small { AreSmall self.old }
+        requires small_others { (j : ℕ) (d : TextInfo) → j < count
+            → IsSmall (slice_index_or others.now (from + j) d) }
+        requires part { (j : ℕ) (d : TextInfo) → j < count
+            → HasPart (slice_index_or others.now (from + j) d) old }
         requires new { IsSmall new }
-        requires fits { (j : ℕ) (d : TextInfo) → j < count → (slice_index_or others.now (from + count - 1) d).bytes + new.bytes < 2 ^ 32 + old.bytes → FitsWith (slice_index_or others.now (from + j) d) old new }
+        requires fits { (j : ℕ) (d : TextInfo) → j < count
+            → (slice_index_or others.now (from + count - 1) d).bytes + new.bytes
+            < 2 ^ 32 + old.bytes → FitsWith (slice_index_or others.now (from + j) d) old new }
         ensures len { IfOk result (λ did. did ≡ true → length self.new ≡ length self.old + count) }
-        ensures before { IfOk result (λ did. did ≡ true → (j : ℕ) (d : TextInfo) → j < length self.old → slice_index_or self.new j d ≡ slice_index_or self.old j d) }
-        ensures behind { IfOk result (λ did. did ≡ true → (j : ℕ) (d : TextInfo) → j < count → info_sum (slice_index_or self.new (length self.old + j) d) old ≡ info_sum (slice_index_or others.now (from + j) d) new) }
+        ensures before { IfOk result (λ did. did ≡ true
+            → SameBefore (length self.old) self.old self.new) }
+        ensures behind { IfOk result (λ did. did ≡ true → (j : ℕ) (d : TextInfo) → j < count
+            → info_sum (slice_index_or self.new (length self.old + j) d) old
+            ≡ info_sum (slice_index_or others.now (from + j) d) new) }
         ensures kept { IfOk result (λ did. did ≡ false → self.new ≡ self.old) }
     {
         let last = others.get(from + count - 1);
@@ -213,9 +222,9 @@ impl Totals {
         requires room { length self.old < MAX_CHILDREN }
         requires narrow { AreNarrow self.old → IsNarrow total }
         ensures len { length self.new ≡ length self.old + 1 }
-        ensures before { (j : ℕ) (d : TextInfo) → j < place → slice_index_or self.new j d ≡ slice_index_or self.old j d }
+        ensures before { SameBefore place self.old self.new }
         ensures here { (d : TextInfo) → slice_index_or self.new place d ≡ total }
-        ensures behind { (j : ℕ) (d : TextInfo) → place ≤ j → j < length self.old → slice_index_or self.new (j + 1) d ≡ slice_index_or self.old j d }
+        ensures behind { MovedFrom place self.old self.new }
     {
         match &mut self.width {
             Width::Narrow(totals) => totals.insert(place, total),
@@ -227,13 +236,13 @@ impl Totals {
     #[inline(always)]
     pub(crate) fn retotal(&mut self, place: usize, old: TextInfo, new: TextInfo)
         requires within { place < length self.old }
-        requires small { (j : ℕ) (d : TextInfo) → j < length self.old → IsSmall (slice_index_or self.old j d) }
-        requires part { (j : ℕ) (d : TextInfo) → place ≤ j → j < length self.old → HasPart (slice_index_or self.old j d) old }
+        requires small { AreSmall self.old }
+        requires part { HavePart place self.old old }
         requires new { IsBelow (2 ^ 63) new }
-        requires fits { AreNarrow self.old → (j : ℕ) (d : TextInfo) → place ≤ j → j < length self.old → FitsWith (slice_index_or self.old j d) old new }
+        requires fits { AreNarrow self.old → FitFrom (2 ^ 32) place self.old old new }
         ensures len { length self.new ≡ length self.old }
-        ensures before { (j : ℕ) (d : TextInfo) → j < place → slice_index_or self.new j d ≡ slice_index_or self.old j d }
-        ensures after { (j : ℕ) (d : TextInfo) → place ≤ j → j < length self.old → info_sum (slice_index_or self.new j d) old ≡ info_sum (slice_index_or self.old j d) new }
+        ensures before { SameBefore place self.old self.new }
+        ensures after { ChangedFrom place self.old self.new old new }
     {
         match &mut self.width {
             Width::Narrow(totals) => totals.retotal(place, old, new),
@@ -260,11 +269,13 @@ pub fn total_before(totals: &Totals, place: usize) -> TextInfo
 pub fn place_of(totals: &Totals, unit: Unit, at: usize, steps: &mut Steps) -> usize
     requires some { 0 < length totals.now }
     requires few { length totals.now ≤ MAX_CHILDREN }
-    requires small { (j : ℕ) (d : TextInfo) → j < length totals.now → IsSmall (slice_index_or totals.now j d) }
-    requires last { (d : TextInfo) → at < count_of unit (slice_index_or totals.now (length totals.now - 1) d) }
+    requires small { AreSmall totals.now }
+    requires last { (d : TextInfo)
+        → at < count_of unit (slice_index_or totals.now (length totals.now - 1) d) }
     requires room { steps.old.compares + 5 < 2 ^ 64 }
     ensures within { result < length totals.now }
-    ensures before { (d : TextInfo) → 0 < result → count_of unit (slice_index_or totals.now (result - 1) d) ≤ at }
+    ensures before { (d : TextInfo) → 0 < result
+        → count_of unit (slice_index_or totals.now (result - 1) d) ≤ at }
     ensures past { (d : TextInfo) → at < count_of unit (slice_index_or totals.now result d) }
     ensures compares { steps.new.compares ≤ steps.old.compares + 5 }
     ensures counted { 2 ≤ length totals.now → steps.old.compares < steps.new.compares }
@@ -291,10 +302,12 @@ pub fn place_of(totals: &Totals, unit: Unit, at: usize, steps: &mut Steps) -> us
 pub(crate) fn try_place(totals: &Totals, at: usize, likely: usize, follows: bool) -> (usize, bool)
     requires some { 0 < length totals.now }
     requires few { length totals.now ≤ MAX_CHILDREN }
-    requires small { (j : ℕ) (d : TextInfo) → j < length totals.now → IsSmall (slice_index_or totals.now j d) }
-    requires last { (d : TextInfo) → at < count_of Char (slice_index_or totals.now (length totals.now - 1) d) }
+    requires small { AreSmall totals.now }
+    requires last { (d : TextInfo)
+        → at < count_of Char (slice_index_or totals.now (length totals.now - 1) d) }
     ensures within { result.0 < length totals.now }
-    ensures before { (d : TextInfo) → 0 < result.0 → count_of Char (slice_index_or totals.now (result.0 - 1) d) ≤ at }
+    ensures before { (d : TextInfo) → 0 < result.0
+        → count_of Char (slice_index_or totals.now (result.0 - 1) d) ≤ at }
     ensures past { (d : TextInfo) → at < count_of Char (slice_index_or totals.now result.0 d) }
 {
     let are_few = totals.len() < MIN_CHILDREN;

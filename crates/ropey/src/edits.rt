@@ -44,7 +44,6 @@ impl Rope {
             return Ok(insert_at(maker, &mut self.root, char_idx, text)?);
         }
         self.root = insert(maker, &self.root, char_idx, text)?;
-        let _ = self.root.height();
         Ok(())
     }
 
@@ -206,8 +205,6 @@ impl Rope {
         let back = back(&mut maker, &self.root, char_idx);
         steps.made = maker.made;
         let back = back?;
-        let _ = front.height();
-        let _ = back.height();
         self.root = front;
         Ok(Rope {
             root: back,
@@ -348,7 +345,6 @@ impl Rope {
         let joined = append(&mut maker, &self.root, &other.root);
         steps.made = maker.made;
         self.root = joined?;
-        let _ = self.root.height();
         Ok(())
     }
 }

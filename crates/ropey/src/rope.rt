@@ -202,7 +202,6 @@ impl Rope {
         ensures cut { result ≡ at_start self.now.chunks }
         ensures few { length self.now.chunks < 2 ^ 63 }
     {
-        let _ = self.root.info();
         self.whole().chunks()
     }
 }

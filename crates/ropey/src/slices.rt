@@ -4,7 +4,7 @@
 //!
 //! A cursor stands between two items. Over the characters of `"abc"`, `chars_at(1)` gives `b` by `next`, and then
 //! `b` again by `prev`. No slice and no cursor takes memory.
-ghost use Rattle.std.specs.Prelude.{◌≡◌, length, Some, IfOk, IfErr, ◌≤◌, ◌<◌, MatchOption};
+ghost use Rattle.std.specs.Prelude.{◌≡◌, length, Some, IfOk, IfErr, ◌≤◌, ◌<◌, ◌^◌, MatchOption};
 ghost use Rattle.rope_text.specs.Edit.{byte_range_error};
 ghost use Rattle.rope_text.specs.declared.error.Error.TheVariants.{OutOfMemory};
 ghost use Rattle.rope_slice.specs.Sliced.{HasCharRange, HasByteRange, IsCharRange, IsByteRange};
@@ -31,7 +31,8 @@ use std::alloc::Global;
 impl Rope {
     // All of it.
     pub(crate) fn whole(&self) -> RopeSlice<'_>
-        ensures { content_of result ≡ content self.now }
+        ensures content { content_of result ≡ content self.now }
+        ensures few { length self.now.chunks < 2 ^ 63 }
     {
         let part = Part::of_node(&self.root);
         RopeSlice { part }

@@ -5,10 +5,9 @@ ghost use Rattle.std.specs.List.{insert};
 ghost use Rattle.rope_text.specs.declared.TheConstants.{MAX_SHORT_BYTES};
 ghost use Rattle.rope_text.specs.Text.{byte_len};
 ghost use Rattle.rope_text.specs.Edit.{inserted};
-ghost use Rattle.rope_text.specs.TextInfo.{info_of};
-ghost use Rattle.rope_tree.specs.Tree.{Tree, text, joined, breaks_of, height_of, tree_over, AreChildren};
+ghost use Rattle.rope_tree.specs.Tree.{Tree, text, joined, height_of, tree_over, IsTree, AreFamily};
 ghost use Rattle.rope_tree.specs.Shape.{form_tree, IsForm};
-ghost use Rattle.rope_tree.specs.Change.{IsChange, no_counts};
+ghost use Rattle.rope_tree.specs.Change.{GrowsBy, FallsBy, GrowBy, FallBy};
 ghost use Rattle.rope_tree.specs.Insert.{TakesShort, MayInsert, GoesIn, IsInserted, AreGrown};
 ghost use Rattle.rope_tree.specs.Removal.{IsRemoved, AreRemoved};
 ghost use Rattle.rope_tree.specs.Tries.{IsTried};
@@ -41,7 +40,7 @@ fn copy_leaf(leaf: &mut Rc<Leaf>, maker: &mut Maker) -> Made<()>
 /// Puts a copy of a list of children in its place.
 #[inline(never)]
 fn copy_children(children: &mut Rc<Children>, maker: &mut Maker) -> Made<()>
-    requires { AreChildren (breaks_of children.old.value) (height_of children.old.value) children.old.value }
+    requires { AreFamily children.old.value }
     ensures same { children.new.value ≡ children.old.value }
     ensures made { maker.new.made ≤ maker.old.made + 1 }
 {
@@ -113,12 +112,13 @@ impl Children {
     /// the edit before. Where it did so far, that one's child is tried first.
     #[inline(always)]
     fn way_in(&self, at: usize, to_right: bool, follows: bool) -> (usize, usize, bool)
-        requires children { AreChildren (breaks_of self.now) (height_of self.now) self.now }
+        requires children { AreFamily self.now }
         requires within { at ≤ length (joined self.now) }
         requires right { to_right ≡ true → at < length (joined self.now) }
         ensures child { result.0 < length self.now }
         ensures place { at ≡ length (joined (take result.0 self.now)) + result.1 }
-        ensures goes { (child : Tree) → GoesIn at result.1 (length (text (slice_index_or self.now result.0 child))) to_right }
+        ensures goes { (child : Tree)
+            → GoesIn at result.1 (length (text (slice_index_or self.now result.0 child))) to_right }
     {
         let held = char_to_hold(at, to_right);
         let (place, follows) = try_place(&self.totals, held, usize::from(self.last), follows);
@@ -140,12 +140,13 @@ impl Children {
         follows: bool,
         more: &mut TextInfo,
     ) -> Made<bool>
-        requires children { AreChildren (breaks_of self.old) (height_of self.old) self.old }
+        requires children { AreFamily self.old }
         requires takes { TakesShort (tree_over self.old) at added.now }
         requires side { MayInsert (tree_over self.old) at added.now to_right }
-        ensures change { IfOk result (λ did. did ≡ true → IsChange no_counts more.new (info_of (breaks_of self.old) (joined self.old)) (info_of (breaks_of self.old) (joined self.new))) }
+        ensures change { IfOk result (λ did. did ≡ true → GrowBy more.new self.old self.new) }
         ensures made { maker.new.made ≤ maker.old.made + height_of self.old + 2 }
-        ensures tried { IsTried result self.old self.new (AreGrown self.old self.new (inserted (joined self.old) at added.now)) }
+        ensures tried { IsTried result self.old self.new
+            (AreGrown self.old self.new (inserted (joined self.old) at added.now)) }
     {
         if !follows && self.height == 1 && has_no_child(&self.nodes) {
             return unchanged();
@@ -186,11 +187,12 @@ impl Children {
         added: &ShortText<'_>,
         to_right: bool,
     ) -> Made<bool>
-        requires children { AreChildren (breaks_of self.old) (height_of self.old) self.old }
+        requires children { AreFamily self.old }
         requires takes { TakesShort (tree_over self.old) at added.now }
         requires side { MayInsert (tree_over self.old) at added.now to_right }
         ensures made { maker.new.made ≤ maker.old.made + 2 }
-        ensures tried { IsTried result self.old self.new (AreGrown self.old self.new (inserted (joined self.old) at added.now)) }
+        ensures tried { IsTried result self.old self.new
+            (AreGrown self.old self.new (inserted (joined self.old) at added.now)) }
     {
         let count = self.totals.len();
         if count >= MAX_CHILDREN || !self.totals.has_room_for(added.len()) {
@@ -224,12 +226,13 @@ impl Children {
         follows: bool,
         less: &mut TextInfo,
     ) -> Made<bool>
-        requires children { AreChildren (breaks_of self.old) (height_of self.old) self.old }
+        requires children { AreFamily self.old }
         requires ordered { start < end }
         requires within { end ≤ length (joined self.old) }
-        ensures change { IfOk result (λ did. did ≡ true → IsChange less.new no_counts (info_of (breaks_of self.old) (joined self.old)) (info_of (breaks_of self.old) (joined self.new))) }
+        ensures change { IfOk result (λ did. did ≡ true → FallBy less.new self.old self.new) }
         ensures made { maker.new.made ≤ maker.old.made + height_of self.old + 1 }
-        ensures tried { IsTried result self.old self.new (AreRemoved least.first least.last self.old self.new start end) }
+        ensures tried { IsTried result self.old self.new
+            (AreRemoved least.first least.last self.old self.new start end) }
     {
         if !follows && self.height == 1 && has_no_child(&self.nodes) {
             return unchanged();
@@ -284,9 +287,11 @@ impl Node {
     ) -> Made<bool>
         requires takes { TakesShort self.old at added.now }
         requires side { MayInsert self.old at added.now to_right }
-        ensures change { IfOk result (λ did. did ≡ true → IsChange no_counts more.new (info_of self.old.breaks (text self.old)) (info_of self.old.breaks (text self.new))) }
+        ensures change { IfOk result (λ did. did ≡ true → GrowsBy more.new self.old self.new) }
         ensures made { maker.new.made ≤ maker.old.made + self.old.height + 2 }
-        ensures tried { IsTried result self.old self.new (IsInserted self.old (self.new ∷ []) (inserted (text self.old) at added.now)) }
+        ensures tree { IsTree self.new }
+        ensures tried { IsTried result self.old self.new
+            (IsInserted self.old (self.new ∷ []) (inserted (text self.old) at added.now)) }
     {
         own(&mut self.form, maker)?;
         match &mut self.form {
@@ -309,7 +314,8 @@ impl Node {
     fn cut(&mut self, maker: &mut Maker, at: usize, added: &ShortText<'_>) -> Made<Option<Node>>
         requires some { 1 ≤ length added.now }
         requires short { byte_len added.now ≤ MAX_SHORT_BYTES }
-        ensures cut { IfOk result (λ found. IfSome found (λ back. IsInserted self.old (self.new ∷ back ∷ []) (inserted (text self.old) at added.now))) }
+        ensures cut { IfOk result (λ found. IfSome found (λ back.
+            IsInserted self.old (self.new ∷ back ∷ []) (inserted (text self.old) at added.now))) }
         ensures kept { IfOk result (λ found. IfNone found (self.new ≡ self.old)) }
         ensures err { OnErr result (self.new ≡ self.old) }
         ensures made { maker.new.made ≤ maker.old.made + 2 }
@@ -341,9 +347,11 @@ impl Node {
     ) -> Made<bool>
         requires ordered { start < end }
         requires within { end ≤ length (text self.old) }
-        ensures change { IfOk result (λ did. did ≡ true → IsChange less.new no_counts (info_of self.old.breaks (text self.old)) (info_of self.old.breaks (text self.new))) }
+        ensures change { IfOk result (λ did. did ≡ true → FallsBy less.new self.old self.new) }
         ensures made { maker.new.made ≤ maker.old.made + self.old.height + 1 }
-        ensures tried { IsTried result self.old self.new (IsRemoved least.first least.last self.old self.new start end) }
+        ensures tree { IsTree self.new }
+        ensures tried { IsTried result self.old self.new
+            (IsRemoved least.first least.last self.old self.new start end) }
     {
         own(&mut self.form, maker)?;
         match &mut self.form {

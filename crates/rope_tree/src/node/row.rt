@@ -1,11 +1,11 @@
 //! Nodes put side by side, and the nodes over them.
-ghost use Rattle.std.specs.Prelude.{◌≡◌, ◌+◌, ◌*◌, ◌<◌, ◌≤◌, ◌++◌, [], ◌∷◌, length, take, drop, IfOk, OnOk};
+ghost use Rattle.std.specs.Prelude.{◌≡◌, ◌+◌, ◌*◌, ◌<◌, ◌≤◌, ◌++◌, [], length, take, drop, IfOk, OnOk};
 ghost use Rattle.rope_text.specs.declared.TheConstants.{MAX_CHILDREN};
-ghost use Rattle.rope_tree.specs.Tree.{height_of, breaks_of, leaves_of, tree_over, AreChildren};
+ghost use Rattle.rope_tree.specs.Tree.{breaks_of, leaves_of, tree_over, AreFamily};
 ghost use Rattle.rope_tree.specs.Totals.{HasTotals, IsTotalOf};
 ghost use Rattle.rope_tree.specs.View.{trees_in};
-ghost use Rattle.rope_tree.specs.Siblings.{AreSiblings, AreParts, gathered};
-ghost use Rattle.rope_tree.specs.Rows.{IsPart, IsRow};
+ghost use Rattle.rope_tree.specs.Siblings.{AreLevel, AreOver, gathered};
+ghost use Rattle.rope_tree.specs.Rows.{IsRow};
 ghost use Rattle.rope_tree.specs.NewList.{new_list, nodes_in, IsNewList};
 
 use super::{Children, Form, Node, Nodes};
@@ -35,11 +35,13 @@ fn push_all(
     before: TextInfo,
 ) -> Made<TextInfo>
     requires list { IsNewList (new_list totals.old places.old) }
-    requires room { length (nodes_in (new_list totals.old places.old)) + length nodes.now ≤ MAX_CHILDREN }
+    requires room { length (nodes_in (new_list totals.old places.old)) + length nodes.now
+        ≤ MAX_CHILDREN }
     requires before { IsTotalOf (nodes_in (new_list totals.old places.old)) before }
-    requires siblings { let ts = nodes_in (new_list totals.old places.old) ++ nodes.now in AreSiblings (breaks_of ts) (height_of ts) ts }
+    requires siblings { AreLevel (nodes_in (new_list totals.old places.old) ++ nodes.now) }
     ensures list { OnOk result (IsNewList (new_list totals.new places.new)) }
-    ensures nodes { OnOk result (nodes_in (new_list totals.new places.new) ≡ nodes_in (new_list totals.old places.old) ++ nodes.now) }
+    ensures nodes { OnOk result (nodes_in (new_list totals.new places.new)
+        ≡ nodes_in (new_list totals.old places.old) ++ nodes.now) }
     ensures total { IfOk result (IsTotalOf (nodes_in (new_list totals.new places.new))) }
 {
     let mut total = before;
@@ -62,12 +64,14 @@ fn push_row(
     before: TextInfo,
 ) -> Made<TextInfo>
     requires list { IsNewList (new_list totals.old places.old) }
-    requires room { length (nodes_in (new_list totals.old places.old)) + length row.nodes.now ≤ MAX_CHILDREN }
+    requires room { length (nodes_in (new_list totals.old places.old)) + length row.nodes.now
+        ≤ MAX_CHILDREN }
     requires row { IsRow row }
     requires before { IsTotalOf (nodes_in (new_list totals.old places.old)) before }
-    requires siblings { let ts = nodes_in (new_list totals.old places.old) ++ row.nodes.now in AreSiblings (breaks_of ts) (height_of ts) ts }
+    requires siblings { AreLevel (nodes_in (new_list totals.old places.old) ++ row.nodes.now) }
     ensures list { OnOk result (IsNewList (new_list totals.new places.new)) }
-    ensures nodes { OnOk result (nodes_in (new_list totals.new places.new) ≡ nodes_in (new_list totals.old places.old) ++ row.entry.nodes.now) }
+    ensures nodes { OnOk result (nodes_in (new_list totals.new places.new)
+        ≡ nodes_in (new_list totals.old places.old) ++ row.entry.nodes.now) }
     ensures total { IfOk result (IsTotalOf (nodes_in (new_list totals.new places.new))) }
 {
     let Row { nodes, from, .. } = row;
@@ -106,8 +110,9 @@ fn clear(totals: &mut Totals, places: &mut [Node; MAX_CHILDREN])
 pub(super) fn list_of(maker: &mut Maker, rows: Rows<'_>) -> Made<Rc<Children>>
     requires before { IsRow rows.0 }
     requires after { IsRow rows.2 }
-    requires children { let ts = rows.0.nodes.now ++ (rows.1.now ++ rows.2.nodes.now) in AreChildren (breaks_of ts) (height_of ts) ts }
-    ensures ok { IfOk result (λ list. list.value ≡ rows.entry.0.nodes.now ++ (rows.entry.1.now ++ rows.entry.2.nodes.now)) }
+    requires children { AreFamily (rows.0.nodes.now ++ (rows.1.now ++ rows.2.nodes.now)) }
+    ensures ok { IfOk result (λ list. list.value
+        ≡ rows.entry.0.nodes.now ++ (rows.entry.1.now ++ rows.entry.2.nodes.now)) }
     ensures made { maker.new.made ≤ maker.old.made + 1 }
     ensures added { maker.old.made < 18446744073709551615 → maker.new.made ≡ maker.old.made + 1 }
     ensures rises { maker.old.made ≤ maker.new.made }
@@ -152,8 +157,9 @@ pub(super) fn list_of(maker: &mut Maker, rows: Rows<'_>) -> Made<Rc<Children>>
 fn make_over(maker: &mut Maker, rows: Rows<'_>) -> Made<Node>
     requires before { IsRow rows.0 }
     requires after { IsRow rows.2 }
-    requires children { let ts = rows.0.nodes.now ++ (rows.1.now ++ rows.2.nodes.now) in AreChildren (breaks_of ts) (height_of ts) ts }
-    ensures ok { IfOk result (λ node. node ≡ tree_over (rows.entry.0.nodes.now ++ (rows.entry.1.now ++ rows.entry.2.nodes.now))) }
+    requires children { AreFamily (rows.0.nodes.now ++ (rows.1.now ++ rows.2.nodes.now)) }
+    ensures ok { IfOk result (λ node. node
+        ≡ tree_over (rows.entry.0.nodes.now ++ (rows.entry.1.now ++ rows.entry.2.nodes.now))) }
     ensures made { maker.new.made ≤ maker.old.made + 1 }
     ensures added { maker.old.made < 18446744073709551615 → maker.new.made ≡ maker.old.made + 1 }
     ensures rises { maker.old.made ≤ maker.new.made }
@@ -164,7 +170,7 @@ fn make_over(maker: &mut Maker, rows: Rows<'_>) -> Made<Node>
 
 /// A node over nodes side by side, which it shares.
 pub fn node_over(maker: &mut Maker, nodes: &[Node]) -> Made<Node>
-    requires { AreChildren (breaks_of nodes.now) (height_of nodes.now) nodes.now }
+    requires { AreFamily nodes.now }
     ensures ok { IfOk result (λ node. node ≡ tree_over nodes.now) }
     ensures made { maker.new.made ≤ maker.old.made + 1 }
     ensures added { maker.old.made < 18446744073709551615 → maker.new.made ≡ maker.old.made + 1 }
@@ -188,7 +194,7 @@ impl<'a> Row<'a> {
 
     /// All children of a node, with their running totals.
     pub fn of(nodes: &'a [Node], totals: &'a Totals) -> Row<'a>
-        requires children { AreChildren (breaks_of nodes.now) (height_of nodes.now) nodes.now }
+        requires children { AreFamily nodes.now }
         requires totals { HasTotals (breaks_of nodes.now) totals.now nodes.now }
         ensures row { IsRow result }
         ensures nodes { result.nodes.now ≡ nodes.now }
@@ -231,11 +237,14 @@ impl<'a> Row<'a> {
 pub fn pack_over(maker: &mut Maker, before: Row<'_>, middle: &[Node], after: Row<'_>) -> Made<Nodes>
     requires before { IsRow before }
     requires after { IsRow after }
-    requires siblings { let ts = before.nodes.now ++ (middle.now ++ after.nodes.now) in AreSiblings (breaks_of ts) (height_of ts) ts }
+    requires siblings { AreLevel (before.nodes.now ++ (middle.now ++ after.nodes.now)) }
     requires at_least_two { 2 ≤ length (before.nodes.now ++ (middle.now ++ after.nodes.now)) }
-    requires at_most_48 { length (before.nodes.now ++ (middle.now ++ after.nodes.now)) ≤ 2 * MAX_CHILDREN }
-    ensures leaves { IfOk result (λ p. leaves_of (trees_in p) ≡ leaves_of (before.entry.nodes.now ++ (middle.now ++ after.entry.nodes.now))) }
-    ensures shape { let ts = before.entry.nodes.now ++ (middle.now ++ after.entry.nodes.now) in IfOk result (λ p. AreParts (breaks_of ts) (length ts) (length ts) (height_of ts + 1) (trees_in p)) }
+    requires at_most_48 { length (before.nodes.now ++ (middle.now ++ after.nodes.now))
+        ≤ 2 * MAX_CHILDREN }
+    ensures leaves { IfOk result (λ p. leaves_of (trees_in p)
+        ≡ leaves_of (before.entry.nodes.now ++ (middle.now ++ after.entry.nodes.now))) }
+    ensures shape { IfOk result (λ p. AreOver
+        (before.entry.nodes.now ++ (middle.now ++ after.entry.nodes.now)) (trees_in p)) }
     ensures made { maker.new.made ≤ maker.old.made + 2 }
     ensures rises { maker.old.made ≤ maker.new.made }
 {
@@ -257,11 +266,14 @@ pub fn pack_over(maker: &mut Maker, before: Row<'_>, middle: &[Node], after: Row
 pub fn pack(maker: &mut Maker, before: Row<'_>, middle: Nodes, after: Row<'_>) -> Made<Nodes>
     requires before { IsRow before }
     requires after { IsRow after }
-    requires siblings { let ts = before.nodes.now ++ (trees_in middle ++ after.nodes.now) in AreSiblings (breaks_of ts) (height_of ts) ts }
+    requires siblings { AreLevel (before.nodes.now ++ (trees_in middle ++ after.nodes.now)) }
     requires at_least_two { 2 ≤ length (before.nodes.now ++ (trees_in middle ++ after.nodes.now)) }
-    requires at_most_48 { length (before.nodes.now ++ (trees_in middle ++ after.nodes.now)) ≤ 2 * MAX_CHILDREN }
-    ensures leaves { IfOk result (λ p. leaves_of (trees_in p) ≡ leaves_of (before.entry.nodes.now ++ (trees_in middle ++ after.entry.nodes.now))) }
-    ensures shape { let ts = before.entry.nodes.now ++ (trees_in middle ++ after.entry.nodes.now) in IfOk result (λ p. AreParts (breaks_of ts) (length ts) (length ts) (height_of ts + 1) (trees_in p)) }
+    requires at_most_48 { length (before.nodes.now ++ (trees_in middle ++ after.nodes.now))
+        ≤ 2 * MAX_CHILDREN }
+    ensures leaves { IfOk result (λ p. leaves_of (trees_in p)
+        ≡ leaves_of (before.entry.nodes.now ++ (trees_in middle ++ after.entry.nodes.now))) }
+    ensures shape { IfOk result (λ p. AreOver
+        (before.entry.nodes.now ++ (trees_in middle ++ after.entry.nodes.now)) (trees_in p)) }
     ensures made { maker.new.made ≤ maker.old.made + 2 }
     ensures rises { maker.old.made ≤ maker.new.made }
 {
@@ -273,7 +285,7 @@ pub fn pack(maker: &mut Maker, before: Row<'_>, middle: Nodes, after: Row<'_>) -
 
 /// One tree or two side by side as one: the only one, or a node over them.
 pub fn root_of(maker: &mut Maker, nodes: Nodes) -> Made<Node>
-    requires { let ts = trees_in nodes in length ts ≡ 2 → AreChildren (breaks_of ts) (height_of ts) ts }
+    requires { length (trees_in nodes) ≡ 2 → AreFamily (trees_in nodes) }
     ensures ok { IfOk result (λ node. node ≡ gathered (trees_in nodes)) }
     ensures made { maker.new.made ≤ maker.old.made + 1 }
     ensures rises { maker.old.made ≤ maker.new.made }

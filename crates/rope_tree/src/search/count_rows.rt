@@ -1,11 +1,12 @@
 //! Running totals kept by kind of count, in 32 bits each.
-ghost use Rattle.std.specs.Prelude.{◌≡◌, ℕ, ◌+◌, ◌-◌, ◌%◌, ◌<◌, ◌≤◌, ◌^◌, [], ◌∷◌, ◌++◌, length, take, drop, slice_index, slice_index_or};
+ghost use Rattle.std.specs.Prelude.{◌≡◌, ℕ, ◌+◌, ◌-◌, ◌<◌, ◌≤◌, ◌^◌, [], ◌∷◌, ◌++◌, length, take, drop, slice_index, slice_index_or};
 ghost use Rattle.std.specs.List.{insert};
 ghost use Rattle.rope_text.specs.declared.TheConstants.{MAX_CHILDREN};
 ghost use Rattle.rope_text.specs.declared.text_info.TextInfo.{TextInfo};
 ghost use Rattle.rope_text.specs.TextInfo.{info_sum};
 ghost use Rattle.rope_tree.specs.Search.{HasPart};
 ghost use Rattle.rope_tree.specs.Narrow.{IsNarrow, AreNarrow, FitsWith};
+ghost use Rattle.rope_tree.specs.RunningTotals.{HavePart, FitFrom, SameBefore, ChangedFrom, MovedFrom};
 
 use rope_text::{MAX_CHILDREN, TextInfo};
 use std::marker::Model;
@@ -64,7 +65,8 @@ fn shift(counts: &mut [u32], from: usize, old: usize, new: usize, mostly_same: b
     requires new { new < 2 ^ 32 }
     ensures len { length counts.new ≡ MAX_CHILDREN }
     ensures before { (j : ℕ) → j < from → slice_index counts.new j ≡ slice_index counts.old j }
-    ensures after { (j : ℕ) → from ≤ j → j < MAX_CHILDREN → old ≤ slice_index counts.old j → slice_index counts.old j + new < 2 ^ 32 + old
+    ensures after { (j : ℕ) → from ≤ j → j < MAX_CHILDREN → old ≤ slice_index counts.old j
+        → slice_index counts.old j + new < 2 ^ 32 + old
         → slice_index counts.new j + old ≡ slice_index counts.old j + new }
 {
     if mostly_same && old == new {
@@ -99,7 +101,8 @@ fn put_in(row: &mut [u32], place: usize, count: u32)
 fn put_row(row: &mut [u32], place: usize, others: &[u32], from: usize, count: usize)
     requires room { place + count ≤ length row.old }
     requires within { from + count ≤ length others.now }
-    ensures { row.new ≡ take place row.old ++ (take count (drop from others.now) ++ drop (place + count) row.old) }
+    ensures { row.new ≡ take place row.old
+        ++ (take count (drop from others.now) ++ drop (place + count) row.old) }
 {
     row[place..place + count].copy_from_slice(&others[from..from + count]);
 }
@@ -158,9 +161,9 @@ impl CountRows {
         requires room { length self.old < MAX_CHILDREN }
         requires narrow { AreNarrow self.old → IsNarrow total }
         ensures len { length self.new ≡ length self.old + 1 }
-        ensures before { (j : ℕ) (d : TextInfo) → j < place → slice_index_or self.new j d ≡ slice_index_or self.old j d }
+        ensures before { SameBefore place self.old self.new }
         ensures here { (d : TextInfo) → slice_index_or self.new place d ≡ total }
-        ensures behind { (j : ℕ) (d : TextInfo) → place ≤ j → j < length self.old → slice_index_or self.new (j + 1) d ≡ slice_index_or self.old j d }
+        ensures behind { MovedFrom place self.old self.new }
     {
         put_in(&mut self.bytes, place, total.bytes as u32);
         put_in(&mut self.chars, place, total.chars as u32);
@@ -173,11 +176,11 @@ impl CountRows {
     #[inline(always)]
     pub fn retotal(&mut self, place: usize, old: TextInfo, new: TextInfo)
         requires within { place < length self.old }
-        requires part { (j : ℕ) (d : TextInfo) → place ≤ j → j < length self.old → HasPart (slice_index_or self.old j d) old }
-        requires fits { AreNarrow self.old → (j : ℕ) (d : TextInfo) → place ≤ j → j < length self.old → FitsWith (slice_index_or self.old j d) old new }
+        requires part { HavePart place self.old old }
+        requires fits { AreNarrow self.old → FitFrom (2 ^ 32) place self.old old new }
         ensures len { length self.new ≡ length self.old }
-        ensures before { (j : ℕ) (d : TextInfo) → j < place → slice_index_or self.new j d ≡ slice_index_or self.old j d }
-        ensures after { (j : ℕ) (d : TextInfo) → place ≤ j → j < length self.old → info_sum (slice_index_or self.new j d) old ≡ info_sum (slice_index_or self.old j d) new }
+        ensures before { SameBefore place self.old self.new }
+        ensures after { ChangedFrom place self.old self.new old new }
     {
         shift(&mut self.bytes, place, old.bytes, new.bytes, false);
         shift(&mut self.chars, place, old.chars, new.chars, false);
@@ -203,11 +206,15 @@ impl CountRows {
         requires some { 1 ≤ count }
         requires within { from + count ≤ length others.now }
         requires room { length self.old + count ≤ MAX_CHILDREN }
-        requires part { (j : ℕ) (d : TextInfo) → j < count → HasPart (slice_index_or others.now (from + j) d) old }
-        requires fits { (j : ℕ) (d : TextInfo) → j < count → FitsWith (slice_index_or others.now (from + j) d) old new }
+        requires part { (j : ℕ) (d : TextInfo) → j < count
+            → HasPart (slice_index_or others.now (from + j) d) old }
+        requires fits { (j : ℕ) (d : TextInfo) → j < count
+            → FitsWith (slice_index_or others.now (from + j) d) old new }
         ensures len { length self.new ≡ length self.old + count }
-        ensures before { (j : ℕ) (d : TextInfo) → j < length self.old → slice_index_or self.new j d ≡ slice_index_or self.old j d }
-        ensures behind { (j : ℕ) (d : TextInfo) → j < count → info_sum (slice_index_or self.new (length self.old + j) d) old ≡ info_sum (slice_index_or others.now (from + j) d) new }
+        ensures before { SameBefore (length self.old) self.old self.new }
+        ensures behind { (j : ℕ) (d : TextInfo) → j < count
+            → info_sum (slice_index_or self.new (length self.old + j) d) old
+            ≡ info_sum (slice_index_or others.now (from + j) d) new }
     {
         let len = self.len;
         put_row(&mut self.bytes, len, &others.bytes, from, count);

@@ -89,13 +89,13 @@ pub returns-then-at-info-clause-back : goal.returns-then-at-info-clause-back
 returns-then-at-info-clause-back t c =
     let n = c.args.node.now in
     IfOk-weaker c.leaf_of.result _ (IsBack c.args.at n)
-    (λ part is. empty_back n part (chars []) c.args.at (is ∙ ap (λ b. leaf_tree b (chars [])) c.line_breaks.ensures) chars-nil (c.if-at-info.true ∙ ap (λ i. i.chars) c.info.ensures)) c.leaf_of.ensures.ok
+    (λ part is. empty_back n part (chars []) c.args.at (is ∙ ap (λ b. leaf_tree b (chars [])) c.line_breaks.ensures) chars-nil (c.if-at-info.true ∙ ap (λ i. i.chars) c.info.ensures.value)) c.leaf_of.ensures.ok
 
 pub returns-then-at-eq0-clause-back : goal.returns-then-at-eq0-clause-back
 returns-then-at-eq0-clause-back t c =
     let n = c.args.node.now in
-    let some : 1 ≤ length (text n) = omega (arith, c.if-at-eq0.true, c.if-at-info.false, ap (λ i. i.chars) c.info.ensures) in
-    IfOk-weaker c.share.result (λ part. part ≡ n) (IsBack c.args.at n) (λ part same. whole_back n part c.args.at c.height.ensures.tree c.if-at-eq0.true some same) c.share.ensures
+    let some : 1 ≤ length (text n) = omega (arith, c.if-at-eq0.true, c.if-at-info.false, ap (λ i. i.chars) c.info.ensures.value) in
+    IfOk-weaker c.share.result (λ part. part ≡ n) (IsBack c.args.at n) (λ part same. whole_back n part c.args.at c.info.ensures.tree c.if-at-eq0.true some same) c.share.ensures.same
 
 row_is : (t : ℕ) (c : After-index-children-place-in-Inner t) → c.index-children-place-in-Inner.result ∷ c.rest-after.result.nodes.now ≡ drop (c.place_of-place.result + 1) c.in-Inner.children.now
 row_is t c =

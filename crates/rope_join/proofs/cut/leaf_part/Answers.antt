@@ -25,7 +25,7 @@ cut c =
 whole : (c : After-shared_breaks) → c.info-info.result ≡ info_of c.line_breaks-breaks.result (chars c.range-front.result.now ++ chars c.range_from-back.result.now)
 whole c =
     let k = cut (goal.at.After-shared_breaks c).After-range_from-back in
-    c.info-info.ensures ∙ ap₂ info_of (sym c.line_breaks-breaks.ensures) (text_of_leaf c.args.node.now.breaks c.args.node.now c.args.leaf.now c.requires.leaf ∙ sym k.whole)
+    c.info-info.ensures.value ∙ ap₂ info_of (sym c.line_breaks-breaks.ensures) (text_of_leaf c.args.node.now.breaks c.args.node.now c.args.leaf.now c.requires.leaf ∙ sym k.whole)
 
 pub overflow_add-both : goal.overflow_add-both
 overflow_add-both c =

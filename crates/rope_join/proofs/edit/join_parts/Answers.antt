@@ -6,16 +6,22 @@ use Rattle.rope_text.specs.Text.{byte_len}
 use Rattle.rope_text.specs.Breaks.{ends_in_cr}
 use Rattle.rope_text.specs.Cutting.{parts_crlf}
 use Rattle.rope_tree.specs.Tree.{text, leaf_tree}
+use Rattle.rope_tree.proofs.TreeLaws.{low_tree}
 use Rattle.rope_join.proofs.Seams.{Meets, can_join, ends_at, meets, pair_first, pair_second, pair_joined, chars_crlf, join_text}
 use Rattle.rope_join.proofs.edit.join_parts.Goals.{After-is_lf, In_ok-pair, else-end-gt0-via-then-end-gt0+then-char_at-eq13+else-is_lf, else-end-gt0-via-then-end-gt0+else-char_at-eq13, else-end-gt0-via-else-end-gt0}
 use Rattle.rope_join.proofs.edit.join_parts.Goals as goal
+
+pub char_at-requires-clause-room : goal.char_at-requires-clause-room
+char_at-requires-clause-room c =
+    let low = low_tree c.args.left.now c.requires.tree in
+    record { nodes = omega (arith, low, ap (λ s. s.nodes) c.new.ensures); compares = omega (arith, low, ap (λ s. s.compares) c.new.ensures) }
 
 -- where the CR and the LF meet
 meet : (c : After-is_lf) → IsTrue c.is_lf.result → Meets (text c.args.left.now) (text c.args.right.now) c.args.end c.args.start
 meet c lf =
     let more : c.args.end - 1 + 1 ≡ c.args.end = omega (arith, c.if-end-gt0.true) in
     let cr = ap (λ k. ends_in_cr (take k (text c.args.left.now))) (sym more) ∙ ends_at (text c.args.left.now) (c.args.end - 1) c.char_at.result c.char_at.ensures.value ∙ ap (λ x. eqb x 13) c.if-char_at-eq13.true in
-    meets (text c.args.left.now) (text c.args.right.now) c.args.end c.args.start c.requires.end (rw (cr, sym c.is_lf.ensures ∙ lf) refl)
+    meets (text c.args.left.now) (text c.args.right.now) c.args.end c.args.start c.requires.end (rw (cr, sym c.is_lf.ensures.value ∙ lf) refl)
 
 met : (c : In_ok-pair) → Meets (text c.args.left.now) (text c.args.right.now) c.args.end c.args.start
 met c = meet (goal.at.In_ok-pair c).After-is_lf c.if-is_lf.true
@@ -30,7 +36,7 @@ pair_is : (c : In_ok-pair) → c.in_ok-pair.pair ≡ leaf_tree c.in_ok-first.fir
 pair_is c = c.in_ok-pair.ensures.ok ∙ ap₂ leaf_tree (c.line_breaks.ensures ∙ sym c.in_ok-first.ensures.front.same_breaks) chars_crlf
 
 pub overflow_add-start : goal.overflow_add-start
-overflow_add-start c = omega (arith, (meet (goal.at.overflow_add-start c).After-is_lf c.if-is_lf.true).more, c.height-2.ensures.tree.fits, length-le-encodes (text c.args.right.now))
+overflow_add-start c = omega (arith, (meet (goal.at.overflow_add-start c).After-is_lf c.if-is_lf.true).more, c.is_lf.ensures.tree.fits, length-le-encodes (text c.args.right.now))
 
 pub join-requires : goal.join-requires
 join-requires c =
@@ -58,7 +64,7 @@ join-requires-2 c =
     let front = take c.args.end (text c.args.left.now) in
     let back = drop c.args.start (text c.args.right.now) in
     let seam : parts_crlf front back ≡ false = elim c.else-end-gt0.branch [
-      | else-end-gt0-via-then-end-gt0+then-char_at-eq13+else-is_lf w ↦ rw (sym w.is_lf.ensures ∙ w.if-is_lf.false) (and_right (ends_in_cr front) false refl)
+      | else-end-gt0-via-then-end-gt0+then-char_at-eq13+else-is_lf w ↦ rw (sym w.is_lf.ensures.value ∙ w.if-is_lf.false) (and_right (ends_in_cr front) false refl)
       | else-end-gt0-via-then-end-gt0+else-char_at-eq13 w ↦
           let more : c.args.end - 1 + 1 ≡ c.args.end = omega (arith, w.if-end-gt0.true) in
           rw (ap (λ k. ends_in_cr (take k (text c.args.left.now))) (sym more), ends_at (text c.args.left.now) (c.args.end - 1) w.char_at.result w.char_at.ensures.value, ne_eqb w.char_at.result 13 w.if-char_at-eq13.false) refl

@@ -1,8 +1,9 @@
 use Rattle.std.proofs.Common.{◌+◌, ◌≤◌, length, arith}
 use Rattle.std.proofs.lemmas.Result.{IfOk-weaker}
 use Rattle.rope_tree.specs.View.{trees_in}
+use Rattle.rope_tree.specs.Tree.{IsTree}
 use Rattle.rope_join.specs.Join.{IsNear, IsUnion}
-use Rattle.rope_join.proofs.Whole.{join_root, root_siblings}
+use Rattle.rope_join.proofs.Whole.{join_root, join_tree, root_siblings}
 use Rattle.rope_join.proofs.Sides.{AreSides, sides_below, sides_siblings, sides_union}
 use Rattle.rope_join.proofs.Rows.{AreRows, left_of, right_of, row_alone, row_sides, row_meets}
 use Rattle.rope_join.proofs.join.join_rows.Goals.{After-unite, After-pack, In_ok-parts, else-is_empty-via-then-is_empty+else-is_empty-2, else-is_empty-via-else-is_empty}
@@ -94,3 +95,13 @@ returns-clause-made_ok c =
 
 pub returns-clause-made : goal.returns-clause-made
 returns-clause-made c = omega (arith, c.in_ok-nodes.ensures.made_near (apart (goal.at.returns-clause-made c).After-unite), c.in_ok-parts.ensures.made, c.root_of-2.ensures.made)
+
+pub returns-then-is_empty-2-clause-tree : goal.returns-then-is_empty-2-clause-tree
+returns-then-is_empty-2-clause-tree c =
+    let e = (goal.at.returns-then-is_empty-2-clause-tree c).After-unite in
+    IfOk-weaker c.root_of.result _ IsTree (λ node o. join_tree c.args.left.now c.args.right.now node c.in_ok-nodes.nodes c.in_ok-nodes.ensures.union (row_meets _ _ _ _ (rows e)).2 o) c.root_of.ensures.ok
+
+pub returns-clause-tree : goal.returns-clause-tree
+returns-clause-tree c =
+    let u = union (goal.at.returns-clause-tree c).In_ok-parts in
+    IfOk-weaker c.root_of-2.result _ IsTree (λ node o. join_tree _ _ node c.in_ok-parts.parts u c.requires.join o) c.root_of-2.ensures.ok

@@ -14,8 +14,8 @@ use Rattle.rope_join.proofs.join.merge.Goals as goal
 
 both : (c : After-info-then-is_short) → IsSmall c.info.result × IsSmall c.info-then-is_short.result
 both c = (
-  rw c.info.ensures (small_info _ _ (c.height.ensures.tree).fits),
-  rw c.info-then-is_short.ensures (small_info _ _ (c.height-2.ensures.tree).fits),
+  rw c.info.ensures.value (small_info _ _ c.info.ensures.tree.fits),
+  rw c.info-then-is_short.ensures.value (small_info _ _ c.info-then-is_short.ensures.tree.fits),
 )
 
 pub plus-info-requires-clause-chars : goal.plus-info-requires-clause-chars
@@ -49,7 +49,7 @@ make_leaf-requires-clause-info c =
     let right = c.args.right.now in
     let e = (goal.at.make_leaf-requires-clause-info c).After-push_str in
     let parts = ap₂ (λ s t. s ++ t) (text_of_leaf _ left c.in-Leaf.first c.in-Leaf.ensures.is) (text_of_leaf _ right c.in-Leaf-view.second c.in-Leaf-view.ensures.is) in
-    c.plus-info.ensures.joined left.breaks (text left) (text right) c.info.ensures (c.info-then-is_short.ensures ∙ ap (λ b. info_of b (text right)) c.requires.join.same_breaks) c.requires.join.seam.apart
+    c.plus-info.ensures.joined left.breaks (text left) (text right) c.info.ensures.value (c.info-then-is_short.ensures.value ∙ ap (λ b. info_of b (text right)) c.requires.join.same_breaks) c.requires.join.seam.apart
     ∙ ap₂ info_of (sym c.line_breaks.ensures) (parts ∙ sym (new_text e) ∙ sym c.as_str-then-is_short-2.ensures.chars)
 
 pub returns-then-is_short-clause-union : goal.returns-then-is_short-clause-union
@@ -63,8 +63,8 @@ returns-then-first-second-gt-MAX_CHILDREN-clause-union c =
     let first = ap (λ u. u.width) c.in-Inner.ensures.is in
     let second = ap (λ u. u.width) c.in-Inner-view.ensures.is in
     let near = c.requires.merge.near (omega (arith, ap (λ u. u.height) c.in-Inner.ensures.is)) in
-    rw (c.in_ok-share-in-Inner.ensures, c.in_ok-share-in-Inner-2.ensures)
-    (kept _ _ c.height.ensures.tree c.height-2.ensures.tree c.requires.left_some c.requires.right_some c.requires.join c.requires.merge.level
+    rw (c.in_ok-share-in-Inner.ensures.same, c.in_ok-share-in-Inner-2.ensures.same)
+    (kept _ _ (rw c.in_ok-share-in-Inner.ensures.same at c.in_ok-share-in-Inner.ensures.tree) (rw c.in_ok-share-in-Inner-2.ensures.same at c.in_ok-share-in-Inner-2.ensures.tree) c.requires.left_some c.requires.right_some c.requires.join c.requires.merge.level
     (λ _. omega (arith, first, c.if-first-ge-MIN_CHILDREN.true)) (λ _. omega (arith, second, c.if-second-ge-MIN_CHILDREN.true)) (λ _. omega (arith, first, second, c.if-first-second-gt-MAX_CHILDREN.true)) near)
 
 pub returns-in_ok-share-in-Leaf-2-clause-union : goal.returns-in_ok-share-in-Leaf-2-clause-union
@@ -79,6 +79,6 @@ returns-in_ok-share-in-Leaf-2-clause-union c =
       | else-len-le-MAX_BYTES-via-else-len-le-MAX_BYTES w ↦ omega arith
     ] in
     let near = leaves_near c.args.left.now.breaks _ _ _ _ c.in-Leaf.ensures.is right c.requires.left_some c.requires.right_some (omega (arith, enough, c.len-in-Leaf.ensures.value, c.len-in-Leaf-2.ensures.value)) in
-    rw (c.in_ok-share-in-Leaf.ensures, c.in_ok-share-in-Leaf-2.ensures)
-    (kept _ _ c.height.ensures.tree c.height-2.ensures.tree c.requires.left_some c.requires.right_some c.requires.join c.requires.merge.level
+    rw (c.in_ok-share-in-Leaf.ensures.same, c.in_ok-share-in-Leaf-2.ensures.same)
+    (kept _ _ (rw c.in_ok-share-in-Leaf.ensures.same at c.in_ok-share-in-Leaf.ensures.tree) (rw c.in_ok-share-in-Leaf-2.ensures.same at c.in_ok-share-in-Leaf-2.ensures.tree) c.requires.left_some c.requires.right_some c.requires.join c.requires.merge.level
     (λ high. absurd (omega (arith, high, low))) (λ high. absurd (omega (arith, high, low))) (λ high. absurd (omega (arith, high, low))) near)

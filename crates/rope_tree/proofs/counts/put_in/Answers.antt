@@ -57,3 +57,6 @@ returns-clause-text c =
     c.insert_bytes.ensures.value
     ∙ inserted_chars c.as_str-text.result.now c.args.leaf.now _ c.as_str-added.result.now c.args.at c.if-info.place c.as_str-text.utf8 c.as_str-added.utf8 c.as_str-text.ensures.chars c.as_str-text.ensures.bytes (place_is (goal.at.returns-clause-text c).Joined-info)
     ∙ ap (inserted c.args.leaf.now c.args.at) c.as_str-added.ensures.chars
+
+pub returns-clause-fits : goal.returns-clause-fits
+returns-clause-fits c = omega (arith, c.insert_bytes.ensures.len, ap length c.as_str-added.ensures.bytes, c.requires.fits)

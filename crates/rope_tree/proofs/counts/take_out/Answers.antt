@@ -18,6 +18,7 @@ use Rattle.rope_text.proofs.Walks.{byte_len-chars}
 use Rattle.rope_tree.proofs.counts.take_out.Goals.{After-as_str-text, After-range_from-back, After-shared_breaks-meeting, After-remove_bytes, then-is_empty, else-is_empty, then-is_empty-2, else-is_empty-2}
 use Rattle.rope_tree.proofs.Infos.{small_info}
 use Rattle.rope_tree.proofs.CountLaws.{Uncounts, uncounts}
+use Rattle.rope_tree.proofs.RemovalLaws.{byte_len-removed}
 use Rattle.rope_tree.proofs.counts.take_out.Goals as goal
 
 -- the three parts of a text, cut at the bytes of two characters
@@ -105,16 +106,27 @@ overflow_sub-left-4 c = (less (goal.at.overflow_sub-left-4 c).After-shared_break
 pub overflow_sub-left-5 : goal.overflow_sub-left-5
 overflow_sub-left-5 c = (less (goal.at.overflow_sub-left-5 c).After-shared_breaks-meeting (parts (goal.at.overflow_sub-left-5 c).After-range_from-back)).meeting_le
 
-pub returns-clause-text : goal.returns-clause-text
-returns-clause-text c =
-    let e = (goal.at.returns-clause-text c).After-as_str-text in
+-- what is left is the text without the characters
+left_text : (c : After-remove_bytes) → c.remove_bytes.new.self ≡ removed c.args.leaf.now c.args.start c.args.end
+left_text c =
+    let e = (goal.at.After-remove_bytes c).After-as_str-text in
     let bs = c.as_str-text.result.now in
     let range = c.byte_range-from.result in
     let u = c.as_str-text.utf8 in
     let front = chars_front bs (take range.0 bs) c.args.leaf.now c.args.start range.0 u c.as_str-text.ensures.chars (from_place e) (ap (λ n. take n bs) (omega arith)) in
     let back = chars_back bs (drop range.1 bs) c.args.leaf.now c.args.end range.1 u c.as_str-text.ensures.chars (to_place e) refl in
-    c.remove_bytes.ensures ∙ ap (λ l. chars (remove_range l range.0 range.1)) (sym c.as_str-text.ensures.bytes)
+    c.remove_bytes.ensures.value ∙ ap (λ l. chars (remove_range l range.0 range.1)) (sym c.as_str-text.ensures.bytes)
     ∙ chars-append (take range.0 bs) (drop range.1 bs) (IsUtf8-take bs range.0 u (from_boundary e)) ∙ ap₂ (λ x y. x ++ y) front back
+
+pub returns-clause-text : goal.returns-clause-text
+returns-clause-text c = left_text (goal.at.returns-clause-text c).After-remove_bytes
+
+pub returns-clause-fits : goal.returns-clause-fits
+returns-clause-fits c =
+    omega (arith, ap byte_len (left_text (goal.at.returns-clause-fits c).After-remove_bytes), byte_len-removed c.args.leaf.now c.args.start c.args.end (omega (arith, c.requires.ordered)), c.as_str-text.ensures.fits)
+
+pub returns-clause-scalars : goal.returns-clause-scalars
+returns-clause-scalars c = c.remove_bytes.ensures.scalars
 
 pub returns-clause-info : goal.returns-clause-info
 returns-clause-info c =

@@ -21,7 +21,7 @@ down c =
 small : (c : After-total_before-front) → IsSmall (info_sum c.down.before c.total_before-front.result)
 small c =
     small_more c.args.unit c.args.at c.args.node.now c.down.here.now c.down.rest c.down.before c.in-Inner.children.now c.place_of-place.result
-    c.index-children-place.result c.total_before-front.result c.height.ensures.tree c.down.invariant.0 c.in-Inner.ensures.is (down c)
+    c.index-children-place.result c.total_before-front.result c.info-inside.ensures.tree c.down.invariant.0 c.in-Inner.ensures.is (down c)
 
 -- the totals up to the child, less those before it
 total : (c : After-total_before-front) (d : TextInfo) → get_or c.in-Inner.totals.now c.place_of-place.result d ≡ info_sum c.total_before-front.result (info_of c.index-children-place.result.breaks (text c.index-children-place.result))
@@ -59,7 +59,7 @@ pub down-init : goal.down-init
 down-init c = (
   at_start c.args.unit c.args.at c.args.node.now c.new-before.result c.new-before.ensures c.requires.within,
   record { nodes = refl; compares = omega arith; counted = omega arith; made = refl },
-  c.info-inside.ensures,
+  c.info-inside.ensures.value,
 )
 
 pub place_of-place-requires-clause-small : goal.place_of-place-requires-clause-small
@@ -99,7 +99,7 @@ down-preserved c =
     let steps = c.down.invariant.1 in (
       rw (c.plus-before.ensures.sum, c.count-rest.ensures)
           (further c.args.unit c.args.at c.args.node.now c.down.here.now c.down.rest c.down.before c.in-Inner.children.now c.place_of-place.result child c.total_before-front.result
-          c.height.ensures.tree c.down.invariant.0 c.in-Inner.ensures.is d),
+          c.info-inside.ensures.tree c.down.invariant.0 c.in-Inner.ensures.is d),
       record {
         nodes = omega (arith, above, d.own.at_height, steps.nodes, c.place_of-place.ensures.nodes);
         compares = omega (arith, above, d.own.at_height, steps.compares, c.place_of-place.ensures.compares);
@@ -110,7 +110,7 @@ down-preserved c =
     )
 
 pub returns-in-Leaf-clause-found : goal.returns-in-Leaf-clause-found
-returns-in-Leaf-clause-found c = at_end c.args.unit c.args.at c.args.node.now c.down.here.now c.down.rest c.down.before c.in-Leaf.leaf c.height.ensures.tree c.down.invariant.0 c.in-Leaf.ensures.is
+returns-in-Leaf-clause-found c = at_end c.args.unit c.args.at c.args.node.now c.down.here.now c.down.rest c.down.before c.in-Leaf.leaf c.info-inside.ensures.tree c.down.invariant.0 c.in-Leaf.ensures.is
 
 pub returns-in-Leaf-clause-inside : goal.returns-in-Leaf-clause-inside
 returns-in-Leaf-clause-inside c =

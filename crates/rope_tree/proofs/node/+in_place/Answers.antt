@@ -3,7 +3,7 @@ use Rattle.std.proofs.lemmas.Result.{IfOk-weaker}
 use Rattle.rope_text.specs.Edit.{inserted}
 use Rattle.rope_tree.specs.declared.node.Form.{Form}
 use Rattle.rope_tree.specs.declared.node.Node.TheInside.{Inside}
-use Rattle.rope_tree.specs.Shape.{IsNode}
+use Rattle.rope_tree.specs.Shape.{IsLeafNode, IsForm, IsNode}
 use Rattle.rope_tree.specs.Falls.{tallest_below}
 use Rattle.rope_tree.specs.Tree.{text, joined, breaks_of, height_of, tree_over}
 use Rattle.rope_text.specs.TextInfo.{info_of}
@@ -13,11 +13,11 @@ use Rattle.rope_tree.specs.Insert.{TakesShort, MayInsert, IsInserted}
 use Rattle.rope_tree.proofs.NodeLaws.{small_totals}
 use Rattle.rope_tree.proofs.InsertDescents.{takes}
 use Rattle.rope_tree.proofs.GrownLaws.{tallest_above}
-use Rattle.rope_tree.proofs.FormLaws.{inner_of, inner_seen, leaf_seen, by_outcome, not_tried, tried_in, still_children, grown_children, grown_node}
+use Rattle.rope_tree.proofs.FormLaws.{inner_of, inner_seen, leaf_seen, node_tree, grown_leaf, by_answer, by_outcome, not_tried, tried_in, still_children, grown_children, grown_node}
 use Rattle.rope_tree.proofs.ListedLaws.{seen_at}
 use Rattle.rope_tree.proofs.ChangeLaws.{change_from, change_seen}
 use Rattle.rope_tree.proofs.ChildLaws.{Finds, read, child_fits, may, change_part, change_narrow, fields_changed, all_changed, list_changed, list_has, list_grown}
-use Rattle.rope_tree.proofs.node.+in_place.Goals.{Children::insert_in_place-After-total, Children::insert_in_place-After-index-self-place-2, Node::insert_in_place-in-Empty, Node::insert_in_place-in-Leaf+in-Some, Node::insert_in_place-in-Leaf+in-None, Node::insert_in_place-in-Inner+in-Some-get_mut, Node::insert_in_place-in-Inner+in-None-get_mut}
+use Rattle.rope_tree.proofs.node.+in_place.Goals.{Children::insert_in_place-After-total, Children::insert_in_place-After-index-self-place-2, Node::insert_in_place-Joined-self, Node::insert_in_place-in-Empty, Node::insert_in_place-in-Leaf+in-Some, Node::insert_in_place-in-Leaf+in-None, Node::insert_in_place-in-Inner+in-Some-get_mut, Node::insert_in_place-in-Inner+in-None-get_mut}
 use Rattle.rope_tree.proofs.node.+in_place.Goals as goal
 
 -- the counts where a leaf was cut
@@ -148,15 +148,19 @@ Node::insert_in_place-insert_in_place-requires-in-Some-get_mut t c =
       ),
     )
 
-pub Node::insert_in_place-invariant_of-self-2 : goal.Node::insert_in_place-invariant_of-self-2
-Node::insert_in_place-invariant_of-self-2 t c =
+-- what the node is then
+ended : (t : ℕ) (c : Node::insert_in_place-Joined-self t) → IsNode c.match-self.self-inside
+ended t c =
     let mine = own_form c.own.new.form in
     let is_node : IsNode mine = record { form = c.in_ok-own.ensures.kept } in
     let view = c.in_ok-own.ensures.same ∙ c.self.view_is in
     elim c.match-self.branch [
       | Node::insert_in_place-in-Empty w ↦ rw w.self-inside-is is_node
-      | Node::insert_in_place-in-Leaf+in-Some w ↦ rw w.self-inside-is (record { form = tt })
-      | Node::insert_in_place-in-Leaf+in-None w ↦ rw w.self-inside-is (record { form = tt })
+      | Node::insert_in_place-in-Leaf+in-Some w ↦
+          let did = w.insert_in_place in
+          let own : IsLeafNode w.in-Some.leaf.now = rw w.in-Some.ensures.value (subst IsForm w.in-Leaf.is is_node.form) in
+          rw w.self-inside-is (record { form = by_answer did.result (λ yes. grown_leaf _ _ [] _ own (did.ensures.done yes)) (λ no. rw (did.ensures.kept no) own) })
+      | Node::insert_in_place-in-Leaf+in-None w ↦ rw w.self-inside-is (record { form = subst IsForm w.in-Leaf.is is_node.form })
       | Node::insert_in_place-in-Inner+in-Some-get_mut w ↦
           let did = w.insert_in_place-in-Some-get_mut in
           let ts = w.in-Some-get_mut.children.now in
@@ -168,6 +172,15 @@ Node::insert_in_place-invariant_of-self-2 t c =
       | Node::insert_in_place-in-Inner+in-None-get_mut w ↦
           rw w.self-inside-is (record { form = (inner_of mine c.args.self.now w.in-Inner.children is_node w.in-Inner.is view).children })
     ]
+
+pub Node::insert_in_place-invariant_of-self-2 : goal.Node::insert_in_place-invariant_of-self-2
+Node::insert_in_place-invariant_of-self-2 t c = ended t (goal.at.Node::insert_in_place-invariant_of-self-2 t c).Joined-self
+
+pub Node::insert_in_place-returns-clause-tree : goal.Node::insert_in_place-returns-clause-tree
+Node::insert_in_place-returns-clause-tree t c = node_tree _ _ (ended t (goal.at.Node::insert_in_place-returns-clause-tree t c).Joined-self) refl
+
+pub Node::insert_in_place-returns-in_err-own-clause-tree : goal.Node::insert_in_place-returns-in_err-own-clause-tree
+Node::insert_in_place-returns-in_err-own-clause-tree t c = node_tree (own_form c.own.new.form) _ (record { form = c.in_err-own.ensures.kept }) refl
 
 pub Node::insert_in_place-returns-clause-tried : goal.Node::insert_in_place-returns-clause-tried
 Node::insert_in_place-returns-clause-tried t c =

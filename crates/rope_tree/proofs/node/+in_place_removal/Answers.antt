@@ -1,7 +1,7 @@
 use Rattle.std.proofs.lemmas.Result.{IfOk-weaker}
 use Rattle.rope_tree.specs.declared.node.Form.{Form}
 use Rattle.rope_tree.specs.declared.node.Node.TheInside.{Inside}
-use Rattle.rope_tree.specs.Shape.{IsNode}
+use Rattle.rope_tree.specs.Shape.{IsLeafNode, IsForm, IsNode}
 use Rattle.rope_tree.specs.Falls.{tallest_below}
 use Rattle.std.proofs.Common.{◌≡◌, true, ℕ, ◌-◌, ◌<◌, ◌^◌, length, get_or, set, sym, ap, subst, refl, ◌∙◌, arith}
 use Rattle.rope_text.specs.declared.text_info.TextInfo.{TextInfo}
@@ -18,10 +18,10 @@ use Rattle.rope_tree.proofs.InsertDescents.{Takes, takes, last_total}
 use Rattle.rope_tree.proofs.TotalLaws.{has_part, fits_after}
 use Rattle.rope_tree.proofs.GrownLaws.{totals_seen, tallest_above}
 use Rattle.rope_tree.proofs.ListedLaws.{seen_at, set_seen, set_listed, set_totals}
-use Rattle.rope_tree.proofs.FormLaws.{inner_of, inner_seen, leaf_seen, by_outcome, not_tried, tried_in, still_children, removed_children, removed_node}
+use Rattle.rope_tree.proofs.FormLaws.{inner_of, inner_seen, leaf_seen, node_tree, fallen_leaf, by_answer, by_outcome, not_tried, tried_in, still_children, removed_children, removed_node}
 use Rattle.rope_tree.proofs.RemovalLaws.{Holds, holds, byte_len-removed, children_removed}
 use Rattle.rope_tree.proofs.node.+in_place_removal.Goals as goal
-use Rattle.rope_tree.proofs.node.+in_place_removal.Goals.{Children::remove_in_place-After-index-self-place, Node::remove_in_place-in-Empty, Node::remove_in_place-in-Leaf+in-Some, Node::remove_in_place-in-Leaf+in-None, Node::remove_in_place-in-Inner+in-Some-get_mut, Node::remove_in_place-in-Inner+in-None-get_mut}
+use Rattle.rope_tree.proofs.node.+in_place_removal.Goals.{Children::remove_in_place-After-index-self-place, Node::remove_in_place-Joined-self, Node::remove_in_place-in-Empty, Node::remove_in_place-in-Leaf+in-Some, Node::remove_in_place-in-Leaf+in-None, Node::remove_in_place-in-Inner+in-Some-get_mut, Node::remove_in_place-in-Inner+in-None-get_mut}
 
 none : TextInfo
 none = record { chars = 0; utf16_surrogates = 0; break_count = 0; bytes = 0 }
@@ -179,15 +179,19 @@ Node::remove_in_place-remove_in_place-requires-in-Some-get_mut t c =
     let low = tallest_below (breaks_of ts) (height_of ts) ts i.children.each in
     (omega (arith, c.decreases, low, ap (λ x. x.height) i.is), (i.children, (c.requires.ordered, omega (arith, c.requires.within, ap (λ x. length (text x)) i.is))))
 
-pub Node::remove_in_place-invariant_of-self-2 : goal.Node::remove_in_place-invariant_of-self-2
-Node::remove_in_place-invariant_of-self-2 t c =
+-- what the node is then
+ended : (t : ℕ) (c : Node::remove_in_place-Joined-self t) → IsNode c.match-self.self-inside
+ended t c =
     let mine = own_form c.own.new.form in
     let is_node : IsNode mine = record { form = c.in_ok-own.ensures.kept } in
     let view = c.in_ok-own.ensures.same ∙ c.self.view_is in
     elim c.match-self.branch [
       | Node::remove_in_place-in-Empty w ↦ rw w.self-inside-is is_node
-      | Node::remove_in_place-in-Leaf+in-Some w ↦ rw w.self-inside-is (record { form = tt })
-      | Node::remove_in_place-in-Leaf+in-None w ↦ rw w.self-inside-is (record { form = tt })
+      | Node::remove_in_place-in-Leaf+in-Some w ↦
+          let did = w.remove_in_place in
+          let own : IsLeafNode w.in-Some.leaf.now = rw w.in-Some.ensures.value (subst IsForm w.in-Leaf.is is_node.form) in
+          rw w.self-inside-is (record { form = by_answer did.result (λ yes. fallen_leaf _ _ _ _ c.args.start c.args.end c.requires.ordered own (did.ensures.done yes)) (λ no. rw (did.ensures.kept no) own) })
+      | Node::remove_in_place-in-Leaf+in-None w ↦ rw w.self-inside-is (record { form = subst IsForm w.in-Leaf.is is_node.form })
       | Node::remove_in_place-in-Inner+in-Some-get_mut w ↦
           let did = w.remove_in_place-in-Some-get_mut in
           let ts = w.in-Some-get_mut.children.now in
@@ -199,6 +203,15 @@ Node::remove_in_place-invariant_of-self-2 t c =
       | Node::remove_in_place-in-Inner+in-None-get_mut w ↦
           rw w.self-inside-is (record { form = (inner_of mine c.args.self.now w.in-Inner.children is_node w.in-Inner.is view).children })
     ]
+
+pub Node::remove_in_place-invariant_of-self-2 : goal.Node::remove_in_place-invariant_of-self-2
+Node::remove_in_place-invariant_of-self-2 t c = ended t (goal.at.Node::remove_in_place-invariant_of-self-2 t c).Joined-self
+
+pub Node::remove_in_place-returns-clause-tree : goal.Node::remove_in_place-returns-clause-tree
+Node::remove_in_place-returns-clause-tree t c = node_tree _ _ (ended t (goal.at.Node::remove_in_place-returns-clause-tree t c).Joined-self) refl
+
+pub Node::remove_in_place-returns-in_err-own-clause-tree : goal.Node::remove_in_place-returns-in_err-own-clause-tree
+Node::remove_in_place-returns-in_err-own-clause-tree t c = node_tree (own_form c.own.new.form) _ (record { form = c.in_err-own.ensures.kept }) refl
 
 pub Node::remove_in_place-returns-clause-tried : goal.Node::remove_in_place-returns-clause-tried
 Node::remove_in_place-returns-clause-tried t c =

@@ -7,14 +7,14 @@ use Rattle.rope_tree.proofs.Infos.{IsLow, low_info, small_info}
 use Rattle.rope_tree.proofs.ChangeLaws.{grown_change}
 use Rattle.rope_tree.proofs.NodeLaws.{leaf_text}
 use Rattle.rope_tree.proofs.GrownLaws.{leaf_inserted}
-use Rattle.rope_tree.proofs.leaf.Leaf.insert_in_place.Goals.{After-as_str}
+use Rattle.rope_tree.proofs.leaf.Leaf.insert_in_place.Goals.{After-put_in-after}
 use Rattle.rope_tree.proofs.leaf.Leaf.insert_in_place.Goals as goal
 
 -- the counts of a leaf that took the text
-low : (c : After-as_str) → IsLow c.put_in-after.result 984
+low : (c : After-put_in-after) → IsLow c.put_in-after.result 984
 low c =
     let now = c.put_in-after.ensures.info ∙ ap (info_of c.old.inside.breaks) (sym c.put_in-after.ensures.text) in
-    subst (λ i. IsLow i 984) (sym now) (low_info c.old.inside.breaks c.put_in-after.new.leaf 984 c.as_str.ensures.fits)
+    subst (λ i. IsLow i 984) (sym now) (low_info c.old.inside.breaks c.put_in-after.new.leaf 984 c.put_in-after.ensures.fits)
 
 pub new-self-inside-requires-clause-chars : goal.new-self-inside-requires-clause-chars
 new-self-inside-requires-clause-chars c = (low c).chars
@@ -27,32 +27,32 @@ new-self-inside-requires-clause-break_count c = (low c).count
 
 pub returns-clause-done : goal.returns-clause-done
 returns-clause-done c = λ yes.
-    rw (← c.self.view_is, c.new-self-inside.ensures.breaks, ← ap (λ s. s.breaks) c.old.view_is) (leaf_inserted c.old.inside.breaks c.self.inside.text c.put_in-after.new.leaf c.as_str.ensures.fits c.as_str.ensures.scalars c.args.at c.args.added.now c.put_in-after.ensures.text c.requires.some)
+    rw (← c.self.view_is, c.new-self-inside.ensures.breaks, ← ap (λ s. s.breaks) c.old.view_is) (leaf_inserted c.old.inside.breaks c.self.inside.text c.put_in-after.new.leaf c.put_in-after.ensures.fits c.put_in-after.ensures.scalars c.args.at c.args.added.now c.put_in-after.ensures.text c.requires.some)
 
-old_is : (c : After-as_str) → c.info-before.result ≡ info_of c.self.inside.summary.breaks c.self.inside.text
+old_is : (c : After-put_in-after) → c.info-before.result ≡ info_of c.self.inside.summary.breaks c.self.inside.text
 old_is c = c.info-before.ensures ∙ c.self.invariant.counted
 
-new_is : (c : After-as_str) → c.put_in-after.result ≡ info_of c.self.inside.summary.breaks (inserted c.self.inside.text c.args.at c.args.added.now)
+new_is : (c : After-put_in-after) → c.put_in-after.result ≡ info_of c.self.inside.summary.breaks (inserted c.self.inside.text c.args.at c.args.added.now)
 new_is c = c.put_in-after.ensures.info ∙ ap (λ b. info_of b (inserted c.self.inside.text c.args.at c.args.added.now)) (ap (λ s. s.breaks) c.old.view_is)
 
-has : (c : After-as_str) → HasPart c.put_in-after.result c.info-before.result
+has : (c : After-put_in-after) → HasPart c.put_in-after.result c.info-before.result
 has c = rw (old_is c, new_is c) (counts_grow c.self.inside.summary.breaks c.self.inside.text c.args.added.now c.args.at c.requires.some)
 
 pub minus-requires-clause-bytes : goal.minus-requires-clause-bytes
-minus-requires-clause-bytes c = (has (goal.at.minus-requires-clause-bytes c).After-as_str).bytes
+minus-requires-clause-bytes c = (has (goal.at.minus-requires-clause-bytes c).After-put_in-after).bytes
 
 pub minus-requires-clause-chars : goal.minus-requires-clause-chars
-minus-requires-clause-chars c = (has (goal.at.minus-requires-clause-chars c).After-as_str).chars
+minus-requires-clause-chars c = (has (goal.at.minus-requires-clause-chars c).After-put_in-after).chars
 
 pub minus-requires-clause-utf16_surrogates : goal.minus-requires-clause-utf16_surrogates
-minus-requires-clause-utf16_surrogates c = (has (goal.at.minus-requires-clause-utf16_surrogates c).After-as_str).surrogates
+minus-requires-clause-utf16_surrogates c = (has (goal.at.minus-requires-clause-utf16_surrogates c).After-put_in-after).surrogates
 
 pub minus-requires-clause-break_count : goal.minus-requires-clause-break_count
-minus-requires-clause-break_count c = (has (goal.at.minus-requires-clause-break_count c).After-as_str).count
+minus-requires-clause-break_count c = (has (goal.at.minus-requires-clause-break_count c).After-put_in-after).count
 
 pub returns-clause-change : goal.returns-clause-change
 returns-clause-change c = λ yes.
-    let e = (goal.at.returns-clause-change c).After-as_str in
+    let e = (goal.at.returns-clause-change c).After-put_in-after in
     let new = new_is e ∙ ap (info_of c.self.inside.summary.breaks) (sym c.put_in-after.ensures.text) in
-    let small = small_info c.self.inside.summary.breaks c.put_in-after.new.leaf (omega (arith, c.as_str.ensures.fits)) in
+    let small = small_info c.self.inside.summary.breaks c.put_in-after.new.leaf (omega (arith, c.put_in-after.ensures.fits)) in
     rw (← c.self.view_is, leaf_text c.self.inside.text, leaf_text c.put_in-after.new.leaf, ← old_is e, ← new) (grown_change c.info-before.result c.put_in-after.result c.minus.result c.minus.ensures.sum (rw new small))

@@ -7,14 +7,14 @@ use Rattle.rope_tree.proofs.Infos.{IsLow, low_info}
 use Rattle.rope_tree.proofs.NodeLaws.{leaf_text}
 use Rattle.rope_tree.proofs.ChangeLaws.{fallen_change}
 use Rattle.rope_tree.proofs.RemovalLaws.{leaf_left}
-use Rattle.rope_tree.proofs.leaf.Leaf.remove_in_place.Goals.{After-as_str}
+use Rattle.rope_tree.proofs.leaf.Leaf.remove_in_place.Goals.{In-Some}
 use Rattle.rope_tree.proofs.leaf.Leaf.remove_in_place.Goals as goal
 
 -- the counts of a leaf that lost the characters
-low : (c : After-as_str) → IsLow c.in-Some.after 984
+low : (c : In-Some) → IsLow c.in-Some.after 984
 low c =
     let now = c.in-Some.ensures.info ∙ ap (info_of c.old.inside.breaks) (sym c.in-Some.ensures.text) in
-    subst (λ i. IsLow i 984) (sym now) (low_info c.old.inside.breaks c.take_out.new.leaf 984 c.as_str.ensures.fits)
+    subst (λ i. IsLow i 984) (sym now) (low_info c.old.inside.breaks c.take_out.new.leaf 984 c.in-Some.ensures.fits)
 
 pub new-self-inside-requires-clause-chars : goal.new-self-inside-requires-clause-chars
 new-self-inside-requires-clause-chars c = (low c).chars
@@ -28,31 +28,31 @@ new-self-inside-requires-clause-break_count c = (low c).count
 pub returns-clause-done : goal.returns-clause-done
 returns-clause-done c = λ yes.
     rw (← c.self.view_is, c.new-self-inside.ensures.breaks, ← ap (λ s. s.breaks) c.old.view_is) (leaf_left c.args.least.first c.args.least.last c.old.inside.breaks c.self.inside.text c.take_out.new.leaf c.args.start c.args.end c.in-Some.ensures.text c.requires.ordered (rw (← c.self.view_is) at c.requires.within)
-    c.in-Some.ensures.some c.in-Some.ensures.ends (rw c.max-least.ensures at c.in-Some.ensures.least) c.as_str.ensures.fits c.as_str.ensures.scalars)
+    c.in-Some.ensures.some c.in-Some.ensures.ends (rw c.max-least.ensures at c.in-Some.ensures.least) c.in-Some.ensures.fits c.in-Some.ensures.scalars)
 
-old_is : (c : After-as_str) → c.info-before.result ≡ info_of c.self.inside.summary.breaks c.self.inside.text
+old_is : (c : In-Some) → c.info-before.result ≡ info_of c.self.inside.summary.breaks c.self.inside.text
 old_is c = c.info-before.ensures ∙ c.self.invariant.counted
 
-new_is : (c : After-as_str) → c.in-Some.after ≡ info_of c.self.inside.summary.breaks (removed c.self.inside.text c.args.start c.args.end)
+new_is : (c : In-Some) → c.in-Some.after ≡ info_of c.self.inside.summary.breaks (removed c.self.inside.text c.args.start c.args.end)
 new_is c = c.in-Some.ensures.info ∙ ap (λ b. info_of b (removed c.self.inside.text c.args.start c.args.end)) (ap (λ s. s.breaks) c.old.view_is)
 
-has : (c : After-as_str) → HasPart c.info-before.result c.in-Some.after
+has : (c : In-Some) → HasPart c.info-before.result c.in-Some.after
 has c = rw (old_is c, new_is c) (counts_fall c.self.inside.summary.breaks c.self.inside.text c.args.start c.args.end c.requires.ordered (rw (← c.self.view_is, leaf_text c.self.inside.text) at c.requires.within))
 
 pub minus-requires-clause-bytes : goal.minus-requires-clause-bytes
-minus-requires-clause-bytes c = (has (goal.at.minus-requires-clause-bytes c).After-as_str).bytes
+minus-requires-clause-bytes c = (has (goal.at.minus-requires-clause-bytes c).In-Some).bytes
 
 pub minus-requires-clause-chars : goal.minus-requires-clause-chars
-minus-requires-clause-chars c = (has (goal.at.minus-requires-clause-chars c).After-as_str).chars
+minus-requires-clause-chars c = (has (goal.at.minus-requires-clause-chars c).In-Some).chars
 
 pub minus-requires-clause-utf16_surrogates : goal.minus-requires-clause-utf16_surrogates
-minus-requires-clause-utf16_surrogates c = (has (goal.at.minus-requires-clause-utf16_surrogates c).After-as_str).surrogates
+minus-requires-clause-utf16_surrogates c = (has (goal.at.minus-requires-clause-utf16_surrogates c).In-Some).surrogates
 
 pub minus-requires-clause-break_count : goal.minus-requires-clause-break_count
-minus-requires-clause-break_count c = (has (goal.at.minus-requires-clause-break_count c).After-as_str).count
+minus-requires-clause-break_count c = (has (goal.at.minus-requires-clause-break_count c).In-Some).count
 
 pub returns-clause-change : goal.returns-clause-change
 returns-clause-change c = λ yes.
-    let e = (goal.at.returns-clause-change c).After-as_str in
+    let e = (goal.at.returns-clause-change c).In-Some in
     let new = new_is e ∙ ap (info_of c.self.inside.summary.breaks) (sym c.in-Some.ensures.text) in
     rw (← c.self.view_is, leaf_text c.self.inside.text, leaf_text c.take_out.new.leaf, ← old_is e, ← new) (fallen_change c.info-before.result c.in-Some.after c.minus.result c.minus.ensures.sum)

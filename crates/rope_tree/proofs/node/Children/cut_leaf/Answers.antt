@@ -65,10 +65,10 @@ totals c = read _ _ _ _ _ _ _ (found c) c.self.inside.totals refl
 
 -- the counts that the code reads
 old_is : (c : After-info-front) → c.info-old.result ≡ info_of (breaks_of c.args.self.now) (text (child c))
-old_is c = c.info-old.ensures ∙ ap (λ b. info_of b (text (child c))) (found c).taken.own.same_breaks
+old_is c = c.info-old.ensures.value ∙ ap (λ b. info_of b (text (child c))) (found c).taken.own.same_breaks
 
 front_counts : (c : After-info-front) → c.info-front.result ≡ info_of (breaks_of c.args.self.now) (text c.cut.new.self)
-front_counts c = c.info-front.ensures ∙ ap (λ b. info_of b (text c.cut.new.self)) (own_first _ _ _ _ _ _ (cut c)).same_breaks
+front_counts c = c.info-front.ensures.value ∙ ap (λ b. info_of b (text c.cut.new.self)) (own_first _ _ _ _ _ _ (cut c)).same_breaks
 
 module _ (c : After-info-front) where
   abbrev br : LineBreaks
@@ -113,7 +113,7 @@ plus-total-requires-clause-bytes c =
 pub plus-requires-clause-bytes : goal.plus-requires-clause-bytes
 plus-requires-clause-bytes c =
     let f = (goal.at.plus-requires-clause-bytes c).After-info-front in
-    let b = small_back f c.info.result c.info.ensures in
+    let b = small_back f c.info.result c.info.ensures.value in
     let n = small_front f in
     omega (arith, b.bytes, b.chars, b.surrogates, b.count, n.bytes, n.chars, n.surrogates, n.count)
 
@@ -127,7 +127,7 @@ plus-total-requires-clause-chars c =
 pub plus-requires-clause-chars : goal.plus-requires-clause-chars
 plus-requires-clause-chars c =
     let f = (goal.at.plus-requires-clause-chars c).After-info-front in
-    let b = small_back f c.info.result c.info.ensures in
+    let b = small_back f c.info.result c.info.ensures.value in
     let n = small_front f in
     omega (arith, b.bytes, b.chars, b.surrogates, b.count, n.bytes, n.chars, n.surrogates, n.count)
 
@@ -141,7 +141,7 @@ plus-total-requires-clause-utf16_surrogates c =
 pub plus-requires-clause-utf16_surrogates : goal.plus-requires-clause-utf16_surrogates
 plus-requires-clause-utf16_surrogates c =
     let f = (goal.at.plus-requires-clause-utf16_surrogates c).After-info-front in
-    let b = small_back f c.info.result c.info.ensures in
+    let b = small_back f c.info.result c.info.ensures.value in
     let n = small_front f in
     omega (arith, b.bytes, b.chars, b.surrogates, b.count, n.bytes, n.chars, n.surrogates, n.count)
 
@@ -155,7 +155,7 @@ plus-total-requires-clause-break_count c =
 pub plus-requires-clause-break_count : goal.plus-requires-clause-break_count
 plus-requires-clause-break_count c =
     let f = (goal.at.plus-requires-clause-break_count c).After-info-front in
-    let b = small_back f c.info.result c.info.ensures in
+    let b = small_back f c.info.result c.info.ensures.value in
     let n = small_front f in
     omega (arith, b.bytes, b.chars, b.surrogates, b.count, n.bytes, n.chars, n.surrogates, n.count)
 
@@ -165,12 +165,12 @@ retotal-requires-clause-small c =
 
 pub retotal-requires-clause-part : goal.retotal-requires-clause-part
 retotal-requires-clause-part c =
-    part _ _ _ _ _ _ _ (found (goal.at.retotal-requires-clause-part c).After-info-front) c.self.inside.totals refl c.info-old.result c.info-old.ensures
+    part _ _ _ _ _ _ _ (found (goal.at.retotal-requires-clause-part c).After-info-front) c.self.inside.totals refl c.info-old.result c.info-old.ensures.value
 
 pub retotal-requires-clause-new : goal.retotal-requires-clause-new
 retotal-requires-clause-new c =
     let f = (goal.at.retotal-requires-clause-new c).After-info-front in
-    small_below c.plus.result (rw (both_are f c.info.result c.plus.result c.info.ensures c.plus.ensures.sum) (small_both _ _ _ _ _ _ (cut f)))
+    small_below c.plus.result (rw (both_are f c.info.result c.plus.result c.info.ensures.value c.plus.ensures.sum) (small_both _ _ _ _ _ _ (cut f)))
 
 pub retotal-requires-clause-fits : goal.retotal-requires-clause-fits
 retotal-requires-clause-fits c = λ narrow j d from within.
@@ -181,12 +181,12 @@ retotal-requires-clause-fits c = λ narrow j d from within.
     let last = last_total (breaks_of ts) c.self.inside.totals ts t (omega (arith, c.requires.children.at_least_two)) d in
     let room = rw c.len.ensures.value at (c.has_room_for.ensures c.if-not-has_room_for.false narrow d) in
     let few : byte_len (joined (parts f)) < 2 ^ 32 = omega (arith, room, ap (λ x. x.bytes) last, ap byte_len (parted f).text_is, byte_len-inserted (joined ts) c.args.at c.args.added.now) in
-    rw (t.total_at j d inside, old_is f, both_are f c.info.result c.plus.result c.info.ensures c.plus.ensures.sum) (cut_fits _ _ _ _ _ _ (cut f) few j from inside)
+    rw (t.total_at j d inside, old_is f, both_are f c.info.result c.plus.result c.info.ensures.value c.plus.ensures.sum) (cut_fits _ _ _ _ _ _ (cut f) few j from inside)
 
 pub insert-requires-clause-narrow : goal.insert-requires-clause-narrow
 insert-requires-clause-narrow c = λ narrow.
     let f = (goal.at.insert-requires-clause-narrow c).After-info-front in
-    let both = both_are f c.info.result c.plus.result c.info.ensures c.plus.ensures.sum in
+    let both = both_are f c.info.result c.plus.result c.info.ensures.value c.plus.ensures.sum in
     let few = few_bytes _ _ _ _ _ _ (cut f) c.self.inside.totals c.retotal.new.self (totals f) c.retotal.ensures.len (rw (old_is f, both) at c.retotal.ensures.after) narrow in
     let before = before_is f c.total_before.result c.total_before.ensures.first c.total_before.ensures.later in
     rw (first_is f c.total_before.result c.plus-total.result before c.plus-total.ensures.sum) (first_narrow _ _ _ _ _ _ (cut f) few)
@@ -225,7 +225,7 @@ invariant_of-self-2 c =
     let e = (goal.at.invariant_of-self-2 c).After-put_behind in
     let f = (goal.at.invariant_of-self-2 c).After-info-front in
     let first = first_is f c.total_before.result c.plus-total.result (before_is f c.total_before.result c.total_before.ensures.first c.total_before.ensures.later) c.plus-total.ensures.sum in
-    let both = both_are f c.info.result c.plus.result c.info.ensures c.plus.ensures.sum in
+    let both = both_are f c.info.result c.plus.result c.info.ensures.value c.plus.ensures.sum in
     let right = retotaled f c.plus-total.result c.info.result c.plus.result c.retotal.new.self c.insert.new.self first both c.retotal.ensures.len c.retotal.ensures.before c.retotal.ensures.after
     c.insert.ensures.len c.insert.ensures.before c.insert.ensures.here c.insert.ensures.behind in
     more_listed c.self.inside _ c.args.self.now c.put_behind.new.nodes c.way_in-place.result.0 c.cut.new.self c.len-count.result c.self.invariant c.self.view_is c.way_in-place.ensures.child (rw (placed e) (children f)) refl refl
@@ -237,7 +237,7 @@ returns-clause-tried c = record {
       let e = (goal.at.returns-clause-tried c).After-put_behind in
       let f = (goal.at.returns-clause-tried c).After-info-front in
       let first = first_is f c.total_before.result c.plus-total.result (before_is f c.total_before.result c.total_before.ensures.first c.total_before.ensures.later) c.plus-total.ensures.sum in
-      let both = both_are f c.info.result c.plus.result c.info.ensures c.plus.ensures.sum in
+      let both = both_are f c.info.result c.plus.result c.info.ensures.value c.plus.ensures.sum in
       let right = retotaled f c.plus-total.result c.info.result c.plus.result c.retotal.new.self c.insert.new.self first both c.retotal.ensures.len c.retotal.ensures.before c.retotal.ensures.after
       c.insert.ensures.len c.insert.ensures.before c.insert.ensures.here c.insert.ensures.behind in
       let now : HasTotals (breaks_of c.put_behind.new.nodes) c.insert.new.self c.put_behind.new.nodes = rw (placed e) right in

@@ -14,7 +14,7 @@ abbrev so_far : After-info → NewList
 so_far c = new_list c.loop-node.totals c.loop-node.places
 
 here : (c : After-info) → get_or c.args.nodes.now c.loop-node.node-index c.in_ok-shared.shared ≡ c.in_ok-shared.shared
-here c = same_at c.args.nodes.now c.loop-node.node-index c.node-item.result c.in_ok-shared.shared c.node-item.is c.in_ok-shared.ensures
+here c = same_at c.args.nodes.now c.loop-node.node-index c.node-item.result c.in_ok-shared.shared c.node-item.is c.in_ok-shared.ensures.same
 
 siblings : (c : After-info) → let ts = nodes_in (so_far c) ++ c.in_ok-shared.shared ∷ [] in AreSiblings (breaks_of ts) (height_of ts) ts
 siblings c =
@@ -22,7 +22,7 @@ siblings c =
     (here c) c.loop-node.invariant.nodes
 
 next : (c : After-info) → AddsTree (nodes_in (so_far c)) c.in_ok-shared.shared c.loop-node.total c.info.result
-next c = adds_tree (nodes_in (so_far c)) c.in_ok-shared.shared (siblings c) c.loop-node.total c.info.result c.loop-node.invariant.total c.info.ensures
+next c = adds_tree (nodes_in (so_far c)) c.in_ok-shared.shared (siblings c) c.loop-node.total c.info.result c.loop-node.invariant.total c.info.ensures.value
 
 room : (c : After-info) → length (nodes_in (so_far c)) < 24
 room c =

@@ -3,7 +3,7 @@ use Rattle.std.proofs.Common.{◌≡◌, ◌≤◌, ◌+◌, ℕ, ◌++◌, List
 use Rattle.std.specs.List.{insert_slice}
 use Rattle.std.specs.Str.{chars, IsUtf8, IsCharBoundary, encode_utf8_all}
 use Rattle.std.proofs.lemmas.List.{length-append, length-take-le, length-drop}
-use Rattle.std.proofs.lemmas.Str.{IsUtf8-from_is_utf8, is_utf8-from_IsUtf8, IsUtf8-take, IsUtf8-drop, IsUtf8-append}
+use Rattle.std.proofs.lemmas.Str.{IsUtf8-from_is_utf8, is_utf8-from_IsUtf8, IsUtf8-take, IsUtf8-drop, IsUtf8-append, scalars-chars}
 use Rattle.rope_text.specs.Text.{byte_len}
 use Rattle.rope_text.proofs.Walks.{byte_len-chars}
 use Rattle.rope_tree.proofs.LeafTexts.{bytes_of, len_of}
@@ -52,3 +52,6 @@ returns-clause-value c = ap chars (now c ∙ ap (λ bs. insert_slice bs c.args.p
 
 pub returns-clause-len : goal.returns-clause-len
 returns-clause-len c = byte_len-chars _ (utf8 c) ∙ omega (arith, len c, old_len c)
+
+pub returns-clause-scalars : goal.returns-clause-scalars
+returns-clause-scalars c = scalars-chars _ (utf8 c)

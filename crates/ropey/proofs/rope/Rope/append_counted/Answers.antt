@@ -39,4 +39,4 @@ returns-then-bytes-eq0-clause-ok c =
     )
 
 pub returns-clause-kept : goal.returns-clause-kept
-returns-clause-kept c = (search rules, search rules, rope_of _ c.height.ensures.tree)
+returns-clause-kept c = (search rules, search rules, rope_of _ c.in_ok-self-inside.ensures.tree)

@@ -93,4 +93,4 @@ pub returns-in_err-insert_at-clause-kept : goal.returns-in_err-insert_at-clause-
 returns-in_err-insert_at-clause-kept c = (search rules, search rules, rope_of c.insert_at.new.root c.insert_at.ensures.tree)
 
 pub returns-clause-kept : goal.returns-clause-kept
-returns-clause-kept c = (search rules, search rules, rope_of _ c.height.ensures.tree)
+returns-clause-kept c = (search rules, search rules, rope_of _ c.in_ok-self-inside.ensures.tree)

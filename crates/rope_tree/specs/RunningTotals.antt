@@ -1,0 +1,30 @@
+-- What holds of running totals, place by place.
+use Rattle.std.specs.Prelude.{◌≡◌, ℕ, ◌+◌, ◌<◌, ◌≤◌, List, length, slice_index_or}
+use Rattle.rope_text.specs.declared.text_info.TextInfo.{TextInfo}
+use Rattle.rope_text.specs.TextInfo.{info_sum}
+use Rattle.rope_tree.specs.Search.{IsSmall, HasPart}
+use Rattle.rope_tree.specs.Narrow.{IsBelowWith}
+
+-- each is in the bounds that the counts of a rope's text keep
+abbrev pub AreSmall : List TextInfo → Type 0
+AreSmall totals = (j : ℕ) (d : TextInfo) → j < length totals → IsSmall (slice_index_or totals j d)
+
+-- from one place on they have the part in them
+abbrev pub HavePart : ℕ → List TextInfo → TextInfo → Type 0
+HavePart place totals part = (j : ℕ) (d : TextInfo) → place ≤ j → j < length totals → HasPart (slice_index_or totals j d) part
+
+-- and are below a bound with other counts for those of a part
+abbrev pub FitFrom : ℕ → ℕ → List TextInfo → TextInfo → TextInfo → Type 0
+FitFrom bound place totals old new = (j : ℕ) (d : TextInfo) → place ≤ j → j < length totals → IsBelowWith bound (slice_index_or totals j d) old new
+
+-- before a place they are as they were
+abbrev pub SameBefore : ℕ → List TextInfo → List TextInfo → Type 0
+SameBefore place before now = (j : ℕ) (d : TextInfo) → j < place → slice_index_or now j d ≡ slice_index_or before j d
+
+-- from one place on they have other counts for those of a part
+abbrev pub ChangedFrom : ℕ → List TextInfo → List TextInfo → TextInfo → TextInfo → Type 0
+ChangedFrom place before now old new = (j : ℕ) (d : TextInfo) → place ≤ j → j < length before → info_sum (slice_index_or now j d) old ≡ info_sum (slice_index_or before j d) new
+
+-- those from one place on stand one place further on
+abbrev pub MovedFrom : ℕ → List TextInfo → List TextInfo → Type 0
+MovedFrom place before now = (j : ℕ) (d : TextInfo) → place ≤ j → j < length before → slice_index_or now (j + 1) d ≡ slice_index_or before j d
