@@ -69,7 +69,7 @@ pub fn order_of_pieces<'a>(left: (&'a [u8], Pieces<'a>), right: (&'a [u8], Piece
 {
     let (mut x, mut lefts) = left;
     let (mut y, mut rights) = right;
-    // Of both pieces as many bytes are compared as the shorter one has, and are then passed.
+    // As many bytes as the shorter piece has are compared, and are then passed in both.
     'pieces: loop {
         let n = x.len().min(y.len());
         if n == 0 {

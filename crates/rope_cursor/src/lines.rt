@@ -258,7 +258,7 @@ fn count_last(
             continue;
         }
         let skip = skip.min(break_count);
-        // in so little text it mostly is the second line
+        // the text is so short that it mostly is the second line
         let line_idx = break_count - skip;
         let start = if line_idx == 1 {
             TextInfo::of_first_line(near, breaks).bytes

@@ -51,7 +51,7 @@ impl<'a> Part<'a> {
         ensures chunks { chunks_of result ≡ node.now.leaves }
         ensures breaks { breaks_of result ≡ node.now.breaks }
     {
-        // For the proof: `height` says that no leaf is empty, so the chunks of the whole text are the leaves, and none are cut off.
+        // For the proof: `height` says that no leaf is empty, so the chunks of the whole text are the leaves, and none is dropped.
         let _ = node.height();
         let end = node.info();
         if end.chars == 0 {
@@ -79,7 +79,7 @@ impl<'a> Part<'a> {
         match self {
             Part::InTree(stretch) => stretch.info(),
             Part::Alone(plain) => {
-                // For the proof: `as_bytes` says that a text in memory has at most `isize::MAX` bytes, as every part has.
+                // For the proof: `as_bytes` says that a text in memory has at most `isize::MAX` bytes, as a part must.
                 let _ = plain.as_str().as_bytes();
                 plain.info
             }

@@ -29,7 +29,7 @@ fn line_start_at(node: &Node, line_idx: usize) -> (TextInfo, &str)
     (found.before.plus(front), &leaf[front.bytes..])
 }
 
-/// One character or more of a tree's text. It keeps the counts of the text before their start and before their end, so
+/// One character or more of a tree's text. It keeps the counts of the text before its start and before its end, so
 /// that a length is a difference of two of them, and a conversion is one of the tree's.
 ///
 /// The breaks before the start are those that end there or before it; those before the end are the breaks of the text up to

@@ -38,8 +38,8 @@ pub(crate) fn ahead(mark: Mark) -> usize
     }
 }
 
-// 1 in each lane of `x` with which a mark begins, else 0. The lanes of `y` are the bytes behind those of `x`; of breaks only those
-// are seen that begin below 128.
+// 1 in each lane of `x` where a mark begins, else 0; a break is seen only where it begins below 128. The lanes of `y` are the bytes
+// behind those of `x`.
 fn ones<const N: usize>(x: Simd<u8, N>, y: Simd<u8, N>, mark: Mark) -> Simd<u8, N>
     requires { N ≤ 64 }
     ensures { (ks : List ℕ) (g h : ℕ → ℕ) → length ks ≡ N → ((k : ℕ) → g k < 256)
@@ -79,8 +79,8 @@ fn unicode_mask(bytes: &[u8], at: usize) -> u64
     (low | (nel | wide)).to_bitmask()
 }
 
-/// With which of the 32 bytes from `at` on a mark begins. Where a break takes more bytes than one, those behind the block are read
-/// too, since it may go on there.
+/// Which of the 32 bytes from `at` on begin a mark. For breaks that may take several bytes, those behind the block are read too,
+/// since one may go on there.
 pub(crate) fn known_mask(bytes: &[u8], at: usize, mark: Mark) -> u64
     requires { (at + 32) + ahead mark ≤ length bytes.now }
     ensures { IsBlockMask mark bytes.now at result }
@@ -173,8 +173,8 @@ fn marks_byte_by_byte(bytes: &[u8], from: usize, to: usize, mark: Mark) -> usize
     total
 }
 
-/// How many marks begin from the byte `from` on and before `to`. So few bytes as fit into a block are counted at once: near the end
-/// by the last block that can be read, of which what lies before `from` is left out.
+/// How many marks begin from the byte `from` on and before `to`. Where they fit into one block, they are counted at once: near
+/// the end by the last block that can be read, of which what lies before `from` is left out.
 pub(crate) fn marks_between(bytes: &[u8], from: usize, to: usize, mark: Mark) -> usize
     requires from { from ≤ to }
     requires to { to ≤ length bytes.now }
@@ -188,8 +188,8 @@ pub(crate) fn marks_between(bytes: &[u8], from: usize, to: usize, mark: Mark) ->
     marks_byte_by_byte(bytes, from, to, mark)
 }
 
-// A text of so many bytes or more is counted at four places side by side. It lies in slow memory, and so the waits for the four
-// places pass together, where a single pass would wait for each in turn.
+// A text of so many bytes or more is counted at four places side by side. It comes from slow memory, and the waits for the four
+// places overlap; a single pass would wait for each in turn.
 const LONG_BYTES: usize = 65_536;
 
 // The first whole blocks of a long text, none of a shorter one: their end, and how many marks begin in them.
@@ -215,8 +215,8 @@ fn marks_in_quarters(bytes: &[u8], to: usize, mark: Mark) -> (usize, usize)
     (4 * quarter, first + second + third + fourth)
 }
 
-// The same of breaks, for each set. It is a function of its own, since its three copies would make its caller too long to be
-// expanded for each set.
+// The same of breaks, for each set. It is a function of its own, since with it the caller would be too long to be expanded for
+// each set.
 fn breaks_in_quarters(bytes: &[u8], to: usize, breaks: LineBreaks) -> (usize, usize)
     requires { to ≤ length bytes.now - 2 }
     ensures bound { result.0 ≤ to }
@@ -247,7 +247,7 @@ pub(crate) fn count_marks(bytes: &[u8], from: usize, to: usize, mark: Mark) -> u
 /// The most blocks of a run: a lane takes up to four at each of them, and holds 255.
 const BLOCKS: usize = 63;
 
-// 1 for each of the 16 bytes from `at` on with which a mark begins, a break only where it begins below 128, else 0.
+// The `ones` of the 16 bytes from `at` on.
 fn ones_from(bytes: &[u8], at: usize, mark: Mark) -> u8x16
     requires { at + 17 ≤ length bytes.now }
     ensures { IsSum 1 (count_of mark bytes.now at 16) result }
@@ -257,7 +257,7 @@ fn ones_from(bytes: &[u8], at: usize, mark: Mark) -> u8x16
     ones(x, y, mark)
 }
 
-// The sums with those of the 64 bytes from `at` on.
+// The sums, with the `ones` of the 64 bytes from `at` on added.
 fn add_ones(sums: u8x16, bytes: &[u8], at: usize, mark: Mark) -> u8x16
     requires { at + 65 ≤ length bytes.now }
     ensures { (most total : ℕ) → most + 4 < 256 → IsSum most total sums

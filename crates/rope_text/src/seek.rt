@@ -224,7 +224,8 @@ fn go_in_last_block(
     )
 }
 
-// The same to the next break or to the end of the bytes. Never inlined: it is needed once a chunk, and the loops stay short.
+// The same to the next break or to the end of the bytes. Never inlined: it is needed once a chunk, and would only make its
+// callers longer.
 #[inline(never)]
 fn go_to_end(bytes: &[u8], from: (usize, usize, usize), breaks: LineBreaks) -> (usize, usize, usize)
     requires near { length bytes.now ≤ from.1 + 34 }
