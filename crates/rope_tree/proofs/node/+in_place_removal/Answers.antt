@@ -198,7 +198,7 @@ ended t c =
           let us = did.new.self in
           let i = inner_seen mine c.args.self.now w.in-Inner.children ts is_node w.in-Inner.is view w.in-Some-get_mut.ensures.value in
           rw w.self-inside-is (record {
-            form = by_outcome did.result ts us did.ensures.tried (removed_children c.args.least.first c.args.least.last c.args.self.now ts us c.args.start c.args.end i) (still_children c.args.self.now ts us i);
+            form = by_outcome {Q = AreRemoved c.args.least.first c.args.least.last ts us c.args.start c.args.end} did.result ts us did.ensures.tried (removed_children c.args.least.first c.args.least.last c.args.self.now ts us c.args.start c.args.end i) (still_children c.args.self.now ts us i);
           })
       | Node::remove_in_place-in-Inner+in-None-get_mut w ↦
           rw w.self-inside-is (record { form = (inner_of mine c.args.self.now w.in-Inner.children is_node w.in-Inner.is view).children })
