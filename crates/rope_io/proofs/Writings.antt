@@ -27,10 +27,6 @@ pub record IsWriting (start now : Option (List ℕ)) (bytes rest : List ℕ) : T
 pub took_some : (n : ℕ) (bs : List ℕ) → 0 < n → write_failure (Ok n) bs ≡ None
 took_some n bs some = cond-false _ _ _ (ne_eqb n 0 (λ e. omega (arith, e, some)))
 
--- and one that took no byte of some has
-pub took_none : (n : ℕ) (bs : List ℕ) → n ≡ 0 → 0 < length bs → write_failure (Ok n) bs ≡ Some WriteZero
-took_none n bs none some = cond-true _ _ _ (ap (λ k. k == 0) none) ∙ cond-false _ _ _ (ne_eqb (length bs) 0 (λ e. omega (arith, e, some)))
-
 pub Appends-none : (known : Option (List ℕ)) → Appends known known []
 Appends-none None = tt
 Appends-none (Some xs) = sym (append-nil xs)

@@ -28,7 +28,3 @@ cut_off bs r u some inside cut =
       whole = sym (chars-append (take r bs) (drop r bs) v) ∙ ap chars (take-append-drop r bs);
       apart = apart_at_cut bs r v w some inside cut;
     }
-
--- their counts add up
-pub counts_of_parts : (bs : List ℕ) (r : ℕ) (breaks : LineBreaks) → IsCutOff bs r → info_of breaks (chars bs) ≡ info_sum (info_of breaks (chars (take r bs))) (info_of breaks (chars (drop r bs)))
-counts_of_parts bs r breaks off = ap (info_of breaks) (sym off.whole) ∙ info_of-append_apart breaks (chars (take r bs)) (chars (drop r bs)) off.apart

@@ -77,13 +77,3 @@ breaks_before breaks chunks k full kept =
     ap (λ t. char_to_line breaks t (length (front_chunks chunks k))) parts
     ∙ char_to_line-append_left breaks (front_chunks chunks k) (concat (drop k chunks)) (length (front_chunks chunks k)) (KeepsCrlf_before chunks k full kept) (omega arith)
     ∙ char_to_line_end breaks (front_chunks chunks k)
-
--- the first chunk by whose end k breaks have ended, or the last
-pub chunk_index_at_line_break_is : (breaks : LineBreaks) (chunks : List (List ℕ)) (k j : ℕ) → j < length chunks → All (λ chunk. 0 < length chunk) chunks → KeepsCrlf chunks
-    → (suc j < length chunks → k ≤ break_count breaks (front_chunks chunks (suc j))) → ((i : ℕ) → i < j → break_count breaks (front_chunks chunks (suc i)) < k) → chunk_index_at_line_break breaks chunks k ≡ j
-unfolding chunk_index_at_line_break
-chunk_index_at_line_break_is breaks chunks k j within full kept ended before =
-    let counts : (i : ℕ) → char_to_line breaks (concat chunks) (length (front_chunks chunks (i + 1))) ≡ break_count breaks (front_chunks chunks (suc i)) = λ i. rw (add-one i) (breaks_before breaks chunks (suc i) full kept) in
-    least_is (λ i. nat_le k (char_to_line breaks (concat chunks) (length (front_chunks chunks (i + 1))))) (length chunks - 1) j (omega arith)
-    (λ less. le-leb _ _ (let e = ended (omega arith) in let same = counts j in omega arith))
-    (λ i less. lt-leb _ _ (let e = before i less in let same = counts i in omega arith))

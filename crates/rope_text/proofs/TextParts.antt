@@ -56,17 +56,6 @@ chars_back bs r cs i b u same place cut = ap chars (cut ∙ ap (λ k. drop k bs)
 pub no_chars : (cs : List ℕ) → cs ++ (chars [] ++ chars []) ≡ cs
 no_chars cs = ap (λ r. cs ++ (r ++ r)) chars-nil ∙ append-nil cs
 
-pub no_more_chars : (cs ds : List ℕ) → cs ++ (ds ++ chars []) ≡ cs ++ ds
-no_more_chars cs ds = ap (λ r. cs ++ (ds ++ r)) chars-nil ∙ ap (λ r. cs ++ r) (append-nil ds)
-
-pub chars_lf : chars (10 ∷ []) ≡ 10 ∷ []
-unfolding chars
-chars_lf = refl
-
-pub chars_cr : chars (13 ∷ []) ≡ 13 ∷ []
-unfolding chars
-chars_cr = refl
-
 pub lf_first : (cs : List ℕ) → begins_with_lf cs ≡ true → cs ≡ 10 ∷ drop 1 cs
 lf_first [] e = absurd (grind (arith, nat_tests))
 lf_first (c ∷ cs) e = let lf : c ≡ 10 = grind (arith, nat_tests) in ap (λ d. d ∷ cs) lf

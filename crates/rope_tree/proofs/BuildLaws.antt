@@ -42,9 +42,6 @@ fronts_more text leaves rest x y fronts parts leaf seam long =
       apart = subst (λ t. IsSeam t y) (sym all) (seam_left_longer (concat leaves) x y before seam);
     }
 
-pub no_nodes : (breaks : LineBreaks) (text : List ℕ) → AreFrontNodes breaks text [] text
-no_nodes breaks text = record { each = All-nil (IsChild breaks 0); fronts = record { whole = refl; are_leaves = no_leaves; long = λ _. omega arith; apart = nil-seam text } }
-
 -- the leaves below one node more
 pub leaves_more : (breaks : LineBreaks) (ts : List Tree) (t : Tree) (x : List ℕ) → 1 ≤ length x → t ≡ leaf_tree breaks x → leaves_of (ts ++ t ∷ []) ≡ leaves_of ts ++ x ∷ []
 leaves_more breaks ts t x some is =
@@ -146,9 +143,6 @@ pub record AreOver (breaks : LineBreaks) (h : ℕ) (whole done rest : List Tree)
   pub left : AreSiblings breaks h rest
   pub same : leaves_of done ++ leaves_of rest ≡ leaves_of whole
 
-pub none_over : (breaks : LineBreaks) (h : ℕ) (whole : List Tree) → AreSiblings breaks h whole → AreOver breaks h whole [] whole
-none_over breaks h whole a = record { each = All-nil (IsChild breaks (h + 1)); left = a; same = refl }
-
 -- the next group of children
 pub group_children : (breaks : LineBreaks) (h : ℕ) (rest : List Tree) (n : ℕ) → AreSiblings breaks h rest → 12 ≤ n → n ≤ 24 → n ≤ length rest → AreChildren breaks h (take n rest)
 group_children breaks h rest n a least most within =
@@ -176,11 +170,6 @@ pub over_same : (breaks : LineBreaks) (h : ℕ) (whole done rest : List Tree) �
 over_same breaks h whole done [] a none = sym (append-nil (leaves_of done)) ∙ a.same
 over_same breaks h whole done (t ∷ ts) a none = absurd (omega arith)
 
-pub over_siblings : (breaks : LineBreaks) (h : ℕ) (whole done rest : List Tree) → AreOver breaks h whole done rest → length rest ≡ 0 → AreSiblings breaks h whole → AreSiblings breaks (h + 1) done
-over_siblings breaks h whole done rest a none all =
-    let e : leaves_of done ≡ leaves_of whole = over_same breaks h whole done rest a none in
-    record { each = a.each; leaves = subst AreLeaves (sym e) all.leaves; fits = omega (arith, all.fits, ap (λ ls. byte_len (concat ls)) e) }
-
 -- the back of a list, as a slice of it
 pub back_of : (ts xs : List Tree) (n : ℕ) → xs ≡ take (length ts - n) (drop n ts) → xs ≡ drop n ts
 back_of ts xs n e = e ∙ take_all (length ts - n) (drop n ts) (simp length-drop (omega arith))
@@ -190,9 +179,6 @@ pub lone_leaves : (ts : List Tree) (t : Tree) → length ts ≡ 1 → get_or ts 
 lone_leaves [] t one here = absurd (omega arith)
 lone_leaves (u ∷ []) t one here = append-nil u.leaves ∙ ap (λ v. v.leaves) here
 lone_leaves (u ∷ v ∷ us) t one here = absurd (omega arith)
-
-pub lone_child : (breaks : LineBreaks) (h : ℕ) (ts : List Tree) (t : Tree) → All (IsChild breaks h) ts → length ts ≡ 1 → get_or ts 0 t ≡ t → IsChild breaks h t
-lone_child breaks h ts t each one here = subst (IsChild breaks h) here (All-get_or (IsChild breaks h) ts 0 t (omega arith) each)
 
 -- the next level
 pub level_up : (breaks : LineBreaks) (h : ℕ) (ts us : List Tree) → AreSiblings breaks h ts → 1 ≤ length ts → AreSiblings (breaks_of ts) (height_of ts + 1) us → 1 ≤ length us → AreSiblings breaks (height_of us) us

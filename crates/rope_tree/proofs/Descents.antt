@@ -120,43 +120,6 @@ pub descends : (unit : Unit) (at : ℕ) (ts : List Tree) (totals : List TextInfo
     → Descends (breaks_of ts) unit at ts k child front
 descends unit at ts totals k child front a h lt is first later not_past past = descends_to unit at ts totals k child front a h lt (sym is) first later not_past past
 
--- what the child finds, the node finds
-pub found_inner : (breaks : LineBreaks) (unit : Unit) (at : ℕ) (t : Tree) (ts : List Tree) (k : ℕ) (child : Tree) (front before : TextInfo) (leaf : List ℕ)
-    → t ≡ tree_over ts → breaks_of ts ≡ breaks → Descends breaks unit at ts k child front → IsFound unit (at - count_of unit front) child leaf before → IsFound unit at t leaf (info_sum front before)
-found_inner breaks unit at t ts k child front before leaf is same d f =
-    let left = leaves_of (take k ts) in
-    let own = child.leaves in
-    let right = leaves_of (drop (k + 1) ts) in
-    let around : leaves_of ts ≡ left ++ (own ++ right) = subst (λ u. leaves_of ts ≡ left ++ (u.leaves ++ right)) d.child_is (leaves_at ts k child d.within) in
-    let whole : t.leaves ≡ left ++ (own ++ right) = ap (λ u. u.leaves) is ∙ around in
-    let sets : t.breaks ≡ breaks = ap (λ u. u.breaks) is ∙ same in
-    let a : AreLeaves (left ++ (own ++ right)) = subst AreLeaves around d.children.leaves in
-    let i = f.index in
-    let le : i ≤ length own = omega (arith, f.within) in
-    let le' : i + 1 ≤ length own = omega (arith, f.within) in
-    let here = front_info breaks left own right a i le in
-    let next = front_info breaks left own right a (i + 1) le' in
-    let old_before : before ≡ info_of breaks (concat (take i own)) = f.before_is ∙ ap (λ b. info_of b (concat (take i own))) d.own.same_breaks in
-    let old_past = ap (λ b. count_of unit (info_of b (concat (take (i + 1) own)))) d.own.same_breaks in
-    let fronts : info_of breaks (concat left) ≡ front = sym d.front_is in
-    let next_count = ap (count_of unit) next in
-    let shift : length left + (i + 1) ≡ length left + i + 1 = omega arith in
-    record {
-      index = length left + i;
-      within = rw whole (omega (arith, f.within, length-append left (own ++ right), length-append own right));
-      leaf_is = f.leaf_is ∙ sym (ap (λ xs. get_or xs (length left + i) []) whole ∙ get_or-append-add left (own ++ right) i [] ∙ get_or_append_left own right [] i f.within);
-      before_is = sym (ap (λ b. info_of b (concat (take (length left + i) t.leaves))) sets ∙ ap (λ xs. info_of breaks (concat (take (length left + i) xs))) whole ∙ here
-          ∙ ap (λ x. info_sum x (info_of breaks (concat (take i own)))) fronts ∙ ap (info_sum front) (sym old_before));
-      not_past = omega (arith, count_of-sum unit front before, f.not_past, d.not_past);
-      past =
-          let total : count_of unit (info_of t.breaks (concat (take (length left + i + 1) t.leaves))) ≡ count_of unit (info_sum (info_of breaks (concat left)) (info_of breaks (concat (take (i + 1) own)))) =
-          ap (λ b. count_of unit (info_of b (concat (take (length left + i + 1) t.leaves)))) sets ∙ ap (λ xs. count_of unit (info_of breaks (concat (take (length left + i + 1) xs)))) whole
-          ∙ ap (λ n. count_of unit (info_of breaks (concat (take n (left ++ (own ++ right)))))) (sym shift) ∙ next_count in
-          let sum = count_of-sum unit (info_of breaks (concat left)) (info_of breaks (concat (take (i + 1) own))) in
-          let fronts_count = ap (count_of unit) fronts in
-          omega (arith, total, sum, fronts_count, old_past, f.past, d.not_past);
-    }
-
 -- what is found in a leaf
 pub found_leaf : (unit : Unit) (at : ℕ) (t : Tree) (leaf : List ℕ) (before : TextInfo) → t ≡ leaf_tree t.breaks leaf → ((breaks : LineBreaks) → before ≡ info_of breaks []) → at < count_of unit (info_of t.breaks (text t)) → IsFound unit at t leaf before
 found_leaf unit at t [] before is none lt = absurd (omega (arith, ap (λ u. count_of unit (info_of t.breaks (text u))) is, count_of-nil unit t.breaks))

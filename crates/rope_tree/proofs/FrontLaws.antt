@@ -60,13 +60,6 @@ module _ (rest text front ahead : List ℕ) (p r : ℕ) (u : IsUtf8 rest) (v : I
   leaf_part =
       ap₂ take (let e : r - 0 ≡ r = omega arith in e) ahead_is ∙ take-take r (length rest + p) (rest ++ text) (omega (arith, ahead_len))
 
-  -- whole characters are taken, and whole characters left
-  pub taken_boundary : length rest ≤ r → IsCharBoundary text (r - length rest)
-  taken_boundary le = IsCharBoundary-from_drop text (r - length rest) (omega (arith, ahead_len)) (subst IsUtf8 (all_taken rest text r le) two_parts.back)
-
-  pub boundary_within : r < length rest → IsCharBoundary rest r
-  boundary_within lt = IsCharBoundary-from_take rest r u (omega arith) (subst IsUtf8 (take-append-le r rest text (omega arith)) two_parts.front)
-
 apart_behind : (s x u : List ℕ) → 1 ≤ length x → parts_crlf x u ≡ false → parts_crlf (s ++ x) u ≡ false
 apart_behind s [] u some apart = absurd (omega (arith, some))
 apart_behind s (c ∷ t) u some apart = parts_crlf-append s c t u ∙ apart

@@ -111,10 +111,6 @@ tallest_above [] k d lt = absurd (omega arith)
 tallest_above (t ∷ ts) zero d lt = omega arith
 tallest_above (t ∷ ts) (suc k) d lt = omega (arith, tallest_above ts k d (omega arith))
 
--- all of a list that is written over
-pub refill_all : (xs ws : List TextInfo) → length ws ≡ length xs → refill (length xs) xs ws ≡ ws
-refill_all xs ws e = rw (drop_all (length ws) xs (omega arith), append-nil ws) (take_all (length xs) ws (omega arith))
-
 -- a node over the changed children
 module _ (ts us : List Tree) (at : ℕ) (s : List ℕ) (a : AreChildren (breaks_of ts) (height_of ts) ts) (g : AreGrown ts us (inserted (joined ts) at s)) where
   pub children_after : AreChildren (breaks_of us) (height_of us) us

@@ -81,9 +81,6 @@ totals_more breaks ts i totals total lt h e =
       ];
     }
 
-pub no_totals : (breaks : LineBreaks) (ts : List Tree) → HasTotals breaks [] (take 0 ts)
-no_totals breaks ts = record { as_many = refl; total_at = λ k d p. absurd (omega arith) }
-
 -- every total is small
 pub small_totals : (breaks : LineBreaks) (totals : List TextInfo) (ts : List Tree) → HasTotals breaks totals ts → byte_len (joined ts) < 2 ^ 63
     → (k : ℕ) (d : TextInfo) → k < length totals → IsSmall (get_or totals k d)
@@ -119,15 +116,3 @@ pub record AddsNode (breaks : LineBreaks) (ts : List Tree) (i : ℕ) (total info
   pub small_total : IsSmall total
   pub small_info : IsSmall info
   pub more : info_of breaks (joined (take (i + 1) ts)) ≡ info_sum total info
-
-pub adds_node : (breaks : LineBreaks) (h : ℕ) (ts : List Tree) (i : ℕ) (n : Tree) (total info : TextInfo) → AreChildren breaks h ts → i < length ts → n ≡ get_or ts i n
-    → total ≡ info_of breaks (joined (take i ts)) → info ≡ info_of n.breaks (text n) → AddsNode breaks ts i total info
-adds_node breaks h ts i n total info a l at front own =
-    let here : get_or ts i n ≡ n = sym at in
-    let child = child_at breaks h ts i n a l here in
-    let counts : info ≡ info_of breaks (text n) = own ∙ ap (λ b. info_of b (text n)) child.same_breaks in
-    record {
-      small_total = rw front (small_info breaks (joined (take i ts)) (omega (arith, byte_len-joined ts i, a.fits)));
-      small_info = rw counts (small_info breaks (text n) child.tree.fits);
-      more = more_at breaks h ts i n a l here ∙ (rw (front, counts) refl);
-    }

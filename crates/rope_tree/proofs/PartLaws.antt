@@ -41,21 +41,6 @@ module _ (ts : List Tree) (totals : List TextInfo) (from : ℕ) (p : IsPart ts t
   pub part_within : from + length ts ≤ length p.whole
   part_within = omega (arith, p.within, ap length p.is, length-take (length ts) (drop from p.whole), length-drop from p.whole)
 
-  -- the first of them
-  pub part_first : (m : ℕ) → IsPart (take m ts) totals from
-  part_first m = record {
-    whole = p.whole;
-    children = p.children;
-    totals_right = p.totals_right;
-    within = p.within;
-    is = elim (cases_lt (length ts) m) [
-      | inl past ↦ let all = take_all m ts (omega arith) in rw all p.is
-      | inr near ↦
-          let n : length (take m ts) ≡ m = omega (arith, near, length-take m ts) in
-          ap (take m) p.is ∙ take-take m (length ts) (drop from p.whole) (omega (arith, near)) ∙ ap (λ l. take l (drop from p.whole)) (sym n)
-    ];
-  }
-
   -- what follows the first of them
   pub part_rest : (m k : ℕ) → k ≡ min m (length ts) → IsPart (drop m ts) totals (from + k)
   part_rest m k e = elim (cases_lt (length ts) m) [
@@ -87,24 +72,8 @@ module _ (ts : List Tree) (totals : List TextInfo) (from : ℕ) (p : IsPart ts t
       p.totals_right.total_at (from + k) d (omega (arith, part_within)) ∙ ap (λ l. info_of b (joined l)) parts ∙ counts_both b (take from p.whole) (take (k + 1) ts) leaves
 
 module _ (ts : List Tree) (totals : List TextInfo) (a : AreChildren (breaks_of ts) (height_of ts) ts) (h : HasTotals (breaks_of ts) totals ts) where
-  -- the first of the children, and what follows them
-  pub first_part : (k : ℕ) → IsPart (take k ts) totals 0
-  first_part k = record {
-    whole = ts;
-    children = a;
-    totals_right = h;
-    within = omega arith;
-    is = elim (cases_lt (length ts) k) [
-      | inl past ↦ let all = take_all k ts (omega arith) in rw all (sym (take_all (length ts) ts (omega arith)))
-      | inr near ↦ ap (λ n. take n ts) (omega (arith, near, length-take k ts))
-    ];
-  }
-
   pub whole_part : IsPart ts totals 0
   whole_part = record { whole = ts; children = a; totals_right = h; within = omega arith; is = sym (take_all (length ts) ts (omega arith)) }
-
-  pub last_part : (k : ℕ) → k ≤ length ts → IsPart (drop k ts) totals k
-  last_part k le = record { whole = ts; children = a; totals_right = h; within = le; is = sym (take_all (length (drop k ts)) (drop k ts) (omega arith)) }
 
 same_set : (xs ys : List Tree) → 1 ≤ length xs → breaks_of xs ≡ breaks_of (xs ++ ys)
 same_set [] ys some = absurd (omega arith)

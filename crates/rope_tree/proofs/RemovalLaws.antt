@@ -162,13 +162,6 @@ module _ (br : LineBreaks) (h : ℕ) (ts : List Tree) (k : ℕ) (c : Tree) (a : 
       stand = new_stand;
     }
 
--- the slices around a child, with the new one between them
-pub spliced_removed : (ts : List Tree) (k : ℕ) (c u : Tree) (vs : List Tree) → AreChildren (breaks_of ts) (height_of ts) ts → k < length ts → get_or ts k c ≡ c
-    → (i j start end : ℕ) → Holds ts k c i j start end → (wanted ahead low high : ℕ) → IsRemoved low high c u i j → IsEnoughBehind wanted low (leaves_of (take k ts)) → IsEnoughAhead ahead high (leaves_of (drop (k + 1) ts))
-    → vs ≡ take k ts ++ (u ∷ [] ++ take (length ts - (k + 1)) (drop (k + 1) ts)) → AreRemoved wanted ahead ts vs start end
-spliced_removed ts k c u vs a lt here i j start end held wanted ahead low high r enough more is =
-    rw (around ts k (u ∷ []) vs is ∙ sym (set_parts ts k u lt)) (children_removed (breaks_of ts) (height_of ts) ts k c a lt here i j start end held wanted ahead low high u r enough more refl refl)
-
 -- a node over the children that are left is the old one without the characters
 pub over_removed : (first last : ℕ) (t x : Tree) (ts us : List Tree) (start end : ℕ) → t ≡ tree_over ts → x ≡ tree_over us → AreRemoved first last ts us start end → IsRemoved first last t x start end
 over_removed first last t x ts us start end is x_is r =

@@ -74,12 +74,3 @@ one_part breaks h ts a some few t e =
       two = λ p. absurd (omega arith);
       full = λ p _. absurd (omega arith);
     }
-
--- what copies of the two halves are seen as
-pub front_trees : (ts xs : List Tree) (k : ℕ) (vs : List Tree) → vs ≡ take k xs → xs ≡ ts → k ≡ length ts / 2 → vs ≡ take (length ts / 2) ts
-front_trees ts xs k vs e x n = rw (e, n, x) refl
-
-pub back_trees : (ts xs : List Tree) (k : ℕ) (vs : List Tree) → vs ≡ take (length xs - k) (drop k xs) → xs ≡ ts → k ≡ length ts / 2 → vs ≡ drop (length ts / 2) ts
-back_trees ts xs k vs e x n =
-    let f : take (length xs - k) (drop k xs) ≡ drop k xs = take_all (length xs - k) (drop k xs) (simp length-drop (omega arith)) in
-    rw (e, f, n, x) refl

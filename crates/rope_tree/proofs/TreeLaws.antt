@@ -80,13 +80,6 @@ is_wide_over breaks w h ts a le =
       tree = is_tree_over breaks h ts a;
     }
 
--- trees of fewer than 2 ^ 63 characters are low
-pub low_below : (breaks : LineBreaks) (h : ℕ) (ts : List Tree) → AreChildren breaks h ts → h < 18
-low_below breaks h ts a = elim (cases_lt h 18) [
-  | inl l ↦ l
-  | inr ge ↦ absurd (omega (arith, pow-le-pow_right {n = 12} (omega arith) ge, least_below breaks h ts a.each, mul-le-mul_right (12 ^ h) a.at_least_two, leaves_le (leaves_of ts) a.leaves.each, length-le-encodes (joined ts), a.fits))
-]
-
 pub is_leaf_tree : (breaks : LineBreaks) (leaf : List ℕ) → byte_len leaf ≤ 984 → all_scalars leaf ≡ true → byte_len (concat (one_leaf leaf)) < 2 ^ 63 → IsTree (leaf_tree breaks leaf)
 is_leaf_tree breaks [] fits scalars few = record {
   lone = λ _. omega arith;
