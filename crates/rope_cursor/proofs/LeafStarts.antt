@@ -1,4 +1,4 @@
--- The chunk of a stretch that lies in a leaf, and what of the stretch lies before it.
+-- The chunk of an excerpt that lies in a leaf, and what of the excerpt lies before it.
 use Rattle.std.proofs.Common.{◌≤◌, ◌^◌, ◌≡◌, ℕ, suc, ◌+◌, ◌-◌, ◌<◌, min, List, [], ◌∷◌, ◌++◌, length, take, get_or, refl, sym, ap, ◌∙◌, subst, arith, inl, inr, All, append_assoc}
 use Rattle.std.specs.List.{concat, slice_range}
 use Rattle.std.proofs.lemmas.Bool.{cases_lt}
@@ -20,7 +20,7 @@ use Rattle.rope_tree.specs.Found.{IsFound}
 use Rattle.rope_tree.specs.declared.search.Unit.{Unit}
 use Rattle.rope_tree.specs.declared.search.Unit.TheVariants.{Byte, Char, CodeUnit, LineBreak}
 use Rattle.rope_tree.specs.Search.{count_of}
-use Rattle.rope_part.specs.Edge.{IsStretch}
+use Rattle.rope_part.specs.Edge.{IsExcerpt}
 use Rattle.rope_part.proofs.ClippedChunks.{size_of_part, cons_some}
 use Rattle.rope_part.proofs.Measured.{Measured, measured}
 use Rattle.rope_part.proofs.LeafParts.{leaf_in, meets_byte, meets_char}
@@ -63,8 +63,8 @@ found_at unit at t p info e h =
       past = rw upto h.past;
     }
 
--- a leaf that has a character of the stretch
-module _ (t : Tree) (start end : TextInfo) (p : Place) (info : TextInfo) (tree : IsTree t) (s : IsStretch t.breaks (text t) start end) (e : leaves p ≡ t.leaves)
+-- a leaf that has a character of the excerpt
+module _ (t : Tree) (start end : TextInfo) (p : Place) (info : TextInfo) (tree : IsTree t) (s : IsExcerpt t.breaks (text t) start end) (e : leaves p ≡ t.leaves)
     (i : info ≡ info_of t.breaks (concat p.before)) (starts : info.chars < end.chars) (ends : start.chars < info.chars + length p.here) where
   chars_are : info.chars ≡ length (concat p.before)
   chars_are = ap (λ x. x.chars) i
@@ -156,8 +156,8 @@ module _ (t : Tree) (start end : TextInfo) (p : Place) (info : TextInfo) (tree :
             omega (arith, size, from, both, cut, size_le_all byte_len IsMeasure-byte_len x end.chars)
       ]
 
--- the leaf that holds a byte or a character of the stretch, or at its end the last one
-module _ (t : Tree) (start end : TextInfo) (s : IsStretch t.breaks (text t) start end) (idx place : ℕ) where
+-- the leaf that holds a byte or a character of the excerpt, or at its end the last one
+module _ (t : Tree) (start end : TextInfo) (s : IsExcerpt t.breaks (text t) start end) (idx place : ℕ) where
   m : Measured t.breaks (text t) start end
   m = measured t.breaks (text t) start end s
 
@@ -191,7 +191,7 @@ module _ (t : Tree) (start end : TextInfo) (s : IsStretch t.breaks (text t) star
     meets_in CodeUnit i at h = absurd i
     meets_in LineBreak i at h = absurd i
 
-    -- and what it holds of the stretch
+    -- and what it holds of the excerpt
     module _ (front : List (List ℕ)) (here : List ℕ) (bytes_before : byte_len (concat front) ≡ info.bytes - start.bytes) (chars_before : length (concat front) ≡ info.chars - start.chars)
         (chars : length (concat front) + length here ≡ min (length (concat p.before) + length p.here) end.chars - start.chars)
         (bytes : byte_len (concat front) + byte_len here ≡ min (byte_len (concat p.before) + byte_len p.here) end.bytes - start.bytes) where
@@ -215,8 +215,8 @@ module _ (t : Tree) (start end : TextInfo) (s : IsStretch t.breaks (text t) star
       inside_in CodeUnit i at h l = absurd i
       inside_in LineBreak i at h l = absurd i
 
--- what a search for a byte or a character of the stretch finds
-module _ (t : Tree) (start end : TextInfo) (tree : IsTree t) (s : IsStretch t.breaks (text t) start end) (idx place : ℕ) (unit : Unit) (i : IsItem unit)
+-- what a search for a byte or a character of the excerpt finds
+module _ (t : Tree) (start end : TextInfo) (tree : IsTree t) (s : IsExcerpt t.breaks (text t) start end) (idx place : ℕ) (unit : Unit) (i : IsItem unit)
     (at : place ≡ min (count_of unit start + idx) (count_of unit end - 1)) (p : Place) (info : TextInfo) (e : leaves p ≡ t.leaves) (h : HoldsPlace unit t.breaks place p.before p.here info) where
   meets : (info.chars < end.chars) × (start.chars < info.chars + length p.here)
   meets = meets_in t start end s idx place p info e unit i at h

@@ -9,9 +9,9 @@ pub mod Spans
 pub mod LineSteps
 pub mod LineMoves
 pub mod PiecesAhead
-pub mod Gaps
-pub mod GapSteps
-pub mod GapsBack
+pub mod Carets
+pub mod CaretSteps
+pub mod CaretsBack
 pub mod LineCounts
 pub mod LineNear
 mod NarrowChunks

@@ -13,7 +13,7 @@ use Rattle.rope_text.proofs.Fronts.{front_at}
 use Rattle.rope_text.proofs.TextParts.{chars_front, chars_back}
 use Rattle.rope_text.proofs.ConversionLaws.{char_to_line-line_start}
 use Rattle.rope_text.proofs.SliceLaws.{break_count-drop}
-use Rattle.rope_cursor.proofs.Gaps.{front_place, size_two}
+use Rattle.rope_cursor.proofs.Carets.{front_place, size_two}
 use Rattle.rope_text.specs.declared.line_breaks.LineBreaks.{LineBreaks}
 use Rattle.rope_text.specs.Text.{byte_len}
 use Rattle.rope_text.specs.Breaks.{break_count}

@@ -14,10 +14,10 @@ use Rattle.rope_text.proofs.LineLaws.{line_start-le-length, line_start_mono}
 use Rattle.rope_text.proofs.LineSeams.{line_start_apart, break_count-front, first_line-drop, last_start-take}
 use Rattle.rope_part.proofs.LeafLines.{next_counts}
 use Rattle.rope_text.proofs.InfoLaws.{same_info}
-use Rattle.rope_part.proofs.Stretches.{front_and_part, part_of_front, length_part}
-use Rattle.rope_cursor.specs.Gap.{Halves}
+use Rattle.rope_part.proofs.Excerpts.{front_and_part, part_of_front, length_part}
+use Rattle.rope_cursor.specs.Caret.{Halves}
 use Rattle.rope_cursor.specs.Lines.{IsLineStart}
-use Rattle.rope_cursor.proofs.Gaps.{AreHalf, half_of, size_front}
+use Rattle.rope_cursor.proofs.Carets.{AreHalf, half_of, size_front}
 
 -- a step forward
 module _ (c : Content) (h new : Halves) (before passed : TextInfo) (l total : ℕ) (breaks : LineBreaks) (s : IsLineStart c h before l total) (less : l < total) (same : breaks ≡ c.breaks)

@@ -18,12 +18,12 @@ use Rattle.rope_text.proofs.LineSeams.{parts_crlf-take}
 use Rattle.rope_text.proofs.SliceLaws.{line_start-take}
 use Rattle.rope_part.proofs.Clips.{byte_to_char-mono}
 use Rattle.rope_text.proofs.InfoLaws.{same_info}
-use Rattle.rope_part.proofs.Stretches.{front_and_part, part_of_front, size_part}
+use Rattle.rope_part.proofs.Excerpts.{front_and_part, part_of_front, size_part}
 use Rattle.rope_part.proofs.PartsBetween.{breaks_apart, char_at_byte, byte_of_char}
-use Rattle.rope_cursor.proofs.Gaps.{size_front, front_place}
-use Rattle.rope_cursor.proofs.GapSteps.{apart_back}
+use Rattle.rope_cursor.proofs.Carets.{size_front, front_place}
+use Rattle.rope_cursor.proofs.CaretSteps.{apart_back}
 use Rattle.rope_cursor.proofs.LineCounts.{last_breaks, near_size, near_rest}
-use Rattle.rope_cursor.specs.Gap.{IsBetween}
+use Rattle.rope_cursor.specs.Caret.{IsBetween}
 
 module _ (breaks : LineBreaks) (text : List ℕ) (i j skip : ℕ) (within : j ≤ length text) (order : i ≤ j) (first : parts_crlf (take i text) (drop i text) ≡ false) (second : parts_crlf (take j text) (drop j text) ≡ false) where
   near_is : drop i (take j text) ≡ take (j - i) (drop i text)

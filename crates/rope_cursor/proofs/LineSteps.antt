@@ -9,7 +9,7 @@ use Rattle.rope_text.specs.LineParts.{line_of, lines_of}
 use Rattle.rope_text.specs.Sides.{ahead}
 use Rattle.rope_text.proofs.LinePartLaws.{length-lines_of, take-lines_of, drop-lines_of}
 use Rattle.rope_cursor.specs.Lines.{at_line, IsLineStart}
-use Rattle.rope_cursor.specs.Gap.{Halves}
+use Rattle.rope_cursor.specs.Caret.{Halves}
 
 -- the line that a cursor passes
 pub right_of_line : (c : Content) (l : ℕ) (back : Bool) → l < line_count c.breaks c.text

@@ -13,9 +13,9 @@ use Rattle.rope_text.proofs.Measures.{IsMeasure-byte_len}
 use Rattle.rope_tree.specs.Tree.{Tree, text, IsTree}
 use Rattle.rope_tree.specs.declared.search.Unit.TheVariants.{Byte}
 use Rattle.rope_tree.proofs.LeafLaws.{nonempty_leaves}
-use Rattle.rope_part.specs.Edge.{IsStretch}
+use Rattle.rope_part.specs.Edge.{IsExcerpt}
 use Rattle.rope_part.proofs.Measured.{measured}
-use Rattle.rope_part.proofs.Stretches.{bytes_of_part}
+use Rattle.rope_part.proofs.Excerpts.{bytes_of_part}
 use Rattle.rope_cursor.specs.Path.{Place, leaves, HoldsPlace}
 use Rattle.rope_cursor.proofs.LeafStarts.{text_is}
 
@@ -49,8 +49,8 @@ none_left bytes rest left n e some none =
     let zero : left - n ≡ 0 = omega (arith, e, some, none, length-take-le n bytes (omega (arith, e))) in
     rw zero refl
 
--- a leaf that holds the first byte of a stretch
-module _ (t : Tree) (start end : TextInfo) (p : Place) (info : TextInfo) (tree : IsTree t) (s : IsStretch t.breaks (text t) start end) (e : leaves p ≡ t.leaves)
+-- a leaf that holds the first byte of an excerpt
+module _ (t : Tree) (start end : TextInfo) (p : Place) (info : TextInfo) (tree : IsTree t) (s : IsExcerpt t.breaks (text t) start end) (e : leaves p ≡ t.leaves)
     (h : HoldsPlace Byte t.breaks start.bytes p.before p.here info) where
   before_is : info.bytes ≡ byte_len (concat p.before)
   before_is = ap (λ x. x.bytes) h.info_is
@@ -73,9 +73,9 @@ module _ (t : Tree) (start end : TextInfo) (p : Place) (info : TextInfo) (tree :
       ap (drop start.bytes) whole ∙ ap (λ (m : ℕ). drop m (before ++ (here ++ after))) at ∙ drop-append-add before (here ++ after) n
       ∙ drop-append-le n here after (omega (arith, starts_here))
 
-  pub stretch_bytes : (n : ℕ) → n ≡ min (length (drop (start.bytes - info.bytes) (encode_utf8_all p.here))) (end.bytes - start.bytes)
+  pub excerpt_bytes : (n : ℕ) → n ≡ min (length (drop (start.bytes - info.bytes) (encode_utf8_all p.here))) (end.bytes - start.bytes)
       → take n (drop (start.bytes - info.bytes) (encode_utf8_all p.here)) ++ take (end.bytes - start.bytes - n) (encode_utf8_all (concat p.after)) ≡ encode_utf8_all (slice_range (text t) start.chars end.chars)
-  stretch_bytes n q =
+  excerpt_bytes n q =
       let m = measured t.breaks (text t) start end s in
       piece_and_rest (drop (start.bytes - info.bytes) (encode_utf8_all p.here)) (encode_utf8_all (concat p.after)) (end.bytes - start.bytes) n q
       ∙ ap (take (end.bytes - start.bytes)) (sym from_here)

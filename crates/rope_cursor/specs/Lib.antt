@@ -6,6 +6,6 @@ pub mod Point
 pub mod Span
 pub mod Lines
 pub mod Starts
-pub mod Gap
+pub mod Caret
 pub mod Hints
 pub mod Pieces

@@ -7,7 +7,7 @@ use Rattle.rope_text.specs.Lines.{line_start, line_count}
 use Rattle.rope_text.specs.Content.{Content}
 use Rattle.rope_text.specs.LineParts.{lines_of}
 use Rattle.rope_text.specs.Sides.{Sides}
-use Rattle.rope_cursor.specs.Gap.{Halves}
+use Rattle.rope_cursor.specs.Caret.{Halves}
 
 -- the lines before line l, and those from it on
 abbrev pub at_line : Content → ℕ → Bool → Sides Content

@@ -10,7 +10,7 @@ ghost use Rattle.rope_text.specs.LineParts.{lines_of, first_line, last_start};
 ghost use Rattle.rope_text.specs.Sides.{ahead, at_place, turned, GoesRight, GoesLeft, GoesAhead, StepsBack};
 ghost use Rattle.rope_text.specs.TextInfo.{info_of};
 ghost use Rattle.rope_part.specs.Part.{content_of, text_of, breaks_of};
-ghost use Rattle.rope_cursor.specs.Gap.{before_byte, after_byte, last_line_byte, last_line_info, AreChunks, IsBetween, PassesLine, PassesBack};
+ghost use Rattle.rope_cursor.specs.Caret.{before_byte, after_byte, last_line_byte, last_line_info, AreChunks, IsBetween, PassesLine, PassesBack};
 ghost use Rattle.rope_cursor.specs.Hints.{CountsAhead};
 
 use crate::path::Span;
@@ -47,7 +47,7 @@ pub struct Lines<'a, T> {
     #[derive_where(skip)]
     part: Part<'a>,
     #[derive_where(skip)]
-    gap: Gap<'a>,
+    caret: Caret<'a>,
     // the counts of the text before the line
     #[derive_where(skip)]
     before: TextInfo,
@@ -68,7 +68,7 @@ impl<'a, T> Model for Lines<'a, T> {
 
     ghost view = { λ a. at_line (content_of a.part) a.line a.is_backward };
 
-    ghost invariant = { λ a. IsLineStart (content_of a.part) a.gap a.before a.line a.total };
+    ghost invariant = { λ a. IsLineStart (content_of a.part) a.caret a.before a.line a.total };
 }
 
 impl<'a, T: OfPart<'a>> Lines<'a, T> {
@@ -83,7 +83,7 @@ impl<'a, T: OfPart<'a>> Lines<'a, T> {
         let near = NEAR_BYTES;
         Lines {
             part: *part,
-            gap: Gap { span, inside, near },
+            caret: Caret { span, inside, near },
             before,
             line: line_idx,
             total: info.break_count + 1,
@@ -106,12 +106,12 @@ impl<'a, T: OfPart<'a>> Lines<'a, T> {
         let here = self.before;
         if is_left {
             let line = self.line - 1;
-            let passed = self.gap.pass_line_back(here.break_count - line, breaks);
+            let passed = self.caret.pass_line_back(here.break_count - line, breaks);
             self.before = here.minus(passed);
             self.line = line;
             return Some(self.part.between(self.before, here));
         }
-        let passed = self.gap.pass_line(breaks);
+        let passed = self.caret.pass_line(breaks);
         self.before = here.plus(passed);
         self.line += 1;
         Some(self.part.between(here, self.before))
@@ -177,29 +177,29 @@ impl<'a, T> Clone for Lines<'a, T> {
     ghost is_infallible = { λ _. ⊤ };
 
     fn clone(&self) -> Result<Lines<'a, T>, AllocError> {
-        let span = self.gap.span.copy();
-        let gap = Gap { span, ..self.gap };
-        Ok(Lines { gap, ..*self })
+        let span = self.caret.span.copy();
+        let caret = Caret { span, ..self.caret };
+        Ok(Lines { caret, ..*self })
     }
 }
 
 // A place between two characters of a part, which goes from line to line: a byte of a chunk.
 #[derive(Drop)]
-struct Gap<'a> {
+struct Caret<'a> {
     span: Span<'a>,
     inside: usize,
     // in how many bytes before the place a step backward looks first, but in no fewer than `NEAR_BYTES`
     near: usize,
 }
 
-impl<'a> Model for Gap<'a> {
-    ghost use Rattle.rope_cursor.specs.Gap.{Halves, halves_at, IsGap};
+impl<'a> Model for Caret<'a> {
+    ghost use Rattle.rope_cursor.specs.Caret.{Halves, halves_at, IsCaret};
 
     ghost Value = { Halves };
 
     ghost view = { λ a. halves_at a.span a.inside };
 
-    ghost invariant = { λ a. IsGap a.span a.inside };
+    ghost invariant = { λ a. IsCaret a.span a.inside };
 }
 
 // From the end of a chunk to the end of a line: the place in the last chunk, and the counts of what was passed. Never
@@ -299,7 +299,7 @@ fn pass_chunks_back(span: &mut Span<'_>, skip: usize, breaks: LineBreaks) -> (us
     (0, passed)
 }
 
-impl<'a> Gap<'a> {
+impl<'a> Caret<'a> {
     // Goes on past the next line break, or to the end. Answers the counts of what it passed.
     #[inline(never)]
     fn pass_line(&mut self, breaks: LineBreaks) -> TextInfo

@@ -271,11 +271,11 @@ impl<'a> Span<'a> {
         ensures { IsHolding unit idx (content_of part.now) result.0 result.1 result.2 result.3 }
     {
         match part {
-            Part::InTree(stretch) => {
-                let start = stretch.start;
-                let place = stretch.place(unit, idx).min(count(stretch.end, unit) - 1);
-                let (path, before) = Path::at(stretch.node, unit, place);
-                let (at, from, to) = (before.bytes, start.bytes, stretch.end.bytes);
+            Part::InTree(excerpt) => {
+                let start = excerpt.start;
+                let place = excerpt.place(unit, idx).min(count(excerpt.end, unit) - 1);
+                let (path, before) = Path::at(excerpt.node, unit, place);
+                let (at, from, to) = (before.bytes, start.bytes, excerpt.end.bytes);
                 let span = Span { path, at, from, to };
                 (
                     span,

@@ -65,10 +65,10 @@ impl<'a> Pieces<'a> {
         ensures some { length result.0.now ≡ 0 → result.1 ≡ [] }
     {
         match part {
-            Part::InTree(stretch) => {
-                let start = stretch.start.bytes;
-                let size = stretch.end.bytes - start;
-                let (path, before) = Path::at(stretch.node, Unit::Byte, start);
+            Part::InTree(excerpt) => {
+                let start = excerpt.start.bytes;
+                let size = excerpt.end.bytes - start;
+                let (path, before) = Path::at(excerpt.node, Unit::Byte, start);
                 let (_, front) = path.leaf().as_bytes().split_at(start - before.bytes);
                 let count = front.len().min(size);
                 let (piece, _) = front.split_at(count);

@@ -1,4 +1,4 @@
--- The part of a leaf that lies in a stretch, and what lies before it.
+-- The part of a leaf that lies in an excerpt, and what lies before it.
 use Rattle.std.proofs.Common.{◌≡◌, ℕ, suc, ◌+◌, ◌-◌, ◌<◌, ◌≤◌, min, List, [], ◌++◌, length, take, drop, get_or, refl, sym, ap, ◌∙◌, arith, inl, inr, All}
 use Rattle.std.specs.List.{concat, slice_range}
 use Rattle.std.specs.Str.{chars, IsUtf8, IsCharBoundary}
@@ -21,7 +21,7 @@ use Rattle.rope_text.proofs.LookupLaws.{breaks_before, chunk_index_at_byte_is, c
 use Rattle.rope_text.proofs.ChunkLaws.{before, after, concat_at}
 use Rattle.std.proofs.Math.Seq.{take-append-add}
 use Rattle.rope_part.specs.Found.{IsFoundChunk}
-use Rattle.rope_part.proofs.Stretches.{bytes_of_part, length_part, size_part, char_to_line_part}
+use Rattle.rope_part.proofs.Excerpts.{bytes_of_part, length_part, size_part, char_to_line_part}
 use Rattle.rope_part.proofs.ClippedChunks.{Clipped, clipped, size_of_part, before_is_front, upto_is_front, front_less}
 
 -- the characters of a text between two places, by their bytes

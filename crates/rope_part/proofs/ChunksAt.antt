@@ -1,4 +1,4 @@
--- The chunk of a stretch that holds a byte, a character or a line break, by the unit.
+-- The chunk of an excerpt that holds a byte, a character or a line break, by the unit.
 use Rattle.std.proofs.Common.{◌≡◌, ℕ, ◌+◌, ◌-◌, ◌<◌, ◌≤◌, min, List, length, All, arith}
 use Rattle.std.specs.List.{slice_range}
 use Rattle.rope_text.specs.declared.line_breaks.LineBreaks.{LineBreaks}
@@ -11,20 +11,20 @@ use Rattle.rope_tree.specs.declared.search.Unit.TheVariants.{Byte, Char, CodeUni
 use Rattle.rope_tree.specs.Search.{count_of}
 use Rattle.rope_tree.specs.Tree.{Tree, IsTree, text}
 use Rattle.rope_tree.specs.Found.{IsFound}
-use Rattle.rope_part.specs.Edge.{IsStretch}
+use Rattle.rope_part.specs.Edge.{IsExcerpt}
 use Rattle.rope_part.specs.Found.{MayHold, chunk_index}
 use Rattle.rope_part.proofs.Measured.{Measured, measured}
 use Rattle.rope_part.proofs.Lookups.{byte_index_single, char_index_single, break_index_single}
 use Rattle.rope_part.proofs.LeafParts.{meets_byte, meets_char, leaf_in, ends_break}
 
--- the leaf has a character of the stretch, and is the one that the index names
+-- the leaf has a character of the excerpt, and is the one that the index names
 pub record HoldsIt (unit : Unit) (t : Tree) (start end : TextInfo) (leaf : List ℕ) (front : TextInfo) (idx : ℕ) : Type 0 where
   pub starts : front.chars < end.chars
   pub ends : start.chars < front.chars + length leaf
   pub index_is : All (λ chunk. 0 < length chunk) (clip t.leaves start.chars end.chars)
       → chunk_index unit t.breaks (clip t.leaves start.chars end.chars) idx ≡ chunk_index_at_char (clip t.leaves start.chars end.chars) (front.chars - start.chars)
 
-module _ (t : Tree) (start end : TextInfo) (s : IsStretch t.breaks (text t) start end) (idx : ℕ) where
+module _ (t : Tree) (start end : TextInfo) (s : IsExcerpt t.breaks (text t) start end) (idx : ℕ) where
   m : Measured t.breaks (text t) start end
   m = measured t.breaks (text t) start end s
 

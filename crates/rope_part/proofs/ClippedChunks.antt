@@ -9,7 +9,7 @@ use Rattle.rope_text.proofs.Measures.{IsMeasure, size_le}
 use Rattle.rope_text.proofs.ClipLaws.{length-slice_range, slice_range_empty, slice_range_past, slice_range-append, concat-clip}
 use Rattle.rope_text.proofs.ChunkLaws.{before, after, concat_at, before_more}
 use Rattle.rope_text.proofs.LookupLaws.{size-front_chunks}
-use Rattle.rope_part.proofs.Stretches.{part_of_front, size_part}
+use Rattle.rope_part.proofs.Excerpts.{part_of_front, size_part}
 
 cons_nonempty-append : (s : List ℕ) (p q : List (List ℕ)) → cons_nonempty s (p ++ q) ≡ cons_nonempty s p ++ q
 cons_nonempty-append [] p q = refl

@@ -1,4 +1,4 @@
--- What every part keeps: of a plain text, and of a stretch of a tree's.
+-- What every part keeps: of a plain text, and of an excerpt of a tree's.
 use Rattle.std.proofs.Common.{◌≡◌, ℕ, ◌-◌, ◌^◌, ◌<◌, Bool, true, false, ◌&&◌, List, [], ◌∷◌, ◌++◌, length, drop, refl, arith, All}
 use Rattle.std.specs.List.{concat, slice_range}
 use Rattle.std.specs.Str.{all_scalars}
@@ -17,7 +17,7 @@ use Rattle.rope_text.proofs.FirstBytes.{first_scalar, rest_scalars}
 use Rattle.rope_tree.specs.Leaves.{IsLeafText}
 use Rattle.rope_tree.specs.Tree.{Tree, text, IsTree}
 use Rattle.rope_tree.proofs.LeafLaws.{nonempty_leaves}
-use Rattle.rope_part.specs.Edge.{IsStretch}
+use Rattle.rope_part.specs.Edge.{IsExcerpt}
 use Rattle.rope_part.specs.Kept.{IsPart}
 use Rattle.rope_part.proofs.Measured.{measured}
 use lib.Utf8.{scalar}
@@ -47,9 +47,9 @@ scalars-concat [] a = refl
 scalars-concat (leaf ∷ leaves) a =
     scalars-append leaf (concat leaves) (All-head IsLeafText leaf leaves a).scalars (scalars-concat leaves (All-tail IsLeafText leaf leaves a))
 
-pub stretch_kept : (t : Tree) (start end : TextInfo) → IsTree t → IsStretch t.breaks (text t) start end
+pub excerpt_kept : (t : Tree) (start end : TextInfo) → IsTree t → IsExcerpt t.breaks (text t) start end
     → IsPart (record { text = slice_range (text t) start.chars end.chars; chunks = clip t.leaves start.chars end.chars; breaks = t.breaks })
-stretch_kept t start end tree s =
+excerpt_kept t start end tree s =
     let m = measured t.breaks (text t) start end s in
     record {
       cut = IsCutting-clip (text t) t.leaves start.chars end.chars (record { joined = refl; nonempty = nonempty_leaves t.leaves tree.leaves.each });

@@ -13,7 +13,7 @@ use Rattle.rope_text.proofs.LineSeams.{parts_crlf-take, line_start_apart, first_
 use Rattle.rope_text.proofs.InfoLaws.{break_count-le-length}
 use Rattle.rope_tree.specs.Tree.{Tree, text}
 use Rattle.rope_part.specs.Edge.{IsLeafFrom}
-use Rattle.rope_part.proofs.Stretches.{front_and_part}
+use Rattle.rope_part.proofs.Excerpts.{front_and_part}
 
 -- the counts up to the next line's start
 pub next_counts : (breaks : LineBreaks) (text : List ℕ) (l : ℕ) → l < line_count breaks text

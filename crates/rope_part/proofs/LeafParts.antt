@@ -1,4 +1,4 @@
--- A leaf of a tree that has a character of a stretch.
+-- A leaf of a tree that has a character of an excerpt.
 use Rattle.std.proofs.Common.{◌≡◌, ℕ, ◌+◌, ◌-◌, ◌<◌, ◌≤◌, min, List, [], ◌++◌, length, take, get_or, refl, sym, ap, ◌∙◌, arith, inl, inr, All}
 use Rattle.std.specs.List.{concat, slice_range}
 use Rattle.std.proofs.lemmas.Bool.{cases_lt}
@@ -23,11 +23,11 @@ use Rattle.rope_tree.specs.declared.search.Unit.TheVariants.{Byte, Char, LineBre
 use Rattle.rope_tree.specs.Found.{IsFound}
 use Rattle.rope_tree.proofs.FoundLaws.{lies_at, found_line_start}
 use Rattle.rope_part.proofs.ClippedChunks.{before_is_front, upto_is_front}
-use Rattle.rope_part.specs.Edge.{IsStretch}
+use Rattle.rope_part.specs.Edge.{IsExcerpt}
 use Rattle.rope_part.specs.Found.{IsFoundChunk}
 use Rattle.rope_part.proofs.Lookups.{line_break_index, char_to_line-mono}
 use Rattle.rope_part.proofs.Measured.{measured, break_count-front}
-use Rattle.rope_part.proofs.Stretches.{line_start_part}
+use Rattle.rope_part.proofs.Excerpts.{line_start_part}
 use Rattle.rope_part.proofs.ChunkParts.{leaf_start, leaf_end, ordered, found_in, index_at_char, index_at_byte}
 
 pub record LeafIn (t : Tree) (start end : TextInfo) (leaf : List ℕ) (front : TextInfo) : Type 0 where
@@ -43,7 +43,7 @@ pub record LeafIn (t : Tree) (start end : TextInfo) (leaf : List ℕ) (front : T
   pub at_byte : (n : ℕ) → front.bytes ≤ min (start.bytes + n) (end.bytes - 1) → min (start.bytes + n) (end.bytes - 1) < front.bytes + byte_len leaf
       → chunk_index_at_byte (clip t.leaves start.chars end.chars) n ≡ chunk_index_at_char (clip t.leaves start.chars end.chars) (front.chars - start.chars)
 
-pub leaf_in : (t : Tree) (start end : TextInfo) (leaf : List ℕ) (front : TextInfo) → IsTree t → IsStretch t.breaks (text t) start end → (k : ℕ) → k < length t.leaves → leaf ≡ get_or t.leaves k []
+pub leaf_in : (t : Tree) (start end : TextInfo) (leaf : List ℕ) (front : TextInfo) → IsTree t → IsExcerpt t.breaks (text t) start end → (k : ℕ) → k < length t.leaves → leaf ≡ get_or t.leaves k []
     → front ≡ info_of t.breaks (concat (take k t.leaves)) → front.chars < end.chars → start.chars < front.chars + length leaf → LeafIn t start end leaf front
 leaf_in t start end leaf front tree s k within leaf_is front_is starts ends =
     let m = measured t.breaks (text t) start end s in
@@ -77,7 +77,7 @@ leaf_in t start end leaf front tree s k within leaf_is front_is starts ends =
           rw chars at same);
     }
 
--- a leaf that holds a character, or a byte, of the stretch
+-- a leaf that holds a character, or a byte, of the excerpt
 pub record Meets (t : Tree) (start end : TextInfo) (leaf : List ℕ) (front : TextInfo) (k : ℕ) : Type 0 where
   pub starts : front.chars < end.chars
   pub ends : start.chars < front.chars + length leaf
@@ -95,7 +95,7 @@ meets_char at t start end leaf front f low high =
       chars = omega (arith, l.chars);
     }
 
-pub meets_byte : (at : ℕ) (t : Tree) (start end : TextInfo) (leaf : List ℕ) (front : TextInfo) → IsStretch t.breaks (text t) start end → (f : IsFound Byte at t leaf front) → start.bytes ≤ at → at < end.bytes → Meets t start end leaf front f.index
+pub meets_byte : (at : ℕ) (t : Tree) (start end : TextInfo) (leaf : List ℕ) (front : TextInfo) → IsExcerpt t.breaks (text t) start end → (f : IsFound Byte at t leaf front) → start.bytes ≤ at → at < end.bytes → Meets t start end leaf front f.index
 meets_byte at t start end leaf front s f low high =
     let m = measured t.breaks (text t) start end s in
     let l = lies_at Byte at t leaf front f in
@@ -118,14 +118,14 @@ meets_byte at t start end leaf front s f low high =
       chars = omega (arith, l.chars);
     }
 
--- the leaf in which a break of the stretch ends: it has a character of the stretch, and its part is the chunk at the break
+-- the leaf in which a break of the excerpt ends: it has a character of the excerpt, and its part is the chunk at the break
 pub record EndsBreak (t : Tree) (start end : TextInfo) (leaf : List ℕ) (front : TextInfo) (k : ℕ) : Type 0 where
   pub starts : front.chars < end.chars
   pub ends : start.chars < front.chars + length leaf
   pub index : All (λ chunk. 0 < length chunk) (clip t.leaves start.chars end.chars)
       → chunk_index_at_line_break t.breaks (clip t.leaves start.chars end.chars) k ≡ chunk_index_at_char (clip t.leaves start.chars end.chars) (front.chars - start.chars)
 
-pub ends_break : (k at : ℕ) (t : Tree) (start end : TextInfo) (leaf : List ℕ) (front : TextInfo) → IsTree t → IsStretch t.breaks (text t) start end → IsFound LineBreak at t leaf front
+pub ends_break : (k at : ℕ) (t : Tree) (start end : TextInfo) (leaf : List ℕ) (front : TextInfo) → IsTree t → IsExcerpt t.breaks (text t) start end → IsFound LineBreak at t leaf front
     → 0 < k → at + 1 ≡ start.break_count + k → at < end.break_count → EndsBreak t start end leaf front k
 ends_break k at t start end leaf front tree s f some next last =
     let m = measured t.breaks (text t) start end s in

@@ -1,9 +1,9 @@
-pub mod Stretches
-pub mod StretchLines
+pub mod Excerpts
+pub mod ExcerptLines
 pub mod LeafLines
 pub mod Measured
 pub mod Places
-pub mod StretchLaws
+pub mod ExcerptLaws
 pub mod Edges
 pub mod Clips
 pub mod ClippedChunks

@@ -1,4 +1,4 @@
--- What the counts at the two ends of a stretch say of its text.
+-- What the counts at the two ends of an excerpt say of its text.
 use Rattle.std.proofs.Common.{◌≡◌, ℕ, ◌+◌, ◌*◌, ◌<◌, ◌≤◌, Bool, true, false, ◌&&◌, cond, List, [], length, take, drop, refl, sym, ap, ◌∙◌, arith, inl, inr}
 use Rattle.std.specs.List.{slice_range}
 use Rattle.std.proofs.lemmas.List.{take-append-drop, length-take-le, take_all}
@@ -16,8 +16,8 @@ use Rattle.rope_text.proofs.TextParts.{lf_first}
 use Rattle.std.proofs.lemmas.Bool.{cases_Bool}
 use Rattle.rope_text.specs.declared.line_breaks.LineBreaks.TheVariants.{Lf, CrLf, Unicode}
 use Rattle.rope_text.proofs.InfoLaws.{surrogate_count-append, break_count-le-length, same_info}
-use Rattle.rope_part.specs.Edge.{start_info, end_info, IsStretch}
-use Rattle.rope_part.proofs.Stretches.{length_part, size_part, break_count_part, front_and_part}
+use Rattle.rope_part.specs.Edge.{start_info, end_info, IsExcerpt}
+use Rattle.rope_part.proofs.Excerpts.{length_part, size_part, break_count_part, front_and_part}
 
 pub record Measured (breaks : LineBreaks) (text : List ℕ) (start end : TextInfo) : Type 0 where
   pub some : start.chars < end.chars
@@ -68,7 +68,7 @@ pub break_count-front : (breaks : LineBreaks) (text : List ℕ) (i : ℕ) → br
 break_count-front breaks text i =
     omega (arith, break_count-append breaks (take i text) (drop i text), ap (break_count breaks) (take-append-drop i text), shared_le breaks (take i text) (drop i text))
 
-pub measured : (breaks : LineBreaks) (text : List ℕ) (start end : TextInfo) → IsStretch breaks text start end → Measured breaks text start end
+pub measured : (breaks : LineBreaks) (text : List ℕ) (start end : TextInfo) → IsExcerpt breaks text start end → Measured breaks text start end
 measured breaks text start end s =
     let a : ℕ = start.chars in
     let b : ℕ = end.chars in
@@ -102,8 +102,8 @@ measured breaks text start end s =
       few_breaks = break_count-le-length breaks text;
     }
 
--- the counts of the text of a stretch are the differences
-pub info_part : (breaks : LineBreaks) (text : List ℕ) (start end info : TextInfo) → IsStretch breaks text start end → info_sum start info ≡ end → info ≡ info_of breaks (slice_range text start.chars end.chars)
+-- the counts of the text of an excerpt are the differences
+pub info_part : (breaks : LineBreaks) (text : List ℕ) (start end info : TextInfo) → IsExcerpt breaks text start end → info_sum start info ≡ end → info ≡ info_of breaks (slice_range text start.chars end.chars)
 info_part breaks text start end info s sum =
     let m = measured breaks text start end s in
     let bytes : info.bytes ≡ byte_len (slice_range text start.chars end.chars) = omega (arith, ap (λ x. x.bytes) sum) in
@@ -112,9 +112,9 @@ info_part breaks text start end info s sum =
     let count : info.break_count ≡ break_count breaks (slice_range text start.chars end.chars) = omega (arith, ap (λ x. x.break_count) sum) in
     same_info info (info_of breaks (slice_range text start.chars end.chars)) bytes chars pairs count
 
--- a whole text as a stretch
-pub whole_stretch : (breaks : LineBreaks) (text : List ℕ) (start end : TextInfo) → 0 < length text → start ≡ info_of breaks [] → end ≡ info_of breaks text → IsStretch breaks text start end
-whole_stretch breaks text start end some first last =
+-- a whole text as an excerpt
+pub whole_excerpt : (breaks : LineBreaks) (text : List ℕ) (start end : TextInfo) → 0 < length text → start ≡ info_of breaks [] → end ≡ info_of breaks text → IsExcerpt breaks text start end
+whole_excerpt breaks text start end some first last =
     let none : start.chars ≡ 0 = ap (λ x. x.chars) first in
     let all : end.chars ≡ length text = ap (λ x. x.chars) last in
     let no_break : break_count breaks [] ≡ char_to_line breaks text 0 = ap length (break_ends-nil breaks) ∙ sym (char_to_line_start breaks text) in

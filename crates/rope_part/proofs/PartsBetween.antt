@@ -16,10 +16,10 @@ use Rattle.rope_text.proofs.BreakLaws.{joins_break}
 use Rattle.rope_text.proofs.InfoLaws.{surrogate_count-append, info_of-append_apart}
 use Rattle.rope_text.proofs.LineSeams.{parts_crlf-take}
 use Rattle.rope_text.proofs.SliceLaws.{break_count-take}
-use Rattle.rope_part.specs.Edge.{start_info, end_info, IsStretch}
+use Rattle.rope_part.specs.Edge.{start_info, end_info, IsExcerpt}
 use Rattle.rope_part.proofs.Measured.{measured}
 use Rattle.rope_text.proofs.InfoLaws.{same_info}
-use Rattle.rope_part.proofs.Stretches.{front_and_part, length_part, break_count_part, char_to_line_part, size_part}
+use Rattle.rope_part.proofs.Excerpts.{front_and_part, length_part, break_count_part, char_to_line_part, size_part}
 use Rattle.rope_part.proofs.Clips.{part_of_part}
 use Rattle.rope_text.specs.Lines.{line_start, line_count}
 use Rattle.rope_text.specs.LineParts.{part_between, line_of}
@@ -50,7 +50,7 @@ between_sum breaks text from to first last l apart =
     ∙ ap (λ x. info_sum x (info_of breaks part)) (sym first)
 
 -- the counts of a tree's text up to the ends of a part of a part
-module _ (breaks : LineBreaks) (text : List ℕ) (start end : TextInfo) (s : IsStretch breaks text start end) where
+module _ (breaks : LineBreaks) (text : List ℕ) (start end : TextInfo) (s : IsExcerpt breaks text start end) where
   front_of_own : (i : ℕ) → i ≤ end.chars - start.chars → take i (slice_range text start.chars end.chars) ≡ slice_range text start.chars (start.chars + i)
   front_of_own i l =
       let whole : i - 0 ≡ i = omega arith in
@@ -94,11 +94,11 @@ module _ (breaks : LineBreaks) (text : List ℕ) (start end : TextInfo) (s : IsS
       (omega (arith, ap (λ x. x.utf16_surrogates) s.start_is, ap (λ x. x.utf16_surrogates) last, ap surrogate_count same))
       (omega (arith, m.start_breaks, ap (λ x. x.break_count) last, ap (break_count breaks) same))
 
-  pub stretch_between : (from to : TextInfo) → from ≡ info_of breaks (take from.chars (slice_range text start.chars end.chars)) → to ≡ info_of breaks (take to.chars (slice_range text start.chars end.chars))
+  pub excerpt_between : (from to : TextInfo) → from ≡ info_of breaks (take from.chars (slice_range text start.chars end.chars)) → to ≡ info_of breaks (take to.chars (slice_range text start.chars end.chars))
       → from.chars < to.chars → to.chars ≤ length (slice_range text start.chars end.chars)
       → parts_crlf (take from.chars (slice_range text start.chars end.chars)) (drop from.chars (slice_range text start.chars end.chars)) ≡ false
-      → IsStretch breaks text (info_sum start from) (info_sum start to)
-  stretch_between from to first last some within apart =
+      → IsExcerpt breaks text (info_sum start from) (info_sum start to)
+  excerpt_between from to first last some within apart =
       let long = length_part text start.chars end.chars s.within in
       record {
         some = omega arith;
@@ -114,7 +114,7 @@ pub record AreSmall (info : TextInfo) : Type 0 where
   pub utf16_surrogates : info.utf16_surrogates < 2 ^ 64
   pub break_count : info.break_count < 2 ^ 64
 
-pub small_between : (breaks : LineBreaks) (text : List ℕ) (start end : TextInfo) → IsStretch breaks text start end → byte_len text < 2 ^ 63 → AreSmall start × AreSmall end
+pub small_between : (breaks : LineBreaks) (text : List ℕ) (start end : TextInfo) → IsExcerpt breaks text start end → byte_len text < 2 ^ 63 → AreSmall start × AreSmall end
 small_between breaks text start end s fits =
     let m = measured breaks text start end s in (
       record { bytes = omega arith; chars = omega arith; utf16_surrogates = omega arith; break_count = omega arith },

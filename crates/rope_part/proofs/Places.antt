@@ -1,4 +1,4 @@
--- A place of a stretch's text, as one of the tree's.
+-- A place of an excerpt's text, as one of the tree's.
 use Rattle.std.proofs.Common.{◌≡◌, ℕ, ◌+◌, ◌^◌, ◌<◌, ◌≤◌, List, length, take, ap, arith}
 use Rattle.std.specs.List.{slice_range}
 use Rattle.std.proofs.lemmas.List.{length-take-le}
@@ -14,10 +14,10 @@ use Rattle.rope_tree.specs.declared.search.Unit.{Unit}
 use Rattle.rope_tree.specs.declared.search.Unit.TheVariants.{Byte, Char, CodeUnit, LineBreak}
 use Rattle.rope_tree.specs.Search.{count_of, IsSmall}
 use Rattle.rope_tree.proofs.Infos.{small_info}
-use Rattle.rope_part.specs.Edge.{IsStretch}
+use Rattle.rope_part.specs.Edge.{IsExcerpt}
 use Rattle.rope_part.proofs.Measured.{measured}
 
-module _ (breaks : LineBreaks) (text : List ℕ) (start end : TextInfo) (s : IsStretch breaks text start end) (fits : byte_len text < 2 ^ 63) where
+module _ (breaks : LineBreaks) (text : List ℕ) (start end : TextInfo) (s : IsExcerpt breaks text start end) (fits : byte_len text < 2 ^ 63) where
   -- the counts before it are in the bounds that those of a rope's text keep
   pub small_start : IsSmall start
   small_start =

@@ -30,15 +30,15 @@ abbrev pub line_info : LineBreaks → List ℕ → ℕ → TextInfo
 line_info breaks text l = info_of breaks (take (line_start breaks text l) text)
 
 -- characters of a text, one at least, with the counts up to their start and up to their end
-pub record IsStretch (breaks : LineBreaks) (text : List ℕ) (start end : TextInfo) : Type 0 where
+pub record IsExcerpt (breaks : LineBreaks) (text : List ℕ) (start end : TextInfo) : Type 0 where
   pub some : start.chars < end.chars
   pub within : end.chars ≤ length text
   pub start_is : start ≡ start_info breaks text start.chars
   pub end_is : end ≡ end_info breaks text end.chars
 
 -- there is at most one proof of it
-pub IsStretch-prop : {breaks : LineBreaks} {text : List ℕ} {start end : TextInfo} → IsProp (IsStretch breaks text start end)
-IsStretch-prop = hlevel props
+pub IsExcerpt-prop : {breaks : LineBreaks} {text : List ℕ} {start end : TextInfo} → IsProp (IsExcerpt breaks text start end)
+IsExcerpt-prop = hlevel props
 
 pub IsInfo-prop : (breaks : LineBreaks) (text : List ℕ) (info : TextInfo) → IsProp (info ≡ info_of breaks text)
 IsInfo-prop breaks text info = hlevel props

@@ -1,6 +1,6 @@
 pub mod Edge
 pub mod Found
 pub mod Kept
-pub mod Stretch
+pub mod Excerpt
 pub mod Plain
 pub mod Part

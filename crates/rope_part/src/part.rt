@@ -13,8 +13,8 @@ ghost use Rattle.rope_tree.specs.Tree.{text};
 ghost use Rattle.rope_part.specs.Edge.{line_info};
 ghost use Rattle.rope_part.specs.Found.{IsFoundChunk, MayHold, chunk_index};
 
+use crate::excerpt::Excerpt;
 use crate::plain::Plain;
-use crate::stretch::Stretch;
 use rope_text::str_utils::{byte_len_of, char_to_byte_idx, first_char};
 use rope_text::{LineBreaks, Steps, TextInfo};
 use rope_tree::{Node, Unit, byte_at, char_at, convert, convert_in, count, first_sought, leaf_at};
@@ -26,7 +26,7 @@ use rope_tree::{Node, Unit, byte_at, char_at, convert, convert_in, count, first_
 #[derive(Clone, Copy)]
 pub enum Part<'a> {
     /// One character or more of a tree's text.
-    InTree(Stretch<'a>),
+    InTree(Excerpt<'a>),
     /// A plain text.
     Alone(Plain<'a>),
 }
@@ -58,7 +58,7 @@ impl<'a> Part<'a> {
             return Part::from_str_with("", node.line_breaks());
         }
         let start = TextInfo::new();
-        Part::InTree(Stretch { node, start, end })
+        Part::InTree(Excerpt { node, start, end })
     }
 
     /// The set of line breaks.
@@ -66,7 +66,7 @@ impl<'a> Part<'a> {
         ensures { result ≡ breaks_of self.now }
     {
         match self {
-            Part::InTree(stretch) => stretch.node.line_breaks(),
+            Part::InTree(excerpt) => excerpt.node.line_breaks(),
             Part::Alone(plain) => plain.breaks,
         }
     }
@@ -77,7 +77,7 @@ impl<'a> Part<'a> {
         ensures kept { IsPart (content_of self.now) }
     {
         match self {
-            Part::InTree(stretch) => stretch.info(),
+            Part::InTree(excerpt) => excerpt.info(),
             Part::Alone(plain) => {
                 // For the proof: `as_bytes` says that a text in memory has at most `isize::MAX` bytes, as a part must.
                 let _ = plain.as_str().as_bytes();
@@ -98,10 +98,10 @@ impl<'a> Part<'a> {
             return Part::from_str_with("", self.line_breaks());
         }
         match self {
-            Part::InTree(stretch) => Part::InTree(Stretch {
-                node: stretch.node,
-                start: stretch.start_of(start),
-                end: stretch.end_of(end),
+            Part::InTree(excerpt) => Part::InTree(Excerpt {
+                node: excerpt.node,
+                start: excerpt.start_of(start),
+                end: excerpt.end_of(end),
             }),
             Part::Alone(plain) => {
                 let text = plain.as_str();
@@ -118,7 +118,7 @@ impl<'a> Part<'a> {
         ensures { result ≡ line_info (breaks_of self.now) (text_of self.now) line_idx }
     {
         match self {
-            Part::InTree(stretch) => stretch.before_line(line_idx),
+            Part::InTree(excerpt) => excerpt.before_line(line_idx),
             Part::Alone(plain) => plain.before_line(line_idx),
         }
     }
@@ -132,7 +132,7 @@ impl<'a> Part<'a> {
         // For the proof: `info` says that a part has at most `isize::MAX` bytes, so there is a number for the line past the last.
         let _ = self.info();
         match self {
-            Part::InTree(stretch) => stretch.around_line(line_idx),
+            Part::InTree(excerpt) => excerpt.around_line(line_idx),
             Part::Alone(plain) => (plain.before_line(line_idx), plain.before_line(line_idx + 1)),
         }
     }
@@ -153,13 +153,13 @@ impl<'a> Part<'a> {
             return Part::from_str_with("", self.line_breaks());
         }
         match self {
-            Part::InTree(stretch) => {
-                let node = stretch.node;
+            Part::InTree(excerpt) => {
+                let node = excerpt.node;
                 // For the proof: `height` says that the tree's text has at most `isize::MAX` bytes, so the sums below fit.
                 let _ = node.height();
-                let start = stretch.start.plus(from);
-                let end = stretch.start.plus(to);
-                Part::InTree(Stretch { node, start, end })
+                let start = excerpt.start.plus(from);
+                let end = excerpt.start.plus(to);
+                Part::InTree(Excerpt { node, start, end })
             }
             Part::Alone(plain) => {
                 let text = &plain.as_str()[from.bytes..to.bytes];
@@ -185,9 +185,9 @@ impl<'a> Part<'a> {
         ensures { slice_get (encode_utf8_all (text_of self.now)) byte_idx ≡ Some result }
     {
         match self {
-            Part::InTree(stretch) => {
-                let place = stretch.place(Unit::Byte, byte_idx);
-                byte_at(stretch.node, place, &mut Steps::new())
+            Part::InTree(excerpt) => {
+                let place = excerpt.place(Unit::Byte, byte_idx);
+                byte_at(excerpt.node, place, &mut Steps::new())
             }
             Part::Alone(plain) => {
                 let bytes = plain.as_str().as_bytes();
@@ -202,9 +202,9 @@ impl<'a> Part<'a> {
         ensures { slice_get (text_of self.now) char_idx ≡ Some result }
     {
         match self {
-            Part::InTree(stretch) => {
-                let place = stretch.place(Unit::Char, char_idx);
-                char_at(stretch.node, place, &mut Steps::new())
+            Part::InTree(excerpt) => {
+                let place = excerpt.place(Unit::Char, char_idx);
+                char_at(excerpt.node, place, &mut Steps::new())
             }
             Part::Alone(plain) => {
                 let text = plain.as_str();
@@ -223,14 +223,14 @@ impl<'a> Part<'a> {
             (chars result.0.now) result.1 result.2 result.3 }
     {
         match self {
-            Part::InTree(stretch) => {
-                let place = stretch.place(unit, idx).min(count(stretch.end, unit) - 1);
-                let found = leaf_at(stretch.node, unit, place, &mut Steps::new());
+            Part::InTree(excerpt) => {
+                let place = excerpt.place(unit, idx).min(count(excerpt.end, unit) - 1);
+                let found = leaf_at(excerpt.node, unit, place, &mut Steps::new());
                 let leaf = found.leaf.as_str();
                 let before = found.before;
-                let start = stretch.start;
+                let start = excerpt.start;
                 let from = start.bytes.saturating_sub(before.bytes);
-                let to = (stretch.end.bytes - before.bytes).min(leaf.len());
+                let to = (excerpt.end.bytes - before.bytes).min(leaf.len());
                 (
                     &leaf[from..to],
                     before.bytes.saturating_sub(start.bytes),
@@ -285,18 +285,18 @@ impl<'a> Part<'a> {
         match self {
             // The tree's answer, less what lies before the start. Where a part ends between CR and LF, its last line starts at that
             // end, while the tree's line starts behind the LF: so the answer is cut at the end.
-            Part::InTree(stretch) => {
+            Part::InTree(excerpt) => {
                 let first = first_sought(from);
                 if idx < first {
                     return 0;
                 }
-                let place = stretch.place(from, idx);
-                let start = count(stretch.start, to);
-                let end = count(stretch.end, to);
-                if place - first == count(stretch.end, from) {
+                let place = excerpt.place(from, idx);
+                let start = count(excerpt.start, to);
+                let end = count(excerpt.end, to);
+                if place - first == count(excerpt.end, from) {
                     return end - start;
                 }
-                convert(stretch.node, from, to, place, &mut Steps::new()).min(end) - start
+                convert(excerpt.node, from, to, place, &mut Steps::new()).min(end) - start
             }
             Part::Alone(plain) => {
                 convert_in(plain.as_str(), plain.info, plain.breaks, from, to, idx)

@@ -22,7 +22,7 @@ ghost use Rattle.rope_text.specs.Sides.{at_start, at_place};
 use crate::rope::Rope;
 use rope_cursor::{Bytes, Chars};
 use rope_join::cut::between;
-use rope_part::{Part, Stretch};
+use rope_part::{Excerpt, Part};
 use rope_slice::{ChunksAt, Lines, RopeSlice};
 use rope_text::{IndexRange, Result};
 use rope_tree::Maker;
@@ -110,7 +110,7 @@ impl Rope {
         ensures err { IfErr result (λ e. e ≡ OutOfMemory) }
     {
         match slice.part {
-            Part::InTree(Stretch { node, start, end }) => {
+            Part::InTree(Excerpt { node, start, end }) => {
                 let root = between(&mut Maker::new(alloc), node, start.chars, end.chars)?;
                 Ok(Rope { root, alloc })
             }

@@ -5,8 +5,8 @@ use Rattle.rope_text.specs.Conversions.{byte_to_char, line_to_byte}
 use Rattle.rope_text.proofs.Walks.{byte_len-chars}
 use Rattle.rope_text.specs.Text.{byte_len}
 use Rattle.rope_text.specs.TextInfo.{info_of}
-use Rattle.rope_cursor.specs.Gap.{before_byte, IsBetween}
-use Rattle.rope_cursor.proofs.Gaps.{size_front, between_boundary, between_after}
+use Rattle.rope_cursor.specs.Caret.{before_byte, IsBetween}
+use Rattle.rope_cursor.proofs.Carets.{size_front, between_boundary, between_after}
 use Rattle.rope_cursor.proofs.LineCounts.{cut_at}
 use Rattle.rope_cursor.proofs.LineNear.{few_left, more_left, same_start, start_between, start_inside, found_start, found_fits, rest_between, rest_breaks, found_counts, front_counts}
 use Rattle.rope_cursor.proofs.lines.count_last.Goals.{After-prev_break-cut, Joined-line_idx-eq1, then-line_idx-eq1, else-line_idx-eq1}

@@ -2,7 +2,7 @@ use Rattle.std.proofs.Common.{◌∙◌, length, ap, arith}
 use Rattle.rope_text.specs.TextInfo.{info_of}
 use Rattle.rope_text.specs.LineParts.{first_line}
 use Rattle.rope_text.specs.Text.{byte_len}
-use Rattle.rope_cursor.proofs.Gaps.{passed_none, passed_more, passes_line, passes_end, more_fits}
+use Rattle.rope_cursor.proofs.Carets.{passed_none, passed_more, passes_line, passes_end, more_fits}
 use Rattle.rope_cursor.proofs.lines.pass_chunks.Goals as goal
 
 pub loop-breaks-init : goal.loop-breaks-init

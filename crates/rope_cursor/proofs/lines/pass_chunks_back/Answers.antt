@@ -4,7 +4,7 @@ use Rattle.std.specs.List.{concat}
 use Rattle.rope_text.specs.Text.{byte_len}
 use Rattle.rope_text.specs.TextInfo.{info_of}
 use Rattle.rope_text.specs.LineParts.{last_start}
-use Rattle.rope_cursor.proofs.GapsBack.{none_back, end_back, chunk_found, chunk_left, chunk_over, chunk_half, whole, apart_at_end}
+use Rattle.rope_cursor.proofs.CaretsBack.{none_back, end_back, chunk_found, chunk_left, chunk_over, chunk_half, whole, apart_at_end}
 use Rattle.rope_cursor.proofs.lines.pass_chunks_back.Goals as goal
 
 pub loop-breaks-init : goal.loop-breaks-init

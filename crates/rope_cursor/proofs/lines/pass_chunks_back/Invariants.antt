@@ -1,5 +1,5 @@
 use Rattle.std.proofs.Common.{length}
-use Rattle.rope_cursor.specs.Gap.{PassedBackTo}
+use Rattle.rope_cursor.specs.Caret.{PassedBackTo}
 use Rattle.rope_cursor.proofs.lines.pass_chunks_back.Given as goal
 
 abbrev pub invariant-loop-breaks : goal.invariant-loop-breaks

@@ -6,7 +6,7 @@ use Rattle.rope_text.specs.Lines.{line_start}
 use Rattle.rope_text.proofs.LineLaws.{line_start-le-length}
 use Rattle.rope_part.specs.Part.{content_of, text_of, breaks_of}
 use Rattle.rope_part.proofs.PartsBetween.{counts_at}
-use Rattle.rope_cursor.proofs.GapSteps.{gap_at, front_at, back_at}
+use Rattle.rope_cursor.proofs.CaretSteps.{caret_at, front_at, back_at}
 use Rattle.rope_cursor.proofs.lines.Lines.at.Goals as goal
 
 pub at-span-requires-clause-within : goal.at-span-requires-clause-within
@@ -26,7 +26,7 @@ invariant_of-result g c =
     let e = c.at-span.ensures in
     let p = c.at-span.result.0 in
     let place : ℕ = c.before_line-before.result.chars in
-    gap_at (content_of c.args.part.now) p (place - length (concat p.before)) place c.at-span.result.1 c.info-info.ensures.kept e.text e.chunks (omega (arith, e.starts)) (omega (arith, e.within)) e.byte
+    caret_at (content_of c.args.part.now) p (place - length (concat p.before)) place c.at-span.result.1 c.info-info.ensures.kept e.text e.chunks (omega (arith, e.starts)) (omega (arith, e.within)) e.byte
 
 pub invariant_of-result-2 : goal.invariant_of-result-2
 invariant_of-result-2 g c =

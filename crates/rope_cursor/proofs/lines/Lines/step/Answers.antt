@@ -19,59 +19,59 @@ pub returns-then-self-end_of : goal.returns-then-self-end_of
 returns-then-self-end_of g c =
     let s = c.self.inside in
     let lines = at_line (content_of s.part) s.line s.is_backward in
-    rw (← c.self.view_is) (stays_put c.args.is_left lines lines refl (no_line c.args.is_left (content_of s.part) s.gap s.before s.line s.total s.is_backward c.self.invariant (c.if-self-end_of.true ∙ c.end_of.ensures)) (λ (x : Content). x))
+    rw (← c.self.view_is) (stays_put c.args.is_left lines lines refl (no_line c.args.is_left (content_of s.part) s.caret s.before s.line s.total s.is_backward c.self.invariant (c.if-self-end_of.true ∙ c.end_of.ensures)) (λ (x : Content). x))
 
 pub overflow_sub-here : goal.overflow_sub-here
-overflow_sub-here g c = breaks_enough (content_of c.self.inside.part) c.self.inside.gap c.self.inside.before c.self.inside.line c.self.inside.total c.self.invariant
+overflow_sub-here g c = breaks_enough (content_of c.self.inside.part) c.self.inside.caret c.self.inside.before c.self.inside.line c.self.inside.total c.self.invariant
 
 pub minus-self-inside-requires-clause-bytes : goal.minus-self-inside-requires-clause-bytes
 minus-self-inside-requires-clause-bytes g c =
-    let sum = before_sum (content_of c.self.inside.part) c.self.inside.gap c.pass_line_back-passed.new.self c.self.inside.before c.pass_line_back-passed.result c.self.inside.line c.self.inside.total
+    let sum = before_sum (content_of c.self.inside.part) c.self.inside.caret c.pass_line_back-passed.new.self c.self.inside.before c.pass_line_back-passed.result c.self.inside.line c.self.inside.total
     (c.self.inside.before.break_count - (c.self.inside.line - 1)) c.line_breaks-breaks.result c.self.invariant (not_first g (goal.at.minus-self-inside-requires-clause-bytes g c).Then-is_left) c.line_breaks-breaks.ensures refl
     c.pass_line_back-passed.ensures.front c.pass_line_back-passed.ensures.back c.pass_line_back-passed.ensures.counts in
     omega (arith, ap (λ x. x.bytes) sum)
 
 pub minus-self-inside-requires-clause-utf16_surrogates : goal.minus-self-inside-requires-clause-utf16_surrogates
 minus-self-inside-requires-clause-utf16_surrogates g c =
-    let sum = before_sum (content_of c.self.inside.part) c.self.inside.gap c.pass_line_back-passed.new.self c.self.inside.before c.pass_line_back-passed.result c.self.inside.line c.self.inside.total
+    let sum = before_sum (content_of c.self.inside.part) c.self.inside.caret c.pass_line_back-passed.new.self c.self.inside.before c.pass_line_back-passed.result c.self.inside.line c.self.inside.total
     (c.self.inside.before.break_count - (c.self.inside.line - 1)) c.line_breaks-breaks.result c.self.invariant (not_first g (goal.at.minus-self-inside-requires-clause-utf16_surrogates g c).Then-is_left) c.line_breaks-breaks.ensures refl
     c.pass_line_back-passed.ensures.front c.pass_line_back-passed.ensures.back c.pass_line_back-passed.ensures.counts in
     omega (arith, ap (λ x. x.utf16_surrogates) sum)
 
 pub minus-self-inside-requires-clause-break_count : goal.minus-self-inside-requires-clause-break_count
 minus-self-inside-requires-clause-break_count g c =
-    let sum = before_sum (content_of c.self.inside.part) c.self.inside.gap c.pass_line_back-passed.new.self c.self.inside.before c.pass_line_back-passed.result c.self.inside.line c.self.inside.total
+    let sum = before_sum (content_of c.self.inside.part) c.self.inside.caret c.pass_line_back-passed.new.self c.self.inside.before c.pass_line_back-passed.result c.self.inside.line c.self.inside.total
     (c.self.inside.before.break_count - (c.self.inside.line - 1)) c.line_breaks-breaks.result c.self.invariant (not_first g (goal.at.minus-self-inside-requires-clause-break_count g c).Then-is_left) c.line_breaks-breaks.ensures refl
     c.pass_line_back-passed.ensures.front c.pass_line_back-passed.ensures.back c.pass_line_back-passed.ensures.counts in
     omega (arith, ap (λ x. x.break_count) sum)
 
 pub between-requires-clause-from_is : goal.between-requires-clause-from_is
 between-requires-clause-from_is g c =
-    line_from (content_of c.self.inside.part) (c.self.inside.line - 1) (inside_back (content_of c.self.inside.part) c.self.inside.gap c.pass_line_back-passed.new.self c.self.inside.before c.pass_line_back-passed.result c.self.inside.line c.self.inside.total
+    line_from (content_of c.self.inside.part) (c.self.inside.line - 1) (inside_back (content_of c.self.inside.part) c.self.inside.caret c.pass_line_back-passed.new.self c.self.inside.before c.pass_line_back-passed.result c.self.inside.line c.self.inside.total
     (c.self.inside.before.break_count - (c.self.inside.line - 1)) c.line_breaks-breaks.result c.self.invariant (not_first g (goal.at.between-requires-clause-from_is g c).Then-is_left) c.line_breaks-breaks.ensures refl
     c.pass_line_back-passed.ensures.front c.pass_line_back-passed.ensures.back c.pass_line_back-passed.ensures.counts) c.minus-self-inside.result c.self.inside.before
-    (start_is (content_of c.self.inside.part) c.self.inside.gap c.pass_line_back-passed.new.self c.self.inside.before c.pass_line_back-passed.result c.self.inside.line c.self.inside.total
+    (start_is (content_of c.self.inside.part) c.self.inside.caret c.pass_line_back-passed.new.self c.self.inside.before c.pass_line_back-passed.result c.self.inside.line c.self.inside.total
     (c.self.inside.before.break_count - (c.self.inside.line - 1)) c.line_breaks-breaks.result c.self.invariant (not_first g (goal.at.between-requires-clause-from_is g c).Then-is_left) c.line_breaks-breaks.ensures refl
     c.pass_line_back-passed.ensures.front c.pass_line_back-passed.ensures.back c.pass_line_back-passed.ensures.counts c.minus-self-inside.result c.minus-self-inside.ensures.sum)
-    (before_up (content_of c.self.inside.part) c.self.inside.gap c.pass_line_back-passed.new.self c.self.inside.before c.pass_line_back-passed.result c.self.inside.line c.self.inside.total
+    (before_up (content_of c.self.inside.part) c.self.inside.caret c.pass_line_back-passed.new.self c.self.inside.before c.pass_line_back-passed.result c.self.inside.line c.self.inside.total
     (c.self.inside.before.break_count - (c.self.inside.line - 1)) c.line_breaks-breaks.result c.self.invariant (not_first g (goal.at.between-requires-clause-from_is g c).Then-is_left) c.line_breaks-breaks.ensures refl
     c.pass_line_back-passed.ensures.front c.pass_line_back-passed.ensures.back c.pass_line_back-passed.ensures.counts)
 
 pub between-requires-clause-apart : goal.between-requires-clause-apart
 between-requires-clause-apart g c =
-    line_apart (content_of c.self.inside.part) (c.self.inside.line - 1) (inside_back (content_of c.self.inside.part) c.self.inside.gap c.pass_line_back-passed.new.self c.self.inside.before c.pass_line_back-passed.result c.self.inside.line c.self.inside.total
+    line_apart (content_of c.self.inside.part) (c.self.inside.line - 1) (inside_back (content_of c.self.inside.part) c.self.inside.caret c.pass_line_back-passed.new.self c.self.inside.before c.pass_line_back-passed.result c.self.inside.line c.self.inside.total
     (c.self.inside.before.break_count - (c.self.inside.line - 1)) c.line_breaks-breaks.result c.self.invariant (not_first g (goal.at.between-requires-clause-apart g c).Then-is_left) c.line_breaks-breaks.ensures refl
     c.pass_line_back-passed.ensures.front c.pass_line_back-passed.ensures.back c.pass_line_back-passed.ensures.counts) c.minus-self-inside.result c.self.inside.before
-    (start_is (content_of c.self.inside.part) c.self.inside.gap c.pass_line_back-passed.new.self c.self.inside.before c.pass_line_back-passed.result c.self.inside.line c.self.inside.total
+    (start_is (content_of c.self.inside.part) c.self.inside.caret c.pass_line_back-passed.new.self c.self.inside.before c.pass_line_back-passed.result c.self.inside.line c.self.inside.total
     (c.self.inside.before.break_count - (c.self.inside.line - 1)) c.line_breaks-breaks.result c.self.invariant (not_first g (goal.at.between-requires-clause-apart g c).Then-is_left) c.line_breaks-breaks.ensures refl
     c.pass_line_back-passed.ensures.front c.pass_line_back-passed.ensures.back c.pass_line_back-passed.ensures.counts c.minus-self-inside.result c.minus-self-inside.ensures.sum)
-    (before_up (content_of c.self.inside.part) c.self.inside.gap c.pass_line_back-passed.new.self c.self.inside.before c.pass_line_back-passed.result c.self.inside.line c.self.inside.total
+    (before_up (content_of c.self.inside.part) c.self.inside.caret c.pass_line_back-passed.new.self c.self.inside.before c.pass_line_back-passed.result c.self.inside.line c.self.inside.total
     (c.self.inside.before.break_count - (c.self.inside.line - 1)) c.line_breaks-breaks.result c.self.invariant (not_first g (goal.at.between-requires-clause-apart g c).Then-is_left) c.line_breaks-breaks.ensures refl
     c.pass_line_back-passed.ensures.front c.pass_line_back-passed.ensures.back c.pass_line_back-passed.ensures.counts)
 
 pub invariant_of-self : goal.invariant_of-self
 invariant_of-self g c =
-    prev_start (content_of c.self.inside.part) c.self.inside.gap c.pass_line_back-passed.new.self c.self.inside.before c.pass_line_back-passed.result c.self.inside.line c.self.inside.total
+    prev_start (content_of c.self.inside.part) c.self.inside.caret c.pass_line_back-passed.new.self c.self.inside.before c.pass_line_back-passed.result c.self.inside.line c.self.inside.total
     (c.self.inside.before.break_count - (c.self.inside.line - 1)) c.line_breaks-breaks.result c.self.invariant (not_first g (goal.at.invariant_of-self g c).Then-is_left) c.line_breaks-breaks.ensures refl
     c.pass_line_back-passed.ensures.front c.pass_line_back-passed.ensures.back c.pass_line_back-passed.ensures.counts c.minus-self-inside.result c.minus-self-inside.ensures.sum
 
@@ -79,70 +79,70 @@ pub returns-then-is_left : goal.returns-then-is_left
 returns-then-is_left g c =
     let s = c.self.inside in
     let step = left_of_line (content_of s.part) s.line s.is_backward (not_first g (goal.at.returns-then-is_left g c).Then-is_left) (omega (arith, c.self.invariant.within, c.self.invariant.total_is)) in
-    let item = c.between.ensures ∙ line_is (content_of c.self.inside.part) (c.self.inside.line - 1) (inside_back (content_of c.self.inside.part) c.self.inside.gap c.pass_line_back-passed.new.self c.self.inside.before c.pass_line_back-passed.result c.self.inside.line c.self.inside.total
+    let item = c.between.ensures ∙ line_is (content_of c.self.inside.part) (c.self.inside.line - 1) (inside_back (content_of c.self.inside.part) c.self.inside.caret c.pass_line_back-passed.new.self c.self.inside.before c.pass_line_back-passed.result c.self.inside.line c.self.inside.total
     (c.self.inside.before.break_count - (c.self.inside.line - 1)) c.line_breaks-breaks.result c.self.invariant (not_first g (goal.at.returns-then-is_left g c).Then-is_left) c.line_breaks-breaks.ensures refl
     c.pass_line_back-passed.ensures.front c.pass_line_back-passed.ensures.back c.pass_line_back-passed.ensures.counts) c.minus-self-inside.result c.self.inside.before
-    (start_is (content_of c.self.inside.part) c.self.inside.gap c.pass_line_back-passed.new.self c.self.inside.before c.pass_line_back-passed.result c.self.inside.line c.self.inside.total
+    (start_is (content_of c.self.inside.part) c.self.inside.caret c.pass_line_back-passed.new.self c.self.inside.before c.pass_line_back-passed.result c.self.inside.line c.self.inside.total
     (c.self.inside.before.break_count - (c.self.inside.line - 1)) c.line_breaks-breaks.result c.self.invariant (not_first g (goal.at.returns-then-is_left g c).Then-is_left) c.line_breaks-breaks.ensures refl
     c.pass_line_back-passed.ensures.front c.pass_line_back-passed.ensures.back c.pass_line_back-passed.ensures.counts c.minus-self-inside.result c.minus-self-inside.ensures.sum)
-    (before_up (content_of c.self.inside.part) c.self.inside.gap c.pass_line_back-passed.new.self c.self.inside.before c.pass_line_back-passed.result c.self.inside.line c.self.inside.total
+    (before_up (content_of c.self.inside.part) c.self.inside.caret c.pass_line_back-passed.new.self c.self.inside.before c.pass_line_back-passed.result c.self.inside.line c.self.inside.total
     (c.self.inside.before.break_count - (c.self.inside.line - 1)) c.line_breaks-breaks.result c.self.invariant (not_first g (goal.at.returns-then-is_left g c).Then-is_left) c.line_breaks-breaks.ensures refl
     c.pass_line_back-passed.ensures.front c.pass_line_back-passed.ensures.back c.pass_line_back-passed.ensures.counts) in
     rw (c.if-is_left.true, ← c.self.view_is, item) (step.0, step.1, refl)
 
 pub pass_line_back-passed-requires : goal.pass_line_back-passed-requires
-pass_line_back-passed-requires g c = start_apart (content_of c.self.inside.part) c.self.inside.gap c.self.inside.before c.self.inside.line c.self.inside.total c.self.invariant
+pass_line_back-passed-requires g c = start_apart (content_of c.self.inside.part) c.self.inside.caret c.self.inside.before c.self.inside.line c.self.inside.total c.self.invariant
 
 pub plus-self-inside-requires-clause-bytes : goal.plus-self-inside-requires-clause-bytes
 plus-self-inside-requires-clause-bytes g c =
-    let half = next_half (content_of c.self.inside.part) c.self.inside.gap c.pass_line-passed.new.self c.self.inside.before c.pass_line-passed.result c.self.inside.line c.self.inside.total c.line_breaks-breaks.result c.self.invariant
+    let half = next_half (content_of c.self.inside.part) c.self.inside.caret c.pass_line-passed.new.self c.self.inside.before c.pass_line-passed.result c.self.inside.line c.self.inside.total c.line_breaks-breaks.result c.self.invariant
     (not_last g (goal.at.plus-self-inside-requires-clause-bytes g c).Else-is_left) c.line_breaks-breaks.ensures c.pass_line-passed.ensures.front c.pass_line-passed.ensures.back c.pass_line-passed.ensures.counts in
     omega (arith, half.0.bytes, half.1.bytes)
 
 pub plus-self-inside-requires-clause-chars : goal.plus-self-inside-requires-clause-chars
 plus-self-inside-requires-clause-chars g c =
-    let half = next_half (content_of c.self.inside.part) c.self.inside.gap c.pass_line-passed.new.self c.self.inside.before c.pass_line-passed.result c.self.inside.line c.self.inside.total c.line_breaks-breaks.result c.self.invariant
+    let half = next_half (content_of c.self.inside.part) c.self.inside.caret c.pass_line-passed.new.self c.self.inside.before c.pass_line-passed.result c.self.inside.line c.self.inside.total c.line_breaks-breaks.result c.self.invariant
     (not_last g (goal.at.plus-self-inside-requires-clause-chars g c).Else-is_left) c.line_breaks-breaks.ensures c.pass_line-passed.ensures.front c.pass_line-passed.ensures.back c.pass_line-passed.ensures.counts in
     omega (arith, half.0.chars, half.1.chars)
 
 pub plus-self-inside-requires-clause-utf16_surrogates : goal.plus-self-inside-requires-clause-utf16_surrogates
 plus-self-inside-requires-clause-utf16_surrogates g c =
-    let half = next_half (content_of c.self.inside.part) c.self.inside.gap c.pass_line-passed.new.self c.self.inside.before c.pass_line-passed.result c.self.inside.line c.self.inside.total c.line_breaks-breaks.result c.self.invariant
+    let half = next_half (content_of c.self.inside.part) c.self.inside.caret c.pass_line-passed.new.self c.self.inside.before c.pass_line-passed.result c.self.inside.line c.self.inside.total c.line_breaks-breaks.result c.self.invariant
     (not_last g (goal.at.plus-self-inside-requires-clause-utf16_surrogates g c).Else-is_left) c.line_breaks-breaks.ensures c.pass_line-passed.ensures.front c.pass_line-passed.ensures.back c.pass_line-passed.ensures.counts in
     omega (arith, half.0.utf16_surrogates, half.1.utf16_surrogates)
 
 pub plus-self-inside-requires-clause-break_count : goal.plus-self-inside-requires-clause-break_count
 plus-self-inside-requires-clause-break_count g c =
-    let half = next_half (content_of c.self.inside.part) c.self.inside.gap c.pass_line-passed.new.self c.self.inside.before c.pass_line-passed.result c.self.inside.line c.self.inside.total c.line_breaks-breaks.result c.self.invariant
+    let half = next_half (content_of c.self.inside.part) c.self.inside.caret c.pass_line-passed.new.self c.self.inside.before c.pass_line-passed.result c.self.inside.line c.self.inside.total c.line_breaks-breaks.result c.self.invariant
     (not_last g (goal.at.plus-self-inside-requires-clause-break_count g c).Else-is_left) c.line_breaks-breaks.ensures c.pass_line-passed.ensures.front c.pass_line-passed.ensures.back c.pass_line-passed.ensures.counts in
     omega (arith, half.0.break_count, half.1.break_count)
 
 pub between-requires-2-clause-to_is : goal.between-requires-2-clause-to_is
 between-requires-2-clause-to_is g c =
-    line_to (content_of c.self.inside.part) c.self.inside.line (inside (content_of c.self.inside.part) c.self.inside.gap c.pass_line-passed.new.self c.self.inside.before c.pass_line-passed.result c.self.inside.line c.self.inside.total c.line_breaks-breaks.result c.self.invariant
+    line_to (content_of c.self.inside.part) c.self.inside.line (inside (content_of c.self.inside.part) c.self.inside.caret c.pass_line-passed.new.self c.self.inside.before c.pass_line-passed.result c.self.inside.line c.self.inside.total c.line_breaks-breaks.result c.self.invariant
     (not_last g (goal.at.between-requires-2-clause-to_is g c).Else-is_left) c.line_breaks-breaks.ensures c.pass_line-passed.ensures.front c.pass_line-passed.ensures.back c.pass_line-passed.ensures.counts) c.self.inside.before c.plus-self-inside.result c.self.invariant.before_is
-    (after_is (content_of c.self.inside.part) c.self.inside.gap c.pass_line-passed.new.self c.self.inside.before c.pass_line-passed.result c.self.inside.line c.self.inside.total c.line_breaks-breaks.result c.self.invariant
+    (after_is (content_of c.self.inside.part) c.self.inside.caret c.pass_line-passed.new.self c.self.inside.before c.pass_line-passed.result c.self.inside.line c.self.inside.total c.line_breaks-breaks.result c.self.invariant
     (not_last g (goal.at.between-requires-2-clause-to_is g c).Else-is_left) c.line_breaks-breaks.ensures c.pass_line-passed.ensures.front c.pass_line-passed.ensures.back c.pass_line-passed.ensures.counts c.plus-self-inside.result c.plus-self-inside.ensures.sum)
 
 pub between-requires-2-clause-apart : goal.between-requires-2-clause-apart
 between-requires-2-clause-apart g c =
-    line_apart (content_of c.self.inside.part) c.self.inside.line (inside (content_of c.self.inside.part) c.self.inside.gap c.pass_line-passed.new.self c.self.inside.before c.pass_line-passed.result c.self.inside.line c.self.inside.total c.line_breaks-breaks.result c.self.invariant
+    line_apart (content_of c.self.inside.part) c.self.inside.line (inside (content_of c.self.inside.part) c.self.inside.caret c.pass_line-passed.new.self c.self.inside.before c.pass_line-passed.result c.self.inside.line c.self.inside.total c.line_breaks-breaks.result c.self.invariant
     (not_last g (goal.at.between-requires-2-clause-apart g c).Else-is_left) c.line_breaks-breaks.ensures c.pass_line-passed.ensures.front c.pass_line-passed.ensures.back c.pass_line-passed.ensures.counts) c.self.inside.before c.plus-self-inside.result c.self.invariant.before_is
-    (after_is (content_of c.self.inside.part) c.self.inside.gap c.pass_line-passed.new.self c.self.inside.before c.pass_line-passed.result c.self.inside.line c.self.inside.total c.line_breaks-breaks.result c.self.invariant
+    (after_is (content_of c.self.inside.part) c.self.inside.caret c.pass_line-passed.new.self c.self.inside.before c.pass_line-passed.result c.self.inside.line c.self.inside.total c.line_breaks-breaks.result c.self.invariant
     (not_last g (goal.at.between-requires-2-clause-apart g c).Else-is_left) c.line_breaks-breaks.ensures c.pass_line-passed.ensures.front c.pass_line-passed.ensures.back c.pass_line-passed.ensures.counts c.plus-self-inside.result c.plus-self-inside.ensures.sum)
 
 pub invariant_of-self-2 : goal.invariant_of-self-2
 invariant_of-self-2 g c =
-    next_start (content_of c.self.inside.part) c.self.inside.gap c.pass_line-passed.new.self c.self.inside.before c.pass_line-passed.result c.self.inside.line c.self.inside.total c.line_breaks-breaks.result c.self.invariant
+    next_start (content_of c.self.inside.part) c.self.inside.caret c.pass_line-passed.new.self c.self.inside.before c.pass_line-passed.result c.self.inside.line c.self.inside.total c.line_breaks-breaks.result c.self.invariant
     (not_last g (goal.at.invariant_of-self-2 g c).Else-is_left) c.line_breaks-breaks.ensures c.pass_line-passed.ensures.front c.pass_line-passed.ensures.back c.pass_line-passed.ensures.counts c.plus-self-inside.result c.plus-self-inside.ensures.sum
 
 pub returns : goal.returns
 returns g c =
     let s = c.self.inside in
-    let step = right_of_line (content_of s.part) s.line s.is_backward (inside (content_of c.self.inside.part) c.self.inside.gap c.pass_line-passed.new.self c.self.inside.before c.pass_line-passed.result c.self.inside.line c.self.inside.total c.line_breaks-breaks.result c.self.invariant
+    let step = right_of_line (content_of s.part) s.line s.is_backward (inside (content_of c.self.inside.part) c.self.inside.caret c.pass_line-passed.new.self c.self.inside.before c.pass_line-passed.result c.self.inside.line c.self.inside.total c.line_breaks-breaks.result c.self.invariant
     (not_last g (goal.at.returns g c).Else-is_left) c.line_breaks-breaks.ensures c.pass_line-passed.ensures.front c.pass_line-passed.ensures.back c.pass_line-passed.ensures.counts) in
-    let item = c.between-2.ensures ∙ line_is (content_of c.self.inside.part) c.self.inside.line (inside (content_of c.self.inside.part) c.self.inside.gap c.pass_line-passed.new.self c.self.inside.before c.pass_line-passed.result c.self.inside.line c.self.inside.total c.line_breaks-breaks.result c.self.invariant
+    let item = c.between-2.ensures ∙ line_is (content_of c.self.inside.part) c.self.inside.line (inside (content_of c.self.inside.part) c.self.inside.caret c.pass_line-passed.new.self c.self.inside.before c.pass_line-passed.result c.self.inside.line c.self.inside.total c.line_breaks-breaks.result c.self.invariant
     (not_last g (goal.at.returns g c).Else-is_left) c.line_breaks-breaks.ensures c.pass_line-passed.ensures.front c.pass_line-passed.ensures.back c.pass_line-passed.ensures.counts) c.self.inside.before c.plus-self-inside.result c.self.invariant.before_is
-    (after_is (content_of c.self.inside.part) c.self.inside.gap c.pass_line-passed.new.self c.self.inside.before c.pass_line-passed.result c.self.inside.line c.self.inside.total c.line_breaks-breaks.result c.self.invariant
+    (after_is (content_of c.self.inside.part) c.self.inside.caret c.pass_line-passed.new.self c.self.inside.before c.pass_line-passed.result c.self.inside.line c.self.inside.total c.line_breaks-breaks.result c.self.invariant
     (not_last g (goal.at.returns g c).Else-is_left) c.line_breaks-breaks.ensures c.pass_line-passed.ensures.front c.pass_line-passed.ensures.back c.pass_line-passed.ensures.counts c.plus-self-inside.result c.plus-self-inside.ensures.sum) in
     rw (c.if-is_left.false, ← c.self.view_is, item) (step.0, step.1, refl)

@@ -13,34 +13,34 @@ use Rattle.rope_cursor.proofs.path.Span.holding.Goals.{After-min-place, After-te
 use Rattle.rope_cursor.proofs.path.Span.holding.Goals as goal
 
 pub count-requires : goal.count-requires
-count-requires c = small_end _ _ _ _ c.in-InTree.stretch.is_stretch c.place.ensures.tree.fits
+count-requires c = small_end _ _ _ _ c.in-InTree.excerpt.is_excerpt c.place.ensures.tree.fits
 
 pub overflow_sub-count : goal.overflow_sub-count
 overflow_sub-count c =
-    let s = c.in-InTree.stretch in
-    let some = some_in s.node.now s.start s.end s.is_stretch c.args.idx 0 c.args.unit c.requires.unit in
+    let s = c.in-InTree.excerpt in
+    let some = some_in s.node.now s.start s.end s.is_excerpt c.args.idx 0 c.args.unit c.requires.unit in
     omega (arith, some, c.count.ensures)
 
 -- the place in the tree
-place_is : (c : After-min-place) → let s = c.in-InTree.stretch in c.min-place.result ≡ min (count_of c.args.unit s.start + c.args.idx) (count_of c.args.unit s.end - 1)
+place_is : (c : After-min-place) → let s = c.in-InTree.excerpt in c.min-place.result ≡ min (count_of c.args.unit s.start + c.args.idx) (count_of c.args.unit s.end - 1)
 place_is c = rw (c.place.ensures.value, c.count.ensures) at c.min-place.ensures
 
 pub at-path-requires : goal.at-path-requires
 at-path-requires c =
-    let s = c.in-InTree.stretch in
-    place_in s.node.now s.start s.end s.is_stretch c.args.idx c.min-place.result c.args.unit c.requires.unit (place_is (goal.at.at-path-requires c).After-min-place)
+    let s = c.in-InTree.excerpt in
+    place_in s.node.now s.start s.end s.is_excerpt c.args.idx c.min-place.result c.args.unit c.requires.unit (place_is (goal.at.at-path-requires c).After-min-place)
 
 pub invariant_of-span : goal.invariant_of-span
 invariant_of-span c =
-    let s = c.in-InTree.stretch in
-    span_here s.node.now s.start s.end c.place.ensures.tree s.is_stretch c.args.idx c.min-place.result c.args.unit c.requires.unit (place_is (goal.at.invariant_of-span c).After-min-place)
+    let s = c.in-InTree.excerpt in
+    span_here s.node.now s.start s.end c.place.ensures.tree s.is_excerpt c.args.idx c.min-place.result c.args.unit c.requires.unit (place_is (goal.at.invariant_of-span c).After-min-place)
     c.at-path.result.0 c.at-path.result.1 c.at-path.ensures.leaves c.at-path.ensures.holds
 
 pub returns-in-InTree : goal.returns-in-InTree
 returns-in-InTree c =
-    let s = c.in-InTree.stretch in
+    let s = c.in-InTree.excerpt in
     rw (c.in-InTree.is, c.saturating_sub.ensures, c.saturating_sub-in-InTree.ensures, c.saturating_sub-in-InTree-2.ensures)
-    (holds_here s.node.now s.start s.end c.place.ensures.tree s.is_stretch c.args.idx c.min-place.result c.args.unit c.requires.unit (place_is (goal.at.returns-in-InTree c).After-min-place)
+    (holds_here s.node.now s.start s.end c.place.ensures.tree s.is_excerpt c.args.idx c.min-place.result c.args.unit c.requires.unit (place_is (goal.at.returns-in-InTree c).After-min-place)
     c.at-path.result.0 c.at-path.result.1 c.at-path.ensures.leaves c.at-path.ensures.holds (rw c.in-InTree.is at c.requires.within))
 
 -- of a plain text

@@ -5,13 +5,13 @@ use Rattle.rope_text.specs.TextInfo.{info_sum}
 use Rattle.rope_text.proofs.ClipLaws.{slice_range_empty, clip_empty}
 use Rattle.rope_text.specs.LineParts.{part_between}
 use Rattle.rope_tree.specs.Tree.{text}
-use Rattle.rope_part.specs.declared.stretch.Stretch.{Stretch}
-use Rattle.rope_part.specs.Edge.{IsStretch}
-use Rattle.rope_part.specs.Stretch as of_stretch
+use Rattle.rope_part.specs.declared.excerpt.Excerpt.{Excerpt}
+use Rattle.rope_part.specs.Edge.{IsExcerpt}
+use Rattle.rope_part.specs.Excerpt as of_excerpt
 use Rattle.rope_part.proofs.Measured.{measured}
-use Rattle.rope_part.proofs.Stretches.{length_part}
+use Rattle.rope_part.proofs.Excerpts.{length_part}
 use Rattle.rope_part.proofs.Clips.{part_of_part, clip_of_clip, single_chunk-clip}
-use Rattle.rope_part.proofs.PartsBetween.{between_sum, same_content, stretch_between, small_between, AreSmall}
+use Rattle.rope_part.proofs.PartsBetween.{between_sum, same_content, excerpt_between, small_between, AreSmall}
 use Rattle.rope_part.specs.Part.{content_of, text_of, chunks_of}
 use Rattle.std.specs.List.{slice_range}
 use Rattle.std.specs.Str.{chars}
@@ -19,24 +19,24 @@ use Rattle.rope_text.specs.TextInfo.{info_of}
 use Rattle.rope_text.proofs.LineSeams.{parts_crlf-take}
 use Rattle.rope_part.specs.Plain as of_plain
 use Rattle.rope_part.proofs.ChunkParts.{chars_of_part, boundary_of}
-use Rattle.rope_part.proofs.Stretches.{front_and_part}
+use Rattle.rope_part.proofs.Excerpts.{front_and_part}
 use Rattle.rope_part.proofs.part.Part.between.Goals.{After-height, In-Alone, After-range-text}
 use Rattle.rope_part.proofs.part.Part.between.Goals as goal
 
 kept : (c : After-height)
-    → IsStretch c.in-InTree.stretch.node.now.breaks (text c.in-InTree.stretch.node.now) (info_sum c.in-InTree.stretch.start c.args.from) (info_sum c.in-InTree.stretch.start c.args.to)
+    → IsExcerpt c.in-InTree.excerpt.node.now.breaks (text c.in-InTree.excerpt.node.now) (info_sum c.in-InTree.excerpt.start c.args.from) (info_sum c.in-InTree.excerpt.start c.args.to)
 kept c =
-    let s = c.in-InTree.stretch in
-    stretch_between s.node.now.breaks (text s.node.now) s.start s.end s.is_stretch c.args.from c.args.to (rw c.in-InTree.is at c.requires.from_is) (rw c.in-InTree.is at c.requires.to_is)
+    let s = c.in-InTree.excerpt in
+    excerpt_between s.node.now.breaks (text s.node.now) s.start s.end s.is_excerpt c.args.from c.args.to (rw c.in-InTree.is at c.requires.from_is) (rw c.in-InTree.is at c.requires.to_is)
     (omega (arith, c.requires.ordered, c.if-from-to.false)) (rw c.in-InTree.is at c.requires.within) (rw c.in-InTree.is at c.requires.apart)
 
-small : (c : After-height) → AreSmall (info_sum c.in-InTree.stretch.start c.args.from) × AreSmall (info_sum c.in-InTree.stretch.start c.args.to)
+small : (c : After-height) → AreSmall (info_sum c.in-InTree.excerpt.start c.args.from) × AreSmall (info_sum c.in-InTree.excerpt.start c.args.to)
 small c =
-    let s = c.in-InTree.stretch in
+    let s = c.in-InTree.excerpt in
     small_between s.node.now.breaks (text s.node.now) (info_sum s.start c.args.from) (info_sum s.start c.args.to) (kept c) c.height.ensures.tree.fits
 
-inside : (s : Stretch) (j : ℕ) → j ≤ length (of_stretch.text_of s) → j ≤ s.end.chars - s.start.chars
-inside s j l = let m = measured _ _ _ _ s.is_stretch in omega (arith, length_part (text s.node.now) s.start.chars s.end.chars m.within)
+inside : (s : Excerpt) (j : ℕ) → j ≤ length (of_excerpt.text_of s) → j ≤ s.end.chars - s.start.chars
+inside s j l = let m = measured _ _ _ _ s.is_excerpt in omega (arith, length_part (text s.node.now) s.start.chars s.end.chars m.within)
 
 pub plus-start-requires-clause-bytes : goal.plus-start-requires-clause-bytes
 plus-start-requires-clause-bytes c = (small (goal.at.plus-start-requires-clause-bytes c).After-height).0.bytes
@@ -63,11 +63,11 @@ pub plus-end-requires-clause-break_count : goal.plus-end-requires-clause-break_c
 plus-end-requires-clause-break_count c = (small (goal.at.plus-end-requires-clause-break_count c).After-height).1.break_count
 
 pub invariant_of-result : goal.invariant_of-result
-invariant_of-result c = record { is_stretch = rw (c.plus-start.ensures.sum, c.plus-end.ensures.sum) (kept (goal.at.invariant_of-result c).After-height) }
+invariant_of-result c = record { is_excerpt = rw (c.plus-start.ensures.sum, c.plus-end.ensures.sum) (kept (goal.at.invariant_of-result c).After-height) }
 
 pub returns-in-InTree : goal.returns-in-InTree
 returns-in-InTree c =
-    let s = c.in-InTree.stretch in
+    let s = c.in-InTree.excerpt in
     let i = c.args.from.chars in
     let j = c.args.to.chars in
     let within = inside s j (rw c.in-InTree.is at c.requires.within) in
@@ -75,7 +75,7 @@ returns-in-InTree c =
     let end = ap (λ x. x.chars) c.plus-end.ensures.sum in
     let t = part_of_part (text s.node.now) s.start.chars s.end.chars i j c.plus-start.result.chars c.plus-end.result.chars within start end in
     let chunks = clip_of_clip s.node.now.leaves s.start.chars s.end.chars i j c.plus-start.result.chars c.plus-end.result.chars within start end in
-    rw c.in-InTree.is (same_content _ (part_between (of_stretch.content_of s) i j) t chunks refl)
+    rw c.in-InTree.is (same_content _ (part_between (of_excerpt.content_of s) i j) t chunks refl)
 
 pub returns-then-from-to : goal.returns-then-from-to
 returns-then-from-to c =

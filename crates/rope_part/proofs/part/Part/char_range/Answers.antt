@@ -9,7 +9,7 @@ use Rattle.rope_text.proofs.TextParts.{chars_front, chars_back}
 use Rattle.rope_tree.specs.Tree.{text}
 use Rattle.rope_part.specs.Part.{text_of, chunks_of}
 use Rattle.rope_part.specs.Plain as plain
-use Rattle.rope_part.specs.Stretch as stretch
+use Rattle.rope_part.specs.Excerpt as excerpt
 use Rattle.rope_part.proofs.Clips.{part_of_part, clip_of_clip}
 use Rattle.rope_part.proofs.Measured.{measured}
 use Rattle.rope_part.proofs.part.Part.char_range.Goals.{After-end_of, After-range}
@@ -22,31 +22,31 @@ pub returns-then-start-end-clause-chunks : goal.returns-then-start-end-clause-ch
 returns-then-start-end-clause-chunks c = c.from_str_with.ensures.chunks ∙ ap single_chunk chars-nil ∙ sym (clip_empty (chunks_of c.args.self.now) c.args.start c.args.end (omega arith))
 
 -- of a tree's text
-within : (c : After-end_of) → c.args.end ≤ length (stretch.text_of c.in-InTree.stretch)
+within : (c : After-end_of) → c.args.end ≤ length (excerpt.text_of c.in-InTree.excerpt)
 within c = rw c.in-InTree.is at c.requires.within
 
-from : (c : After-end_of) → c.start_of.result.chars ≡ c.in-InTree.stretch.start.chars + c.args.start
+from : (c : After-end_of) → c.start_of.result.chars ≡ c.in-InTree.excerpt.start.chars + c.args.start
 from c = ap (λ x. x.chars) c.start_of.ensures
 
-to : (c : After-end_of) → c.end_of.result.chars ≡ c.in-InTree.stretch.start.chars + c.args.end
+to : (c : After-end_of) → c.end_of.result.chars ≡ c.in-InTree.excerpt.start.chars + c.args.end
 to c =
-    let s = c.in-InTree.stretch in
-    let m = measured _ _ _ _ s.is_stretch in
+    let s = c.in-InTree.excerpt in
+    let m = measured _ _ _ _ s.is_excerpt in
     ap (λ x. x.chars) c.end_of.ensures ∙ length-take-le (s.start.chars + c.args.end) (text s.node.now) (omega (arith, within c))
 
 pub returns-in-InTree-clause-text : goal.returns-in-InTree-clause-text
 returns-in-InTree-clause-text c =
     let e = (goal.at.returns-in-InTree-clause-text c).After-end_of in
-    let s = c.in-InTree.stretch in
-    let m = measured _ _ _ _ s.is_stretch in
+    let s = c.in-InTree.excerpt in
+    let m = measured _ _ _ _ s.is_excerpt in
     rw c.in-InTree.is
     (part_of_part (text s.node.now) s.start.chars s.end.chars c.args.start c.args.end c.start_of.result.chars c.end_of.result.chars (omega (arith, within e)) (from e) (to e))
 
 pub returns-in-InTree-clause-chunks : goal.returns-in-InTree-clause-chunks
 returns-in-InTree-clause-chunks c =
     let e = (goal.at.returns-in-InTree-clause-chunks c).After-end_of in
-    let s = c.in-InTree.stretch in
-    let m = measured _ _ _ _ s.is_stretch in
+    let s = c.in-InTree.excerpt in
+    let m = measured _ _ _ _ s.is_excerpt in
     rw c.in-InTree.is
     (clip_of_clip s.node.now.leaves s.start.chars s.end.chars c.args.start c.args.end c.start_of.result.chars c.end_of.result.chars (omega (arith, within e)) (from e) (to e))
 

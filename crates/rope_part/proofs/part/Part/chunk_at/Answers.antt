@@ -8,47 +8,47 @@ use Rattle.rope_part.proofs.ChunkParts.{chars_of_part, boundary_of}
 use Rattle.rope_part.proofs.LeafParts.{LeafIn, leaf_in}
 use Rattle.rope_part.proofs.Lookups.{found_single}
 use Rattle.rope_part.proofs.Places.{small_end}
-use Rattle.rope_part.proofs.Kept.{stretch_kept}
+use Rattle.rope_part.proofs.Kept.{excerpt_kept}
 use Rattle.rope_part.proofs.ChunksAt.{HoldsIt, some_in, place_in, holds_in, index_single}
 use Rattle.rope_part.proofs.part.Part.chunk_at.Goals.{After-min-place, After-as_str-leaf, After-saturating_sub-from, After-min-to}
 use Rattle.rope_part.proofs.part.Part.chunk_at.Goals as goal
 
 pub count-requires : goal.count-requires
-count-requires c = small_end _ _ _ _ c.in-InTree.stretch.is_stretch c.place.ensures.tree.fits
+count-requires c = small_end _ _ _ _ c.in-InTree.excerpt.is_excerpt c.place.ensures.tree.fits
 
 pub overflow_sub-count : goal.overflow_sub-count
 overflow_sub-count c =
-    let s = c.in-InTree.stretch in
-    let some = some_in s.node.now s.start s.end s.is_stretch c.args.idx c.args.unit (rw c.in-InTree.is at c.requires) in
+    let s = c.in-InTree.excerpt in
+    let some = some_in s.node.now s.start s.end s.is_excerpt c.args.idx c.args.unit (rw c.in-InTree.is at c.requires) in
     omega (arith, some, c.count.ensures)
 
 -- the place in the tree
-place_is : (c : After-min-place) → let s = c.in-InTree.stretch in c.min-place.result ≡ min (count_of c.args.unit s.start + c.args.idx) (count_of c.args.unit s.end - 1)
+place_is : (c : After-min-place) → let s = c.in-InTree.excerpt in c.min-place.result ≡ min (count_of c.args.unit s.start + c.args.idx) (count_of c.args.unit s.end - 1)
 place_is c = rw (c.place.ensures.value, c.count.ensures) at c.min-place.ensures
 
-holds : (c : After-as_str-leaf) → let s = c.in-InTree.stretch in HoldsIt c.args.unit s.node.now s.start s.end c.leaf_at-found.result.leaf c.leaf_at-found.result.before c.args.idx
+holds : (c : After-as_str-leaf) → let s = c.in-InTree.excerpt in HoldsIt c.args.unit s.node.now s.start s.end c.leaf_at-found.result.leaf c.leaf_at-found.result.before c.args.idx
 holds c =
-    let s = c.in-InTree.stretch in
-    holds_in s.node.now s.start s.end s.is_stretch c.args.idx c.min-place.result c.args.unit (rw c.in-InTree.is at c.requires) (rw (c.place.ensures.value, c.count.ensures) at c.min-place.ensures)
+    let s = c.in-InTree.excerpt in
+    holds_in s.node.now s.start s.end s.is_excerpt c.args.idx c.min-place.result c.args.unit (rw c.in-InTree.is at c.requires) (rw (c.place.ensures.value, c.count.ensures) at c.min-place.ensures)
     c.leaf_at-found.result.leaf c.leaf_at-found.result.before c.place.ensures.tree c.leaf_at-found.ensures.found
 
 pub leaf_at-found-requires-clause-within : goal.leaf_at-found-requires-clause-within
 leaf_at-found-requires-clause-within c =
-    let s = c.in-InTree.stretch in
-    place_in s.node.now s.start s.end s.is_stretch c.args.idx c.min-place.result c.args.unit (rw c.in-InTree.is at c.requires) (place_is (goal.at.leaf_at-found-requires-clause-within c).After-min-place)
+    let s = c.in-InTree.excerpt in
+    place_in s.node.now s.start s.end s.is_excerpt c.args.idx c.min-place.result c.args.unit (rw c.in-InTree.is at c.requires) (place_is (goal.at.leaf_at-found-requires-clause-within c).After-min-place)
 
-part : (c : After-as_str-leaf) → LeafIn c.in-InTree.stretch.node.now c.in-InTree.stretch.start c.in-InTree.stretch.end c.leaf_at-found.result.leaf c.leaf_at-found.result.before
+part : (c : After-as_str-leaf) → LeafIn c.in-InTree.excerpt.node.now c.in-InTree.excerpt.start c.in-InTree.excerpt.end c.leaf_at-found.result.leaf c.leaf_at-found.result.before
 part c =
-    let s = c.in-InTree.stretch in
+    let s = c.in-InTree.excerpt in
     let f = c.leaf_at-found.ensures.found in
     let h = holds c in
-    leaf_in s.node.now s.start s.end c.leaf_at-found.result.leaf c.leaf_at-found.result.before c.place.ensures.tree s.is_stretch f.index f.within f.leaf_is f.before_is h.starts h.ends
+    leaf_in s.node.now s.start s.end c.leaf_at-found.result.leaf c.leaf_at-found.result.before c.place.ensures.tree s.is_excerpt f.index f.within f.leaf_is f.before_is h.starts h.ends
 
 size : (c : After-as_str-leaf) → length c.as_str-leaf.result.now ≡ byte_len c.leaf_at-found.result.leaf
 size c = sym (byte_len-chars c.as_str-leaf.result.now c.as_str-leaf.utf8) ∙ ap byte_len c.as_str-leaf.ensures.chars
 
-pub overflow_sub-stretch : goal.overflow_sub-stretch
-overflow_sub-stretch c = (part (goal.at.overflow_sub-stretch c).After-as_str-leaf).in_order
+pub overflow_sub-excerpt : goal.overflow_sub-excerpt
+overflow_sub-excerpt c = (part (goal.at.overflow_sub-excerpt c).After-as_str-leaf).in_order
 
 pub range-requires-clause-start_le_end : goal.range-requires-clause-start_le_end
 range-requires-clause-start_le_end c =
@@ -61,32 +61,32 @@ range-requires-clause-start_le_end c =
       p.to_bytes,
       c.saturating_sub-from.ensures,
       c.min-to.ensures,
-      size_le byte_len IsMeasure-byte_len c.leaf_at-found.result.leaf (c.in-InTree.stretch.start.chars - c.leaf_at-found.result.before.chars) (c.in-InTree.stretch.end.chars - c.leaf_at-found.result.before.chars) (omega arith),
+      size_le byte_len IsMeasure-byte_len c.leaf_at-found.result.leaf (c.in-InTree.excerpt.start.chars - c.leaf_at-found.result.before.chars) (c.in-InTree.excerpt.end.chars - c.leaf_at-found.result.before.chars) (omega arith),
     )
 
 pub range-requires-clause-start_boundary : goal.range-requires-clause-start_boundary
 range-requires-clause-start_boundary c =
     let p = part (goal.at.range-requires-clause-start_boundary c).After-as_str-leaf in
-    λ _. boundary_of c.as_str-leaf.result.now c.leaf_at-found.result.leaf (c.in-InTree.stretch.start.chars - c.leaf_at-found.result.before.chars) c.saturating_sub-from.result c.as_str-leaf.utf8 c.as_str-leaf.ensures.chars
+    λ _. boundary_of c.as_str-leaf.result.now c.leaf_at-found.result.leaf (c.in-InTree.excerpt.start.chars - c.leaf_at-found.result.before.chars) c.saturating_sub-from.result c.as_str-leaf.utf8 c.as_str-leaf.ensures.chars
     (c.saturating_sub-from.ensures ∙ sym p.from_bytes)
 
 pub range-requires-clause-end_boundary : goal.range-requires-clause-end_boundary
 range-requires-clause-end_boundary c =
     let p = part (goal.at.range-requires-clause-end_boundary c).After-as_str-leaf in
     let long = size (goal.at.range-requires-clause-end_boundary c).After-as_str-leaf in
-    boundary_of c.as_str-leaf.result.now c.leaf_at-found.result.leaf (c.in-InTree.stretch.end.chars - c.leaf_at-found.result.before.chars) c.min-to.result c.as_str-leaf.utf8 c.as_str-leaf.ensures.chars
+    boundary_of c.as_str-leaf.result.now c.leaf_at-found.result.leaf (c.in-InTree.excerpt.end.chars - c.leaf_at-found.result.before.chars) c.min-to.result c.as_str-leaf.utf8 c.as_str-leaf.ensures.chars
     (omega (arith, c.min-to.ensures, p.to_bytes))
 
 pub returns-in-InTree : goal.returns-in-InTree
 returns-in-InTree c =
-    let s = c.in-InTree.stretch in
+    let s = c.in-InTree.excerpt in
     let h = holds (goal.at.returns-in-InTree c).After-as_str-leaf in
     let p = part (goal.at.returns-in-InTree c).After-as_str-leaf in
     let long = size (goal.at.returns-in-InTree c).After-as_str-leaf in
-    let i : ℕ = c.in-InTree.stretch.start.chars - c.leaf_at-found.result.before.chars in
-    let j : ℕ = c.in-InTree.stretch.end.chars - c.leaf_at-found.result.before.chars in
+    let i : ℕ = c.in-InTree.excerpt.start.chars - c.leaf_at-found.result.before.chars in
+    let j : ℕ = c.in-InTree.excerpt.end.chars - c.leaf_at-found.result.before.chars in
     let some = p.some in
-    rw c.in-InTree.is (rw (h.index_is (stretch_kept s.node.now s.start s.end c.place.ensures.tree s.is_stretch).cut.nonempty) (p.found _ _ _ _
+    rw c.in-InTree.is (rw (h.index_is (excerpt_kept s.node.now s.start s.end c.place.ensures.tree s.is_excerpt).cut.nonempty) (p.found _ _ _ _
     (chars_of_part c.as_str-leaf.result.now c.leaf_at-found.result.leaf c.range.result.now i j c.saturating_sub-from.result c.min-to.result c.as_str-leaf.utf8 c.as_str-leaf.ensures.chars (omega arith)
     (c.saturating_sub-from.ensures ∙ sym p.from_bytes) (omega (arith, c.min-to.ensures, p.to_bytes)) c.range.ensures.value)
     c.saturating_sub.ensures c.saturating_sub-in-InTree.ensures c.saturating_sub-in-InTree-2.ensures))

@@ -6,7 +6,7 @@ use Rattle.rope_tree.specs.Tree.{text}
 use Rattle.rope_tree.proofs.EmptyTrees.{no_leaves_of}
 use Rattle.rope_tree.proofs.LeafLaws.{nonempty_leaves}
 use Rattle.rope_part.proofs.Clips.{no_chars, whole_part, whole_clip}
-use Rattle.rope_part.proofs.Measured.{whole_stretch}
+use Rattle.rope_part.proofs.Measured.{whole_excerpt}
 use Rattle.rope_part.proofs.part.Part.of_node.Goals as goal
 
 pub returns-then-end-eq0-clause-text : goal.returns-then-end-eq0-clause-text
@@ -19,7 +19,7 @@ returns-then-end-eq0-clause-chunks c =
 
 pub invariant_of-result : goal.invariant_of-result
 invariant_of-result c = record {
-  is_stretch = whole_stretch c.args.node.now.breaks (text c.args.node.now) c.new-start.result c.info-end.result (omega (arith, ap (λ x. x.chars) c.info-end.ensures.value, c.if-end-eq0.false)) (c.new-start.ensures c.args.node.now.breaks) c.info-end.ensures.value;
+  is_excerpt = whole_excerpt c.args.node.now.breaks (text c.args.node.now) c.new-start.result c.info-end.result (omega (arith, ap (λ x. x.chars) c.info-end.ensures.value, c.if-end-eq0.false)) (c.new-start.ensures c.args.node.now.breaks) c.info-end.ensures.value;
 }
 
 pub returns-clause-text : goal.returns-clause-text

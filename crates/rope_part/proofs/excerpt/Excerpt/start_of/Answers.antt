@@ -11,8 +11,8 @@ use Rattle.rope_text.proofs.TextParts.{chars_front}
 use Rattle.rope_tree.proofs.Descents.{small_found}
 use Rattle.rope_tree.proofs.FoundLaws.{char_to_line-le, found_char}
 use Rattle.rope_part.proofs.Edges.{start_found}
-use Rattle.rope_part.proofs.stretch.Stretch.start_of.Goals.{After-char_to_line_with-lines, After-count_surrogates, then-chars-bytes, else-chars-bytes}
-use Rattle.rope_part.proofs.stretch.Stretch.start_of.Goals as goal
+use Rattle.rope_part.proofs.excerpt.Excerpt.start_of.Goals.{After-char_to_line_with-lines, After-count_surrogates, then-chars-bytes, else-chars-bytes}
+use Rattle.rope_part.proofs.excerpt.Excerpt.start_of.Goals as goal
 
 front : (bs part leaf : List ℕ) (k n : ℕ) → IsUtf8 bs → chars bs ≡ leaf → n ≡ byte_len (take k leaf) → part ≡ take (n - 0) bs → chars part ≡ take k leaf
 front bs part leaf k n u same place cut = chars_front bs part leaf k n u same (place ∙ ap (λ s. byte_len (take k s)) (sym same)) cut

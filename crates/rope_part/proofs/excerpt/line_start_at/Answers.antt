@@ -11,8 +11,8 @@ use Rattle.rope_text.proofs.LineSeams.{break_count-front}
 use Rattle.rope_tree.proofs.Infos.{small_info}
 use Rattle.rope_tree.proofs.Descents.{small_found}
 use Rattle.rope_part.proofs.Edges.{line_found, line_rest, line_within}
-use Rattle.rope_part.proofs.stretch.line_start_at.Goals.{After-before_line-front}
-use Rattle.rope_part.proofs.stretch.line_start_at.Goals as goal
+use Rattle.rope_part.proofs.excerpt.line_start_at.Goals.{After-before_line-front}
+use Rattle.rope_part.proofs.excerpt.line_start_at.Goals as goal
 
 front_is : (c : After-before_line-front) → c.before_line-front.result
     ≡ info_of c.args.node.now.breaks (take (line_start c.args.node.now.breaks c.leaf_at-found.result.leaf (c.args.line_idx - c.leaf_at-found.result.before.break_count)) c.leaf_at-found.result.leaf)

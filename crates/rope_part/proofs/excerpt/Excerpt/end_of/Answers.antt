@@ -8,8 +8,8 @@ use Rattle.rope_text.proofs.TextParts.{chars_front}
 use Rattle.rope_tree.proofs.Infos.{small_info}
 use Rattle.rope_tree.proofs.Descents.{small_found}
 use Rattle.rope_part.proofs.Edges.{seam_before, end_found}
-use Rattle.rope_part.proofs.stretch.Stretch.end_of.Goals.{After-from_str-front}
-use Rattle.rope_part.proofs.stretch.Stretch.end_of.Goals as goal
+use Rattle.rope_part.proofs.excerpt.Excerpt.end_of.Goals.{After-from_str-front}
+use Rattle.rope_part.proofs.excerpt.Excerpt.end_of.Goals as goal
 
 front_is : (c : After-from_str-front) → c.from_str-front.result ≡ info_of c.args.self.now.node.now.breaks (take (c.place-place.result - c.leaf_at-found.result.before.chars) c.leaf_at-found.result.leaf)
 front_is c =

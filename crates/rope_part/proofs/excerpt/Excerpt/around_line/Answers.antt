@@ -13,12 +13,12 @@ use Rattle.rope_tree.specs.Tree.{text}
 use Rattle.rope_tree.specs.Search.{IsSmall}
 use Rattle.rope_tree.proofs.Infos.{small_info}
 use Rattle.rope_tree.proofs.FoundLaws.{line_start_first}
-use Rattle.rope_part.specs.Stretch.{text_of, breaks_of}
+use Rattle.rope_part.specs.Excerpt.{text_of, breaks_of}
 use Rattle.rope_part.proofs.LeafLines.{line_in_leaf}
 use Rattle.rope_part.proofs.Measured.{measured}
-use Rattle.rope_part.proofs.StretchLines.{line_later, line_place_within, line_counts, own_line}
-use Rattle.rope_part.proofs.stretch.Stretch.around_line.Goals.{After-line_start_at, Else-line-eq0}
-use Rattle.rope_part.proofs.stretch.Stretch.around_line.Goals as goal
+use Rattle.rope_part.proofs.ExcerptLines.{line_later, line_place_within, line_counts, own_line}
+use Rattle.rope_part.proofs.excerpt.Excerpt.around_line.Goals.{After-line_start_at, Else-line-eq0}
+use Rattle.rope_part.proofs.excerpt.Excerpt.around_line.Goals as goal
 
 start_is : (c : After-line_start_at) → c.line_start_at.result.0 ≡ info_of c.args.self.now.node.now.breaks (take (line_start c.args.self.now.node.now.breaks (text c.args.self.now.node.now) (c.args.self.now.start.break_count + c.args.line_idx)) (text c.args.self.now.node.now))
 start_is c =
@@ -31,7 +31,7 @@ sum_is : (c : Else-line-eq0) → info_sum c.line_start_at.result.0 c.of_first_li
 sum_is c =
     let rest = chars c.line_start_at.result.1.now in
     let breaks = c.line_breaks.result in
-    let m = measured _ _ _ _ c.args.self.now.is_stretch in
+    let m = measured _ _ _ _ c.args.self.now.is_excerpt in
     let some : 0 < break_count breaks rest = omega (arith, ap (λ x. x.break_count) c.of_first_line-line.ensures, c.if-line-eq0.false, break_count-front breaks rest 1 (omega arith)) in
     line_in_leaf c.args.self.now.node.now c.place.result rest c.line_start_at.result.0 c.of_first_line-line.result breaks c.line_breaks.ensures (omega (arith, c.place.ensures.value))
     c.line_start_at.ensures.rest some c.line_start_at.ensures.before c.of_first_line-line.ensures
@@ -62,7 +62,7 @@ returns-then-line_idx-eq0-clause-end c =
     c.before_line.ensures ∙ sym (ap (λ l. info_of breaks (take (line_start breaks t (l + 1)) t)) c.if-line_idx-eq0.true)
 
 pub line_start_at-requires-clause-within : goal.line_start_at-requires-clause-within
-line_start_at-requires-clause-within c = let m = measured _ _ _ _ c.args.self.now.is_stretch in omega (arith, c.place.ensures.value)
+line_start_at-requires-clause-within c = let m = measured _ _ _ _ c.args.self.now.is_excerpt in omega (arith, c.place.ensures.value)
 
 pub plus-requires-clause-bytes : goal.plus-requires-clause-bytes
 plus-requires-clause-bytes c =
@@ -89,43 +89,43 @@ plus-requires-clause-break_count c =
     omega (arith, ap (λ x. x.break_count) (sum_is here))
 
 pub counts_to-before-requires-clause-later : goal.counts_to-before-requires-clause-later
-counts_to-before-requires-clause-later c = line_later _ _ _ _ _ c.args.self.now.is_stretch c.args.line_idx (omega arith) (start_is (goal.at.counts_to-before-requires-clause-later c).After-line_start_at)
+counts_to-before-requires-clause-later c = line_later _ _ _ _ _ c.args.self.now.is_excerpt c.args.line_idx (omega arith) (start_is (goal.at.counts_to-before-requires-clause-later c).After-line_start_at)
 
 pub counts_to-before-requires-clause-within : goal.counts_to-before-requires-clause-within
-counts_to-before-requires-clause-within c = line_place_within _ _ _ _ _ c.args.self.now.is_stretch c.args.line_idx (omega arith) (start_is (goal.at.counts_to-before-requires-clause-within c).After-line_start_at)
+counts_to-before-requires-clause-within c = line_place_within _ _ _ _ _ c.args.self.now.is_excerpt c.args.line_idx (omega arith) (start_is (goal.at.counts_to-before-requires-clause-within c).After-line_start_at)
 
 pub counts_to-before-requires-clause-counts : goal.counts_to-before-requires-clause-counts
-counts_to-before-requires-clause-counts c = line_counts _ _ _ _ _ c.args.self.now.is_stretch c.args.line_idx (omega arith) (start_is (goal.at.counts_to-before-requires-clause-counts c).After-line_start_at)
+counts_to-before-requires-clause-counts c = line_counts _ _ _ _ _ c.args.self.now.is_excerpt c.args.line_idx (omega arith) (start_is (goal.at.counts_to-before-requires-clause-counts c).After-line_start_at)
 
 pub overflow_add-line_idx : goal.overflow_add-line_idx
 overflow_add-line_idx c =
     let t = text c.args.self.now.node.now in
-    let m = measured _ _ _ _ c.args.self.now.is_stretch in
+    let m = measured _ _ _ _ c.args.self.now.is_excerpt in
     omega (arith, c.place.ensures.value, break_count-le-length c.args.self.now.node.now.breaks t, length-le-encodes t, c.place.ensures.tree.fits)
 
 pub counts_to-requires-clause-later : goal.counts_to-requires-clause-later
 counts_to-requires-clause-later c =
     let end = next_is (goal.at.counts_to-requires-clause-later c).Else-line-eq0 c.plus.result c.plus.ensures.sum in
-    line_later _ _ _ _ _ c.args.self.now.is_stretch (c.args.line_idx + 1) (omega arith) end
+    line_later _ _ _ _ _ c.args.self.now.is_excerpt (c.args.line_idx + 1) (omega arith) end
 
 pub counts_to-requires-clause-within : goal.counts_to-requires-clause-within
 counts_to-requires-clause-within c =
     let end = next_is (goal.at.counts_to-requires-clause-within c).Else-line-eq0 c.plus.result c.plus.ensures.sum in
-    line_place_within _ _ _ _ _ c.args.self.now.is_stretch (c.args.line_idx + 1) (omega arith) end
+    line_place_within _ _ _ _ _ c.args.self.now.is_excerpt (c.args.line_idx + 1) (omega arith) end
 
 pub counts_to-requires-clause-counts : goal.counts_to-requires-clause-counts
 counts_to-requires-clause-counts c =
     let end = next_is (goal.at.counts_to-requires-clause-counts c).Else-line-eq0 c.plus.result c.plus.ensures.sum in
-    line_counts _ _ _ _ _ c.args.self.now.is_stretch (c.args.line_idx + 1) (omega arith) end
+    line_counts _ _ _ _ _ c.args.self.now.is_excerpt (c.args.line_idx + 1) (omega arith) end
 
 pub returns-then-line-eq0-clause-start : goal.returns-then-line-eq0-clause-start
 returns-then-line-eq0-clause-start c =
-    c.counts_to-before.ensures ∙ own_line _ _ _ _ _ c.args.self.now.is_stretch c.args.line_idx (omega arith) (start_is (goal.at.returns-then-line-eq0-clause-start c).After-line_start_at)
+    c.counts_to-before.ensures ∙ own_line _ _ _ _ _ c.args.self.now.is_excerpt c.args.line_idx (omega arith) (start_is (goal.at.returns-then-line-eq0-clause-start c).After-line_start_at)
 
 pub returns-clause-start : goal.returns-clause-start
-returns-clause-start c = c.counts_to-before.ensures ∙ own_line _ _ _ _ _ c.args.self.now.is_stretch c.args.line_idx (omega arith) (start_is (goal.at.returns-clause-start c).After-line_start_at)
+returns-clause-start c = c.counts_to-before.ensures ∙ own_line _ _ _ _ _ c.args.self.now.is_excerpt c.args.line_idx (omega arith) (start_is (goal.at.returns-clause-start c).After-line_start_at)
 
 pub returns-clause-end : goal.returns-clause-end
 returns-clause-end c =
     let end = next_is (goal.at.returns-clause-end c).Else-line-eq0 c.plus.result c.plus.ensures.sum in
-    c.counts_to.ensures ∙ own_line _ _ _ _ _ c.args.self.now.is_stretch (c.args.line_idx + 1) (omega arith) end
+    c.counts_to.ensures ∙ own_line _ _ _ _ _ c.args.self.now.is_excerpt (c.args.line_idx + 1) (omega arith) end

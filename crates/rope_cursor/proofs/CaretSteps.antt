@@ -20,8 +20,8 @@ use Rattle.rope_text.proofs.LineLaws.{line_start-le-length}
 use Rattle.rope_text.proofs.LineSeams.{parts_crlf-take, first_line-left, first_line-right, first_line-all, no_break_at_all}
 use Rattle.rope_part.specs.Kept.{IsPart}
 use Rattle.rope_cursor.specs.Path.{Place, leaves}
-use Rattle.rope_cursor.specs.Gap.{halves_at, IsGap, PassesLine}
-use Rattle.rope_cursor.proofs.Gaps.{some_break, here_apart, whole_text, size_two, size_front, front_place, half_of, AreHalf}
+use Rattle.rope_cursor.specs.Caret.{halves_at, IsCaret, PassesLine}
+use Rattle.rope_cursor.proofs.Carets.{some_break, here_apart, whole_text, size_two, size_front, front_place, half_of, AreHalf}
 
 -- chunks of no text
 nothing_kept : (chunks : List (List ℕ)) → concat chunks ≡ [] → KeepsCrlf chunks
@@ -46,8 +46,8 @@ module _ (c : Content) (p : Place) (at i b : ℕ) (kept : IsPart c) (text_is : c
   parts : c.text ≡ concat p.before ++ (p.here ++ concat p.after)
   parts = sym text_is ∙ concat-append p.before (p.here ∷ p.after)
 
-  pub gap_at : IsGap p b
-  gap_at = record {
+  pub caret_at : IsCaret p b
+  caret_at = record {
     between = ap (λ j. byte_len (take j p.here)) char_is ∙ sym bytes;
     chunks = record {
       kept = elim (cases_lt 0 (length c.text)) [
@@ -69,7 +69,7 @@ module _ (c : Content) (p : Place) (at i b : ℕ) (kept : IsPart c) (text_is : c
       ∙ sym (drop-append-add (concat p.before) (p.here ++ concat p.after) at) ∙ ap (λ n. drop n (concat p.before ++ (p.here ++ concat p.after))) place ∙ ap (drop i) (sym parts)
 
 -- a line's step from a place
-module _ (breaks : LineBreaks) (p : Place) (b : ℕ) (g : IsGap p b) (info : TextInfo) (e : info ≡ info_of breaks (first_line breaks (drop (byte_to_char p.here b) p.here))) where
+module _ (breaks : LineBreaks) (p : Place) (b : ℕ) (g : IsCaret p b) (info : TextInfo) (e : info ≡ info_of breaks (first_line breaks (drop (byte_to_char p.here b) p.here))) where
   rest_apart : parts_crlf (drop (byte_to_char p.here b) p.here) (concat p.after) ≡ false
   rest_apart =
       let j : ℕ = byte_to_char p.here b in
@@ -112,7 +112,7 @@ module _ (breaks : LineBreaks) (p : Place) (b : ℕ) (g : IsGap p b) (info : Tex
       let place : byte_to_char p.here (b + info.bytes) ≡ j + k = ap (byte_to_char p.here) bytes ∙ front_place p.here (j + k) within in
       let line : first_line breaks (back ++ r) ≡ take k back = first_line-left breaks back r rest_apart (some_break breaks back info e some) in
       record {
-        gap = record {
+        caret = record {
           between = ap (λ m. byte_len (take m p.here)) place ∙ sym bytes;
           chunks = g.chunks;
         };
@@ -138,7 +138,7 @@ module _ (breaks : LineBreaks) (p : Place) (b : ℕ) (g : IsGap p b) (info : Tex
         let line : first_line breaks (back ++ r) ≡ back ++ first_line breaks r = first_line-right breaks back r rest_apart none in
         let apart = parts_crlf-take back r (line_start breaks r 1) rest_apart in
         record {
-          gap = h.gap;
+          caret = h.caret;
           front_is = h.front_is ∙ ap (λ t. t ++ first_line breaks r) (ap (λ t. before ++ t) (sym (take-append-drop j p.here)) ∙ sym (append_assoc before (take j p.here) back))
               ∙ append_assoc (before ++ take j p.here) back (first_line breaks r) ∙ ap (λ t. (before ++ take j p.here) ++ t) (sym line);
           back_is = ap (λ t. back ++ t) h.back_is ∙ sym (append_assoc back (first_line breaks r) (halves_at q d).back) ∙ ap (λ t. t ++ (halves_at q d).back) (sym line);

@@ -26,7 +26,7 @@ use Rattle.rope_text.proofs.LineLaws.{line_start-le-length}
 use Rattle.rope_text.proofs.LineSeams.{parts_crlf-take, first_line-left, first_line-right, first_line-all, no_break_at_all, break_count-apart}
 use Rattle.rope_text.proofs.InfoLaws.{break_count-le-length}
 use Rattle.rope_cursor.specs.Path.{Place, IsNext, leaves}
-use Rattle.rope_cursor.specs.Gap.{after_byte, IsBetween, AreChunks, PassesLine, PassedTexts, PassedChunks}
+use Rattle.rope_cursor.specs.Caret.{after_byte, IsBetween, AreChunks, PassesLine, PassedTexts, PassedChunks}
 use Rattle.rope_cursor.proofs.Spans.{leaves_next}
 
 -- no CR meets LF behind joined texts, or before part of a text
@@ -157,7 +157,7 @@ module _ (breaks : LineBreaks) (old : Place) where
         ∙ first_line-right breaks text (q.here ++ concat q.after) joined_apart h.none
         ∙ ap (λ t. text ++ t) (first_line-left breaks q.here (concat q.after) (here_apart q next_chunks) count) in
         record {
-          gap = record {
+          caret = record {
             between = ap (λ j. byte_len (take j q.here)) place ∙ sym (ap (λ x. x.bytes) e);
             chunks = next_chunks;
           };
@@ -192,7 +192,7 @@ module _ (breaks : LineBreaks) (old : Place) where
       let rest : drop (byte_to_char p.here bytes) p.here ++ concat p.after ≡ [] =
       ap (λ j. drop j p.here ++ concat p.after) place ∙ ap (λ t. t ++ concat p.after) (drop_all (length p.here) p.here (omega arith)) ∙ none in
       record {
-        gap = record {
+        caret = record {
           between = ap (λ j. byte_len (take j p.here)) place ∙ sym size;
           chunks = h.chunks;
         };

@@ -6,7 +6,7 @@ ghost use Rattle.rope_text.specs.TextInfo.{info_of};
 ghost use Rattle.rope_text.specs.Lines.{line_start, line_count};
 ghost use Rattle.rope_tree.specs.Search.{count_of};
 ghost use Rattle.rope_tree.specs.Tree.{IsTree, text};
-ghost use Rattle.rope_part.specs.Edge.{start_info, end_info, line_info, IsLeafFrom, IsStretch, IsStretch-prop};
+ghost use Rattle.rope_part.specs.Edge.{start_info, end_info, line_info, IsLeafFrom, IsExcerpt, IsExcerpt-prop};
 
 use rope_text::str_utils::count_surrogates;
 use rope_text::{Steps, TextInfo};
@@ -35,16 +35,16 @@ fn line_start_at(node: &Node, line_idx: usize) -> (TextInfo, &str)
 /// The breaks before the start are those that end there or before it; those before the end are the breaks of the text up to
 /// there by itself. So a CR LF that is cut at an end gives a break to each side.
 #[derive(Clone, Copy)]
-pub struct Stretch<'a> {
+pub struct Excerpt<'a> {
     pub node: &'a Node,
     pub start: TextInfo,
     pub end: TextInfo,
-    ghost is_stretch: { IsStretch node.now.breaks (text node.now) start end } by { IsStretch-prop },
+    ghost is_excerpt: { IsExcerpt node.now.breaks (text node.now) start end } by { IsExcerpt-prop },
 }
 
-impl<'a> Stretch<'a> {
+impl<'a> Excerpt<'a> {
     ghost use Rattle.rope_part.specs.Kept.{IsPart};
-    ghost use Rattle.rope_part.specs.Stretch.{content_of, text_of, breaks_of};
+    ghost use Rattle.rope_part.specs.Excerpt.{content_of, text_of, breaks_of};
 
     /// A place in its text as a place in the tree's. For lines it may be the one past the last.
     pub fn place(&self, unit: Unit, idx: usize) -> usize

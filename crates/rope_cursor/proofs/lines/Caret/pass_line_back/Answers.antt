@@ -6,8 +6,8 @@ use Rattle.rope_text.specs.Text.{byte_len}
 use Rattle.rope_text.specs.TextInfo.{info_of}
 use Rattle.rope_text.specs.Conversions.{byte_to_char}
 use Rattle.rope_text.specs.LineParts.{last_start}
-use Rattle.rope_cursor.proofs.GapsBack.{gap_apart, gap_found, gap_left, gap_half, other_half, gap_composed}
-use Rattle.rope_cursor.proofs.lines.Gap.pass_line_back.Goals as goal
+use Rattle.rope_cursor.proofs.CaretsBack.{caret_apart, caret_found, caret_left, caret_half, other_half, caret_composed}
+use Rattle.rope_cursor.proofs.lines.Caret.pass_line_back.Goals as goal
 
 start_is : (breaks : LineBreaks) (skip : ℕ) (here chunk : List ℕ) (b start : ℕ) → chunk ≡ here → start ≡ byte_len (take (last_start breaks (take (byte_to_char chunk b) chunk) skip) (take (byte_to_char chunk b) chunk))
     → start ≡ byte_len (take (last_start breaks (take (byte_to_char here b) here) skip) (take (byte_to_char here b) here))
@@ -21,46 +21,46 @@ pub count_last-start-requires-clause-between : goal.count_last-start-requires-cl
 count_last-start-requires-clause-between c = rw c.chunk.ensures c.self.invariant.between
 
 pub count_last-start-requires-clause-apart : goal.count_last-start-requires-clause-apart
-count_last-start-requires-clause-apart c = rw c.chunk.ensures (gap_apart c.self.inside.span c.self.inside.inside (rw (← c.self.view_is) at c.requires))
+count_last-start-requires-clause-apart c = rw c.chunk.ensures (caret_apart c.self.inside.span c.self.inside.inside (rw (← c.self.view_is) at c.requires))
 
 pub invariant_of-self : goal.invariant_of-self
 invariant_of-self c =
-    (gap_found c.args.breaks c.args.skip c.self.inside.span c.self.inside.inside c.count_last-start.result.0 c.count_last-start.result.1 c.self.invariant
+    (caret_found c.args.breaks c.args.skip c.self.inside.span c.self.inside.inside c.count_last-start.result.0 c.count_last-start.result.1 c.self.invariant
     (start_is c.args.breaks c.args.skip c.self.inside.span.here (chars c.chunk.result.now) c.self.inside.inside c.count_last-start.result.0 c.chunk.ensures c.count_last-start.ensures.start)
     (counts_are c.args.breaks c.args.skip c.self.inside.span.here (chars c.chunk.result.now) c.self.inside.inside c.count_last-start.result.1 c.chunk.ensures c.count_last-start.ensures.counts)
-    c.if-start-gt0.true).gap
+    c.if-start-gt0.true).caret
 
 pub returns-then-start-gt0-clause-front : goal.returns-then-start-gt0-clause-front
 returns-then-start-gt0-clause-front c =
-    rw (← c.self.view_is) (gap_found c.args.breaks c.args.skip c.self.inside.span c.self.inside.inside c.count_last-start.result.0 c.count_last-start.result.1 c.self.invariant
+    rw (← c.self.view_is) (caret_found c.args.breaks c.args.skip c.self.inside.span c.self.inside.inside c.count_last-start.result.0 c.count_last-start.result.1 c.self.invariant
     (start_is c.args.breaks c.args.skip c.self.inside.span.here (chars c.chunk.result.now) c.self.inside.inside c.count_last-start.result.0 c.chunk.ensures c.count_last-start.ensures.start)
     (counts_are c.args.breaks c.args.skip c.self.inside.span.here (chars c.chunk.result.now) c.self.inside.inside c.count_last-start.result.1 c.chunk.ensures c.count_last-start.ensures.counts)
     c.if-start-gt0.true).front_is
 
 pub returns-then-start-gt0-clause-back : goal.returns-then-start-gt0-clause-back
 returns-then-start-gt0-clause-back c =
-    rw (← c.self.view_is) (gap_found c.args.breaks c.args.skip c.self.inside.span c.self.inside.inside c.count_last-start.result.0 c.count_last-start.result.1 c.self.invariant
+    rw (← c.self.view_is) (caret_found c.args.breaks c.args.skip c.self.inside.span c.self.inside.inside c.count_last-start.result.0 c.count_last-start.result.1 c.self.invariant
     (start_is c.args.breaks c.args.skip c.self.inside.span.here (chars c.chunk.result.now) c.self.inside.inside c.count_last-start.result.0 c.chunk.ensures c.count_last-start.ensures.start)
     (counts_are c.args.breaks c.args.skip c.self.inside.span.here (chars c.chunk.result.now) c.self.inside.inside c.count_last-start.result.1 c.chunk.ensures c.count_last-start.ensures.counts)
     c.if-start-gt0.true).back_is
 
 pub returns-then-start-gt0-clause-counts : goal.returns-then-start-gt0-clause-counts
 returns-then-start-gt0-clause-counts c =
-    rw (← c.self.view_is) (gap_found c.args.breaks c.args.skip c.self.inside.span c.self.inside.inside c.count_last-start.result.0 c.count_last-start.result.1 c.self.invariant
+    rw (← c.self.view_is) (caret_found c.args.breaks c.args.skip c.self.inside.span c.self.inside.inside c.count_last-start.result.0 c.count_last-start.result.1 c.self.invariant
     (start_is c.args.breaks c.args.skip c.self.inside.span.here (chars c.chunk.result.now) c.self.inside.inside c.count_last-start.result.0 c.chunk.ensures c.count_last-start.ensures.start)
     (counts_are c.args.breaks c.args.skip c.self.inside.span.here (chars c.chunk.result.now) c.self.inside.inside c.count_last-start.result.1 c.chunk.ensures c.count_last-start.ensures.counts)
     c.if-start-gt0.true).counts
 
 pub overflow_sub-skip : goal.overflow_sub-skip
 overflow_sub-skip c =
-    gap_left c.args.breaks c.args.skip c.self.inside.span c.self.inside.inside c.count_last-start.result.0 c.count_last-start.result.1 c.self.invariant
+    caret_left c.args.breaks c.args.skip c.self.inside.span c.self.inside.inside c.count_last-start.result.0 c.count_last-start.result.1 c.self.invariant
     (start_is c.args.breaks c.args.skip c.self.inside.span.here (chars c.chunk.result.now) c.self.inside.inside c.count_last-start.result.0 c.chunk.ensures c.count_last-start.ensures.start)
     (counts_are c.args.breaks c.args.skip c.self.inside.span.here (chars c.chunk.result.now) c.self.inside.inside c.count_last-start.result.1 c.chunk.ensures c.count_last-start.ensures.counts)
     c.if-start-gt0.false
 
 pub plus-requires-clause-bytes : goal.plus-requires-clause-bytes
 plus-requires-clause-bytes c =
-    let one = gap_half c.args.breaks c.args.skip c.self.inside.span c.self.inside.inside c.count_last-start.result.0 c.count_last-start.result.1 c.self.invariant
+    let one = caret_half c.args.breaks c.args.skip c.self.inside.span c.self.inside.inside c.count_last-start.result.0 c.count_last-start.result.1 c.self.invariant
     (start_is c.args.breaks c.args.skip c.self.inside.span.here (chars c.chunk.result.now) c.self.inside.inside c.count_last-start.result.0 c.chunk.ensures c.count_last-start.ensures.start)
     (counts_are c.args.breaks c.args.skip c.self.inside.span.here (chars c.chunk.result.now) c.self.inside.inside c.count_last-start.result.1 c.chunk.ensures c.count_last-start.ensures.counts) in
     let two = other_half c.args.breaks c.args.skip c.self.inside.span c.self.inside.inside c.count_last-start.result.0 c.count_last-start.result.1 c.self.invariant
@@ -71,7 +71,7 @@ plus-requires-clause-bytes c =
 
 pub plus-requires-clause-chars : goal.plus-requires-clause-chars
 plus-requires-clause-chars c =
-    let one = gap_half c.args.breaks c.args.skip c.self.inside.span c.self.inside.inside c.count_last-start.result.0 c.count_last-start.result.1 c.self.invariant
+    let one = caret_half c.args.breaks c.args.skip c.self.inside.span c.self.inside.inside c.count_last-start.result.0 c.count_last-start.result.1 c.self.invariant
     (start_is c.args.breaks c.args.skip c.self.inside.span.here (chars c.chunk.result.now) c.self.inside.inside c.count_last-start.result.0 c.chunk.ensures c.count_last-start.ensures.start)
     (counts_are c.args.breaks c.args.skip c.self.inside.span.here (chars c.chunk.result.now) c.self.inside.inside c.count_last-start.result.1 c.chunk.ensures c.count_last-start.ensures.counts) in
     let two = other_half c.args.breaks c.args.skip c.self.inside.span c.self.inside.inside c.count_last-start.result.0 c.count_last-start.result.1 c.self.invariant
@@ -82,7 +82,7 @@ plus-requires-clause-chars c =
 
 pub plus-requires-clause-utf16_surrogates : goal.plus-requires-clause-utf16_surrogates
 plus-requires-clause-utf16_surrogates c =
-    let one = gap_half c.args.breaks c.args.skip c.self.inside.span c.self.inside.inside c.count_last-start.result.0 c.count_last-start.result.1 c.self.invariant
+    let one = caret_half c.args.breaks c.args.skip c.self.inside.span c.self.inside.inside c.count_last-start.result.0 c.count_last-start.result.1 c.self.invariant
     (start_is c.args.breaks c.args.skip c.self.inside.span.here (chars c.chunk.result.now) c.self.inside.inside c.count_last-start.result.0 c.chunk.ensures c.count_last-start.ensures.start)
     (counts_are c.args.breaks c.args.skip c.self.inside.span.here (chars c.chunk.result.now) c.self.inside.inside c.count_last-start.result.1 c.chunk.ensures c.count_last-start.ensures.counts) in
     let two = other_half c.args.breaks c.args.skip c.self.inside.span c.self.inside.inside c.count_last-start.result.0 c.count_last-start.result.1 c.self.invariant
@@ -93,7 +93,7 @@ plus-requires-clause-utf16_surrogates c =
 
 pub plus-requires-clause-break_count : goal.plus-requires-clause-break_count
 plus-requires-clause-break_count c =
-    let one = gap_half c.args.breaks c.args.skip c.self.inside.span c.self.inside.inside c.count_last-start.result.0 c.count_last-start.result.1 c.self.invariant
+    let one = caret_half c.args.breaks c.args.skip c.self.inside.span c.self.inside.inside c.count_last-start.result.0 c.count_last-start.result.1 c.self.invariant
     (start_is c.args.breaks c.args.skip c.self.inside.span.here (chars c.chunk.result.now) c.self.inside.inside c.count_last-start.result.0 c.chunk.ensures c.count_last-start.ensures.start)
     (counts_are c.args.breaks c.args.skip c.self.inside.span.here (chars c.chunk.result.now) c.self.inside.inside c.count_last-start.result.1 c.chunk.ensures c.count_last-start.ensures.counts) in
     let two = other_half c.args.breaks c.args.skip c.self.inside.span c.self.inside.inside c.count_last-start.result.0 c.count_last-start.result.1 c.self.invariant
@@ -104,21 +104,21 @@ plus-requires-clause-break_count c =
 
 pub returns-clause-front : goal.returns-clause-front
 returns-clause-front c =
-    rw (← c.self.view_is) (gap_composed c.args.breaks c.args.skip c.self.inside.span c.self.inside.inside c.count_last-start.result.0 c.count_last-start.result.1 c.self.invariant
+    rw (← c.self.view_is) (caret_composed c.args.breaks c.args.skip c.self.inside.span c.self.inside.inside c.count_last-start.result.0 c.count_last-start.result.1 c.self.invariant
     (start_is c.args.breaks c.args.skip c.self.inside.span.here (chars c.chunk.result.now) c.self.inside.inside c.count_last-start.result.0 c.chunk.ensures c.count_last-start.ensures.start)
     (counts_are c.args.breaks c.args.skip c.self.inside.span.here (chars c.chunk.result.now) c.self.inside.inside c.count_last-start.result.1 c.chunk.ensures c.count_last-start.ensures.counts)
     c.pass_chunks_back-inside.new.span c.pass_chunks_back-inside.result.0 c.pass_chunks_back-inside.result.1 c.if-start-gt0.false c.pass_chunks_back-inside.ensures c.plus.result c.plus.ensures.sum).front_is
 
 pub returns-clause-back : goal.returns-clause-back
 returns-clause-back c =
-    rw (← c.self.view_is) (gap_composed c.args.breaks c.args.skip c.self.inside.span c.self.inside.inside c.count_last-start.result.0 c.count_last-start.result.1 c.self.invariant
+    rw (← c.self.view_is) (caret_composed c.args.breaks c.args.skip c.self.inside.span c.self.inside.inside c.count_last-start.result.0 c.count_last-start.result.1 c.self.invariant
     (start_is c.args.breaks c.args.skip c.self.inside.span.here (chars c.chunk.result.now) c.self.inside.inside c.count_last-start.result.0 c.chunk.ensures c.count_last-start.ensures.start)
     (counts_are c.args.breaks c.args.skip c.self.inside.span.here (chars c.chunk.result.now) c.self.inside.inside c.count_last-start.result.1 c.chunk.ensures c.count_last-start.ensures.counts)
     c.pass_chunks_back-inside.new.span c.pass_chunks_back-inside.result.0 c.pass_chunks_back-inside.result.1 c.if-start-gt0.false c.pass_chunks_back-inside.ensures c.plus.result c.plus.ensures.sum).back_is
 
 pub returns-clause-counts : goal.returns-clause-counts
 returns-clause-counts c =
-    rw (← c.self.view_is) (gap_composed c.args.breaks c.args.skip c.self.inside.span c.self.inside.inside c.count_last-start.result.0 c.count_last-start.result.1 c.self.invariant
+    rw (← c.self.view_is) (caret_composed c.args.breaks c.args.skip c.self.inside.span c.self.inside.inside c.count_last-start.result.0 c.count_last-start.result.1 c.self.invariant
     (start_is c.args.breaks c.args.skip c.self.inside.span.here (chars c.chunk.result.now) c.self.inside.inside c.count_last-start.result.0 c.chunk.ensures c.count_last-start.ensures.start)
     (counts_are c.args.breaks c.args.skip c.self.inside.span.here (chars c.chunk.result.now) c.self.inside.inside c.count_last-start.result.1 c.chunk.ensures c.count_last-start.ensures.counts)
     c.pass_chunks_back-inside.new.span c.pass_chunks_back-inside.result.0 c.pass_chunks_back-inside.result.1 c.if-start-gt0.false c.pass_chunks_back-inside.ensures c.plus.result c.plus.ensures.sum).counts

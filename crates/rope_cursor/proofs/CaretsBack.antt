@@ -24,10 +24,10 @@ use Rattle.rope_text.proofs.LineSeams.{never, break_count-apart, last_start-left
 use Rattle.rope_text.proofs.InfoLaws.{same_info}
 use Rattle.rope_cursor.specs.Path.{Place, IsNext}
 use Rattle.rope_part.proofs.PartsBetween.{char_at_byte}
-use Rattle.rope_cursor.specs.Gap.{before_byte, after_byte, halves_at, AreChunks, IsGap, PassesBack, PassedBack, PassedBackTo}
+use Rattle.rope_cursor.specs.Caret.{before_byte, after_byte, halves_at, AreChunks, IsCaret, PassesBack, PassedBack, PassedBackTo}
 use Rattle.rope_cursor.proofs.Spans.{leaves_next}
-use Rattle.rope_cursor.proofs.Gaps.{apart_joined, apart_front, here_apart, front_place, half_of, AreHalf, size_two, whole_text}
-use Rattle.rope_cursor.proofs.GapSteps.{apart_back}
+use Rattle.rope_cursor.proofs.Carets.{apart_joined, apart_front, here_apart, front_place, half_of, AreHalf, size_two, whole_text}
+use Rattle.rope_cursor.proofs.CaretSteps.{apart_back}
 
 -- the place behind the last byte is behind the last character
 end_at : (text : List ℕ) (size : ℕ) → size ≡ byte_len text → byte_to_char text size ≡ length text
@@ -119,7 +119,7 @@ module _ (breaks : LineBreaks) (skip left : ℕ) (front back x y q : List ℕ) (
       let last : drop (last_start breaks front skip) front ≡ drop k x ++ q =
       ap (λ n. drop n front) line ∙ ap (drop (length before + k)) whole_is ∙ drop-append-add before (x ++ q) k ∙ drop-append-le k x q within in
       record {
-        gap = record {
+        caret = record {
           between = ap (λ m. byte_len (take m p.here)) place ∙ sym bytes;
           chunks = chunks;
         };
@@ -182,7 +182,7 @@ compose_back breaks skip left front back q p new b info more sum h r s =
     let last : drop (last_start breaks front skip) front ≡ drop k before ++ q = ap (λ n. drop n front) line ∙ ap (drop k) h.front_is ∙ drop-append-le k before q within in
     let meet = apart_back (take k before) (drop k before) q (ap (λ t. parts_crlf t q) (take-append-drop k before) ∙ apart) in
     record {
-      gap = r.gap;
+      caret = r.caret;
       front_is = r.front_is ∙ sym (take-append-le k before q within) ∙ ap (take k) (sym h.front_is) ∙ ap (λ n. take n front) (sym line);
       back_is = r.back_is ∙ ap (λ t. drop k before ++ t) h.back_is ∙ sym (append_assoc (drop k before) q back) ∙ ap (λ t. t ++ back) (sym last);
       counts = s ∙ ap (λ t. info_sum t info) r.counts ∙ ap (λ t. info_sum (info_of breaks (drop k before)) t) h.counts ∙ sym (info_of-append_apart breaks (drop k before) q meet) ∙ ap (info_of breaks) (sym last);
@@ -217,7 +217,7 @@ end_back breaks skip left front back text p q info h same none = subst (λ r. Pa
         let line : last_start breaks front skip ≡ 0 = last_start_none breaks front skip (omega (arith, h.few, ap (break_count breaks) all)) in
         let last : drop (last_start breaks front skip) front ≡ text = ap (λ n. drop n front) line ∙ all in
         record {
-          gap = record {
+          caret = record {
             between = ap (λ m. byte_len (take m p.here)) place;
             chunks = h.chunks;
           };
@@ -254,7 +254,7 @@ nothing_more : (breaks : LineBreaks) (info : TextInfo) → info ≡ info_sum inf
 nothing_more breaks info = same_info info (info_sum info (info_of breaks [])) (omega arith) (omega arith) (omega arith) (omega (arith, no_breaks breaks))
 
 -- the chunk here, up to a place in it
-module _ (breaks : LineBreaks) (skip : ℕ) (p : Place) (b start : ℕ) (more : TextInfo) (g : IsGap p b)
+module _ (breaks : LineBreaks) (skip : ℕ) (p : Place) (b start : ℕ) (more : TextInfo) (g : IsCaret p b)
     (start_is : start ≡ byte_len (take (last_start breaks (take (byte_to_char p.here b) p.here) skip) (take (byte_to_char p.here b) p.here)))
     (counts : more ≡ info_of breaks (drop (last_start breaks (take (byte_to_char p.here b) p.here) skip) (take (byte_to_char p.here b) p.here))) where
   here_split : p.here ≡ take (byte_to_char p.here b) p.here ++ drop (byte_to_char p.here b) p.here
@@ -266,20 +266,20 @@ module _ (breaks : LineBreaks) (skip : ℕ) (p : Place) (b start : ℕ) (more : 
   here_front : concat p.before ++ take (byte_to_char p.here b) p.here ≡ (concat p.before ++ take (byte_to_char p.here b) p.here) ++ []
   here_front = sym (append-nil (concat p.before ++ take (byte_to_char p.here b) p.here))
 
-  pub gap_found : 0 < start → PassesBack breaks skip (halves_at p b).front (halves_at p b).back p start more
-  gap_found = found_back breaks skip skip (halves_at p b).front (halves_at p b).back (take (byte_to_char p.here b) p.here) (drop (byte_to_char p.here b) p.here) [] p start more (info_of breaks [])
+  pub caret_found : 0 < start → PassesBack breaks skip (halves_at p b).front (halves_at p b).back p start more
+  caret_found = found_back breaks skip skip (halves_at p b).front (halves_at p b).back (take (byte_to_char p.here b) p.here) (drop (byte_to_char p.here b) p.here) [] p start more (info_of breaks [])
       g.chunks here_split refl here_front here_few (never (ends_in_cr (take (byte_to_char p.here b) p.here))) start_is counts refl more (nothing_more breaks more)
 
-  pub gap_left : start ≤ 0 → more.break_count ≤ skip
-  gap_left = breaks_left breaks skip skip (halves_at p b).front (halves_at p b).back (take (byte_to_char p.here b) p.here) (drop (byte_to_char p.here b) p.here) [] p start more (info_of breaks [])
+  pub caret_left : start ≤ 0 → more.break_count ≤ skip
+  caret_left = breaks_left breaks skip skip (halves_at p b).front (halves_at p b).back (take (byte_to_char p.here b) p.here) (drop (byte_to_char p.here b) p.here) [] p start more (info_of breaks [])
       g.chunks here_split refl here_front here_few (never (ends_in_cr (take (byte_to_char p.here b) p.here))) start_is counts refl
 
-  pub gap_half : AreHalf more
-  gap_half = (both_half breaks skip skip (halves_at p b).front (halves_at p b).back (take (byte_to_char p.here b) p.here) (drop (byte_to_char p.here b) p.here) [] p start more (info_of breaks [])
+  pub caret_half : AreHalf more
+  caret_half = (both_half breaks skip skip (halves_at p b).front (halves_at p b).back (take (byte_to_char p.here b) p.here) (drop (byte_to_char p.here b) p.here) [] p start more (info_of breaks [])
       g.chunks here_split refl here_front here_few (never (ends_in_cr (take (byte_to_char p.here b) p.here))) start_is counts refl).0
 
-  gap_over : start ≤ 0 → PassedBack breaks skip (halves_at p b).front (halves_at p b).back p more (skip - more.break_count) (take (byte_to_char p.here b) p.here ++ [])
-  gap_over = over_back breaks skip skip (halves_at p b).front (halves_at p b).back (take (byte_to_char p.here b) p.here) (drop (byte_to_char p.here b) p.here) [] p start more (info_of breaks [])
+  caret_over : start ≤ 0 → PassedBack breaks skip (halves_at p b).front (halves_at p b).back p more (skip - more.break_count) (take (byte_to_char p.here b) p.here ++ [])
+  caret_over = over_back breaks skip skip (halves_at p b).front (halves_at p b).back (take (byte_to_char p.here b) p.here) (drop (byte_to_char p.here b) p.here) [] p start more (info_of breaks [])
       g.chunks here_split refl here_front here_few (never (ends_in_cr (take (byte_to_char p.here b) p.here))) start_is counts refl more (nothing_more breaks more)
 
   module _ (new : Place) (d : ℕ) (other : TextInfo) (none : start ≤ 0) (r : PassesBack breaks (skip - more.break_count) (concat p.before) (p.here ++ concat p.after) new d other) where
@@ -290,12 +290,12 @@ module _ (breaks : LineBreaks) (skip : ℕ) (p : Place) (b start : ℕ) (more : 
         let split = ap byte_len (sym (take-append-drop k (concat p.before))) ∙ size_two (take k (concat p.before)) (drop k (concat p.before)) in
         half_of breaks (drop k (concat p.before)) other r.counts (omega (arith, g.chunks.fits))
 
-    pub gap_composed : (sum : TextInfo) → sum ≡ info_sum other more → PassesBack breaks skip (halves_at p b).front (halves_at p b).back new d sum
-    gap_composed sum s =
-        compose_back breaks skip (skip - more.break_count) (halves_at p b).front (halves_at p b).back (take (byte_to_char p.here b) p.here ++ []) p new d more other sum (gap_over none) r s
+    pub caret_composed : (sum : TextInfo) → sum ≡ info_sum other more → PassesBack breaks skip (halves_at p b).front (halves_at p b).back new d sum
+    caret_composed sum s =
+        compose_back breaks skip (skip - more.break_count) (halves_at p b).front (halves_at p b).back (take (byte_to_char p.here b) p.here ++ []) p new d more other sum (caret_over none) r s
 
 -- a place that parts no CR LF of the text parts none of the chunk
-pub gap_apart : (p : Place) (b : ℕ) → parts_crlf (halves_at p b).front (halves_at p b).back ≡ false → parts_crlf (take (byte_to_char p.here b) p.here) (drop (byte_to_char p.here b) p.here) ≡ false
-gap_apart p b apart =
+pub caret_apart : (p : Place) (b : ℕ) → parts_crlf (halves_at p b).front (halves_at p b).back ≡ false → parts_crlf (take (byte_to_char p.here b) p.here) (drop (byte_to_char p.here b) p.here) ≡ false
+caret_apart p b apart =
     let j : ℕ = byte_to_char p.here b in
     apart_back (concat p.before) (take j p.here) (drop j p.here) (apart_front (concat p.before ++ take j p.here) (drop j p.here) (concat p.after) apart)

@@ -1,4 +1,4 @@
--- The counts of a stretch's text up to a place of the tree's text, and up to a line.
+-- The counts of an excerpt's text up to a place of the tree's text, and up to a line.
 use Rattle.std.proofs.Common.{◌≡◌, ℕ, ◌+◌, ◌-◌, ◌<◌, ◌≤◌, min, List, length, take, drop, sym, ap, ◌∙◌, arith, inl, inr}
 use Rattle.std.specs.List.{slice_range}
 use Rattle.std.proofs.lemmas.Bool.{cases_lt}
@@ -9,13 +9,13 @@ use Rattle.rope_text.specs.TextInfo.{info_of, info_sum}
 use Rattle.rope_text.specs.Lines.{line_start}
 use Rattle.rope_text.specs.Conversions.{char_to_line}
 use Rattle.rope_text.proofs.LineLaws.{line_start-le-length, char_to_line_late}
-use Rattle.rope_part.specs.Edge.{end_info, IsStretch}
+use Rattle.rope_part.specs.Edge.{end_info, IsExcerpt}
 use Rattle.rope_part.proofs.Measured.{measured, info_part}
-use Rattle.rope_part.proofs.StretchLaws.{stretch_line_to_char}
+use Rattle.rope_part.proofs.ExcerptLaws.{excerpt_line_to_char}
 
-module _ (breaks : LineBreaks) (text : List ℕ) (start end place : TextInfo) (s : IsStretch breaks text start end) where
+module _ (breaks : LineBreaks) (text : List ℕ) (start end place : TextInfo) (s : IsExcerpt breaks text start end) where
   -- the part up to a place before its end
-  pub up_to : start.chars < place.chars → place ≡ end_info breaks text place.chars → place.chars < end.chars → IsStretch breaks text start place
+  pub up_to : start.chars < place.chars → place ≡ end_info breaks text place.chars → place.chars < end.chars → IsExcerpt breaks text start place
   up_to later counts less = record {
     some = later;
     within = omega (arith, s.within);
@@ -34,13 +34,13 @@ module _ (breaks : LineBreaks) (text : List ℕ) (start end place : TextInfo) (s
       let m = measured breaks text start end s in
       ap (info_of breaks) (sym (take_all (place.chars - start.chars) (slice_range text start.chars end.chars) (omega (arith, m.chars))))
 
-  -- a line's start of the tree's, behind the stretch's own
+  -- a line's start of the tree's, behind the excerpt's own
   module _ (l : ℕ) (later : 0 < l) (place_is : place ≡ info_of breaks (take (line_start breaks text (start.break_count + l)) text)) where
     place_chars : place.chars ≡ line_start breaks text (start.break_count + l)
     place_chars = ap (λ x. x.chars) place_is ∙ length-take-le (line_start breaks text (start.break_count + l)) text (line_start-le-length breaks text (start.break_count + l))
 
     own_place : min place.chars end.chars ≡ start.chars + line_start breaks (slice_range text start.chars end.chars) l
-    own_place = ap (λ n. min n end.chars) place_chars ∙ stretch_line_to_char breaks text start end s l later
+    own_place = ap (λ n. min n end.chars) place_chars ∙ excerpt_line_to_char breaks text start end s l later
 
     pub line_later : start.chars < place.chars
     line_later =

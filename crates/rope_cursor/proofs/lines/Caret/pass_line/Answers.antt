@@ -1,11 +1,11 @@
 use Rattle.std.proofs.Common.{◌≡◌, ◌∙◌, ap, arith}
 use Rattle.rope_text.specs.TextInfo.{info_of}
 use Rattle.rope_text.specs.LineParts.{first_line}
-use Rattle.rope_cursor.specs.Gap.{after_byte}
-use Rattle.rope_cursor.proofs.Gaps.{between_boundary, between_after}
-use Rattle.rope_cursor.proofs.GapSteps.{info_half, place_fits, pass_inside, more_half, pass_over}
-use Rattle.rope_cursor.proofs.lines.Gap.pass_line.Goals.{After-of_first_line-first}
-use Rattle.rope_cursor.proofs.lines.Gap.pass_line.Goals as goal
+use Rattle.rope_cursor.specs.Caret.{after_byte}
+use Rattle.rope_cursor.proofs.Carets.{between_boundary, between_after}
+use Rattle.rope_cursor.proofs.CaretSteps.{info_half, place_fits, pass_inside, more_half, pass_over}
+use Rattle.rope_cursor.proofs.lines.Caret.pass_line.Goals.{After-of_first_line-first}
+use Rattle.rope_cursor.proofs.lines.Caret.pass_line.Goals as goal
 
 pub range_from-requires : goal.range_from-requires
 range_from-requires c = λ _. between_boundary c.chunk.result.now c.self.inside.inside c.chunk.utf8 (rw c.chunk.ensures c.self.invariant.between)
@@ -26,7 +26,7 @@ pub invariant_of-self : goal.invariant_of-self
 invariant_of-self c =
     (pass_inside c.args.breaks c.self.inside.span c.self.inside.inside c.self.invariant c.of_first_line-first.result
     (first_is (goal.at.invariant_of-self c).After-of_first_line-first)
-    c.if-first-gt0.true).gap
+    c.if-first-gt0.true).caret
 
 pub returns-then-first-gt0-clause-front : goal.returns-then-first-gt0-clause-front
 returns-then-first-gt0-clause-front c =

@@ -42,13 +42,13 @@ pub record AreChunks (p : Place) : Type 0 where
   pub kept : KeepsCrlf (leaves p)
   pub fits : byte_len (concat (leaves p)) < 2 ^ 63
 
-pub record IsGap (p : Place) (b : ℕ) : Type 0 where
+pub record IsCaret (p : Place) (b : ℕ) : Type 0 where
   pub between : IsBetween p.here b
   pub chunks : AreChunks p
 
 -- a line was passed: the text before and after, up to a break and all that follows, and the counts of what was passed
 pub record PassesLine (breaks : LineBreaks) (front back : List ℕ) (p : Place) (b : ℕ) (info : TextInfo) : Type 0 where
-  pub gap : IsGap p b
+  pub caret : IsCaret p b
   pub front_is : (halves_at p b).front ≡ front ++ first_line breaks back
   pub back_is : back ≡ first_line breaks back ++ (halves_at p b).back
   pub counts : info ≡ info_of breaks (first_line breaks back)
@@ -67,7 +67,7 @@ PassedChunks breaks old new info = (text : List ℕ) × PassedTexts breaks old n
 
 -- line breaks were passed backward: up to the start of a line, so many breaks before the last
 pub record PassesBack (breaks : LineBreaks) (skip : ℕ) (front back : List ℕ) (p : Place) (b : ℕ) (info : TextInfo) : Type 0 where
-  pub gap : IsGap p b
+  pub caret : IsCaret p b
   pub front_is : (halves_at p b).front ≡ take (last_start breaks front skip) front
   pub back_is : (halves_at p b).back ≡ drop (last_start breaks front skip) front ++ back
   pub counts : info ≡ info_of breaks (drop (last_start breaks front skip) front)
