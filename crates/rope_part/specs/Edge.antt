@@ -1,5 +1,5 @@
 -- The counts of a text up to the two ends of a part.
-use Rattle.std.specs.Prelude.{◌≡◌, ℕ, ◌≤◌, ◌<◌, List, ◌++◌, length, take, drop, false}
+use Rattle.std.specs.Prelude.{◌≡◌, ℕ, ◌≤◌, ◌<◌, List, [], ◌∷◌, ◌++◌, length, take, drop, false}
 use Rattle.std.proofs.Props.{props}
 use Rattle.rope_text.specs.declared.line_breaks.LineBreaks.{LineBreaks}
 use Rattle.rope_text.specs.declared.text_info.TextInfo.{TextInfo}
@@ -7,8 +7,10 @@ use Rattle.rope_text.specs.Text.{byte_len, surrogate_count}
 use Rattle.rope_text.specs.TextInfo.{info_of}
 use Rattle.rope_text.specs.Lines.{line_start}
 use Rattle.rope_text.specs.Conversions.{char_to_line}
-use Rattle.rope_text.specs.Cutting.{parts_crlf}
-use Rattle.rope_tree.specs.Tree.{Tree, text}
+use Rattle.rope_text.specs.Cutting.{parts_crlf, KeepsCrlf}
+use Rattle.rope_text.specs.Dense.{IsDenseBehind}
+use Rattle.rope_text.specs.declared.TheConstants.{MAX_HEIGHT}
+use Rattle.rope_tree.specs.Tree.{Tree, IsTree, text}
 
 -- the counts of the text before a part's start. Its breaks are those that end there or before: the CR of a CR LF that the
 -- start lies in is none of them, since the LF is a break of the part
@@ -39,6 +41,22 @@ pub record IsExcerpt (breaks : LineBreaks) (text : List ℕ) (start end : TextIn
 -- there is at most one proof of it
 pub IsExcerpt-prop : {breaks : LineBreaks} {text : List ℕ} {start end : TextInfo} → IsProp (IsExcerpt breaks text start end)
 IsExcerpt-prop = hlevel props
+
+-- what holds of the tree of every node
+pub record IsLowTree (t : Tree) : Type 0 where
+  pub low : t.height ≤ MAX_HEIGHT
+  pub tree : IsTree t
+
+AreDense-prop : (before : ℕ) (chunks : List (List ℕ)) → IsProp (IsDenseBehind before chunks)
+AreDense-prop before [] = hlevel props
+AreDense-prop before (chunk ∷ chunks) = let rest = AreDense-prop (byte_len chunk) chunks in hlevel (rest, props)
+
+KeepsCrlf-prop : (chunks : List (List ℕ)) → IsProp (KeepsCrlf chunks)
+KeepsCrlf-prop [] = hlevel props
+KeepsCrlf-prop (chunk ∷ chunks) = let rest = KeepsCrlf-prop chunks in hlevel (rest, props)
+
+pub IsLowTree-prop : {t : Tree} → IsProp (IsLowTree t)
+IsLowTree-prop = hlevel (AreDense-prop, KeepsCrlf-prop, props)
 
 pub IsInfo-prop : (breaks : LineBreaks) (text : List ℕ) (info : TextInfo) → IsProp (info ≡ info_of breaks text)
 IsInfo-prop breaks text info = hlevel props

@@ -6,7 +6,7 @@ ghost use Rattle.rope_text.specs.TextInfo.{info_of};
 ghost use Rattle.rope_text.specs.Lines.{line_start, line_count};
 ghost use Rattle.rope_tree.specs.Search.{count_of};
 ghost use Rattle.rope_tree.specs.Tree.{IsTree, text};
-ghost use Rattle.rope_part.specs.Edge.{start_info, end_info, line_info, IsLeafFrom, IsExcerpt, IsExcerpt-prop};
+ghost use Rattle.rope_part.specs.Edge.{start_info, end_info, line_info, IsLeafFrom, IsExcerpt, IsExcerpt-prop, IsLowTree, IsLowTree-prop};
 
 use rope_text::str_utils::count_surrogates;
 use rope_text::{Steps, TextInfo};
@@ -39,6 +39,7 @@ pub struct Excerpt<'a> {
     pub node: &'a Node,
     pub start: TextInfo,
     pub end: TextInfo,
+    ghost is_low: { IsLowTree node.now } by { IsLowTree-prop },
     ghost is_excerpt: { IsExcerpt node.now.breaks (text node.now) start end } by { IsExcerpt-prop },
 }
 
@@ -53,8 +54,6 @@ impl<'a> Excerpt<'a> {
         ensures low { self.now.node.now.height ≤ MAX_HEIGHT }
         ensures tree { IsTree self.now.node.now }
     {
-        // For the proof: `height` says how high a tree may be and how long its text, so the sum fits; callers need the same.
-        let _ = self.node.height();
         count(self.start, unit) + idx
     }
 
@@ -63,8 +62,6 @@ impl<'a> Excerpt<'a> {
         ensures value { result ≡ info_of (breaks_of self.now) (text_of self.now) }
         ensures kept { IsPart (content_of self.now) }
     {
-        // For the proof: `height` says how long the tree's text may be and how it is cut, which holds of each part of it.
-        let _ = self.node.height();
         self.end.minus(self.start)
     }
 

@@ -51,8 +51,6 @@ impl<'a> Part<'a> {
         ensures chunks { chunks_of result ≡ node.now.leaves }
         ensures breaks { breaks_of result ≡ node.now.breaks }
     {
-        // For the proof: `height` says that no leaf is empty, so the chunks of the whole text are the leaves, and none is dropped.
-        let _ = node.height();
         let end = node.info();
         if end.chars == 0 {
             return Part::from_str_with("", node.line_breaks());
@@ -155,8 +153,6 @@ impl<'a> Part<'a> {
         match self {
             Part::InTree(excerpt) => {
                 let node = excerpt.node;
-                // For the proof: `height` says that the tree's text has at most `isize::MAX` bytes, so the sums below fit.
-                let _ = node.height();
                 let start = excerpt.start.plus(from);
                 let end = excerpt.start.plus(to);
                 Part::InTree(Excerpt { node, start, end })

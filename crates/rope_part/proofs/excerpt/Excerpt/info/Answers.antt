@@ -16,4 +16,4 @@ pub returns-clause-value : goal.returns-clause-value
 returns-clause-value c = info_part _ _ _ _ _ c.args.self.now.is_excerpt c.minus.ensures.sum
 
 pub returns-clause-kept : goal.returns-clause-kept
-returns-clause-kept c = excerpt_kept c.args.self.now.node.now c.args.self.now.start c.args.self.now.end c.height.ensures.tree c.args.self.now.is_excerpt
+returns-clause-kept c = excerpt_kept c.args.self.now.node.now c.args.self.now.start c.args.self.now.end c.args.self.now.is_low.tree c.args.self.now.is_excerpt

@@ -20,50 +20,50 @@ use Rattle.rope_text.proofs.LineSeams.{parts_crlf-take}
 use Rattle.rope_part.specs.Plain as of_plain
 use Rattle.rope_part.proofs.ChunkParts.{chars_of_part, boundary_of}
 use Rattle.rope_part.proofs.Excerpts.{front_and_part}
-use Rattle.rope_part.proofs.part.Part.between.Goals.{After-height, In-Alone, After-range-text}
+use Rattle.rope_part.proofs.part.Part.between.Goals.{In-InTree, In-Alone, After-range-text}
 use Rattle.rope_part.proofs.part.Part.between.Goals as goal
 
-kept : (c : After-height)
+kept : (c : In-InTree)
     → IsExcerpt c.in-InTree.excerpt.node.now.breaks (text c.in-InTree.excerpt.node.now) (info_sum c.in-InTree.excerpt.start c.args.from) (info_sum c.in-InTree.excerpt.start c.args.to)
 kept c =
     let s = c.in-InTree.excerpt in
     excerpt_between s.node.now.breaks (text s.node.now) s.start s.end s.is_excerpt c.args.from c.args.to (rw c.in-InTree.is at c.requires.from_is) (rw c.in-InTree.is at c.requires.to_is)
     (omega (arith, c.requires.ordered, c.if-from-to.false)) (rw c.in-InTree.is at c.requires.within) (rw c.in-InTree.is at c.requires.apart)
 
-small : (c : After-height) → AreSmall (info_sum c.in-InTree.excerpt.start c.args.from) × AreSmall (info_sum c.in-InTree.excerpt.start c.args.to)
+small : (c : In-InTree) → AreSmall (info_sum c.in-InTree.excerpt.start c.args.from) × AreSmall (info_sum c.in-InTree.excerpt.start c.args.to)
 small c =
     let s = c.in-InTree.excerpt in
-    small_between s.node.now.breaks (text s.node.now) (info_sum s.start c.args.from) (info_sum s.start c.args.to) (kept c) c.height.ensures.tree.fits
+    small_between s.node.now.breaks (text s.node.now) (info_sum s.start c.args.from) (info_sum s.start c.args.to) (kept c) c.in-InTree.excerpt.is_low.tree.fits
 
 inside : (s : Excerpt) (j : ℕ) → j ≤ length (of_excerpt.text_of s) → j ≤ s.end.chars - s.start.chars
 inside s j l = let m = measured _ _ _ _ s.is_excerpt in omega (arith, length_part (text s.node.now) s.start.chars s.end.chars m.within)
 
 pub plus-start-requires-clause-bytes : goal.plus-start-requires-clause-bytes
-plus-start-requires-clause-bytes c = (small (goal.at.plus-start-requires-clause-bytes c).After-height).0.bytes
+plus-start-requires-clause-bytes c = (small (goal.at.plus-start-requires-clause-bytes c).In-InTree).0.bytes
 
 pub plus-start-requires-clause-chars : goal.plus-start-requires-clause-chars
-plus-start-requires-clause-chars c = (small (goal.at.plus-start-requires-clause-chars c).After-height).0.chars
+plus-start-requires-clause-chars c = (small (goal.at.plus-start-requires-clause-chars c).In-InTree).0.chars
 
 pub plus-start-requires-clause-utf16_surrogates : goal.plus-start-requires-clause-utf16_surrogates
-plus-start-requires-clause-utf16_surrogates c = (small (goal.at.plus-start-requires-clause-utf16_surrogates c).After-height).0.utf16_surrogates
+plus-start-requires-clause-utf16_surrogates c = (small (goal.at.plus-start-requires-clause-utf16_surrogates c).In-InTree).0.utf16_surrogates
 
 pub plus-start-requires-clause-break_count : goal.plus-start-requires-clause-break_count
-plus-start-requires-clause-break_count c = (small (goal.at.plus-start-requires-clause-break_count c).After-height).0.break_count
+plus-start-requires-clause-break_count c = (small (goal.at.plus-start-requires-clause-break_count c).In-InTree).0.break_count
 
 pub plus-end-requires-clause-bytes : goal.plus-end-requires-clause-bytes
-plus-end-requires-clause-bytes c = (small (goal.at.plus-end-requires-clause-bytes c).After-height).1.bytes
+plus-end-requires-clause-bytes c = (small (goal.at.plus-end-requires-clause-bytes c).In-InTree).1.bytes
 
 pub plus-end-requires-clause-chars : goal.plus-end-requires-clause-chars
-plus-end-requires-clause-chars c = (small (goal.at.plus-end-requires-clause-chars c).After-height).1.chars
+plus-end-requires-clause-chars c = (small (goal.at.plus-end-requires-clause-chars c).In-InTree).1.chars
 
 pub plus-end-requires-clause-utf16_surrogates : goal.plus-end-requires-clause-utf16_surrogates
-plus-end-requires-clause-utf16_surrogates c = (small (goal.at.plus-end-requires-clause-utf16_surrogates c).After-height).1.utf16_surrogates
+plus-end-requires-clause-utf16_surrogates c = (small (goal.at.plus-end-requires-clause-utf16_surrogates c).In-InTree).1.utf16_surrogates
 
 pub plus-end-requires-clause-break_count : goal.plus-end-requires-clause-break_count
-plus-end-requires-clause-break_count c = (small (goal.at.plus-end-requires-clause-break_count c).After-height).1.break_count
+plus-end-requires-clause-break_count c = (small (goal.at.plus-end-requires-clause-break_count c).In-InTree).1.break_count
 
 pub invariant_of-result : goal.invariant_of-result
-invariant_of-result c = record { is_excerpt = rw (c.plus-start.ensures.sum, c.plus-end.ensures.sum) (kept (goal.at.invariant_of-result c).After-height) }
+invariant_of-result c = record { is_low = c.in-InTree.excerpt.is_low; is_excerpt = rw (c.plus-start.ensures.sum, c.plus-end.ensures.sum) (kept (goal.at.invariant_of-result c).In-InTree) }
 
 pub returns-in-InTree : goal.returns-in-InTree
 returns-in-InTree c =
