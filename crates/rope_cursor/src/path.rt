@@ -140,13 +140,12 @@ impl<'a> Path<'a> {
     // Inlined, since a call would answer the way through memory.
     #[inline(always)]
     pub(crate) fn at(node: &'a Node, unit: Unit, at: usize) -> (Path<'a>, TextInfo)
-        requires { at < count_of unit (info_of node.now.breaks (text node.now)) }
+        requires within { at < count_of unit (info_of node.now.breaks (text node.now)) }
+        requires low { node.now.height ≤ MAX_HEIGHT }
+        requires tree { IsTree node.now }
         ensures leaves { leaves result.0 ≡ node.now.leaves }
         ensures holds { HoldsPlace unit node.now.breaks at result.0.before result.0.here result.1 }
-        ensures tree { IsTree node.now }
     {
-        // For the proof: `height` says that the tree has at most as many levels as there are frames, and what callers need of it.
-        let _ = node.height();
         let mut path = Path::text("");
         let (depth, leaf, before) = enter_at(&mut path.frames, 0, node, TextInfo::new(), unit, at);
         path.depth = depth;

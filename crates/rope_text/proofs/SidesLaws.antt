@@ -6,7 +6,7 @@ use Rattle.std.proofs.lemmas.Bool.{lt-ltb, le-ltb}
 use Rattle.std.proofs.lemmas.List.{same_from_push, length-reverse, length-drop, length-take-le}
 use Rattle.std.proofs.lemmas.Option.{slice_get_past}
 use Rattle.rope_text.specs.Cursor.{Cursor, item_after, item_before, place_after, place_before, next_item, after_next, prev_item, after_prev, reversed, size_left}
-use Rattle.rope_text.specs.Sides.{Sides, all_items, place, at_place, ahead, behind, turned, cursor_of, GoesRight, GoesLeft, StepsAhead, StepsBack}
+use Rattle.rope_text.specs.Sides.{Sides, all_items, place, at_place, ahead, behind, turned, cursor_of, GoesRight, GoesLeft, GoesAhead, StepsAhead, StepsBack}
 
 cursor_ext : {X : Type 0} (c d : Cursor X) → c.items ≡ d.items → c.place ≡ d.place → c.forward ≡ d.forward → c ≡ d
 cursor_ext {X} c d a b e =
@@ -34,6 +34,18 @@ pub cursor_of-turned : {X : Type 0} (s : Sides X) → cursor_of (turned s) ≡ r
 cursor_of-turned s = refl
 
 module _ {A X : Type 0} (view : A → X) where
+  -- a step that gives an item leaves one less
+  one_less : (b : Bool) (s t : Sides X) (x : A) → s.is_backward ≡ b → StepsAhead view s (Some x) t → length (ahead t) < length (ahead s)
+  one_less true s t x e steps =
+      let g = rw e at steps in
+      rw (e, g.2) (omega (arith, length-reverse t.left, length-reverse s.left, ap length g.0, length-append t.left (view x ∷ [])))
+  one_less false s t x e steps =
+      let g = rw e at steps in
+      rw (e, g.2) (omega (arith, ap length g.0))
+
+  pub goes_ahead : (s t : Sides X) (x : A) → StepsAhead view s (Some x) t → GoesAhead view s (Some x) t
+  goes_ahead s t x steps = record { on = λ _. (tt, tt, one_less s.is_backward s t x refl steps); keeps = tt; rests = λ _. tt; moves = steps }
+
   -- a step keeps the items
   pub all_items-right : (s t : Sides X) (x : A) → GoesRight view s (Some x) t → all_items t ≡ all_items s
   all_items-right s t x g = rw (g.0, g.1) (append_assoc s.left (view x ∷ []) t.right)

@@ -5,7 +5,7 @@ use Rattle.rope_cursor.proofs.Paths.{some_leaves}
 use Rattle.rope_cursor.proofs.path.Path.at.Goals as goal
 
 pub enter_at-depth-requires-clause-low : goal.enter_at-depth-requires-clause-low
-enter_at-depth-requires-clause-low c = record { levels = c.height.ensures.low; some = some_leaves c.args.unit c.args.node.now.breaks c.args.at c.args.node.now.leaves c.requires }
+enter_at-depth-requires-clause-low c = record { levels = c.requires.low; some = some_leaves c.args.unit c.args.node.now.breaks c.args.at c.args.node.now.leaves c.requires.within }
 
 pub returns-clause-holds : goal.returns-clause-holds
 returns-clause-holds c =

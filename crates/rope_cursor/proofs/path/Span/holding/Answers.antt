@@ -25,10 +25,10 @@ overflow_sub-count c =
 place_is : (c : After-min-place) → let s = c.in-InTree.excerpt in c.min-place.result ≡ min (count_of c.args.unit s.start + c.args.idx) (count_of c.args.unit s.end - 1)
 place_is c = rw (c.place.ensures.value, c.count.ensures) at c.min-place.ensures
 
-pub at-path-requires : goal.at-path-requires
-at-path-requires c =
+pub at-path-requires-clause-within : goal.at-path-requires-clause-within
+at-path-requires-clause-within c =
     let s = c.in-InTree.excerpt in
-    place_in s.node.now s.start s.end s.is_excerpt c.args.idx c.min-place.result c.args.unit c.requires.unit (place_is (goal.at.at-path-requires c).After-min-place)
+    place_in s.node.now s.start s.end s.is_excerpt c.args.idx c.min-place.result c.args.unit c.requires.unit (place_is (goal.at.at-path-requires-clause-within c).After-min-place)
 
 pub invariant_of-span : goal.invariant_of-span
 invariant_of-span c =
