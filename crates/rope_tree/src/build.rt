@@ -51,8 +51,9 @@ pub(crate) fn root_over(maker: &mut Maker, nodes: Vec<Node>) -> Made<Node>
     Ok(node_over(maker, &level)?)
 }
 
-/// A tree of this text, built from the bottom: leaves cut in order, each but the last of 981 bytes or more, then nodes of 12 to 22 children level by level.
-/// It makes two nodes at the most for each leaf, and one for a text that fits in a leaf. No text is read twice for its counts.
+/// A tree of this text, built from the bottom: leaves cut in order, each but the last of 981 bytes or more, then nodes of 12 to 22
+/// children level by level. It makes two nodes at the most for each leaf, and one for a text that fits in a leaf. No text is read twice
+/// for its counts.
 pub fn build(maker: &mut Maker, whole: &str, breaks: LineBreaks) -> Made<Node>
     ensures text { IfOk result (λ node. text node ≡ chars whole.now) }
     ensures breaks { IfOk result (λ node. node.breaks ≡ breaks) }

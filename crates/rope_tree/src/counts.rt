@@ -121,9 +121,9 @@ pub fn put_in(
     info
 }
 
-/// Takes the characters from `start` up to `end` out of a leaf, and gives the counts of what stays, by those of what was: only
-/// the part that goes is gone over, and the ends. None, and the leaf as it was, where nothing would stay, or fewer bytes than `least`, or where what stays could not stand between
-/// the same neighbours with no CR before an LF.
+/// Takes the characters from `start` up to `end` out of a leaf, and gives the counts of what stays, by those of what was: only the part
+/// that goes is gone over, and the ends. None, and the leaf as it was, where nothing would stay, or fewer bytes than `least`, or where
+/// what stays could not stand between the same neighbours with no CR before an LF.
 pub fn take_out(
     leaf: &mut NodeText,
     start: usize,

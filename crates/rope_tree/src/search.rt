@@ -296,8 +296,9 @@ pub fn place_of(totals: &Totals, unit: Unit, at: usize, steps: &mut Steps) -> us
     base
 }
 
-/// The child that holds a character, and whether the way there still follows another. Where the way follows another, that one's child is tried first: so nothing waits for a search
-/// where it is that child time and again. Of few children none is tried, since a processor would guess wrongly too often.
+/// The child that holds a character, and whether the way there still follows another. Where the way follows another, that one's child
+/// is tried first: so nothing waits for a search where it is that child time and again. Of few children none is tried, since a
+/// processor would guess wrongly too often.
 #[inline(always)]
 pub(crate) fn try_place(totals: &Totals, at: usize, likely: usize, follows: bool) -> (usize, bool)
     requires some { 0 < length totals.now }
