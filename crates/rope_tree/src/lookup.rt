@@ -1,7 +1,6 @@
 //! The way down to the leaf that holds a place.
-ghost use Rattle.std.specs.Prelude.{◌≡◌, ◌+◌, ◌-◌, ◌*◌, ◌<◌, ◌≤◌, ◌^◌, [], length, slice_index_or, slice_get, Some};
+ghost use Rattle.std.specs.Prelude.{◌≡◌, ◌+◌, ◌-◌, ◌*◌, ◌<◌, ◌≤◌, ◌^◌, length, slice_get, Some};
 ghost use Rattle.std.specs.Str.{encode_utf8_all};
-ghost use Rattle.rope_text.specs.declared.line_breaks.LineBreaks.{LineBreaks};
 ghost use Rattle.rope_text.specs.declared.text_info.TextInfo.{TextInfo};
 ghost use Rattle.rope_text.specs.Text.{byte_len};
 ghost use Rattle.rope_text.specs.TextInfo.{info_of};

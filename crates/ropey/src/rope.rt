@@ -1,11 +1,11 @@
 //! The rope: how it is made, cloned and measured.
 //!
 //! A rope of `"one\ntwo"` has 7 bytes, 7 characters, 7 UTF-16 code units and 2 lines, in one chunk at depth 0.
-ghost use Rattle.std.specs.Prelude.{◌≡◌, ◌+◌, ◌-◌, ◌*◌, ◌<◌, ◌≤◌, [], length, ◌^◌, min, IfOk, IfErr, OnOk, OnErr};
+ghost use Rattle.std.specs.Prelude.{◌≡◌, ◌+◌, ◌-◌, ◌*◌, ◌<◌, [], length, ◌^◌, min, IfOk, IfErr, OnOk, OnErr};
 ghost use Rattle.std.specs.Str.{chars};
 ghost use Rattle.rope_text.specs.declared.error.Error.TheVariants.{OutOfMemory};
 ghost use Rattle.rope_text.specs.declared.line_breaks.LineBreaks.TheVariants.{Unicode};
-ghost use Rattle.rope_text.specs.declared.TheConstants.{MAX_BYTES, MAX_HEIGHT};
+ghost use Rattle.rope_text.specs.declared.TheConstants.{MAX_BYTES};
 ghost use Rattle.rope_text.specs.Text.{byte_len, utf16_len};
 ghost use Rattle.rope_text.specs.Lines.{line_count};
 ghost use Rattle.rope_text.specs.Sides.{at_start};
