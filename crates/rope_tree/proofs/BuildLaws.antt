@@ -1,5 +1,5 @@
 -- Trees built from the bottom up: leaves cut off the front of a text, and nodes over groups of nodes.
-use Rattle.std.proofs.Common.{◌≡◌, ℕ, zero, suc, ◌+◌, ◌-◌, ◌*◌, ◌/◌, ◌%◌, ◌^◌, ◌<◌, ◌≤◌, true, List, [], ◌∷◌, ◌++◌, length, take, drop, refl, ap, ap₂, sym, subst, ◌∙◌, get_or, arith, append_assoc, take-append-drop, inl, inr}
+use Rattle.std.proofs.Common.{◌≡◌, ℕ, zero, suc, ◌+◌, ◌-◌, ◌*◌, ◌/◌, ◌%◌, ◌^◌, ◌<◌, ◌≤◌, true, List, [], ◌∷◌, ◌++◌, length, take, drop, ap, ap₂, sym, subst, ◌∙◌, get_or, arith, append_assoc, take-append-drop, inl, inr}
 use Rattle.std.specs.List.{All, concat}
 use Rattle.std.specs.Str.{chars, IsUtf8}
 use Rattle.std.proofs.Math.Nat.{mul-le-mul_right, mul-suc, mod-lt, div-mul-le_self, div-le_of_le-mul}
@@ -7,7 +7,7 @@ use Rattle.std.proofs.lemmas.Nat.{le-div, div-add-mod'}
 use Rattle.std.proofs.lemmas.Bool.{cases_lt}
 use Rattle.std.proofs.lemmas.List.{append-nil, length-append, length-take-le, length-drop, take_all}
 use Rattle.std.proofs.lemmas.Str.{chars-append, chars-nil, scalars-chars, length-le-encodes}
-use Rattle.std.proofs.lemmas.List.Elements.{All-nil, All-push, All-get_or, All-head, All-tail}
+use Rattle.std.proofs.lemmas.List.Elements.{All-push, All-head, All-tail}
 use Rattle.rope_text.specs.declared.line_breaks.LineBreaks.{LineBreaks}
 use Rattle.rope_text.specs.Text.{byte_len}
 use Rattle.rope_text.specs.Cuts.{is_cut}
@@ -16,11 +16,11 @@ use Rattle.rope_text.proofs.Apart.{apart_at_cut}
 use Rattle.rope_text.proofs.Walks.{byte_len-chars}
 use Rattle.rope_text.proofs.CuttingLaws.{concat-append}
 use Rattle.rope_text.proofs.DenseLaws.{last_bytes-append, dense-append}
-use Rattle.rope_tree.specs.Leaves.{AreLeaves, IsLeafText, IsSeam}
+use Rattle.rope_tree.specs.Leaves.{IsLeafText, IsSeam}
 use Rattle.rope_tree.specs.Tree.{Tree, leaves_of, joined, height_of, breaks_of, one_leaf, leaf_tree, tree_over, IsTree, IsChild, AreChildren}
 use Rattle.rope_tree.specs.Siblings.{AreSiblings}
 use Rattle.rope_tree.specs.Fronts.{AreFronts, AreFrontNodes}
-use Rattle.rope_tree.proofs.LeafLaws.{no_leaves, lone_leaf, leaves-append, nil-seam, seam-nil, seam_of_left, seam_left_longer}
+use Rattle.rope_tree.proofs.LeafLaws.{lone_leaf, leaves-append, seam-nil, seam_of_left, seam_left_longer}
 use Rattle.rope_tree.proofs.TreeLaws.{is_wide_over, height_of_is, breaks_of_is}
 use Rattle.rope_tree.proofs.NodeLaws.{leaves_of-append}
 use Rattle.rope_tree.proofs.SiblingLaws.{siblings_left, siblings_right, children_of}

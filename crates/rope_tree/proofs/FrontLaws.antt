@@ -1,11 +1,11 @@
 -- The first leaf of a text of two parts.
-use Rattle.std.proofs.Common.{◌≡◌, ℕ, ◌+◌, ◌-◌, ◌<◌, ◌≤◌, ◌||◌, true, false, List, [], ◌++◌, length, take, drop, get_or, ap, ◌∷◌, ap₂, sym, subst, ◌∙◌, arith, append_assoc}
+use Rattle.std.proofs.Common.{◌≡◌, ℕ, ◌+◌, ◌-◌, ◌<◌, ◌≤◌, ◌||◌, true, false, List, [], ◌++◌, length, take, drop, get_or, ap, ◌∷◌, ap₂, sym, ◌∙◌, arith, append_assoc}
 use Rattle.std.specs.Prelude.{◌==◌}
-use Rattle.std.specs.Str.{chars, IsUtf8, IsCharBoundary}
+use Rattle.std.specs.Str.{chars, IsUtf8}
 use Rattle.std.proofs.Math.Seq.{take-append-add, drop-append-add}
 use Rattle.std.proofs.lemmas.Bool.Decides.{nat_tests}
-use Rattle.std.proofs.lemmas.List.{append-nil, length-append, length-take-le, get_or-take, take-take, take-append-le, nil_from_length}
-use Rattle.std.proofs.lemmas.Str.{length-le-encodes, IsUtf8-append, IsCharBoundary-from_drop, IsCharBoundary-from_take}
+use Rattle.std.proofs.lemmas.List.{append-nil, length-append, length-take-le, get_or-take, take-take, nil_from_length}
+use Rattle.std.proofs.lemmas.Str.{length-le-encodes, IsUtf8-append}
 use Rattle.rope_text.specs.Text.{byte_len}
 use Rattle.rope_text.specs.Cuts.{is_cut, is_cut_between}
 use Rattle.rope_text.specs.Cutting.{parts_crlf}

@@ -1,12 +1,12 @@
 -- Children of which one was changed where it stands.
 use Rattle.std.proofs.Common.{◌≡◌, ℕ, zero, suc, ◌+◌, ◌<◌, ◌≤◌, ◌^◌, ◌⊎◌, Bool, true, false, min, List, [], ◌∷◌, ◌++◌, length, get_or, set, take, drop, refl, sym, ap, subst, add-one, ◌∙◌, arith}
-use Rattle.std.proofs.lemmas.List.{length-set, set_split, set-get_or, append-nil, drop_all, take_all}
+use Rattle.std.proofs.lemmas.List.{length-set, set_split, set-get_or, append-nil}
 use Rattle.std.proofs.lemmas.List.Elements.{All-head, All-weaker}
 use Rattle.rope_text.specs.declared.line_breaks.LineBreaks.{LineBreaks}
 use Rattle.rope_text.specs.Text.{byte_len}
 use Rattle.rope_text.specs.Cutting.{parts_crlf}
 use Rattle.rope_text.specs.Edit.{inserted}
-use Rattle.std.specs.List.{refill, insert}
+use Rattle.std.specs.List.{insert}
 use Rattle.std.specs.Str.{all_scalars}
 use Rattle.rope_text.specs.declared.text_info.TextInfo.{TextInfo}
 use Rattle.rope_tree.specs.Leaves.{StandFor}

@@ -24,7 +24,7 @@ use Rattle.rope_tree.proofs.InsertDescents.{Takes}
 use Rattle.rope_tree.proofs.GrownLaws.{set_parts}
 use Rattle.rope_tree.proofs.InsertLaws.{front_of, rest_of, seam_begins}
 use Rattle.rope_tree.proofs.RemovalEnds.{ends_around}
-use Rattle.rope_tree.proofs.InsertTrees.{around, around_child, text_around, seam_before, seam_after}
+use Rattle.rope_tree.proofs.InsertTrees.{around_child, text_around, seam_before, seam_after}
 
 pub byte_len-removed : (xs : List ℕ) (a b : ℕ) → a ≤ b → byte_len (removed xs a b) ≤ byte_len xs
 byte_len-removed xs a b order =

@@ -7,7 +7,7 @@ use Rattle.std.proofs.lemmas.Bool.{cases_lt}
 use Rattle.std.proofs.Common.{inl, inr}
 use Rattle.std.proofs.lemmas.List.Elements.{All-head, All-tail}
 use Rattle.rope_text.specs.Text.{byte_len}
-use Rattle.rope_tree.specs.Tree.{Tree, leaves_of, joined, height_of, breaks_of, tree_over, leaf_tree, one_leaf, IsTree, IsWide, IsChild, AreChildren}
+use Rattle.rope_tree.specs.Tree.{Tree, leaves_of, height_of, breaks_of, tree_over, leaf_tree, one_leaf, IsTree, IsWide, IsChild, AreChildren}
 use Rattle.std.specs.Str.{all_scalars}
 use Rattle.std.proofs.lemmas.Str.{length-le-encodes}
 use Rattle.rope_text.specs.declared.line_breaks.LineBreaks.{LineBreaks}
