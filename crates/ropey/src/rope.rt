@@ -189,7 +189,7 @@ impl Rope {
     {
         let mut builder = Builder::new(self.alloc, self.line_breaks());
         for chunk in self.chunks() {
-            // This opens that the chunk is UTF-8, so it has the bytes of its characters.
+            // For the proof: `as_bytes` says that the chunk is UTF-8, so it has the bytes of its characters.
             let _ = chunk.as_bytes();
             builder.append(chunk)?;
         }
