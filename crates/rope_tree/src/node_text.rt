@@ -67,17 +67,6 @@ fn put_bytes(bytes: &mut LeafBytes, place: usize, added: &[u8])
     put_in_gap(bytes.as_mut_slice(), place, old_len, added);
 }
 
-// Takes the bytes from `from` up to `to` out. What follows them moves down once, and what stands before them stays.
-fn take_bytes(bytes: &mut LeafBytes, from: usize, to: usize)
-    requires ordered { from ≤ to }
-    requires within { to ≤ length bytes.old.items }
-    ensures { bytes.new.items ≡ remove_range bytes.old.items from to }
-{
-    let len = bytes.len();
-    bytes.as_mut_slice().copy_within(to..len, from);
-    bytes.truncate(len - (to - from));
-}
-
 /// Cuts a text that is too long for one leaf into two. Each part has half a leaf, but for a byte, and the cut parts no CR from
 /// an LF.
 pub(crate) fn halves_of(text: &str) -> (&str, &str)
@@ -205,7 +194,7 @@ impl NodeText {
         (from, to)
     }
 
-    /// Takes bytes out that are whole characters. What follows them moves up, and what stands before them stays.
+    /// Takes bytes out that are whole characters. What follows them moves down once, and what stands before them stays.
     pub fn remove_bytes(&mut self, from: usize, to: usize)
         requires ordered { from ≤ to }
         requires from { IsCharBoundary (encode_utf8_all self.old) from }
@@ -213,7 +202,9 @@ impl NodeText {
         ensures value { self.new ≡ chars (remove_range (encode_utf8_all self.old) from to) }
         ensures scalars { all_scalars self.new ≡ true }
     {
-        take_bytes(&mut self.bytes, from, to);
+        let len = self.bytes.len();
+        self.bytes.as_mut_slice().copy_within(to..len, from);
+        self.bytes.truncate(len - (to - from));
     }
 }
 
