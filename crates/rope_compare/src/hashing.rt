@@ -3,7 +3,7 @@ ghost use Rattle.std.specs.Prelude.{◌≡◌, ℕ, ◌+◌, ◌<◌, ◌≤◌,
 ghost use Rattle.rope_text.specs.Compare.{blocks, hash_writes};
 ghost use Rattle.rope_part.specs.Part.{text_of};
 
-use rope_cursor::Chunks;
+use rope_cursor::all_chunks;
 use rope_part::Part;
 use std::hash::Hasher;
 
@@ -17,7 +17,7 @@ pub fn feed<H: Hasher>(part: &Part<'_>, state: &mut H)
 {
     let mut block = [0u8; BLOCK_BYTES];
     let mut held = 0;
-    for chunk in Chunks::new(part) {
+    for chunk in all_chunks(part) {
         held = feed_piece(state, &mut block, held, chunk.as_bytes());
     }
     if held > 0 {

@@ -5,7 +5,7 @@ ghost use Rattle.std.specs.String.{string_bytes};
 ghost use Rattle.std.specs.Fmt.{WritesOnOk, WritesStyledOnOk};
 ghost use Rattle.rope_part.specs.Part.{text_of};
 
-use rope_cursor::Chunks;
+use rope_cursor::all_chunks;
 use rope_part::Part;
 use std::alloc::{AllocError, Global};
 use std::fmt;
@@ -15,7 +15,7 @@ pub fn copy(alloc: Global, part: &Part<'_>) -> Result<String, AllocError>
     ensures { IfOk result (λ text. chars (string_bytes text) ≡ text_of part.now) }
 {
     let mut text = String::with_capacity(alloc, part.info().bytes)?;
-    for chunk in Chunks::new(part) {
+    for chunk in all_chunks(part) {
         push_chunk(&mut text, chunk)?;
     }
     Ok(text)
@@ -36,7 +36,7 @@ pub fn show<W: fmt::Write>(part: &Part<'_>, f: &mut fmt::Formatter<W>) -> fmt::R
     ensures styled { WritesStyledOnOk W.write_str_gives f.old result
         (encode_utf8_all (text_of part.now)) f.new }
 {
-    for chunk in Chunks::new(part) {
+    for chunk in all_chunks(part) {
         show_chunk(chunk, f)?;
     }
     Ok(())

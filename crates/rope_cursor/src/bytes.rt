@@ -46,25 +46,25 @@ impl<'a> Model for Bytes<'a> {
     ghost invariant = { λ a. IsByteCursor a.span a.chunk.now a.at a.before a.total };
 }
 
-impl<'a> Bytes<'a> {
-    /// A cursor before the byte at a place, or past the last byte at the end, facing forward.
-    pub fn at(part: &Part<'a>, byte_idx: usize) -> Bytes<'a>
-        requires { byte_idx ≤ byte_len (text_of part.now) }
-        ensures { result ≡ at_place (encode_utf8_all (text_of part.now)) byte_idx }
-    {
-        let total = part.info().bytes;
-        let (span, before, _, _) = Span::holding(part, Unit::Byte, byte_idx);
-        let chunk = span.chunk();
-        Bytes {
-            span,
-            chunk,
-            at: byte_idx - before,
-            before,
-            total,
-            is_backward: false,
-        }
+/// A cursor before the byte at a place, or past the last byte at the end, facing forward.
+pub fn bytes_at<'a>(part: &Part<'a>, byte_idx: usize) -> Bytes<'a>
+    requires { byte_idx ≤ byte_len (text_of part.now) }
+    ensures { result ≡ at_place (encode_utf8_all (text_of part.now)) byte_idx }
+{
+    let total = part.info().bytes;
+    let (span, before, _, _) = Span::holding(part, Unit::Byte, byte_idx);
+    let chunk = span.chunk();
+    Bytes {
+        span,
+        chunk,
+        at: byte_idx - before,
+        before,
+        total,
+        is_backward: false,
     }
+}
 
+impl<'a> Bytes<'a> {
     // One byte to the left, or to the right.
     fn step(&mut self, is_left: bool) -> Option<u8>
         ensures { MatchBool is_left (GoesLeft (λ x. x) self.old result self.new)

@@ -43,25 +43,25 @@ impl<'a> Model for Chars<'a> {
     ghost invariant = { λ a. IsCharCursor a.span a.chunk.now a.at a.passed a.total };
 }
 
-impl<'a> Chars<'a> {
-    /// A cursor before the character at a place, or past the last one at the end, facing forward.
-    pub fn at(part: &Part<'a>, char_idx: usize) -> Chars<'a>
-        requires { char_idx ≤ length (text_of part.now) }
-        ensures { result ≡ at_place (text_of part.now) char_idx }
-    {
-        let info = part.info();
-        let (span, at) = Span::at(part, info, char_idx);
-        let chunk = span.chunk();
-        Chars {
-            span,
-            chunk,
-            at,
-            passed: char_idx,
-            total: info.chars,
-            is_backward: false,
-        }
+/// A cursor before the character at a place, or past the last one at the end, facing forward.
+pub fn chars_at<'a>(part: &Part<'a>, char_idx: usize) -> Chars<'a>
+    requires { char_idx ≤ length (text_of part.now) }
+    ensures { result ≡ at_place (text_of part.now) char_idx }
+{
+    let info = part.info();
+    let (span, at) = Span::at(part, info, char_idx);
+    let chunk = span.chunk();
+    Chars {
+        span,
+        chunk,
+        at,
+        passed: char_idx,
+        total: info.chars,
+        is_backward: false,
     }
+}
 
+impl<'a> Chars<'a> {
     // One character to the right. Inlined: mostly it stays in the chunk, and a call costs as much.
     #[inline(always)]
     fn right(&mut self) -> Option<char>

@@ -40,39 +40,39 @@ impl<'a> Model for Chunks<'a> {
     ghost view = { λ a. at_chunk a.span a.is_empty a.is_past a.is_backward };
 }
 
+/// A cursor before the first chunk, facing forward.
+pub fn all_chunks<'a>(part: &Part<'a>) -> Chunks<'a>
+    ensures start { result ≡ at_start (chunks_of part.now) }
+    ensures cut { IsCutting (text_of part.now) (chunks_of part.now) }
+{
+    chunks_at(part, Unit::Char, 0).0
+}
+
+/// A cursor before the chunk that holds a byte or a character, facing forward; at the end of the text past the last chunk.
+/// With it the bytes, the characters and the line breaks of the text before its place.
+pub fn chunks_at<'a>(part: &Part<'a>, unit: Unit, idx: usize) -> (Chunks<'a>, usize, usize, usize)
+    requires unit { IsItem unit }
+    requires within { idx ≤ size_in unit (text_of part.now) }
+    ensures stands { StandsAt (breaks_of part.now) (chunks_of part.now)
+        (chunk_place unit (chunks_of part.now) idx) result.0 result.1 result.2 result.3 }
+    ensures cut { IsCutting (text_of part.now) (chunks_of part.now) }
+{
+    let info = part.info();
+    let (span, bytes, chars, break_count) = Span::holding(part, unit, idx);
+    let is_past = idx == count(info, unit);
+    let chunks = Chunks {
+        span,
+        is_empty: info.chars == 0,
+        is_past,
+        is_backward: false,
+    };
+    if is_past {
+        return (chunks, info.bytes, info.chars, info.break_count);
+    }
+    (chunks, bytes, chars, break_count)
+}
+
 impl<'a> Chunks<'a> {
-    /// A cursor before the first chunk, facing forward.
-    pub fn new(part: &Part<'a>) -> Chunks<'a>
-        ensures start { result ≡ at_start (chunks_of part.now) }
-        ensures cut { IsCutting (text_of part.now) (chunks_of part.now) }
-    {
-        Chunks::at(part, Unit::Char, 0).0
-    }
-
-    /// A cursor before the chunk that holds a byte or a character, facing forward; at the end of the text past the last chunk.
-    /// With it the bytes, the characters and the line breaks of the text before its place.
-    pub fn at(part: &Part<'a>, unit: Unit, idx: usize) -> (Chunks<'a>, usize, usize, usize)
-        requires unit { IsItem unit }
-        requires within { idx ≤ size_in unit (text_of part.now) }
-        ensures stands { StandsAt (breaks_of part.now) (chunks_of part.now)
-            (chunk_place unit (chunks_of part.now) idx) result.0 result.1 result.2 result.3 }
-        ensures cut { IsCutting (text_of part.now) (chunks_of part.now) }
-    {
-        let info = part.info();
-        let (span, bytes, chars, break_count) = Span::holding(part, unit, idx);
-        let is_past = idx == count(info, unit);
-        let chunks = Chunks {
-            span,
-            is_empty: info.chars == 0,
-            is_past,
-            is_backward: false,
-        };
-        if is_past {
-            return (chunks, info.bytes, info.chars, info.break_count);
-        }
-        (chunks, bytes, chars, break_count)
-    }
-
     // One chunk to the right, or to the left.
     fn step(&mut self, is_left: bool) -> Option<&'a str>
         ensures { MatchBool is_left (GoesLeft (λ x. chars x.now) self.old result self.new)

@@ -11,7 +11,7 @@ mod path;
 mod pieces;
 mod point;
 
-pub use bytes::Bytes;
-pub use chars::Chars;
-pub use chunks::Chunks;
+pub use bytes::{Bytes, bytes_at};
+pub use chars::{Chars, chars_at};
+pub use chunks::{Chunks, all_chunks, chunks_at};
 pub use pieces::Pieces;

@@ -71,27 +71,27 @@ impl<'a, T> Model for Lines<'a, T> {
     ghost invariant = { λ a. IsLineStart (content_of a.part) a.caret a.before a.line a.total };
 }
 
-impl<'a, T: OfPart<'a>> Lines<'a, T> {
-    /// A cursor before a line, facing forward; for the number of lines it stands past the last.
-    pub fn at(part: &Part<'a>, line_idx: usize) -> Lines<'a, T>
-        requires { line_idx ≤ line_count (breaks_of part.now) (text_of part.now) }
-        ensures { result ≡ at_place (lines_of (content_of part.now)) line_idx }
-    {
-        let info = part.info();
-        let before = part.before_line(line_idx);
-        let (span, inside) = Span::at(part, info, before.chars);
-        let near = NEAR_BYTES;
-        Lines {
-            part: *part,
-            caret: Caret { span, inside, near },
-            before,
-            line: line_idx,
-            total: info.break_count + 1,
-            is_backward: false,
-            item: PhantomData,
-        }
+/// A cursor before a line, facing forward; for the number of lines it stands past the last.
+pub fn lines_at<'a, T: OfPart<'a>>(part: &Part<'a>, line_idx: usize) -> Lines<'a, T>
+    requires { line_idx ≤ line_count (breaks_of part.now) (text_of part.now) }
+    ensures { result ≡ at_place (lines_of (content_of part.now)) line_idx }
+{
+    let info = part.info();
+    let before = part.before_line(line_idx);
+    let (span, inside) = Span::at(part, info, before.chars);
+    let near = NEAR_BYTES;
+    Lines {
+        part: *part,
+        caret: Caret { span, inside, near },
+        before,
+        line: line_idx,
+        total: info.break_count + 1,
+        is_backward: false,
+        item: PhantomData,
     }
+}
 
+impl<'a, T: OfPart<'a>> Lines<'a, T> {
     // One line to the left, or to the right. Inlined, so that of the part only what the caller asks for is worked out; the text is
     // read in a call.
     #[inline(always)]

@@ -7,7 +7,7 @@ ghost use Rattle.rope_io.specs.Failing.{failure_of, IsCounted};
 ghost use Rattle.rope_io.specs.Writing.{AppendsFront};
 
 use crate::device::Sink;
-use rope_cursor::Chunks;
+use rope_cursor::all_chunks;
 use rope_part::Part;
 use std::io::{self, ErrorKind};
 
@@ -49,7 +49,7 @@ pub fn write_part<S: Sink>(part: &Part<'_>, sink: &mut S) -> io::Result<()>
         (S.failures sink.old) (S.failures sink.new) }
 {
     sink.clear();
-    for chunk in Chunks::new(part) {
+    for chunk in all_chunks(part) {
         write_bytes(sink, chunk.as_bytes())?;
     }
     Ok(())

@@ -14,7 +14,7 @@ ghost use Rattle.rope_text.specs.LineParts.{line_of, lines_of};
 
 use crate::slice::{RopeSlice, within};
 use rope_cursor::lines::{self, OfPart};
-use rope_cursor::{Bytes, Chars, Chunks};
+use rope_cursor::{Bytes, Chars, Chunks, all_chunks, bytes_at, chars_at, chunks_at};
 use rope_part::Part;
 use rope_tree::Unit;
 
@@ -31,7 +31,7 @@ impl<'a> RopeSlice<'a> {
     pub fn bytes(&self) -> Bytes<'a>
         ensures { result ≡ at_start (encode_utf8_all (text_of self.now)) }
     {
-        Bytes::at(&self.part, 0)
+        bytes_at(&self.part, 0)
     }
 
     /// A cursor over the bytes, before the byte `byte_idx`, counted from 0, facing forward; for `len_bytes()` it
@@ -42,14 +42,14 @@ impl<'a> RopeSlice<'a> {
         requires { byte_idx ≤ byte_len (text_of self.now) }
         ensures { result ≡ at_place (encode_utf8_all (text_of self.now)) byte_idx }
     {
-        Bytes::at(&self.part, byte_idx)
+        bytes_at(&self.part, byte_idx)
     }
 
     /// A cursor over the characters, before the first, facing forward. Costs one or two look-ups; takes no memory.
     pub fn chars(&self) -> Chars<'a>
         ensures { result ≡ at_start (text_of self.now) }
     {
-        Chars::at(&self.part, 0)
+        chars_at(&self.part, 0)
     }
 
     /// A cursor over the characters, before the character `char_idx`, counted from 0, facing forward; for
@@ -60,14 +60,14 @@ impl<'a> RopeSlice<'a> {
         requires { char_idx ≤ length (text_of self.now) }
         ensures { result ≡ at_place (text_of self.now) char_idx }
     {
-        Chars::at(&self.part, char_idx)
+        chars_at(&self.part, char_idx)
     }
 
     /// A cursor over the chunks, before the first, facing forward. Costs one or two look-ups; takes no memory.
     pub fn chunks(&self) -> Chunks<'a>
         ensures { result ≡ at_start (chunks_of self.now) }
     {
-        Chunks::new(&self.part)
+        all_chunks(&self.part)
     }
 
     /// A cursor over the chunks, before the chunk that holds the byte `byte_idx`, facing forward; for `len_bytes()`
@@ -80,7 +80,7 @@ impl<'a> RopeSlice<'a> {
         ensures { StandsBefore (content_of self.now)
             (chunk_place_at_byte (chunks_of self.now) byte_idx) result }
     {
-        Chunks::at(&self.part, Unit::Byte, byte_idx)
+        chunks_at(&self.part, Unit::Byte, byte_idx)
     }
 
     /// A cursor over the chunks, before the chunk that holds the character `char_idx`, facing forward; for
@@ -93,7 +93,7 @@ impl<'a> RopeSlice<'a> {
         ensures { StandsBefore (content_of self.now)
             (chunk_place_at_char (chunks_of self.now) char_idx) result }
     {
-        Chunks::at(&self.part, Unit::Char, char_idx)
+        chunks_at(&self.part, Unit::Char, char_idx)
     }
 
     /// A cursor over the chunks, before the first chunk by whose end `line_break_idx` line breaks have ended, or
@@ -112,7 +112,7 @@ impl<'a> RopeSlice<'a> {
         // the last of these breaks ends right before the line that starts there
         let before = start.saturating_sub(1);
         let char_idx = if is_past { start } else { before };
-        Chunks::at(&self.part, Unit::Char, char_idx)
+        chunks_at(&self.part, Unit::Char, char_idx)
     }
 
     /// As `bytes_at`, or `None` exactly where the index is past `len_bytes()`. Costs one or two look-ups; takes no
@@ -199,7 +199,7 @@ impl<'a> RopeSlice<'a> {
         requires { line_idx ≤ line_count (breaks_of self.now) (text_of self.now) }
         ensures { result ≡ at_place (lines_of (content_of self.now)) line_idx }
     {
-        Lines::at(&self.part, line_idx)
+        lines::lines_at(&self.part, line_idx)
     }
 
     /// As `lines_at`, or `None` exactly where the index is past `len_lines()`. Costs one or two look-ups; takes no

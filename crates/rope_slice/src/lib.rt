@@ -16,4 +16,4 @@ mod text;
 
 pub use cursors::{ChunksAt, Lines};
 pub use lookups::ChunkAt;
-pub use slice::RopeSlice;
+pub use slice::{RopeSlice, part_of};

@@ -9,6 +9,8 @@ ghost use Rattle.rope_text.specs.Text.{byte_len, utf16_len};
 ghost use Rattle.rope_text.specs.Lines.{line_count};
 ghost use Rattle.rope_text.specs.Cutting.{single_chunk};
 ghost use Rattle.rope_part.specs.Kept.{IsPart};
+ghost use Rattle.rope_part.specs.Part.{content_of as part_content};
+ghost use Rattle.rope_slice.specs.Slice.{content_of};
 ghost use Rattle.rope_slice.specs.Found.{GivesWithin};
 ghost use Rattle.rope_text.specs.Edit.{given, byte_range_error};
 ghost use Rattle.rope_slice.specs.Sliced.{HasCharRange, HasByteRange, IsCharRange, IsByteRange};
@@ -32,8 +34,14 @@ pub(crate) fn within(idx: usize, len: usize) -> Option<usize>
 /// memory.
 #[derive(Clone, Copy)]
 pub struct RopeSlice<'a> {
-    /// What it shows: a part of a tree's text, or a plain text.
-    pub part: Part<'a>,
+    pub(crate) part: Part<'a>,
+}
+
+/// What a slice shows: a part of a tree's text, or a plain text. It is no method, so that it reaches no caller of `RopeSlice` alone.
+pub fn part_of<'a>(slice: RopeSlice<'a>) -> Part<'a>
+    ensures { part_content result ≡ content_of slice.entry }
+{
+    slice.part
 }
 
 impl<'a> RopeSlice<'a> {

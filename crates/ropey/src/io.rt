@@ -20,6 +20,7 @@ use rope_io::ReadResult;
 use rope_io::reading::read_tree;
 use rope_io::writing::write_part;
 pub use rope_io::{Mark, ReadError, Sink, Source, Watched};
+use rope_part::Part;
 use rope_text::LineBreaks;
 use std::alloc::Global;
 use std::io::{self, Read, Write};
@@ -133,6 +134,6 @@ impl Rope {
         ensures failure { IsCounted (failure_of result) (S.failure sink.new)
             (S.failures sink.old) (S.failures sink.new) }
     {
-        write_part(&self.whole().part, sink)
+        write_part(&Part::of_node(&self.root), sink)
     }
 }

@@ -20,10 +20,11 @@ ghost use Rattle.rope_text.specs.Lookup.{chunk_place_at_byte, chunk_place_at_cha
 ghost use Rattle.rope_text.specs.Sides.{at_start, at_place};
 
 use crate::rope::Rope;
+use rope_cursor::lines::OfPart;
 use rope_cursor::{Bytes, Chars};
 use rope_join::cut::between;
 use rope_part::{Excerpt, Part};
-use rope_slice::{ChunksAt, Lines, RopeSlice};
+use rope_slice::{ChunksAt, Lines, RopeSlice, part_of};
 use rope_text::{IndexRange, Result};
 use rope_tree::Maker;
 use std::alloc::Global;
@@ -34,8 +35,7 @@ impl Rope {
         ensures content { content_of result ≡ content self.now }
         ensures few { length self.now.chunks < 2 ^ 63 }
     {
-        let part = Part::of_node(&self.root);
-        RopeSlice { part }
+        RopeSlice::of_part(Part::of_node(&self.root))
     }
 
     /// The characters of a range, as a slice that borrows them: their text, the chunks clipped to them, and the
@@ -109,7 +109,7 @@ impl Rope {
         ensures kept { IfOk result IsRope }
         ensures err { IfErr result (λ e. e ≡ OutOfMemory) }
     {
-        match slice.part {
+        match part_of(slice) {
             Part::InTree(Excerpt { node, start, end }) => {
                 let root = between(&mut Maker::new(alloc), node, start.chars, end.chars)?;
                 Ok(Rope { root, alloc })

@@ -12,7 +12,7 @@ loop-chunk-init g c =
     record {
       written = record {
         before = [];
-        whole = sym c.new-chunk-items.ensures.cut.joined ∙ ap (λ x. concat (ahead x)) (sym (c.into_iter-chunk-iterator.ensures.into_iter_gives ∙ c.new-chunk-items.ensures.start));
+        whole = sym c.all_chunks-chunk-items.ensures.cut.joined ∙ ap (λ x. concat (ahead x)) (sym (c.into_iter-chunk-iterator.ensures.into_iter_gives ∙ c.all_chunks-chunk-items.ensures.start));
         appended = rw (c.clear.ensures, g.met.S.Sink.cleared_contents old) (Appends-none (g.S.Sink.contents old));
       };
       none_failed = record {

@@ -6,8 +6,8 @@ use Rattle.rope_part.specs.Part.{text_of}
 use Rattle.rope_text.proofs.SidesPlaces.{sides_at}
 use Rattle.rope_cursor.specs.Point.{IsChunkAt}
 use Rattle.rope_cursor.proofs.CharCursors as step
-use Rattle.rope_cursor.proofs.chars.Chars.at.Goals.{After-chunk-chunk}
-use Rattle.rope_cursor.proofs.chars.Chars.at.Goals as goal
+use Rattle.rope_cursor.proofs.chars.chars_at.Goals.{After-chunk-chunk}
+use Rattle.rope_cursor.proofs.chars.chars_at.Goals as goal
 
 chunk_is : (c : After-chunk-chunk) → IsChunkAt c.at-span.result.0 c.chunk-chunk.result.now
 chunk_is c = record { utf8 = c.chunk-chunk.utf8; here = c.chunk-chunk.ensures }

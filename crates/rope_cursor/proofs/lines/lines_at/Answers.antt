@@ -7,7 +7,7 @@ use Rattle.rope_text.proofs.LineLaws.{line_start-le-length}
 use Rattle.rope_part.specs.Part.{content_of, text_of, breaks_of}
 use Rattle.rope_part.proofs.PartsBetween.{counts_at}
 use Rattle.rope_cursor.proofs.CaretSteps.{caret_at, front_at, back_at}
-use Rattle.rope_cursor.proofs.lines.Lines.at.Goals as goal
+use Rattle.rope_cursor.proofs.lines.lines_at.Goals as goal
 
 pub at-span-requires-clause-within : goal.at-span-requires-clause-within
 at-span-requires-clause-within g c =

@@ -4,7 +4,7 @@ use Rattle.rope_text.proofs.SidesPlaces.{sides_at}
 use Rattle.rope_part.specs.Part.{text_of}
 use Rattle.rope_cursor.specs.Point.{IsChunkAt}
 use Rattle.rope_cursor.proofs.ByteCursors as step
-use Rattle.rope_cursor.proofs.bytes.Bytes.at.Goals as goal
+use Rattle.rope_cursor.proofs.bytes.bytes_at.Goals as goal
 
 pub invariant_of-result : goal.invariant_of-result
 invariant_of-result c =

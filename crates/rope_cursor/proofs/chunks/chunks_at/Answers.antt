@@ -3,7 +3,7 @@ use Rattle.std.proofs.lemmas.Bool.Decides.{nat_tests}
 use Rattle.rope_tree.proofs.Infos.{small_info}
 use Rattle.rope_part.specs.Part.{text_of, chunks_of, breaks_of}
 use Rattle.rope_cursor.proofs.ChunkStarts.{size_is, starts_before, starts_past}
-use Rattle.rope_cursor.proofs.chunks.Chunks.at.Goals as goal
+use Rattle.rope_cursor.proofs.chunks.chunks_at.Goals as goal
 
 pub count-requires : goal.count-requires
 count-requires c = rw c.info-info.ensures.value (small_info (breaks_of c.args.part.now) (text_of c.args.part.now) c.info-info.ensures.kept.fits)
