@@ -48,7 +48,7 @@ pub(crate) fn root_over(maker: &mut Maker, nodes: Vec<Node>) -> Made<Node>
     if level.len() == 1 {
         return Ok(level[0].share()?);
     }
-    Ok(node_over(maker, &level)?)
+    node_over(maker, &level)
 }
 
 /// A tree of this text, built from the bottom: leaves cut in order, each but the last of 981 bytes or more, then nodes of 12 to 22
