@@ -1,3 +1,4 @@
+pub mod LastCalls
 pub mod LeafCounts
 pub mod LeafLaws
 pub mod StandLaws

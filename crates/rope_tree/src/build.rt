@@ -48,7 +48,7 @@ pub(crate) fn root_over(maker: &mut Maker, nodes: Vec<Node>) -> Made<Node>
     if level.len() == 1 {
         return Ok(level[0].share()?);
     }
-    Ok(node_over(maker, &level)?)
+    node_over(maker, &level)
 }
 
 /// A tree of this text, built from the bottom: leaves cut in order, each but the last of 981 bytes or more, then nodes of 12 to 22
@@ -64,7 +64,7 @@ pub fn build(maker: &mut Maker, whole: &str, breaks: LineBreaks) -> Made<Node>
         maker.new.made ≤ maker.old.made + 2 * length node.leaves + 1) }
 {
     if whole.len() <= MAX_BYTES {
-        return Ok(leaf_of(maker, breaks, whole)?);
+        return leaf_of(maker, breaks, whole);
     }
     let mut leaves = Vec::new(maker.alloc);
     let mut rest = whole;
@@ -74,5 +74,5 @@ pub fn build(maker: &mut Maker, whole: &str, breaks: LineBreaks) -> Made<Node>
         rest = &rest[len..];
     }
     leaves.push(leaf_of(maker, breaks, rest)?)?;
-    Ok(root_over(maker, leaves)?)
+    root_over(maker, leaves)
 }

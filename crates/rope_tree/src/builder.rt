@@ -193,6 +193,6 @@ impl Builder {
         }
         let mut leaves = self.leaves;
         leaves.push(rest)?;
-        Ok(root_over(maker, leaves)?)
+        root_over(maker, leaves)
     }
 }

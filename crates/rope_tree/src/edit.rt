@@ -79,7 +79,7 @@ fn insert(
             let middle = insert(maker, &children[place], at - front, added, to_right)?;
             let row = Row::of(children, totals);
             let (before, after) = (row.first(place), row.rest(place + 1));
-            Ok(pack(maker, before, middle, after)?)
+            pack(maker, before, middle, after)
         }
     }
 }

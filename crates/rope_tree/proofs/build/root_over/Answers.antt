@@ -1,5 +1,6 @@
 -- Each turn goes one level up.
 use Rattle.std.proofs.Common.{◌∙◌, ◌≤◌, length, ap, sym, subst, arith}
+use Rattle.std.proofs.lemmas.Result.{IfOk-weaker}
 use Rattle.rope_tree.specs.Tree.{IsTree, AreChildren, height_of, breaks_of, tree_over}
 use Rattle.rope_tree.proofs.TreeLaws.{is_tree_over}
 use Rattle.rope_tree.proofs.NodeLaws.{children_of_first}
@@ -32,5 +33,5 @@ node_over-requires c = rw c.deref-2.ensures.value (children (goal.at.node_over-r
 pub returns-clause-tree : goal.returns-clause-tree
 returns-clause-tree c =
     let ts = c.loop-maker.level.items in
-    let is = c.in_ok-node_over.ensures.ok ∙ ap tree_over c.deref-2.ensures.value in
-    subst IsTree (sym is) (is_tree_over (breaks_of ts) (height_of ts) ts (children (goal.at.returns-clause-tree c).After-deref-2))
+    let whole = is_tree_over (breaks_of ts) (height_of ts) ts (children (goal.at.returns-clause-tree c).After-deref-2) in
+    IfOk-weaker c.node_over.result _ _ (λ node is. subst IsTree (sym (is ∙ ap tree_over c.deref-2.ensures.value)) whole) c.node_over.ensures.ok

@@ -5,6 +5,7 @@ use Rattle.rope_tree.specs.declared.search.Unit.TheVariants.{Char}
 use Rattle.rope_tree.specs.Tree.{text, joined, height_of, breaks_of}
 use Rattle.rope_tree.specs.View.{trees_in}
 use Rattle.rope_tree.specs.Insert.{MayInsert, GoesIn}
+use Rattle.rope_tree.proofs.LastCalls.{both_ok}
 use Rattle.rope_tree.proofs.NodeLaws.{small_totals}
 use Rattle.rope_tree.proofs.Descents.{Descends, descends}
 use Rattle.rope_tree.proofs.InsertDescents.{last_total, inner_some, held_within, goes_in}
@@ -77,11 +78,8 @@ made_by t c = omega (arith, ap (λ u. u.height) c.in-Inner.ensures.is, (down t c
 pub returns-in_err-middle-in-Inner-clause-made : goal.returns-in_err-middle-in-Inner-clause-made
 returns-in_err-middle-in-Inner-clause-made t c = omega (arith, made_by t (goal.at.returns-in_err-middle-in-Inner-clause-made t c).After-index-children-place, c.insert.ensures.made)
 
-pub returns-in_err-pack-in-Inner-clause-made : goal.returns-in_err-pack-in-Inner-clause-made
-returns-in_err-pack-in-Inner-clause-made t c = omega (arith, made_by t (goal.at.returns-in_err-pack-in-Inner-clause-made t c).After-index-children-place, c.in_ok-middle-in-Inner.ensures.made, c.pack.ensures.made)
-
-pub returns-in_ok-pack-in-Inner-clause-made : goal.returns-in_ok-pack-in-Inner-clause-made
-returns-in_ok-pack-in-Inner-clause-made t c = omega (arith, made_by t (goal.at.returns-in_ok-pack-in-Inner-clause-made t c).After-index-children-place, c.in_ok-middle-in-Inner.ensures.made, c.in_ok-pack-in-Inner.ensures.made)
+pub returns-in_ok-middle-in-Inner-clause-made : goal.returns-in_ok-middle-in-Inner-clause-made
+returns-in_ok-middle-in-Inner-clause-made t c = omega (arith, made_by t (goal.at.returns-in_ok-middle-in-Inner-clause-made t c).After-index-children-place, c.in_ok-middle-in-Inner.ensures.made, c.pack.ensures.made)
 
 pub pack-requires-clause-siblings : goal.pack-requires-clause-siblings
 pack-requires-clause-siblings t c =
@@ -98,15 +96,15 @@ pack-requires-clause-siblings t c =
     rw (c.first-before.ensures.nodes, c.rest-after.ensures.nodes, c.of-row.ensures.nodes) (siblings_of_first (breaks_of ts) (height_of ts) (take c.place_of-place.result ts ++ (ps ++ drop (c.place_of-place.result + 1) ts))
     (omega (arith, more, d.children.at_least_two, c.in_ok-middle-in-Inner.ensures.ok.parts.some)) s)
 
-pub returns-in_ok-pack-in-Inner-clause-ok : goal.returns-in_ok-pack-in-Inner-clause-ok
-returns-in_ok-pack-in-Inner-clause-ok t c =
-    let e = (goal.at.returns-in_ok-pack-in-Inner-clause-ok t c).After-index-children-place in
-    let n = (goal.at.returns-in_ok-pack-in-Inner-clause-ok t c).In_ok-middle-in-Inner in
+pub returns-in_ok-middle-in-Inner-clause-ok : goal.returns-in_ok-middle-in-Inner-clause-ok
+returns-in_ok-middle-in-Inner-clause-ok t c =
+    let e = (goal.at.returns-in_ok-middle-in-Inner-clause-ok t c).After-index-children-place in
+    let n = (goal.at.returns-in_ok-middle-in-Inner-clause-ok t c).In_ok-middle-in-Inner in
     let d = down t e in
     let g = (goes t e).1 in
     let ts = c.in-Inner.children.now in
     let ps = trees_in c.in_ok-middle-in-Inner.middle in
-    let leaves = c.in_ok-pack-in-Inner.ensures.leaves in
-    let shape = c.in_ok-pack-in-Inner.ensures.shape in
+    both_ok c.pack.result _ _ _ (λ nodes leaves shape.
     new_node (breaks_of ts) (height_of ts) ts c.place_of-place.result c.index-children-place.result d.children d.within d.child_is c.args.node.now c.in-Inner.ensures.is c.args.at (c.args.at - c.total_before-front.result.chars) c.args.added.now c.requires.takes.some (place t e) g.within
-    ps c.args.to_right g.inside g.outside c.requires.side c.in_ok-middle-in-Inner.ensures.ok (fits t n) (trees_in c.in_ok-pack-in-Inner.field-0) (rw (c.first-before.ensures.nodes, c.rest-after.ensures.nodes, c.of-row.ensures.nodes) at leaves) (rw (c.first-before.ensures.nodes, c.rest-after.ensures.nodes, c.of-row.ensures.nodes) at shape)
+    ps c.args.to_right g.inside g.outside c.requires.side c.in_ok-middle-in-Inner.ensures.ok (fits t n) (trees_in nodes) (rw (c.first-before.ensures.nodes, c.rest-after.ensures.nodes, c.of-row.ensures.nodes) at leaves) (rw (c.first-before.ensures.nodes, c.rest-after.ensures.nodes, c.of-row.ensures.nodes) at shape))
+    c.pack.ensures.leaves c.pack.ensures.shape

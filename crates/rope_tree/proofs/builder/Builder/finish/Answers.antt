@@ -3,11 +3,13 @@ use Rattle.std.proofs.Common.{◌≡◌, ◌∙◌, ◌+◌, ◌≤◌, ◌<◌,
 use Rattle.std.specs.Prelude.{◌==◌}
 use Rattle.std.proofs.lemmas.Bool.Decides.{nat_tests}
 use Rattle.std.proofs.lemmas.List.{length-append, append-nil}
+use Rattle.std.proofs.lemmas.Result.{IfOk-weaker}
 use Rattle.std.specs.List.{concat}
 use Rattle.rope_text.specs.Text.{byte_len}
 use Rattle.rope_tree.specs.Tree.{Tree, leaf_tree, joined, leaves_of}
 use Rattle.rope_tree.specs.Fronts.{AreFrontNodes, Building}
 use Rattle.rope_tree.specs.Siblings.{AreSiblings}
+use Rattle.rope_tree.proofs.LastCalls.{both_ok}
 use Rattle.rope_tree.proofs.TreeLaws.{breaks_of_is}
 use Rattle.rope_tree.proofs.InsertTrees.{siblings_of_first}
 use Rattle.rope_tree.proofs.LeafLaws.{seam-nil}
@@ -57,22 +59,30 @@ pub returns-clause-text : goal.returns-clause-text
 returns-clause-text c =
     let b = (goal.at.returns-clause-text c).In_ok-push in
     let a = c.self.inside in
-    ap concat c.in_ok-root_over.ensures.leaves ∙ nodes_whole a.breaks (joined a.leaves.items ++ a.rest) c.push.new.self.items (last b).0 ∙ ap (λ (x : Building). x.text) c.self.view_is
+    IfOk-weaker c.root_over.result _ _ (λ (node : Tree) leaves.
+    ap concat leaves ∙ nodes_whole a.breaks (joined a.leaves.items ++ a.rest) c.push.new.self.items (last b).0 ∙ ap (λ (x : Building). x.text) c.self.view_is)
+    c.root_over.ensures.leaves
 
 pub returns-clause-breaks : goal.returns-clause-breaks
 returns-clause-breaks c =
     let b = (goal.at.returns-clause-breaks c).In_ok-push in
-    c.in_ok-root_over.ensures.breaks ∙ breaks_of_is c.self.inside.breaks 0 c.push.new.self.items (some b) (all b).each ∙ ap (λ (x : Building). x.breaks) c.self.view_is
+    IfOk-weaker c.root_over.result _ _ (λ (node : Tree) breaks.
+    breaks ∙ breaks_of_is c.self.inside.breaks 0 c.push.new.self.items (some b) (all b).each ∙ ap (λ (x : Building). x.breaks) c.self.view_is)
+    c.root_over.ensures.breaks
 
 pub returns-clause-made : goal.returns-clause-made
 returns-clause-made c =
     let b = (goal.at.returns-clause-made c).In_ok-push in
     let ts = c.push.new.self.items in
-    omega (arith, c.in_ok-rest.ensures.made, c.in_ok-root_over.ensures.made, ap length c.in_ok-root_over.ensures.leaves, nodes_le c.self.inside.breaks 0 ts (all b).each)
+    both_ok c.root_over.result _ _ _ (λ (node : Tree) leaves made.
+    omega (arith, c.in_ok-rest.ensures.made, made, ap length leaves, nodes_le c.self.inside.breaks 0 ts (all b).each))
+    c.root_over.ensures.leaves c.root_over.ensures.made
 
 pub returns-clause-few : goal.returns-clause-few
 returns-clause-few c =
     let b = (goal.at.returns-clause-few c).In_ok-push in
     let a = c.self.inside in
     let same = ap (λ (x : Building). byte_len x.text) c.self.view_is in
-    omega (arith, same, (last b).1, ap length c.in_ok-root_over.ensures.leaves, c.self.invariant.long, c.self.invariant.counted, left b)
+    IfOk-weaker c.root_over.result _ _ (λ (node : Tree) leaves.
+    omega (arith, same, (last b).1, ap length leaves, c.self.invariant.long, c.self.invariant.counted, left b))
+    c.root_over.ensures.leaves
