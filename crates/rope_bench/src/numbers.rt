@@ -1,38 +1,27 @@
 //! Numbers that look random, and sums of what was read.
 ghost use Rattle.std.specs.Prelude.{◌≡◌, ◌≤◌, ◌+◌, ◌%◌};
 
-/// A row of numbers by a xorshift of 64 bits: the same row each time.
+use rope_plain::numbers;
+
+/// The row of numbers that all workloads draw from, each from its start.
 #[derive(Drop)]
 pub struct Numbers {
-    state: u64,
+    row: numbers::Numbers,
 }
 
 impl Numbers {
     /// At the start of the row.
     pub fn new() -> Numbers {
-        Numbers {
-            state: 0x9E37_79B9_7F4A_7C15,
-        }
-    }
-
-    // The next number of the row.
-    fn take(&mut self) -> u64
-        ensures { result ≡ self.new.state }
-    {
-        let mut x = self.state;
-        x ^= x << 13;
-        x ^= x >> 7;
-        x ^= x << 17;
-        self.state = x;
-        x
+        let row = numbers::Numbers::new(0x9E37_79B9_7F4A_7C15);
+        Numbers { row }
     }
 
     /// The next number, brought into the range from 0 to `most` by its remainder.
     pub fn up_to(&mut self, most: usize) -> usize
         ensures within { result ≤ most }
-        ensures drawn { result ≡ self.new.state % (most + 1) }
+        ensures drawn { result ≡ self.new.row.state % (most + 1) }
     {
-        let number = self.take() as usize;
+        let number = self.row.draw() as usize;
         match most.checked_add(1) {
             Some(count) => number % count,
             None => number,

@@ -1,7 +1,6 @@
 -- Two trees as one tree or two of the greater height.
-use Rattle.std.proofs.Common.{◌≡◌, ℕ, ◌+◌, ◌-◌, ◌^◌, ◌<◌, ◌≤◌, min, max, List, [], ◌∷◌, ◌++◌, length, take, drop, get_or, refl, sym, ap, subst, ◌∙◌, arith, inl, inr, Result, Ok, Err}
+use Rattle.std.proofs.Common.{◌≡◌, ℕ, ◌+◌, ◌-◌, ◌^◌, ◌<◌, ◌≤◌, min, max, List, [], ◌∷◌, ◌++◌, length, take, drop, get_or, refl, sym, ap, subst, ◌∙◌, arith, inl, inr}
 use Rattle.std.specs.List.{concat, All}
-use Rattle.std.specs.Result.{IfOk}
 use Rattle.std.proofs.lemmas.List.{append-nil, length-append, take_more, take_all}
 use Rattle.std.proofs.lemmas.Bool.{cases_lt}
 use Rattle.std.proofs.lemmas.List.Elements.{All-nil, All-cons, All-head, All-tail, All-append, All-weaker}
@@ -113,11 +112,6 @@ leaves_near br a b l m ea eb some more near =
     let left : a.leaves ≡ l ∷ [] = ap (λ x. x.leaves) ea ∙ one_leaf_is l (some_leaf l (rw ea at some)) in
     let right : b.leaves ≡ m ∷ [] = ap (λ x. x.leaves) eb ∙ one_leaf_is m (some_leaf m (rw eb at more)) in
     rw (left, right) (near, tt)
-
--- two facts on what a last call answers, as one
-pub both_ok : {X E : Type 0} (r : Result X E) (P Q R : X → Type 0) → ((x : X) → P x → Q x → R x) → IfOk r P → IfOk r Q → IfOk r R
-both_ok (Ok x) P Q R f p q = f x p q
-both_ok (Err e) P Q R f p q = tt
 
 -- the children of two nodes of one height, whose leaves next to each other stay
 module _ (a b : Tree) (xs ys : List Tree) (ea : a ≡ tree_over xs) (eb : b ≡ tree_over ys) (ca : AreChildren (breaks_of xs) (height_of xs) xs) (cb : AreChildren (breaks_of ys) (height_of ys) ys) (j : CanJoin a b) (same : a.height ≡ b.height)

@@ -1,4 +1,5 @@
 //! Numbers that look random.
+ghost use Rattle.std.specs.Prelude.{◌≡◌};
 
 /// A row of numbers by a xorshift of 64 bits: the same row each time from one start.
 #[derive(Drop)]
@@ -13,13 +14,20 @@ impl Numbers {
     }
 
     /// The next number of the row.
-    pub fn take(&mut self) -> usize {
+    pub fn draw(&mut self) -> u64
+        ensures { result ≡ self.new.state }
+    {
         let mut x = self.state;
         x ^= x << 13;
         x ^= x >> 7;
         x ^= x << 17;
         self.state = x;
-        (x >> 8) as usize
+        x
+    }
+
+    /// The next number without its last eight bits.
+    pub fn take(&mut self) -> usize {
+        (self.draw() >> 8) as usize
     }
 
     /// The next number, brought into the range from 0 to `most` by its remainder.

@@ -46,7 +46,7 @@ pub(crate) fn root_over(maker: &mut Maker, nodes: Vec<Node>) -> Made<Node>
         level = level_over(maker, &level)?;
     }
     if level.len() == 1 {
-        return Ok(level[0].share()?);
+        return level[0].share();
     }
     node_over(maker, &level)
 }

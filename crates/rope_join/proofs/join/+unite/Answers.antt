@@ -2,7 +2,7 @@ use Rattle.std.proofs.Common.{ℕ, ◌≤◌, refl, arith}
 use Rattle.rope_text.specs.Dense.{last_bytes}
 use Rattle.rope_tree.specs.View.{trees_in}
 use Rattle.rope_join.specs.Join.{CanMerge, IsUnion}
-use Rattle.rope_join.proofs.Unions.{both_ok}
+use Rattle.rope_tree.proofs.LastCalls.{both_ok}
 use Rattle.rope_join.proofs.Sides.{AreSides, sides_below, sides_some, sides_can_join, sides_near, sides_apart, sides_count, sides_siblings, sides_union}
 use Rattle.rope_join.proofs.join.+unite.Goals.{After-end_of-2, else-height-via-then-height+else-end_leaf_len-ge-MIN_PAIR_BYTES, else-height-via-else-height, then-height-eq0, else-height-eq0}
 use Rattle.rope_join.proofs.join.+unite.Goals as goal

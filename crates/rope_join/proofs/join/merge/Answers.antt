@@ -7,7 +7,8 @@ use Rattle.rope_tree.specs.Tree.{text, leaf_tree, height_of, breaks_of}
 use Rattle.rope_tree.specs.Siblings.{AreSiblings}
 use Rattle.rope_tree.specs.View.{trees_in}
 use Rattle.rope_join.specs.Join.{IsUnion}
-use Rattle.rope_join.proofs.Unions.{merged_leaves, kept, leaves_near, inner_siblings, inner_union, both_ok}
+use Rattle.rope_tree.proofs.LastCalls.{both_ok}
+use Rattle.rope_join.proofs.Unions.{merged_leaves, kept, leaves_near, inner_siblings, inner_union}
 use Rattle.std.proofs.lemmas.Bool.Decides.{nat_tests}
 use Rattle.rope_join.proofs.join.merge.Goals.{After-info-then-is_short, After-push_str, In-Inner-view, then-len-lt-MIN_BYTES, else-len-lt-MIN_BYTES, else-len-le-MAX_BYTES-via-then-len-le-MAX_BYTES+else-is_short, else-len-le-MAX_BYTES-via-else-len-le-MAX_BYTES}
 use Rattle.rope_join.proofs.join.merge.Goals as goal
