@@ -19,9 +19,9 @@ remove-requires g c = may_remove c.in-Ok.rope.text (is_first c.in-Ok.rope.text c
 pub insert-requires : goal.insert-requires
 insert-requires g c =
     let first = is_first c.in-Ok.rope.text c.as_slice-text.result.now c.in-Ok.ensures.ok c.as_slice-text.ensures in
-    omega (arith, ten c.in-Ok.rope.text c.remove.new.self.text first c.in_ok-remove.ensures.ok)
+    omega (arith, ten c.in-Ok.rope.text c.remove.new.self.text first c.in_ok-remove.ensures.ok.1)
 
 pub slice-requires : goal.slice-requires
 slice-requires g c =
     let first = is_first c.in-Ok.rope.text c.as_slice-text.result.now c.in-Ok.ensures.ok c.as_slice-text.ensures in
-    may_slice c.in-Ok.rope.text c.remove.new.self.text c.insert.new.self.text first c.in_ok-remove.ensures.ok c.in_ok-insert.ensures.ok.1
+    may_slice c.in-Ok.rope.text c.remove.new.self.text c.insert.new.self.text first c.in_ok-remove.ensures.ok.1 c.in_ok-insert.ensures.ok.1
