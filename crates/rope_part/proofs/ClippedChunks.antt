@@ -33,7 +33,7 @@ clip-append (x ∷ p) q a b =
     ∙ cons_nonempty-append (slice_range x a b) (clip p (a - length x) (b - length x)) (clip q ((a - length x) - length (concat p)) ((b - length x) - length (concat p)))
     ∙ (rw (from, to) refl)
 
-split_at : (parts : List (List ℕ)) (k : ℕ) → k < length parts → parts ≡ take k parts ++ (get_or parts k [] ∷ drop (suc k) parts)
+pub split_at : (parts : List (List ℕ)) (k : ℕ) → k < length parts → parts ≡ take k parts ++ (get_or parts k [] ∷ drop (suc k) parts)
 split_at [] k l = absurd (omega arith)
 split_at (x ∷ parts) zero l = refl
 split_at (x ∷ parts) (suc k) l = ap (λ r. x ∷ r) (split_at parts k (omega arith))

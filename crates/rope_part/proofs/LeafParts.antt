@@ -11,12 +11,12 @@ use Rattle.rope_text.specs.Breaks.{break_count}
 use Rattle.rope_text.specs.Lines.{line_start}
 use Rattle.rope_text.specs.Cutting.{clip}
 use Rattle.rope_text.specs.Lookup.{found_chunk, chunk_index_at_byte, chunk_index_at_char, chunk_index_at_line_break}
-use Rattle.rope_text.proofs.ChunkLaws.{before}
+use Rattle.rope_text.proofs.ChunkLaws.{before, after}
 use Rattle.rope_text.proofs.ClipLaws.{concat-clip}
 use Rattle.rope_text.proofs.ConversionLaws.{char_to_line-line_start}
 use Rattle.rope_text.proofs.LineLaws.{line_start-le-length}
 use Rattle.rope_text.proofs.LookupLaws.{breaks_before}
-use Rattle.rope_text.proofs.Measures.{IsMeasure-byte_len, size_le}
+use Rattle.rope_text.proofs.Measures.{IsMeasure-byte_len, size_le, size_lt}
 use Rattle.rope_tree.specs.Tree.{Tree, text, IsTree}
 use Rattle.rope_tree.proofs.LeafLaws.{nonempty_leaves}
 use Rattle.rope_tree.specs.declared.search.Unit.TheVariants.{Byte, Char, LineBreak}
@@ -169,4 +169,28 @@ ends_break k at t start end leaf front tree s f some next last =
           let joined = ap (λ u. line_start t.breaks u k) (concat-clip t.leaves start.chars end.chars) in
           line_break_index t.breaks (clip t.leaves start.chars end.chars) k nonempty ∙ ap (λ n. chunk_index_at_char (clip t.leaves start.chars end.chars) (n - 1)) joined
           ∙ p.at_char (i - 1) (omega arith) (omega arith));
+    }
+
+-- the leaf that holds the excerpt's first byte: how many of its characters, and of its bytes, stand before the excerpt
+pub record StartsIn (start : TextInfo) (leaf : List ℕ) (front : TextInfo) : Type 0 where
+  pub within : start.chars - front.chars ≤ length leaf
+  pub place : start.chars ≡ front.chars + (start.chars - front.chars)
+  pub bytes : start.bytes - front.bytes ≡ byte_len (take (start.chars - front.chars) leaf)
+
+pub starts_in : (t : Tree) (start end : TextInfo) (leaf : List ℕ) (front : TextInfo) → IsTree t → IsExcerpt t.breaks (text t) start end → IsFound Byte start.bytes t leaf front → StartsIn start leaf front
+starts_in t start end leaf front tree s f =
+    let m = measured t.breaks (text t) start end s in
+    let l = lies_at Byte start.bytes t leaf front f in
+    let meets = meets_byte start.bytes t start end leaf front s f (omega arith) m.some_bytes in
+    let p = leaf_in t start end leaf front tree s f.index f.within f.leaf_is f.before_is meets.starts meets.ends in
+    let first = ap byte_len (before_is_front t.leaves f.index f.within) in
+    let whole = ap length l.around ∙ length-append (before t.leaves f.index) (leaf ++ after t.leaves f.index) in
+    let later : front.chars ≤ start.chars = elim (cases_lt start.chars front.chars) [
+      | inr not ↦ not
+      | inl less ↦ absurd (omega (arith, f.not_past, m.start_bytes, l.bytes, l.chars, size_lt byte_len IsMeasure-byte_len (text t) start.chars (length (before t.leaves f.index)) (omega (arith, l.chars)) (omega arith)))
+    ] in
+    record {
+      within = omega (arith, meets.ends);
+      place = omega arith;
+      bytes = sym p.from_bytes;
     }

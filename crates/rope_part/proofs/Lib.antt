@@ -13,3 +13,4 @@ pub mod Lookups
 pub mod Kept
 mod ChunksAt
 pub mod PartsBetween
+pub mod InChunks

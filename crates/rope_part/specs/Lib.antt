@@ -1,5 +1,6 @@
 pub mod Edge
 pub mod Found
+pub mod InChunk
 pub mod Kept
 pub mod Excerpt
 pub mod Plain

@@ -7,8 +7,9 @@ ghost use Rattle.rope_text.specs.Lines.{line_start, line_count};
 ghost use Rattle.rope_tree.specs.Search.{count_of};
 ghost use Rattle.rope_tree.specs.Tree.{IsTree, text};
 ghost use Rattle.rope_part.specs.Edge.{start_info, end_info, line_info, IsLeafFrom, IsExcerpt, IsExcerpt-prop, IsLowTree, IsLowTree-prop};
+ghost use Rattle.rope_part.specs.InChunk.{IsInChunk};
 
-use rope_text::str_utils::count_surrogates;
+use rope_text::str_utils::{char_to_byte_idx, count_surrogates};
 use rope_text::{Steps, TextInfo};
 use rope_tree::{Found, Node, Unit, count, leaf_at};
 
@@ -21,6 +22,8 @@ fn line_start_at(node: &Node, line_idx: usize) -> (TextInfo, &str)
     ensures before { result.0 ≡ line_info node.now.breaks (text node.now) line_idx }
     ensures rest { IsLeafFrom node.now (line_start node.now.breaks (text node.now) line_idx)
         (chars result.1.now) }
+    ensures chunk { IsInChunk (text node.now) node.now.leaves
+        (line_start node.now.breaks (text node.now) line_idx) (chars result.1.now) }
 {
     let found = leaf_at(node, Unit::LineBreak, line_idx - 1, &mut Steps::new());
     let leaf = found.leaf.as_str();
@@ -45,7 +48,10 @@ pub struct Excerpt<'a> {
 
 impl<'a> Excerpt<'a> {
     ghost use Rattle.rope_part.specs.Kept.{IsPart};
-    ghost use Rattle.rope_part.specs.Excerpt.{content_of, text_of, breaks_of};
+    ghost use Rattle.std.specs.Prelude.{◌*◌, IfSome, OnSome};
+    ghost use Rattle.std.specs.List.{slice_range};
+    ghost use Rattle.rope_text.specs.Cutting.{clip, single_chunk};
+    ghost use Rattle.rope_part.specs.Excerpt.{content_of, text_of, chunks_of, breaks_of};
 
     /// A place in its text as a place in the tree's. For lines it may be the one past the last.
     pub fn place(&self, unit: Unit, idx: usize) -> usize
@@ -63,6 +69,34 @@ impl<'a> Excerpt<'a> {
         ensures kept { IsPart (content_of self.now) }
     {
         self.end.minus(self.start)
+    }
+
+    /// What the leaf that holds its first character has from there on, perhaps past its end.
+    fn first_held(&self) -> &'a str
+        ensures { IsInChunk (text_of self.now) (chunks_of self.now) 0 (chars result.now) }
+    {
+        let found = leaf_at(self.node, Unit::Byte, self.start.bytes, &mut Steps::new());
+        &found.leaf.as_str()[self.start.bytes - found.before.bytes..]
+    }
+
+    /// Its characters from `start` up to `end`, where one leaf has them all.
+    pub(crate) fn in_one_leaf(&self, start: usize, end: usize) -> Option<&'a str>
+        requires some { start < end }
+        requires within { end ≤ length (text_of self.now) }
+        ensures text { IfSome result (λ part. slice_range (text_of self.now) start end
+            ≡ chars part.now) }
+        ensures chunks { IfSome result (λ part. clip (chunks_of self.now) start end
+            ≡ single_chunk (chars part.now)) }
+    {
+        let place = self.place(Unit::Char, start);
+        let found = leaf_at(self.node, Unit::Char, place, &mut Steps::new());
+        let skip = place - found.before.chars;
+        let count = end - start;
+        if count > found.inside.chars - skip {
+            return None;
+        }
+        let held = &found.leaf.as_str()[found.leaf.char_to_byte_idx(skip)..];
+        Some(&held[..char_to_byte_idx(held, count)])
     }
 
     /// The `start` of its part from a character on.
@@ -138,22 +172,24 @@ impl<'a> Excerpt<'a> {
         self.counts_to(line_start_at(self.node, place).0)
     }
 
-    /// The counts of its text before a line, and before the next one; past the last line those of all of it. It is one look-up
-    /// where the line ends before the leaf does.
-    pub(crate) fn around_line(&self, line_idx: usize) -> (TextInfo, TextInfo)
+    /// The counts of its text before a line, and before the next one; past the last line those of all of it. And what the leaf
+    /// in which the line starts has from there on. One look-up, where the line ends before that leaf does.
+    pub(crate) fn around_line(&self, line_idx: usize) -> (TextInfo, TextInfo, &'a str)
         requires { line_idx < line_count (breaks_of self.now) (text_of self.now) }
         ensures start { result.0 ≡ line_info (breaks_of self.now) (text_of self.now) line_idx }
         ensures end { result.1 ≡ line_info (breaks_of self.now) (text_of self.now) (line_idx + 1) }
+        ensures held { IsInChunk (text_of self.now) (chunks_of self.now) result.0.chars
+            (chars result.2.now) }
     {
         if line_idx == 0 {
-            return (TextInfo::new(), self.before_line(1));
+            return (TextInfo::new(), self.before_line(1), self.first_held());
         }
         let (start, rest) = line_start_at(self.node, self.place(Unit::LineBreak, line_idx));
         let line = TextInfo::of_first_line(rest, self.node.line_breaks());
         let before = self.counts_to(start);
         if line.break_count == 0 {
-            return (before, self.before_line(line_idx + 1));
+            return (before, self.before_line(line_idx + 1), rest);
         }
-        (before, self.counts_to(start.plus(line)))
+        (before, self.counts_to(start.plus(line)), rest)
     }
 }

@@ -12,11 +12,12 @@ ghost use Rattle.rope_tree.specs.Conversions.{end_index, are_converted, converte
 ghost use Rattle.rope_tree.specs.Tree.{text};
 ghost use Rattle.rope_part.specs.Edge.{line_info};
 ghost use Rattle.rope_part.specs.Found.{IsFoundChunk, MayHold, chunk_index};
+ghost use Rattle.rope_part.specs.InChunk.{IsInChunk};
 
 use crate::excerpt::Excerpt;
 use crate::plain::Plain;
 use rope_text::str_utils::{byte_len_of, char_to_byte_idx, first_char};
-use rope_text::{LineBreaks, Steps, TextInfo};
+use rope_text::{LineBreaks, MAX_BYTES, Steps, TextInfo};
 use rope_tree::{Node, Unit, byte_at, char_at, convert, convert_in, count, first_sought, leaf_at};
 
 /// A part of a rope's text, or of a plain text. It counts its own text: one that ends after the CR of a CR LF has that CR
@@ -96,11 +97,18 @@ impl<'a> Part<'a> {
             return Part::from_str_with("", self.line_breaks());
         }
         match self {
-            Part::InTree(excerpt) => Part::InTree(Excerpt {
-                node: excerpt.node,
-                start: excerpt.start_of(start),
-                end: excerpt.end_of(end),
-            }),
+            Part::InTree(excerpt) => {
+                if end - start <= MAX_BYTES {
+                    if let Some(text) = excerpt.in_one_leaf(start, end) {
+                        return Part::from_str_with(text, excerpt.node.line_breaks());
+                    }
+                }
+                Part::InTree(Excerpt {
+                    node: excerpt.node,
+                    start: excerpt.start_of(start),
+                    end: excerpt.end_of(end),
+                })
+            }
             Part::Alone(plain) => {
                 let text = plain.as_str();
                 let rest = &text[char_to_byte_idx(text, start)..];
@@ -121,23 +129,27 @@ impl<'a> Part<'a> {
         }
     }
 
-    // The counts of its text before a line, and before the next one; past the last line those of all of it.
-    fn around_line(&self, line_idx: usize) -> (TextInfo, TextInfo)
+    // The counts of its text before a line, and before the next one; past the last line those of all of it. And what the chunk
+    // in which the line starts has from there on.
+    fn around_line(&self, line_idx: usize) -> (TextInfo, TextInfo, &'a str)
         requires { line_idx < line_count (breaks_of self.now) (text_of self.now) }
         ensures start { result.0 ≡ line_info (breaks_of self.now) (text_of self.now) line_idx }
         ensures end { result.1 ≡ line_info (breaks_of self.now) (text_of self.now) (line_idx + 1) }
+        ensures held { IsInChunk (text_of self.now) (chunks_of self.now) result.0.chars
+            (chars result.2.now) }
     {
-        // For the proof: `info` says that a part has at most `isize::MAX` bytes, so there is a number for the line past the last.
+        // For the proof: `info` says that a part has at most `isize::MAX` bytes, so the counts up to the next line fit.
         let _ = self.info();
         match self {
             Part::InTree(excerpt) => excerpt.around_line(line_idx),
-            Part::Alone(plain) => (plain.before_line(line_idx), plain.before_line(line_idx + 1)),
+            Part::Alone(plain) => plain.around_line(line_idx),
         }
     }
 
-    /// The part between two of its places, by the counts of its text up to them. The first lies in no CR LF.
+    /// The part between two of its places, by the counts of its text up to them. The first lies in no CR LF. `held` is what a
+    /// chunk has from there on: a part that ends in it is its text, of which nothing is looked up again.
     #[inline(always)]
-    pub fn between(&self, from: TextInfo, to: TextInfo) -> Part<'a>
+    pub fn between(&self, from: TextInfo, to: TextInfo, held: &'a str) -> Part<'a>
         requires from_is { from
             ≡ info_of (breaks_of self.now) (take from.chars (text_of self.now)) }
         requires to_is { to ≡ info_of (breaks_of self.now) (take to.chars (text_of self.now)) }
@@ -145,10 +157,15 @@ impl<'a> Part<'a> {
         requires within { to.chars ≤ length (text_of self.now) }
         requires apart { parts_crlf (take from.chars (text_of self.now))
             (drop from.chars (text_of self.now)) ≡ false }
+        requires held { IsInChunk (text_of self.now) (chunks_of self.now) from.chars
+            (chars held.now) }
         ensures { content_of result ≡ part_between (content_of self.now) from.chars to.chars }
     {
-        if from.chars == to.chars {
-            return Part::from_str_with("", self.line_breaks());
+        let info = to.minus(from);
+        if info.bytes <= held.len() {
+            let text = &held[..info.bytes];
+            let breaks = self.line_breaks();
+            return Part::Alone(Plain { text, info, breaks });
         }
         match self {
             Part::InTree(excerpt) => {
@@ -159,7 +176,6 @@ impl<'a> Part<'a> {
             }
             Part::Alone(plain) => {
                 let text = &plain.as_str()[from.bytes..to.bytes];
-                let info = to.minus(from);
                 let breaks = plain.breaks;
                 Part::Alone(Plain { text, info, breaks })
             }
@@ -171,8 +187,8 @@ impl<'a> Part<'a> {
         requires { line_idx < line_count (breaks_of self.now) (text_of self.now) }
         ensures { content_of result ≡ line_of (content_of self.now) line_idx }
     {
-        let (start, end) = self.around_line(line_idx);
-        self.between(start, end)
+        let (start, end, held) = self.around_line(line_idx);
+        self.between(start, end, held)
     }
 
     /// The byte at a place.

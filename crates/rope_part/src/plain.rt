@@ -1,10 +1,11 @@
 //! A plain text as a part.
-ghost use Rattle.std.specs.Prelude.{◌≡◌};
+ghost use Rattle.std.specs.Prelude.{◌≡◌, ◌+◌, ◌<◌, ◌^◌, drop};
 ghost use Rattle.std.specs.Str.{chars};
+ghost use Rattle.rope_text.specs.Text.{byte_len};
 ghost use Rattle.rope_text.specs.TextInfo.{info_of};
+ghost use Rattle.rope_text.specs.Lines.{line_count};
 ghost use Rattle.rope_part.specs.Edge.{line_info, IsInfo-prop};
 
-use rope_text::str_utils::line_to_byte_with;
 use rope_text::{LineBreaks, TextInfo};
 
 /// A plain text, with its counts by a set of line breaks.
@@ -30,8 +31,27 @@ impl<'a> Plain<'a> {
     pub(crate) fn before_line(&self, line_idx: usize) -> TextInfo
         ensures { result ≡ line_info self.now.breaks (text_of self.now) line_idx }
     {
-        let text = self.as_str();
-        let bytes = line_to_byte_with(text, line_idx, self.breaks);
-        TextInfo::from_str(&text[..bytes], self.breaks)
+        if line_idx == 0 {
+            return TextInfo::new();
+        }
+        if line_idx > self.info.break_count {
+            return self.info;
+        }
+        TextInfo::before_line(self.as_str(), line_idx, self.breaks)
+    }
+
+    /// The counts of the text before a line, and before the next one; past the last line those of all of it. And the text from
+    /// the line on.
+    pub(crate) fn around_line(&self, line_idx: usize) -> (TextInfo, TextInfo, &'a str)
+        requires within { line_idx < line_count self.now.breaks (text_of self.now) }
+        requires fits { byte_len (text_of self.now) < 2 ^ 63 }
+        ensures start { result.0 ≡ line_info self.now.breaks (text_of self.now) line_idx }
+        ensures end { result.1 ≡ line_info self.now.breaks (text_of self.now) (line_idx + 1) }
+        ensures held { chars result.2.now ≡ drop result.0.chars (text_of self.now) }
+    {
+        let start = self.before_line(line_idx);
+        let held = &self.as_str()[start.bytes..];
+        let line = TextInfo::of_first_line(held, self.breaks);
+        (start, start.plus(line), held)
     }
 }

@@ -11,6 +11,10 @@ use Rattle.rope_text.proofs.LineSeams.{break_count-front}
 use Rattle.rope_tree.proofs.Infos.{small_info}
 use Rattle.rope_tree.proofs.Descents.{small_found}
 use Rattle.rope_part.proofs.Edges.{line_found, line_rest, line_within}
+use Rattle.rope_part.proofs.InChunks.{in_found}
+use Rattle.rope_text.proofs.LineLaws.{line_start-le-length}
+use Rattle.rope_tree.proofs.FoundLaws.{found_line_start}
+use Rattle.rope_tree.specs.declared.search.Unit.TheVariants.{LineBreak}
 use Rattle.rope_part.proofs.excerpt.line_start_at.Goals.{After-before_line-front}
 use Rattle.rope_part.proofs.excerpt.line_start_at.Goals as goal
 
@@ -72,3 +76,13 @@ returns-clause-rest c =
     rw (chars_back c.as_str-leaf.result.now c.range_from.result.now leaf k c.before_line-front.result.bytes c.as_str-leaf.utf8 c.as_str-leaf.ensures.chars
     (ap (λ x. x.bytes) (front_is (goal.at.returns-clause-rest c).After-before_line-front) ∙ ap (λ s. byte_len (take k s)) (sym c.as_str-leaf.ensures.chars)) c.range_from.ensures.value)
     (line_rest c.args.line_idx c.args.node.now leaf c.leaf_at-found.result.before c.requires.tree c.leaf_at-found.ensures.found (omega arith) (omega arith))
+
+pub returns-clause-chunk : goal.returns-clause-chunk
+returns-clause-chunk c =
+    let leaf : List ℕ = c.leaf_at-found.result.leaf in
+    let k : ℕ = line_start c.args.node.now.breaks leaf (c.args.line_idx - c.leaf_at-found.result.before.break_count) in
+    in_found LineBreak (c.args.line_idx - 1) c.args.node.now leaf c.leaf_at-found.result.before c.leaf_at-found.ensures.found k _ _
+    (line_start-le-length c.args.node.now.breaks leaf (c.args.line_idx - c.leaf_at-found.result.before.break_count))
+    (found_line_start (c.args.line_idx - 1) c.args.line_idx c.args.node.now leaf c.leaf_at-found.result.before c.requires.tree c.leaf_at-found.ensures.found (omega arith))
+    (chars_back c.as_str-leaf.result.now c.range_from.result.now leaf k c.before_line-front.result.bytes c.as_str-leaf.utf8 c.as_str-leaf.ensures.chars
+    (ap (λ x. x.bytes) (front_is (goal.at.returns-clause-chunk c).After-before_line-front) ∙ ap (λ s. byte_len (take k s)) (sym c.as_str-leaf.ensures.chars)) c.range_from.ensures.value)

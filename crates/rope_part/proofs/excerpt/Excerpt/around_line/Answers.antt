@@ -1,4 +1,4 @@
-use Rattle.std.proofs.Common.{◌≡◌, ◌+◌, ◌<◌, ◌∙◌, take, sym, ap, arith}
+use Rattle.std.proofs.Common.{◌≡◌, ◌+◌, ◌-◌, ◌<◌, ◌∙◌, ℕ, length, take, sym, ap, arith, inl, inr}
 use Rattle.std.specs.Str.{chars}
 use Rattle.rope_text.specs.Text.{byte_len}
 use Rattle.rope_text.specs.declared.text_info.TextInfo.{TextInfo}
@@ -16,8 +16,14 @@ use Rattle.rope_tree.proofs.FoundLaws.{line_start_first}
 use Rattle.rope_part.specs.Excerpt.{text_of, breaks_of}
 use Rattle.rope_part.proofs.LeafLines.{line_in_leaf}
 use Rattle.rope_part.proofs.Measured.{measured}
+use Rattle.rope_part.proofs.InChunks.{in_clip, in_chunk_end}
+use Rattle.rope_part.specs.InChunk.{IsInChunk}
+use Rattle.rope_part.specs.Excerpt.{chunks_of}
+use Rattle.std.proofs.lemmas.Bool.{cases_lt}
+use Rattle.std.proofs.lemmas.List.{length-take, length-take-le}
+use Rattle.rope_text.proofs.LineLaws.{line_start-le-length}
 use Rattle.rope_part.proofs.ExcerptLines.{line_later, line_place_within, line_counts, own_line}
-use Rattle.rope_part.proofs.excerpt.Excerpt.around_line.Goals.{After-line_start_at, Else-line-eq0}
+use Rattle.rope_part.proofs.excerpt.Excerpt.around_line.Goals.{After-line_start_at, After-counts_to-before, Else-line-eq0}
 use Rattle.rope_part.proofs.excerpt.Excerpt.around_line.Goals as goal
 
 start_is : (c : After-line_start_at) → c.line_start_at.result.0 ≡ info_of c.args.self.now.node.now.breaks (take (line_start c.args.self.now.node.now.breaks (text c.args.self.now.node.now) (c.args.self.now.start.break_count + c.args.line_idx)) (text c.args.self.now.node.now))
@@ -129,3 +135,26 @@ pub returns-clause-end : goal.returns-clause-end
 returns-clause-end c =
     let end = next_is (goal.at.returns-clause-end c).Else-line-eq0 c.plus.result c.plus.ensures.sum in
     c.counts_to.ensures ∙ own_line _ _ _ _ _ c.args.self.now.is_excerpt (c.args.line_idx + 1) (omega arith) end
+
+-- what follows in the leaf lies in the chunk there, or the line starts at the end
+held_in : (c : After-counts_to-before) → c.line_start_at.result.0 ≡ info_of c.args.self.now.node.now.breaks (take (line_start c.args.self.now.node.now.breaks (text c.args.self.now.node.now) (c.args.self.now.start.break_count + c.args.line_idx)) (text c.args.self.now.node.now)) → IsInChunk (text_of c.args.self.now) (chunks_of c.args.self.now) c.counts_to-before.result.chars (chars c.line_start_at.result.1.now)
+held_in c start =
+    let s = c.args.self.now in
+    let t = text s.node.now in
+    let m = measured _ _ _ _ s.is_excerpt in
+    let place : ℕ = c.line_start_at.result.0.chars in
+    let here : place ≡ line_start s.node.now.breaks t c.place.result = ap (λ x. x.chars) c.line_start_at.ensures.before ∙ length-take-le (line_start s.node.now.breaks t c.place.result) t (line_start-le-length s.node.now.breaks t c.place.result) in
+    let later = line_later _ _ _ _ _ s.is_excerpt c.args.line_idx (omega arith) start in
+    let size = ap (λ x. x.chars) c.counts_to-before.ensures ∙ length-take (place - s.start.chars) (text_of s) in
+    elim (cases_lt place s.end.chars) [
+      | inr past ↦ in_chunk_end (text_of s) (chunks_of s) c.counts_to-before.result.chars (chars c.line_start_at.result.1.now) (omega (arith, size, m.chars))
+      | inl inside ↦
+          let from : s.start.chars + c.counts_to-before.result.chars ≡ line_start s.node.now.breaks t c.place.result = omega (arith, size, m.chars, here, later) in
+          in_clip t s.node.now.leaves s.start.chars s.end.chars c.counts_to-before.result.chars (chars c.line_start_at.result.1.now) (rw from c.line_start_at.ensures.chunk) (omega (arith, m.some)) m.within
+    ]
+
+pub returns-then-line-eq0-clause-held : goal.returns-then-line-eq0-clause-held
+returns-then-line-eq0-clause-held c = held_in (goal.at.returns-then-line-eq0-clause-held c).After-counts_to-before (start_is (goal.at.returns-then-line-eq0-clause-held c).After-line_start_at)
+
+pub returns-clause-held : goal.returns-clause-held
+returns-clause-held c = held_in (goal.at.returns-clause-held c).After-counts_to-before (start_is (goal.at.returns-clause-held c).After-line_start_at)

@@ -1,4 +1,4 @@
-use Rattle.std.proofs.Common.{ℕ, ◌≡◌, take, drop, ◌-◌, ◌≤◌, ◌∙◌, length, refl, ap, sym, arith}
+use Rattle.std.proofs.Common.{ℕ, List, ◌≡◌, ◌++◌, take, drop, false, ◌-◌, ◌<◌, ◌≤◌, ◌∙◌, inl, inr, length, refl, ap, sym, arith}
 use Rattle.std.proofs.lemmas.Str.{chars-nil}
 use Rattle.rope_text.specs.Cutting.{single_chunk}
 use Rattle.rope_text.specs.TextInfo.{info_sum}
@@ -12,23 +12,97 @@ use Rattle.rope_part.proofs.Measured.{measured}
 use Rattle.rope_part.proofs.Excerpts.{length_part}
 use Rattle.rope_part.proofs.Clips.{part_of_part, clip_of_clip, single_chunk-clip}
 use Rattle.rope_part.proofs.PartsBetween.{between_sum, same_content, excerpt_between, small_between, AreSmall}
-use Rattle.rope_part.specs.Part.{content_of, text_of, chunks_of}
+use Rattle.rope_part.specs.Part.{content_of, text_of, chunks_of, breaks_of}
+use Rattle.rope_text.specs.Text.{byte_len}
+use Rattle.rope_text.specs.declared.text_info.TextInfo.{TextInfo}
+use Rattle.rope_text.specs.Content.{Content}
+use Rattle.rope_text.specs.declared.line_breaks.LineBreaks.{LineBreaks}
+use Rattle.rope_text.specs.Cutting.{parts_crlf}
 use Rattle.std.specs.List.{slice_range}
 use Rattle.std.specs.Str.{chars}
 use Rattle.rope_text.specs.TextInfo.{info_of}
 use Rattle.rope_text.proofs.LineSeams.{parts_crlf-take}
 use Rattle.rope_part.specs.Plain as of_plain
+use Rattle.std.proofs.lemmas.Bool.{cases_lt}
+use Rattle.rope_text.proofs.TextParts.{chars_front}
+use Rattle.rope_text.proofs.Walks.{byte_len-chars}
+use Rattle.rope_part.proofs.InChunks.{EndsInChunk, ends_in_chunk}
 use Rattle.rope_part.proofs.ChunkParts.{chars_of_part, boundary_of}
 use Rattle.rope_part.proofs.Excerpts.{front_and_part}
-use Rattle.rope_part.proofs.part.Part.between.Goals.{In-InTree, In-Alone, After-range-text}
+use Rattle.rope_part.proofs.part.Part.between.Goals.{Then-info-held, In-InTree, After-range-text, After-range-text-in-Alone}
 use Rattle.rope_part.proofs.part.Part.between.Goals as goal
+
+-- the counts of the part
+sum_is : (own : Content) (from to : TextInfo) → from ≡ info_of own.breaks (take from.chars own.text) → to ≡ info_of own.breaks (take to.chars own.text) → from.chars ≤ to.chars
+    → parts_crlf (take from.chars own.text) (drop from.chars own.text) ≡ false → to ≡ info_sum from (info_of own.breaks (slice_range own.text from.chars to.chars))
+sum_is own from to = between_sum own.breaks own.text from to
+
+pub minus-info-requires-clause-bytes : goal.minus-info-requires-clause-bytes
+minus-info-requires-clause-bytes c = omega (arith, ap (λ x. x.bytes) (sum_is (content_of c.args.self.now) c.args.from c.args.to c.requires.from_is c.requires.to_is c.requires.ordered c.requires.apart))
+
+pub minus-info-requires-clause-utf16_surrogates : goal.minus-info-requires-clause-utf16_surrogates
+minus-info-requires-clause-utf16_surrogates c = omega (arith, ap (λ x. x.utf16_surrogates) (sum_is (content_of c.args.self.now) c.args.from c.args.to c.requires.from_is c.requires.to_is c.requires.ordered c.requires.apart))
+
+pub minus-info-requires-clause-break_count : goal.minus-info-requires-clause-break_count
+minus-info-requires-clause-break_count c = omega (arith, ap (λ x. x.break_count) (sum_is (content_of c.args.self.now) c.args.from c.args.to c.requires.from_is c.requires.to_is c.requires.ordered c.requires.apart))
+
+counts_are : (own : Content) (from to info : TextInfo) → from ≡ info_of own.breaks (take from.chars own.text) → to ≡ info_of own.breaks (take to.chars own.text) → from.chars ≤ to.chars
+    → parts_crlf (take from.chars own.text) (drop from.chars own.text) ≡ false
+    → ((breaks : LineBreaks) (s t : List ℕ) → to ≡ info_of breaks (s ++ t) → from ≡ info_of breaks s → parts_crlf s t ≡ false → info ≡ info_of breaks t)
+    → info ≡ info_of own.breaks (slice_range own.text from.chars to.chars)
+counts_are own from to info first last ordered apart rest =
+    let i : ℕ = from.chars in
+    rest own.breaks (take i own.text) (slice_range own.text i to.chars) (last ∙ ap (info_of own.breaks) (sym (front_and_part own.text i to.chars ordered))) first
+    (parts_crlf-take (take i own.text) (drop i own.text) (to.chars - i) apart)
+
+-- a part that ends in the chunk
+ends : (c : Then-info-held) → EndsInChunk (text_of c.args.self.now) (chunks_of c.args.self.now) c.args.from.chars c.args.to.chars (chars c.args.held.now)
+ends c =
+    ends_in_chunk (text_of c.args.self.now) (chunks_of c.args.self.now) c.args.from.chars (chars c.args.held.now) c.requires.held c.args.to.chars c.requires.ordered c.requires.within
+    (omega (arith, ap (λ x. x.bytes) (counts_are (content_of c.args.self.now) c.args.from c.args.to c.minus-info.result c.requires.from_is c.requires.to_is c.requires.ordered c.requires.apart c.minus-info.ensures.rest), c.if-info-held.true, byte_len-chars c.args.held.now c.utf8.held))
+
+bytes_are : (c : Then-info-held) → c.minus-info.result.bytes ≡ byte_len (take (c.args.to.chars - c.args.from.chars) (chars c.args.held.now))
+bytes_are c = ap (λ x. x.bytes) (counts_are (content_of c.args.self.now) c.args.from c.args.to c.minus-info.result c.requires.from_is c.requires.to_is c.requires.ordered c.requires.apart c.minus-info.ensures.rest) ∙ ap byte_len (ends c).text_is
+
+pub range-text-requires-clause-end_boundary : goal.range-text-requires-clause-end_boundary
+range-text-requires-clause-end_boundary c =
+    boundary_of c.args.held.now (chars c.args.held.now) (c.args.to.chars - c.args.from.chars) c.minus-info.result.bytes c.utf8.held refl (bytes_are (goal.at.range-text-requires-clause-end_boundary c).Then-info-held)
+
+part_is : (c : After-range-text) → c.minus-info.result.bytes ≡ byte_len (take (c.args.to.chars - c.args.from.chars) (chars c.args.held.now))
+    → EndsInChunk (text_of c.args.self.now) (chunks_of c.args.self.now) c.args.from.chars c.args.to.chars (chars c.args.held.now) → chars c.range-text.result.now ≡ slice_range (text_of c.args.self.now) c.args.from.chars c.args.to.chars
+part_is c then_bytes then_ends =
+    chars_front c.args.held.now c.range-text.result.now (chars c.args.held.now) (c.args.to.chars - c.args.from.chars) c.minus-info.result.bytes c.utf8.held refl then_bytes c.range-text.ensures.value
+    ∙ sym then_ends.text_is
+
+pub invariant_of-result : goal.invariant_of-result
+invariant_of-result c =
+    let here = (goal.at.invariant_of-result c).After-range-text in
+    let counts = counts_are (content_of c.args.self.now) c.args.from c.args.to c.minus-info.result c.requires.from_is c.requires.to_is c.requires.ordered c.requires.apart c.minus-info.ensures.rest in
+    record { counted = counts ∙ ap (info_of (breaks_of c.args.self.now)) (sym (part_is here (bytes_are (goal.at.invariant_of-result c).Then-info-held) (ends (goal.at.invariant_of-result c).Then-info-held))) ∙ ap (λ b. info_of b (chars c.range-text.result.now)) (sym c.line_breaks-breaks.ensures) }
+
+pub returns-then-info-held : goal.returns-then-info-held
+returns-then-info-held c =
+    let here = (goal.at.returns-then-info-held c).After-range-text in
+    let e = ends (goal.at.returns-then-info-held c).Then-info-held in
+    let text = part_is here (bytes_are (goal.at.returns-then-info-held c).Then-info-held) e in
+    let chunks = ap single_chunk (text ∙ e.text_is) ∙ sym e.chunks_are in
+    same_content _ (part_between (content_of c.args.self.now) c.args.from.chars c.args.to.chars) text chunks c.line_breaks-breaks.ensures
+
+-- a part that goes on behind the chunk has a character
+some : (c : In-InTree) → c.args.from.chars < c.args.to.chars
+some c = elim (cases_lt c.args.from.chars c.args.to.chars) [
+  | inl less ↦ less
+  | inr none ↦ absurd (
+      let nothing = ap byte_len (slice_range_empty (text_of c.args.self.now) c.args.from.chars c.args.to.chars none) in
+      omega (arith, c.if-info-held.false, ap (λ x. x.bytes) (counts_are (content_of c.args.self.now) c.args.from c.args.to c.minus-info.result c.requires.from_is c.requires.to_is c.requires.ordered c.requires.apart c.minus-info.ensures.rest), nothing))
+]
 
 kept : (c : In-InTree)
     → IsExcerpt c.in-InTree.excerpt.node.now.breaks (text c.in-InTree.excerpt.node.now) (info_sum c.in-InTree.excerpt.start c.args.from) (info_sum c.in-InTree.excerpt.start c.args.to)
 kept c =
     let s = c.in-InTree.excerpt in
     excerpt_between s.node.now.breaks (text s.node.now) s.start s.end s.is_excerpt c.args.from c.args.to (rw c.in-InTree.is at c.requires.from_is) (rw c.in-InTree.is at c.requires.to_is)
-    (omega (arith, c.requires.ordered, c.if-from-to.false)) (rw c.in-InTree.is at c.requires.within) (rw c.in-InTree.is at c.requires.apart)
+    (some c) (rw c.in-InTree.is at c.requires.within) (rw c.in-InTree.is at c.requires.apart)
 
 small : (c : In-InTree) → AreSmall (info_sum c.in-InTree.excerpt.start c.args.from) × AreSmall (info_sum c.in-InTree.excerpt.start c.args.to)
 small c =
@@ -62,8 +136,8 @@ plus-end-requires-clause-utf16_surrogates c = (small (goal.at.plus-end-requires-
 pub plus-end-requires-clause-break_count : goal.plus-end-requires-clause-break_count
 plus-end-requires-clause-break_count c = (small (goal.at.plus-end-requires-clause-break_count c).In-InTree).1.break_count
 
-pub invariant_of-result : goal.invariant_of-result
-invariant_of-result c = record { is_low = c.in-InTree.excerpt.is_low; is_excerpt = rw (c.plus-start.ensures.sum, c.plus-end.ensures.sum) (kept (goal.at.invariant_of-result c).In-InTree) }
+pub invariant_of-result-in-InTree : goal.invariant_of-result-in-InTree
+invariant_of-result-in-InTree c = record { is_low = c.in-InTree.excerpt.is_low; is_excerpt = rw (c.plus-start.ensures.sum, c.plus-end.ensures.sum) (kept (goal.at.invariant_of-result-in-InTree c).In-InTree) }
 
 pub returns-in-InTree : goal.returns-in-InTree
 returns-in-InTree c =
@@ -77,59 +151,29 @@ returns-in-InTree c =
     let chunks = clip_of_clip s.node.now.leaves s.start.chars s.end.chars i j c.plus-start.result.chars c.plus-end.result.chars within start end in
     rw c.in-InTree.is (same_content _ (part_between (of_excerpt.content_of s) i j) t chunks refl)
 
-pub returns-then-from-to : goal.returns-then-from-to
-returns-then-from-to c =
-    let i = c.args.from.chars in
-    let j = c.args.to.chars in
-    let text = c.from_str_with.ensures.text ∙ chars-nil ∙ sym (slice_range_empty (text_of c.args.self.now) i j (omega (arith, c.if-from-to.true))) in
-    let chunks = c.from_str_with.ensures.chunks ∙ ap single_chunk chars-nil ∙ sym (clip_empty (chunks_of c.args.self.now) i j (omega (arith, c.if-from-to.true))) in
-    let breaks = c.from_str_with.ensures.breaks ∙ c.line_breaks.ensures in
-    same_content (content_of c.from_str_with.result) (part_between (content_of c.args.self.now) i j) text chunks breaks
-
 -- the part of a plain text
-sum_is : (c : In-Alone) → c.args.to ≡ info_sum c.args.from (info_of c.in-Alone.plain.breaks (slice_range (of_plain.text_of c.in-Alone.plain) c.args.from.chars c.args.to.chars))
-sum_is c =
-    between_sum c.in-Alone.plain.breaks (of_plain.text_of c.in-Alone.plain) c.args.from c.args.to (rw c.in-Alone.is at c.requires.from_is) (rw c.in-Alone.is at c.requires.to_is) c.requires.ordered
-    (rw c.in-Alone.is at c.requires.apart)
+own_part : (c : After-range-text-in-Alone) → chars c.range-text-in-Alone.result.now ≡ slice_range (of_plain.text_of c.in-Alone.plain) c.args.from.chars c.args.to.chars
+own_part c =
+    chars_of_part c.as_str.result.now (of_plain.text_of c.in-Alone.plain) c.range-text-in-Alone.result.now c.args.from.chars c.args.to.chars c.args.from.bytes c.args.to.bytes c.as_str.utf8 c.as_str.ensures c.requires.ordered
+    (ap (λ x. x.bytes) (rw c.in-Alone.is at c.requires.from_is)) (ap (λ x. x.bytes) (rw c.in-Alone.is at c.requires.to_is)) c.range-text-in-Alone.ensures.value
 
-part_is : (c : After-range-text) → chars c.range-text.result.now ≡ slice_range (of_plain.text_of c.in-Alone.plain) c.args.from.chars c.args.to.chars
-part_is c =
-    chars_of_part c.as_str.result.now (of_plain.text_of c.in-Alone.plain) c.range-text.result.now c.args.from.chars c.args.to.chars c.args.from.bytes c.args.to.bytes c.as_str.utf8 c.as_str.ensures c.requires.ordered
-    (ap (λ x. x.bytes) (rw c.in-Alone.is at c.requires.from_is)) (ap (λ x. x.bytes) (rw c.in-Alone.is at c.requires.to_is)) c.range-text.ensures.value
-
-pub range-text-requires-clause-start_le_end : goal.range-text-requires-clause-start_le_end
-range-text-requires-clause-start_le_end c = omega (arith, ap (λ x. x.bytes) (sum_is (goal.at.range-text-requires-clause-start_le_end c).In-Alone))
-
-pub range-text-requires-clause-start_boundary : goal.range-text-requires-clause-start_boundary
-range-text-requires-clause-start_boundary c =
+pub range-text-requires-in-Alone-clause-start_boundary : goal.range-text-requires-in-Alone-clause-start_boundary
+range-text-requires-in-Alone-clause-start_boundary c =
     λ _. boundary_of c.as_str.result.now (of_plain.text_of c.in-Alone.plain) c.args.from.chars c.args.from.bytes c.as_str.utf8 c.as_str.ensures (ap (λ x. x.bytes) (rw c.in-Alone.is at c.requires.from_is))
 
-pub range-text-requires-clause-end_boundary : goal.range-text-requires-clause-end_boundary
-range-text-requires-clause-end_boundary c =
+pub range-text-requires-in-Alone-clause-end_boundary : goal.range-text-requires-in-Alone-clause-end_boundary
+range-text-requires-in-Alone-clause-end_boundary c =
     boundary_of c.as_str.result.now (of_plain.text_of c.in-Alone.plain) c.args.to.chars c.args.to.bytes c.as_str.utf8 c.as_str.ensures (ap (λ x. x.bytes) (rw c.in-Alone.is at c.requires.to_is))
-
-pub minus-info-requires-clause-utf16_surrogates : goal.minus-info-requires-clause-utf16_surrogates
-minus-info-requires-clause-utf16_surrogates c = omega (arith, ap (λ x. x.utf16_surrogates) (sum_is (goal.at.minus-info-requires-clause-utf16_surrogates c).In-Alone))
-
-pub minus-info-requires-clause-break_count : goal.minus-info-requires-clause-break_count
-minus-info-requires-clause-break_count c = omega (arith, ap (λ x. x.break_count) (sum_is (goal.at.minus-info-requires-clause-break_count c).In-Alone))
 
 pub invariant_of-result-in-Alone : goal.invariant_of-result-in-Alone
 invariant_of-result-in-Alone c =
-    let t = of_plain.text_of c.in-Alone.plain in
-    let i = c.args.from.chars in
-    let breaks = c.in-Alone.plain.breaks in
-    let to_is = rw c.in-Alone.is at c.requires.to_is in
-    let apart = rw c.in-Alone.is at c.requires.apart in
-    let counts = c.minus-info.ensures.rest breaks (take i t) (slice_range t i c.args.to.chars)
-    (to_is ∙ ap (info_of breaks) (sym (front_and_part t i c.args.to.chars c.requires.ordered))) (rw c.in-Alone.is at c.requires.from_is)
-    (parts_crlf-take (take i t) (drop i t) (c.args.to.chars - i) apart) in
-    record { counted = counts ∙ ap (info_of breaks) (sym (part_is (goal.at.invariant_of-result-in-Alone c).After-range-text)) }
+    let counts = rw c.in-Alone.is at (counts_are (content_of c.args.self.now) c.args.from c.args.to c.minus-info.result c.requires.from_is c.requires.to_is c.requires.ordered c.requires.apart c.minus-info.ensures.rest) in
+    record { counted = counts ∙ ap (info_of c.in-Alone.plain.breaks) (sym (own_part (goal.at.invariant_of-result-in-Alone c).After-range-text-in-Alone)) }
 
 pub returns-in-Alone : goal.returns-in-Alone
 returns-in-Alone c =
     let plain = c.in-Alone.plain in
     let i = c.args.from.chars in
     let j = c.args.to.chars in
-    let part = part_is (goal.at.returns-in-Alone c).After-range-text in
+    let part = own_part (goal.at.returns-in-Alone c).After-range-text-in-Alone in
     rw c.in-Alone.is (same_content _ (part_between (of_plain.content_of plain) i j) part (ap single_chunk part ∙ single_chunk-clip (of_plain.text_of plain) i j) refl)

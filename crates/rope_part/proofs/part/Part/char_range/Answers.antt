@@ -34,17 +34,17 @@ to c =
     let m = measured _ _ _ _ s.is_excerpt in
     ap (λ x. x.chars) c.end_of.ensures ∙ length-take-le (s.start.chars + c.args.end) (text s.node.now) (omega (arith, within c))
 
-pub returns-in-InTree-clause-text : goal.returns-in-InTree-clause-text
-returns-in-InTree-clause-text c =
-    let e = (goal.at.returns-in-InTree-clause-text c).After-end_of in
+pub returns-after-end-start-le-MAX_BYTES-clause-text : goal.returns-after-end-start-le-MAX_BYTES-clause-text
+returns-after-end-start-le-MAX_BYTES-clause-text c =
+    let e = (goal.at.returns-after-end-start-le-MAX_BYTES-clause-text c).After-end_of in
     let s = c.in-InTree.excerpt in
     let m = measured _ _ _ _ s.is_excerpt in
     rw c.in-InTree.is
     (part_of_part (text s.node.now) s.start.chars s.end.chars c.args.start c.args.end c.start_of.result.chars c.end_of.result.chars (omega (arith, within e)) (from e) (to e))
 
-pub returns-in-InTree-clause-chunks : goal.returns-in-InTree-clause-chunks
-returns-in-InTree-clause-chunks c =
-    let e = (goal.at.returns-in-InTree-clause-chunks c).After-end_of in
+pub returns-after-end-start-le-MAX_BYTES-clause-chunks : goal.returns-after-end-start-le-MAX_BYTES-clause-chunks
+returns-after-end-start-le-MAX_BYTES-clause-chunks c =
+    let e = (goal.at.returns-after-end-start-le-MAX_BYTES-clause-chunks c).After-end_of in
     let s = c.in-InTree.excerpt in
     let m = measured _ _ _ _ s.is_excerpt in
     rw c.in-InTree.is
