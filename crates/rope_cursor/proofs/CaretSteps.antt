@@ -2,7 +2,7 @@
 use Rattle.std.proofs.Common.{◌≡◌, ℕ, ◌+◌, ◌^◌, ◌<◌, ◌≤◌, false, List, [], ◌∷◌, ◌++◌, length, take, drop, refl, sym, ap, subst, ◌∙◌, arith, append_assoc, inl, inr}
 use Rattle.std.specs.List.{concat}
 use Rattle.std.proofs.lemmas.Bool.{cases_lt}
-use Rattle.std.proofs.lemmas.List.{take-append-le, drop-append-le, take-append-drop, drop-drop, length-drop}
+use Rattle.std.proofs.lemmas.List.{take-append-le, drop-append-le, take-append-drop, drop-drop, length-drop, length-append, length-take-le}
 use Rattle.std.proofs.Math.Seq.{take-append-add, drop-append-add, take-add}
 use Rattle.rope_text.specs.declared.line_breaks.LineBreaks.{LineBreaks}
 use Rattle.rope_text.specs.declared.text_info.TextInfo.{TextInfo}
@@ -20,7 +20,8 @@ use Rattle.rope_text.proofs.LineLaws.{line_start-le-length}
 use Rattle.rope_text.proofs.LineSeams.{parts_crlf-take, first_line-left, first_line-right, first_line-all, no_break_at_all}
 use Rattle.rope_part.specs.Kept.{IsPart}
 use Rattle.rope_cursor.specs.Path.{Place, leaves}
-use Rattle.rope_cursor.specs.Caret.{halves_at, IsCaret, PassesLine}
+use Rattle.rope_part.proofs.InChunks.{in_chunk}
+use Rattle.rope_cursor.specs.Caret.{after_byte, halves_at, HoldsAhead, IsCaret, PassesLine}
 use Rattle.rope_cursor.proofs.Carets.{some_break, here_apart, whole_text, size_two, size_front, front_place, half_of, AreHalf}
 
 -- chunks of no text
@@ -145,3 +146,16 @@ module _ (breaks : LineBreaks) (p : Place) (b : ℕ) (g : IsCaret p b) (info : T
           counts = sum_is ∙ ap (λ x. info_sum x more) (e ∙ ap (info_of breaks) all) ∙ ap (λ x. info_sum (info_of breaks back) x) h.counts
               ∙ sym (info_of-append_apart breaks back (first_line breaks r) apart) ∙ ap (info_of breaks) (sym line);
         }
+
+-- what the chunk here has from a place on, it holds from there on
+pub holds_ahead : (p : Place) (b : ℕ) (held : List ℕ) → held ≡ after_byte p.here b → HoldsAhead (halves_at p b) held
+holds_ahead p b held same =
+    let k : ℕ = byte_to_char p.here b in
+    let within = byte_to_char-le-length p.here b in
+    let before : List ℕ = concat p.before in
+    let whole : concat (leaves p) ≡ (halves_at p b).front ++ (halves_at p b).back =
+    concat-append p.before (p.here ∷ p.after) ∙ ap (λ t. before ++ (t ++ concat p.after)) (sym (take-append-drop k p.here))
+    ∙ ap (λ t. before ++ t) (append_assoc (take k p.here) (drop k p.here) (concat p.after)) ∙ sym (append_assoc before (take k p.here) (drop k p.here ++ concat p.after)) in
+    let size : length before + k ≡ length (halves_at p b).front = omega (arith, length-append before (take k p.here), length-take-le k p.here within) in
+    let it = in_chunk p.before p.here p.after k within in
+    rw same (rw (whole, size) at it)

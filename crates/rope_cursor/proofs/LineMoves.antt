@@ -1,5 +1,5 @@
 -- The place and the counts of a cursor over lines, from line to line.
-use Rattle.std.proofs.Common.{◌≡◌, ℕ, ◌+◌, ◌-◌, ◌<◌, ◌≤◌, false, ◌++◌, length, take, drop, sym, ap, ◌∙◌, arith}
+use Rattle.std.proofs.Common.{◌≡◌, ℕ, ◌+◌, ◌-◌, ◌<◌, ◌≤◌, false, List, ◌++◌, length, take, drop, sym, ap, ◌∙◌, arith, inl, inr}
 use Rattle.std.specs.List.{slice_range}
 use Rattle.std.proofs.lemmas.List.{take-append-drop, take-take, drop-drop}
 use Rattle.std.proofs.Math.Seq.{drop-append_seam}
@@ -15,7 +15,10 @@ use Rattle.rope_text.proofs.LineSeams.{line_start_apart, break_count-front, firs
 use Rattle.rope_part.proofs.LeafLines.{next_counts}
 use Rattle.rope_text.proofs.InfoLaws.{same_info}
 use Rattle.rope_part.proofs.Excerpts.{front_and_part, part_of_front, length_part}
-use Rattle.rope_cursor.specs.Caret.{Halves}
+use Rattle.std.proofs.lemmas.Bool.{cases_lt}
+use Rattle.rope_part.specs.InChunk.{IsInChunk}
+use Rattle.rope_part.proofs.InChunks.{in_chunk_end}
+use Rattle.rope_cursor.specs.Caret.{Halves, HoldsAhead}
 use Rattle.rope_cursor.specs.Lines.{IsLineStart}
 use Rattle.rope_cursor.proofs.Carets.{AreHalf, half_of, size_front}
 
@@ -36,8 +39,8 @@ module _ (c : Content) (h new : Halves) (before passed : TextInfo) (l total : �
       sum ∙ ap (λ x. info_sum x passed) s.before_is ∙ ap (λ x. info_sum (info_of c.breaks (take (line_start c.breaks c.text l) c.text)) x) counts_are
       ∙ sym (next_counts c.breaks c.text l inside)
 
-  pub next_start : (after : TextInfo) → after ≡ info_sum before passed → IsLineStart c new after (l + 1) total
-  next_start after sum =
+  pub next_start : new.chunks ≡ h.chunks → (after : TextInfo) → after ≡ info_sum before passed → IsLineStart c new after (l + 1) total
+  next_start chunks after sum =
       let a : ℕ = line_start c.breaks c.text l in
       let b : ℕ = line_start c.breaks c.text (l + 1) in
       let order = line_start_mono c.breaks c.text l (l + 1) (omega arith) in
@@ -49,6 +52,7 @@ module _ (c : Content) (h new : Halves) (before passed : TextInfo) (l total : �
         front_is = front ∙ ap (λ t. t ++ first_line breaks h.back) s.front_is ∙ ap (λ t. take a c.text ++ t) passed_is ∙ front_and_part c.text a b order;
         back_is = sym (drop-append_seam (first_line breaks h.back) new.back) ∙ ap (drop (length (first_line breaks h.back))) (sym back) ∙ ap (λ n. drop n h.back) long
             ∙ ap (drop (b - a)) s.back_is ∙ drop-drop (b - a) a c.text ∙ ap (λ n. drop n c.text) rest;
+        chunks_are = λ some. chunks ∙ s.chunks_are some;
         before_is = after_is after sum;
         fits = s.fits;
       }
@@ -113,8 +117,8 @@ module _ (c : Content) (h new : Halves) (before passed : TextInfo) (l total skip
       let both = sum ∙ before_sum in
       same_info start first (omega (arith, ap (λ x. x.bytes) both)) (omega (arith, ap (λ x. x.chars) both)) (omega (arith, ap (λ x. x.utf16_surrogates) both)) (omega (arith, ap (λ x. x.break_count) both))
 
-  pub prev_start : (start : TextInfo) → info_sum passed start ≡ before → IsLineStart c new start (l - 1) total
-  prev_start start sum =
+  pub prev_start : new.chunks ≡ h.chunks → (start : TextInfo) → info_sum passed start ≡ before → IsLineStart c new start (l - 1) total
+  prev_start chunks start sum =
       let a : ℕ = line_start c.breaks c.text (l - 1) in
       let b : ℕ = line_start c.breaks c.text l in
       let rest : a + (b - a) ≡ b = (let o = order in omega arith) in
@@ -124,6 +128,19 @@ module _ (c : Content) (h new : Halves) (before passed : TextInfo) (l total skip
         front_is = front ∙ ap (λ n. take n h.front) last_is ∙ ap (take a) s.front_is ∙ take-take a b c.text order;
         back_is = back ∙ ap (λ t. t ++ h.back) line_back ∙ ap (λ t. slice_range c.text a b ++ t) (s.back_is ∙ ap (λ n. drop n c.text) (sym rest) ∙ sym (drop-drop (b - a) a c.text))
             ∙ take-append-drop (b - a) (drop a c.text);
+        chunks_are = λ some. chunks ∙ s.chunks_are some;
         before_is = start_is start sum;
         fits = s.fits;
       }
+
+-- what a chunk holds from a line's start on lies in a chunk of the part
+pub line_held : (c : Content) (h : Halves) (before : TextInfo) (l total : ℕ) (held : List ℕ) → IsLineStart c h before l total → HoldsAhead h held → IsInChunk c.text c.chunks before.chars held
+line_held c h before l total held s it =
+    let n : ℕ = line_start c.breaks c.text l in
+    let whole : h.front ++ h.back ≡ c.text = ap (λ t. t ++ h.back) s.front_is ∙ ap (λ t. take n c.text ++ t) s.back_is ∙ take-append-drop n c.text in
+    let place : length h.front ≡ before.chars = ap length s.front_is ∙ sym (ap (λ x. x.chars) s.before_is) in
+    let here = rw (whole, place) at it in
+    elim (cases_lt 0 (length c.text)) [
+      | inl some ↦ rw (s.chunks_are some) at here
+      | inr none ↦ in_chunk_end c.text c.chunks before.chars held (omega arith)
+    ]

@@ -1,5 +1,5 @@
--- A place between two characters of a part, seen as the text before it and the text after it.
-use Rattle.std.specs.Prelude.{◌≡◌, ℕ, ◌+◌, ◌^◌, ◌<◌, false, List, ◌++◌, take, drop}
+-- A place between two characters of a part, seen as the text before it, the text after it, and the chunks that both lie in.
+use Rattle.std.specs.Prelude.{◌≡◌, ℕ, ◌+◌, ◌^◌, ◌<◌, false, List, ◌++◌, length, take, drop}
 use Rattle.std.specs.List.{concat}
 use Rattle.rope_text.specs.declared.line_breaks.LineBreaks.{LineBreaks}
 use Rattle.rope_text.specs.declared.text_info.TextInfo.{TextInfo}
@@ -9,11 +9,13 @@ use Rattle.rope_text.specs.Breaks.{break_count}
 use Rattle.rope_text.specs.Conversions.{byte_to_char}
 use Rattle.rope_text.specs.Cutting.{KeepsCrlf, parts_crlf}
 use Rattle.rope_text.specs.LineParts.{first_line, last_start}
+use Rattle.rope_part.specs.InChunk.{IsInChunk}
 use Rattle.rope_cursor.specs.Path.{Place, leaves}
 
 pub record Halves : Type 0 where
   pub front : List ℕ
   pub back : List ℕ
+  pub chunks : List (List ℕ)
 
 -- the text before the byte b, and from it on
 abbrev pub before_byte : List ℕ → ℕ → List ℕ
@@ -35,7 +37,11 @@ last_line_info breaks text end skip = info_of breaks (drop (last_start breaks (b
 
 -- before the byte b of the chunk here, and from it on
 abbrev pub halves_at : Place → ℕ → Halves
-halves_at p b = record { front = concat p.before ++ before_byte p.here b; back = after_byte p.here b ++ concat p.after }
+halves_at p b = record { front = concat p.before ++ before_byte p.here b; back = after_byte p.here b ++ concat p.after; chunks = leaves p }
+
+-- some chunk holds these characters from the place on
+abbrev pub HoldsAhead : Halves → List ℕ → Type 0
+HoldsAhead h held = IsInChunk (h.front ++ h.back) h.chunks (length h.front) held
 
 -- the chunks part no CR LF, and their text is not too long
 pub record AreChunks (p : Place) : Type 0 where

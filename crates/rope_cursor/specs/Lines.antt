@@ -1,5 +1,5 @@
 -- A cursor over lines, by the number of the line that it stands before.
-use Rattle.std.specs.Prelude.{◌≡◌, ℕ, ◌^◌, ◌<◌, ◌≤◌, Bool, take, drop}
+use Rattle.std.specs.Prelude.{◌≡◌, ℕ, ◌^◌, ◌<◌, ◌≤◌, Bool, length, take, drop}
 use Rattle.rope_text.specs.declared.text_info.TextInfo.{TextInfo}
 use Rattle.rope_text.specs.Text.{byte_len}
 use Rattle.rope_text.specs.TextInfo.{info_of}
@@ -19,5 +19,6 @@ pub record IsLineStart (c : Content) (h : Halves) (before : TextInfo) (l total :
   pub total_is : total ≡ line_count c.breaks c.text
   pub front_is : h.front ≡ take (line_start c.breaks c.text l) c.text
   pub back_is : h.back ≡ drop (line_start c.breaks c.text l) c.text
+  pub chunks_are : 0 < length c.text → h.chunks ≡ c.chunks
   pub before_is : before ≡ info_of c.breaks (take (line_start c.breaks c.text l) c.text)
   pub fits : byte_len c.text < 2 ^ 63

@@ -10,7 +10,8 @@ ghost use Rattle.rope_text.specs.LineParts.{lines_of, first_line, last_start};
 ghost use Rattle.rope_text.specs.Sides.{ahead, at_place, turned, GoesRight, GoesLeft, GoesAhead, StepsBack};
 ghost use Rattle.rope_text.specs.TextInfo.{info_of};
 ghost use Rattle.rope_part.specs.Part.{content_of, text_of, breaks_of};
-ghost use Rattle.rope_cursor.specs.Caret.{before_byte, after_byte, last_line_byte, last_line_info, AreChunks, IsBetween, PassesLine, PassesBack};
+ghost use Rattle.rope_cursor.specs.Caret.{before_byte, after_byte, last_line_byte, last_line_info, AreChunks, HoldsAhead, IsBetween, PassesLine, PassesBack};
+ghost use Rattle.rope_cursor.specs.Path.{leaves};
 ghost use Rattle.rope_cursor.specs.Hints.{CountsAhead};
 
 use crate::path::Span;
@@ -106,15 +107,15 @@ impl<'a, T: OfPart<'a>> Lines<'a, T> {
         let here = self.before;
         if is_left {
             let line = self.line - 1;
-            let passed = self.caret.pass_line_back(here.break_count - line, breaks);
+            let (passed, held) = self.caret.pass_line_back(here.break_count - line, breaks);
             self.before = here.minus(passed);
             self.line = line;
-            return Some(self.part.between(self.before, here));
+            return Some(self.part.between(self.before, here, held));
         }
-        let passed = self.caret.pass_line(breaks);
+        let (passed, held) = self.caret.pass_line(breaks);
         self.before = here.plus(passed);
         self.line += 1;
-        Some(self.part.between(here, self.before))
+        Some(self.part.between(here, self.before, held))
     }
 
     /// The line behind, to which it steps back; or none at that end, where it stays. Takes no memory.
@@ -207,8 +208,9 @@ impl<'a> Model for Caret<'a> {
 #[inline(never)]
 fn pass_chunks(span: &mut Span<'_>, breaks: LineBreaks) -> (usize, TextInfo)
     requires { AreChunks span.old }
-    ensures { PassesLine breaks (concat span.old.before ++ span.old.here) (concat span.old.after)
-        span.new result.0 result.1 }
+    ensures passes { PassesLine breaks (concat span.old.before ++ span.old.here)
+        (concat span.old.after) span.new result.0 result.1 }
+    ensures same { leaves span.new ≡ leaves span.old }
 {
     let mut passed = TextInfo::new();
     while span.step(false) {
@@ -280,8 +282,9 @@ fn count_last(
 // From the start of a chunk back to the start of a line: the place in the last chunk, and the counts of what was passed.
 fn pass_chunks_back(span: &mut Span<'_>, skip: usize, breaks: LineBreaks) -> (usize, TextInfo)
     requires { AreChunks span.old }
-    ensures { PassesBack breaks skip (concat span.old.before)
+    ensures passes { PassesBack breaks skip (concat span.old.before)
         (span.old.here ++ concat span.old.after) span.new result.0 result.1 }
+    ensures same { leaves span.new ≡ leaves span.old }
 {
     let mut passed = TextInfo::new();
     let mut left = skip;
@@ -300,46 +303,53 @@ fn pass_chunks_back(span: &mut Span<'_>, skip: usize, breaks: LineBreaks) -> (us
 }
 
 impl<'a> Caret<'a> {
-    // Goes on past the next line break, or to the end. Answers the counts of what it passed.
+    // Goes on past the next line break, or to the end. Answers the counts of what it passed, and what the chunk in which that
+    // starts has from there on.
     #[inline(never)]
-    fn pass_line(&mut self, breaks: LineBreaks) -> TextInfo
+    fn pass_line(&mut self, breaks: LineBreaks) -> (TextInfo, &'a str)
         ensures front { self.new.front ≡ self.old.front ++ first_line breaks self.old.back }
         ensures back { self.old.back ≡ first_line breaks self.old.back ++ self.new.back }
-        ensures counts { result ≡ info_of breaks (first_line breaks self.old.back) }
+        ensures chunks { self.new.chunks ≡ self.old.chunks }
+        ensures counts { result.0 ≡ info_of breaks (first_line breaks self.old.back) }
+        ensures held { HoldsAhead self.old (chars result.1.now) }
     {
-        let first = TextInfo::of_first_line(&self.span.chunk()[self.inside..], breaks);
+        let held = &self.span.chunk()[self.inside..];
+        let first = TextInfo::of_first_line(held, breaks);
         if first.break_count > 0 {
             self.inside += first.bytes;
-            return first;
+            return (first, held);
         }
         let (inside, more) = pass_chunks(&mut self.span, breaks);
         self.inside = inside;
-        first.plus(more)
+        (first.plus(more), held)
     }
 
     // Goes back past `skip` line breaks, and on to the end of the one before them, or to the start. Answers the counts of what it
-    // passed. The place is in no CR LF.
+    // passed, and what the chunk has from the new place on. The place is in no CR LF.
     #[inline(never)]
-    fn pass_line_back(&mut self, skip: usize, breaks: LineBreaks) -> TextInfo
+    fn pass_line_back(&mut self, skip: usize, breaks: LineBreaks) -> (TextInfo, &'a str)
         requires { parts_crlf self.old.front self.old.back ≡ false }
         ensures front { self.new.front
             ≡ take (last_start breaks self.old.front skip) self.old.front }
         ensures back { self.new.back
             ≡ drop (last_start breaks self.old.front skip) self.old.front ++ self.old.back }
-        ensures counts { result
+        ensures chunks { self.new.chunks ≡ self.old.chunks }
+        ensures counts { result.0
             ≡ info_of breaks (drop (last_start breaks self.old.front skip) self.old.front) }
+        ensures held { HoldsAhead self.new (chars result.1.now) }
     {
-        let (start, last) = count_last(self.span.chunk(), self.inside, self.near, 2, skip, breaks);
+        let chunk = self.span.chunk();
+        let (start, last) = count_last(chunk, self.inside, self.near, 2, skip, breaks);
         if start > 0 {
             self.inside = start;
             // neighbouring lines are mostly of much the same length: the next one is looked for in a quarter more, and a few bytes
             // for its break
             let most = last.bytes.min(FAR_BYTES);
             self.near = (most + most / 4 + 8).min(FAR_BYTES);
-            return last;
+            return (last, &chunk[start..]);
         }
         let (inside, more) = pass_chunks_back(&mut self.span, skip - last.break_count, breaks);
         self.inside = inside;
-        more.plus(last)
+        (more.plus(last), &self.span.chunk()[inside..])
     }
 }

@@ -42,6 +42,7 @@ invariant_of-result-2 g c =
       total_is = ap (λ x. x.break_count + 1) c.info-info.ensures.value;
       front_is = front_at (content_of c.args.part.now) p within place c.at-span.result.1 c.info-info.ensures.kept e.text e.chunks (omega (arith, e.starts)) (omega (arith, e.within)) e.byte ∙ ap (λ n. take n t) same;
       back_is = back_at (content_of c.args.part.now) p within place c.at-span.result.1 c.info-info.ensures.kept e.text e.chunks (omega (arith, e.starts)) (omega (arith, e.within)) e.byte ∙ ap (λ n. drop n t) same;
+      chunks_are = e.chunks;
       before_is = c.before_line-before.ensures;
       fits = c.info-info.ensures.kept.fits;
     }

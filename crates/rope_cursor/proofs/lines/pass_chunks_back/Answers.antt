@@ -1,4 +1,6 @@
-use Rattle.std.proofs.Common.{◌∷◌, [], ◌++◌, take, drop, ◌∙◌, length, ap, sym, arith}
+use Rattle.rope_cursor.specs.Path.{leaves}
+use Rattle.rope_cursor.proofs.Spans.{leaves_next}
+use Rattle.std.proofs.Common.{refl, ◌∷◌, [], ◌++◌, take, drop, ◌∙◌, length, ap, sym, arith}
 use Rattle.std.proofs.lemmas.List.{length-append}
 use Rattle.std.specs.List.{concat}
 use Rattle.rope_text.specs.Text.{byte_len}
@@ -8,7 +10,7 @@ use Rattle.rope_cursor.proofs.CaretsBack.{none_back, end_back, chunk_found, chun
 use Rattle.rope_cursor.proofs.lines.pass_chunks_back.Goals as goal
 
 pub loop-breaks-init : goal.loop-breaks-init
-loop-breaks-init c = none_back c.args.breaks c.args.skip c.args.span.now c.new-passed.result c.requires (c.new-passed.ensures c.args.breaks)
+loop-breaks-init c = record { passed = none_back c.args.breaks c.args.skip c.args.span.now c.new-passed.result c.requires (c.new-passed.ensures c.args.breaks); same = refl }
 
 pub count_last-start-requires-clause-between : goal.count_last-start-requires-clause-between
 count_last-start-requires-clause-between c = ap byte_len (whole _ _ c.byte_len_of-end.ensures) ∙ sym c.byte_len_of-end.ensures
@@ -18,48 +20,48 @@ count_last-start-requires-clause-apart c = apart_at_end _ _ c.byte_len_of-end.en
 
 pub plus-passed-requires-clause-bytes : goal.plus-passed-requires-clause-bytes
 plus-passed-requires-clause-bytes c =
-    let half = chunk_half c.args.breaks c.args.skip c.loop-breaks.left (concat c.args.span.now.before) (c.args.span.now.here ++ concat c.args.span.now.after) c.loop-breaks.invariant.0 c.loop-breaks.span c.step.new.self
-    c.count_last-start.result.0 c.count_last-start.result.1 c.loop-breaks.passed c.loop-breaks.invariant.1 c.loop-breaks-test.ensures.moved
+    let half = chunk_half c.args.breaks c.args.skip c.loop-breaks.left (concat c.args.span.now.before) (c.args.span.now.here ++ concat c.args.span.now.after) c.loop-breaks.invariant.passed.0 c.loop-breaks.span c.step.new.self
+    c.count_last-start.result.0 c.count_last-start.result.1 c.loop-breaks.passed c.loop-breaks.invariant.passed.1 c.loop-breaks-test.ensures.moved
     (c.count_last-start.ensures.start ∙ ap (λ t. byte_len (take (last_start c.args.breaks t c.loop-breaks.left) t)) (whole _ _ c.byte_len_of-end.ensures ∙ c.chunk-chunk.ensures))
     (c.count_last-start.ensures.counts ∙ ap (λ t. info_of c.args.breaks (drop (last_start c.args.breaks t c.loop-breaks.left) t)) (whole _ _ c.byte_len_of-end.ensures ∙ c.chunk-chunk.ensures)) in
     omega (arith, half.0.bytes, half.1.bytes)
 
 pub plus-passed-requires-clause-chars : goal.plus-passed-requires-clause-chars
 plus-passed-requires-clause-chars c =
-    let half = chunk_half c.args.breaks c.args.skip c.loop-breaks.left (concat c.args.span.now.before) (c.args.span.now.here ++ concat c.args.span.now.after) c.loop-breaks.invariant.0 c.loop-breaks.span c.step.new.self
-    c.count_last-start.result.0 c.count_last-start.result.1 c.loop-breaks.passed c.loop-breaks.invariant.1 c.loop-breaks-test.ensures.moved
+    let half = chunk_half c.args.breaks c.args.skip c.loop-breaks.left (concat c.args.span.now.before) (c.args.span.now.here ++ concat c.args.span.now.after) c.loop-breaks.invariant.passed.0 c.loop-breaks.span c.step.new.self
+    c.count_last-start.result.0 c.count_last-start.result.1 c.loop-breaks.passed c.loop-breaks.invariant.passed.1 c.loop-breaks-test.ensures.moved
     (c.count_last-start.ensures.start ∙ ap (λ t. byte_len (take (last_start c.args.breaks t c.loop-breaks.left) t)) (whole _ _ c.byte_len_of-end.ensures ∙ c.chunk-chunk.ensures))
     (c.count_last-start.ensures.counts ∙ ap (λ t. info_of c.args.breaks (drop (last_start c.args.breaks t c.loop-breaks.left) t)) (whole _ _ c.byte_len_of-end.ensures ∙ c.chunk-chunk.ensures)) in
     omega (arith, half.0.chars, half.1.chars)
 
 pub plus-passed-requires-clause-utf16_surrogates : goal.plus-passed-requires-clause-utf16_surrogates
 plus-passed-requires-clause-utf16_surrogates c =
-    let half = chunk_half c.args.breaks c.args.skip c.loop-breaks.left (concat c.args.span.now.before) (c.args.span.now.here ++ concat c.args.span.now.after) c.loop-breaks.invariant.0 c.loop-breaks.span c.step.new.self
-    c.count_last-start.result.0 c.count_last-start.result.1 c.loop-breaks.passed c.loop-breaks.invariant.1 c.loop-breaks-test.ensures.moved
+    let half = chunk_half c.args.breaks c.args.skip c.loop-breaks.left (concat c.args.span.now.before) (c.args.span.now.here ++ concat c.args.span.now.after) c.loop-breaks.invariant.passed.0 c.loop-breaks.span c.step.new.self
+    c.count_last-start.result.0 c.count_last-start.result.1 c.loop-breaks.passed c.loop-breaks.invariant.passed.1 c.loop-breaks-test.ensures.moved
     (c.count_last-start.ensures.start ∙ ap (λ t. byte_len (take (last_start c.args.breaks t c.loop-breaks.left) t)) (whole _ _ c.byte_len_of-end.ensures ∙ c.chunk-chunk.ensures))
     (c.count_last-start.ensures.counts ∙ ap (λ t. info_of c.args.breaks (drop (last_start c.args.breaks t c.loop-breaks.left) t)) (whole _ _ c.byte_len_of-end.ensures ∙ c.chunk-chunk.ensures)) in
     omega (arith, half.0.utf16_surrogates, half.1.utf16_surrogates)
 
 pub plus-passed-requires-clause-break_count : goal.plus-passed-requires-clause-break_count
 plus-passed-requires-clause-break_count c =
-    let half = chunk_half c.args.breaks c.args.skip c.loop-breaks.left (concat c.args.span.now.before) (c.args.span.now.here ++ concat c.args.span.now.after) c.loop-breaks.invariant.0 c.loop-breaks.span c.step.new.self
-    c.count_last-start.result.0 c.count_last-start.result.1 c.loop-breaks.passed c.loop-breaks.invariant.1 c.loop-breaks-test.ensures.moved
+    let half = chunk_half c.args.breaks c.args.skip c.loop-breaks.left (concat c.args.span.now.before) (c.args.span.now.here ++ concat c.args.span.now.after) c.loop-breaks.invariant.passed.0 c.loop-breaks.span c.step.new.self
+    c.count_last-start.result.0 c.count_last-start.result.1 c.loop-breaks.passed c.loop-breaks.invariant.passed.1 c.loop-breaks-test.ensures.moved
     (c.count_last-start.ensures.start ∙ ap (λ t. byte_len (take (last_start c.args.breaks t c.loop-breaks.left) t)) (whole _ _ c.byte_len_of-end.ensures ∙ c.chunk-chunk.ensures))
     (c.count_last-start.ensures.counts ∙ ap (λ t. info_of c.args.breaks (drop (last_start c.args.breaks t c.loop-breaks.left) t)) (whole _ _ c.byte_len_of-end.ensures ∙ c.chunk-chunk.ensures)) in
     omega (arith, half.0.break_count, half.1.break_count)
 
-pub returns-then-start-gt0 : goal.returns-then-start-gt0
-returns-then-start-gt0 c =
-    chunk_found c.args.breaks c.args.skip c.loop-breaks.left (concat c.args.span.now.before) (c.args.span.now.here ++ concat c.args.span.now.after) c.loop-breaks.invariant.0 c.loop-breaks.span c.step.new.self
-    c.count_last-start.result.0 c.count_last-start.result.1 c.loop-breaks.passed c.loop-breaks.invariant.1 c.loop-breaks-test.ensures.moved
+pub returns-then-start-gt0-clause-passes : goal.returns-then-start-gt0-clause-passes
+returns-then-start-gt0-clause-passes c =
+    chunk_found c.args.breaks c.args.skip c.loop-breaks.left (concat c.args.span.now.before) (c.args.span.now.here ++ concat c.args.span.now.after) c.loop-breaks.invariant.passed.0 c.loop-breaks.span c.step.new.self
+    c.count_last-start.result.0 c.count_last-start.result.1 c.loop-breaks.passed c.loop-breaks.invariant.passed.1 c.loop-breaks-test.ensures.moved
     (c.count_last-start.ensures.start ∙ ap (λ t. byte_len (take (last_start c.args.breaks t c.loop-breaks.left) t)) (whole _ _ c.byte_len_of-end.ensures ∙ c.chunk-chunk.ensures))
     (c.count_last-start.ensures.counts ∙ ap (λ t. info_of c.args.breaks (drop (last_start c.args.breaks t c.loop-breaks.left) t)) (whole _ _ c.byte_len_of-end.ensures ∙ c.chunk-chunk.ensures))
     c.plus-passed.result c.plus-passed.ensures.sum c.if-start-gt0.true
 
 pub overflow_sub-left : goal.overflow_sub-left
 overflow_sub-left c =
-    chunk_left c.args.breaks c.args.skip c.loop-breaks.left (concat c.args.span.now.before) (c.args.span.now.here ++ concat c.args.span.now.after) c.loop-breaks.invariant.0 c.loop-breaks.span c.step.new.self
-    c.count_last-start.result.0 c.count_last-start.result.1 c.loop-breaks.passed c.loop-breaks.invariant.1 c.loop-breaks-test.ensures.moved
+    chunk_left c.args.breaks c.args.skip c.loop-breaks.left (concat c.args.span.now.before) (c.args.span.now.here ++ concat c.args.span.now.after) c.loop-breaks.invariant.passed.0 c.loop-breaks.span c.step.new.self
+    c.count_last-start.result.0 c.count_last-start.result.1 c.loop-breaks.passed c.loop-breaks.invariant.passed.1 c.loop-breaks-test.ensures.moved
     (c.count_last-start.ensures.start ∙ ap (λ t. byte_len (take (last_start c.args.breaks t c.loop-breaks.left) t)) (whole _ _ c.byte_len_of-end.ensures ∙ c.chunk-chunk.ensures))
     (c.count_last-start.ensures.counts ∙ ap (λ t. info_of c.args.breaks (drop (last_start c.args.breaks t c.loop-breaks.left) t)) (whole _ _ c.byte_len_of-end.ensures ∙ c.chunk-chunk.ensures))
     c.if-start-gt0.false
@@ -68,16 +70,25 @@ pub loop-breaks-smaller : goal.loop-breaks-smaller
 loop-breaks-smaller c = omega (arith, ap length c.loop-breaks-test.ensures.moved.before, length-append c.step.new.self.before (c.step.new.self.here ∷ []))
 
 pub loop-breaks-preserved : goal.loop-breaks-preserved
-loop-breaks-preserved c = (
-  c.step.new.self.here ++ c.loop-breaks.invariant.0,
-  chunk_over c.args.breaks c.args.skip c.loop-breaks.left (concat c.args.span.now.before) (c.args.span.now.here ++ concat c.args.span.now.after) c.loop-breaks.invariant.0 c.loop-breaks.span c.step.new.self
-      c.count_last-start.result.0 c.count_last-start.result.1 c.loop-breaks.passed c.loop-breaks.invariant.1 c.loop-breaks-test.ensures.moved
+loop-breaks-preserved c = record {
+  passed = (
+  c.step.new.self.here ++ c.loop-breaks.invariant.passed.0,
+  chunk_over c.args.breaks c.args.skip c.loop-breaks.left (concat c.args.span.now.before) (c.args.span.now.here ++ concat c.args.span.now.after) c.loop-breaks.invariant.passed.0 c.loop-breaks.span c.step.new.self
+      c.count_last-start.result.0 c.count_last-start.result.1 c.loop-breaks.passed c.loop-breaks.invariant.passed.1 c.loop-breaks-test.ensures.moved
       (c.count_last-start.ensures.start ∙ ap (λ t. byte_len (take (last_start c.args.breaks t c.loop-breaks.left) t)) (whole _ _ c.byte_len_of-end.ensures ∙ c.chunk-chunk.ensures))
       (c.count_last-start.ensures.counts ∙ ap (λ t. info_of c.args.breaks (drop (last_start c.args.breaks t c.loop-breaks.left) t)) (whole _ _ c.byte_len_of-end.ensures ∙ c.chunk-chunk.ensures))
       c.plus-passed.result c.plus-passed.ensures.sum c.if-start-gt0.false,
-)
+);
+  same = sym (leaves_next c.step.new.self c.loop-breaks.span c.loop-breaks-test.ensures.moved) ∙ c.loop-breaks.invariant.same;
+}
 
-pub returns : goal.returns
-returns c =
-    end_back c.args.breaks c.args.skip c.loop-breaks.left (concat c.args.span.now.before) (c.args.span.now.here ++ concat c.args.span.now.after) c.loop-breaks.invariant.0 c.loop-breaks.span c.step.new.self c.loop-breaks.passed
-    c.loop-breaks.invariant.1 c.loop-breaks-test.ensures.stays c.loop-breaks-test.ensures.ended
+pub returns-clause-passes : goal.returns-clause-passes
+returns-clause-passes c =
+    end_back c.args.breaks c.args.skip c.loop-breaks.left (concat c.args.span.now.before) (c.args.span.now.here ++ concat c.args.span.now.after) c.loop-breaks.invariant.passed.0 c.loop-breaks.span c.step.new.self c.loop-breaks.passed
+    c.loop-breaks.invariant.passed.1 c.loop-breaks-test.ensures.stays c.loop-breaks-test.ensures.ended
+
+pub returns-then-start-gt0-clause-same : goal.returns-then-start-gt0-clause-same
+returns-then-start-gt0-clause-same c = sym (leaves_next c.step.new.self c.loop-breaks.span c.loop-breaks-test.ensures.moved) ∙ c.loop-breaks.invariant.same
+
+pub returns-clause-same : goal.returns-clause-same
+returns-clause-same c = ap leaves c.loop-breaks-test.ensures.stays ∙ c.loop-breaks.invariant.same

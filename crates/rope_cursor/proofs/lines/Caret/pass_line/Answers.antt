@@ -1,19 +1,20 @@
 use Rattle.std.proofs.Common.{◌≡◌, ◌∙◌, ap, arith}
 use Rattle.rope_text.specs.TextInfo.{info_of}
 use Rattle.rope_text.specs.LineParts.{first_line}
-use Rattle.rope_cursor.specs.Caret.{after_byte}
+use Rattle.std.specs.Str.{chars}
+use Rattle.rope_cursor.specs.Caret.{after_byte, halves_at, HoldsAhead}
 use Rattle.rope_cursor.proofs.Carets.{between_boundary, between_after}
-use Rattle.rope_cursor.proofs.CaretSteps.{info_half, place_fits, pass_inside, more_half, pass_over}
+use Rattle.rope_cursor.proofs.CaretSteps.{holds_ahead, info_half, place_fits, pass_inside, more_half, pass_over}
 use Rattle.rope_cursor.proofs.lines.Caret.pass_line.Goals.{After-of_first_line-first}
 use Rattle.rope_cursor.proofs.lines.Caret.pass_line.Goals as goal
 
-pub range_from-requires : goal.range_from-requires
-range_from-requires c = λ _. between_boundary c.chunk.result.now c.self.inside.inside c.chunk.utf8 (rw c.chunk.ensures c.self.invariant.between)
+pub range_from-held-requires : goal.range_from-held-requires
+range_from-held-requires c = λ _. between_boundary c.chunk.result.now c.self.inside.inside c.chunk.utf8 (rw c.chunk.ensures c.self.invariant.between)
 
 first_is : (c : After-of_first_line-first) → c.of_first_line-first.result ≡ info_of c.args.breaks (first_line c.args.breaks (after_byte c.self.inside.span.here c.self.inside.inside))
 first_is c =
     let b = c.self.inside.inside in
-    let cut = between_after c.chunk.result.now c.range_from.result.now b c.chunk.utf8 (rw c.chunk.ensures c.self.invariant.between) c.range_from.ensures.value in
+    let cut = between_after c.chunk.result.now c.range_from-held.result.now b c.chunk.utf8 (rw c.chunk.ensures c.self.invariant.between) c.range_from-held.ensures.value in
     c.of_first_line-first.ensures ∙ ap (λ t. info_of c.args.breaks (first_line c.args.breaks t)) (cut ∙ ap (λ t. after_byte t b) c.chunk.ensures)
 
 pub overflow_add-self : goal.overflow_add-self
@@ -52,7 +53,7 @@ plus-requires-clause-bytes c =
     (first_is (goal.at.plus-requires-clause-bytes c).After-of_first_line-first) in
     let two = more_half c.args.breaks c.self.inside.span c.self.inside.inside c.self.invariant c.of_first_line-first.result
     (first_is (goal.at.plus-requires-clause-bytes c).After-of_first_line-first)
-    c.pass_chunks-inside.new.span c.pass_chunks-inside.result.0 c.pass_chunks-inside.result.1 c.if-first-gt0.false c.pass_chunks-inside.ensures in
+    c.pass_chunks-inside.new.span c.pass_chunks-inside.result.0 c.pass_chunks-inside.result.1 c.if-first-gt0.false c.pass_chunks-inside.ensures.passes in
     omega (arith, one.bytes, two.bytes)
 
 pub plus-requires-clause-chars : goal.plus-requires-clause-chars
@@ -61,7 +62,7 @@ plus-requires-clause-chars c =
     (first_is (goal.at.plus-requires-clause-chars c).After-of_first_line-first) in
     let two = more_half c.args.breaks c.self.inside.span c.self.inside.inside c.self.invariant c.of_first_line-first.result
     (first_is (goal.at.plus-requires-clause-chars c).After-of_first_line-first)
-    c.pass_chunks-inside.new.span c.pass_chunks-inside.result.0 c.pass_chunks-inside.result.1 c.if-first-gt0.false c.pass_chunks-inside.ensures in
+    c.pass_chunks-inside.new.span c.pass_chunks-inside.result.0 c.pass_chunks-inside.result.1 c.if-first-gt0.false c.pass_chunks-inside.ensures.passes in
     omega (arith, one.chars, two.chars)
 
 pub plus-requires-clause-utf16_surrogates : goal.plus-requires-clause-utf16_surrogates
@@ -70,23 +71,35 @@ plus-requires-clause-utf16_surrogates c =
     (first_is (goal.at.plus-requires-clause-utf16_surrogates c).After-of_first_line-first) in
     let two = more_half c.args.breaks c.self.inside.span c.self.inside.inside c.self.invariant c.of_first_line-first.result
     (first_is (goal.at.plus-requires-clause-utf16_surrogates c).After-of_first_line-first)
-    c.pass_chunks-inside.new.span c.pass_chunks-inside.result.0 c.pass_chunks-inside.result.1 c.if-first-gt0.false c.pass_chunks-inside.ensures in
+    c.pass_chunks-inside.new.span c.pass_chunks-inside.result.0 c.pass_chunks-inside.result.1 c.if-first-gt0.false c.pass_chunks-inside.ensures.passes in
     omega (arith, one.utf16_surrogates, two.utf16_surrogates)
 
 pub returns-clause-front : goal.returns-clause-front
 returns-clause-front c =
     rw (← c.self.view_is) (pass_over c.args.breaks c.self.inside.span c.self.inside.inside c.self.invariant c.of_first_line-first.result
     (first_is (goal.at.returns-clause-front c).After-of_first_line-first)
-    c.pass_chunks-inside.new.span c.pass_chunks-inside.result.0 c.pass_chunks-inside.result.1 c.if-first-gt0.false c.pass_chunks-inside.ensures c.plus.result c.plus.ensures.sum).front_is
+    c.pass_chunks-inside.new.span c.pass_chunks-inside.result.0 c.pass_chunks-inside.result.1 c.if-first-gt0.false c.pass_chunks-inside.ensures.passes c.plus.result c.plus.ensures.sum).front_is
 
 pub returns-clause-back : goal.returns-clause-back
 returns-clause-back c =
     rw (← c.self.view_is) (pass_over c.args.breaks c.self.inside.span c.self.inside.inside c.self.invariant c.of_first_line-first.result
     (first_is (goal.at.returns-clause-back c).After-of_first_line-first)
-    c.pass_chunks-inside.new.span c.pass_chunks-inside.result.0 c.pass_chunks-inside.result.1 c.if-first-gt0.false c.pass_chunks-inside.ensures c.plus.result c.plus.ensures.sum).back_is
+    c.pass_chunks-inside.new.span c.pass_chunks-inside.result.0 c.pass_chunks-inside.result.1 c.if-first-gt0.false c.pass_chunks-inside.ensures.passes c.plus.result c.plus.ensures.sum).back_is
 
 pub returns-clause-counts : goal.returns-clause-counts
 returns-clause-counts c =
     rw (← c.self.view_is) (pass_over c.args.breaks c.self.inside.span c.self.inside.inside c.self.invariant c.of_first_line-first.result
     (first_is (goal.at.returns-clause-counts c).After-of_first_line-first)
-    c.pass_chunks-inside.new.span c.pass_chunks-inside.result.0 c.pass_chunks-inside.result.1 c.if-first-gt0.false c.pass_chunks-inside.ensures c.plus.result c.plus.ensures.sum).counts
+    c.pass_chunks-inside.new.span c.pass_chunks-inside.result.0 c.pass_chunks-inside.result.1 c.if-first-gt0.false c.pass_chunks-inside.ensures.passes c.plus.result c.plus.ensures.sum).counts
+
+ahead : (c : After-of_first_line-first) → HoldsAhead (halves_at c.self.inside.span c.self.inside.inside) (chars c.range_from-held.result.now)
+ahead c =
+    let b = c.self.inside.inside in
+    holds_ahead c.self.inside.span b (chars c.range_from-held.result.now)
+    (between_after c.chunk.result.now c.range_from-held.result.now b c.chunk.utf8 (rw c.chunk.ensures c.self.invariant.between) c.range_from-held.ensures.value ∙ ap (λ t. after_byte t b) c.chunk.ensures)
+
+pub returns-then-first-gt0-clause-held : goal.returns-then-first-gt0-clause-held
+returns-then-first-gt0-clause-held c = rw (← c.self.view_is) (ahead (goal.at.returns-then-first-gt0-clause-held c).After-of_first_line-first)
+
+pub returns-clause-held : goal.returns-clause-held
+returns-clause-held c = rw (← c.self.view_is) (ahead (goal.at.returns-clause-held c).After-of_first_line-first)

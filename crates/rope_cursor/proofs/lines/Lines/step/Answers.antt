@@ -5,7 +5,8 @@ use Rattle.rope_cursor.specs.Lines.{at_line}
 use Rattle.rope_cursor.proofs.Points.{stays_put}
 use Rattle.rope_cursor.proofs.LineSteps.{left_of_line, right_of_line, no_line}
 use Rattle.rope_part.proofs.PartsBetween.{line_from, line_to, line_apart, line_is}
-use Rattle.rope_cursor.proofs.LineMoves.{start_apart, breaks_enough, inside_back, before_sum, before_up, start_is, prev_start, inside, after_is, next_start, next_half}
+use Rattle.std.specs.Str.{chars}
+use Rattle.rope_cursor.proofs.LineMoves.{line_held, start_apart, breaks_enough, inside_back, before_sum, before_up, start_is, prev_start, inside, after_is, next_start, next_half}
 use Rattle.rope_cursor.proofs.lines.Lines.step.Goals.{Then-is_left, Else-is_left}
 use Rattle.rope_cursor.proofs.lines.Lines.step.Goals as goal
 
@@ -26,123 +27,137 @@ overflow_sub-here g c = breaks_enough (content_of c.self.inside.part) c.self.ins
 
 pub minus-self-inside-requires-clause-bytes : goal.minus-self-inside-requires-clause-bytes
 minus-self-inside-requires-clause-bytes g c =
-    let sum = before_sum (content_of c.self.inside.part) c.self.inside.caret c.pass_line_back-passed.new.self c.self.inside.before c.pass_line_back-passed.result c.self.inside.line c.self.inside.total
+    let sum = before_sum (content_of c.self.inside.part) c.self.inside.caret c.pass_line_back.new.self c.self.inside.before c.pass_line_back.result.0 c.self.inside.line c.self.inside.total
     (c.self.inside.before.break_count - (c.self.inside.line - 1)) c.line_breaks-breaks.result c.self.invariant (not_first g (goal.at.minus-self-inside-requires-clause-bytes g c).Then-is_left) c.line_breaks-breaks.ensures refl
-    c.pass_line_back-passed.ensures.front c.pass_line_back-passed.ensures.back c.pass_line_back-passed.ensures.counts in
+    c.pass_line_back.ensures.front c.pass_line_back.ensures.back c.pass_line_back.ensures.counts in
     omega (arith, ap (λ x. x.bytes) sum)
 
 pub minus-self-inside-requires-clause-utf16_surrogates : goal.minus-self-inside-requires-clause-utf16_surrogates
 minus-self-inside-requires-clause-utf16_surrogates g c =
-    let sum = before_sum (content_of c.self.inside.part) c.self.inside.caret c.pass_line_back-passed.new.self c.self.inside.before c.pass_line_back-passed.result c.self.inside.line c.self.inside.total
+    let sum = before_sum (content_of c.self.inside.part) c.self.inside.caret c.pass_line_back.new.self c.self.inside.before c.pass_line_back.result.0 c.self.inside.line c.self.inside.total
     (c.self.inside.before.break_count - (c.self.inside.line - 1)) c.line_breaks-breaks.result c.self.invariant (not_first g (goal.at.minus-self-inside-requires-clause-utf16_surrogates g c).Then-is_left) c.line_breaks-breaks.ensures refl
-    c.pass_line_back-passed.ensures.front c.pass_line_back-passed.ensures.back c.pass_line_back-passed.ensures.counts in
+    c.pass_line_back.ensures.front c.pass_line_back.ensures.back c.pass_line_back.ensures.counts in
     omega (arith, ap (λ x. x.utf16_surrogates) sum)
 
 pub minus-self-inside-requires-clause-break_count : goal.minus-self-inside-requires-clause-break_count
 minus-self-inside-requires-clause-break_count g c =
-    let sum = before_sum (content_of c.self.inside.part) c.self.inside.caret c.pass_line_back-passed.new.self c.self.inside.before c.pass_line_back-passed.result c.self.inside.line c.self.inside.total
+    let sum = before_sum (content_of c.self.inside.part) c.self.inside.caret c.pass_line_back.new.self c.self.inside.before c.pass_line_back.result.0 c.self.inside.line c.self.inside.total
     (c.self.inside.before.break_count - (c.self.inside.line - 1)) c.line_breaks-breaks.result c.self.invariant (not_first g (goal.at.minus-self-inside-requires-clause-break_count g c).Then-is_left) c.line_breaks-breaks.ensures refl
-    c.pass_line_back-passed.ensures.front c.pass_line_back-passed.ensures.back c.pass_line_back-passed.ensures.counts in
+    c.pass_line_back.ensures.front c.pass_line_back.ensures.back c.pass_line_back.ensures.counts in
     omega (arith, ap (λ x. x.break_count) sum)
 
 pub between-requires-clause-from_is : goal.between-requires-clause-from_is
 between-requires-clause-from_is g c =
-    line_from (content_of c.self.inside.part) (c.self.inside.line - 1) (inside_back (content_of c.self.inside.part) c.self.inside.caret c.pass_line_back-passed.new.self c.self.inside.before c.pass_line_back-passed.result c.self.inside.line c.self.inside.total
+    line_from (content_of c.self.inside.part) (c.self.inside.line - 1) (inside_back (content_of c.self.inside.part) c.self.inside.caret c.pass_line_back.new.self c.self.inside.before c.pass_line_back.result.0 c.self.inside.line c.self.inside.total
     (c.self.inside.before.break_count - (c.self.inside.line - 1)) c.line_breaks-breaks.result c.self.invariant (not_first g (goal.at.between-requires-clause-from_is g c).Then-is_left) c.line_breaks-breaks.ensures refl
-    c.pass_line_back-passed.ensures.front c.pass_line_back-passed.ensures.back c.pass_line_back-passed.ensures.counts) c.minus-self-inside.result c.self.inside.before
-    (start_is (content_of c.self.inside.part) c.self.inside.caret c.pass_line_back-passed.new.self c.self.inside.before c.pass_line_back-passed.result c.self.inside.line c.self.inside.total
+    c.pass_line_back.ensures.front c.pass_line_back.ensures.back c.pass_line_back.ensures.counts) c.minus-self-inside.result c.self.inside.before
+    (start_is (content_of c.self.inside.part) c.self.inside.caret c.pass_line_back.new.self c.self.inside.before c.pass_line_back.result.0 c.self.inside.line c.self.inside.total
     (c.self.inside.before.break_count - (c.self.inside.line - 1)) c.line_breaks-breaks.result c.self.invariant (not_first g (goal.at.between-requires-clause-from_is g c).Then-is_left) c.line_breaks-breaks.ensures refl
-    c.pass_line_back-passed.ensures.front c.pass_line_back-passed.ensures.back c.pass_line_back-passed.ensures.counts c.minus-self-inside.result c.minus-self-inside.ensures.sum)
-    (before_up (content_of c.self.inside.part) c.self.inside.caret c.pass_line_back-passed.new.self c.self.inside.before c.pass_line_back-passed.result c.self.inside.line c.self.inside.total
+    c.pass_line_back.ensures.front c.pass_line_back.ensures.back c.pass_line_back.ensures.counts c.minus-self-inside.result c.minus-self-inside.ensures.sum)
+    (before_up (content_of c.self.inside.part) c.self.inside.caret c.pass_line_back.new.self c.self.inside.before c.pass_line_back.result.0 c.self.inside.line c.self.inside.total
     (c.self.inside.before.break_count - (c.self.inside.line - 1)) c.line_breaks-breaks.result c.self.invariant (not_first g (goal.at.between-requires-clause-from_is g c).Then-is_left) c.line_breaks-breaks.ensures refl
-    c.pass_line_back-passed.ensures.front c.pass_line_back-passed.ensures.back c.pass_line_back-passed.ensures.counts)
+    c.pass_line_back.ensures.front c.pass_line_back.ensures.back c.pass_line_back.ensures.counts)
 
 pub between-requires-clause-apart : goal.between-requires-clause-apart
 between-requires-clause-apart g c =
-    line_apart (content_of c.self.inside.part) (c.self.inside.line - 1) (inside_back (content_of c.self.inside.part) c.self.inside.caret c.pass_line_back-passed.new.self c.self.inside.before c.pass_line_back-passed.result c.self.inside.line c.self.inside.total
+    line_apart (content_of c.self.inside.part) (c.self.inside.line - 1) (inside_back (content_of c.self.inside.part) c.self.inside.caret c.pass_line_back.new.self c.self.inside.before c.pass_line_back.result.0 c.self.inside.line c.self.inside.total
     (c.self.inside.before.break_count - (c.self.inside.line - 1)) c.line_breaks-breaks.result c.self.invariant (not_first g (goal.at.between-requires-clause-apart g c).Then-is_left) c.line_breaks-breaks.ensures refl
-    c.pass_line_back-passed.ensures.front c.pass_line_back-passed.ensures.back c.pass_line_back-passed.ensures.counts) c.minus-self-inside.result c.self.inside.before
-    (start_is (content_of c.self.inside.part) c.self.inside.caret c.pass_line_back-passed.new.self c.self.inside.before c.pass_line_back-passed.result c.self.inside.line c.self.inside.total
+    c.pass_line_back.ensures.front c.pass_line_back.ensures.back c.pass_line_back.ensures.counts) c.minus-self-inside.result c.self.inside.before
+    (start_is (content_of c.self.inside.part) c.self.inside.caret c.pass_line_back.new.self c.self.inside.before c.pass_line_back.result.0 c.self.inside.line c.self.inside.total
     (c.self.inside.before.break_count - (c.self.inside.line - 1)) c.line_breaks-breaks.result c.self.invariant (not_first g (goal.at.between-requires-clause-apart g c).Then-is_left) c.line_breaks-breaks.ensures refl
-    c.pass_line_back-passed.ensures.front c.pass_line_back-passed.ensures.back c.pass_line_back-passed.ensures.counts c.minus-self-inside.result c.minus-self-inside.ensures.sum)
-    (before_up (content_of c.self.inside.part) c.self.inside.caret c.pass_line_back-passed.new.self c.self.inside.before c.pass_line_back-passed.result c.self.inside.line c.self.inside.total
+    c.pass_line_back.ensures.front c.pass_line_back.ensures.back c.pass_line_back.ensures.counts c.minus-self-inside.result c.minus-self-inside.ensures.sum)
+    (before_up (content_of c.self.inside.part) c.self.inside.caret c.pass_line_back.new.self c.self.inside.before c.pass_line_back.result.0 c.self.inside.line c.self.inside.total
     (c.self.inside.before.break_count - (c.self.inside.line - 1)) c.line_breaks-breaks.result c.self.invariant (not_first g (goal.at.between-requires-clause-apart g c).Then-is_left) c.line_breaks-breaks.ensures refl
-    c.pass_line_back-passed.ensures.front c.pass_line_back-passed.ensures.back c.pass_line_back-passed.ensures.counts)
+    c.pass_line_back.ensures.front c.pass_line_back.ensures.back c.pass_line_back.ensures.counts)
 
 pub invariant_of-self : goal.invariant_of-self
 invariant_of-self g c =
-    prev_start (content_of c.self.inside.part) c.self.inside.caret c.pass_line_back-passed.new.self c.self.inside.before c.pass_line_back-passed.result c.self.inside.line c.self.inside.total
+    prev_start (content_of c.self.inside.part) c.self.inside.caret c.pass_line_back.new.self c.self.inside.before c.pass_line_back.result.0 c.self.inside.line c.self.inside.total
     (c.self.inside.before.break_count - (c.self.inside.line - 1)) c.line_breaks-breaks.result c.self.invariant (not_first g (goal.at.invariant_of-self g c).Then-is_left) c.line_breaks-breaks.ensures refl
-    c.pass_line_back-passed.ensures.front c.pass_line_back-passed.ensures.back c.pass_line_back-passed.ensures.counts c.minus-self-inside.result c.minus-self-inside.ensures.sum
+    c.pass_line_back.ensures.front c.pass_line_back.ensures.back c.pass_line_back.ensures.counts c.pass_line_back.ensures.chunks c.minus-self-inside.result c.minus-self-inside.ensures.sum
 
 pub returns-then-is_left : goal.returns-then-is_left
 returns-then-is_left g c =
     let s = c.self.inside in
     let step = left_of_line (content_of s.part) s.line s.is_backward (not_first g (goal.at.returns-then-is_left g c).Then-is_left) (omega (arith, c.self.invariant.within, c.self.invariant.total_is)) in
-    let item = c.between.ensures ∙ line_is (content_of c.self.inside.part) (c.self.inside.line - 1) (inside_back (content_of c.self.inside.part) c.self.inside.caret c.pass_line_back-passed.new.self c.self.inside.before c.pass_line_back-passed.result c.self.inside.line c.self.inside.total
+    let item = c.between.ensures ∙ line_is (content_of c.self.inside.part) (c.self.inside.line - 1) (inside_back (content_of c.self.inside.part) c.self.inside.caret c.pass_line_back.new.self c.self.inside.before c.pass_line_back.result.0 c.self.inside.line c.self.inside.total
     (c.self.inside.before.break_count - (c.self.inside.line - 1)) c.line_breaks-breaks.result c.self.invariant (not_first g (goal.at.returns-then-is_left g c).Then-is_left) c.line_breaks-breaks.ensures refl
-    c.pass_line_back-passed.ensures.front c.pass_line_back-passed.ensures.back c.pass_line_back-passed.ensures.counts) c.minus-self-inside.result c.self.inside.before
-    (start_is (content_of c.self.inside.part) c.self.inside.caret c.pass_line_back-passed.new.self c.self.inside.before c.pass_line_back-passed.result c.self.inside.line c.self.inside.total
+    c.pass_line_back.ensures.front c.pass_line_back.ensures.back c.pass_line_back.ensures.counts) c.minus-self-inside.result c.self.inside.before
+    (start_is (content_of c.self.inside.part) c.self.inside.caret c.pass_line_back.new.self c.self.inside.before c.pass_line_back.result.0 c.self.inside.line c.self.inside.total
     (c.self.inside.before.break_count - (c.self.inside.line - 1)) c.line_breaks-breaks.result c.self.invariant (not_first g (goal.at.returns-then-is_left g c).Then-is_left) c.line_breaks-breaks.ensures refl
-    c.pass_line_back-passed.ensures.front c.pass_line_back-passed.ensures.back c.pass_line_back-passed.ensures.counts c.minus-self-inside.result c.minus-self-inside.ensures.sum)
-    (before_up (content_of c.self.inside.part) c.self.inside.caret c.pass_line_back-passed.new.self c.self.inside.before c.pass_line_back-passed.result c.self.inside.line c.self.inside.total
+    c.pass_line_back.ensures.front c.pass_line_back.ensures.back c.pass_line_back.ensures.counts c.minus-self-inside.result c.minus-self-inside.ensures.sum)
+    (before_up (content_of c.self.inside.part) c.self.inside.caret c.pass_line_back.new.self c.self.inside.before c.pass_line_back.result.0 c.self.inside.line c.self.inside.total
     (c.self.inside.before.break_count - (c.self.inside.line - 1)) c.line_breaks-breaks.result c.self.invariant (not_first g (goal.at.returns-then-is_left g c).Then-is_left) c.line_breaks-breaks.ensures refl
-    c.pass_line_back-passed.ensures.front c.pass_line_back-passed.ensures.back c.pass_line_back-passed.ensures.counts) in
+    c.pass_line_back.ensures.front c.pass_line_back.ensures.back c.pass_line_back.ensures.counts) in
     rw (c.if-is_left.true, ← c.self.view_is, item) (step.0, step.1, refl)
 
-pub pass_line_back-passed-requires : goal.pass_line_back-passed-requires
-pass_line_back-passed-requires g c = start_apart (content_of c.self.inside.part) c.self.inside.caret c.self.inside.before c.self.inside.line c.self.inside.total c.self.invariant
+pub pass_line_back-requires : goal.pass_line_back-requires
+pass_line_back-requires g c = start_apart (content_of c.self.inside.part) c.self.inside.caret c.self.inside.before c.self.inside.line c.self.inside.total c.self.invariant
 
 pub plus-self-inside-requires-clause-bytes : goal.plus-self-inside-requires-clause-bytes
 plus-self-inside-requires-clause-bytes g c =
-    let half = next_half (content_of c.self.inside.part) c.self.inside.caret c.pass_line-passed.new.self c.self.inside.before c.pass_line-passed.result c.self.inside.line c.self.inside.total c.line_breaks-breaks.result c.self.invariant
-    (not_last g (goal.at.plus-self-inside-requires-clause-bytes g c).Else-is_left) c.line_breaks-breaks.ensures c.pass_line-passed.ensures.front c.pass_line-passed.ensures.back c.pass_line-passed.ensures.counts in
+    let half = next_half (content_of c.self.inside.part) c.self.inside.caret c.pass_line.new.self c.self.inside.before c.pass_line.result.0 c.self.inside.line c.self.inside.total c.line_breaks-breaks.result c.self.invariant
+    (not_last g (goal.at.plus-self-inside-requires-clause-bytes g c).Else-is_left) c.line_breaks-breaks.ensures c.pass_line.ensures.front c.pass_line.ensures.back c.pass_line.ensures.counts in
     omega (arith, half.0.bytes, half.1.bytes)
 
 pub plus-self-inside-requires-clause-chars : goal.plus-self-inside-requires-clause-chars
 plus-self-inside-requires-clause-chars g c =
-    let half = next_half (content_of c.self.inside.part) c.self.inside.caret c.pass_line-passed.new.self c.self.inside.before c.pass_line-passed.result c.self.inside.line c.self.inside.total c.line_breaks-breaks.result c.self.invariant
-    (not_last g (goal.at.plus-self-inside-requires-clause-chars g c).Else-is_left) c.line_breaks-breaks.ensures c.pass_line-passed.ensures.front c.pass_line-passed.ensures.back c.pass_line-passed.ensures.counts in
+    let half = next_half (content_of c.self.inside.part) c.self.inside.caret c.pass_line.new.self c.self.inside.before c.pass_line.result.0 c.self.inside.line c.self.inside.total c.line_breaks-breaks.result c.self.invariant
+    (not_last g (goal.at.plus-self-inside-requires-clause-chars g c).Else-is_left) c.line_breaks-breaks.ensures c.pass_line.ensures.front c.pass_line.ensures.back c.pass_line.ensures.counts in
     omega (arith, half.0.chars, half.1.chars)
 
 pub plus-self-inside-requires-clause-utf16_surrogates : goal.plus-self-inside-requires-clause-utf16_surrogates
 plus-self-inside-requires-clause-utf16_surrogates g c =
-    let half = next_half (content_of c.self.inside.part) c.self.inside.caret c.pass_line-passed.new.self c.self.inside.before c.pass_line-passed.result c.self.inside.line c.self.inside.total c.line_breaks-breaks.result c.self.invariant
-    (not_last g (goal.at.plus-self-inside-requires-clause-utf16_surrogates g c).Else-is_left) c.line_breaks-breaks.ensures c.pass_line-passed.ensures.front c.pass_line-passed.ensures.back c.pass_line-passed.ensures.counts in
+    let half = next_half (content_of c.self.inside.part) c.self.inside.caret c.pass_line.new.self c.self.inside.before c.pass_line.result.0 c.self.inside.line c.self.inside.total c.line_breaks-breaks.result c.self.invariant
+    (not_last g (goal.at.plus-self-inside-requires-clause-utf16_surrogates g c).Else-is_left) c.line_breaks-breaks.ensures c.pass_line.ensures.front c.pass_line.ensures.back c.pass_line.ensures.counts in
     omega (arith, half.0.utf16_surrogates, half.1.utf16_surrogates)
 
 pub plus-self-inside-requires-clause-break_count : goal.plus-self-inside-requires-clause-break_count
 plus-self-inside-requires-clause-break_count g c =
-    let half = next_half (content_of c.self.inside.part) c.self.inside.caret c.pass_line-passed.new.self c.self.inside.before c.pass_line-passed.result c.self.inside.line c.self.inside.total c.line_breaks-breaks.result c.self.invariant
-    (not_last g (goal.at.plus-self-inside-requires-clause-break_count g c).Else-is_left) c.line_breaks-breaks.ensures c.pass_line-passed.ensures.front c.pass_line-passed.ensures.back c.pass_line-passed.ensures.counts in
+    let half = next_half (content_of c.self.inside.part) c.self.inside.caret c.pass_line.new.self c.self.inside.before c.pass_line.result.0 c.self.inside.line c.self.inside.total c.line_breaks-breaks.result c.self.invariant
+    (not_last g (goal.at.plus-self-inside-requires-clause-break_count g c).Else-is_left) c.line_breaks-breaks.ensures c.pass_line.ensures.front c.pass_line.ensures.back c.pass_line.ensures.counts in
     omega (arith, half.0.break_count, half.1.break_count)
 
 pub between-requires-2-clause-to_is : goal.between-requires-2-clause-to_is
 between-requires-2-clause-to_is g c =
-    line_to (content_of c.self.inside.part) c.self.inside.line (inside (content_of c.self.inside.part) c.self.inside.caret c.pass_line-passed.new.self c.self.inside.before c.pass_line-passed.result c.self.inside.line c.self.inside.total c.line_breaks-breaks.result c.self.invariant
-    (not_last g (goal.at.between-requires-2-clause-to_is g c).Else-is_left) c.line_breaks-breaks.ensures c.pass_line-passed.ensures.front c.pass_line-passed.ensures.back c.pass_line-passed.ensures.counts) c.self.inside.before c.plus-self-inside.result c.self.invariant.before_is
-    (after_is (content_of c.self.inside.part) c.self.inside.caret c.pass_line-passed.new.self c.self.inside.before c.pass_line-passed.result c.self.inside.line c.self.inside.total c.line_breaks-breaks.result c.self.invariant
-    (not_last g (goal.at.between-requires-2-clause-to_is g c).Else-is_left) c.line_breaks-breaks.ensures c.pass_line-passed.ensures.front c.pass_line-passed.ensures.back c.pass_line-passed.ensures.counts c.plus-self-inside.result c.plus-self-inside.ensures.sum)
+    line_to (content_of c.self.inside.part) c.self.inside.line (inside (content_of c.self.inside.part) c.self.inside.caret c.pass_line.new.self c.self.inside.before c.pass_line.result.0 c.self.inside.line c.self.inside.total c.line_breaks-breaks.result c.self.invariant
+    (not_last g (goal.at.between-requires-2-clause-to_is g c).Else-is_left) c.line_breaks-breaks.ensures c.pass_line.ensures.front c.pass_line.ensures.back c.pass_line.ensures.counts) c.self.inside.before c.plus-self-inside.result c.self.invariant.before_is
+    (after_is (content_of c.self.inside.part) c.self.inside.caret c.pass_line.new.self c.self.inside.before c.pass_line.result.0 c.self.inside.line c.self.inside.total c.line_breaks-breaks.result c.self.invariant
+    (not_last g (goal.at.between-requires-2-clause-to_is g c).Else-is_left) c.line_breaks-breaks.ensures c.pass_line.ensures.front c.pass_line.ensures.back c.pass_line.ensures.counts c.plus-self-inside.result c.plus-self-inside.ensures.sum)
 
 pub between-requires-2-clause-apart : goal.between-requires-2-clause-apart
 between-requires-2-clause-apart g c =
-    line_apart (content_of c.self.inside.part) c.self.inside.line (inside (content_of c.self.inside.part) c.self.inside.caret c.pass_line-passed.new.self c.self.inside.before c.pass_line-passed.result c.self.inside.line c.self.inside.total c.line_breaks-breaks.result c.self.invariant
-    (not_last g (goal.at.between-requires-2-clause-apart g c).Else-is_left) c.line_breaks-breaks.ensures c.pass_line-passed.ensures.front c.pass_line-passed.ensures.back c.pass_line-passed.ensures.counts) c.self.inside.before c.plus-self-inside.result c.self.invariant.before_is
-    (after_is (content_of c.self.inside.part) c.self.inside.caret c.pass_line-passed.new.self c.self.inside.before c.pass_line-passed.result c.self.inside.line c.self.inside.total c.line_breaks-breaks.result c.self.invariant
-    (not_last g (goal.at.between-requires-2-clause-apart g c).Else-is_left) c.line_breaks-breaks.ensures c.pass_line-passed.ensures.front c.pass_line-passed.ensures.back c.pass_line-passed.ensures.counts c.plus-self-inside.result c.plus-self-inside.ensures.sum)
+    line_apart (content_of c.self.inside.part) c.self.inside.line (inside (content_of c.self.inside.part) c.self.inside.caret c.pass_line.new.self c.self.inside.before c.pass_line.result.0 c.self.inside.line c.self.inside.total c.line_breaks-breaks.result c.self.invariant
+    (not_last g (goal.at.between-requires-2-clause-apart g c).Else-is_left) c.line_breaks-breaks.ensures c.pass_line.ensures.front c.pass_line.ensures.back c.pass_line.ensures.counts) c.self.inside.before c.plus-self-inside.result c.self.invariant.before_is
+    (after_is (content_of c.self.inside.part) c.self.inside.caret c.pass_line.new.self c.self.inside.before c.pass_line.result.0 c.self.inside.line c.self.inside.total c.line_breaks-breaks.result c.self.invariant
+    (not_last g (goal.at.between-requires-2-clause-apart g c).Else-is_left) c.line_breaks-breaks.ensures c.pass_line.ensures.front c.pass_line.ensures.back c.pass_line.ensures.counts c.plus-self-inside.result c.plus-self-inside.ensures.sum)
 
 pub invariant_of-self-2 : goal.invariant_of-self-2
 invariant_of-self-2 g c =
-    next_start (content_of c.self.inside.part) c.self.inside.caret c.pass_line-passed.new.self c.self.inside.before c.pass_line-passed.result c.self.inside.line c.self.inside.total c.line_breaks-breaks.result c.self.invariant
-    (not_last g (goal.at.invariant_of-self-2 g c).Else-is_left) c.line_breaks-breaks.ensures c.pass_line-passed.ensures.front c.pass_line-passed.ensures.back c.pass_line-passed.ensures.counts c.plus-self-inside.result c.plus-self-inside.ensures.sum
+    next_start (content_of c.self.inside.part) c.self.inside.caret c.pass_line.new.self c.self.inside.before c.pass_line.result.0 c.self.inside.line c.self.inside.total c.line_breaks-breaks.result c.self.invariant
+    (not_last g (goal.at.invariant_of-self-2 g c).Else-is_left) c.line_breaks-breaks.ensures c.pass_line.ensures.front c.pass_line.ensures.back c.pass_line.ensures.counts c.pass_line.ensures.chunks c.plus-self-inside.result c.plus-self-inside.ensures.sum
 
 pub returns : goal.returns
 returns g c =
     let s = c.self.inside in
-    let step = right_of_line (content_of s.part) s.line s.is_backward (inside (content_of c.self.inside.part) c.self.inside.caret c.pass_line-passed.new.self c.self.inside.before c.pass_line-passed.result c.self.inside.line c.self.inside.total c.line_breaks-breaks.result c.self.invariant
-    (not_last g (goal.at.returns g c).Else-is_left) c.line_breaks-breaks.ensures c.pass_line-passed.ensures.front c.pass_line-passed.ensures.back c.pass_line-passed.ensures.counts) in
-    let item = c.between-2.ensures ∙ line_is (content_of c.self.inside.part) c.self.inside.line (inside (content_of c.self.inside.part) c.self.inside.caret c.pass_line-passed.new.self c.self.inside.before c.pass_line-passed.result c.self.inside.line c.self.inside.total c.line_breaks-breaks.result c.self.invariant
-    (not_last g (goal.at.returns g c).Else-is_left) c.line_breaks-breaks.ensures c.pass_line-passed.ensures.front c.pass_line-passed.ensures.back c.pass_line-passed.ensures.counts) c.self.inside.before c.plus-self-inside.result c.self.invariant.before_is
-    (after_is (content_of c.self.inside.part) c.self.inside.caret c.pass_line-passed.new.self c.self.inside.before c.pass_line-passed.result c.self.inside.line c.self.inside.total c.line_breaks-breaks.result c.self.invariant
-    (not_last g (goal.at.returns g c).Else-is_left) c.line_breaks-breaks.ensures c.pass_line-passed.ensures.front c.pass_line-passed.ensures.back c.pass_line-passed.ensures.counts c.plus-self-inside.result c.plus-self-inside.ensures.sum) in
+    let step = right_of_line (content_of s.part) s.line s.is_backward (inside (content_of c.self.inside.part) c.self.inside.caret c.pass_line.new.self c.self.inside.before c.pass_line.result.0 c.self.inside.line c.self.inside.total c.line_breaks-breaks.result c.self.invariant
+    (not_last g (goal.at.returns g c).Else-is_left) c.line_breaks-breaks.ensures c.pass_line.ensures.front c.pass_line.ensures.back c.pass_line.ensures.counts) in
+    let item = c.between-2.ensures ∙ line_is (content_of c.self.inside.part) c.self.inside.line (inside (content_of c.self.inside.part) c.self.inside.caret c.pass_line.new.self c.self.inside.before c.pass_line.result.0 c.self.inside.line c.self.inside.total c.line_breaks-breaks.result c.self.invariant
+    (not_last g (goal.at.returns g c).Else-is_left) c.line_breaks-breaks.ensures c.pass_line.ensures.front c.pass_line.ensures.back c.pass_line.ensures.counts) c.self.inside.before c.plus-self-inside.result c.self.invariant.before_is
+    (after_is (content_of c.self.inside.part) c.self.inside.caret c.pass_line.new.self c.self.inside.before c.pass_line.result.0 c.self.inside.line c.self.inside.total c.line_breaks-breaks.result c.self.invariant
+    (not_last g (goal.at.returns g c).Else-is_left) c.line_breaks-breaks.ensures c.pass_line.ensures.front c.pass_line.ensures.back c.pass_line.ensures.counts c.plus-self-inside.result c.plus-self-inside.ensures.sum) in
     rw (c.if-is_left.false, ← c.self.view_is, item) (step.0, step.1, refl)
+
+pub between-requires-clause-held : goal.between-requires-clause-held
+between-requires-clause-held g c =
+    let s = c.self.inside in
+    line_held (content_of s.part) c.pass_line_back.new.self c.minus-self-inside.result (s.line - 1) s.total (chars c.pass_line_back.result.1.now)
+    (prev_start (content_of s.part) s.caret c.pass_line_back.new.self s.before c.pass_line_back.result.0 s.line s.total
+    (s.before.break_count - (s.line - 1)) c.line_breaks-breaks.result c.self.invariant (not_first g (goal.at.between-requires-clause-held g c).Then-is_left) c.line_breaks-breaks.ensures refl
+    c.pass_line_back.ensures.front c.pass_line_back.ensures.back c.pass_line_back.ensures.counts c.pass_line_back.ensures.chunks c.minus-self-inside.result c.minus-self-inside.ensures.sum)
+    c.pass_line_back.ensures.held
+
+pub between-requires-2-clause-held : goal.between-requires-2-clause-held
+between-requires-2-clause-held g c =
+    let s = c.self.inside in
+    line_held (content_of s.part) s.caret s.before s.line s.total (chars c.pass_line.result.1.now) c.self.invariant c.pass_line.ensures.held
