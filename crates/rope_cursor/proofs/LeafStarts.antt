@@ -25,9 +25,9 @@ use Rattle.rope_part.proofs.ClippedChunks.{size_of_part, cons_some}
 use Rattle.rope_part.proofs.Measured.{Measured, measured}
 use Rattle.rope_part.proofs.LeafParts.{leaf_in, meets_byte, meets_char}
 use Rattle.rope_cursor.specs.Path.{Place, leaves, HoldsPlace}
-use Rattle.rope_cursor.specs.Span.{edge_at, clipped_place, clipped_at, IsWithin, IsSpan}
+use Rattle.rope_cursor.specs.Span.{alone, edge_at, clipped_place, clipped_at, IsWithin, IsSpan}
 use Rattle.rope_cursor.specs.Starts.{AreBefore, IsItem, IsHolding, size_in}
-use Rattle.rope_cursor.proofs.Spans.{alone, bytes_before_within, leaves_clipped, some_leaf}
+use Rattle.rope_cursor.proofs.Spans.{bytes_before_within, leaves_clipped, some_leaf}
 use Rattle.rope_text.specs.declared.line_breaks.LineBreaks.{LineBreaks}
 use Rattle.rope_text.specs.Conversions.{byte_to_char}
 use Rattle.rope_text.specs.Cutting.{single_chunk}

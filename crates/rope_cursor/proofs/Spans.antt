@@ -13,7 +13,7 @@ use Rattle.rope_text.proofs.Measures.{IsMeasure-byte_len, size_le, size_lt, size
 use Rattle.rope_text.proofs.CuttingLaws.{concat-append}
 use Rattle.rope_text.proofs.ClipLaws.{clip_empty, concat-clip, length-slice_range, slice_range_past}
 use Rattle.rope_cursor.specs.Path.{Place, IsNext, leaves}
-use Rattle.rope_cursor.specs.Span.{Edge, edge_at, clipped_place, clipped_at, IsWithin, IsSpan}
+use Rattle.rope_cursor.specs.Span.{alone, Edge, edge_at, clipped_place, clipped_at, IsWithin, IsSpan}
 use Rattle.rope_part.proofs.ClippedChunks.{clip-append, cons_some, size_of_part}
 
 -- the bytes of a text's middle part up to a place of the text
@@ -290,9 +290,6 @@ span_prev p q start len from to h e n l =
     }
 
 -- a text as the only leaf
-abbrev pub alone : List ℕ → Place
-alone text = record { before = []; here = text; after = [] }
-
 alone_by : (before after : List (List ℕ)) (here text : List ℕ) → before ≡ [] → here ≡ text → after ≡ [] → record { before = before; here = here; after = after } ≡ alone text
 alone_by before after here text b h a = cc
 

@@ -1,10 +1,19 @@
 -- A way to a leaf within a part of the text of all the leaves.
-use Rattle.std.specs.Prelude.{◌≡◌, ℕ, ◌+◌, ◌-◌, ◌<◌, ◌≤◌, List, [], length, take, All}
+use Rattle.std.specs.Prelude.{◌≡◌, ℕ, ◌+◌, ◌-◌, ◌<◌, ◌≤◌, Option, None, Some, List, [], length, take, All}
 use Rattle.std.specs.List.{concat, slice_range}
 use Rattle.rope_text.specs.Text.{byte_len}
 use Rattle.rope_text.specs.Conversions.{byte_to_char}
 use Rattle.rope_text.specs.Cutting.{clip}
 use Rattle.rope_cursor.specs.Path.{Place, leaves}
+
+-- the place of a text that is the only leaf
+abbrev pub alone : List ℕ → Place
+alone text = record { before = []; here = text; after = [] }
+
+-- the place of a chunk in a tree, or that of a text in no tree
+abbrev pub place_in : List ℕ → Option Place → Place
+place_in text None = alone text
+place_in text (Some p) = p
 
 -- a place of the text: the bytes and the characters before it
 pub record Edge : Type 0 where

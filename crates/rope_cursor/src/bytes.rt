@@ -8,7 +8,7 @@ ghost use Rattle.rope_text.specs.Sides.{ahead, at_place, turned, GoesRight, Goes
 ghost use Rattle.rope_part.specs.Part.{text_of};
 ghost use Rattle.rope_cursor.specs.Hints.{CountsAhead};
 
-use crate::path::Span;
+use crate::span::Span;
 use crate::point::{end_of, step_chunk};
 use rope_part::Part;
 use rope_tree::Unit;

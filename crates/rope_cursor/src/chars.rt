@@ -5,7 +5,7 @@ ghost use Rattle.rope_text.specs.Sides.{ahead, at_place, turned, GoesRight, Goes
 ghost use Rattle.rope_part.specs.Part.{text_of};
 ghost use Rattle.rope_cursor.specs.Hints.{CountsAhead};
 
-use crate::path::Span;
+use crate::span::Span;
 use crate::point::{char_after, char_before, step_chunk};
 use rope_part::Part;
 use std::alloc::AllocError;

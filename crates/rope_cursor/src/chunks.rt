@@ -9,7 +9,7 @@ ghost use Rattle.rope_text.specs.Sides.{ahead, at_start, turned, GoesRight, Goes
 ghost use Rattle.rope_part.specs.Part.{text_of, chunks_of, breaks_of};
 ghost use Rattle.rope_cursor.specs.Starts.{IsItem, size_in, chunk_place};
 
-use crate::path::Span;
+use crate::span::Span;
 use rope_part::Part;
 use rope_tree::{Unit, count};
 use std::alloc::AllocError;

@@ -10,6 +10,7 @@ pub mod lines;
 mod path;
 mod pieces;
 mod point;
+mod span;
 
 pub use bytes::{Bytes, bytes_at};
 pub use chars::{Chars, chars_at};

@@ -5,18 +5,16 @@ ghost use Rattle.std.specs.Bool.{OnTrue, OnFalse};
 ghost use Rattle.std.specs.List.{concat, All};
 ghost use Rattle.std.specs.Str.{chars};
 ghost use Rattle.rope_text.specs.declared.TheConstants.{MAX_HEIGHT};
-ghost use Rattle.rope_text.specs.Conversions.{char_to_byte};
 ghost use Rattle.rope_text.specs.Text.{byte_len};
 ghost use Rattle.rope_text.specs.TextInfo.{info_of};
 ghost use Rattle.rope_tree.specs.Search.{count_of};
 ghost use Rattle.rope_tree.specs.Leaves.{AreLeaves};
 ghost use Rattle.rope_tree.specs.Tree.{IsTree, text};
-ghost use Rattle.rope_part.specs.Part.{content_of, text_of, chunks_of, breaks_of};
+ghost use Rattle.rope_part.specs.Excerpt.{content_of as excerpt_content, text_of as excerpt_text};
 ghost use Rattle.rope_cursor.specs.Path.{before_of, beyond, around, place_of, AreFrames, LeadsTo, IsLow, IsBeside, IsLast, HoldsPlace, leaves, leaves_below};
 ghost use Rattle.rope_cursor.specs.Starts.{IsItem, IsHolding, size_in};
 
-use rope_part::Part;
-use rope_text::str_utils::char_to_byte_idx;
+use rope_part::Excerpt;
 use rope_text::{MAX_HEIGHT, Steps, TextInfo};
 use rope_tree::{Node, Unit, View, count, place_of, total_before};
 use std::marker::Model;
@@ -233,9 +231,9 @@ impl<'a> Path<'a> {
     }
 }
 
-/// A chunk of a part, seen as the chunks before it, the chunk, and the chunks after it.
+/// A chunk of an excerpt of a tree, seen as the chunks before it, the chunk, and the chunks after it.
 #[derive(Drop)]
-pub(crate) struct Span<'a> {
+pub(crate) struct TreeSpan<'a> {
     path: Path<'a>,
     // the bytes of the text before the leaf, of which the chunk is a part
     at: usize,
@@ -244,7 +242,7 @@ pub(crate) struct Span<'a> {
     to: usize,
 }
 
-impl<'a> Model for Span<'a> {
+impl<'a> Model for TreeSpan<'a> {
     ghost use Rattle.rope_cursor.specs.Path.{Place};
     ghost use Rattle.rope_cursor.specs.Span.{clipped_at, IsSpanFrom};
 
@@ -255,74 +253,40 @@ impl<'a> Model for Span<'a> {
     ghost invariant = { λ a. IsSpanFrom a.path a.at a.from a.to };
 }
 
-impl<'a> Span<'a> {
-    /// The chunk of a part that holds a byte or a character; at the end of the text the last chunk. With it the bytes, the
-    /// characters and the line breaks of the text before it. An empty part has no chunk: then it is the empty text.
+impl<'a> TreeSpan<'a> {
+    /// The chunk of an excerpt that holds a byte or a character; at the end of the text the last chunk. With it the bytes, the
+    /// characters and the line breaks of the text before it.
     // Inlined: a way is half a kilobyte, and is then moved once less.
     #[inline(always)]
     pub(crate) fn holding(
-        part: &Part<'a>,
+        excerpt: &Excerpt<'a>,
         unit: Unit,
         idx: usize,
-    ) -> (Span<'a>, usize, usize, usize)
+    ) -> (TreeSpan<'a>, usize, usize, usize)
         requires unit { IsItem unit }
-        requires within { idx ≤ size_in unit (text_of part.now) }
-        ensures { IsHolding unit idx (content_of part.now) result.0 result.1 result.2 result.3 }
+        requires within { idx ≤ size_in unit (excerpt_text excerpt.now) }
+        ensures { IsHolding unit idx (excerpt_content excerpt.now)
+            result.0 result.1 result.2 result.3 }
     {
-        match part {
-            Part::InTree(excerpt) => {
-                let start = excerpt.start;
-                let place = excerpt.place(unit, idx).min(count(excerpt.end, unit) - 1);
-                let (path, before) = Path::at(excerpt.node, unit, place);
-                let (at, from, to) = (before.bytes, start.bytes, excerpt.end.bytes);
-                let span = Span { path, at, from, to };
-                (
-                    span,
-                    before.bytes.saturating_sub(start.bytes),
-                    before.chars.saturating_sub(start.chars),
-                    before.break_count.saturating_sub(start.break_count),
-                )
-            }
-            Part::Alone(plain) => {
-                let path = Path::text(plain.text);
-                let (at, from, to) = (0, 0, plain.info.bytes);
-                (Span { path, at, from, to }, 0, 0, 0)
-            }
-        }
-    }
-
-    /// The chunk of a part that holds a character, and the byte of the chunk at which that character starts. At the end of the
-    /// text it is the last chunk, and its end. An empty part has no chunk: then it is the empty text. The caller has the part's
-    /// counts, and passes them in.
-    // Inlined: a way is half a kilobyte, and is then moved once less. Of a narrow text, which has as many bytes as characters,
-    // nothing is read: no byte of it has to be waited for.
-    #[inline(always)]
-    pub(crate) fn at(part: &Part<'a>, info: TextInfo, char_idx: usize) -> (Span<'a>, usize)
-        requires info { info ≡ info_of (breaks_of part.now) (text_of part.now) }
-        requires within { char_idx ≤ length (text_of part.now) }
-        ensures text { concat (leaves result.0) ≡ text_of part.now }
-        ensures chunks { 0 < length (text_of part.now) → leaves result.0 ≡ chunks_of part.now }
-        ensures starts { length (concat result.0.before) ≤ char_idx }
-        ensures within { char_idx ≤ length (concat result.0.before) + length result.0.here }
-        ensures byte { result.1
-            ≡ char_to_byte result.0.here (char_idx - length (concat result.0.before)) }
-    {
-        let (span, _, chars, _) = Span::holding(part, Unit::Char, char_idx);
-        let within = char_idx - chars;
-        let byte = if info.bytes == info.chars {
-            within
-        } else {
-            char_to_byte_idx(span.chunk(), within)
-        };
-        (span, byte)
+        let start = excerpt.start;
+        let place = excerpt.place(unit, idx).min(count(excerpt.end, unit) - 1);
+        let (path, before) = Path::at(excerpt.node, unit, place);
+        let (at, from, to) = (before.bytes, start.bytes, excerpt.end.bytes);
+        let span = TreeSpan { path, at, from, to };
+        (
+            span,
+            before.bytes.saturating_sub(start.bytes),
+            before.chars.saturating_sub(start.chars),
+            before.break_count.saturating_sub(start.break_count),
+        )
     }
 
     /// The same chunk, with a way of its own.
-    pub(crate) fn copy(&self) -> Span<'a>
+    pub(crate) fn copy(&self) -> TreeSpan<'a>
         ensures { result ≡ self.now }
     {
         let path = Path { ..self.path };
-        Span { path, ..*self }
+        TreeSpan { path, ..*self }
     }
 
     /// The chunk.

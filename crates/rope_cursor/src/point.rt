@@ -4,7 +4,7 @@ ghost use Rattle.std.specs.Str.{IsCharBoundary};
 ghost use Rattle.rope_cursor.specs.Path.{IsBeside, IsLast};
 ghost use Rattle.rope_cursor.specs.Point.{IsChunkAt, IsCharBetween};
 
-use crate::path::Span;
+use crate::span::Span;
 
 // Where a walk over so many items ends, to the left or to the right.
 pub(crate) fn end_of(count: usize, is_left: bool) -> usize

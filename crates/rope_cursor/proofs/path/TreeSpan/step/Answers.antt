@@ -2,8 +2,8 @@ use Rattle.std.proofs.Common.{◌≡◌, ◌+◌, length, refl, sym, ap, ◌∙�
 use Rattle.rope_text.specs.Text.{byte_len}
 use Rattle.rope_text.proofs.Walks.{byte_len-chars}
 use Rattle.rope_cursor.proofs.Spans.{in_order, Steps, StepsBack, no_next, no_prev, span_next, span_prev}
-use Rattle.rope_cursor.proofs.path.Span.step.Goals.{After-leaf, Else-not-step-2, then-self-via-then-self, then-self-via-else-self+then-not-step, then-self-len-via-then-self-len, then-self-len-via-else-self-len+then-not-step-2}
-use Rattle.rope_cursor.proofs.path.Span.step.Goals as goal
+use Rattle.rope_cursor.proofs.path.TreeSpan.step.Goals.{After-leaf, Else-not-step-2, then-self-via-then-self, then-self-via-else-self+then-not-step, then-self-len-via-then-self-len, then-self-len-via-else-self-len+then-not-step-2}
+use Rattle.rope_cursor.proofs.path.TreeSpan.step.Goals as goal
 
 -- backward
 back : (c : After-leaf) → StepsBack c.step.new.self c.self.inside.path c.self.inside.at (length c.leaf.result.now) c.self.inside.from c.self.inside.to

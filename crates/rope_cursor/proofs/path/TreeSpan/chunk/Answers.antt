@@ -7,8 +7,8 @@ use Rattle.rope_part.proofs.ChunkParts.{chars_of_part, boundary_of}
 use Rattle.rope_cursor.specs.Path.{Place, leaves}
 use Rattle.rope_cursor.specs.Span.{edge_at}
 use Rattle.rope_cursor.proofs.Spans.{IsCut, cut}
-use Rattle.rope_cursor.proofs.path.Span.chunk.Goals.{After-leaf-leaf}
-use Rattle.rope_cursor.proofs.path.Span.chunk.Goals as goal
+use Rattle.rope_cursor.proofs.path.TreeSpan.chunk.Goals.{After-leaf-leaf}
+use Rattle.rope_cursor.proofs.path.TreeSpan.chunk.Goals as goal
 
 abbrev chars_at : Place → ℕ → ℕ
 chars_at p bytes = (edge_at (leaves p) bytes).chars

@@ -4,8 +4,8 @@ use Rattle.rope_text.specs.Conversions.{char_to_byte}
 use Rattle.rope_text.proofs.NarrowTexts.{narrow_front}
 use Rattle.rope_part.specs.Part.{text_of}
 use Rattle.rope_cursor.proofs.NarrowChunks.{narrow_here}
-use Rattle.rope_cursor.proofs.path.Span.at.Goals.{then-info, else-info}
-use Rattle.rope_cursor.proofs.path.Span.at.Goals as goal
+use Rattle.rope_cursor.proofs.span.Span.at.Goals.{then-info, else-info}
+use Rattle.rope_cursor.proofs.span.Span.at.Goals as goal
 
 pub returns-clause-byte : goal.returns-clause-byte
 returns-clause-byte c =
