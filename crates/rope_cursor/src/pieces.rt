@@ -3,6 +3,7 @@ ghost use Rattle.std.specs.Prelude.{◌≡◌, ◌++◌, ◌∷◌, [], All, len
 ghost use Rattle.std.specs.Str.{chars, encode_utf8_all};
 ghost use Rattle.rope_part.specs.Part.{text_of};
 ghost use Rattle.rope_cursor.specs.Path.{leaves_below, IsLow};
+ghost use Rattle.rope_cursor.specs.Pieces.{after_way};
 
 use crate::path::{Path, lowest_text};
 use rope_part::Part;
@@ -14,16 +15,22 @@ use std::marker::Model;
 // needed.
 const MANY_BYTES: usize = 8 * MAX_BYTES;
 
-// Goes on to the leaf after a path. Where many bytes are ahead, it goes on past the leaves behind that one under the same node, and
+// Goes on to the leaf after a path, if there is one. Where many bytes are ahead, it goes on past the leaves behind that one under the same node, and
 // all their heads are read. Answers the leaf, and those that it passed. Never inlined: a step mostly takes one of these, and is to
 // stay short.
 #[inline(never)]
-fn leave_node<'a>(path: &mut Path<'a>, is_far: bool) -> Option<(&'a str, &'a [Node])>
+fn leave_node<'a>(
+    way: &mut Option<Path<'a>>,
+    is_far: bool,
+) -> Option<(&'a str, &'a [Node])>
     ensures leaves { IfSome result (λ found. All (λ rc. IsLow rc 0) found.1.now) }
     ensures some { IfSome result (λ found.
-        path.old.after ≡ chars found.0.now ∷ (leaves_below found.1.now ++ path.new.after)) }
-    ensures none { IfNone result ((path.old.after ≡ []) × (path.new ≡ path.old)) }
+        after_way way.old ≡ chars found.0.now ∷ (leaves_below found.1.now ++ after_way way.new)) }
+    ensures none { IfNone result ((after_way way.old ≡ []) × (way.new ≡ way.old)) }
 {
+    let Some(path) = way else {
+        return None;
+    };
     if !path.step(false) {
         return None;
     }
@@ -38,7 +45,8 @@ fn leave_node<'a>(path: &mut Path<'a>, is_far: bool) -> Option<(&'a str, &'a [No
 /// round at any leaf, goes a step only where they end. Nothing is read before the next piece is asked for.
 #[derive(Drop)]
 pub struct Pieces<'a> {
-    path: Path<'a>,
+    // none for a plain text, so that none is filled in for it
+    way: Option<Path<'a>>,
     // the leaves ahead that come before those after the path
     beside: &'a [Node],
     // how many bytes of the leaves ahead lie in the part
@@ -53,9 +61,9 @@ impl<'a> Model for Pieces<'a> {
 
     ghost Value = { List ℕ };
 
-    ghost view = { λ a. take a.left (encode_utf8_all (concat (ahead_of a.beside.now a.path))) };
+    ghost view = { λ a. take a.left (encode_utf8_all (concat (ahead_of a.beside.now a.way))) };
 
-    ghost invariant = { λ a. AreAhead a.beside.now a.path };
+    ghost invariant = { λ a. AreAhead a.beside.now a.way };
 }
 
 impl<'a> Pieces<'a> {
@@ -74,7 +82,8 @@ impl<'a> Pieces<'a> {
                 let (piece, _) = front.split_at(count);
                 let beside: &[Node] = &[];
                 let left = size - count;
-                (piece, Pieces { path, beside, left })
+                let way = Some(path);
+                (piece, Pieces { way, beside, left })
             }
             Part::Alone(plain) => Pieces::of_text(plain.text),
         }
@@ -85,9 +94,9 @@ impl<'a> Pieces<'a> {
         ensures bytes { result.0.now ++ result.1 ≡ encode_utf8_all (chars text.now) }
         ensures some { length result.0.now ≡ 0 → result.1 ≡ [] }
     {
-        let (path, left) = (Path::text(text), 0);
+        let (way, left) = (None, 0);
         let beside: &[Node] = &[];
-        (text.as_bytes(), Pieces { path, beside, left })
+        (text.as_bytes(), Pieces { way, beside, left })
     }
 
     /// The next piece; an empty one only at the end, where it stays.
@@ -106,7 +115,7 @@ impl<'a> Pieces<'a> {
                 lowest_text(node)
             }
             None => {
-                let Some((leaf, rest)) = leave_node(&mut self.path, is_far) else {
+                let Some((leaf, rest)) = leave_node(&mut self.way, is_far) else {
                     return &[];
                 };
                 self.beside = rest;
