@@ -3,7 +3,7 @@ use Rattle.rope_part.specs.Part.{text_of}
 use Rattle.rope_compare.specs.Rest.{bytes_ahead}
 use Rattle.rope_compare.proofs.Showing.{show_more, shown, shown_styled}
 use Rattle.rope_compare.proofs.Taken.{chunk_taken, none_taken}
-use Rattle.std.proofs.Common.{refl}
+use Rattle.std.proofs.Common.{◌≡◌, ◌∙◌, [], ap, refl, rules}
 use Rattle.rope_compare.proofs.text_out.show.Goals as goal
 
 pub loop-chunk-preserved : goal.loop-chunk-preserved
@@ -24,3 +24,9 @@ pub returns-clause-styled : goal.returns-clause-styled
 returns-clause-styled g c = λ p q.
     shown_styled g.W.Write.write_str_gives c.args.f.now c.loop-chunk.f (encode_utf8_all (text_of c.args.part.now)) (bytes_ahead c.loop-chunk.chunk-iterator) c.loop-chunk.invariant
     (none_taken c.loop-chunk.chunk-iterator c.in-None.ensures.steps.0) p
+
+pub loop-chunk-init : goal.loop-chunk-init
+loop-chunk-init g c =
+    let whole : bytes_ahead c.into_iter-chunk-iterator.result ≡ encode_utf8_all (text_of c.args.part.now) =
+    ap bytes_ahead (c.into_iter-chunk-iterator.ensures.into_iter_gives ∙ c.all_chunks-chunk-items.ensures.start) ∙ ap encode_utf8_all c.all_chunks-chunk-items.ensures.cut.joined in
+    record { front = []; whole = whole; plain = search rules; styled = search rules }
