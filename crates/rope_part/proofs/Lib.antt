@@ -14,3 +14,4 @@ pub mod Kept
 mod ChunksAt
 pub mod PartsBetween
 pub mod InChunks
+pub mod LeafPlaces

@@ -11,7 +11,7 @@ ghost use Rattle.rope_part.specs.InChunk.{IsInChunk};
 
 use rope_text::str_utils::{char_to_byte_idx, count_surrogates};
 use rope_text::{Steps, TextInfo};
-use rope_tree::{Found, Node, Unit, count, leaf_at};
+use rope_tree::{Found, Node, Unit, convert_in, count, leaf_at};
 
 // The counts of the text before a line that is not the first, and what follows there of the leaf in which the break before it ends.
 fn line_start_at(node: &Node, line_idx: usize) -> (TextInfo, &str)
@@ -32,6 +32,9 @@ fn line_start_at(node: &Node, line_idx: usize) -> (TextInfo, &str)
     (found.before.plus(front), &leaf[front.bytes..])
 }
 
+// A place in a leaf: the leaf, with what stands before it, and how many of its bytes and of its characters stand before the place.
+type LeafPlace<'a> = (Found<'a>, usize, usize);
+
 /// One character or more of a tree's text. It keeps the counts of the text before its start and before its end, so
 /// that a length is a difference of two of them, and a conversion is one of the tree's.
 ///
@@ -48,9 +51,13 @@ pub struct Excerpt<'a> {
 
 impl<'a> Excerpt<'a> {
     ghost use Rattle.rope_part.specs.Kept.{IsPart};
-    ghost use Rattle.std.specs.Prelude.{◌*◌, IfSome, OnSome};
+    ghost use Rattle.std.specs.Prelude.{◌*◌, ◌↔◌, true, IfSome, IsSome};
     ghost use Rattle.std.specs.List.{slice_range};
     ghost use Rattle.rope_text.specs.Cutting.{clip, single_chunk};
+    ghost use Rattle.rope_text.specs.Conversions.{byte_to_char};
+    ghost use Rattle.rope_text.specs.Edit.{is_char_boundary};
+    ghost use Rattle.rope_text.specs.Text.{byte_len};
+    ghost use Rattle.rope_part.specs.LeafPlace.{IsLeafPlace};
     ghost use Rattle.rope_part.specs.Excerpt.{content_of, text_of, chunks_of, breaks_of};
 
     /// A place in its text as a place in the tree's. For lines it may be the one past the last.
@@ -99,6 +106,72 @@ impl<'a> Excerpt<'a> {
         Some(&held[..char_to_byte_idx(held, count)])
     }
 
+    // The place of a character: the leaf that holds it, and how many of the leaf's bytes and characters stand before it.
+    fn place_of_char(&self, char_idx: usize) -> LeafPlace<'a>
+        requires { char_idx < length (text_of self.now) }
+        ensures { IsLeafPlace self.now.node.now (self.now.start.chars + char_idx)
+            result.0.leaf result.0.before result.1 result.2 }
+    {
+        let place = self.place(Unit::Char, char_idx);
+        let found = leaf_at(self.node, Unit::Char, place, &mut Steps::new());
+        let chars = place - found.before.chars;
+        let bytes = found.leaf.char_to_byte_idx(chars);
+        (found, bytes, chars)
+    }
+
+    // The place of the character that begins at a byte; none where the byte lies inside a character.
+    fn place_of_byte(&self, byte_idx: usize) -> Option<LeafPlace<'a>>
+        requires { byte_idx < byte_len (text_of self.now) }
+        ensures some { IfSome result (λ place. IsLeafPlace self.now.node.now
+            (self.now.start.chars + byte_to_char (text_of self.now) byte_idx)
+            place.0.leaf place.0.before place.1 place.2) }
+        ensures whole { IsSome result ↔ (is_char_boundary (text_of self.now) byte_idx ≡ true) }
+    {
+        let place = self.place(Unit::Byte, byte_idx);
+        let found = leaf_at(self.node, Unit::Byte, place, &mut Steps::new());
+        let bytes = place - found.before.bytes;
+        let leaf = found.leaf.as_str();
+        if !leaf.is_char_boundary(bytes) {
+            return None;
+        }
+        let breaks = self.node.line_breaks();
+        let chars = convert_in(leaf, found.inside, breaks, Unit::Byte, Unit::Char, bytes);
+        Some((found, bytes, chars))
+    }
+
+    // The `start` of its part from a place on.
+    fn start_at(&self, place: LeafPlace<'a>) -> TextInfo
+        requires { IsLeafPlace self.now.node.now (place.0.before.chars + place.2)
+            place.0.leaf place.0.before place.1 place.2 }
+        ensures { result ≡ start_info self.now.node.now.breaks (text self.now.node.now)
+            (place.entry.0.before.chars + place.entry.2) }
+    {
+        let (found, bytes, chars) = place;
+        let leaf = found.leaf.as_str();
+        let lines = found.leaf.char_to_line_with(chars, self.node.line_breaks());
+        // a front with as many bytes as characters has no pairs
+        let wide = if chars == bytes { "" } else { &leaf[..bytes] };
+        TextInfo {
+            bytes: found.before.bytes + bytes,
+            chars: found.before.chars + chars,
+            utf16_surrogates: found.before.utf16_surrogates + count_surrogates(wide),
+            break_count: found.before.break_count + lines,
+        }
+    }
+
+    // The `end` of its part up to a place.
+    fn end_at(&self, place: LeafPlace<'a>) -> TextInfo
+        requires { IsLeafPlace self.now.node.now (place.0.before.chars + place.2)
+            place.0.leaf place.0.before place.1 place.2 }
+        ensures { result ≡ end_info self.now.node.now.breaks (text self.now.node.now)
+            (place.entry.0.before.chars + place.entry.2) }
+    {
+        let (found, bytes, _) = place;
+        let leaf = found.leaf.as_str();
+        let front = TextInfo::from_str(&leaf[..bytes], self.node.line_breaks());
+        found.before.plus(front)
+    }
+
     /// The `start` of its part from a character on.
     pub(crate) fn start_of(&self, char_idx: usize) -> TextInfo
         requires { char_idx < length (text_of self.now) }
@@ -108,20 +181,7 @@ impl<'a> Excerpt<'a> {
         if char_idx == 0 {
             return self.start;
         }
-        let place = self.place(Unit::Char, char_idx);
-        let found = leaf_at(self.node, Unit::Char, place, &mut Steps::new());
-        let leaf = found.leaf.as_str();
-        let chars = place - found.before.chars;
-        let bytes = found.leaf.char_to_byte_idx(chars);
-        let lines = found.leaf.char_to_line_with(chars, self.node.line_breaks());
-        // a front with as many bytes as characters has no pairs
-        let wide = if chars == bytes { "" } else { &leaf[..bytes] };
-        TextInfo {
-            bytes: found.before.bytes + bytes,
-            chars: place,
-            utf16_surrogates: found.before.utf16_surrogates + count_surrogates(wide),
-            break_count: found.before.break_count + lines,
-        }
+        self.start_at(self.place_of_char(char_idx))
     }
 
     /// The `end` of its part up to a character.
@@ -130,15 +190,35 @@ impl<'a> Excerpt<'a> {
         ensures { result ≡ end_info self.now.node.now.breaks (text self.now.node.now)
             (self.now.start.chars + char_idx) }
     {
-        let place = self.place(Unit::Char, char_idx);
-        if place == self.end.chars {
+        if char_idx == self.info().chars {
             return self.end;
         }
-        let found = leaf_at(self.node, Unit::Char, place, &mut Steps::new());
-        let leaf = found.leaf.as_str();
-        let bytes = found.leaf.char_to_byte_idx(place - found.before.chars);
-        let front = TextInfo::from_str(&leaf[..bytes], self.node.line_breaks());
-        found.before.plus(front)
+        self.end_at(self.place_of_char(char_idx))
+    }
+
+    /// The `start` of its part from the character on that begins at a byte; none where the byte lies inside a character.
+    pub(crate) fn start_of_byte(&self, byte_idx: usize) -> Option<TextInfo>
+        requires { byte_idx < byte_len (text_of self.now) }
+        ensures some { IfSome result (λ start. start
+            ≡ start_info self.now.node.now.breaks (text self.now.node.now)
+            (self.now.start.chars + byte_to_char (text_of self.now) byte_idx)) }
+        ensures whole { IsSome result ↔ (is_char_boundary (text_of self.now) byte_idx ≡ true) }
+    {
+        Some(self.start_at(self.place_of_byte(byte_idx)?))
+    }
+
+    /// The `end` of its part up to the character that begins at a byte; none where the byte lies inside a character.
+    pub(crate) fn end_of_byte(&self, byte_idx: usize) -> Option<TextInfo>
+        requires { byte_idx ≤ byte_len (text_of self.now) }
+        ensures some { IfSome result (λ end. end
+            ≡ end_info self.now.node.now.breaks (text self.now.node.now)
+            (self.now.start.chars + byte_to_char (text_of self.now) byte_idx)) }
+        ensures whole { IsSome result ↔ (is_char_boundary (text_of self.now) byte_idx ≡ true) }
+    {
+        if byte_idx == self.info().bytes {
+            return Some(self.end);
+        }
+        Some(self.end_at(self.place_of_byte(byte_idx)?))
     }
 
     // The counts of its text up to a place of the tree's text behind its start; past its end those of all of it.

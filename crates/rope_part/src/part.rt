@@ -1,8 +1,10 @@
 //! A part of a text.
-ghost use Rattle.std.specs.Prelude.{◌≡◌, ◌≤◌, ◌<◌, ◌+◌, length, slice_get, take, drop, true, false, Some, OnSome, IfSome, IfNone};
+ghost use Rattle.std.specs.Prelude.{◌≡◌, ◌≤◌, ◌<◌, ◌+◌, length, slice_get, take, drop, true, false, ◌↔◌, Some, OnSome, IfSome, IfNone, IsSome};
 ghost use Rattle.std.specs.List.{slice_range};
 ghost use Rattle.std.specs.Str.{chars, encode_utf8_all};
 ghost use Rattle.rope_text.specs.Text.{byte_len};
+ghost use Rattle.rope_text.specs.Conversions.{byte_to_char};
+ghost use Rattle.rope_text.specs.Edit.{is_char_boundary};
 ghost use Rattle.rope_text.specs.TextInfo.{info_of};
 ghost use Rattle.rope_text.specs.Lines.{line_count};
 ghost use Rattle.rope_text.specs.Cutting.{clip, single_chunk, parts_crlf};
@@ -114,6 +116,41 @@ impl<'a> Part<'a> {
                 let rest = &text[char_to_byte_idx(text, start)..];
                 let len = char_to_byte_idx(rest, end - start);
                 Part::from_str_with(&rest[..len], plain.breaks)
+            }
+        }
+    }
+
+    /// Its bytes from `from` up to `to`, with its set of line breaks: its text and its chunks, clipped. None exactly where one of the
+    /// two lies inside a character. One look-up each, in a rope's text.
+    pub fn byte_range(&self, from: usize, to: usize) -> Option<Part<'a>>
+        requires ordered { from ≤ to }
+        requires within { to ≤ byte_len (text_of self.now) }
+        ensures some { IfSome result (λ part. content_of part
+            ≡ part_between (content_of self.now) (byte_to_char (text_of self.now) from)
+            (byte_to_char (text_of self.now) to)) }
+        ensures whole { IsSome result ↔ ((is_char_boundary (text_of self.now) from ≡ true)
+            × (is_char_boundary (text_of self.now) to ≡ true)) }
+    {
+        match self {
+            Part::InTree(excerpt) => {
+                if from == to {
+                    excerpt.end_of_byte(to)?;
+                    return Some(Part::from_str_with("", excerpt.node.line_breaks()));
+                }
+                let start = excerpt.start_of_byte(from)?;
+                let end = excerpt.end_of_byte(to)?;
+                let node = excerpt.node;
+                Some(Part::InTree(Excerpt { node, start, end }))
+            }
+            Part::Alone(plain) => {
+                let text = plain.as_str();
+                if !text.is_char_boundary(from) {
+                    return None;
+                }
+                if !text.is_char_boundary(to) {
+                    return None;
+                }
+                Some(Part::from_str_with(&text[from..to], plain.breaks))
             }
         }
     }

@@ -57,10 +57,10 @@ range_error-none text a b r =
     (ByteRangeInvalid a b) (ByteRangeOutOfBounds (Some a) (Some b) (byte_len text)) (ByteRangeNotCharBoundary (Some a) (Some b))
     (grind (arith, nat_tests)) (grind (arith, nat_tests)) (both (is_char_boundary text a) (is_char_boundary text b) r.starts r.ends)
 
-boundary_is : (text : List ℕ) (b : ℕ) → is_char_boundary text b ≡ true → byte_len (take (byte_to_char text b) text) ≡ b
+pub boundary_is : (text : List ℕ) (b : ℕ) → is_char_boundary text b ≡ true → byte_len (take (byte_to_char text b) text) ≡ b
 boundary_is text b h = grind (arith, nat_tests)
 
-is_boundary : (text : List ℕ) (b : ℕ) → byte_len (take (byte_to_char text b) text) ≡ b → is_char_boundary text b ≡ true
+pub is_boundary : (text : List ℕ) (b : ℕ) → byte_len (take (byte_to_char text b) text) ≡ b → is_char_boundary text b ≡ true
 is_boundary text b h = grind (arith, nat_tests)
 
 pub start_is_boundary : (text : List ℕ) → is_char_boundary text 0 ≡ true
