@@ -2,9 +2,8 @@ pub mod ChunkStarts
 pub mod ByteCursors
 pub mod CharCursors
 pub mod LeafStarts
-pub mod Paths
+pub mod Ways
 pub mod Points
-pub mod Siblings
 pub mod Spans
 pub mod LineSteps
 pub mod LineMoves

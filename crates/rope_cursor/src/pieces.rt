@@ -1,69 +1,34 @@
 //! The bytes of a part, in pieces. No step takes memory.
-ghost use Rattle.std.specs.Prelude.{◌≡◌, ◌++◌, ◌∷◌, [], All, length, IfSome, IfNone};
+ghost use Rattle.std.specs.Prelude.{◌≡◌, ◌++◌, [], length};
 ghost use Rattle.std.specs.Str.{chars, encode_utf8_all};
 ghost use Rattle.rope_part.specs.Part.{text_of};
-ghost use Rattle.rope_cursor.specs.Path.{leaves_below, IsLow};
-ghost use Rattle.rope_cursor.specs.Pieces.{after_way};
 
-use crate::path::{Path, lowest_text};
+use crate::path::Path;
 use rope_part::Part;
-use rope_text::MAX_BYTES;
-use rope_tree::{Node, Unit};
+use rope_tree::Unit;
 use std::marker::Model;
 
-// With so many bytes ahead it pays to read the heads of all leaves under a node side by side; with fewer, most of them may not be
-// needed.
-const MANY_BYTES: usize = 8 * MAX_BYTES;
-
-// Goes on to the leaf after a path, if there is one. Where many bytes are ahead, it goes on past the leaves behind that one under the same node, and
-// all their heads are read. Answers the leaf, and those that it passed. Never inlined: a step mostly takes one of these, and is to
-// stay short.
-#[inline(never)]
-fn leave_node<'a>(
-    way: &mut Option<Path<'a>>,
-    is_far: bool,
-) -> Option<(&'a str, &'a [Node])>
-    ensures leaves { IfSome result (λ found. All (λ rc. IsLow rc 0) found.1.now) }
-    ensures some { IfSome result (λ found.
-        after_way way.old ≡ chars found.0.now ∷ (leaves_below found.1.now ++ after_way way.new)) }
-    ensures none { IfNone result ((after_way way.old ≡ []) × (way.new ≡ way.old)) }
-{
-    let Some(path) = way else {
-        return None;
-    };
-    if !path.step(false) {
-        return None;
-    }
-    let leaf = path.leaf();
-    let siblings = if is_far { path.pass_siblings() } else { &[] };
-    Some((leaf, siblings))
-}
-
-/// The bytes of a part from a place on, in pieces as the leaves hold them, forward only.
-///
-/// The leaves under one node are taken from the list of its children, one after the other: the path, by which a cursor could turn
-/// round at any leaf, goes a step only where they end. Nothing is read before the next piece is asked for.
+/// The bytes of a part from a place on, in pieces as the leaves hold them, forward only. Nothing is read before the next piece is
+/// asked for.
 #[derive(Drop)]
 pub struct Pieces<'a> {
-    // none for a plain text, so that none is filled in for it
+    // none for a plain text
     way: Option<Path<'a>>,
-    // the leaves ahead that come before those after the path
-    beside: &'a [Node],
     // how many bytes of the leaves ahead lie in the part
     left: usize,
 }
 
 impl<'a> Model for Pieces<'a> {
-    ghost use Rattle.std.specs.Prelude.{ℕ, List, take};
+    ghost use Rattle.std.specs.Prelude.{ℕ, List, ◌<◌, length, take, All};
     ghost use Rattle.std.specs.List.{concat};
     ghost use Rattle.std.specs.Str.{encode_utf8_all};
-    ghost use Rattle.rope_cursor.specs.Pieces.{ahead_of, AreAhead};
+    ghost use Rattle.rope_cursor.specs.Pieces.{after_way};
 
     ghost Value = { List ℕ };
 
-    ghost view = { λ a. take a.left (encode_utf8_all (concat (ahead_of a.beside.now a.way))) };
+    ghost view = { λ a. take a.left (encode_utf8_all (concat (after_way a.way))) };
 
-    ghost invariant = { λ a. AreAhead a.beside.now a.way };
+    ghost invariant = { λ a. All (λ leaf. 0 < length leaf) (after_way a.way) };
 }
 
 impl<'a> Pieces<'a> {
@@ -80,10 +45,8 @@ impl<'a> Pieces<'a> {
                 let (_, front) = path.leaf().as_bytes().split_at(start - before.bytes);
                 let count = front.len().min(size);
                 let (piece, _) = front.split_at(count);
-                let beside: &[Node] = &[];
-                let left = size - count;
-                let way = Some(path);
-                (piece, Pieces { way, beside, left })
+                let (way, left) = (Some(path), size - count);
+                (piece, Pieces { way, left })
             }
             Part::Alone(plain) => Pieces::of_text(plain.text),
         }
@@ -95,8 +58,7 @@ impl<'a> Pieces<'a> {
         ensures some { length result.0.now ≡ 0 → result.1 ≡ [] }
     {
         let (way, left) = (None, 0);
-        let beside: &[Node] = &[];
-        (text.as_bytes(), Pieces { way, beside, left })
+        (text.as_bytes(), Pieces { way, left })
     }
 
     /// The next piece; an empty one only at the end, where it stays.
@@ -107,22 +69,13 @@ impl<'a> Pieces<'a> {
         if self.left == 0 {
             return &[];
         }
-        let is_far = self.left > MANY_BYTES;
-        // those beside the path come first
-        let leaf = match self.beside.split_first() {
-            Some((node, rest)) => {
-                self.beside = rest;
-                lowest_text(node)
-            }
-            None => {
-                let Some((leaf, rest)) = leave_node(&mut self.way, is_far) else {
-                    return &[];
-                };
-                self.beside = rest;
-                leaf
-            }
+        let Some(path) = &mut self.way else {
+            return &[];
         };
-        let bytes = leaf.as_bytes();
+        if !path.step_on() {
+            return &[];
+        }
+        let bytes = path.leaf().as_bytes();
         let count = bytes.len().min(self.left);
         self.left -= count;
         &bytes[..count]

@@ -37,7 +37,7 @@ pub record GoesDown (height low : ℕ) (old new : Steps) : Type 0 where
   pub counted : old.compares + height ≤ new.compares + low
   pub made : new.made ≡ old.made
 
-pub at_start : (unit : Unit) (at : ℕ) (t : Tree) (before : TextInfo) → ((breaks : LineBreaks) → before ≡ info_of breaks []) → at < count_of unit (info_of t.breaks (text t))
+unfoldable pub at_start : (unit : Unit) (at : ℕ) (t : Tree) (before : TextInfo) → ((breaks : LineBreaks) → before ≡ info_of breaks []) → at < count_of unit (info_of t.breaks (text t))
     → IsOnWay unit at t t at before
 at_start unit at t before none lt = record {
   left = [];
@@ -60,13 +60,13 @@ module _ (ts : List Tree) (k : ℕ) where
 -- one node further down
 module _ (unit : Unit) (at : ℕ) (t here : Tree) (rest : ℕ) (before : TextInfo) (ts : List Tree) (k : ℕ) (child : Tree) (front : TextInfo)
     (i : IsTree t) (w : IsOnWay unit at t here rest before) (is : here ≡ tree_over ts) (d : Descends (breaks_of ts) unit rest ts k child front) where
-  parted : t.leaves ≡ nearer ts k w.left ++ (child.leaves ++ farther ts k w.right)
+  pub parted : t.leaves ≡ nearer ts k w.left ++ (child.leaves ++ farther ts k w.right)
   parted =
       let own : here.leaves ≡ leaves_of (take k ts) ++ (child.leaves ++ leaves_of (drop (k + 1) ts)) =
       ap (λ u. u.leaves) is ∙ subst (λ u. leaves_of ts ≡ leaves_of (take k ts) ++ (u.leaves ++ leaves_of (drop (k + 1) ts))) d.child_is (leaves_at ts k child d.within) in
       w.whole ∙ ap (λ xs. w.left ++ (xs ++ w.right)) own ∙ simp append_assoc
 
-  sets : t.breaks ≡ breaks_of ts
+  pub sets : t.breaks ≡ breaks_of ts
   sets = sym w.same_breaks ∙ ap (λ u. u.breaks) is
 
   nearer_apart : parts_crlf (concat w.left) (joined (take k ts)) ≡ false
@@ -92,7 +92,7 @@ module _ (unit : Unit) (at : ℕ) (t here : Tree) (rest : ℕ) (before : TextInf
       rw before_more (small_info t.breaks (concat (nearer ts k w.left))
       (omega (arith, ap byte_len parts, IsMeasure-byte_len.joined (concat (nearer ts k w.left)) (concat (child.leaves ++ farther ts k w.right)), i.fits)))
 
-  pub further : IsOnWay unit at t child (rest - count_of unit front) (info_sum before front)
+  unfoldable pub further : IsOnWay unit at t child (rest - count_of unit front) (info_sum before front)
   further = record {
     left = nearer ts k w.left;
     right = farther ts k w.right;

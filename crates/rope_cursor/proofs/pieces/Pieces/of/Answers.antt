@@ -1,10 +1,7 @@
 use Rattle.std.proofs.Common.{◌≡◌, ◌-◌, ◌<◌, length, drop, ap, sym, ◌∙◌, arith}
 use Rattle.std.specs.Str.{encode_utf8_all}
-use Rattle.std.proofs.lemmas.List.Elements.{All-nil}
 use Rattle.rope_text.specs.Text.{byte_len}
-use Rattle.rope_tree.specs.Tree.{Tree}
 use Rattle.rope_part.proofs.Measured.{measured}
-use Rattle.rope_cursor.specs.Path.{IsLow}
 use Rattle.rope_cursor.proofs.PiecesAhead.{bytes_of, starts_here, excerpt_bytes, some_here, solid_after, none_left}
 use Rattle.rope_cursor.proofs.pieces.Pieces.of.Goals.{After-split_at-in-InTree}
 use Rattle.rope_cursor.proofs.pieces.Pieces.of.Goals as goal
@@ -28,10 +25,7 @@ pub invariant_of-result : goal.invariant_of-result
 invariant_of-result c =
     let s = c.in-InTree.excerpt in
     let h = c.at-path.ensures in
-    record {
-      low = All-nil (λ (rc : Tree). IsLow rc 0);
-      solid = solid_after s.node.now s.start s.end c.at-path.result.0 c.at-path.result.1 s.is_low.tree s.is_excerpt h.leaves h.holds;
-    }
+    solid_after s.node.now s.start s.end c.at-path.result.0 c.at-path.result.1 s.is_low.tree s.is_excerpt h.leaves h.holds
 
 pub returns-in-InTree-clause-bytes : goal.returns-in-InTree-clause-bytes
 returns-in-InTree-clause-bytes c =
