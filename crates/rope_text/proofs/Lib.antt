@@ -46,3 +46,4 @@ pub mod ByteOrder
 pub mod Scans
 pub mod LaneSums
 pub mod Padded
+pub mod Utf8Laws
