@@ -47,3 +47,4 @@ pub mod Scans
 pub mod LaneSums
 pub mod Padded
 pub mod Utf8Laws
+pub mod Utf8Tables

@@ -1,8 +1,8 @@
 -- Bytes that may follow each other are a text, up to the last place where no character is unfinished.
-use Rattle.std.proofs.Common.{◌≡◌, ℕ, zero, suc, ◌+◌, ◌-◌, ◌*◌, ◌/◌, ◌%◌, ◌<◌, ◌≤◌, ◌⊎◌, inl, inr, Bool, true, false, cond, not, eqb, leb, ◌||◌, List, [], ◌∷◌, length, take, drop, get_or, count_by, refl, sym, ap, subst, ◌∙◌, arith, ⊎_elim, take-append-drop}
+use Rattle.std.proofs.Common.{◌≡◌, ℕ, zero, suc, ◌+◌, ◌-◌, ◌*◌, ◌/◌, ◌%◌, ◌<◌, ◌≤◌, ◌⊎◌, inl, inr, Bool, true, false, cond, not, eqb, leb, List, [], ◌∷◌, length, take, drop, get_or, count_by, refl, sym, ap, subst, ◌∙◌, arith, ⊎_elim, take-append-drop}
 use Rattle.std.specs.Str.{IsUtf8}
 use Rattle.std.specs.List.{range_with_len}
-use Rattle.std.proofs.lemmas.Bool.{cases_lt, eqb-true, not-false, or_parts, leb-false}
+use Rattle.std.proofs.lemmas.Bool.{cases_lt, eqb-true, not-false, leb-false}
 use Rattle.std.proofs.lemmas.Bool.Decides.{nat_tests}
 use Rattle.std.proofs.lemmas.List.Sums.{sum_by-cons}
 use Rattle.std.proofs.lemmas.Str.{IsUtf8-nil, IsUtf8-append, IsUtf8-encode}
@@ -41,8 +41,8 @@ after_ascii x y z b hx hy hz hb = grind (arith, nat_tests)
 -- what it means that the byte b may follow x, y and z
 pub record MayFollow (x y z b : ℕ) : Type 0 where
   pub in_char : (192 ≤ z) ⊎ ((224 ≤ y) ⊎ (240 ≤ x)) → (128 ≤ b) × (b < 192)
-  pub begins : z < 192 → y < 224 → x < 240 → (b < 128) ⊎ (194 ≤ b)
-  pub below : b < 245
+  pub begins : z < 192 → y < 224 → x < 240 → (b < 128) ⊎ (192 ≤ b)
+  pub lead : 192 ≤ z → (194 ≤ z) × (z < 245)
   pub no_overlong : z ≡ 224 → 160 ≤ b
   pub no_overlong_four : z ≡ 240 → 144 ≤ b
   pub no_surrogate : z ≡ 237 → b < 160
@@ -52,7 +52,7 @@ pub may_follow : (x y z b : ℕ) → is_fault x y z b ≡ false → MayFollow x 
 may_follow x y z b fine = record {
   in_char = ⊎_elim (λ h. grind (arith, nat_tests)) (⊎_elim (λ h. grind (arith, nat_tests)) (λ h. grind (arith, nat_tests)));
   begins = λ p q r. grind (arith, nat_tests);
-  below = grind (arith, nat_tests);
+  lead = λ h. (grind (arith, nat_tests), grind (arith, nat_tests));
   no_overlong = λ e. grind (arith, nat_tests);
   no_overlong_four = λ e. grind (arith, nat_tests);
   no_surrogate = λ e. grind (arith, nat_tests);
@@ -132,13 +132,14 @@ after_two n more y z a b (c ∷ bs) few low high m f =
     (λ (h : 240 ≤ a). after_three n more a b c bs (omega arith) h high second third m.no_overlong_four m.not_beyond f.1)
     (cases_lt a 240)
 
-after_one : (n : ℕ) → AreText n → (y z a : ℕ) (bs : List ℕ) → length bs ≤ n → z < 192 → 194 ≤ a → a < 245 → Follow y z a bs → IsUtf8 (a ∷ bs)
-after_one n more y z a [] few before low high f = absurd (omega arith)
-after_one n more y z a (b ∷ bs) few before low high f =
+after_one : (n : ℕ) → AreText n → (y z a : ℕ) (bs : List ℕ) → length bs ≤ n → z < 192 → 192 ≤ a → Follow y z a bs → IsUtf8 (a ∷ bs)
+after_one n more y z a [] few before low f = absurd (omega arith)
+after_one n more y z a (b ∷ bs) few before low f =
     let second = f.0.in_char (inl (omega arith)) in
+    let lead = f.0.lead low in
     ⊎_elim
-    (λ (h : a < 224). IsUtf8-append (a ∷ b ∷ []) bs (two_bytes a b low h second) (more z a b bs (omega arith) (omega arith) h (omega arith) f.1))
-    (λ (h : 224 ≤ a). after_two n more y z a b bs (omega arith) h high f.0 f.1)
+    (λ (h : a < 224). IsUtf8-append (a ∷ b ∷ []) bs (two_bytes a b lead.0 h second) (more z a b bs (omega arith) (omega arith) h (omega arith) f.1))
+    (λ (h : 224 ≤ a). after_two n more y z a b bs (omega arith) h lead.1 f.0 f.1)
     (cases_lt a 224)
 
 are_text : (n : ℕ) → AreText n
@@ -147,7 +148,7 @@ are_text zero x y z (a ∷ bs) few hx hy hz f = absurd (omega arith)
 are_text (suc n) x y z (a ∷ bs) few hx hy hz f =
     ⊎_elim
     (λ (h : a < 128). IsUtf8-append (a ∷ []) bs (one_byte a h) (are_text n y z a bs (omega arith) (omega arith) (omega arith) (omega arith) f.1))
-    (λ (h : 194 ≤ a). after_one n (are_text n) y z a bs (omega arith) hz h f.0.below f.1)
+    (λ (h : 192 ≤ a). after_one n (are_text n) y z a bs (omega arith) hz h f.1)
     (f.0.begins hz hy hx)
 
 -- ---- the same by places
@@ -204,34 +205,24 @@ first_three bs p q r = record { none = go }
     go (suc (suc zero)) h = r
     go (suc (suc (suc k))) h = absurd (omega arith)
 
-pub block_more : (bs : List ℕ) (at n : ℕ) → 3 ≤ at → at ≤ n → HasNoFault bs n → ((k : ℕ) → at ≤ k + 3 → k + 3 < at + 32 → fault_at bs k ≡ false) → HasNoFault bs (at + 32)
-block_more bs at n from over fine block = record { none = go }
+pub block_more : (bs : List ℕ) (at n size : ℕ) → 3 ≤ at → at ≤ n → HasNoFault bs n → ((k : ℕ) → at ≤ k + 3 → k + 3 < at + size → fault_at bs k ≡ false) → HasNoFault bs (at + size)
+block_more bs at n size from over fine block = record { none = go }
   where
     shifted : (j : ℕ) → fault_at (0 ∷ 0 ∷ 0 ∷ bs) (suc (suc (suc j))) ≡ fault_at bs j
     shifted j = fault_next 0 (0 ∷ 0 ∷ bs) (suc (suc j)) ∙ fault_next 0 (0 ∷ bs) (suc j) ∙ fault_next 0 bs j
 
-    go : (k : ℕ) → k < at + 32 → fault_at (0 ∷ 0 ∷ 0 ∷ bs) k ≡ false
+    go : (k : ℕ) → k < at + size → fault_at (0 ∷ 0 ∷ 0 ∷ bs) k ≡ false
     go k h =
         ⊎_elim
         (λ (before : k < n). fine.none k before)
         (λ (after : n ≤ k). (let j : ℕ = k - 3 in let same : k ≡ suc (suc (suc j)) = omega arith in ap (fault_at (0 ∷ 0 ∷ 0 ∷ bs)) same ∙ shifted j ∙ block j (omega arith) (omega arith)))
         (cases_lt k n)
 
--- a block in which no byte is above ASCII, nor among the three before it
-ascii_at : (bs : List ℕ) (i j : ℕ) → ((k : ℕ) → i ≤ k → k < i + 32 → (leb 128 (get_or bs k 0) || leb 128 (get_or bs (k + 3) 0)) ≡ false) → i ≤ j → j < i + 35 → get_or bs j 0 < 128
-ascii_at bs i j low from to =
-    ⊎_elim
-    (λ (inside : j < i + 32). leb-false 128 (get_or bs j 0) (or_parts _ _ (low j from inside)).0)
-    (λ (behind : i + 32 ≤ j).
-    let k : ℕ = j - 3 in
-    let same : k + 3 ≡ j = omega arith in
-    leb-false 128 (get_or bs j 0) (rw same at (or_parts (leb 128 (get_or bs k 0)) (leb 128 (get_or bs (k + 3) 0)) (low k (omega arith) (omega arith))).1))
-    (cases_lt j (i + 32))
-
-pub ascii_block : (bs : List ℕ) (i : ℕ) → count_by (λ k. leb 128 (get_or bs k 0) || leb 128 (get_or bs (k + 3) 0)) (range_with_len i 32) ≡ 0 → (k : ℕ) → i ≤ k → k < i + 32 → fault_at bs k ≡ false
+-- bytes of which none is above ASCII
+pub ascii_block : (bs : List ℕ) (i : ℕ) → count_by (λ k. leb 128 (get_or bs k 0)) (range_with_len i 64) ≡ 0 → (k : ℕ) → i ≤ k → k < i + 61 → fault_at bs k ≡ false
 ascii_block bs i none k from to =
-    let low = at_none (λ j. leb 128 (get_or bs j 0) || leb 128 (get_or bs (j + 3) 0)) i 32 none in
-    after_ascii _ _ _ _ (ascii_at bs i k low from (omega arith)) (ascii_at bs i (k + 1) low (omega arith) (omega arith)) (ascii_at bs i (k + 2) low (omega arith) (omega arith)) (ascii_at bs i (k + 3) low (omega arith) (omega arith))
+    let low : (j : ℕ) → i ≤ j → j < i + 64 → get_or bs j 0 < 128 = λ j p q. leb-false 128 (get_or bs j 0) (at_none (λ m. leb 128 (get_or bs m 0)) i 64 none j p q) in
+    after_ascii _ _ _ _ (low k from (omega arith)) (low (k + 1) (omega arith) (omega arith)) (low (k + 2) (omega arith) (omega arith)) (low (k + 3) (omega arith) (omega arith))
 
 -- the bytes from j on, each read from d places before
 pub loaded_at : (bs : List ℕ) (i d j n : ℕ) → i + d ≡ j → j + n ≤ length bs → IsLanes (range_with_len i n) (λ k. get_or bs (k + d) 0) (take n (drop j bs))
