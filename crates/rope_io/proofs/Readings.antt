@@ -6,7 +6,7 @@ use Rattle.std.specs.Str.{IsUtf8, encode_utf8_all}
 use Rattle.std.specs.Str.Lossy.{utf8_valid_len}
 use Rattle.std.proofs.Math.Seq.{paste, take-append-add}
 use Rattle.std.proofs.lemmas.Bool.{cond-true, lt-ltb}
-use Rattle.std.proofs.lemmas.List.{take_all, take-append-le, take-append-drop, length-take-le, length-append, length-drop, drop-take}
+use Rattle.std.proofs.lemmas.List.{take-append-le, take-append-drop, length-take-le, length-append, length-drop, drop-take}
 use Rattle.std.proofs.lemmas.List.Edits.{take-paste}
 use Rattle.std.proofs.lemmas.Str.{IsUtf8-append, IsUtf8-nil, utf8_valid_len_le, utf8_valid_len-IsUtf8}
 use Rattle.rope_text.specs.Text.{byte_len}
@@ -20,10 +20,6 @@ use Rattle.rope_io.specs.declared.error.ReadError.{ReadError}
 use Rattle.rope_io.specs.declared.error.ReadError.TheVariants.{Rope}
 use Rattle.rope_io.specs.Reading.{Fits, has_ended, Answers}
 use borrow.Rule.Slice.PartMut.{put_mid, post_of}
-
--- the front of a text is all of it
-pub front_of_text : (bs : List ℕ) → IsUtf8 bs → text_front bs ≡ bs
-front_of_text bs u = take_all (utf8_valid_len bs) bs (omega (arith, utf8_valid_len-IsUtf8 bs u))
 
 pub length-text_front : (bs : List ℕ) → length (text_front bs) ≡ utf8_valid_len bs
 length-text_front bs = length-take-le (utf8_valid_len bs) bs (utf8_valid_len_le bs)

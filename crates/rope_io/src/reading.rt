@@ -11,7 +11,7 @@ ghost use Rattle.rope_io.specs.Reading.{Reads};
 
 use crate::device::Source;
 use crate::error::{ReadError, ReadResult};
-use rope_text::{BUFFER_BYTES, Error, LineBreaks, MAX_TEXT_BYTES, Result};
+use rope_text::{BUFFER_BYTES, Error, LineBreaks, MAX_TEXT_BYTES, Result, utf8};
 use rope_tree::{Builder, Maker, Node};
 use std::alloc::Global;
 
@@ -50,11 +50,7 @@ fn settle(builder: &mut Builder, buffer: &mut [u8], filled: usize) -> Result<usi
     ensures refused { IfErr result (IsRefusal
         (size_error (byte_len builder.old.text + length (text_front (take filled buffer.old))))) }
 {
-    let bytes = &buffer[..filled];
-    let text = match str::from_utf8(bytes) {
-        Ok(text) => text,
-        Err(error) => str::from_utf8(&bytes[..error.valid_up_to()]).unwrap(),
-    };
+    let text = utf8::front(&buffer[..filled]);
     let decoded = text.len();
     append(builder, text)?;
     buffer.copy_within(decoded..filled, 0);

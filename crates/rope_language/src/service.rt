@@ -8,6 +8,7 @@ use crate::language::parse;
 use crate::output::Output;
 use crate::replies::lines_of;
 use rope_script::Session;
+use rope_text::utf8;
 use std::alloc::{AllocError, Global};
 use std::io::{self, Read, Write};
 
@@ -173,7 +174,7 @@ fn answer<W: Write>(
     ensures kept { IfErr result (λ fault. fault ≢ Fault.Failed → (writer.new ≡ writer.old) × (output.new
         ≡ output.old)) }
 {
-    let Ok(line) = str::from_utf8(line) else {
+    let Some(line) = utf8::text_of(line) else {
         return Err(Fault::BadLine);
     };
     let Some(command) = parse(alloc, line)? else {

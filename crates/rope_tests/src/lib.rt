@@ -46,3 +46,5 @@ mod text_info;
 mod texts_out;
 #[cfg(test)]
 mod tree_builder;
+#[cfg(test)]
+mod utf8;

@@ -46,3 +46,5 @@ pub mod ByteOrder
 pub mod Scans
 pub mod LaneSums
 pub mod Padded
+pub mod Utf8Laws
+pub mod Utf8Tables

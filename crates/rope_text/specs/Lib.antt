@@ -26,3 +26,4 @@ pub mod LineParts
 pub mod Answer
 pub mod Scan
 pub mod Runs
+pub mod Utf8

@@ -13,6 +13,7 @@ mod seek;
 mod steps;
 pub mod str_utils;
 mod text_info;
+pub mod utf8;
 
 pub use error::{Error, Result};
 pub use line_breaks::LineBreaks;

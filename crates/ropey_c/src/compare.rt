@@ -6,6 +6,7 @@ ghost use Rattle.ropey_c.specs.Answers.{sign_of, Compares, ComparesText};
 
 use crate::handle::Handle;
 use crate::status::{INVALID_UTF8, NO_ROPE, OK};
+use rope_text::utf8;
 use ropey::Rope;
 use std::alloc::Global;
 use std::cmp::Ordering;
@@ -58,7 +59,7 @@ pub extern "C" fn ropey_compare(
 fn equals(rope: &Rope, text: &[u8], equal: &mut bool) -> u32
     ensures { ComparesText (Some rope.now) text.now result equal.old equal.new }
 {
-    let Ok(text) = std::str::from_utf8(text) else {
+    let Some(text) = utf8::text_of(text) else {
         return INVALID_UTF8;
     };
     *equal = rope.eq_str(text);

@@ -10,6 +10,7 @@ use crate::handle::Handle;
 use crate::status::{
     CHAR_INDEX_OUT_OF_BOUNDS, INVALID_UTF8, NO_ROPE, NOT_A_CHARACTER, OK, OUT_OF_MEMORY, status,
 };
+use rope_text::utf8;
 use ropey::Rope;
 use std::alloc::Global;
 
@@ -20,9 +21,9 @@ fn insert(rope: &mut Rope, char_idx: usize, text: &[u8]) -> u32
     ensures empty { length text.now ≡ 0 → insert_error rope.old.text char_idx [] ≡ None → (result ≡ OK) × (rope.new ≡ rope.old) }
     ensures breaks { rope.new.breaks ≡ rope.old.breaks }
 {
-    match std::str::from_utf8(text) {
-        Ok(text) => status(rope.try_insert(char_idx, text)),
-        Err(_) => INVALID_UTF8,
+    match utf8::text_of(text) {
+        Some(text) => status(rope.try_insert(char_idx, text)),
+        None => INVALID_UTF8,
     }
 }
 

@@ -10,6 +10,7 @@ use crate::handle::Handle;
 use crate::status::{
     INVALID_UTF8, NO_ROPE, OK, OUT_OF_MEMORY, UNKNOWN_LINE_BREAKS, given_breaks, status,
 };
+use rope_text::utf8;
 use ropey::{LineBreaks, Rope};
 use std::alloc::Global;
 
@@ -33,7 +34,7 @@ fn make(alloc: Global, text: &[u8], breaks: LineBreaks, rope: &mut Handle) -> u3
     ensures ok { result ≡ OK → IsSomeAnd rope.new.rope (λ r. (r.text ≡ chars text.now) × (r.breaks ≡ breaks) × HasFewChunks r) }
     ensures err { 0 < result → rope.new.rope ≡ rope.old.rope }
 {
-    let Ok(text) = std::str::from_utf8(text) else {
+    let Some(text) = utf8::text_of(text) else {
         return INVALID_UTF8;
     };
     match Rope::from_str_with(alloc, text, breaks) {

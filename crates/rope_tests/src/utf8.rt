@@ -1,0 +1,195 @@
+//! UTF-8 checked at every place of a block: byte strings of which Unicode's Table 3-7 says whether they are characters, and strings
+//! that look random, against the standard library.
+use rope_plain::numbers::Numbers;
+use rope_text::utf8::{front, text_of, valid_len};
+use std::alloc::{AllocFailed, Global};
+
+/// The first and the last character of each row of Table 3-7, and how many bytes each has.
+const CHARACTERS: [([u8; 4], usize); 18] = [
+    ([0x00, 0, 0, 0], 1),
+    ([0x7F, 0, 0, 0], 1),
+    ([0xC2, 0x80, 0, 0], 2),
+    ([0xDF, 0xBF, 0, 0], 2),
+    ([0xE0, 0xA0, 0x80, 0], 3),
+    ([0xE0, 0xBF, 0xBF, 0], 3),
+    ([0xE1, 0x80, 0x80, 0], 3),
+    ([0xEC, 0xBF, 0xBF, 0], 3),
+    ([0xED, 0x80, 0x80, 0], 3),
+    ([0xED, 0x9F, 0xBF, 0], 3),
+    ([0xEE, 0x80, 0x80, 0], 3),
+    ([0xEF, 0xBF, 0xBF, 0], 3),
+    ([0xF0, 0x90, 0x80, 0x80], 4),
+    ([0xF0, 0xBF, 0xBF, 0xBF], 4),
+    ([0xF1, 0x80, 0x80, 0x80], 4),
+    ([0xF3, 0xBF, 0xBF, 0xBF], 4),
+    ([0xF4, 0x80, 0x80, 0x80], 4),
+    ([0xF4, 0x8F, 0xBF, 0xBF], 4),
+];
+
+/// Bytes that no row has, nor any row begins with them and goes on in ASCII: single continuations, overlong forms, surrogates, what
+/// lies beyond the last character, bytes that begin nothing, and characters without their last bytes.
+const WRONG: [([u8; 4], usize); 36] = [
+    ([0x80, 0, 0, 0], 1),
+    ([0xBF, 0, 0, 0], 1),
+    ([0xC0, 0x80, 0, 0], 2),
+    ([0xC1, 0xBF, 0, 0], 2),
+    ([0xC2, 0, 0, 0], 1),
+    ([0xC2, 0x7F, 0, 0], 2),
+    ([0xC2, 0xC0, 0, 0], 2),
+    ([0xDF, 0, 0, 0], 1),
+    ([0xE0, 0x80, 0x80, 0], 3),
+    ([0xE0, 0x9F, 0xBF, 0], 3),
+    ([0xE0, 0xA0, 0, 0], 2),
+    ([0xE0, 0xA0, 0x7F, 0], 3),
+    ([0xE1, 0, 0, 0], 1),
+    ([0xE1, 0x7F, 0x80, 0], 3),
+    ([0xE1, 0xC0, 0x80, 0], 3),
+    ([0xE1, 0x80, 0xC0, 0], 3),
+    ([0xEC, 0xBF, 0, 0], 2),
+    ([0xED, 0xA0, 0x80, 0], 3),
+    ([0xED, 0xBF, 0xBF, 0], 3),
+    ([0xEF, 0xBF, 0x7F, 0], 3),
+    ([0xF0, 0x80, 0x80, 0x80], 4),
+    ([0xF0, 0x8F, 0xBF, 0xBF], 4),
+    ([0xF0, 0x90, 0x80, 0], 3),
+    ([0xF0, 0x90, 0x80, 0x7F], 4),
+    ([0xF0, 0x90, 0xC0, 0x80], 4),
+    ([0xF1, 0, 0, 0], 1),
+    ([0xF3, 0xBF, 0, 0], 2),
+    ([0xF3, 0xBF, 0xBF, 0xC2], 4),
+    ([0xF4, 0x90, 0x80, 0x80], 4),
+    ([0xF4, 0xBF, 0xBF, 0xBF], 4),
+    ([0xF5, 0x80, 0x80, 0x80], 4),
+    ([0xF7, 0xBF, 0xBF, 0xBF], 4),
+    ([0xF8, 0x88, 0x80, 0x80], 4),
+    ([0xFB, 0xBF, 0xBF, 0xBF], 4),
+    ([0xFE, 0, 0, 0], 1),
+    ([0xFF, 0xBF, 0, 0], 2),
+];
+
+/// Characters of one to four bytes.
+const FILLINGS: [&str; 4] = ["a", "é", "あ", "😀"];
+
+/// Puts `part` behind the bytes until they have so many.
+fn fill(bytes: &mut Vec<u8>, part: &[u8], least: usize) -> Result<(), AllocFailed<u8>> {
+    for _ in 0..least {
+        if bytes.len() >= least {
+            break;
+        }
+        for byte in part {
+            bytes.push(*byte)?;
+        }
+    }
+    Ok(())
+}
+
+/// Whether the longest text in front has so many bytes.
+fn has_front(bytes: &[u8], len: usize) -> bool {
+    let is_whole = len == bytes.len();
+    let has_text = match text_of(bytes) {
+        Some(text) => is_whole && text.as_bytes() == bytes,
+        None => !is_whole,
+    };
+    has_text && valid_len(bytes) == len && bytes.get(..len) == Some(front(bytes).as_bytes())
+}
+
+/// Whether some bytes behind so many bytes of characters are a text or not, as they should be, at the end and before letters.
+fn is_right(
+    alloc: Global,
+    filling: &str,
+    least: usize,
+    (given, len): ([u8; 4], usize),
+    is_text: bool,
+) -> Result<bool, AllocFailed<u8>> {
+    let mut bytes = Vec::new(alloc);
+    fill(&mut bytes, filling.as_bytes(), least)?;
+    let before = bytes.len();
+    for byte in given.iter().take(len) {
+        bytes.push(*byte)?;
+    }
+    let end = bytes.len();
+    let is_right_at_end = has_front(&bytes, if is_text { end } else { before });
+    fill(&mut bytes, b"z", end.saturating_add(40))?;
+    let all = bytes.len();
+    Ok(is_right_at_end && has_front(&bytes, if is_text { all } else { before }))
+}
+
+/// Whether all rows are right behind so many bytes.
+fn are_right(
+    alloc: Global,
+    least: usize,
+    rows: &[([u8; 4], usize)],
+    is_text: bool,
+) -> Result<bool, AllocFailed<u8>> {
+    for filling in FILLINGS {
+        for row in rows {
+            if !is_right(alloc, filling, least, *row, is_text)? {
+                return Ok(false);
+            }
+        }
+    }
+    Ok(true)
+}
+
+#[test]
+fn characters_at_each_place(rt: HostRuntime) {
+    for least in 0..72 {
+        assert!(rt; are_right(rt.alloc(), least, &CHARACTERS, true).unwrap_or(false));
+    }
+}
+
+#[test]
+fn wrong_bytes_at_each_place(rt: HostRuntime) {
+    for least in 0..72 {
+        assert!(rt; are_right(rt.alloc(), least, &WRONG, false).unwrap_or(false));
+    }
+}
+
+/// Bytes at which tests of UTF-8 change.
+const TELLING: [u8; 24] = [
+    0x00, 0x7F, 0x80, 0x8F, 0x90, 0x9F, 0xA0, 0xBF, 0xC0, 0xC1, 0xC2, 0xDF, 0xE0, 0xE1, 0xEC, 0xED,
+    0xEE, 0xEF, 0xF0, 0xF1, 0xF3, 0xF4, 0xF5, 0xFF,
+];
+
+/// Up to some 130 bytes of characters, with up to one telling byte in a hundred steps, or in ten.
+fn random_bytes(alloc: Global, numbers: &mut Numbers) -> Result<Vec<u8>, AllocFailed<u8>> {
+    let mut bytes = Vec::new(alloc);
+    let rarity = if numbers.up_to(1) == 0 { 9 } else { 99 };
+    for _ in 0..numbers.up_to(50) {
+        if numbers.up_to(rarity) == 0 {
+            bytes.push(TELLING.get(numbers.up_to(23)).copied().unwrap_or(0))?;
+        } else {
+            let (character, len) = CHARACTERS
+                .get(numbers.up_to(17))
+                .copied()
+                .unwrap_or(([0; 4], 1));
+            for byte in character.iter().take(len) {
+                bytes.push(*byte)?;
+            }
+        }
+    }
+    Ok(bytes)
+}
+
+/// Whether the standard library says the same.
+fn is_as_in_std(bytes: &[u8]) -> bool {
+    match str::from_utf8(bytes) {
+        Ok(text) => has_front(bytes, text.len()),
+        Err(error) => has_front(bytes, error.valid_up_to()),
+    }
+}
+
+fn is_right_of_random(alloc: Global, numbers: &mut Numbers) -> bool {
+    match random_bytes(alloc, numbers) {
+        Ok(bytes) => is_as_in_std(&bytes),
+        Err(_) => false,
+    }
+}
+
+#[test]
+fn random_strings(rt: HostRuntime) {
+    let mut numbers = Numbers::new(0x9E37_79B9_7F4A_7C15);
+    for _ in 0..4_000 {
+        assert!(rt; is_right_of_random(rt.alloc(), &mut numbers));
+    }
+}

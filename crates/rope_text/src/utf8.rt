@@ -1,0 +1,206 @@
+//! Bytes that are checked for UTF-8, 32 at once. No call takes memory.
+//!
+//! Each byte is tested against the three before it. Loads one, two and three places back put these
+//! into the same lane, so that nothing is carried from one block to the next. 64 bytes of ASCII are
+//! one test. Only from the last character before a wrong byte, or an unfinished one at the end, is
+//! the rest left to `str::from_utf8`, which goes byte by byte.
+#![tactic(auto)]
+
+ghost use Rattle.std.specs.Prelude.{◌≡◌, ◌+◌, ◌<◌, ◌≤◌, length, take, List, ℕ, MatchOption, IsTrue, count_by, slice_index};
+ghost use Rattle.std.specs.Bool.{IsFalse};
+ghost use Rattle.std.specs.Str.{IsUtf8};
+ghost use Rattle.std.specs.Str.Lossy.{utf8_valid_len};
+ghost use lib.Lanes.{Each1};
+ghost use Rattle.rope_text.specs.Marks.{IsLanes};
+ghost use Rattle.rope_text.specs.Read.{text_front};
+ghost use Rattle.rope_text.specs.Utf8.{is_fault, HasNoFault, IsTwice};
+
+use std::simd::prelude::*;
+
+// What may be wrong with two neighbouring bytes, a bit for each fault:
+//
+//     1  the first byte of a longer character, and no continuation
+//     2  a continuation after ASCII
+//     4  C0 or C1
+//     8  three bytes for a character that takes fewer
+//    16  a surrogate
+//    32  four bytes for a character that takes fewer, or F5 or above
+//    64  above the last character
+//   128  two continuations, which are right behind the first byte of three or four
+//
+// Each table has the faults that half a byte leaves possible, and a fault is there if all three have
+// it. Byte shuffles work on 16 lanes, so each table is written twice.
+const BY_FIRST_HIGH: [u8; 32] = [
+    2, 2, 2, 2, 2, 2, 2, 2, 128, 128, 128, 128, 5, 1, 25, 97, 2, 2, 2, 2, 2, 2, 2, 2, 128, 128,
+    128, 128, 5, 1, 25, 97,
+];
+
+const BY_FIRST_LOW: [u8; 32] = [
+    175, 135, 131, 131, 195, 227, 227, 227, 227, 227, 227, 227, 227, 243, 227, 227, 175, 135, 131,
+    131, 195, 227, 227, 227, 227, 227, 227, 227, 227, 243, 227, 227,
+];
+
+const BY_SECOND_HIGH: [u8; 32] = [
+    1, 1, 1, 1, 1, 1, 1, 1, 174, 206, 214, 214, 1, 1, 1, 1, 1, 1, 1, 1, 1, 1, 1, 1, 174, 206, 214,
+    214, 1, 1, 1, 1,
+];
+
+// For each lane, what the table has at this place.
+#[inline(always)]
+fn look_up(table: u8x32, places: u8x32) -> u8x32
+    requires { Each1 (λ k. k < 16) places }
+    ensures { (ks : List ℕ) (g : ℕ → ℕ) → length ks ≡ 32 → ((k : ℕ) → g k < 16)
+        → IsTwice table → IsLanes ks g places
+        → IsLanes ks (λ k. slice_index table (g k)) result }
+{
+    table.swizzle_dyn_within::<16>(places)
+}
+
+// Whether in some lane the byte of `b` can't follow those of `x`, `y` and `z`, which stand before it
+// in this order. Where `x` or `y` begins a character that is not yet at its end, `b` and `z` have to
+// be two continuations.
+#[inline(always)]
+fn has_fault(x: u8x32, y: u8x32, z: u8x32, b: u8x32) -> bool
+    ensures { (ks : List ℕ) (f g h i : ℕ → ℕ) → length ks ≡ 32
+        → ((k : ℕ) → h k < 256) → ((k : ℕ) → i k < 256)
+        → IsLanes ks f x → IsLanes ks g y → IsLanes ks h z → IsLanes ks i b
+        → IsFalse result → count_by (λ k. is_fault (f k) (g k) (h k) (i k)) ks ≡ 0 }
+{
+    let high = u8x32::splat(4);
+    let first_high = look_up(u8x32::from_array(BY_FIRST_HIGH), z >> high);
+    let first_low = look_up(u8x32::from_array(BY_FIRST_LOW), z & u8x32::splat(15));
+    let second_high = look_up(u8x32::from_array(BY_SECOND_HIGH), b >> high);
+    let in_long = y.simd_ge(u8x32::splat(0xE0)) | x.simd_ge(u8x32::splat(0xF0));
+    let wanted = in_long.select(u8x32::splat(128), u8x32::splat(0));
+    let found = (first_high & first_low) & second_high;
+    found.simd_ne(wanted).to_bitmask() != 0
+}
+
+// Whether a byte of the block from `at` on can't follow those before it.
+#[inline(always)]
+fn block_has_fault(bytes: &[u8], at: usize) -> bool
+    requires from { 3 ≤ at }
+    requires to { at + 32 ≤ length bytes.now }
+    ensures { (n : ℕ) → IsFalse result → at ≤ n → HasNoFault bytes.now n
+        → HasNoFault bytes.now (at + 32) }
+{
+    let x = u8x32::from_slice(&bytes[at - 3..]);
+    let y = u8x32::from_slice(&bytes[at - 2..]);
+    let z = u8x32::from_slice(&bytes[at - 1..]);
+    let b = u8x32::from_slice(&bytes[at..]);
+    has_fault(x, y, z, b)
+}
+
+// Whether the 61 bytes from `at` on and the three before them are ASCII: then each may follow those
+// before it.
+#[inline(always)]
+fn is_ascii(bytes: &[u8], at: usize) -> bool
+    requires from { 3 ≤ at }
+    requires to { at + 61 ≤ length bytes.now }
+    ensures { (n : ℕ) → IsTrue result → at ≤ n → HasNoFault bytes.now n
+        → HasNoFault bytes.now (at + 61) }
+{
+    let lanes = u8x64::from_slice(&bytes[at - 3..]);
+    lanes.simd_ge(u8x64::splat(0x80)).to_bitmask() == 0
+}
+
+// Whether the byte `b` can't follow `x`, `y` and `z`.
+fn is_fault(x: u8, y: u8, z: u8, b: u8) -> bool
+    ensures { result ≡ is_fault x y z b }
+{
+    let continues = b >= 0x80 && b < 0xC0;
+    let in_char = z >= 0xC0 || (y >= 0xE0 || x >= 0xF0);
+    let after_none = z == 0xC0 || z == 0xC1;
+    let misplaced = (continues ^ in_char) || (after_none || z >= 0xF5);
+    let overlong = (z == 0xE0 && b < 0xA0) || (z == 0xF0 && b < 0x90);
+    misplaced || (overlong || ((z == 0xED && b >= 0xA0) || (z == 0xF4 && b >= 0x90)))
+}
+
+// How many bytes were checked from the front and have no fault. The last block ends where the bytes
+// do, and most of it may have been checked before.
+fn front_without_fault(bytes: &[u8]) -> usize
+    ensures bound { result ≤ length bytes.now }
+    ensures none { HasNoFault bytes.now result }
+{
+    if bytes.len() < 35 {
+        return 0;
+    }
+    let (x, y, z) = (bytes[0], bytes[1], bytes[2]);
+    if is_fault(0, 0, 0, x) || is_fault(0, 0, x, y) || is_fault(0, x, y, z) {
+        return 0;
+    }
+    let mut at = 3;
+    while bytes.len() - at >= 64 {
+        if is_ascii(bytes, at) {
+            at += 61;
+            continue;
+        }
+        if block_has_fault(bytes, at) {
+            return at;
+        }
+        if block_has_fault(bytes, at + 32) {
+            return at + 32;
+        }
+        at += 64;
+    }
+    if bytes.len() - at >= 32 {
+        if block_has_fault(bytes, at) {
+            return at;
+        }
+        at += 32;
+    }
+    if block_has_fault(bytes, bytes.len() - 32) {
+        return at;
+    }
+    bytes.len()
+}
+
+// The end of the last whole character up to `at`.
+fn last_char_end(bytes: &[u8], at: usize) -> usize
+    requires bound { at ≤ length bytes.now }
+    requires none { HasNoFault bytes.now at }
+    ensures bound { result ≤ at }
+    ensures text { IsUtf8 (take result bytes.now) }
+{
+    if at < 3 {
+        return 0;
+    }
+    if bytes[at - 1] >= 0xC0 {
+        at - 1
+    } else if bytes[at - 2] >= 0xE0 {
+        at - 2
+    } else if bytes[at - 3] >= 0xF0 {
+        at - 3
+    } else {
+        at
+    }
+}
+
+/// How many bytes the longest front has that is a whole UTF-8 text.
+pub fn valid_len(bytes: &[u8]) -> usize
+    ensures { result ≡ utf8_valid_len bytes.now }
+{
+    let known = last_char_end(bytes, front_without_fault(bytes));
+    match str::from_utf8(&bytes[known..]) {
+        Ok(_) => bytes.len(),
+        Err(error) => known + error.valid_up_to(),
+    }
+}
+
+/// The longest front that is a whole UTF-8 text.
+pub fn front(bytes: &[u8]) -> &str
+    ensures { result.now ≡ text_front bytes.now }
+{
+    unsafe { str::from_utf8_unchecked(&bytes[..valid_len(bytes)]) }
+}
+
+/// The bytes as a text, if they are UTF-8.
+pub fn text_of(bytes: &[u8]) -> Option<&str>
+    ensures { MatchOption result (IsUtf8 bytes.now → ⊥)
+        (λ text. (text.now ≡ bytes.now) × IsUtf8 bytes.now) }
+{
+    if valid_len(bytes) < bytes.len() {
+        return None;
+    }
+    Some(unsafe { str::from_utf8_unchecked(bytes) })
+}
