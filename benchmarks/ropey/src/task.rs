@@ -19,7 +19,8 @@ pub enum Mode {
 pub struct Task {
     /// What is done, and whether times are printed.
     pub mode: Mode,
-    /// A workload is done where its name has one of these in it, or where there is none.
+    /// A workload is done where its name has one of these in it, or where there is none. Behind a `=` stands a whole
+    /// name.
     words: Vec<String>,
 }
 
@@ -41,7 +42,7 @@ impl Task {
 
     /// Whether a workload of this name is asked for.
     pub fn wants(&self, name: &str) -> bool {
-        self.words.is_empty() || self.words.iter().any(|word| name.contains(word.as_str()))
+        self.words.is_empty() || self.words.iter().any(|word| names(word, name))
     }
 
     /// How much is done of a workload.
@@ -58,5 +59,13 @@ impl Task {
             Mode::Full | Mode::Growth => 5,
             Mode::Small | Mode::Memory => 1,
         }
+    }
+}
+
+/// Whether a word of the command line names a workload.
+fn names(word: &str, name: &str) -> bool {
+    match word.strip_prefix('=') {
+        Some(whole) => name == whole,
+        None => name.contains(word),
     }
 }

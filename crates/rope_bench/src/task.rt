@@ -32,14 +32,15 @@ impl Mode {
 pub struct Task {
     /// What is done, and whether times are printed.
     pub mode: Mode,
-    /// A workload is done where its name has one of these in it, or where there is none.
+    /// A workload is done where its name has one of these in it, or where there is none. Behind a `=` stands a whole
+    /// name.
     pub words: Vec<String>,
 }
 
 impl Task {
     /// Whether a workload of this name is asked for.
     pub fn wants(&self, name: &str) -> bool {
-        self.words.is_empty() || self.words.iter().any(|word| name.contains(word.as_str()))
+        self.words.is_empty() || self.words.iter().any(|word| names(word.as_str(), name))
     }
 
     /// How much is done of a workload.
@@ -48,5 +49,13 @@ impl Task {
             Mode::Small => Size::Small,
             Mode::Full | Mode::Growth | Mode::Memory => Size::Full,
         }
+    }
+}
+
+/// Whether a word of the command line names a workload.
+fn names(word: &str, name: &str) -> bool {
+    match word.strip_prefix('=') {
+        Some(whole) => name == whole,
+        None => name.contains(word),
     }
 }
