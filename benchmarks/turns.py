@@ -21,7 +21,8 @@ def arguments():
     parser = argparse.ArgumentParser(description=__doc__.splitlines()[0])
     parser.add_argument("first", help="a program")
     parser.add_argument("second", help="the program that it is compared with")
-    parser.add_argument("words", nargs="*", help="parts of the names of workloads; none: all")
+    parser.add_argument("words", nargs="*",
+                        help="parts of the names of workloads, or whole ones behind a =; none: all")
     parser.add_argument("--turns", type=int, default=3)
     parser.add_argument("--mode", choices=("time", "grow"), default="time")
     parser.add_argument("--trace", default=os.devnull, help="a file of a person's edits")
@@ -43,7 +44,12 @@ def names(task):
     else:
         known = [row[0] for row in rows(task.first, task.trace)]
     return [name for name in known if not name.startswith("text/")
-            and (not task.words or any(word in name for word in task.words))]
+            and (not task.words or any(is_named(word, name) for word in task.words))]
+
+
+def is_named(word, name):
+    """As the programs pick workloads: by a part of the name, or behind a `=` by the whole."""
+    return name == word[1:] if word.startswith("=") else word in name
 
 
 def measure(task, name):
