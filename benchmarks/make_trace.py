@@ -3,9 +3,9 @@
 
 usage: make_trace.py REPOSITORY FILE > EDITS
 
-A line is an edit: the character at which it is done, how many characters are taken out there, and in quotes the one
-that is put in, if any. Each version is compared with the one before: what is gone is taken out at once, what is new is
-put in character by character, from the front to the back of the text.
+A line is an edit: the character at which it is done, how many characters are taken out there, and
+in quotes the one that is put in, if any. Each version is compared with the one before: what is gone
+is taken out at once, what is new is put in character by character, from the front to the back.
 """
 import difflib
 import json
@@ -31,7 +31,8 @@ def versions(repository, path):
 
 def changes(old, new):
     """The stretches of two lists that differ: from and to where in each."""
-    for kind, start, end, from_new, to_new in difflib.SequenceMatcher(None, old, new, autojunk=False).get_opcodes():
+    matcher = difflib.SequenceMatcher(None, old, new, autojunk=False)
+    for kind, start, end, from_new, to_new in matcher.get_opcodes():
         if kind != "equal":
             yield start, end, from_new, to_new
 

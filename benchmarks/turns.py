@@ -1,8 +1,9 @@
 #!/usr/bin/env python3
 """Times two programs in turns, one workload at a time, and prints ratios.
 
-Each program is `rope_bench` of some build, or `ropey_bench` of the folder `ropey`. So both meet the same minutes of the
-machine; who begins alternates from turn to turn. Of the turns the least and the middle time are taken.
+Each program is `rope_bench` of some build, or `ropey_bench` of the folder `ropey`. So both meet the
+same minutes of the machine; who begins alternates from turn to turn. Of the turns the least and the
+middle time are taken.
 A ratio below 1 says that the first program is faster.
 """
 import argparse
@@ -27,7 +28,7 @@ def arguments():
     parser.add_argument("--mode", choices=("time", "grow"), default="time")
     parser.add_argument("--trace", default=os.devnull, help="a file of a person's edits")
     parser.add_argument("--tsv", help="a file for the same table, separated by tabs")
-    return parser.parse_args()
+    return parser.parse_intermixed_args()
 
 
 def rows(program, trace, *words):

@@ -231,7 +231,8 @@ fn chunks_at_byte(sample: &Sample) -> Outcome {
     })
 }
 
-/// Whether chunks begin at the character that is asked for, or before it; and two chunks behind each.
+/// Whether chunks begin at the character that is asked for, or before it; and two chunks behind
+/// each.
 fn chunks_at_char(sample: &Sample) -> Outcome {
     let count = sample.operations(100_000);
     timed_sum(count, || {
@@ -248,7 +249,8 @@ fn chunks_at_char(sample: &Sample) -> Outcome {
     })
 }
 
-/// Whether chunks have no more line breaks before them than are asked for; and two chunks behind each.
+/// Whether chunks have no more line breaks before them than are asked for; and two chunks behind
+/// each.
 fn chunks_at_line_break(sample: &Sample) -> Outcome {
     let count = sample.operations(100_000);
     timed_sum(count, || {

@@ -48,12 +48,16 @@ fn edited(mut rope: Rope, count: usize, edits: impl FnOnce(&mut Rope)) -> Outcom
 
 pub fn insert_char_random(sample: &Sample) -> Outcome {
     let count = sample.operations(100_000);
-    edited(sample.fresh(), count, |rope| insert_chars_at_random(rope, count))
+    edited(sample.fresh(), count, |rope| {
+        insert_chars_at_random(rope, count)
+    })
 }
 
 fn insert_char_coherent(sample: &Sample) -> Outcome {
     let count = sample.operations(100_000);
-    edited(sample.fresh(), count, |rope| insert_chars_in_a_row(rope, count))
+    edited(sample.fresh(), count, |rope| {
+        insert_chars_in_a_row(rope, count)
+    })
 }
 
 fn insert_str_random(sample: &Sample) -> Outcome {
@@ -66,7 +70,9 @@ fn insert_str_random(sample: &Sample) -> Outcome {
 fn insert_long(sample: &Sample) -> Outcome {
     let count = sample.operations(1_000);
     let piece = first_lines(&sample.text, LONG);
-    edited(sample.fresh(), count, |rope| insert_text_at_random(rope, &piece, count))
+    edited(sample.fresh(), count, |rope| {
+        insert_text_at_random(rope, &piece, count)
+    })
 }
 
 pub fn remove_random(sample: &Sample) -> Outcome {
@@ -82,7 +88,9 @@ fn remove_insert_random(sample: &Sample) -> Outcome {
 fn remove_long(sample: &Sample) -> Outcome {
     let count = sample.operations(500);
     let chars = sample.chars_of_bytes(LONG);
-    edited(sample.fresh(), count, |rope| remove_long_at_random(rope, chars, count))
+    edited(sample.fresh(), count, |rope| {
+        remove_long_at_random(rope, chars, count)
+    })
 }
 
 fn split_and_append(sample: &Sample) -> Outcome {
@@ -115,12 +123,16 @@ fn append_small_from_empty(sample: &Sample) -> Outcome {
 
 fn type_from_empty(sample: &Sample) -> Outcome {
     let count = sample.operations(100_000);
-    edited(Rope::new(), count, |rope| type_text(rope, &sample.text, count))
+    edited(Rope::new(), count, |rope| {
+        type_text(rope, &sample.text, count)
+    })
 }
 
 pub fn grow_from_empty(sample: &Sample) -> Outcome {
     let count = sample.operations(200_000);
-    edited(Rope::new(), count, |rope| insert_text_at_random(rope, TWO_LINES, count))
+    edited(Rope::new(), count, |rope| {
+        insert_text_at_random(rope, TWO_LINES, count)
+    })
 }
 
 pub fn shrink_to_fit(sample: &Sample) -> Outcome {

@@ -74,7 +74,8 @@ pub fn replace_at_random(rope: &mut Rope, count: usize) {
     }
 }
 
-/// Puts characters in at random places and takes them out again: the text stays, its chunks end elsewhere.
+/// Puts characters in at random places and takes them out again: the text stays, its chunks end
+/// elsewhere.
 pub fn cut_otherwise(rope: &mut Rope, count: usize) {
     let mut numbers = Numbers::new();
     for _ in 0..count {

@@ -43,7 +43,8 @@ impl Length {
     }
 }
 
-/// What is done to a rope of a hundred million bytes before the process ends, so that its memory can be seen.
+/// What is done to a rope of a hundred million bytes before the process ends, so that its memory
+/// can be seen.
 #[derive(Clone, Copy, PartialEq, Eq)]
 pub enum Memory {
     /// Nothing.
@@ -99,7 +100,8 @@ pub fn fill(what: Memory) -> Outcome {
     )
 }
 
-/// A rope of a hundred million bytes. Its text is handed over in parts, so that it takes no memory of its own.
+/// A rope of a hundred million bytes. Its text is handed over in parts, so that it takes no memory
+/// of its own.
 fn long_rope() -> Rope {
     let prose = Text::Prose.make(PROSE);
     let mut builder = RopeBuilder::new();

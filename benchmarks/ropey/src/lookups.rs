@@ -114,7 +114,8 @@ fn chunk_at_char(sample: &Sample) -> Outcome {
     })
 }
 
-/// Which chunk it is depends on where chunks end: it has no more line breaks before it than are asked for.
+/// Which chunk it is depends on where chunks end: it has no more line breaks before it than are
+/// asked for.
 fn chunk_at_line_break(sample: &Sample) -> Outcome {
     let rope = &sample.rope;
     ask(sample, rope.len_lines() - 1, |i| {

@@ -57,9 +57,17 @@ fn write_to(sample: &Sample) -> Outcome {
 }
 
 fn to_string(sample: &Sample) -> Outcome {
-    timed(1, || sample.rope.to_string(), |text| Fnv::of(text.as_bytes()))
+    timed(
+        1,
+        || sample.rope.to_string(),
+        |text| Fnv::of(text.as_bytes()),
+    )
 }
 
 pub fn into_string(sample: &Sample) -> Outcome {
-    timed(1, || String::from(&sample.rope), |text| Fnv::of(text.as_bytes()))
+    timed(
+        1,
+        || String::from(&sample.rope),
+        |text| Fnv::of(text.as_bytes()),
+    )
 }

@@ -19,8 +19,8 @@ pub fn run(task: &Task) {
 
 /// The workloads of each text, of worn ropes, of no text, and of a person's edits.
 fn run_all(task: &Task) {
-    // The memory of a text that is let go tells the allocator how much to keep when a rope goes, and so what a rope
-    // costs: it is to be the same for all workloads.
+    // The memory of a text that is let go tells the allocator how much to keep when a rope goes,
+    // and so what a rope costs: it is to be the same for all workloads.
     drop(Text::Prose.make(task.size().bytes()));
     for text in TEXTS {
         for (wear, start) in [(Wear::New, ""), (Wear::Worn, "worn_")] {

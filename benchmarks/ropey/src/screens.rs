@@ -83,11 +83,15 @@ fn bytes_back(sample: &Sample) -> Outcome {
 }
 
 fn lengths(sample: &Sample) -> Outcome {
-    draw(sample, |lines| forward(lines, |line| len_of_chunks(line.chunks())))
+    draw(sample, |lines| {
+        forward(lines, |line| len_of_chunks(line.chunks()))
+    })
 }
 
 fn chars(sample: &Sample) -> Outcome {
-    draw(sample, |lines| forward(lines, |line| sum_of_chars(line.chars())))
+    draw(sample, |lines| {
+        forward(lines, |line| sum_of_chars(line.chars()))
+    })
 }
 
 /// The sum of the bytes of each line, at once where it lies in one piece.

@@ -88,11 +88,15 @@ fn byte_and_char(sample: &Sample) -> Outcome {
 }
 
 fn chars(sample: &Sample) -> Outcome {
-    read(sample, |sum, slice, _| sum.wrapping_add(sum_of_chars(slice.chars())))
+    read(sample, |sum, slice, _| {
+        sum.wrapping_add(sum_of_chars(slice.chars()))
+    })
 }
 
 fn bytes(sample: &Sample) -> Outcome {
-    read(sample, |sum, slice, _| sum.wrapping_add(sum_of_bytes(slice.bytes())))
+    read(sample, |sum, slice, _| {
+        sum.wrapping_add(sum_of_bytes(slice.bytes()))
+    })
 }
 
 fn lines(sample: &Sample) -> Outcome {
@@ -144,7 +148,9 @@ fn to_string(sample: &Sample) -> Outcome {
 }
 
 fn into_string(sample: &Sample) -> Outcome {
-    read(sample, |sum, slice, _| mix_of_text(sum, &String::from(slice)))
+    read(sample, |sum, slice, _| {
+        mix_of_text(sum, &String::from(slice))
+    })
 }
 
 fn to_cow(sample: &Sample) -> Outcome {

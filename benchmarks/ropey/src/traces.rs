@@ -1,7 +1,8 @@
 //! A person's own edits of a text, in order, on standard input.
 //!
-//! A line is an edit: the character at which it is done, how many characters are taken out there, and in quotes the one
-//! that is put in, if any. A backslash stands before a quote and a backslash, and \n, \t and \r are written so.
+//! A line is an edit: the character at which it is done, how many characters are taken out there,
+//! and in quotes the one that is put in, if any. A backslash stands before a quote and a backslash,
+//! and \n, \t and \r are written so.
 
 use crate::measure::{timed, whole, Outcome};
 use ropey::Rope;

@@ -257,7 +257,8 @@ fn chunks_at_byte(rope: &Rope, count: usize) -> u64 {
     sum
 }
 
-/// Whether chunks begin at the character that is asked for, or before it; and two chunks behind each.
+/// Whether chunks begin at the character that is asked for, or before it; and two chunks behind
+/// each.
 fn chunks_at_char(rope: &Rope, count: usize) -> u64 {
     let mut numbers = Numbers::new();
     let most = rope.len_chars().saturating_sub(5_001);
@@ -271,7 +272,8 @@ fn chunks_at_char(rope: &Rope, count: usize) -> u64 {
     sum
 }
 
-/// Whether chunks have no more line breaks before them than are asked for; and two chunks behind each.
+/// Whether chunks have no more line breaks before them than are asked for; and two chunks behind
+/// each.
 fn chunks_at_line_break(rope: &Rope, count: usize) -> u64 {
     let mut numbers = Numbers::new();
     let most = rope.len_lines().saturating_sub(501);

@@ -50,7 +50,8 @@ fn prose_repeated(alloc: Global, count: usize) -> Result<String, Fault> {
     repeated(alloc, prose.as_str(), count)
 }
 
-/// What is done to a rope of a hundred million bytes before the process ends, so that its memory can be seen.
+/// What is done to a rope of a hundred million bytes before the process ends, so that its memory
+/// can be seen.
 #[derive(Clone, Copy)]
 pub enum Memory {
     /// Nothing.
@@ -104,7 +105,8 @@ pub fn fill<C: CpuClock>(clock: &C, alloc: Global, what: Memory) -> Result<Outco
     })
 }
 
-/// A rope of a hundred million bytes. Its text is handed over in parts, so that it takes no memory of its own.
+/// A rope of a hundred million bytes. Its text is handed over in parts, so that it takes no memory
+/// of its own.
 fn long_rope(alloc: Global) -> Result<Rope, Fault> {
     let prose = Text::Prose.make(alloc, PROSE)?;
     let mut builder = RopeBuilder::new(alloc)?;

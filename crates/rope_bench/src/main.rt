@@ -1,9 +1,9 @@
-//! Times every public call of ropes: on three texts of ten million bytes, on a rope that many edits have worn, on a
-//! person's own edits, and on texts that grow.
+//! Times every public call of ropes: on three texts of ten million bytes, on a rope that many edits
+//! have worn, on a person's own edits, and on texts that grow.
 //!
-//! The program in Rust of the folder `benchmarks/ropey` does the same work with the Rust crate ropey 1.6.1. All
-//! checksums of the two are the same, in small and in full: so what this crate's `stdout` expects, which the gate
-//! compares, is confirmed by an independent program.
+//! The program in Rust of the folder `benchmarks/ropey` does the same work with the Rust crate
+//! ropey 1.6.1. All checksums of the two are the same, in small and in full: so what this crate's
+//! `stdout` expects, which the gate compares, is confirmed by an independent program.
 #![tactic(auto)]
 
 mod comparing;

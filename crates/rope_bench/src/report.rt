@@ -44,8 +44,8 @@ fn run_all<R: CpuClock + Print + Input + AllocGlobal>(
     run_trace(rt, alloc, task)
 }
 
-/// Makes a text and lets it go. The memory of a text that is let go tells the allocator how much to keep when a rope
-/// goes, and so what a rope costs: it is to be the same for all workloads.
+/// Makes a text and lets it go. The memory of a text that is let go tells the allocator how much to
+/// keep when a rope goes, and so what a rope costs: it is to be the same for all workloads.
 fn warm_up(alloc: Global, task: &Task) -> Result<(), Fault> {
     let _ = Text::Prose.make(alloc, task.size().bytes())?;
     Ok(())

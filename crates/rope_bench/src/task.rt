@@ -32,8 +32,8 @@ impl Mode {
 pub struct Task {
     /// What is done, and whether times are printed.
     pub mode: Mode,
-    /// A workload is done where its name has one of these in it, or where there is none. Behind a `=` stands a whole
-    /// name.
+    /// A workload is done where its name has one of these in it, or where there is none. Behind a
+    /// `=` stands a whole name.
     pub words: Vec<String>,
 }
 
