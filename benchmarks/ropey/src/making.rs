@@ -11,6 +11,7 @@ use ropey::{Rope, RopeBuilder};
 pub const WORKLOADS: &[Workload] = &[
     ("from_str", from_str),
     ("builder_by_lines", builder_by_lines),
+    ("from_iter_by_lines", from_iter),
     ("from_str_small", from_lines),
     ("from_str_2KB", from_pieces),
     ("from_slice_1000", from_short_slices),
@@ -34,6 +35,11 @@ fn builder_by_lines(sample: &Sample) -> Outcome {
         },
         lens,
     )
+}
+
+fn from_iter(sample: &Sample) -> Outcome {
+    let lines = lines_of(&sample.text, usize::MAX);
+    timed(lines.len(), || Rope::from_iter(lines), lens)
 }
 
 fn from_lines(sample: &Sample) -> Outcome {

@@ -14,6 +14,8 @@ pub const WORKLOADS: &[Workload] = &[
     ("slice_lookups", look_ups),
     ("slice_conversions", conversions),
     ("slice_byte_and_char", byte_and_char),
+    ("slice_chunk_at", chunks_at),
+    ("slice_cursors_at", cursors_at),
     ("slice_chars_sum", chars),
     ("slice_bytes_sum", bytes),
     ("slice_lines", lines),
@@ -84,6 +86,33 @@ fn byte_and_char(sample: &Sample) -> Outcome {
         let byte = slice.get_byte(numbers.up_to(CHARS - 1)).unwrap_or(0);
         let c = slice.get_char(numbers.up_to(CHARS - 1)).unwrap_or('\0');
         mix(mix(sum, usize::from(byte)), c as usize)
+    })
+}
+
+/// Whether each chunk begins at the place that is asked for, or before it: which chunk it is
+/// depends on where chunks end.
+fn chunks_at(sample: &Sample) -> Outcome {
+    read(sample, |sum, slice, numbers| {
+        let byte = numbers.up_to(slice.len_bytes());
+        let (_, bytes, _, _) = slice.chunk_at_byte(byte);
+        let char_idx = numbers.up_to(slice.len_chars());
+        let (_, _, chars, _) = slice.chunk_at_char(char_idx);
+        let line = numbers.up_to(slice.len_lines());
+        let (_, _, _, breaks) = slice.chunk_at_line_break(line);
+        let are_before = bytes <= byte && chars <= char_idx && breaks <= line;
+        mix(sum, usize::from(are_before))
+    })
+}
+
+fn cursors_at(sample: &Sample) -> Outcome {
+    read(sample, |sum, slice, numbers| {
+        let mut bytes = slice.bytes_at(numbers.up_to(slice.len_bytes()));
+        let mut chars = slice.chars_at(numbers.up_to(slice.len_chars()));
+        let mut lines = slice.lines_at(numbers.up_to(slice.len_lines()));
+        let byte = usize::from(bytes.next().unwrap_or(0));
+        let number = chars.next().unwrap_or('\0') as usize;
+        let length = lines.next().map_or(0, |line| line.len_chars());
+        mix(mix(mix(sum, byte), number), length)
     })
 }
 

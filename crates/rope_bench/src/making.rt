@@ -14,6 +14,8 @@ pub enum Making {
     FromStr,
     /// The whole text, which a builder is handed line by line.
     BuilderByLines,
+    /// The whole text, line by line of an iterator.
+    FromIter,
     /// Each of the first lines.
     FromStrSmall,
     /// Each piece of about two thousand bytes.
@@ -30,6 +32,7 @@ impl Making {
         match self {
             Making::FromStr => "from_str",
             Making::BuilderByLines => "builder_by_lines",
+            Making::FromIter => "from_iter_by_lines",
             Making::FromStrSmall => "from_str_small",
             Making::FromStrPieces => "from_str_2KB",
             Making::FromSlice => "from_slice_1000",
@@ -43,6 +46,7 @@ pub fn make<C: CpuClock>(clock: &C, sample: &Sample, what: Making) -> Result<Out
     match what {
         Making::FromStr => from_str(clock, sample),
         Making::BuilderByLines => builder_by_lines(clock, sample),
+        Making::FromIter => from_iter(clock, sample),
         Making::FromStrSmall => from_lines(clock, sample),
         Making::FromStrPieces => from_pieces(clock, sample),
         Making::FromSlice => from_slices(clock, sample, 1_000, sample.operations(100_000)),
@@ -75,6 +79,19 @@ fn builder_by_lines<C: CpuClock>(clock: &C, sample: &Sample) -> Result<Outcome, 
     let nanos = since(clock, start)?;
     Ok(Outcome {
         operations: lines.len(),
+        nanos,
+        checksum: lens(&rope),
+    })
+}
+
+fn from_iter<C: CpuClock>(clock: &C, sample: &Sample) -> Result<Outcome, Fault> {
+    let lines = lines_of(sample.alloc, sample.text.as_str(), sample.text.len())?;
+    let operations = lines.len();
+    let start = now(clock)?;
+    let rope = Rope::from_str_iter(sample.alloc, lines)?;
+    let nanos = since(clock, start)?;
+    Ok(Outcome {
+        operations,
         nanos,
         checksum: lens(&rope),
     })

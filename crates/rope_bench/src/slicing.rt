@@ -25,6 +25,10 @@ pub enum Slicing {
     Conversions,
     /// A byte and a character of each.
     Items,
+    /// The chunks that hold a byte, a character and a line break of each.
+    ChunksAt,
+    /// The items behind a byte, a character and a line of each.
+    CursorsAt,
     /// The sum of its characters.
     Chars,
     /// The sum of its bytes.
@@ -51,6 +55,8 @@ impl Slicing {
             Slicing::LookUps => "slice_lookups",
             Slicing::Conversions => "slice_conversions",
             Slicing::Items => "slice_byte_and_char",
+            Slicing::ChunksAt => "slice_chunk_at",
+            Slicing::CursorsAt => "slice_cursors_at",
             Slicing::Chars => "slice_chars_sum",
             Slicing::Bytes => "slice_bytes_sum",
             Slicing::Lines => "slice_lines",
@@ -69,6 +75,8 @@ impl Slicing {
             Slicing::LookUps => look_ups(sum, slice, numbers),
             Slicing::Conversions => conversions(sum, slice, numbers),
             Slicing::Items => byte_and_char(sum, slice, numbers),
+            Slicing::ChunksAt => chunks_at(sum, slice, numbers),
+            Slicing::CursorsAt => cursors_at(sum, slice, numbers),
             Slicing::Chars => sum.wrapping_add(sum_of_chars(slice.chars())),
             Slicing::Bytes => sum.wrapping_add(sum_of_bytes(slice.bytes())),
             Slicing::Lines => mix_of_lines(sum, slice.lines()),
@@ -153,6 +161,32 @@ fn byte_and_char(sum: u64, slice: RopeSlice<'_>, numbers: &mut Numbers) -> u64 {
     let c = slice.get_char(numbers.up_to(CHARS.saturating_sub(1)));
     let number = u32::from(c.unwrap_or('\0')) as usize;
     mix(mix(sum, usize::from(byte.unwrap_or(0))), number)
+}
+
+/// Whether each chunk begins at the place that is asked for, or before it: which chunk it is depends
+/// on where chunks end.
+fn chunks_at(sum: u64, slice: RopeSlice<'_>, numbers: &mut Numbers) -> u64 {
+    let byte = numbers.up_to(slice.len_bytes());
+    let (_, bytes, _, _) = slice.chunk_at_byte(byte);
+    let char_idx = numbers.up_to(slice.len_chars());
+    let (_, _, chars, _) = slice.chunk_at_char(char_idx);
+    let line = numbers.up_to(slice.len_lines());
+    let (_, _, _, breaks) = slice.chunk_at_line_break(line);
+    let are_before = bytes <= byte && chars <= char_idx && breaks <= line;
+    mix(sum, usize::from(are_before))
+}
+
+fn cursors_at(sum: u64, slice: RopeSlice<'_>, numbers: &mut Numbers) -> u64 {
+    let mut bytes = slice.bytes_at(numbers.up_to(slice.len_bytes()));
+    let mut chars = slice.chars_at(numbers.up_to(slice.len_chars()));
+    let mut lines = slice.lines_at(numbers.up_to(slice.len_lines()));
+    let byte = usize::from(bytes.next().unwrap_or(0));
+    let number = u32::from(chars.next().unwrap_or('\0')) as usize;
+    let length = match lines.next() {
+        Some(line) => line.len_chars(),
+        None => 0,
+    };
+    mix(mix(mix(sum, byte), number), length)
 }
 
 /// The length of a slice of the slice.

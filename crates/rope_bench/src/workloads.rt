@@ -34,10 +34,11 @@ pub enum Workload {
 }
 
 /// Those that are done on each of the texts, in order.
-pub const OF_TEXTS: [Workload; 95] = [
+pub const OF_TEXTS: [Workload; 98] = [
     Workload::Text,
     Workload::Make(Making::FromStr),
     Workload::Make(Making::BuilderByLines),
+    Workload::Make(Making::FromIter),
     Workload::Make(Making::FromStrSmall),
     Workload::Make(Making::FromStrPieces),
     Workload::Make(Making::FromSlice),
@@ -84,6 +85,8 @@ pub const OF_TEXTS: [Workload; 95] = [
     Workload::Slice(Slicing::LookUps),
     Workload::Slice(Slicing::Conversions),
     Workload::Slice(Slicing::Items),
+    Workload::Slice(Slicing::ChunksAt),
+    Workload::Slice(Slicing::CursorsAt),
     Workload::Slice(Slicing::Chars),
     Workload::Slice(Slicing::Bytes),
     Workload::Slice(Slicing::Lines),
