@@ -2,65 +2,60 @@
 use crate::fault::Fault;
 use crate::measure::{Outcome, now, since};
 use crate::sample::Sample;
-use crate::texts::ten_times;
+use crate::texts::repeated;
 use rope_text::{LineBreaks, str_utils};
 use ropey::RopeSlice;
 use std::time::CpuClock;
 
 /// What is counted.
 #[derive(Clone, Copy)]
-pub enum Counted {
+pub enum Counting {
     /// Characters.
     Chars,
     /// Line breaks of a set.
     Breaks(LineBreaks),
     /// Characters that take two code units of UTF-16.
     Pairs,
+    /// Characters, lines and code units of a slice of the text, which is read to be counted.
+    Slice,
 }
 
-impl Counted {
+impl Counting {
     /// The name of the workload.
     pub fn name(self) -> &'static str {
         match self {
-            Counted::Chars => "count_chars_100MB",
-            Counted::Breaks(LineBreaks::Unicode) => "count_breaks_100MB",
-            Counted::Breaks(LineBreaks::Lf) => "count_breaks_lf_100MB",
-            Counted::Breaks(LineBreaks::CrLf) => "count_breaks_crlf_100MB",
-            Counted::Pairs => "count_utf16_100MB",
+            Counting::Chars => "count_chars_100MB",
+            Counting::Breaks(LineBreaks::Unicode) => "count_breaks_100MB",
+            Counting::Breaks(LineBreaks::Lf) => "count_breaks_lf_100MB",
+            Counting::Breaks(LineBreaks::CrLf) => "count_breaks_crlf_100MB",
+            Counting::Pairs => "count_utf16_100MB",
+            Counting::Slice => "slice_from_str_100MB",
         }
     }
 
-    fn count(self, text: &str) -> usize {
+    fn of(self, text: &str) -> usize {
         match self {
-            Counted::Chars => str_utils::count_chars(text),
-            Counted::Breaks(breaks) => str_utils::count_breaks(text, breaks),
-            Counted::Pairs => str_utils::count_surrogates(text),
+            Counting::Chars => str_utils::count_chars(text),
+            Counting::Breaks(breaks) => str_utils::count_breaks(text, breaks),
+            Counting::Pairs => str_utils::count_surrogates(text),
+            Counting::Slice => counts_of_slice(text),
         }
     }
+}
+
+fn counts_of_slice(text: &str) -> usize {
+    let slice = RopeSlice::from(text);
+    slice
+        .len_chars()
+        .wrapping_add(slice.len_lines())
+        .wrapping_add(slice.len_utf16_cu())
 }
 
 /// One count over the text.
-pub fn count<C: CpuClock>(clock: &C, sample: &Sample, what: Counted) -> Result<Outcome, Fault> {
-    let text = ten_times(sample.alloc, sample.text.as_str())?;
+pub fn count<C: CpuClock>(clock: &C, sample: &Sample, what: Counting) -> Result<Outcome, Fault> {
+    let text = repeated(sample.alloc, sample.text.as_str(), 10)?;
     let start = now(clock)?;
-    let counted = what.count(text.as_str());
-    let nanos = since(clock, start)?;
-    Ok(Outcome {
-        operations: 1,
-        nanos,
-        checksum: counted as u64,
-    })
-}
-
-/// A slice of the text, which is read to be counted, and its lengths.
-pub fn slice_from_str<C: CpuClock>(clock: &C, sample: &Sample) -> Result<Outcome, Fault> {
-    let text = ten_times(sample.alloc, sample.text.as_str())?;
-    let start = now(clock)?;
-    let slice = RopeSlice::from(text.as_str());
-    let counted = slice
-        .len_chars()
-        .wrapping_add(slice.len_lines())
-        .wrapping_add(slice.len_utf16_cu());
+    let counted = what.of(text.as_str());
     let nanos = since(clock, start)?;
     Ok(Outcome {
         operations: 1,

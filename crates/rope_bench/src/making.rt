@@ -1,12 +1,63 @@
-//! Ropes that are made of texts.
+//! Ropes that are made of texts and of slices.
 use crate::fault::Fault;
-use crate::measure::{Outcome, lens, now, since};
+use crate::measure::{Outcome, lens, mix, now, since};
+use crate::numbers::Numbers;
 use crate::sample::Sample;
+use crate::texts::{lines_of, pieces_of};
 use ropey::{Rope, RopeBuilder};
 use std::time::CpuClock;
 
-/// A rope of the whole text.
-pub fn from_str<C: CpuClock>(clock: &C, sample: &Sample) -> Result<Outcome, Fault> {
+/// What ropes are made of.
+#[derive(Clone, Copy)]
+pub enum Making {
+    /// The whole text.
+    FromStr,
+    /// The whole text, which a builder is handed line by line.
+    BuilderByLines,
+    /// The whole text, line by line of an iterator.
+    FromIter,
+    /// Each of the first lines.
+    FromStrSmall,
+    /// Each piece of about two thousand bytes.
+    FromStrPieces,
+    /// Slices of a thousand characters.
+    FromSlice,
+    /// Slices of about a hundred thousand bytes.
+    FromLongSlice,
+}
+
+impl Making {
+    /// The name of the workload.
+    pub fn name(self) -> &'static str {
+        match self {
+            Making::FromStr => "from_str",
+            Making::BuilderByLines => "builder_by_lines",
+            Making::FromIter => "from_iter_by_lines",
+            Making::FromStrSmall => "from_str_small",
+            Making::FromStrPieces => "from_str_2KB",
+            Making::FromSlice => "from_slice_1000",
+            Making::FromLongSlice => "from_slice_100KB",
+        }
+    }
+}
+
+/// Makes ropes.
+pub fn make<C: CpuClock>(clock: &C, sample: &Sample, what: Making) -> Result<Outcome, Fault> {
+    match what {
+        Making::FromStr => from_str(clock, sample),
+        Making::BuilderByLines => builder_by_lines(clock, sample),
+        Making::FromIter => from_iter(clock, sample),
+        Making::FromStrSmall => from_lines(clock, sample),
+        Making::FromStrPieces => from_pieces(clock, sample),
+        Making::FromSlice => from_slices(clock, sample, 1_000, sample.operations(100_000)),
+        Making::FromLongSlice => {
+            let chars = sample.chars_of_bytes(sample.operations(100_000));
+            from_slices(clock, sample, chars, sample.operations(1_000))
+        }
+    }
+}
+
+fn from_str<C: CpuClock>(clock: &C, sample: &Sample) -> Result<Outcome, Fault> {
     let start = now(clock)?;
     let rope = Rope::from_str(sample.alloc, sample.text.as_str())?;
     let nanos = since(clock, start)?;
@@ -17,18 +68,8 @@ pub fn from_str<C: CpuClock>(clock: &C, sample: &Sample) -> Result<Outcome, Faul
     })
 }
 
-/// The first lines of the text, each with its LF, which the last may lack.
-fn lines_of(sample: &Sample, most: usize) -> Result<Vec<&str>, Fault> {
-    let mut lines = Vec::new(sample.alloc);
-    for line in sample.text.as_str().split_inclusive('\n').take(most) {
-        lines.push(line)?;
-    }
-    Ok(lines)
-}
-
-/// A rope of the whole text, which a builder is handed line by line.
-pub fn builder_by_lines<C: CpuClock>(clock: &C, sample: &Sample) -> Result<Outcome, Fault> {
-    let lines = lines_of(sample, sample.text.len())?;
+fn builder_by_lines<C: CpuClock>(clock: &C, sample: &Sample) -> Result<Outcome, Fault> {
+    let lines = lines_of(sample.alloc, sample.text.as_str(), sample.text.len())?;
     let start = now(clock)?;
     let mut builder = RopeBuilder::new(sample.alloc)?;
     for line in lines.iter() {
@@ -43,9 +84,22 @@ pub fn builder_by_lines<C: CpuClock>(clock: &C, sample: &Sample) -> Result<Outco
     })
 }
 
-/// A rope of each of the first lines of the text.
-pub fn from_str_small<C: CpuClock>(clock: &C, sample: &Sample) -> Result<Outcome, Fault> {
-    let lines = lines_of(sample, sample.operations(100_000))?;
+fn from_iter<C: CpuClock>(clock: &C, sample: &Sample) -> Result<Outcome, Fault> {
+    let lines = lines_of(sample.alloc, sample.text.as_str(), sample.text.len())?;
+    let operations = lines.len();
+    let start = now(clock)?;
+    let rope = Rope::from_str_iter(sample.alloc, lines)?;
+    let nanos = since(clock, start)?;
+    Ok(Outcome {
+        operations,
+        nanos,
+        checksum: lens(&rope),
+    })
+}
+
+fn from_lines<C: CpuClock>(clock: &C, sample: &Sample) -> Result<Outcome, Fault> {
+    let count = sample.operations(100_000);
+    let lines = lines_of(sample.alloc, sample.text.as_str(), count)?;
     let mut checksum: u64 = 0;
     let start = now(clock)?;
     for line in lines.iter() {
@@ -58,4 +112,51 @@ pub fn from_str_small<C: CpuClock>(clock: &C, sample: &Sample) -> Result<Outcome
         nanos,
         checksum,
     })
+}
+
+fn from_pieces<C: CpuClock>(clock: &C, sample: &Sample) -> Result<Outcome, Fault> {
+    let pieces = pieces_of(sample.alloc, sample.text.as_str(), 2_048)?;
+    let mut checksum: u64 = 0;
+    let start = now(clock)?;
+    for piece in pieces.iter() {
+        let rope = Rope::from_str(sample.alloc, piece.as_str())?;
+        checksum = checksum.wrapping_add(rope.len_chars() as u64);
+    }
+    let nanos = since(clock, start)?;
+    Ok(Outcome {
+        operations: pieces.len(),
+        nanos,
+        checksum,
+    })
+}
+
+/// Ropes of slices of so many characters.
+fn from_slices<C: CpuClock>(
+    clock: &C,
+    sample: &Sample,
+    chars: usize,
+    count: usize,
+) -> Result<Outcome, Fault> {
+    let start = now(clock)?;
+    let checksum = mix_of_ropes(sample, chars, count)?;
+    let nanos = since(clock, start)?;
+    Ok(Outcome {
+        operations: count,
+        nanos,
+        checksum,
+    })
+}
+
+fn mix_of_ropes(sample: &Sample, chars: usize, count: usize) -> Result<u64, Fault> {
+    let mut numbers = Numbers::new();
+    let most = sample.rope.len_chars().saturating_sub(chars);
+    let mut sum: u64 = 0;
+    for _ in 0..count {
+        let start = numbers.up_to(most);
+        if let Some(slice) = sample.rope.get_slice(start..start.saturating_add(chars)) {
+            let part = Rope::from_slice(sample.alloc, slice)?;
+            sum = mix(sum, part.len_bytes());
+        }
+    }
+    Ok(sum)
 }

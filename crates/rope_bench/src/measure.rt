@@ -41,10 +41,10 @@ pub fn lens(rope: &Rope) -> u64 {
 }
 
 /// The bytes of a rope in one number.
-pub fn bytes_sum(rope: &Rope) -> u64 {
+fn bytes_sum(rope: &Rope) -> u64 {
     let mut sum = Fnv::new();
     for chunk in rope.chunks() {
-        sum.add(chunk);
+        sum.add(chunk.as_bytes());
     }
     sum.sum()
 }
@@ -52,4 +52,9 @@ pub fn bytes_sum(rope: &Rope) -> u64 {
 /// The bytes and the lengths of a rope in one number.
 pub fn whole(rope: &Rope) -> u64 {
     bytes_sum(rope) ^ lens(rope)
+}
+
+/// A number put behind others.
+pub fn mix(sum: u64, number: usize) -> u64 {
+    sum.wrapping_mul(31).wrapping_add(number as u64)
 }

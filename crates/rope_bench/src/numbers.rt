@@ -43,10 +43,17 @@ impl Fnv {
         }
     }
 
-    /// Takes the bytes of a text into the sum.
-    pub fn add(&mut self, text: &str) {
-        for byte in text.bytes() {
-            self.sum = (self.sum ^ u64::from(byte)).wrapping_mul(0x0100_0000_01B3);
+    /// The sum of these bytes.
+    pub fn of(bytes: &[u8]) -> u64 {
+        let mut sum = Fnv::new();
+        sum.add(bytes);
+        sum.sum()
+    }
+
+    /// Takes bytes into the sum.
+    pub fn add(&mut self, bytes: &[u8]) {
+        for byte in bytes {
+            self.sum = (self.sum ^ u64::from(*byte)).wrapping_mul(0x0100_0000_01B3);
         }
     }
 

@@ -1,87 +1,191 @@
 //! Runs the workloads that are asked for, and prints a line for each.
 use crate::fault::Fault;
+use crate::growing::{LENGTHS, MEMORIES, Memory, fill};
 use crate::measure::Outcome;
-use crate::numbers::Fnv;
-use crate::sample::{Sample, Size};
-use crate::workloads::{OF_SMALL_ROPES, OF_TEXTS, Workload};
+use crate::sample::{Sample, Size, Wear};
+use crate::task::{Mode, Task};
+use crate::texts::{TEXTS, Text};
+use crate::traces::{Keystroke, keystrokes, replay};
+use crate::workloads::{OF_LENGTHS, OF_NONE, OF_TEXTS, OF_WORN, Workload};
 use std::alloc::Global;
 use std::time::CpuClock;
 
 /// How often a workload is timed; the least time counts.
 const RUNS: usize = 5;
 
-/// What is to be done, and for which workloads.
-#[derive(Drop)]
-pub struct Task {
-    /// How much is done, and whether times are printed.
-    pub size: Size,
-    /// A workload is done where its name has one of these in it, or where there is none.
-    pub words: Vec<String>,
+/// How the name of the workload of a person's edits reads.
+const TRACE: &str = "trace";
+
+/// Does what the task names.
+pub fn run<R: CpuClock + Print + Input + AllocGlobal>(
+    rt: &R,
+    alloc: Global,
+    task: &Task,
+) -> Result<(), Fault> {
+    match task.mode {
+        Mode::Small | Mode::Full => run_all(rt, alloc, task),
+        Mode::Growth => run_lengths(rt, alloc, task),
+        Mode::Memory => run_memories(rt, alloc, task),
+    }
 }
 
-impl Task {
-    fn wants(&self, name: &str) -> bool {
-        self.words.is_empty() || self.words.iter().any(|word| name.contains(word.as_str()))
+/// The workloads of each text, of worn ropes, of no text, and of a person's edits.
+fn run_all<R: CpuClock + Print + Input + AllocGlobal>(
+    rt: &R,
+    alloc: Global,
+    task: &Task,
+) -> Result<(), Fault> {
+    warm_up(alloc, task)?;
+    for text in &TEXTS {
+        run_on_text(rt, alloc, task, *text, Wear::New)?;
+        run_on_text(rt, alloc, task, *text, Wear::Worn)?;
+    }
+    run_on_none(rt, alloc, task)?;
+    run_trace(rt, alloc, task)
+}
+
+/// Makes a text and lets it go. The memory of a text that is let go tells the allocator how much to
+/// keep when a rope goes, and so what a rope costs: it is to be the same for all workloads.
+fn warm_up(alloc: Global, task: &Task) -> Result<(), Fault> {
+    let _ = Text::Prose.make(alloc, task.size().bytes())?;
+    Ok(())
+}
+
+/// Workloads, and how their names begin and end.
+#[derive(Clone, Copy)]
+struct Round<'a> {
+    start: &'a str,
+    workloads: &'a [Workload],
+    ending: &'a str,
+}
+
+impl Round<'_> {
+    fn name_of(&self, alloc: Global, workload: Workload) -> Result<String, Fault> {
+        let start = self.start;
+        let plain = workload.name();
+        let ending = self.ending;
+        Ok(format!(in alloc; "{start}{plain}{ending}")?)
     }
 
-    fn runs(&self) -> usize {
-        match self.size {
-            Size::Full => RUNS,
-            Size::Small => 1,
+    /// Whether any of them is asked for.
+    fn is_wanted(&self, alloc: Global, task: &Task) -> Result<bool, Fault> {
+        for workload in self.workloads {
+            let name = self.name_of(alloc, *workload)?;
+            if task.wants(name.as_str()) {
+                return Ok(true);
+            }
         }
+        Ok(false)
+    }
+
+    /// Those that are asked for, on one sample.
+    fn run<R: CpuClock + Print>(&self, rt: &R, task: &Task, sample: &Sample) -> Result<(), Fault> {
+        for workload in self.workloads {
+            let name = self.name_of(sample.alloc, *workload)?;
+            if task.wants(name.as_str()) {
+                let best = workload.best_of(rt, sample, runs(task))?;
+                show(rt, task, name.as_str(), best)?;
+            }
+        }
+        Ok(())
     }
 }
 
-/// Does the workloads that the task names. The prose is let go before the mixed text is made, and made again for the small
-/// ropes: the memory of a text that is let go tells the allocator how much to keep when a rope goes, and so what a rope costs.
-pub fn run<R: CpuClock + Print>(rt: &R, alloc: Global, task: &Task) -> Result<(), Fault> {
-    run_on_text(rt, task, Sample::prose(alloc, task.size)?, "/P")?;
-    run_on_text(rt, task, Sample::mixed(alloc, task.size)?, "/M")?;
-    let prose = Sample::prose(alloc, task.size)?;
-    run_on(rt, task, &prose, &OF_SMALL_ROPES, "")
+fn runs(task: &Task) -> usize {
+    match task.mode {
+        Mode::Full | Mode::Growth => RUNS,
+        Mode::Small | Mode::Memory => 1,
+    }
 }
 
-/// The workloads of texts on one sample, which is let go.
+/// The workloads of texts on one of them, which is let go.
 fn run_on_text<R: CpuClock + Print>(
     rt: &R,
+    alloc: Global,
     task: &Task,
-    sample: Sample,
-    ending: &str,
+    text: Text,
+    wear: Wear,
 ) -> Result<(), Fault> {
-    show_text(rt, task, &sample, ending)?;
-    run_on(rt, task, &sample, &OF_TEXTS, ending)
-}
-
-/// A line for the text itself, for which nothing is timed.
-fn show_text<R: Print>(rt: &R, task: &Task, sample: &Sample, ending: &str) -> Result<(), Fault> {
-    let name = format!(in sample.alloc; "text{ending}")?;
-    if !task.wants(name.as_str()) {
+    let round = Round {
+        start: wear.start(),
+        workloads: match wear {
+            Wear::New => &OF_TEXTS,
+            Wear::Worn => &OF_WORN,
+        },
+        ending: text.ending(),
+    };
+    if !round.is_wanted(alloc, task)? {
         return Ok(());
     }
-    let mut sum = Fnv::new();
-    sum.add(sample.text.as_str());
-    let outcome = Outcome {
-        operations: sample.text.len(),
-        nanos: 0,
-        checksum: sum.sum(),
-    };
-    show(rt, task, name.as_str(), outcome)
+    let text = text.make(alloc, task.size().bytes())?;
+    let sample = Sample::new(alloc, text, task.size(), wear)?;
+    round.run(rt, task, &sample)
 }
 
-/// These workloads on one sample.
-fn run_on<R: CpuClock + Print>(
+fn run_on_none<R: CpuClock + Print>(rt: &R, alloc: Global, task: &Task) -> Result<(), Fault> {
+    let round = Round {
+        start: "",
+        workloads: &OF_NONE,
+        ending: "",
+    };
+    let sample = Sample::new(alloc, String::new(alloc), task.size(), Wear::New)?;
+    round.run(rt, task, &sample)
+}
+
+/// The edits on standard input, which is read only where they are asked for.
+fn run_trace<R: CpuClock + Print + Input + AllocGlobal>(
     rt: &R,
+    alloc: Global,
     task: &Task,
-    sample: &Sample,
-    workloads: &[Workload],
-    ending: &str,
 ) -> Result<(), Fault> {
-    for workload in workloads {
-        let plain = workload.name();
-        let name = format!(in sample.alloc; "{plain}{ending}")?;
-        if task.wants(name.as_str()) {
-            let best = workload.best_of(rt, sample, task.runs())?;
-            show(rt, task, name.as_str(), best)?;
+    if !task.wants(TRACE) {
+        return Ok(());
+    }
+    let edits = keystrokes(rt)?;
+    if edits.is_empty() {
+        return Ok(());
+    }
+    let best = best_replay(rt, alloc, edits.as_slice(), runs(task))?;
+    show(rt, task, TRACE, best)
+}
+
+/// The fastest of so many replays, of one at the least.
+fn best_replay<C: CpuClock>(
+    clock: &C,
+    alloc: Global,
+    edits: &[Keystroke],
+    runs: usize,
+) -> Result<Outcome, Fault> {
+    let mut best = replay(clock, alloc, edits)?;
+    for _ in 1..runs {
+        let next = replay(clock, alloc, edits)?;
+        best.nanos = best.nanos.min(next.nanos);
+    }
+    Ok(best)
+}
+
+/// Few workloads on prose of each length.
+fn run_lengths<R: CpuClock + Print>(rt: &R, alloc: Global, task: &Task) -> Result<(), Fault> {
+    for length in &LENGTHS {
+        let round = Round {
+            start: "",
+            workloads: &OF_LENGTHS,
+            ending: length.ending(),
+        };
+        if round.is_wanted(alloc, task)? {
+            let sample = Sample::new(alloc, length.text(alloc)?, Size::Full, Wear::New)?;
+            round.run(rt, task, &sample)?;
+        }
+    }
+    Ok(())
+}
+
+/// The ropes whose memory is asked for.
+fn run_memories<R: CpuClock + Print>(rt: &R, alloc: Global, task: &Task) -> Result<(), Fault> {
+    for memory in &MEMORIES {
+        if task.wants(memory.name()) {
+            let outcome = fill(rt, alloc, *memory)?;
+            show(rt, task, memory.name(), outcome)?;
         }
     }
     Ok(())
@@ -91,8 +195,9 @@ fn run_on<R: CpuClock + Print>(
 fn show<R: Print>(rt: &R, task: &Task, name: &str, outcome: Outcome) -> Result<(), Fault> {
     let operations = outcome.operations;
     let checksum = outcome.checksum;
-    match task.size {
-        Size::Full => {
+    match task.mode {
+        Mode::Small => println!(rt; "{name} {operations} {checksum:016x}")?,
+        Mode::Full | Mode::Growth | Mode::Memory => {
             let count = operations as u64;
             let thousandths = outcome
                 .nanos
@@ -103,7 +208,6 @@ fn show<R: Print>(rt: &R, task: &Task, name: &str, outcome: Outcome) -> Result<(
             let part = thousandths % 1_000;
             println!(rt; "{name} {operations} {whole}.{part:03} {checksum:016x}")?;
         }
-        Size::Small => println!(rt; "{name} {operations} {checksum:016x}")?,
     }
     Ok(())
 }

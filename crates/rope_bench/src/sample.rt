@@ -1,11 +1,14 @@
 //! The text and the rope that workloads are done on.
+use crate::edits::insert_chars_at_random;
 use crate::fault::Fault;
-use crate::texts;
 use ropey::Rope;
 use std::alloc::Global;
 
 /// The bytes of a text, at the least.
 const BYTES: usize = 10_000_000;
+
+/// How many characters are put into a worn rope.
+const WEAR: usize = 200_000;
 
 /// How much smaller texts and numbers of operations are where nothing is timed.
 const SHARE: usize = 100;
@@ -21,10 +24,34 @@ pub enum Size {
 
 impl Size {
     /// So many in full, or a hundredth of it.
-    fn of(self, full: usize) -> usize {
+    pub fn of(self, full: usize) -> usize {
         match self {
             Size::Full => full,
             Size::Small => full / SHARE,
+        }
+    }
+
+    /// The bytes of a text, at the least.
+    pub fn bytes(self) -> usize {
+        self.of(BYTES)
+    }
+}
+
+/// What was done to a rope since it was made of its text.
+#[derive(Clone, Copy)]
+pub enum Wear {
+    /// Nothing.
+    New,
+    /// Characters were put in at random places.
+    Worn,
+}
+
+impl Wear {
+    /// How the names of the workloads on such a rope begin.
+    pub fn start(self) -> &'static str {
+        match self {
+            Wear::New => "",
+            Wear::Worn => "worn_",
         }
     }
 }
@@ -34,31 +61,24 @@ impl Size {
 pub struct Sample {
     /// Where memory is taken from.
     pub alloc: Global,
-    /// The text.
+    /// The text, before any wear.
     pub text: String,
     /// A rope of the text.
     pub rope: Rope,
     size: Size,
+    wear: Wear,
 }
 
 impl Sample {
-    /// Prose and its rope.
-    pub fn prose(alloc: Global, size: Size) -> Result<Sample, Fault> {
-        Sample::new(alloc, texts::prose(alloc, size.of(BYTES))?, size)
-    }
-
-    /// The mixed text and its rope.
-    pub fn mixed(alloc: Global, size: Size) -> Result<Sample, Fault> {
-        Sample::new(alloc, texts::mixed(alloc, size.of(BYTES))?, size)
-    }
-
-    fn new(alloc: Global, text: String, size: Size) -> Result<Sample, Fault> {
-        let rope = Rope::from_str(alloc, text.as_str())?;
+    /// A text and its rope.
+    pub fn new(alloc: Global, text: String, size: Size, wear: Wear) -> Result<Sample, Fault> {
+        let rope = rope_of(alloc, text.as_str(), size, wear)?;
         Ok(Sample {
             alloc,
             text,
             rope,
             size,
+            wear,
         })
     }
 
@@ -67,8 +87,25 @@ impl Sample {
         self.size.of(full)
     }
 
-    /// Another rope of the text, which shares nothing.
+    /// Another rope as the sample's, which shares nothing.
     pub fn fresh(&self) -> Result<Rope, Fault> {
-        Ok(Rope::from_str(self.alloc, self.text.as_str())?)
+        rope_of(self.alloc, self.text.as_str(), self.size, self.wear)
     }
+
+    /// About how many characters so many bytes of the text have.
+    pub fn chars_of_bytes(&self, bytes: usize) -> usize {
+        bytes
+            .saturating_mul(self.rope.len_chars())
+            .checked_div(self.rope.len_bytes())
+            .unwrap_or(0)
+    }
+}
+
+/// A rope of the text, as worn as is asked for.
+fn rope_of(alloc: Global, text: &str, size: Size, wear: Wear) -> Result<Rope, Fault> {
+    let mut rope = Rope::from_str(alloc, text)?;
+    if let Wear::Worn = wear {
+        insert_chars_at_random(&mut rope, size.of(WEAR))?;
+    }
+    Ok(rope)
 }

@@ -2,12 +2,50 @@
 use crate::fault::Fault;
 use crate::numbers::Numbers;
 use std::alloc::Global;
+use std::mem;
 
-/// After so many columns a line of either text ends.
+/// After so many columns a line of prose or of the mixed text ends.
 const COLUMNS: usize = 40;
 
-/// Prose of at least so many bytes: words of small letters, and lines that end in LF.
-pub fn prose(alloc: Global, least: usize) -> Result<String, Fault> {
+/// What stands behind a word of source code.
+const MARKS: [char; 8] = [' ', ' ', ' ', '.', ',', ';', '(', ')'];
+
+/// A kind of text.
+#[derive(Clone, Copy)]
+pub enum Text {
+    /// Words of small letters, and lines that end in LF.
+    Prose,
+    /// Characters of one to four bytes, and several kinds of line breaks.
+    Mixed,
+    /// Indented lines of words and marks, empty lines between them, all of which end in CR LF.
+    Code,
+}
+
+/// All texts, in order.
+pub const TEXTS: [Text; 3] = [Text::Prose, Text::Mixed, Text::Code];
+
+impl Text {
+    /// How the names of the workloads on it end.
+    pub fn ending(self) -> &'static str {
+        match self {
+            Text::Prose => "/P",
+            Text::Mixed => "/M",
+            Text::Code => "/C",
+        }
+    }
+
+    /// The text, of at least so many bytes.
+    pub fn make(self, alloc: Global, least: usize) -> Result<String, Fault> {
+        match self {
+            Text::Prose => prose(alloc, least),
+            Text::Mixed => mixed(alloc, least),
+            Text::Code => code(alloc, least),
+        }
+    }
+}
+
+/// Prose of at least so many bytes.
+fn prose(alloc: Global, least: usize) -> Result<String, Fault> {
     let mut numbers = Numbers::new();
     let mut text = String::new(alloc);
     let mut column: usize = 0;
@@ -44,8 +82,8 @@ fn letter(numbers: &mut Numbers, first: char, count: u32) -> char {
     char::from_u32(code).unwrap_or(first)
 }
 
-/// A text of at least so many bytes with characters of one to four bytes, and several kinds of line breaks.
-pub fn mixed(alloc: Global, least: usize) -> Result<String, Fault> {
+/// A mixed text of at least so many bytes.
+fn mixed(alloc: Global, least: usize) -> Result<String, Fault> {
     let mut numbers = Numbers::new();
     let mut text = String::new(alloc);
     let mut column: usize = 0;
@@ -84,11 +122,75 @@ fn line_end(numbers: &mut Numbers) -> &'static str {
     }
 }
 
-/// The text ten times.
-pub fn ten_times(alloc: Global, text: &str) -> Result<String, Fault> {
+/// Source code of at least so many bytes.
+fn code(alloc: Global, least: usize) -> Result<String, Fault> {
+    let mut numbers = Numbers::new();
+    let mut text = String::new(alloc);
+    for _ in 0..least {
+        if text.len() >= least {
+            break;
+        }
+        if numbers.up_to(7) > 0 {
+            push_statement(&mut text, &mut numbers)?;
+        }
+        text.push_str("\r\n")?;
+    }
+    Ok(text)
+}
+
+/// Tabs, and words with a mark behind each.
+fn push_statement(text: &mut String, numbers: &mut Numbers) -> Result<(), Fault> {
+    for _ in 0..numbers.up_to(4) {
+        text.push('\t')?;
+    }
+    for _ in 0..numbers.up_to(10).wrapping_add(1) {
+        let letters = numbers.up_to(8).wrapping_add(1);
+        push_word(text, numbers, letters)?;
+        text.push(MARKS[numbers.up_to(7)])?;
+    }
+    Ok(())
+}
+
+/// The text so many times.
+pub fn repeated(alloc: Global, text: &str, count: usize) -> Result<String, Fault> {
     let mut all = String::new(alloc);
-    for _ in 0..10 {
+    all.reserve(text.len().saturating_mul(count))?;
+    for _ in 0..count {
         all.push_str(text)?;
     }
     Ok(all)
+}
+
+/// Pieces of whole lines of at least so many bytes each. The rest is left out.
+pub fn pieces_of(alloc: Global, text: &str, least: usize) -> Result<Vec<String>, Fault> {
+    let mut pieces = Vec::new(alloc);
+    let mut piece = String::new(alloc);
+    for line in text.split_inclusive('\n') {
+        piece.push_str(line)?;
+        if piece.len() >= least {
+            pieces.push(mem::replace(&mut piece, String::new(alloc)))?;
+        }
+    }
+    Ok(pieces)
+}
+
+/// As many of the first lines as have so many bytes together.
+pub fn first_lines(alloc: Global, text: &str, least: usize) -> Result<String, Fault> {
+    let mut piece = String::new(alloc);
+    for line in text.split_inclusive('\n') {
+        if piece.len() >= least {
+            break;
+        }
+        piece.push_str(line)?;
+    }
+    Ok(piece)
+}
+
+/// The first lines of a text, each with its LF, which the last may lack.
+pub fn lines_of(alloc: Global, text: &str, most: usize) -> Result<Vec<&str>, Fault> {
+    let mut lines = Vec::new(alloc);
+    for line in text.split_inclusive('\n').take(most) {
+        lines.push(line)?;
+    }
+    Ok(lines)
 }

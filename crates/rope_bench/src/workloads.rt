@@ -1,111 +1,194 @@
 //! The workloads by name.
-use crate::asking::{Question, ask};
-use crate::changing::{self, Changes, change};
-use crate::counting::{Counted, count, slice_from_str};
+use crate::comparing::{Comparing, compare};
+use crate::counting::{Counting, count};
+use crate::cursors::{Walk, go_over};
+use crate::editing::{Edit, edit_rope};
 use crate::fault::Fault;
-use crate::inserting::{self, Inserts, insert};
+use crate::keeping::{Keeping, keep};
+use crate::lookups::{LookUp, look_up};
+use crate::making::{Making, make};
 use crate::measure::Outcome;
+use crate::numbers::Fnv;
+use crate::reading::{Reading, read};
 use crate::sample::Sample;
-use crate::walking::{Walk, go_over};
-use crate::{copying, making};
+use crate::screens::{Screen, draw};
+use crate::slicing::{Slicing, slice};
 use rope_text::LineBreaks;
 use std::time::CpuClock;
 
 /// What is timed.
 #[derive(Clone, Copy)]
 pub enum Workload {
-    FromStr,
-    BuilderByLines,
-    ToString,
-    Insert(Inserts),
-    Change(Changes),
-    CloneAndInsert,
-    Ask(Question),
+    /// Nothing: the text itself in one number.
+    Text,
+    Make(Making),
+    Read(Reading),
+    Edit(Edit),
+    Keep(Keeping),
+    LookUp(LookUp),
+    Slice(Slicing),
     Walk(Walk),
-    EqOtherCutting,
-    ShrinkToFit,
-    Count(Counted),
-    SliceFromStr,
-    FromStrSmall,
-    TypeFromEmpty,
+    Draw(Screen),
+    Compare(Comparing),
+    Count(Counting),
 }
 
-/// Those that are done on each of the two texts, in order.
-pub const OF_TEXTS: [Workload; 38] = [
-    Workload::FromStr,
-    Workload::BuilderByLines,
-    Workload::ToString,
-    Workload::Insert(Inserts::CharsAtRandom),
-    Workload::Insert(Inserts::CharsInARow),
-    Workload::Insert(Inserts::TextsAtRandom),
-    Workload::Change(Changes::Removals),
-    Workload::Change(Changes::Replacements),
-    Workload::Ask(Question::CharToByte),
-    Workload::Ask(Question::CharToLine),
-    Workload::Ask(Question::CharToUtf16),
-    Workload::Ask(Question::ByteToChar),
-    Workload::Ask(Question::ByteToLine),
-    Workload::Ask(Question::LineToChar),
-    Workload::Ask(Question::LineToByte),
-    Workload::Ask(Question::Utf16ToChar),
-    Workload::Ask(Question::Byte),
-    Workload::Ask(Question::Char),
-    Workload::Ask(Question::ChunkAtChar),
+/// Those that are done on each of the texts, in order.
+pub const OF_TEXTS: [Workload; 98] = [
+    Workload::Text,
+    Workload::Make(Making::FromStr),
+    Workload::Make(Making::BuilderByLines),
+    Workload::Make(Making::FromIter),
+    Workload::Make(Making::FromStrSmall),
+    Workload::Make(Making::FromStrPieces),
+    Workload::Make(Making::FromSlice),
+    Workload::Make(Making::FromLongSlice),
+    Workload::Read(Reading::Text),
+    Workload::Read(Reading::LongText),
+    Workload::Read(Reading::Pieces),
+    Workload::Read(Reading::WriteTo),
+    Workload::Read(Reading::ToString),
+    Workload::Read(Reading::IntoString),
+    Workload::Edit(Edit::InsertCharRandom),
+    Workload::Edit(Edit::InsertCharCoherent),
+    Workload::Edit(Edit::InsertStrRandom),
+    Workload::Edit(Edit::InsertLong),
+    Workload::Edit(Edit::RemoveRandom),
+    Workload::Edit(Edit::RemoveInsertRandom),
+    Workload::Edit(Edit::RemoveLong),
+    Workload::Edit(Edit::SplitAndAppend),
+    Workload::Edit(Edit::SplitAnywhere),
+    Workload::Edit(Edit::AppendSmall),
+    Workload::Edit(Edit::AppendSmallFromEmpty),
+    Workload::Edit(Edit::TypeFromEmpty),
+    Workload::Edit(Edit::ShrinkToFitLong),
+    Workload::Keep(Keeping::CloneAndInsert),
+    Workload::Keep(Keeping::Undo),
+    Workload::Keep(Keeping::UndoDrop),
+    Workload::LookUp(LookUp::CharToByte),
+    Workload::LookUp(LookUp::CharToLine),
+    Workload::LookUp(LookUp::CharToUtf16),
+    Workload::LookUp(LookUp::ByteToChar),
+    Workload::LookUp(LookUp::ByteToLine),
+    Workload::LookUp(LookUp::LineToChar),
+    Workload::LookUp(LookUp::LineToByte),
+    Workload::LookUp(LookUp::Utf16ToChar),
+    Workload::LookUp(LookUp::CharToPosition),
+    Workload::LookUp(LookUp::PositionToChar),
+    Workload::LookUp(LookUp::Byte),
+    Workload::LookUp(LookUp::Char),
+    Workload::LookUp(LookUp::Line),
+    Workload::LookUp(LookUp::ChunkAtByte),
+    Workload::LookUp(LookUp::ChunkAtChar),
+    Workload::LookUp(LookUp::ChunkAtLineBreak),
+    Workload::Slice(Slicing::Line),
+    Workload::Slice(Slicing::LookUps),
+    Workload::Slice(Slicing::Conversions),
+    Workload::Slice(Slicing::Items),
+    Workload::Slice(Slicing::ChunksAt),
+    Workload::Slice(Slicing::CursorsAt),
+    Workload::Slice(Slicing::Chars),
+    Workload::Slice(Slicing::Bytes),
+    Workload::Slice(Slicing::Lines),
+    Workload::Slice(Slicing::OfSlice),
+    Workload::Slice(Slicing::OfBytes),
+    Workload::Slice(Slicing::ToString),
+    Workload::Slice(Slicing::IntoString),
+    Workload::Slice(Slicing::ToCow),
+    Workload::Walk(Walk::Bytes),
+    Workload::Walk(Walk::BytesBack),
+    Workload::Walk(Walk::BytesReversed),
+    Workload::Walk(Walk::Chars),
+    Workload::Walk(Walk::CharsBack),
+    Workload::Walk(Walk::CharsReversed),
+    Workload::Walk(Walk::Lines),
+    Workload::Walk(Walk::LinesBack),
+    Workload::Walk(Walk::LinesReversed),
+    Workload::Walk(Walk::Chunks),
+    Workload::Walk(Walk::ChunksBack),
+    Workload::Walk(Walk::ChunksReversed),
+    Workload::Walk(Walk::BytesAtAnd10),
+    Workload::Walk(Walk::CharsAtAnd10),
+    Workload::Walk(Walk::ChunksAtByteAnd3),
+    Workload::Walk(Walk::ChunksAtCharAnd3),
+    Workload::Walk(Walk::ChunksAtBreakAnd3),
+    Workload::Walk(Walk::NextPrev),
+    Workload::Walk(Walk::Zigzag),
+    Workload::Walk(Walk::CloneChars),
+    Workload::Walk(Walk::CloneLines),
+    Workload::Draw(Screen::Bytes),
+    Workload::Draw(Screen::BytesBack),
+    Workload::Draw(Screen::Lengths),
+    Workload::Draw(Screen::Chars),
+    Workload::Draw(Screen::AsStr),
+    Workload::Compare(Comparing::Equal),
+    Workload::Compare(Comparing::Order),
+    Workload::Compare(Comparing::Slices),
+    Workload::Compare(Comparing::Text),
+    Workload::Compare(Comparing::HashFnv),
+    Workload::Compare(Comparing::HashLens),
+    Workload::Count(Counting::Chars),
+    Workload::Count(Counting::Breaks(LineBreaks::Unicode)),
+    Workload::Count(Counting::Breaks(LineBreaks::Lf)),
+    Workload::Count(Counting::Breaks(LineBreaks::CrLf)),
+    Workload::Count(Counting::Pairs),
+    Workload::Count(Counting::Slice),
+];
+
+/// Those that are done on a worn rope of each of the texts, in order.
+pub const OF_WORN: [Workload; 14] = [
+    Workload::Edit(Edit::InsertCharRandom),
+    Workload::Edit(Edit::RemoveRandom),
+    Workload::Edit(Edit::ShrinkToFit),
+    Workload::LookUp(LookUp::CharToByte),
+    Workload::LookUp(LookUp::CharToLine),
+    Workload::LookUp(LookUp::CharToUtf16),
+    Workload::LookUp(LookUp::LineToChar),
+    Workload::LookUp(LookUp::Byte),
+    Workload::LookUp(LookUp::Char),
     Workload::Walk(Walk::Bytes),
     Workload::Walk(Walk::Chars),
     Workload::Walk(Walk::Lines),
     Workload::Walk(Walk::Chunks),
-    Workload::Walk(Walk::CharsBack),
-    Workload::Walk(Walk::LinesBack),
-    Workload::Walk(Walk::CharsAtAnd10),
-    Workload::CloneAndInsert,
-    Workload::Change(Changes::Splits),
-    Workload::Walk(Walk::SliceAndLine),
-    Workload::Walk(Walk::Line),
-    Workload::EqOtherCutting,
-    Workload::ShrinkToFit,
-    Workload::Count(Counted::Chars),
-    Workload::Count(Counted::Breaks(LineBreaks::Unicode)),
-    Workload::Count(Counted::Breaks(LineBreaks::Lf)),
-    Workload::Count(Counted::Breaks(LineBreaks::CrLf)),
-    Workload::Count(Counted::Pairs),
-    Workload::SliceFromStr,
+    Workload::Read(Reading::IntoString),
 ];
 
-/// Those of many small ropes, in order.
-pub const OF_SMALL_ROPES: [Workload; 2] = [Workload::FromStrSmall, Workload::TypeFromEmpty];
+/// That of no text.
+pub const OF_NONE: [Workload; 1] = [Workload::Edit(Edit::GrowFromEmpty)];
+
+/// Those that are done on texts of several lengths, in order.
+pub const OF_LENGTHS: [Workload; 4] = [
+    Workload::Make(Making::FromStr),
+    Workload::LookUp(LookUp::Byte),
+    Workload::LookUp(LookUp::CharToLine),
+    Workload::Edit(Edit::InsertCharRandom),
+];
 
 impl Workload {
     /// Its name.
     pub fn name(self) -> &'static str {
         match self {
-            Workload::FromStr => "from_str",
-            Workload::BuilderByLines => "builder_by_lines",
-            Workload::ToString => "to_string",
-            Workload::Insert(what) => what.name(),
-            Workload::Change(what) => what.name(),
-            Workload::CloneAndInsert => "clone_and_insert",
-            Workload::Ask(what) => what.name(),
+            Workload::Text => "text",
+            Workload::Make(what) => what.name(),
+            Workload::Read(what) => what.name(),
+            Workload::Edit(what) => what.name(),
+            Workload::Keep(what) => what.name(),
+            Workload::LookUp(what) => what.name(),
+            Workload::Slice(what) => what.name(),
             Workload::Walk(what) => what.name(),
-            Workload::EqOtherCutting => "eq_other_cutting",
-            Workload::ShrinkToFit => "shrink_to_fit_100MB",
+            Workload::Draw(what) => what.name(),
+            Workload::Compare(what) => what.name(),
             Workload::Count(what) => what.name(),
-            Workload::SliceFromStr => "slice_from_str_100MB",
-            Workload::FromStrSmall => "from_str_small",
-            Workload::TypeFromEmpty => "type_from_empty",
         }
     }
 
-    /// The fastest of so many runs, of one at the least. What is compared in all of them is made once.
+    /// The fastest of so many runs, of one at the least.
     pub fn best_of<C: CpuClock>(
         self,
         clock: &C,
         sample: &Sample,
         runs: usize,
     ) -> Result<Outcome, Fault> {
-        if let Workload::EqOtherCutting = self {
-            return copying::eq_other_cutting(clock, sample, runs);
-        }
         let mut best = self.run(clock, sample)?;
         for _ in 1..runs {
             let next = self.run(clock, sample)?;
@@ -117,20 +200,21 @@ impl Workload {
     /// Does it once.
     fn run<C: CpuClock>(self, clock: &C, sample: &Sample) -> Result<Outcome, Fault> {
         match self {
-            Workload::FromStr => making::from_str(clock, sample),
-            Workload::BuilderByLines => making::builder_by_lines(clock, sample),
-            Workload::ToString => copying::to_string(clock, sample),
-            Workload::Insert(what) => insert(clock, sample, what),
-            Workload::Change(what) => change(clock, sample, what),
-            Workload::CloneAndInsert => changing::clone_and_insert(clock, sample),
-            Workload::Ask(what) => ask(clock, sample, what),
+            Workload::Text => Ok(Outcome {
+                operations: sample.text.len(),
+                nanos: 0,
+                checksum: Fnv::of(sample.text.as_str().as_bytes()),
+            }),
+            Workload::Make(what) => make(clock, sample, what),
+            Workload::Read(what) => read(clock, sample, what),
+            Workload::Edit(what) => edit_rope(clock, sample, what),
+            Workload::Keep(what) => keep(clock, sample, what),
+            Workload::LookUp(what) => look_up(clock, sample, what),
+            Workload::Slice(what) => slice(clock, sample, what),
             Workload::Walk(what) => go_over(clock, sample, what),
-            Workload::EqOtherCutting => copying::eq_other_cutting(clock, sample, 1),
-            Workload::ShrinkToFit => changing::shrink_to_fit(clock, sample),
+            Workload::Draw(what) => draw(clock, sample, what),
+            Workload::Compare(what) => compare(clock, sample, what),
             Workload::Count(what) => count(clock, sample, what),
-            Workload::SliceFromStr => slice_from_str(clock, sample),
-            Workload::FromStrSmall => making::from_str_small(clock, sample),
-            Workload::TypeFromEmpty => inserting::type_from_empty(clock, sample),
         }
     }
 }

@@ -144,12 +144,10 @@ impl<'a> RopeSlice<'a> {
         if from.max(to) > len {
             return Err(Error::ByteRangeOutOfBounds(start, end, len));
         }
-        let (first, last) = (self.byte_to_char(from), self.byte_to_char(to));
-        if self.char_to_byte(first) != from || self.char_to_byte(last) != to {
-            return Err(Error::ByteRangeNotCharBoundary(start, end));
+        match self.part.byte_range(from, to) {
+            Some(part) => Ok(RopeSlice { part }),
+            None => Err(Error::ByteRangeNotCharBoundary(start, end)),
         }
-        let part = self.part.char_range(first, last);
-        Ok(RopeSlice { part })
     }
 
     /// As `byte_slice`, or `None` exactly where `try_byte_slice` returns an error. Costs a few look-ups, or a count

@@ -93,6 +93,36 @@ pub(crate) fn skip_chars_back(bytes: &[u8], n: usize, chars: usize) -> (usize, u
     (0, n)
 }
 
+/// The same of breaks, by single blocks. The bytes at the end that only say which breaks begin before
+/// them are counted by themselves, since no block is read there.
+pub(crate) fn skip_breaks_back(
+    bytes: &[u8],
+    n: usize,
+    count: usize,
+    breaks: LineBreaks,
+) -> (usize, usize)
+    requires within { n ≤ count }
+    requires count { count ≡ byte_break_count breaks bytes.now }
+    ensures { IsPassed (Mark.Break breaks) bytes.now n result.0 result.1 }
+{
+    let mut at = bytes.len().saturating_sub(ahead(Mark::Break(breaks)));
+    let behind = marks_between(bytes, at, bytes.len(), Mark::Break(breaks));
+    if count - n <= behind {
+        return (at, behind - (count - n));
+    }
+    // What is left are the breaks from `n` on that begin before `at`.
+    let mut left = count - n - behind;
+    while at >= 32 {
+        let passed = marks_in(bytes, at - 32, Mark::Break(breaks));
+        if left <= passed {
+            return (at - 32, passed - left);
+        }
+        left -= passed;
+        at -= 32;
+    }
+    (0, n)
+}
+
 /// The byte at which the character begins that holds the code unit `n`, counted from the byte `from` on, byte by byte.
 pub(crate) fn find_unit(bytes: &[u8], from: usize, n: usize) -> usize
     requires { from ≤ length bytes.now }
@@ -154,6 +184,23 @@ fn skip_known(bytes: &[u8], n: usize, breaks: LineBreaks) -> (usize, TextInfo)
         counts.bytes += 32;
     }
     (left, counts)
+}
+
+/// The byte with which the break `n` begins, where it is known how many breaks there are: from the
+/// side that has fewer of them. Inlined, since each caller's set is a constant.
+#[inline(always)]
+pub(crate) fn find_break(bytes: &[u8], n: usize, count: usize, breaks: LineBreaks) -> usize
+    requires within { n ≤ count }
+    requires count { count ≡ byte_break_count breaks bytes.now }
+    ensures { IsPlaceOf (Mark.Break breaks) bytes.now 0 n result }
+{
+    let (from, left) = if n < count / 2 {
+        let (left, counts) = skip_known(bytes, n, breaks);
+        (counts.bytes, left)
+    } else {
+        skip_breaks_back(bytes, n, count, breaks)
+    };
+    find_from(bytes, from, left, Mark::Break(breaks))
 }
 
 /// How many bytes the character has that begins with the byte.

@@ -17,8 +17,9 @@ pub fn first_sought(unit: Unit) -> usize
     usize::from(matches!(unit, LineBreak))
 }
 
-/// The index in the unit `to` of the place of a text that an index in the unit `from` names, by the counts of the text. Of
-/// bytes and characters it reads the shorter side of the place, and nothing where there are as many of them.
+/// The index in the unit `to` of the place of a text that an index in the unit `from` names, by the
+/// counts of the text. Of bytes, characters and lines it reads the shorter side of the place, and of
+/// bytes and characters nothing where there are as many of them.
 #[inline(always)]
 pub fn convert_in(
     text: &str,
@@ -34,11 +35,10 @@ pub fn convert_in(
 {
     let is_narrow = info.chars == info.bytes;
     match (from, to) {
-        (LineBreak, Byte) => str_utils::line_to_byte_with(text, idx, breaks),
-        (LineBreak, Char) => str_utils::line_to_char_with(text, idx, breaks),
+        (LineBreak, Byte) => str_utils::line_to_byte_of(text, info.break_count, idx, breaks),
+        (LineBreak, Char) => str_utils::line_to_char_of(text, info, idx, breaks),
         (Byte, LineBreak) => str_utils::byte_to_line_of(text, info.break_count, idx, breaks),
-        (Char, LineBreak) if is_narrow => str_utils::byte_to_line_with(text, idx, breaks),
-        (Char, LineBreak) => str_utils::char_to_line_with(text, idx, breaks),
+        (Char, LineBreak) => str_utils::char_to_line_of(text, info, idx, breaks),
         _ if is_narrow => idx.min(info.bytes),
         (Byte, Char) => str_utils::byte_to_char_idx_of(text, info.chars, idx),
         (Char, Byte) => str_utils::char_to_byte_idx_of(text, info.chars, idx),

@@ -1,19 +1,12 @@
-use Rattle.std.proofs.Common.{◌≡◌, true, refl, length, ap, ◌∙◌, arith}
+use Rattle.std.proofs.Common.{◌≡◌, true, refl, length, ap, arith}
 use Rattle.std.specs.Str.{chars}
 use Rattle.rope_text.specs.Text.{byte_len}
-use Rattle.rope_text.proofs.NarrowTexts.{narrow_char_to_line}
 use Rattle.rope_tree.specs.declared.search.Unit.{Unit}
 use Rattle.rope_tree.specs.declared.search.Unit.TheVariants.{Byte, Char, CodeUnit, LineBreak}
 use Rattle.rope_tree.specs.Conversions.{are_converted, converted}
 use Rattle.rope_tree.proofs.ConvertedLaws.{narrow_converted}
 use Rattle.rope_tree.proofs.conversions.convert_in.Goals.{in_default-via-in-LineBreak+in_default, in_default-via-in-Byte+in-Char-1, in_default-via-in-Char+in-Byte-1, in_default-via-in-CodeUnit}
 use Rattle.rope_tree.proofs.conversions.convert_in.Goals as goal
-
-pub returns-in-Char-LineBreak : goal.returns-in-Char-LineBreak
-returns-in-Char-LineBreak c =
-    let t = chars c.args.text.now in
-    let narrow : byte_len t ≡ length t = omega (arith, ap (λ x. x.bytes) c.requires.info, ap (λ x. x.chars) c.requires.info) in
-    rw (c.in-Char-LineBreak.is-0, c.in-Char-LineBreak.is-1) (c.byte_to_line_with.ensures ∙ narrow_char_to_line t narrow c.args.breaks c.args.idx)
 
 same : (c : goal.After-min) → (c.args.from ≡ LineBreak → ⊥) → (c.args.to ≡ LineBreak → c.args.from ≡ CodeUnit) → c.min.result ≡ converted c.args.from c.args.to c.args.breaks (chars c.args.text.now) c.args.idx
 same c from_other to_other =

@@ -1,0 +1,72 @@
+//! The workloads by name.
+
+use crate::measure::Outcome;
+use crate::numbers::Fnv;
+use crate::sample::{Sample, Wear};
+use crate::{
+    comparing, counting, cursors, editing, keeping, lookups, making, reading, screens, slicing,
+};
+
+/// A name, and what is timed.
+pub type Workload = (&'static str, fn(&Sample) -> Outcome);
+
+/// Nothing is timed: the text itself in one number.
+const TEXT: &[Workload] = &[("text", text)];
+
+/// Those that are done on a worn rope of each of the texts, in order.
+const OF_WORN: &[Workload] = &[
+    ("insert_char_random", editing::insert_char_random),
+    ("remove_random", editing::remove_random),
+    ("shrink_to_fit", editing::shrink_to_fit),
+    ("char_to_byte", lookups::char_to_byte),
+    ("char_to_line", lookups::char_to_line),
+    ("char_to_utf16_cu", lookups::char_to_utf16_cu),
+    ("line_to_char", lookups::line_to_char),
+    ("byte", lookups::byte),
+    ("char", lookups::char),
+    ("iter_bytes", cursors::bytes),
+    ("iter_chars", cursors::chars),
+    ("iter_lines", cursors::lines),
+    ("iter_chunks_per_byte", cursors::chunks),
+    ("into_string", reading::into_string),
+];
+
+/// That of no text.
+pub const OF_NONE: &[Workload] = &[("grow_from_empty", editing::grow_from_empty)];
+
+/// Those that are done on texts of several lengths, in order.
+pub const OF_LENGTHS: &[Workload] = &[
+    ("from_str", making::from_str),
+    ("byte", lookups::byte),
+    ("char_to_line", lookups::char_to_line),
+    ("insert_char_random", editing::insert_char_random),
+];
+
+/// Those that are done on each of the texts, in order.
+pub fn of_texts(wear: Wear) -> Vec<Workload> {
+    match wear {
+        Wear::New => [
+            TEXT,
+            making::WORKLOADS,
+            reading::WORKLOADS,
+            editing::WORKLOADS,
+            keeping::WORKLOADS,
+            lookups::WORKLOADS,
+            slicing::WORKLOADS,
+            cursors::WORKLOADS,
+            screens::WORKLOADS,
+            comparing::WORKLOADS,
+            counting::WORKLOADS,
+        ]
+        .concat(),
+        Wear::Worn => OF_WORN.to_vec(),
+    }
+}
+
+fn text(sample: &Sample) -> Outcome {
+    Outcome {
+        operations: sample.text.len(),
+        nanos: 0,
+        checksum: Fnv::of(sample.text.as_bytes()),
+    }
+}

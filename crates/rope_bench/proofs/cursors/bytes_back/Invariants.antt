@@ -1,0 +1,7 @@
+-- Each turn takes one of the items behind.
+use Rattle.std.proofs.Common.{length}
+use Rattle.rope_text.specs.Sides.{behind}
+use Rattle.rope_bench.proofs.cursors.bytes_back.Given as goal
+
+abbrev pub decreases-loop-byte : goal.decreases-loop-byte
+decreases-loop-byte l = length (behind l.bytes)

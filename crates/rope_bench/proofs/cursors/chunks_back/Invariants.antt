@@ -1,0 +1,7 @@
+-- Each turn takes one of the items behind.
+use Rattle.std.proofs.Common.{length}
+use Rattle.rope_text.specs.Sides.{behind}
+use Rattle.rope_bench.proofs.cursors.chunks_back.Given as goal
+
+abbrev pub decreases-loop-chunk : goal.decreases-loop-chunk
+decreases-loop-chunk l = length (behind l.chunks)

@@ -1,7 +1,0 @@
--- Each turn takes one of the items behind.
-use Rattle.std.proofs.Common.{length}
-use Rattle.rope_text.specs.Sides.{behind}
-use Rattle.rope_bench.proofs.walking.chars_back.Given as goal
-
-abbrev pub decreases-loop-c : goal.decreases-loop-c
-decreases-loop-c l = length (behind l.chars)

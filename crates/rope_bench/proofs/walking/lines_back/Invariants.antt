@@ -1,7 +1,0 @@
--- Each turn takes one of the items behind.
-use Rattle.std.proofs.Common.{length}
-use Rattle.rope_text.specs.Sides.{behind}
-use Rattle.rope_bench.proofs.walking.lines_back.Given as goal
-
-abbrev pub decreases-loop-line : goal.decreases-loop-line
-decreases-loop-line l = length (behind l.lines)

@@ -1,0 +1,345 @@
+//! Cursors over a rope.
+use crate::fault::Fault;
+use crate::lookups::byte_of;
+use crate::measure::{Outcome, mix, now, since};
+use crate::numbers::Numbers;
+use crate::sample::Sample;
+use ropey::Rope;
+use ropey::iter::{Bytes, Chars, Chunks, Lines};
+use std::time::CpuClock;
+
+/// How many items are read at each place.
+const STEPS: usize = 10;
+
+/// What is gone over.
+#[derive(Clone, Copy)]
+pub enum Walk {
+    Bytes,
+    BytesBack,
+    BytesReversed,
+    Chars,
+    CharsBack,
+    CharsReversed,
+    Lines,
+    LinesBack,
+    LinesReversed,
+    Chunks,
+    ChunksBack,
+    ChunksReversed,
+    BytesAtAnd10,
+    CharsAtAnd10,
+    ChunksAtByteAnd3,
+    ChunksAtCharAnd3,
+    ChunksAtBreakAnd3,
+    NextPrev,
+    Zigzag,
+    CloneChars,
+    CloneLines,
+}
+
+impl Walk {
+    /// The name of the workload.
+    pub fn name(self) -> &'static str {
+        match self {
+            Walk::Bytes => "iter_bytes",
+            Walk::BytesBack => "iter_bytes_back",
+            Walk::BytesReversed => "iter_bytes_reversed",
+            Walk::Chars => "iter_chars",
+            Walk::CharsBack => "iter_chars_back",
+            Walk::CharsReversed => "iter_chars_reversed",
+            Walk::Lines => "iter_lines",
+            Walk::LinesBack => "iter_lines_back",
+            Walk::LinesReversed => "iter_lines_reversed",
+            Walk::Chunks => "iter_chunks_per_byte",
+            Walk::ChunksBack => "iter_chunks_back_per_byte",
+            Walk::ChunksReversed => "iter_chunks_reversed_per_byte",
+            Walk::BytesAtAnd10 => "bytes_at_and_10",
+            Walk::CharsAtAnd10 => "chars_at_and_10",
+            Walk::ChunksAtByteAnd3 => "chunks_at_byte_and_3",
+            Walk::ChunksAtCharAnd3 => "chunks_at_char_and_3",
+            Walk::ChunksAtBreakAnd3 => "chunks_at_line_break_and_3",
+            Walk::NextPrev => "chars_next_prev",
+            Walk::Zigzag => "chars_zigzag",
+            Walk::CloneChars => "clone_chars",
+            Walk::CloneLines => "clone_lines",
+        }
+    }
+
+    /// How many operations it has: the items, or the places.
+    fn operations(self, sample: &Sample) -> usize {
+        match self {
+            Walk::Bytes | Walk::BytesBack | Walk::BytesReversed => sample.rope.len_bytes(),
+            Walk::Chunks | Walk::ChunksBack | Walk::ChunksReversed => sample.rope.len_bytes(),
+            Walk::Chars | Walk::CharsBack | Walk::CharsReversed => sample.rope.len_chars(),
+            Walk::Lines | Walk::LinesBack | Walk::LinesReversed => sample.rope.len_lines(),
+            Walk::BytesAtAnd10
+            | Walk::CharsAtAnd10
+            | Walk::ChunksAtByteAnd3
+            | Walk::ChunksAtCharAnd3
+            | Walk::ChunksAtBreakAnd3 => sample.operations(100_000),
+            Walk::NextPrev | Walk::Zigzag | Walk::CloneChars => sample.operations(1_000_000),
+            Walk::CloneLines => sample.operations(50_000),
+        }
+    }
+
+    /// What is read, in one number.
+    fn sum(self, rope: &Rope, count: usize) -> Result<u64, Fault> {
+        Ok(match self {
+            Walk::Bytes => sum_of_bytes(rope.bytes()),
+            Walk::BytesBack => bytes_back(rope),
+            Walk::BytesReversed => sum_of_bytes(rope.bytes_at(rope.len_bytes()).reversed()),
+            Walk::Chars => sum_of_chars(rope.chars()),
+            Walk::CharsBack => chars_back(rope),
+            Walk::CharsReversed => sum_of_chars(rope.chars_at(rope.len_chars()).reversed()),
+            Walk::Lines => mix_of_lines(0, rope.lines()),
+            Walk::LinesBack => lines_back(rope),
+            Walk::LinesReversed => mix_of_lines(0, rope.lines_at(rope.len_lines()).reversed()),
+            Walk::Chunks => len_of_chunks(rope.chunks()),
+            Walk::ChunksBack => chunks_back(rope),
+            Walk::ChunksReversed => chunks_reversed(rope),
+            Walk::BytesAtAnd10 => bytes_at(rope, count),
+            Walk::CharsAtAnd10 => chars_at(rope, count),
+            Walk::ChunksAtByteAnd3 => chunks_at_byte(rope, count),
+            Walk::ChunksAtCharAnd3 => chunks_at_char(rope, count),
+            Walk::ChunksAtBreakAnd3 => chunks_at_line_break(rope, count),
+            Walk::NextPrev => next_prev(rope, count),
+            Walk::Zigzag => zigzag(rope, count),
+            Walk::CloneChars => clone_chars(rope, count)?,
+            Walk::CloneLines => clone_lines(rope, count)?,
+        })
+    }
+}
+
+/// Goes over the rope once, or to many places.
+pub fn go_over<C: CpuClock>(clock: &C, sample: &Sample, what: Walk) -> Result<Outcome, Fault> {
+    let operations = what.operations(sample);
+    let start = now(clock)?;
+    let checksum = what.sum(&sample.rope, operations)?;
+    let nanos = since(clock, start)?;
+    Ok(Outcome {
+        operations,
+        nanos,
+        checksum,
+    })
+}
+
+/// The sum of the bytes ahead.
+pub fn sum_of_bytes(bytes: Bytes<'_>) -> u64 {
+    let mut sum: u64 = 0;
+    for byte in bytes {
+        sum = sum.wrapping_add(u64::from(byte));
+    }
+    sum
+}
+
+/// The sum of the numbers of the characters ahead.
+pub fn sum_of_chars(chars: Chars<'_>) -> u64 {
+    let mut sum: u64 = 0;
+    for c in chars {
+        sum = sum.wrapping_add(u64::from(u32::from(c)));
+    }
+    sum
+}
+
+/// The sum of the lengths of the chunks ahead.
+pub fn len_of_chunks(chunks: Chunks<'_>) -> u64 {
+    let mut sum: u64 = 0;
+    for chunk in chunks {
+        sum = sum.wrapping_add(chunk.len() as u64);
+    }
+    sum
+}
+
+/// The lengths of the lines ahead, mixed into a number.
+pub fn mix_of_lines(before: u64, lines: Lines<'_>) -> u64 {
+    let mut sum = before;
+    for line in lines {
+        sum = mix(sum, line.len_chars());
+    }
+    sum
+}
+
+fn bytes_back(rope: &Rope) -> u64 {
+    let mut sum: u64 = 0;
+    let mut bytes = rope.bytes_at(rope.len_bytes());
+    while let Some(byte) = bytes.prev() {
+        sum = sum.wrapping_add(u64::from(byte));
+    }
+    sum
+}
+
+fn chars_back(rope: &Rope) -> u64 {
+    let mut sum: u64 = 0;
+    let mut chars = rope.chars_at(rope.len_chars());
+    while let Some(c) = chars.prev() {
+        sum = sum.wrapping_add(u64::from(u32::from(c)));
+    }
+    sum
+}
+
+fn lines_back(rope: &Rope) -> u64 {
+    let mut sum: u64 = 0;
+    let mut lines = rope.lines_at(rope.len_lines());
+    while let Some(line) = lines.prev() {
+        sum = mix(sum, line.len_chars());
+    }
+    sum
+}
+
+fn chunks_back(rope: &Rope) -> u64 {
+    let mut sum: u64 = 0;
+    let (mut chunks, _, _, _) = rope.chunks_at_byte(rope.len_bytes());
+    while let Some(chunk) = chunks.prev() {
+        sum = sum.wrapping_add(chunk.len() as u64);
+    }
+    sum
+}
+
+fn chunks_reversed(rope: &Rope) -> u64 {
+    let (chunks, _, _, _) = rope.chunks_at_byte(rope.len_bytes());
+    len_of_chunks(chunks.reversed())
+}
+
+fn bytes_at(rope: &Rope, count: usize) -> u64 {
+    let mut numbers = Numbers::new();
+    let most = rope.len_bytes().saturating_sub(STEPS.saturating_add(1));
+    let mut sum: u64 = 0;
+    for _ in 0..count {
+        let mut bytes = rope.bytes_at(numbers.up_to(most));
+        for _ in 0..STEPS {
+            if let Some(byte) = bytes.next() {
+                sum = sum.wrapping_add(u64::from(byte));
+            }
+        }
+    }
+    sum
+}
+
+fn chars_at(rope: &Rope, count: usize) -> u64 {
+    let mut numbers = Numbers::new();
+    let most = rope.len_chars().saturating_sub(STEPS.saturating_add(1));
+    let mut sum: u64 = 0;
+    for _ in 0..count {
+        let mut chars = rope.chars_at(numbers.up_to(most));
+        for _ in 0..STEPS {
+            if let Some(c) = chars.next() {
+                sum = sum.wrapping_add(u64::from(u32::from(c)));
+            }
+        }
+    }
+    sum
+}
+
+/// Whether two chunks ahead have text in them, mixed into a number.
+fn mix_of_two(before: u64, chunks: &mut Chunks<'_>) -> u64 {
+    let mut sum = before;
+    for _ in 0..2 {
+        if let Some(chunk) = chunks.next() {
+            sum = mix(sum, usize::from(!chunk.is_empty()));
+        }
+    }
+    sum
+}
+
+/// The bytes at random places, and two chunks behind each.
+fn chunks_at_byte(rope: &Rope, count: usize) -> u64 {
+    let mut numbers = Numbers::new();
+    let most = rope.len_bytes().saturating_sub(5_001);
+    let mut sum: u64 = 0;
+    for _ in 0..count {
+        let place = numbers.up_to(most);
+        let (mut chunks, before, _, _) = rope.chunks_at_byte(place);
+        if let Some(chunk) = chunks.next() {
+            sum = mix(sum, usize::from(byte_of(chunk, place.wrapping_sub(before))));
+        }
+        sum = mix_of_two(sum, &mut chunks);
+    }
+    sum
+}
+
+/// Whether chunks begin at the character that is asked for, or before it; and two chunks behind
+/// each.
+fn chunks_at_char(rope: &Rope, count: usize) -> u64 {
+    let mut numbers = Numbers::new();
+    let most = rope.len_chars().saturating_sub(5_001);
+    let mut sum: u64 = 0;
+    for _ in 0..count {
+        let place = numbers.up_to(most);
+        let (mut chunks, _, before, _) = rope.chunks_at_char(place);
+        let _ = chunks.next();
+        sum = mix_of_two(mix(sum, usize::from(before <= place)), &mut chunks);
+    }
+    sum
+}
+
+/// Whether chunks have no more line breaks before them than are asked for; and two chunks behind
+/// each.
+fn chunks_at_line_break(rope: &Rope, count: usize) -> u64 {
+    let mut numbers = Numbers::new();
+    let most = rope.len_lines().saturating_sub(501);
+    let mut sum: u64 = 0;
+    for _ in 0..count {
+        let place = numbers.up_to(most);
+        let (mut chunks, _, _, before) = rope.chunks_at_line_break(place);
+        let _ = chunks.next();
+        sum = mix_of_two(mix(sum, usize::from(before <= place)), &mut chunks);
+    }
+    sum
+}
+
+fn next_prev(rope: &Rope, count: usize) -> u64 {
+    let mut sum: u64 = 0;
+    let mut chars = rope.chars_at(rope.len_chars() / 2);
+    for _ in 0..count {
+        if let Some(c) = chars.next() {
+            sum = sum.wrapping_add(u64::from(u32::from(c)));
+        }
+        if let Some(c) = chars.prev() {
+            sum = mix(sum, u32::from(c) as usize);
+        }
+    }
+    sum
+}
+
+fn zigzag(rope: &Rope, count: usize) -> u64 {
+    let mut sum: u64 = 0;
+    let mut chars = rope.chars_at(rope.len_chars() / 2);
+    for _ in 0..count {
+        if let Some(c) = chars.next() {
+            sum = sum.wrapping_add(u64::from(u32::from(c)));
+        }
+        if let Some(c) = chars.next() {
+            sum = sum.wrapping_add(u64::from(u32::from(c)));
+        }
+        if let Some(c) = chars.prev() {
+            sum = mix(sum, u32::from(c) as usize);
+        }
+    }
+    sum
+}
+
+fn clone_chars(rope: &Rope, count: usize) -> Result<u64, Fault> {
+    let mut sum: u64 = 0;
+    let mut chars = rope.chars_at(rope.len_chars() / 2);
+    for _ in 0..count {
+        let _ = chars.next();
+        let mut copy = chars.clone()?;
+        if let Some(c) = copy.next() {
+            sum = sum.wrapping_add(u64::from(u32::from(c)));
+        }
+    }
+    Ok(sum)
+}
+
+fn clone_lines(rope: &Rope, count: usize) -> Result<u64, Fault> {
+    let mut sum: u64 = 0;
+    let mut lines = rope.lines_at(rope.len_lines() / 2);
+    for _ in 0..count {
+        let _ = lines.next();
+        let mut copy = lines.clone()?;
+        if let Some(line) = copy.next() {
+            sum = mix(sum, line.len_chars());
+        }
+    }
+    Ok(sum)
+}

@@ -1,0 +1,102 @@
+//! Clones that are edited, and clones that are kept so that edits can be undone.
+use crate::fault::Fault;
+use crate::measure::{Outcome, mix, now, since, whole};
+use crate::numbers::Numbers;
+use crate::sample::Sample;
+use ropey::Rope;
+use std::alloc::Global;
+use std::time::CpuClock;
+
+/// How many clones are made in full.
+const CLONES: usize = 10_000;
+
+/// What is done with clones.
+#[derive(Clone, Copy)]
+pub enum Keeping {
+    /// Each is edited and let go.
+    CloneAndInsert,
+    /// Each is kept, and the rope edited.
+    Undo,
+    /// All that were kept are let go.
+    UndoDrop,
+}
+
+impl Keeping {
+    /// The name of the workload.
+    pub fn name(self) -> &'static str {
+        match self {
+            Keeping::CloneAndInsert => "clone_and_insert",
+            Keeping::Undo => "undo_10000",
+            Keeping::UndoDrop => "undo_drop",
+        }
+    }
+}
+
+/// Makes clones, or lets them go.
+pub fn keep<C: CpuClock>(clock: &C, sample: &Sample, what: Keeping) -> Result<Outcome, Fault> {
+    let count = sample.operations(CLONES);
+    match what {
+        Keeping::CloneAndInsert => clone_and_insert(clock, sample, count),
+        Keeping::Undo => undo(clock, sample, count),
+        Keeping::UndoDrop => undo_drop(clock, sample, count),
+    }
+}
+
+fn clone_and_insert<C: CpuClock>(
+    clock: &C,
+    sample: &Sample,
+    count: usize,
+) -> Result<Outcome, Fault> {
+    let mut numbers = Numbers::new();
+    let mut checksum: u64 = 0;
+    let start = now(clock)?;
+    for _ in 0..count {
+        let mut copy = sample.rope.clone()?;
+        let place = numbers.up_to(copy.len_chars());
+        copy.insert_char(place, 'x')?;
+        checksum = checksum.wrapping_add(copy.len_bytes() as u64);
+    }
+    let nanos = since(clock, start)?;
+    Ok(Outcome {
+        operations: count,
+        nanos,
+        checksum,
+    })
+}
+
+/// Puts characters in at random places, and gives each rope that was before.
+pub fn edit_and_keep(alloc: Global, rope: &mut Rope, count: usize) -> Result<Vec<Rope>, Fault> {
+    let mut numbers = Numbers::new();
+    let mut kept = Vec::new(alloc);
+    for _ in 0..count {
+        kept.push(rope.clone()?)?;
+        let place = numbers.up_to(rope.len_chars());
+        rope.insert_char(place, 'x')?;
+    }
+    Ok(kept)
+}
+
+fn undo<C: CpuClock>(clock: &C, sample: &Sample, count: usize) -> Result<Outcome, Fault> {
+    let mut rope = sample.fresh()?;
+    let start = now(clock)?;
+    let kept = edit_and_keep(sample.alloc, &mut rope, count)?;
+    let nanos = since(clock, start)?;
+    Ok(Outcome {
+        operations: count,
+        nanos,
+        checksum: mix(whole(&rope), kept.len()),
+    })
+}
+
+fn undo_drop<C: CpuClock>(clock: &C, sample: &Sample, count: usize) -> Result<Outcome, Fault> {
+    let mut rope = sample.fresh()?;
+    let kept = edit_and_keep(sample.alloc, &mut rope, count)?;
+    let start = now(clock)?;
+    drop(kept);
+    let nanos = since(clock, start)?;
+    Ok(Outcome {
+        operations: count,
+        nanos,
+        checksum: whole(&rope),
+    })
+}

@@ -1,0 +1,103 @@
+//! Ropes that are read from readers, and written to writers and strings.
+use crate::fault::Fault;
+use crate::measure::{Outcome, lens, now, since};
+use crate::numbers::Fnv;
+use crate::sample::Sample;
+use crate::texts::{pieces_of, repeated};
+use ropey::Rope;
+use std::time::CpuClock;
+
+/// What is read or written.
+#[derive(Clone, Copy)]
+pub enum Reading {
+    /// The text, read.
+    Text,
+    /// The text ten times, read.
+    LongText,
+    /// Each piece of about two thousand bytes, read.
+    Pieces,
+    /// The rope, written to a list of bytes.
+    WriteTo,
+    /// The rope, copied to a string, as by `to_string` of the Rust crate.
+    ToString,
+    /// The same, as by its `String::from`.
+    IntoString,
+}
+
+impl Reading {
+    /// The name of the workload.
+    pub fn name(self) -> &'static str {
+        match self {
+            Reading::Text => "from_reader_10MB",
+            Reading::LongText => "from_reader_100MB",
+            Reading::Pieces => "from_reader_2KB",
+            Reading::WriteTo => "write_to_vec",
+            Reading::ToString => "to_string",
+            Reading::IntoString => "into_string",
+        }
+    }
+}
+
+/// Reads or writes.
+pub fn read<C: CpuClock>(clock: &C, sample: &Sample, what: Reading) -> Result<Outcome, Fault> {
+    match what {
+        Reading::Text => from_reader(clock, sample, sample.text.as_str()),
+        Reading::LongText => {
+            let text = repeated(sample.alloc, sample.text.as_str(), 10)?;
+            from_reader(clock, sample, text.as_str())
+        }
+        Reading::Pieces => read_pieces(clock, sample),
+        Reading::WriteTo => write_to(clock, sample),
+        Reading::ToString | Reading::IntoString => to_string(clock, sample),
+    }
+}
+
+fn from_reader<C: CpuClock>(clock: &C, sample: &Sample, text: &str) -> Result<Outcome, Fault> {
+    let start = now(clock)?;
+    let rope = Rope::from_reader(sample.alloc, text.as_bytes())?;
+    let nanos = since(clock, start)?;
+    Ok(Outcome {
+        operations: 1,
+        nanos,
+        checksum: lens(&rope),
+    })
+}
+
+fn read_pieces<C: CpuClock>(clock: &C, sample: &Sample) -> Result<Outcome, Fault> {
+    let pieces = pieces_of(sample.alloc, sample.text.as_str(), 2_048)?;
+    let mut checksum: u64 = 0;
+    let start = now(clock)?;
+    for piece in pieces.iter() {
+        let rope = Rope::from_reader(sample.alloc, piece.as_str().as_bytes())?;
+        checksum = checksum.wrapping_add(rope.len_chars() as u64);
+    }
+    let nanos = since(clock, start)?;
+    Ok(Outcome {
+        operations: pieces.len(),
+        nanos,
+        checksum,
+    })
+}
+
+fn write_to<C: CpuClock>(clock: &C, sample: &Sample) -> Result<Outcome, Fault> {
+    let mut bytes: Vec<u8> = Vec::with_capacity(sample.alloc, sample.rope.len_bytes())?;
+    let start = now(clock)?;
+    sample.rope.write_to(&mut bytes)?;
+    let nanos = since(clock, start)?;
+    Ok(Outcome {
+        operations: 1,
+        nanos,
+        checksum: Fnv::of(bytes.as_slice()),
+    })
+}
+
+fn to_string<C: CpuClock>(clock: &C, sample: &Sample) -> Result<Outcome, Fault> {
+    let start = now(clock)?;
+    let text = sample.rope.try_to_string(sample.alloc)?;
+    let nanos = since(clock, start)?;
+    Ok(Outcome {
+        operations: 1,
+        nanos,
+        checksum: Fnv::of(text.as_str().as_bytes()),
+    })
+}
