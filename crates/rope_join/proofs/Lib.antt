@@ -8,3 +8,6 @@ pub mod Empty
 pub mod Seams
 pub mod PartCounts
 pub mod PartTexts
+pub mod Puts
+pub mod Gaps
+pub mod OneWay

@@ -1,16 +1,29 @@
 //! Trees with a part taken out or put in, and put one behind the other. Where a CR and an LF would meet at a seam, the two
 //! become a leaf of their own between what stands before and what follows, so that no CR LF lies across two leaves.
-ghost use Rattle.std.specs.Prelude.{◌≡◌, ◌+◌, ◌*◌, ◌<◌, ◌≤◌, ◌^◌, ◌++◌, length, take, drop, max, IfOk, OnOk, OnErr};
+ghost use Rattle.std.specs.Prelude.{◌≡◌, ◌+◌, ◌*◌, ◌<◌, ◌≤◌, ◌^◌, ◌++◌, true, length, take, drop, max, IfOk, OnOk, OnErr};
 ghost use Rattle.std.specs.Str.{chars};
 ghost use Rattle.rope_text.specs.Text.{byte_len};
+ghost use Rattle.rope_text.specs.Cutting.{parts_crlf};
 ghost use Rattle.rope_text.specs.Edit.{inserted, removed};
 ghost use Rattle.rope_tree.specs.Tree.{text, IsTree};
 
 use crate::cut::{back, front};
+use crate::gap::{join_sides, without};
 use crate::join::join;
-use rope_text::Steps;
+use rope_text::{MAX_BYTES, Steps};
 use rope_tree::build::build;
 use rope_tree::{Made, Maker, Node, char_at, is_lf, leaf_of, remove_at};
+
+/// Whether a CR at the end of the first `end` characters of the one tree meets an LF behind the first `start` of the other.
+fn meets(left: &Node, end: usize, right: &Node, start: usize) -> bool
+    requires tree { IsTree left.now }
+    requires end { end ≤ length (text left.now) }
+    requires start { start ≤ length (text right.now) }
+    ensures value { result ≡ parts_crlf (take end (text left.now)) (drop start (text right.now)) }
+    ensures tree { result ≡ true → IsTree right.now }
+{
+    end > 0 && char_at(left, end - 1, &mut Steps::new()) == '\r' && is_lf(right, start)
+}
 
 /// The first `end` characters of the one tree, and behind them what follows the first `start` of the other.
 fn join_parts(maker: &mut Maker, left: &Node, end: usize, right: &Node, start: usize) -> Made<Node>
@@ -27,16 +40,14 @@ fn join_parts(maker: &mut Maker, left: &Node, end: usize, right: &Node, start: u
     ensures made { maker.new.made
         ≤ maker.old.made + 16 * max left.now.height right.now.height + 11 }
 {
-    if end > 0 && char_at(left, end - 1, &mut Steps::new()) == '\r' && is_lf(right, start) {
-        let first = front(maker, left, end - 1)?;
-        let second = back(maker, right, start + 1)?;
-        let pair = leaf_of(maker, left.line_breaks(), "\r\n")?;
-        let ended = join(maker, &first, &pair)?;
-        return join(maker, &ended, &second);
+    if !meets(left, end, right, start) {
+        return join_sides(maker, left, end, right, start);
     }
-    let first = front(maker, left, end)?;
-    let second = back(maker, right, start)?;
-    join(maker, &first, &second)
+    let first = front(maker, left, end - 1)?;
+    let second = back(maker, right, start + 1)?;
+    let pair = leaf_of(maker, left.line_breaks(), "\r\n")?;
+    let ended = join(maker, &first, &pair)?;
+    join(maker, &ended, &second)
 }
 
 /// The text of the one tree and then that of the other.
@@ -52,8 +63,25 @@ pub fn append(maker: &mut Maker, left: &Node, right: &Node) -> Made<Node>
     join_parts(maker, left, left.info().chars, right, 0)
 }
 
+/// A tree without the characters from `start` up to `end`, at least one.
+fn removed_from(maker: &mut Maker, root: &Node, start: usize, end: usize) -> Made<Node>
+    requires ordered { start < end }
+    requires within { end ≤ length (text root.now) }
+    ensures text { IfOk result (λ node. text node ≡ removed (text root.now) start end) }
+    ensures breaks { IfOk result (λ node. node.breaks ≡ root.now.breaks) }
+    ensures tree { IfOk result (λ node. IsTree node) }
+    ensures own { IsTree root.now }
+    ensures made { maker.new.made ≤ maker.old.made + 16 * root.now.height + 11 }
+{
+    if root.height() == 0 || meets(root, start, root, end) {
+        return join_parts(maker, root, start, root, end);
+    }
+    without(maker, root, start, end)
+}
+
 /// Takes the characters from `start` up to `end` out, at least one: where they lie in one leaf that may do without them, in
-/// that leaf alone; else by a front and a back that are joined. A new tree takes the old one's place last of all.
+/// that leaf alone, which isn't tried with more of them than a leaf has bytes; else by a tree without them. It takes the old one's
+/// place last of all.
 pub fn remove(maker: &mut Maker, root: &mut Node, start: usize, end: usize) -> Made<()>
     requires ordered { start < end }
     requires within { end ≤ length (text root.old) }
@@ -63,10 +91,10 @@ pub fn remove(maker: &mut Maker, root: &mut Node, start: usize, end: usize) -> M
     ensures err { OnErr result (root.new ≡ root.old) }
     ensures made { maker.new.made ≤ maker.old.made + 17 * root.old.height + 12 }
 {
-    if remove_at(maker, root, start, end)? {
+    if end - start < MAX_BYTES && remove_at(maker, root, start, end)? {
         return Ok(());
     }
-    *root = join_parts(maker, root, start, root, end)?;
+    *root = removed_from(maker, root, start, end)?;
     Ok(())
 }
 

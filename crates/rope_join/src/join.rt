@@ -100,7 +100,7 @@ fn end_of(node: &Node, least: usize, is_last: bool) -> (Row<'_>, &Node, Row<'_>)
 
 /// Two trees that aren't empty as one tree or two of the greater height. It goes down the sides on which they meet to nodes of
 /// one height, and where the two leaves there have too few bytes together, down to those, which become one.
-fn unite(maker: &mut Maker, left: &Node, right: &Node) -> Made<Nodes>
+pub(crate) fn unite(maker: &mut Maker, left: &Node, right: &Node) -> Made<Nodes>
     requires left_some { 1 ≤ length left.now.leaves }
     requires right_some { 1 ≤ length right.now.leaves }
     requires join { CanJoin left.now right.now }

@@ -1,0 +1,121 @@
+-- What a removal puts in the place of the children that it cuts, on the way down to them.
+use Rattle.std.proofs.Common.{◌≡◌, ℕ, zero, suc, ◌+◌, ◌^◌, ◌<◌, ◌≤◌, List, [], ◌∷◌, ◌++◌, length, take, drop, get_or, refl, sym, ap, ap₂, subst, ◌∙◌, arith, inl, inr}
+use Rattle.std.specs.List.{concat}
+use Rattle.std.proofs.lemmas.Bool.{cases_lt}
+use Rattle.std.proofs.lemmas.List.{append_assoc, length-append, length-take-le, length-drop, take-take}
+use Rattle.rope_text.specs.Text.{byte_len}
+use Rattle.rope_text.specs.Dense.{IsDenseBehind, last_bytes}
+use Rattle.rope_text.proofs.Measures.{IsMeasure-byte_len}
+use Rattle.rope_text.proofs.CuttingLaws.{concat-append}
+use Rattle.rope_text.proofs.DenseLaws.{last_bytes-append, last_bytes-some, dense-append, dense_left, dense_right, dense_more}
+use Rattle.rope_tree.specs.Leaves.{AreLeaves, IsSeam}
+use Rattle.rope_tree.specs.Tree.{Tree, text, joined, leaves_of, height_of, breaks_of, tree_over, IsTree, AreChildren}
+use Rattle.rope_tree.proofs.LeafLaws.{leaves-append, leaves_right, leaves_seam, leaves_near, seam_of_left, seam_of_right, seam-take, seam-drop}
+use Rattle.rope_tree.proofs.NodeLaws.{joined_parts, joined_more}
+use Rattle.rope_tree.proofs.BuildLaws.{nodes_le}
+use Rattle.rope_tree.proofs.InsertLaws.{seam_ends, seam_begins}
+use Rattle.rope_join.specs.Cut.{SparesFirst, SparesLast, IsSides}
+use Rattle.rope_join.specs.Put.{CanPut, IsPut, leaves_behind}
+use Rattle.rope_join.proofs.Cuts.{CutsAt, front_text, back_text}
+use Rattle.rope_join.proofs.Seams.{left_le}
+
+-- a child doesn't depend on what a place past the end would give
+pub same_child : (ts : List Tree) (i : ℕ) (d e : Tree) → i < length ts → get_or ts i d ≡ get_or ts i e
+same_child [] i d e lt = absurd (omega arith)
+same_child (t ∷ ts) zero d e lt = refl
+same_child (t ∷ ts) (suc i) d e lt = same_child ts i d e (omega arith)
+
+-- the child that holds a place isn't before the one that holds a smaller place
+pub in_order : (ts : List Tree) (i j start end to : ℕ) (b : Tree) → i ≤ length ts → j < length ts → get_or ts j b ≡ b → length (joined (take i ts)) ≤ start → start < end → end ≡ length (joined (take j ts)) + to → to ≤ length (text b) → i < j + 1
+in_order ts i j start end to b li lj here from less at le = elim (cases_lt i (j + 1)) [
+  | inl l ↦ l
+  | inr ge ↦
+      let more = ap length (joined_more ts j b lj ∙ ap (λ t. joined (take j ts) ++ text t) here) ∙ length-append (joined (take j ts)) (text b) in
+      let parts = ap length (joined_parts (take i ts) (j + 1)) ∙ length-append (joined (take (j + 1) (take i ts))) (joined (drop (j + 1) (take i ts))) in
+      let same = ap (λ us. length (joined us)) (take-take (j + 1) i ts ge) in
+      absurd (omega (arith, more, parts, same, from, less, at, le))
+]
+
+module _ (n : Tree) (ts : List Tree) (i j from to start end : ℕ) (a b : Tree)
+    (s : CutsAt n (take i ts) a (drop (i + 1) ts)) (t : CutsAt n (take j ts) b (drop (j + 1) ts))
+    (at_start : start ≡ length (joined (take i ts)) + from) (at_end : end ≡ length (joined (take j ts)) + to)
+    (in_a : from ≤ length (text a)) (in_b : to ≤ length (text b)) (le : start ≤ end) (whole : IsTree n) where
+  front : take start (text n) ≡ joined (take i ts) ++ take from (text a)
+  front = front_text n (take i ts) a (drop (i + 1) ts) s start from a at_start in_a
+
+  rear : drop end (text n) ≡ drop to (text b) ++ joined (drop (j + 1) ts)
+  rear = back_text n (take j ts) b (drop (j + 1) ts) t end to b at_end in_b
+
+  sizes : byte_len (joined (take i ts)) + byte_len (take from (text a)) + (byte_len (drop to (text b)) + byte_len (joined (drop (j + 1) ts))) < 2 ^ 63
+  sizes = omega (arith, whole.fits, left_le (text n) start end le, ap byte_len front, ap byte_len rear, IsMeasure-byte_len.joined (joined (take i ts)) (take from (text a)), IsMeasure-byte_len.joined (drop to (text b)) (joined (drop (j + 1) ts)))
+
+  pub part_fits : byte_len (take from (text a)) + byte_len (drop to (text b)) < 2 ^ 63
+  part_fits = omega (arith, sizes)
+
+  pub part_seam : IsSeam (take start (text n)) (drop end (text n)) → IsSeam (take from (text a)) (drop to (text b))
+  part_seam seam =
+      seam_of_right (joined (take i ts)) (take from (text a)) (drop to (text b))
+      (seam_of_left (joined (take i ts) ++ take from (text a)) (drop to (text b)) (joined (drop (j + 1) ts)) (rw (front, rear) at seam))
+
+  module _ (part : Tree) (c : AreChildren (breaks_of ts) (height_of ts) ts) (is : n ≡ tree_over ts) (sides : IsSides a from b to part) where
+    texts : concat (leaves_behind ts (j + 1) part) ≡ take from (text a) ++ (drop to (text b) ++ joined (drop (j + 1) ts))
+    texts = concat-append part.leaves (leaves_of (drop (j + 1) ts)) ∙ ap (λ x. x ++ joined (drop (j + 1) ts)) sides.text_is ∙ append_assoc (take from (text a)) (drop to (text b)) (joined (drop (j + 1) ts))
+
+    same_breaks : part.breaks ≡ breaks_of ts
+    same_breaks = sides.same_breaks ∙ s.same_breaks ∙ ap (λ u. u.breaks) is
+
+    some_front : SparesFirst from a → 1 ≤ length (take from (text a))
+    some_front spares = omega (arith, spares.some, spares.past, length-take-le from (text a) in_a)
+
+    behind_part : SparesLast to b → AreLeaves (leaves_behind ts (j + 1) part)
+    behind_part spares =
+        let ys = leaves_of (drop (j + 1) ts) in
+        let own : AreLeaves (b.leaves ++ ys) = leaves_right (leaves_of (take j ts)) (b.leaves ++ ys) t.leaves in
+        let more : 1 ≤ length (drop to (text b)) = omega (arith, spares.some, spares.before, length-drop to (text b)) in
+        let last : IsSeam (drop to (text b)) (concat ys) = seam-drop to (text b) (concat ys) (leaves_seam b.leaves ys own) in
+        let seam : IsSeam (text part) (concat ys) = rw sides.text_is (seam_ends (take from (text a)) (drop to (text b)) (concat ys) more last) in
+        leaves-append part.leaves ys sides.leaves (leaves_right b.leaves ys own) seam
+        (dense-append 492 part.leaves ys sides.leaves.dense (dense_more (last_bytes 492 b.leaves) (last_bytes 492 part.leaves) ys (sides.ahead spares 492 492) (leaves_near b.leaves ys own)))
+
+    pub can_put : 0 < i → i < j + 1 → j + 1 < length ts → IsTree part → SparesFirst from a → SparesLast to b → CanPut ts i (j + 1) part
+    can_put some ordered more tree first last =
+        let xs = leaves_of (take i ts) in
+        let rest = a.leaves ++ leaves_of (drop (i + 1) ts) in
+        let begins : IsSeam (concat xs) (text a) = seam_of_left (concat xs) (text a) (concat (leaves_of (drop (i + 1) ts))) (subst (IsSeam (concat xs)) (concat-append a.leaves (leaves_of (drop (i + 1) ts))) (leaves_seam xs rest s.leaves)) in
+        record {
+          some_before = omega (arith, some);
+          ordered = ordered;
+          some_behind = more;
+          tree = tree;
+          some = leaves_some part.leaves (omega (arith, some_front first, ap length sides.text_is, length-append (take from (text a)) (drop to (text b))));
+          same_breaks = same_breaks;
+          not_higher = omega (arith, sides.not_higher, s.above, t.above, ap (λ u. u.height) is);
+          behind = behind_part last;
+          seam = rw texts (seam_begins (concat xs) (take from (text a)) (drop to (text b) ++ joined (drop (j + 1) ts)) (some_front first) (seam-take from (concat xs) (text a) begins));
+          near = sides.behind first (last_bytes 492 xs) (dense_left (last_bytes 492 xs) a.leaves (leaves_of (drop (i + 1) ts)) (dense_right 492 xs rest s.leaves.dense));
+          fits = omega (arith, sizes, ap byte_len texts, IsMeasure-byte_len.joined (take from (text a)) (drop to (text b) ++ joined (drop (j + 1) ts)), IsMeasure-byte_len.joined (drop to (text b)) (joined (drop (j + 1) ts)));
+        }
+      where
+        leaves_some : (ls : List (List ℕ)) → 1 ≤ length (concat ls) → 1 ≤ length ls
+        leaves_some [] none = absurd (omega arith)
+        leaves_some (x ∷ xs) none = omega arith
+
+    pub put_sides : (r : Tree) → 0 < i → i < j + 1 → j + 1 < length ts → IsPut ts i (j + 1) part r → IsSides n start n end r
+    put_sides r some ordered more p =
+        let xs = leaves_of (take i ts) in
+        let ys = leaves_of (drop (j + 1) ts) in
+        let some_xs : 1 ≤ length xs = omega (arith, nodes_le a.breaks a.height (take i ts) s.before, length-take-le i ts (omega (arith, ordered, more))) in
+        let some_ys : 1 ≤ length ys = omega (arith, nodes_le b.breaks b.height (drop (j + 1) ts) t.after, length-drop (j + 1) ts, more) in
+        record {
+          text_is = p.recuts.same_text ∙ concat-append xs (leaves_behind ts (j + 1) part) ∙ ap (λ z. concat xs ++ z) texts ∙ sym (append_assoc (joined (take i ts)) (take from (text a)) (drop to (text b) ++ joined (drop (j + 1) ts))) ∙ ap₂ (λ x y. x ++ y) (sym front) (sym rear);
+          same_breaks = p.same_breaks ∙ sym (ap (λ u. u.breaks) is);
+          leaves = p.recuts.leaves;
+          not_higher = omega (arith, p.not_higher, ap (λ u. u.height) is);
+          behind = λ _ m dense. p.recuts.behind some_xs m (dense_left m xs (a.leaves ++ leaves_of (drop (i + 1) ts)) (subst (IsDenseBehind m) s.leaves_is dense));
+          ahead = λ _ m k.
+              let front_leaves = leaves_of (take j ts) in
+              let old : last_bytes m n.leaves ≡ last_bytes (last_bytes 0 part.leaves) ys =
+              ap (last_bytes m) t.leaves_is ∙ last_bytes-append m front_leaves (b.leaves ++ ys) ∙ last_bytes-append (last_bytes m front_leaves) b.leaves ys ∙ last_bytes-some (last_bytes (last_bytes m front_leaves) b.leaves) (last_bytes 0 part.leaves) ys some_ys in
+              let new = p.recuts.last (omega (arith, some_ys, length-append part.leaves ys)) 0 k in
+              omega (arith, old, last_bytes-append 0 part.leaves ys, new);
+        }

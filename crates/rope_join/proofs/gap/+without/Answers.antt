@@ -1,0 +1,153 @@
+use Rattle.std.proofs.Common.{◌≡◌, ℕ, ◌+◌, ◌-◌, ◌≤◌, ◌<◌, length, take, drop, get_or, sym, ap, subst, ◌∙◌, arith}
+use Rattle.std.proofs.lemmas.Result.{IfOk-weaker}
+use Rattle.rope_tree.specs.declared.search.Unit.TheVariants.{Char}
+use Rattle.rope_tree.specs.Leaves.{IsSeam}
+use Rattle.rope_tree.specs.Tree.{text, joined, height_of, breaks_of, IsTree}
+use Rattle.rope_tree.proofs.NodeLaws.{small_totals}
+use Rattle.rope_tree.proofs.Descents.{Descends, descends}
+use Rattle.rope_join.specs.Cut.{IsSides}
+use Rattle.rope_join.proofs.Cuts.{CutsAt, cuts_at}
+use Rattle.rope_join.proofs.OneWay.{same_child, in_order, part_fits, part_seam, can_put, put_sides}
+use Rattle.rope_join.proofs.Seams.{left_le}
+use Rattle.rope_join.proofs.gap.+without.Goals.{After-total_before, Joined-first-last, After-total_before-2, then-first-last+in_ok-part, else-first-last+in_ok-part-2}
+use Rattle.rope_join.proofs.gap.+without.Goals as goal
+
+-- the ways down to the two ends
+first_down : (t : ℕ) (c : After-total_before t) → Descends (breaks_of c.in-Inner.children.now) Char c.args.start c.in-Inner.children.now c.place_of-first.result c.index-children-first.result c.total_before.result
+first_down t c =
+    descends Char c.args.start c.in-Inner.children.now c.in-Inner.totals.now c.place_of-first.result c.index-children-first.result c.total_before.result
+    c.in-Inner.ensures.children c.in-Inner.ensures.totals_right c.place_of-first.ensures.within c.index-children-first.is
+    c.total_before.ensures.first c.total_before.ensures.later c.place_of-first.ensures.before c.place_of-first.ensures.past
+
+last_down : (t : ℕ) (c : After-total_before-2 t) → Descends (breaks_of c.in-Inner.children.now) Char (c.args.end - 1) c.in-Inner.children.now c.place_of-last.result c.index-children-last.result c.total_before-2.result
+last_down t c =
+    descends Char (c.args.end - 1) c.in-Inner.children.now c.in-Inner.totals.now c.place_of-last.result c.index-children-last.result c.total_before-2.result
+    c.in-Inner.ensures.children c.in-Inner.ensures.totals_right c.place_of-last.ensures.within c.index-children-last.is
+    c.total_before-2.ensures.first c.total_before-2.ensures.later c.place_of-last.ensures.before c.place_of-last.ensures.past
+
+pub place_of-first-requires-clause-small : goal.place_of-first-requires-clause-small
+place_of-first-requires-clause-small t c = small_totals _ c.in-Inner.totals.now c.in-Inner.children.now c.in-Inner.ensures.totals_right c.in-Inner.ensures.children.fits
+
+pub place_of-last-requires-clause-small : goal.place_of-last-requires-clause-small
+place_of-last-requires-clause-small t c = small_totals _ c.in-Inner.totals.now c.in-Inner.children.now c.in-Inner.ensures.totals_right c.in-Inner.ensures.children.fits
+
+first_cut : (t : ℕ) (c : After-total_before-2 t) → CutsAt c.args.node.now (take c.place_of-first.result c.in-Inner.children.now) c.index-children-first.result (drop (c.place_of-first.result + 1) c.in-Inner.children.now)
+first_cut t c =
+    let d = first_down t (goal.at.After-total_before-2 t c).After-total_before in
+    let ts = c.in-Inner.children.now in
+    cuts_at c.args.node.now (breaks_of ts) (height_of ts) ts c.place_of-first.result c.index-children-first.result c.in-Inner.ensures.is d.children d.within d.child_is
+
+last_cut : (t : ℕ) (c : After-total_before-2 t) → CutsAt c.args.node.now (take c.place_of-last.result c.in-Inner.children.now) c.index-children-last.result (drop (c.place_of-last.result + 1) c.in-Inner.children.now)
+last_cut t c =
+    let d = last_down t c in
+    let ts = c.in-Inner.children.now in
+    cuts_at c.args.node.now (breaks_of ts) (height_of ts) ts c.place_of-last.result c.index-children-last.result c.in-Inner.ensures.is d.children d.within d.child_is
+
+at_start : (t : ℕ) (c : After-total_before-2 t) → c.args.start ≡ length (joined (take c.place_of-first.result c.in-Inner.children.now)) + (c.args.start - c.total_before.result.chars)
+at_start t c = let d = first_down t (goal.at.After-total_before-2 t c).After-total_before in omega (arith, d.not_past, ap (λ x. x.chars) d.front_is)
+
+at_end : (t : ℕ) (c : After-total_before-2 t) → c.args.end ≡ length (joined (take c.place_of-last.result c.in-Inner.children.now)) + (c.args.end - c.total_before-2.result.chars)
+at_end t c = let d = last_down t c in omega (arith, d.not_past, ap (λ x. x.chars) d.front_is)
+
+in_first : (t : ℕ) (c : After-total_before-2 t) → c.args.start - c.total_before.result.chars ≤ length (text c.index-children-first.result)
+in_first t c = let d = first_down t (goal.at.After-total_before-2 t c).After-total_before in omega (arith, d.past, d.not_past)
+
+in_last : (t : ℕ) (c : After-total_before-2 t) → c.args.end - c.total_before-2.result.chars ≤ length (text c.index-children-last.result)
+in_last t c = let d = last_down t c in omega (arith, d.past, d.not_past, c.requires.ordered)
+
+ordered : (t : ℕ) (c : After-total_before-2 t) → c.place_of-first.result < c.place_of-last.result + 1
+ordered t c =
+    let d = first_down t (goal.at.After-total_before-2 t c).After-total_before in
+    let e = last_down t c in
+    in_order c.in-Inner.children.now c.place_of-first.result c.place_of-last.result c.args.start c.args.end (c.args.end - c.total_before-2.result.chars) c.index-children-last.result (omega (arith, d.within)) e.within e.child_is (omega (arith, at_start t c)) c.requires.ordered (at_end t c) (in_last t c)
+
+-- both ends in one child
+one_child : (t : ℕ) (c : After-total_before-2 t) → c.place_of-first.result ≡ c.place_of-last.result → c.index-children-last.result ≡ c.index-children-first.result
+one_child t c same =
+    let d = first_down t (goal.at.After-total_before-2 t c).After-total_before in
+    let e = last_down t c in
+    let ts = c.in-Inner.children.now in
+    sym e.child_is ∙ ap (λ k. get_or ts k c.index-children-last.result) (sym same) ∙ same_child ts c.place_of-first.result c.index-children-last.result c.index-children-first.result d.within ∙ d.child_is
+
+whole : (t : ℕ) (c : After-total_before-2 t) → IsTree c.args.node.now
+whole t c = c.height-height.ensures.tree
+
+seam : (t : ℕ) (c : After-total_before-2 t) → IsSeam (take (c.args.start - c.total_before.result.chars) (text c.index-children-first.result)) (drop (c.args.end - c.total_before-2.result.chars) (text c.index-children-last.result))
+seam t c =
+    part_seam c.args.node.now c.in-Inner.children.now c.place_of-first.result c.place_of-last.result (c.args.start - c.total_before.result.chars) (c.args.end - c.total_before-2.result.chars) c.args.start c.args.end c.index-children-first.result c.index-children-last.result
+    (first_cut t c) (last_cut t c) (at_start t c) (at_end t c) (in_first t c) (in_last t c) (omega (arith, c.requires.ordered)) (whole t c) c.requires.seam
+
+pub overflow_sub-from : goal.overflow_sub-from
+overflow_sub-from t c =
+    let d = first_down t (goal.at.overflow_sub-from t c).After-total_before in
+    omega (arith, d.not_past)
+
+pub overflow_sub-to : goal.overflow_sub-to
+overflow_sub-to t c =
+    let d = last_down t (goal.at.overflow_sub-to t c).After-total_before-2 in
+    omega (arith, d.not_past)
+
+pub without-requires : goal.without-requires
+without-requires t c =
+    let e = (goal.at.without-requires t c).After-total_before-2 in
+    let one = one_child t e c.if-first-last.true in
+    let fronts = ap (λ k. length (joined (take k c.in-Inner.children.now))) c.if-first-last.true in (
+      omega (arith, c.decreases, (first_cut t e).above),
+      (
+        omega (arith, at_start t e, at_end t e, fronts, c.requires.ordered),
+        (
+          omega (arith, in_last t e, ap (λ u. length (text u)) one),
+          subst (λ u. IsSeam (take (c.args.start - c.total_before.result.chars) (text c.index-children-first.result)) (drop (c.args.end - c.total_before-2.result.chars) (text u))) one (seam t e),
+        ),
+      ),
+    )
+
+pub join_sides-requires-clause-end : goal.join_sides-requires-clause-end
+join_sides-requires-clause-end t c = in_first t (goal.at.join_sides-requires-clause-end t c).After-total_before-2
+
+pub join_sides-requires-clause-start : goal.join_sides-requires-clause-start
+join_sides-requires-clause-start t c = in_last t (goal.at.join_sides-requires-clause-start t c).After-total_before-2
+
+pub join_sides-requires-clause-same_breaks : goal.join_sides-requires-clause-same_breaks
+join_sides-requires-clause-same_breaks t c =
+    let e = (goal.at.join_sides-requires-clause-same_breaks t c).After-total_before-2 in
+    (last_cut t e).same_breaks ∙ sym (first_cut t e).same_breaks
+
+pub join_sides-requires-clause-seam : goal.join_sides-requires-clause-seam
+join_sides-requires-clause-seam t c = seam t (goal.at.join_sides-requires-clause-seam t c).After-total_before-2
+
+pub join_sides-requires-clause-fits : goal.join_sides-requires-clause-fits
+join_sides-requires-clause-fits t c =
+    let e = (goal.at.join_sides-requires-clause-fits t c).After-total_before-2 in
+    part_fits c.args.node.now c.in-Inner.children.now c.place_of-first.result c.place_of-last.result (c.args.start - c.total_before.result.chars) (c.args.end - c.total_before-2.result.chars) c.args.start c.args.end c.index-children-first.result c.index-children-last.result
+    (first_cut t e) (last_cut t e) (at_start t e) (at_end t e) (in_first t e) (in_last t e) (omega (arith, c.requires.ordered)) (whole t e)
+
+-- what takes the children's place
+part_is : (t : ℕ) (c : Joined-first-last t) → IsSides c.index-children-first.result (c.args.start - c.total_before.result.chars) c.index-children-last.result (c.args.end - c.total_before-2.result.chars) c.if-first-last.part × IsTree c.if-first-last.part
+part_is t c = elim c.if-first-last.branch [
+  | then-first-last+in_ok-part w ↦
+      let e = (goal.at.Joined-first-last t c).After-total_before-2 in
+      let one = one_child t e w.if-first-last.true in
+      rw (one, w.part-is) (w.in_ok-part.ensures.sides, w.in_ok-part.ensures.tree)
+  | else-first-last+in_ok-part-2 w ↦ rw w.part-is (w.in_ok-part-2.ensures.sides, w.in_ok-part-2.ensures.tree)
+]
+
+pub put-requires-clause-put : goal.put-requires-clause-put
+put-requires-clause-put t c =
+    let e = (goal.at.put-requires-clause-put t c).After-total_before-2 in
+    let is = part_is t (goal.at.put-requires-clause-put t c).Joined-first-last in
+    can_put c.args.node.now c.in-Inner.children.now c.place_of-first.result c.place_of-last.result (c.args.start - c.total_before.result.chars) (c.args.end - c.total_before-2.result.chars) c.args.start c.args.end c.index-children-first.result c.index-children-last.result
+    (first_cut t e) (last_cut t e) (at_start t e) (at_end t e) (in_first t e) (in_last t e) (omega (arith, c.requires.ordered)) (whole t e) c.if-first-last.part c.in-Inner.ensures.children c.in-Inner.ensures.is is.0
+    (omega (arith, c.if-first-gt0.true)) (ordered t e) (omega (arith, c.if-last-children.true)) is.1 (c.spares_first.ensures c.if-spares_first.true) (c.spares_last.ensures c.if-spares_last.true)
+
+pub returns-then-spares_last-clause-sides : goal.returns-then-spares_last-clause-sides
+returns-then-spares_last-clause-sides t c =
+    let e = (goal.at.returns-then-spares_last-clause-sides t c).After-total_before-2 in
+    let is = part_is t (goal.at.returns-then-spares_last-clause-sides t c).Joined-first-last in
+    IfOk-weaker c.put.result _ (IsSides c.args.node.now c.args.start c.args.node.now c.args.end) (λ r p.
+    put_sides c.args.node.now c.in-Inner.children.now c.place_of-first.result c.place_of-last.result (c.args.start - c.total_before.result.chars) (c.args.end - c.total_before-2.result.chars) c.args.start c.args.end c.index-children-first.result c.index-children-last.result
+    (first_cut t e) (last_cut t e) (at_start t e) (at_end t e) (in_first t e) (in_last t e) (omega (arith, c.requires.ordered)) (whole t e) c.if-first-last.part c.in-Inner.ensures.children c.in-Inner.ensures.is is.0
+    r (omega (arith, c.if-first-gt0.true)) (ordered t e) (omega (arith, c.if-last-children.true)) p) c.put.ensures.put
+
+pub join_sides-requires-2-clause-fits : goal.join_sides-requires-2-clause-fits
+join_sides-requires-2-clause-fits t c = omega (arith, c.height-height.ensures.tree.fits, left_le (text c.args.node.now) c.args.start c.args.end (omega (arith, c.requires.ordered)))
