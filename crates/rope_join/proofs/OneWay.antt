@@ -10,12 +10,11 @@ use Rattle.rope_text.proofs.CuttingLaws.{concat-append}
 use Rattle.rope_text.proofs.DenseLaws.{last_bytes-append, last_bytes-some, dense-append, dense_left, dense_right, dense_more}
 use Rattle.rope_tree.specs.Leaves.{AreLeaves, IsSeam}
 use Rattle.rope_tree.specs.Tree.{Tree, text, joined, leaves_of, height_of, breaks_of, tree_over, IsTree, AreChildren}
-use Rattle.rope_tree.proofs.LeafLaws.{leaves-append, leaves_right, leaves_seam, leaves_near, seam_of_left, seam_of_right, seam-take, seam-drop}
+use Rattle.rope_tree.proofs.LeafLaws.{leaves-append, leaves_right, leaves_seam, leaves_near, seam_of_left, seam_of_right, seam_left_longer, seam_right_longer, seam-take, seam-drop}
 use Rattle.rope_tree.proofs.NodeLaws.{joined_parts, joined_more}
 use Rattle.rope_tree.proofs.BuildLaws.{nodes_le}
-use Rattle.rope_tree.proofs.InsertLaws.{seam_ends, seam_begins}
 use Rattle.rope_join.specs.Cut.{SparesFirst, SparesLast, IsSides}
-use Rattle.rope_join.specs.Put.{CanPut, IsPut, leaves_behind}
+use Rattle.rope_join.specs.Put.{CanPut, IsPut, leaves_before, leaves_behind}
 use Rattle.rope_join.proofs.Cuts.{CutsAt, front_text, back_text}
 use Rattle.rope_join.proofs.Seams.{left_le}
 
@@ -64,41 +63,55 @@ module _ (n : Tree) (ts : List Tree) (i j from to start end : ℕ) (a b : Tree)
     same_breaks : part.breaks ≡ breaks_of ts
     same_breaks = sides.same_breaks ∙ s.same_breaks ∙ ap (λ u. u.breaks) is
 
-    some_front : SparesFirst from a → 1 ≤ length (take from (text a))
-    some_front spares = omega (arith, spares.some, spares.past, length-take-le from (text a) in_a)
-
-    behind_part : SparesLast to b → AreLeaves (leaves_behind ts (j + 1) part)
-    behind_part spares =
-        let ys = leaves_of (drop (j + 1) ts) in
-        let own : AreLeaves (b.leaves ++ ys) = leaves_right (leaves_of (take j ts)) (b.leaves ++ ys) t.leaves in
-        let more : 1 ≤ length (drop to (text b)) = omega (arith, spares.some, spares.before, length-drop to (text b)) in
-        let last : IsSeam (drop to (text b)) (concat ys) = seam-drop to (text b) (concat ys) (leaves_seam b.leaves ys own) in
-        let seam : IsSeam (text part) (concat ys) = rw sides.text_is (seam_ends (take from (text a)) (drop to (text b)) (concat ys) more last) in
-        leaves-append part.leaves ys sides.leaves (leaves_right b.leaves ys own) seam
-        (dense-append 492 part.leaves ys sides.leaves.dense (dense_more (last_bytes 492 b.leaves) (last_bytes 492 part.leaves) ys (sides.ahead spares 492 492) (leaves_near b.leaves ys own)))
-
-    pub can_put : 0 < i → i < j + 1 → j + 1 < length ts → IsTree part → SparesFirst from a → SparesLast to b → CanPut ts i (j + 1) part
-    can_put some ordered more tree first last =
-        let xs = leaves_of (take i ts) in
-        let rest = a.leaves ++ leaves_of (drop (i + 1) ts) in
-        let begins : IsSeam (concat xs) (text a) = seam_of_left (concat xs) (text a) (concat (leaves_of (drop (i + 1) ts))) (subst (IsSeam (concat xs)) (concat-append a.leaves (leaves_of (drop (i + 1) ts))) (leaves_seam xs rest s.leaves)) in
-        record {
-          some_before = omega (arith, some);
-          ordered = ordered;
-          some_behind = more;
-          tree = tree;
-          some = leaves_some part.leaves (omega (arith, some_front first, ap length sides.text_is, length-append (take from (text a)) (drop to (text b))));
-          same_breaks = same_breaks;
-          not_higher = omega (arith, sides.not_higher, s.above, t.above, ap (λ u. u.height) is);
-          behind = behind_part last;
-          seam = rw texts (seam_begins (concat xs) (take from (text a)) (drop to (text b) ++ joined (drop (j + 1) ts)) (some_front first) (seam-take from (concat xs) (text a) begins));
-          near = sides.behind first (last_bytes 492 xs) (dense_left (last_bytes 492 xs) a.leaves (leaves_of (drop (i + 1) ts)) (dense_right 492 xs rest s.leaves.dense));
-          fits = omega (arith, sizes, ap byte_len texts, IsMeasure-byte_len.joined (take from (text a)) (drop to (text b) ++ joined (drop (j + 1) ts)), IsMeasure-byte_len.joined (drop to (text b)) (joined (drop (j + 1) ts)));
-        }
+    -- what the leaves at its ends may stand beside, where they are those of the children
+    pub some_by : SparesFirst from a → 1 ≤ length part.leaves
+    some_by spares = leaves_some part.leaves (omega (arith, spares.some, spares.past, length-take-le from (text a) in_a, ap length sides.text_is, length-append (take from (text a)) (drop to (text b))))
       where
         leaves_some : (ls : List (List ℕ)) → 1 ≤ length (concat ls) → 1 ≤ length ls
         leaves_some [] none = absurd (omega arith)
         leaves_some (x ∷ xs) none = omega arith
+
+    pub near_by : SparesFirst from a → IsDenseBehind (last_bytes 492 (leaves_before ts i)) part.leaves
+    near_by spares =
+        let xs = leaves_of (take i ts) in
+        sides.behind spares (last_bytes 492 xs) (dense_left (last_bytes 492 xs) a.leaves (leaves_of (drop (i + 1) ts)) (dense_right 492 xs (a.leaves ++ leaves_of (drop (i + 1) ts)) s.leaves.dense))
+
+    own : AreLeaves (b.leaves ++ leaves_of (drop (j + 1) ts))
+    own = leaves_right (leaves_of (take j ts)) (b.leaves ++ leaves_of (drop (j + 1) ts)) t.leaves
+
+    pub next_by : SparesLast to b → IsDenseBehind (last_bytes 492 part.leaves) (leaves_of (drop (j + 1) ts))
+    next_by spares =
+        let ys = leaves_of (drop (j + 1) ts) in
+        dense_more (last_bytes 492 b.leaves) (last_bytes 492 part.leaves) ys (sides.ahead spares 492 492) (leaves_near b.leaves ys own)
+
+    module _ (seam : IsSeam (take start (text n)) (drop end (text n))) (next : IsDenseBehind (last_bytes 492 part.leaves) (leaves_of (drop (j + 1) ts))) where
+      ends : IsSeam (joined (take i ts) ++ take from (text a)) (drop to (text b) ++ joined (drop (j + 1) ts))
+      ends = rw (front, rear) at seam
+
+      behind_part : AreLeaves (leaves_behind ts (j + 1) part)
+      behind_part =
+          let ys = leaves_of (drop (j + 1) ts) in
+          let last : IsSeam (drop to (text b)) (concat ys) = seam-drop to (text b) (concat ys) (leaves_seam b.leaves ys own) in
+          let whole_seam : IsSeam (text part) (concat ys) = rw sides.text_is (seam_left_longer (take from (text a)) (drop to (text b)) (concat ys) (seam_of_right (joined (take i ts)) (take from (text a)) (drop to (text b) ++ concat ys) ends) last) in
+          leaves-append part.leaves ys sides.leaves (leaves_right b.leaves ys own) whole_seam (dense-append 492 part.leaves ys sides.leaves.dense next)
+
+      pub can_put : 0 < i → i < j + 1 → j + 1 < length ts → IsTree part → 1 ≤ length part.leaves → IsDenseBehind (last_bytes 492 (leaves_before ts i)) part.leaves → CanPut ts i (j + 1) part
+      can_put some ordered more tree some_part near =
+          let xs = leaves_of (take i ts) in
+          let begins : IsSeam (concat xs) (text a) = seam_of_left (concat xs) (text a) (concat (leaves_of (drop (i + 1) ts))) (subst (IsSeam (concat xs)) (concat-append a.leaves (leaves_of (drop (i + 1) ts))) (leaves_seam xs (a.leaves ++ leaves_of (drop (i + 1) ts)) s.leaves)) in
+          record {
+            some_before = omega (arith, some);
+            ordered = ordered;
+            some_behind = more;
+            tree = tree;
+            some = some_part;
+            same_breaks = same_breaks;
+            not_higher = omega (arith, sides.not_higher, s.above, t.above, ap (λ u. u.height) is);
+            behind = behind_part;
+            seam = rw texts (seam_right_longer (concat xs) (take from (text a)) (drop to (text b) ++ joined (drop (j + 1) ts)) (seam-take from (concat xs) (text a) begins) ends);
+            near = near;
+            fits = omega (arith, sizes, ap byte_len texts, IsMeasure-byte_len.joined (take from (text a)) (drop to (text b) ++ joined (drop (j + 1) ts)), IsMeasure-byte_len.joined (drop to (text b)) (joined (drop (j + 1) ts)));
+          }
 
     pub put_sides : (r : Tree) → 0 < i → i < j + 1 → j + 1 < length ts → IsPut ts i (j + 1) part r → IsSides n start n end r
     put_sides r some ordered more p =

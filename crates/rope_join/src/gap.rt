@@ -1,16 +1,18 @@
 //! Trees without some of their characters, on one way down to where the two ends of what goes part. There both ends are cut, and on
 //! the way back each node's children are listed once, with what became of those that were cut.
 ghost use Rattle.std.specs.Prelude.{◌≡◌, ◌+◌, ◌*◌, ◌<◌, ◌≤◌, ◌^◌, true, length, take, drop, max, IfOk};
+ghost use Rattle.rope_text.specs.declared.TheConstants.{MIN_PAIR_BYTES};
+ghost use Rattle.rope_text.specs.Dense.{IsDenseBehind, last_bytes};
 ghost use Rattle.rope_text.specs.Text.{byte_len};
 ghost use Rattle.rope_tree.specs.Leaves.{IsSeam};
 ghost use Rattle.rope_tree.specs.Totals.{HasTotals};
-ghost use Rattle.rope_tree.specs.Tree.{text, height_of, breaks_of, IsTree, AreFamily};
+ghost use Rattle.rope_tree.specs.Tree.{text, leaves_of, height_of, breaks_of, IsTree, AreFamily};
 ghost use Rattle.rope_join.specs.Cut.{SparesFirst, SparesLast, IsSides};
-ghost use Rattle.rope_join.specs.Put.{CanPut, IsPut};
+ghost use Rattle.rope_join.specs.Put.{CanPut, IsPut, leaves_before};
 
 use crate::cut::{back, front};
-use crate::join::{join, unite};
-use rope_text::Steps;
+use crate::join::{end_leaf_len, join, unite};
+use rope_text::{MIN_PAIR_BYTES, Steps};
 use rope_tree::{
     Made, Maker, Node, Row, Totals, Unit, View, pack, pack_over, place_of, root_of, total_before,
 };
@@ -19,24 +21,48 @@ use rope_tree::{
 /// not by its square. Such a tree has half a gigabyte at the least.
 const MAX_ONE_WAY: usize = 6;
 
-/// Whether a cut before a character leaves the first child whole, and with it the first leaf.
+/// Whether a cut before a character leaves the first leaf whole, and that is not the only one.
 fn spares_first(node: &Node, at: usize) -> bool
     ensures { result ≡ true → SparesFirst at node.now }
 {
     match node.view() {
         View::Leaf(_) => false,
-        View::Inner(_, totals) => totals.get(0).chars <= at,
+        View::Inner(children, totals) => {
+            totals.get(0).chars <= at || spares_first(&children[0], at)
+        }
     }
 }
 
-/// Whether a cut before a character leaves the last child whole, and with it the last leaf.
+/// Whether a cut before a character leaves the last leaf whole, and that is not the only one.
 fn spares_last(node: &Node, at: usize) -> bool
     ensures { result ≡ true → SparesLast at node.now }
 {
     match node.view() {
         View::Leaf(_) => false,
-        View::Inner(children, totals) => at <= total_before(totals, children.len() - 1).chars,
+        View::Inner(children, totals) => {
+            let last = children.len() - 1;
+            let before = total_before(totals, last).chars;
+            at <= before || spares_last(&children[last], at - before)
+        }
     }
+}
+
+/// Whether a tree's leaves at its two ends have bytes enough to stand in the place of the children from `first` up to `past`.
+fn stands(children: &[Node], first: usize, past: usize, part: &Node) -> bool
+    requires children { AreFamily children.now }
+    requires some_before { 1 ≤ first }
+    requires ordered { first < past }
+    requires some_behind { past < length children.now }
+    requires some { 1 ≤ length part.now.leaves }
+    ensures near { result ≡ true
+        → IsDenseBehind (last_bytes MIN_PAIR_BYTES (leaves_before children.now first)) part.now.leaves }
+    ensures next { result ≡ true → IsDenseBehind (last_bytes MIN_PAIR_BYTES part.now.leaves)
+        (leaves_of (drop past children.now)) }
+{
+    let before = end_leaf_len(&children[first - 1], true);
+    let behind = end_leaf_len(&children[past], false);
+    before + end_leaf_len(part, false) >= MIN_PAIR_BYTES
+        && end_leaf_len(part, true) + behind >= MIN_PAIR_BYTES
 }
 
 /// The first `end` characters of the one tree, and behind them what follows the first `start` of the other, where no CR meets an LF.
@@ -112,17 +138,21 @@ pub(crate) fn without(maker: &mut Maker, node: &Node, start: usize, end: usize) 
         let (left, right) = (&children[first], &children[last]);
         let from = start - total_before(totals, first).chars;
         let to = end - total_before(totals, last).chars;
-        if first > 0
-            && last + 1 < children.len()
-            && spares_first(left, from)
-            && spares_last(right, to)
-        {
-            let part = if first == last {
-                without(maker, left, from, to)?
-            } else {
-                join_sides(maker, left, from, right, to)?
-            };
-            return put(maker, children, totals, first, last + 1, &part);
+        if first > 0 && last + 1 < children.len() {
+            if height == 1 {
+                // Of leaves at most three are made before it is known whether they can stand there.
+                let part = join_sides(maker, left, from, right, to)?;
+                if part.info().bytes > 0 && stands(children, first, last + 1, &part) {
+                    return put(maker, children, totals, first, last + 1, &part);
+                }
+            } else if spares_first(left, from) && spares_last(right, to) {
+                let part = if first == last {
+                    without(maker, left, from, to)?
+                } else {
+                    join_sides(maker, left, from, right, to)?
+                };
+                return put(maker, children, totals, first, last + 1, &part);
+            }
         }
     }
     join_sides(maker, node, start, node, end)

@@ -15,7 +15,7 @@ use rope_tree::{
 };
 
 /// The bytes of a tree's last leaf or of its first: those of the one and of the other that stands behind it say whether it may.
-fn end_leaf_len(node: &Node, is_last: bool) -> usize
+pub(crate) fn end_leaf_len(node: &Node, is_last: bool) -> usize
     requires { 1 ≤ length node.now.leaves }
     ensures last { IsTrue is_last → (n : ℕ) → result ≡ last_bytes n node.now.leaves }
     ensures first { is_last ≡ false → (n : ℕ)

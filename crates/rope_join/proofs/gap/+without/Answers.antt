@@ -7,9 +7,10 @@ use Rattle.rope_tree.proofs.NodeLaws.{small_totals}
 use Rattle.rope_tree.proofs.Descents.{Descends, descends}
 use Rattle.rope_join.specs.Cut.{IsSides}
 use Rattle.rope_join.proofs.Cuts.{CutsAt, cuts_at}
-use Rattle.rope_join.proofs.OneWay.{same_child, in_order, part_fits, part_seam, can_put, put_sides}
+use Rattle.rope_join.proofs.Gaps.{leaf_by_bytes}
+use Rattle.rope_join.proofs.OneWay.{same_child, in_order, part_fits, part_seam, some_by, near_by, next_by, can_put, put_sides}
 use Rattle.rope_join.proofs.Seams.{left_le}
-use Rattle.rope_join.proofs.gap.+without.Goals.{After-total_before, Joined-first-last, After-total_before-2, then-first-last+in_ok-part, else-first-last+in_ok-part-2}
+use Rattle.rope_join.proofs.gap.+without.Goals.{After-total_before, Joined-first-last, After-total_before-2, then-first-last+in_ok-part-2, else-first-last+in_ok-part-3}
 use Rattle.rope_join.proofs.gap.+without.Goals as goal
 
 -- the ways down to the two ends
@@ -105,16 +106,30 @@ without-requires t c =
 pub join_sides-requires-clause-end : goal.join_sides-requires-clause-end
 join_sides-requires-clause-end t c = in_first t (goal.at.join_sides-requires-clause-end t c).After-total_before-2
 
+pub join_sides-requires-else-first-last-clause-end : goal.join_sides-requires-else-first-last-clause-end
+join_sides-requires-else-first-last-clause-end t c = in_first t (goal.at.join_sides-requires-else-first-last-clause-end t c).After-total_before-2
+
 pub join_sides-requires-clause-start : goal.join_sides-requires-clause-start
 join_sides-requires-clause-start t c = in_last t (goal.at.join_sides-requires-clause-start t c).After-total_before-2
+
+pub join_sides-requires-else-first-last-clause-start : goal.join_sides-requires-else-first-last-clause-start
+join_sides-requires-else-first-last-clause-start t c = in_last t (goal.at.join_sides-requires-else-first-last-clause-start t c).After-total_before-2
 
 pub join_sides-requires-clause-same_breaks : goal.join_sides-requires-clause-same_breaks
 join_sides-requires-clause-same_breaks t c =
     let e = (goal.at.join_sides-requires-clause-same_breaks t c).After-total_before-2 in
     (last_cut t e).same_breaks ∙ sym (first_cut t e).same_breaks
 
+pub join_sides-requires-else-first-last-clause-same_breaks : goal.join_sides-requires-else-first-last-clause-same_breaks
+join_sides-requires-else-first-last-clause-same_breaks t c =
+    let e = (goal.at.join_sides-requires-else-first-last-clause-same_breaks t c).After-total_before-2 in
+    (last_cut t e).same_breaks ∙ sym (first_cut t e).same_breaks
+
 pub join_sides-requires-clause-seam : goal.join_sides-requires-clause-seam
 join_sides-requires-clause-seam t c = seam t (goal.at.join_sides-requires-clause-seam t c).After-total_before-2
+
+pub join_sides-requires-else-first-last-clause-seam : goal.join_sides-requires-else-first-last-clause-seam
+join_sides-requires-else-first-last-clause-seam t c = seam t (goal.at.join_sides-requires-else-first-last-clause-seam t c).After-total_before-2
 
 pub join_sides-requires-clause-fits : goal.join_sides-requires-clause-fits
 join_sides-requires-clause-fits t c =
@@ -122,31 +137,65 @@ join_sides-requires-clause-fits t c =
     part_fits c.args.node.now c.in-Inner.children.now c.place_of-first.result c.place_of-last.result (c.args.start - c.total_before.result.chars) (c.args.end - c.total_before-2.result.chars) c.args.start c.args.end c.index-children-first.result c.index-children-last.result
     (first_cut t e) (last_cut t e) (at_start t e) (at_end t e) (in_first t e) (in_last t e) (omega (arith, c.requires.ordered)) (whole t e)
 
+pub join_sides-requires-else-first-last-clause-fits : goal.join_sides-requires-else-first-last-clause-fits
+join_sides-requires-else-first-last-clause-fits t c =
+    let e = (goal.at.join_sides-requires-else-first-last-clause-fits t c).After-total_before-2 in
+    part_fits c.args.node.now c.in-Inner.children.now c.place_of-first.result c.place_of-last.result (c.args.start - c.total_before.result.chars) (c.args.end - c.total_before-2.result.chars) c.args.start c.args.end c.index-children-first.result c.index-children-last.result
+    (first_cut t e) (last_cut t e) (at_start t e) (at_end t e) (in_first t e) (in_last t e) (omega (arith, c.requires.ordered)) (whole t e)
+
 -- what takes the children's place
 part_is : (t : ℕ) (c : Joined-first-last t) → IsSides c.index-children-first.result (c.args.start - c.total_before.result.chars) c.index-children-last.result (c.args.end - c.total_before-2.result.chars) c.if-first-last.part × IsTree c.if-first-last.part
 part_is t c = elim c.if-first-last.branch [
-  | then-first-last+in_ok-part w ↦
+  | then-first-last+in_ok-part-2 w ↦
       let e = (goal.at.Joined-first-last t c).After-total_before-2 in
       let one = one_child t e w.if-first-last.true in
-      rw (one, w.part-is) (w.in_ok-part.ensures.sides, w.in_ok-part.ensures.tree)
-  | else-first-last+in_ok-part-2 w ↦ rw w.part-is (w.in_ok-part-2.ensures.sides, w.in_ok-part-2.ensures.tree)
+      rw (one, w.part-is) (w.in_ok-part-2.ensures.sides, w.in_ok-part-2.ensures.tree)
+  | else-first-last+in_ok-part-3 w ↦ rw w.part-is (w.in_ok-part-3.ensures.sides, w.in_ok-part-3.ensures.tree)
 ]
 
-pub put-requires-clause-put : goal.put-requires-clause-put
-put-requires-clause-put t c =
-    let e = (goal.at.put-requires-clause-put t c).After-total_before-2 in
-    let is = part_is t (goal.at.put-requires-clause-put t c).Joined-first-last in
+pub put-requires-then-spares_last-clause-put : goal.put-requires-then-spares_last-clause-put
+put-requires-then-spares_last-clause-put t c =
+    let e = (goal.at.put-requires-then-spares_last-clause-put t c).After-total_before-2 in
+    let is = part_is t (goal.at.put-requires-then-spares_last-clause-put t c).Joined-first-last in
+    let first = c.spares_first.ensures c.if-spares_first.true in
+    let last = c.spares_last.ensures c.if-spares_last.true in
     can_put c.args.node.now c.in-Inner.children.now c.place_of-first.result c.place_of-last.result (c.args.start - c.total_before.result.chars) (c.args.end - c.total_before-2.result.chars) c.args.start c.args.end c.index-children-first.result c.index-children-last.result
-    (first_cut t e) (last_cut t e) (at_start t e) (at_end t e) (in_first t e) (in_last t e) (omega (arith, c.requires.ordered)) (whole t e) c.if-first-last.part c.in-Inner.ensures.children c.in-Inner.ensures.is is.0
-    (omega (arith, c.if-first-gt0.true)) (ordered t e) (omega (arith, c.if-last-children.true)) is.1 (c.spares_first.ensures c.if-spares_first.true) (c.spares_last.ensures c.if-spares_last.true)
+    (first_cut t e) (last_cut t e) (at_start t e) (at_end t e) (in_first t e) (in_last t e) (omega (arith, c.requires.ordered)) (whole t e) c.if-first-last.part c.in-Inner.ensures.children c.in-Inner.ensures.is is.0 c.requires.seam
+    (next_by c.args.node.now c.in-Inner.children.now c.place_of-first.result c.place_of-last.result (c.args.start - c.total_before.result.chars) (c.args.end - c.total_before-2.result.chars) c.args.start c.args.end c.index-children-first.result c.index-children-last.result
+    (first_cut t e) (last_cut t e) (at_start t e) (at_end t e) (in_first t e) (in_last t e) (omega (arith, c.requires.ordered)) (whole t e) c.if-first-last.part c.in-Inner.ensures.children c.in-Inner.ensures.is is.0 last)
+    (omega (arith, c.if-first-gt0.true)) (ordered t e) (omega (arith, c.if-last-children.true)) is.1
+    (some_by c.args.node.now c.in-Inner.children.now c.place_of-first.result c.place_of-last.result (c.args.start - c.total_before.result.chars) (c.args.end - c.total_before-2.result.chars) c.args.start c.args.end c.index-children-first.result c.index-children-last.result
+    (first_cut t e) (last_cut t e) (at_start t e) (at_end t e) (in_first t e) (in_last t e) (omega (arith, c.requires.ordered)) (whole t e) c.if-first-last.part c.in-Inner.ensures.children c.in-Inner.ensures.is is.0 first)
+    (near_by c.args.node.now c.in-Inner.children.now c.place_of-first.result c.place_of-last.result (c.args.start - c.total_before.result.chars) (c.args.end - c.total_before-2.result.chars) c.args.start c.args.end c.index-children-first.result c.index-children-last.result
+    (first_cut t e) (last_cut t e) (at_start t e) (at_end t e) (in_first t e) (in_last t e) (omega (arith, c.requires.ordered)) (whole t e) c.if-first-last.part c.in-Inner.ensures.children c.in-Inner.ensures.is is.0 first)
 
 pub returns-then-spares_last-clause-sides : goal.returns-then-spares_last-clause-sides
 returns-then-spares_last-clause-sides t c =
     let e = (goal.at.returns-then-spares_last-clause-sides t c).After-total_before-2 in
     let is = part_is t (goal.at.returns-then-spares_last-clause-sides t c).Joined-first-last in
-    IfOk-weaker c.put.result _ (IsSides c.args.node.now c.args.start c.args.node.now c.args.end) (λ r p.
+    IfOk-weaker c.put-then-spares_last.result _ (IsSides c.args.node.now c.args.start c.args.node.now c.args.end) (λ r p.
     put_sides c.args.node.now c.in-Inner.children.now c.place_of-first.result c.place_of-last.result (c.args.start - c.total_before.result.chars) (c.args.end - c.total_before-2.result.chars) c.args.start c.args.end c.index-children-first.result c.index-children-last.result
     (first_cut t e) (last_cut t e) (at_start t e) (at_end t e) (in_first t e) (in_last t e) (omega (arith, c.requires.ordered)) (whole t e) c.if-first-last.part c.in-Inner.ensures.children c.in-Inner.ensures.is is.0
+    r (omega (arith, c.if-first-gt0.true)) (ordered t e) (omega (arith, c.if-last-children.true)) p) c.put-then-spares_last.ensures.put
+
+pub stands-requires-clause-ordered : goal.stands-requires-clause-ordered
+stands-requires-clause-ordered t c = ordered t (goal.at.stands-requires-clause-ordered t c).After-total_before-2
+
+pub put-requires-clause-put : goal.put-requires-clause-put
+put-requires-clause-put t c =
+    let e = (goal.at.put-requires-clause-put t c).After-total_before-2 in
+    can_put c.args.node.now c.in-Inner.children.now c.place_of-first.result c.place_of-last.result (c.args.start - c.total_before.result.chars) (c.args.end - c.total_before-2.result.chars) c.args.start c.args.end c.index-children-first.result c.index-children-last.result
+    (first_cut t e) (last_cut t e) (at_start t e) (at_end t e) (in_first t e) (in_last t e) (omega (arith, c.requires.ordered)) (whole t e) c.in_ok-part.part c.in-Inner.ensures.children c.in-Inner.ensures.is c.in_ok-part.ensures.sides c.requires.seam
+    (c.stands.ensures.next c.if-stands.true)
+    (omega (arith, c.if-first-gt0.true)) (ordered t e) (omega (arith, c.if-last-children.true)) c.in_ok-part.ensures.tree
+    (leaf_by_bytes c.in_ok-part.part (omega (arith, c.if-info-gt0.true, ap (λ x. x.bytes) c.info.ensures.value))) (c.stands.ensures.near c.if-stands.true)
+
+pub returns-then-stands-clause-sides : goal.returns-then-stands-clause-sides
+returns-then-stands-clause-sides t c =
+    let e = (goal.at.returns-then-stands-clause-sides t c).After-total_before-2 in
+    IfOk-weaker c.put.result _ (IsSides c.args.node.now c.args.start c.args.node.now c.args.end) (λ r p.
+    put_sides c.args.node.now c.in-Inner.children.now c.place_of-first.result c.place_of-last.result (c.args.start - c.total_before.result.chars) (c.args.end - c.total_before-2.result.chars) c.args.start c.args.end c.index-children-first.result c.index-children-last.result
+    (first_cut t e) (last_cut t e) (at_start t e) (at_end t e) (in_first t e) (in_last t e) (omega (arith, c.requires.ordered)) (whole t e) c.in_ok-part.part c.in-Inner.ensures.children c.in-Inner.ensures.is c.in_ok-part.ensures.sides
     r (omega (arith, c.if-first-gt0.true)) (ordered t e) (omega (arith, c.if-last-children.true)) p) c.put.ensures.put
 
 pub join_sides-requires-2-clause-fits : goal.join_sides-requires-2-clause-fits
