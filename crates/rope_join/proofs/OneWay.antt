@@ -13,6 +13,9 @@ use Rattle.rope_tree.specs.Tree.{Tree, text, joined, leaves_of, height_of, break
 use Rattle.rope_tree.proofs.LeafLaws.{leaves-append, leaves_right, leaves_seam, leaves_near, seam_of_left, seam_of_right, seam_left_longer, seam_right_longer, seam-take, seam-drop}
 use Rattle.rope_tree.proofs.NodeLaws.{joined_parts, joined_more}
 use Rattle.rope_tree.proofs.BuildLaws.{nodes_le}
+use Rattle.rope_text.specs.Edit.{inserted}
+use Rattle.rope_tree.proofs.InsertLaws.{seam_ends, seam_begins, text_of}
+use Rattle.rope_tree.proofs.InsertTrees.{inserted_is, byte_len-inserted}
 use Rattle.rope_join.specs.Cut.{SparesFirst, SparesLast, IsSides}
 use Rattle.rope_join.specs.Put.{CanPut, IsPut, leaves_before, leaves_behind}
 use Rattle.rope_join.proofs.Cuts.{CutsAt, front_text, back_text}
@@ -132,3 +135,70 @@ module _ (n : Tree) (ts : List Tree) (i j from to start end : ℕ) (a b : Tree)
               let new = p.recuts.last (omega (arith, some_ys, length-append part.leaves ys)) 0 k in
               omega (arith, old, last_bytes-append 0 part.leaves ys, new);
         }
+
+-- a child with a text inside it, in its place
+module _ (n : Tree) (ts : List Tree) (k i at : ℕ) (a : Tree) (new : List ℕ) (part : Tree)
+    (s : CutsAt n (take k ts) a (drop (k + 1) ts)) (place : at ≡ length (joined (take k ts)) + i) (inside : 0 < i) (more : i < length (text a))
+    (fits : byte_len (text n) + byte_len new < 2 ^ 63) (c : AreChildren (breaks_of ts) (height_of ts) ts) (is : n ≡ tree_over ts)
+    (text_is : text part ≡ inserted (text a) i new) (own_breaks : part.breaks ≡ a.breaks) (tree : IsTree part) where
+  longer : text part ≡ take i (text a) ++ (new ++ drop i (text a))
+  longer = text_is ∙ inserted_is (text a) i new
+
+  last_is : text part ≡ (take i (text a) ++ new) ++ drop i (text a)
+  last_is = longer ∙ sym (append_assoc (take i (text a)) new (drop i (text a)))
+
+  pub inserted_some : 1 ≤ length part.leaves
+  inserted_some = leaves_some part.leaves (omega (arith, ap length longer, length-append (take i (text a)) (new ++ drop i (text a)), length-take-le i (text a) (omega (arith, more)), inside))
+    where
+      leaves_some : (ls : List (List ℕ)) → 1 ≤ length (concat ls) → 1 ≤ length ls
+      leaves_some [] none = absurd (omega arith)
+      leaves_some (x ∷ xs) none = omega arith
+
+  inserted_texts : concat (leaves_behind ts (k + 1) part) ≡ text part ++ joined (drop (k + 1) ts)
+  inserted_texts = concat-append part.leaves (leaves_of (drop (k + 1) ts))
+
+  inserted_behind : IsDenseBehind (last_bytes 492 part.leaves) (leaves_of (drop (k + 1) ts)) → AreLeaves (leaves_behind ts (k + 1) part)
+  inserted_behind next =
+      let ys = leaves_of (drop (k + 1) ts) in
+      let right : AreLeaves (a.leaves ++ ys) = leaves_right (leaves_of (take k ts)) (a.leaves ++ ys) s.leaves in
+      let last : IsSeam (drop i (text a)) (concat ys) = seam-drop i (text a) (concat ys) (leaves_seam a.leaves ys right) in
+      let seam : IsSeam (text part) (concat ys) = rw last_is (seam_ends (take i (text a) ++ new) (drop i (text a)) (concat ys) (omega (arith, length-drop i (text a), more)) last) in
+      leaves-append part.leaves ys tree.leaves (leaves_right a.leaves ys right) seam (dense-append 492 part.leaves ys tree.leaves.dense next)
+
+  pub can_put_inserted : 0 < k → k + 1 < length ts → part.height ≤ a.height + 1 → IsDenseBehind (last_bytes 492 (leaves_before ts k)) part.leaves → IsDenseBehind (last_bytes 492 part.leaves) (leaves_of (drop (k + 1) ts)) → CanPut ts k (k + 1) part
+  can_put_inserted some behind low near next =
+      let xs = leaves_of (take k ts) in
+      let ys = joined (drop (k + 1) ts) in
+      let begins : IsSeam (concat xs) (text a) = seam_of_left (concat xs) (text a) ys (subst (IsSeam (concat xs)) (concat-append a.leaves (leaves_of (drop (k + 1) ts))) (leaves_seam xs (a.leaves ++ leaves_of (drop (k + 1) ts)) s.leaves)) in
+      let whole : concat (leaves_behind ts (k + 1) part) ≡ take i (text a) ++ ((new ++ drop i (text a)) ++ ys) =
+      inserted_texts ∙ ap (λ z. z ++ ys) longer ∙ append_assoc (take i (text a)) (new ++ drop i (text a)) ys in
+      record {
+        some_before = omega (arith, some);
+        ordered = omega arith;
+        some_behind = behind;
+        tree = tree;
+        some = inserted_some;
+        same_breaks = own_breaks ∙ s.same_breaks ∙ ap (λ u. u.breaks) is;
+        not_higher = omega (arith, low, s.above, ap (λ u. u.height) is);
+        behind = inserted_behind next;
+        seam = rw whole (seam_begins (concat xs) (take i (text a)) ((new ++ drop i (text a)) ++ ys) (omega (arith, length-take-le i (text a) (omega (arith, more)), inside)) (seam-take i (concat xs) (text a) begins));
+        near = near;
+        fits = omega (
+          arith,
+          fits,
+          ap byte_len s.text_is,
+          IsMeasure-byte_len.joined (joined (take k ts)) (text a ++ ys),
+          IsMeasure-byte_len.joined (text a) ys,
+          ap byte_len inserted_texts,
+          IsMeasure-byte_len.joined (text part) ys,
+          ap byte_len text_is,
+          byte_len-inserted (text a) i new,
+        );
+      }
+
+  pub put_inserted : (r : Tree) → IsPut ts k (k + 1) part r → text r ≡ inserted (text n) at new
+  put_inserted r p =
+      let xs = joined (take k ts) in
+      let ys = joined (drop (k + 1) ts) in
+      p.recuts.same_text ∙ concat-append (leaves_of (take k ts)) (leaves_behind ts (k + 1) part) ∙ ap (λ z. xs ++ z) (inserted_texts ∙ ap (λ z. z ++ ys) longer)
+      ∙ text_of xs (text a) ys new i at place (omega (arith, more)) ∙ ap (λ z. take at z ++ (new ++ drop at z)) (sym s.text_is) ∙ sym (inserted_is (text n) at new)

@@ -5,14 +5,17 @@ ghost use Rattle.std.specs.Str.{chars};
 ghost use Rattle.rope_text.specs.Text.{byte_len};
 ghost use Rattle.rope_text.specs.Cutting.{parts_crlf};
 ghost use Rattle.rope_text.specs.Edit.{inserted, removed};
-ghost use Rattle.rope_tree.specs.Tree.{text, IsTree};
+ghost use Rattle.rope_tree.specs.Tree.{text, leaf_tree, IsTree};
 
 use crate::cut::{back, front};
-use crate::gap::{join_sides, without};
+use crate::gap::{join_sides, put, stands, without};
 use crate::join::join;
 use rope_text::{MAX_BYTES, Steps};
 use rope_tree::build::build;
-use rope_tree::{Made, Maker, Node, char_at, is_lf, leaf_of, remove_at};
+use rope_tree::{
+    Builder, Made, Maker, Node, ShortText, Unit, View, char_at, is_lf, leaf_of, place_of,
+    remove_at, total_before,
+};
 
 /// Whether a CR at the end of the first `end` characters of the one tree meets an LF behind the first `start` of the other.
 fn meets(left: &Node, end: usize, right: &Node, start: usize) -> bool
@@ -100,7 +103,7 @@ pub fn remove(maker: &mut Maker, root: &mut Node, start: usize, end: usize) -> M
 
 /// The tree with a text of any length before its character `at`: it is split, and the text goes between as a tree of its
 /// own. What is made of the old tree are its parts, so it costs what the new text and the height do.
-pub fn insert(maker: &mut Maker, node: &Node, at: usize, added: &str) -> Made<Node>
+fn insert_apart(maker: &mut Maker, node: &Node, at: usize, added: &str) -> Made<Node>
     requires within { at ≤ length (text node.now) }
     requires fits { byte_len (text node.now) + length added.now < 2 ^ 63 }
     ensures text { IfOk result (λ new. text new ≡ inserted (text node.now) at (chars added.now)) }
@@ -112,4 +115,62 @@ pub fn insert(maker: &mut Maker, node: &Node, at: usize, added: &str) -> Made<No
     let middle = build(maker, added, node.line_breaks())?;
     let first = append(maker, &front, &middle)?;
     append(maker, &first, &back)
+}
+
+/// A leaf with a text of any length before its character `at`, as a tree that is built anew.
+fn insert_into_leaf(
+    maker: &mut Maker,
+    node: &Node,
+    leaf: &ShortText<'_>,
+    at: usize,
+    added: &str,
+) -> Made<Node>
+    requires leaf { node.now ≡ leaf_tree node.now.breaks leaf.now }
+    requires fits { byte_len (text node.now) + length added.now < 2 ^ 63 }
+    ensures text { IfOk result (λ new. text new ≡ inserted (text node.now) at (chars added.now)) }
+    ensures breaks { IfOk result (λ new. new.breaks ≡ node.now.breaks) }
+    ensures tree { IfOk result (λ new. IsTree new) }
+{
+    let text = leaf.as_str();
+    let place = leaf.char_to_byte_idx(at);
+    let mut builder = Builder::new(maker.alloc, node.line_breaks());
+    builder.append(&text[..place])?;
+    builder.append(added)?;
+    builder.append(&text[place..])?;
+    builder.finish(maker)
+}
+
+/// A longer text goes between two parts of the tree. So many bytes and a leaf's make a node over leaves at the most.
+const MAX_AMONG_BYTES: usize = 20 * MAX_BYTES;
+
+/// The tree with a text of any length before its character `at`. A text of some leaves is built into the leaf that holds the
+/// character, and the leaves that this gives are put in its place, on one way down; where they can't be, or for a longer text, the
+/// tree is split. It costs what the new text and the height do.
+pub fn insert(maker: &mut Maker, node: &Node, at: usize, added: &str) -> Made<Node>
+    requires within { at ≤ length (text node.now) }
+    requires fits { byte_len (text node.now) + length added.now < 2 ^ 63 }
+    ensures text { IfOk result (λ new. text new ≡ inserted (text node.now) at (chars added.now)) }
+    ensures breaks { IfOk result (λ new. new.breaks ≡ node.now.breaks) }
+    ensures tree { IfOk result (λ new. IsTree new) }
+{
+    if added.len() > MAX_AMONG_BYTES || at >= node.info().chars {
+        return insert_apart(maker, node, at, added);
+    }
+    match node.view() {
+        View::Leaf(leaf) => insert_into_leaf(maker, node, &leaf, at, added),
+        View::Inner(children, totals) => {
+            let place = place_of(totals, Unit::Char, at, &mut Steps::new());
+            let child = &children[place];
+            let inside = at - total_before(totals, place).chars;
+            if place > 0 && place + 1 < children.len() && inside > 0 {
+                let part = insert(maker, child, inside, added)?;
+                if part.height() <= child.height() + 1
+                    && stands(children, place, place + 1, &part)
+                {
+                    return put(maker, children, totals, place, place + 1, &part);
+                }
+            }
+            insert_apart(maker, node, at, added)
+        }
+    }
 }

@@ -48,7 +48,7 @@ fn spares_last(node: &Node, at: usize) -> bool
 }
 
 /// Whether a tree's leaves at its two ends have bytes enough to stand in the place of the children from `first` up to `past`.
-fn stands(children: &[Node], first: usize, past: usize, part: &Node) -> bool
+pub(crate) fn stands(children: &[Node], first: usize, past: usize, part: &Node) -> bool
     requires children { AreFamily children.now }
     requires some_before { 1 ≤ first }
     requires ordered { first < past }
@@ -91,7 +91,7 @@ pub(crate) fn join_sides(
 
 /// The children of a node with a tree in the place of those from `first` up to `past`. One that is higher than they are is a node over
 /// two such children; any other is made one with the child before it, so that it has children enough.
-fn put(
+pub(crate) fn put(
     maker: &mut Maker,
     children: &[Node],
     totals: &Totals,
