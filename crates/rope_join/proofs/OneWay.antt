@@ -1,8 +1,8 @@
 -- What a removal puts in the place of the children that it cuts, on the way down to them.
-use Rattle.std.proofs.Common.{◌≡◌, ℕ, zero, suc, ◌+◌, ◌^◌, ◌<◌, ◌≤◌, List, [], ◌∷◌, ◌++◌, length, take, drop, get_or, refl, sym, ap, ap₂, subst, ◌∙◌, arith, inl, inr}
+use Rattle.std.proofs.Common.{◌≡◌, ℕ, zero, suc, ◌+◌, ◌-◌, ◌^◌, ◌<◌, ◌≤◌, List, [], ◌∷◌, ◌++◌, length, take, drop, get_or, refl, sym, ap, ap₂, subst, ◌∙◌, arith, inl, inr}
 use Rattle.std.specs.List.{concat}
 use Rattle.std.proofs.lemmas.Bool.{cases_lt}
-use Rattle.std.proofs.lemmas.List.{append_assoc, length-append, length-take-le, length-drop, take-take}
+use Rattle.std.proofs.lemmas.List.{append-nil, drop_all, append_assoc, length-append, length-take-le, length-drop, take-take}
 use Rattle.rope_text.specs.Text.{byte_len}
 use Rattle.rope_text.specs.Dense.{IsDenseBehind, last_bytes}
 use Rattle.rope_text.proofs.Measures.{IsMeasure-byte_len}
@@ -196,9 +196,55 @@ module _ (n : Tree) (ts : List Tree) (k i at : ℕ) (a : Tree) (new : List ℕ) 
         );
       }
 
-  pub put_inserted : (r : Tree) → IsPut ts k (k + 1) part r → text r ≡ inserted (text n) at new
-  put_inserted r p =
+  -- the text before it and behind it
+  start_text : take (at - i) (text n) ≡ joined (take k ts)
+  start_text = front_text n (take k ts) a (drop (k + 1) ts) s (at - i) 0 a (omega (arith, place)) (omega arith) ∙ append-nil (joined (take k ts))
+
+  end_text : (end : ℕ) → end ≡ length (joined (take k ts)) + length (text a) → drop end (text n) ≡ joined (drop (k + 1) ts)
+  end_text end e = back_text n (take k ts) a (drop (k + 1) ts) s end (length (text a)) a e (omega arith) ∙ ap (λ z. z ++ joined (drop (k + 1) ts)) (drop_all (length (text a)) (text a) (omega arith))
+
+  pub inserted_chars : 1 ≤ length (text part)
+  inserted_chars = omega (arith, ap length longer, length-append (take i (text a)) (new ++ drop i (text a)), length-take-le i (text a) (omega (arith, more)), inside)
+
+  pub before_inserted : IsSeam (take (at - i) (text n)) (text part)
+  before_inserted =
+      let xs = leaves_of (take k ts) in
+      let ys = joined (drop (k + 1) ts) in
+      let begins : IsSeam (concat xs) (text a) = seam_of_left (concat xs) (text a) ys (subst (IsSeam (concat xs)) (concat-append a.leaves (leaves_of (drop (k + 1) ts))) (leaves_seam xs (a.leaves ++ leaves_of (drop (k + 1) ts)) s.leaves)) in
+      rw (start_text, longer) (seam_begins (concat xs) (take i (text a)) (new ++ drop i (text a)) (omega (arith, length-take-le i (text a) (omega (arith, more)), inside)) (seam-take i (concat xs) (text a) begins))
+
+  pub behind_inserted : (end : ℕ) → end ≡ length (joined (take k ts)) + length (text a) → IsSeam (text part) (drop end (text n))
+  behind_inserted end e =
+      let ys = leaves_of (drop (k + 1) ts) in
+      let right : AreLeaves (a.leaves ++ ys) = leaves_right (leaves_of (take k ts)) (a.leaves ++ ys) s.leaves in
+      let last : IsSeam (drop i (text a)) (concat ys) = seam-drop i (text a) (concat ys) (leaves_seam a.leaves ys right) in
+      rw (end_text end e, last_is) (seam_ends (take i (text a) ++ new) (drop i (text a)) (concat ys) (omega (arith, length-drop i (text a), more)) last)
+
+  pub inserted_fits : (end : ℕ) → end ≡ length (joined (take k ts)) + length (text a) → byte_len (take (at - i) (text n)) + (byte_len (text part) + byte_len (drop end (text n))) < 2 ^ 63
+  inserted_fits end e = omega (
+    arith,
+    fits,
+    ap byte_len start_text,
+    ap byte_len (end_text end e),
+    ap byte_len s.text_is,
+    IsMeasure-byte_len.joined (joined (take k ts)) (text a ++ joined (drop (k + 1) ts)),
+    IsMeasure-byte_len.joined (text a) (joined (drop (k + 1) ts)),
+    ap byte_len text_is,
+    byte_len-inserted (text a) i new,
+  )
+
+  whole_text : joined (take k ts) ++ (text part ++ joined (drop (k + 1) ts)) ≡ inserted (text n) at new
+  whole_text =
       let xs = joined (take k ts) in
       let ys = joined (drop (k + 1) ts) in
-      p.recuts.same_text ∙ concat-append (leaves_of (take k ts)) (leaves_behind ts (k + 1) part) ∙ ap (λ z. xs ++ z) (inserted_texts ∙ ap (λ z. z ++ ys) longer)
-      ∙ text_of xs (text a) ys new i at place (omega (arith, more)) ∙ ap (λ z. take at z ++ (new ++ drop at z)) (sym s.text_is) ∙ sym (inserted_is (text n) at new)
+      ap (λ z. xs ++ (z ++ ys)) longer ∙ text_of xs (text a) ys new i at place (omega (arith, more)) ∙ ap (λ z. take at z ++ (new ++ drop at z)) (sym s.text_is) ∙ sym (inserted_is (text n) at new)
+
+  pub end_within : (end : ℕ) → end ≡ length (joined (take k ts)) + length (text a) → end ≤ length (text n)
+  end_within end e = omega (arith, e, ap length s.text_is, length-append (joined (take k ts)) (text a ++ joined (drop (k + 1) ts)), length-append (text a) (joined (drop (k + 1) ts)))
+
+  pub around_inserted : (end : ℕ) (r : Tree) → end ≡ length (joined (take k ts)) + length (text a) → text r ≡ take (at - i) (text n) ++ (text part ++ drop end (text n)) → text r ≡ inserted (text n) at new
+  around_inserted end r e is' = is' ∙ ap₂ (λ x y. x ++ (text part ++ y)) start_text (end_text end e) ∙ whole_text
+
+  pub put_inserted : (r : Tree) → IsPut ts k (k + 1) part r → text r ≡ inserted (text n) at new
+  put_inserted r p =
+      p.recuts.same_text ∙ concat-append (leaves_of (take k ts)) (leaves_behind ts (k + 1) part) ∙ ap (λ z. joined (take k ts) ++ z) inserted_texts ∙ whole_text

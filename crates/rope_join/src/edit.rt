@@ -5,6 +5,7 @@ ghost use Rattle.std.specs.Str.{chars};
 ghost use Rattle.rope_text.specs.Text.{byte_len};
 ghost use Rattle.rope_text.specs.Cutting.{parts_crlf};
 ghost use Rattle.rope_text.specs.Edit.{inserted, removed};
+ghost use Rattle.rope_tree.specs.Leaves.{IsSeam};
 ghost use Rattle.rope_tree.specs.Tree.{text, leaf_tree, IsTree};
 
 use crate::cut::{back, front};
@@ -140,12 +141,33 @@ fn insert_into_leaf(
     builder.finish(maker)
 }
 
+/// What stands before the character `start` of a tree, then another tree, and then what stands from its character `end` on.
+fn join_around(maker: &mut Maker, node: &Node, start: usize, part: &Node, end: usize) -> Made<Node>
+    requires start { start ≤ length (text node.now) }
+    requires end { end ≤ length (text node.now) }
+    requires same_breaks { part.now.breaks ≡ node.now.breaks }
+    requires some { 1 ≤ length (text part.now) }
+    requires seam_before { IsSeam (take start (text node.now)) (text part.now) }
+    requires seam_behind { IsSeam (text part.now) (drop end (text node.now)) }
+    requires fits { byte_len (take start (text node.now))
+        + (byte_len (text part.now) + byte_len (drop end (text node.now))) < 2 ^ 63 }
+    ensures text { IfOk result (λ new. text new
+        ≡ take start (text node.now) ++ (text part.now ++ drop end (text node.now))) }
+    ensures breaks { IfOk result (λ new. new.breaks ≡ node.now.breaks) }
+    ensures tree { IfOk result (λ new. IsTree new) }
+{
+    let front = front(maker, node, start)?;
+    let first = join(maker, &front, part)?;
+    let back = back(maker, node, end)?;
+    join(maker, &first, &back)
+}
+
 /// A longer text goes between two parts of the tree. So many bytes and a leaf's make a node over leaves at the most.
 const MAX_AMONG_BYTES: usize = 20 * MAX_BYTES;
 
 /// The tree with a text of any length before its character `at`. A text of some leaves is built into the leaf that holds the
-/// character, and the leaves that this gives are put in its place, on one way down; where they can't be, or for a longer text, the
-/// tree is split. It costs what the new text and the height do.
+/// character, and the leaves that this gives are put in its place, on one way down; where they can't be, at the ends of a node or
+/// for a longer text, the tree is split. It costs what the new text and the height do.
 pub fn insert(maker: &mut Maker, node: &Node, at: usize, added: &str) -> Made<Node>
     requires within { at ≤ length (text node.now) }
     requires fits { byte_len (text node.now) + length added.now < 2 ^ 63 }
@@ -162,15 +184,18 @@ pub fn insert(maker: &mut Maker, node: &Node, at: usize, added: &str) -> Made<No
             let place = place_of(totals, Unit::Char, at, &mut Steps::new());
             let child = &children[place];
             let inside = at - total_before(totals, place).chars;
-            if place > 0 && place + 1 < children.len() && inside > 0 {
-                let part = insert(maker, child, inside, added)?;
-                if part.height() <= child.height() + 1
-                    && stands(children, place, place + 1, &part)
-                {
-                    return put(maker, children, totals, place, place + 1, &part);
-                }
+            if inside == 0 {
+                return insert_apart(maker, node, at, added);
             }
-            insert_apart(maker, node, at, added)
+            let part = insert(maker, child, inside, added)?;
+            if place > 0
+                && place + 1 < children.len()
+                && part.height() <= child.height() + 1
+                && stands(children, place, place + 1, &part)
+            {
+                return put(maker, children, totals, place, place + 1, &part);
+            }
+            join_around(maker, node, at - inside, &part, totals.get(place).chars)
         }
     }
 }

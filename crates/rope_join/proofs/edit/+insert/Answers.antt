@@ -1,16 +1,17 @@
-use Rattle.std.proofs.Common.{◌≡◌, ℕ, ◌+◌, ◌-◌, ◌^◌, ◌<◌, ◌++◌, length, take, drop, ap, arith}
+use Rattle.std.proofs.Common.{◌∙◌, ◌≡◌, ℕ, ◌+◌, ◌-◌, ◌^◌, ◌<◌, ◌++◌, length, take, drop, ap, arith}
 use Rattle.std.specs.Str.{chars}
+use Rattle.std.proofs.lemmas.List.{length-append}
 use Rattle.std.proofs.lemmas.Result.{IfOk-weaker}
 use Rattle.rope_text.specs.Text.{byte_len}
 use Rattle.rope_text.proofs.Measures.{IsMeasure-byte_len}
 use Rattle.rope_text.proofs.Walks.{byte_len-chars}
 use Rattle.rope_tree.specs.declared.search.Unit.TheVariants.{Char}
 use Rattle.rope_tree.specs.Tree.{text, joined, height_of, breaks_of}
-use Rattle.rope_tree.proofs.NodeLaws.{small_totals}
+use Rattle.rope_tree.proofs.NodeLaws.{small_totals, joined_more}
 use Rattle.rope_tree.proofs.Descents.{Descends, descends}
 use Rattle.rope_join.proofs.Cuts.{CutsAt, cuts_at}
-use Rattle.rope_join.proofs.OneWay.{inserted_some, can_put_inserted, put_inserted}
-use Rattle.rope_join.proofs.edit.+insert.Goals.{After-total_before}
+use Rattle.rope_join.proofs.OneWay.{inserted_some, inserted_chars, end_within, before_inserted, behind_inserted, inserted_fits, around_inserted, can_put_inserted, put_inserted}
+use Rattle.rope_join.proofs.edit.+insert.Goals.{After-total_before, After-get}
 use Rattle.rope_join.proofs.edit.+insert.Goals as goal
 
 down : (t : ℕ) (c : After-total_before t) → Descends (breaks_of c.in-Inner.children.now) Char c.args.at c.in-Inner.children.now c.place_of-place.result c.index-children-place.result c.total_before.result
@@ -58,14 +59,14 @@ pub stands-requires-clause-some : goal.stands-requires-clause-some
 stands-requires-clause-some t c =
     let e = (goal.at.stands-requires-clause-some t c).After-total_before in
     inserted_some c.args.node.now c.in-Inner.children.now c.place_of-place.result (c.args.at - c.total_before.result.chars) c.args.at c.index-children-place.result (chars c.args.added.now) c.in_ok-part-in-Inner.part
-    (cut t e) (place t e) (omega (arith, c.if-inside-gt0.true)) (inside t e) (fits t e) c.in-Inner.ensures.children c.in-Inner.ensures.is c.in_ok-part-in-Inner.ensures.text c.in_ok-part-in-Inner.ensures.breaks c.in_ok-part-in-Inner.ensures.tree
+    (cut t e) (place t e) (omega (arith, c.if-inside-eq0.false)) (inside t e) (fits t e) c.in-Inner.ensures.children c.in-Inner.ensures.is c.in_ok-part-in-Inner.ensures.text c.in_ok-part-in-Inner.ensures.breaks c.in_ok-part-in-Inner.ensures.tree
 
 pub put-requires-clause-put : goal.put-requires-clause-put
 put-requires-clause-put t c =
     let e = (goal.at.put-requires-clause-put t c).After-total_before in
     can_put_inserted c.args.node.now c.in-Inner.children.now c.place_of-place.result (c.args.at - c.total_before.result.chars) c.args.at c.index-children-place.result (chars c.args.added.now) c.in_ok-part-in-Inner.part
-    (cut t e) (place t e) (omega (arith, c.if-inside-gt0.true)) (inside t e) (fits t e) c.in-Inner.ensures.children c.in-Inner.ensures.is c.in_ok-part-in-Inner.ensures.text c.in_ok-part-in-Inner.ensures.breaks c.in_ok-part-in-Inner.ensures.tree
-    (omega (arith, c.if-place-gt0.true)) (omega (arith, c.if-place-children.true)) (omega (arith, c.if-height.true, c.height.ensures.value, c.height-then-inside-gt0.ensures.value))
+    (cut t e) (place t e) (omega (arith, c.if-inside-eq0.false)) (inside t e) (fits t e) c.in-Inner.ensures.children c.in-Inner.ensures.is c.in_ok-part-in-Inner.ensures.text c.in_ok-part-in-Inner.ensures.breaks c.in_ok-part-in-Inner.ensures.tree
+    (omega (arith, c.if-place-gt0.true)) (omega (arith, c.if-place-children.true)) (omega (arith, c.if-height.true, c.height.ensures.value, c.height-then-place-children.ensures.value))
     (c.stands.ensures.near c.if-stands.true) (c.stands.ensures.next c.if-stands.true)
 
 pub returns-then-stands-clause-text : goal.returns-then-stands-clause-text
@@ -73,4 +74,50 @@ returns-then-stands-clause-text t c =
     let e = (goal.at.returns-then-stands-clause-text t c).After-total_before in
     IfOk-weaker c.put.result _ _ (λ r p.
     put_inserted c.args.node.now c.in-Inner.children.now c.place_of-place.result (c.args.at - c.total_before.result.chars) c.args.at c.index-children-place.result (chars c.args.added.now) c.in_ok-part-in-Inner.part
-    (cut t e) (place t e) (omega (arith, c.if-inside-gt0.true)) (inside t e) (fits t e) c.in-Inner.ensures.children c.in-Inner.ensures.is c.in_ok-part-in-Inner.ensures.text c.in_ok-part-in-Inner.ensures.breaks c.in_ok-part-in-Inner.ensures.tree r p) c.put.ensures.put
+    (cut t e) (place t e) (omega (arith, c.if-inside-eq0.false)) (inside t e) (fits t e) c.in-Inner.ensures.children c.in-Inner.ensures.is c.in_ok-part-in-Inner.ensures.text c.in_ok-part-in-Inner.ensures.breaks c.in_ok-part-in-Inner.ensures.tree r p) c.put.ensures.put
+
+-- where the text behind the child begins
+end_is : (t : ℕ) (c : After-get t) → c.get.result.chars ≡ length (joined (take c.place_of-place.result c.in-Inner.children.now)) + length (text c.index-children-place.result)
+end_is t c =
+    let d = down t (goal.at.After-get t c).After-total_before in
+    let ts = c.in-Inner.children.now in
+    let k = c.place_of-place.result in
+    let a = c.index-children-place.result in
+    ap (λ x. x.chars) (c.get.ensures c.get.result ∙ c.in-Inner.ensures.totals_right.total_at k c.get.result d.within)
+    ∙ ap length (joined_more ts k a d.within ∙ ap (λ u. joined (take k ts) ++ text u) d.child_is) ∙ length-append (joined (take k ts)) (text a)
+
+pub join_around-requires-clause-end : goal.join_around-requires-clause-end
+join_around-requires-clause-end t c =
+    let e = (goal.at.join_around-requires-clause-end t c).After-total_before in
+    end_within c.args.node.now c.in-Inner.children.now c.place_of-place.result (c.args.at - c.total_before.result.chars) c.args.at c.index-children-place.result (chars c.args.added.now) c.in_ok-part-in-Inner.part
+    (cut t e) (place t e) (omega (arith, c.if-inside-eq0.false)) (inside t e) (fits t e) c.in-Inner.ensures.children c.in-Inner.ensures.is c.in_ok-part-in-Inner.ensures.text c.in_ok-part-in-Inner.ensures.breaks c.in_ok-part-in-Inner.ensures.tree c.get.result.chars (end_is t (goal.at.join_around-requires-clause-end t c).After-get)
+
+pub join_around-requires-clause-some : goal.join_around-requires-clause-some
+join_around-requires-clause-some t c =
+    let e = (goal.at.join_around-requires-clause-some t c).After-total_before in
+    inserted_chars c.args.node.now c.in-Inner.children.now c.place_of-place.result (c.args.at - c.total_before.result.chars) c.args.at c.index-children-place.result (chars c.args.added.now) c.in_ok-part-in-Inner.part
+    (cut t e) (place t e) (omega (arith, c.if-inside-eq0.false)) (inside t e) (fits t e) c.in-Inner.ensures.children c.in-Inner.ensures.is c.in_ok-part-in-Inner.ensures.text c.in_ok-part-in-Inner.ensures.breaks c.in_ok-part-in-Inner.ensures.tree
+
+pub join_around-requires-clause-seam_before : goal.join_around-requires-clause-seam_before
+join_around-requires-clause-seam_before t c =
+    let e = (goal.at.join_around-requires-clause-seam_before t c).After-total_before in
+    before_inserted c.args.node.now c.in-Inner.children.now c.place_of-place.result (c.args.at - c.total_before.result.chars) c.args.at c.index-children-place.result (chars c.args.added.now) c.in_ok-part-in-Inner.part
+    (cut t e) (place t e) (omega (arith, c.if-inside-eq0.false)) (inside t e) (fits t e) c.in-Inner.ensures.children c.in-Inner.ensures.is c.in_ok-part-in-Inner.ensures.text c.in_ok-part-in-Inner.ensures.breaks c.in_ok-part-in-Inner.ensures.tree
+
+pub join_around-requires-clause-seam_behind : goal.join_around-requires-clause-seam_behind
+join_around-requires-clause-seam_behind t c =
+    let e = (goal.at.join_around-requires-clause-seam_behind t c).After-total_before in
+    behind_inserted c.args.node.now c.in-Inner.children.now c.place_of-place.result (c.args.at - c.total_before.result.chars) c.args.at c.index-children-place.result (chars c.args.added.now) c.in_ok-part-in-Inner.part
+    (cut t e) (place t e) (omega (arith, c.if-inside-eq0.false)) (inside t e) (fits t e) c.in-Inner.ensures.children c.in-Inner.ensures.is c.in_ok-part-in-Inner.ensures.text c.in_ok-part-in-Inner.ensures.breaks c.in_ok-part-in-Inner.ensures.tree c.get.result.chars (end_is t (goal.at.join_around-requires-clause-seam_behind t c).After-get)
+
+pub join_around-requires-clause-fits : goal.join_around-requires-clause-fits
+join_around-requires-clause-fits t c =
+    let e = (goal.at.join_around-requires-clause-fits t c).After-total_before in
+    inserted_fits c.args.node.now c.in-Inner.children.now c.place_of-place.result (c.args.at - c.total_before.result.chars) c.args.at c.index-children-place.result (chars c.args.added.now) c.in_ok-part-in-Inner.part
+    (cut t e) (place t e) (omega (arith, c.if-inside-eq0.false)) (inside t e) (fits t e) c.in-Inner.ensures.children c.in-Inner.ensures.is c.in_ok-part-in-Inner.ensures.text c.in_ok-part-in-Inner.ensures.breaks c.in_ok-part-in-Inner.ensures.tree c.get.result.chars (end_is t (goal.at.join_around-requires-clause-fits t c).After-get)
+
+pub returns-else-place-gt0-clause-text : goal.returns-else-place-gt0-clause-text
+returns-else-place-gt0-clause-text t c =
+    let e = (goal.at.returns-else-place-gt0-clause-text t c).After-total_before in
+    IfOk-weaker c.join_around.result _ _ (λ r is. around_inserted c.args.node.now c.in-Inner.children.now c.place_of-place.result (c.args.at - c.total_before.result.chars) c.args.at c.index-children-place.result (chars c.args.added.now) c.in_ok-part-in-Inner.part
+    (cut t e) (place t e) (omega (arith, c.if-inside-eq0.false)) (inside t e) (fits t e) c.in-Inner.ensures.children c.in-Inner.ensures.is c.in_ok-part-in-Inner.ensures.text c.in_ok-part-in-Inner.ensures.breaks c.in_ok-part-in-Inner.ensures.tree c.get.result.chars r (end_is t (goal.at.returns-else-place-gt0-clause-text t c).After-get) is) c.join_around.ensures.text
