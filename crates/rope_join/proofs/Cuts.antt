@@ -70,12 +70,12 @@ pub last_chars-some : (m n : ℕ) (xs : List (List ℕ)) → 1 ≤ length xs →
 last_chars-some m n [] some = absurd (omega arith)
 last_chars-some m n (x ∷ xs) some = refl
 
-spares_first_of : (k at : ℕ) (n t : Tree) (ls : List (List ℕ)) → n.leaves ≡ t.leaves ++ ls → 1 ≤ length t.leaves → at ≡ k → SparesFirst at n → SparesFirst k t
+pub spares_first_of : (k at : ℕ) (n t : Tree) (ls : List (List ℕ)) → n.leaves ≡ t.leaves ++ ls → 1 ≤ length t.leaves → at ≡ k → SparesFirst at n → SparesFirst k t
 spares_first_of k at n t ls e some same s =
     let first = ap first_chars e ∙ first_chars-append t.leaves ls some in
     record { some = omega (arith, s.some, first); past = omega (arith, s.past, first, same) }
 
-spares_last_of : (k at : ℕ) (n t : Tree) (ls : List (List ℕ)) → n.leaves ≡ ls ++ t.leaves → 1 ≤ length t.leaves → at + length (text t) ≡ length (text n) + k → SparesLast at n → SparesLast k t
+pub spares_last_of : (k at : ℕ) (n t : Tree) (ls : List (List ℕ)) → n.leaves ≡ ls ++ t.leaves → 1 ≤ length t.leaves → at + length (text t) ≡ length (text n) + k → SparesLast at n → SparesLast k t
 spares_last_of k at n t ls e some same s =
     let last = ap (last_chars 0) e ∙ last_chars-append 0 ls t.leaves ∙ last_chars-some (last_chars 0 ls) 0 t.leaves some in
     record { some = omega (arith, s.some, last); before = omega (arith, s.before, last, same) }

@@ -11,3 +11,4 @@ pub mod PartTexts
 pub mod Puts
 pub mod Gaps
 pub mod OneWay
+pub mod Ends

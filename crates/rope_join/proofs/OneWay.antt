@@ -2,24 +2,28 @@
 use Rattle.std.proofs.Common.{◌≡◌, ℕ, zero, suc, ◌+◌, ◌-◌, ◌^◌, ◌<◌, ◌≤◌, List, [], ◌∷◌, ◌++◌, length, take, drop, get_or, refl, sym, ap, ap₂, subst, ◌∙◌, arith, inl, inr}
 use Rattle.std.specs.List.{concat}
 use Rattle.std.proofs.lemmas.Bool.{cases_lt}
-use Rattle.std.proofs.lemmas.List.{append-nil, drop_all, append_assoc, length-append, length-take-le, length-drop, take-take}
+use Rattle.std.proofs.lemmas.List.{take-append-drop, append-nil, drop_all, append_assoc, length-append, length-take-le, length-drop, take-take}
 use Rattle.rope_text.specs.Text.{byte_len}
 use Rattle.rope_text.specs.Dense.{IsDenseBehind, last_bytes}
 use Rattle.rope_text.proofs.Measures.{IsMeasure-byte_len}
 use Rattle.rope_text.proofs.CuttingLaws.{concat-append}
 use Rattle.rope_text.proofs.DenseLaws.{last_bytes-append, last_bytes-some, dense-append, dense_left, dense_right, dense_more}
 use Rattle.rope_tree.specs.Leaves.{AreLeaves, IsSeam}
-use Rattle.rope_tree.specs.Tree.{Tree, text, joined, leaves_of, height_of, breaks_of, tree_over, IsTree, AreChildren}
-use Rattle.rope_tree.proofs.LeafLaws.{leaves-append, leaves_right, leaves_seam, leaves_near, seam_of_left, seam_of_right, seam_left_longer, seam_right_longer, seam-take, seam-drop}
+use Rattle.rope_tree.specs.Tree.{IsChild, Tree, text, joined, leaves_of, height_of, breaks_of, tree_over, IsTree, AreChildren}
+use Rattle.rope_tree.proofs.LeafLaws.{all_left, leaves-append, leaves_right, leaves_seam, leaves_near, seam_of_left, seam_of_right, seam_left_longer, seam_right_longer, seam-take, seam-drop}
 use Rattle.rope_tree.proofs.NodeLaws.{joined_parts, joined_more}
 use Rattle.rope_tree.proofs.BuildLaws.{nodes_le}
+use Rattle.rope_tree.proofs.TreeLaws.{breaks_of_is}
 use Rattle.rope_text.specs.Edit.{inserted}
 use Rattle.rope_tree.proofs.InsertLaws.{seam_ends, seam_begins, text_of}
 use Rattle.rope_tree.proofs.InsertTrees.{inserted_is, byte_len-inserted}
 use Rattle.rope_join.specs.Cut.{SparesFirst, SparesLast, IsSides}
-use Rattle.rope_join.specs.Put.{CanPut, IsPut, leaves_before, leaves_behind}
-use Rattle.rope_join.proofs.Cuts.{CutsAt, front_text, back_text}
-use Rattle.rope_join.proofs.Seams.{left_le}
+use Rattle.rope_join.specs.Put.{CanPut, CanPutAtEnd, IsPut, leaves_before, leaves_behind}
+use Rattle.rope_tree.specs.Siblings.{gathered}
+use Rattle.rope_tree.proofs.Gathered.{is_gathered}
+use Rattle.rope_join.specs.Join.{IsJoin}
+use Rattle.rope_join.proofs.Cuts.{CutsAt, spares_first_of, spares_last_of, front_text, back_text}
+use Rattle.rope_join.proofs.Seams.{left_le, join_text}
 
 -- a child doesn't depend on what a place past the end would give
 pub same_child : (ts : List Tree) (i : ℕ) (d e : Tree) → i < length ts → get_or ts i d ≡ get_or ts i e
@@ -86,6 +90,87 @@ module _ (n : Tree) (ts : List Tree) (i j from to start end : ℕ) (a b : Tree)
     next_by spares =
         let ys = leaves_of (drop (j + 1) ts) in
         dense_more (last_bytes 492 b.leaves) (last_bytes 492 part.leaves) ys (sides.ahead spares 492 492) (leaves_near b.leaves ys own)
+
+    module _ (seam : IsSeam (take start (text n)) (drop end (text n))) where
+      ends_only : IsSeam (joined (take i ts) ++ take from (text a)) (drop to (text b) ++ joined (drop (j + 1) ts))
+      ends_only = rw (front, rear) at seam
+
+      -- at the ends of a node
+      pub can_put_at_end : i < j + 1 → j < length ts → (j + 1 < length ts → i ≡ 0) → (j + 1 ≡ length ts → 0 < i) → IsTree part → CanPutAtEnd ts i (j + 1) part
+      can_put_at_end ordered within at_first at_last tree =
+          let xs = leaves_of (take i ts) in
+          let ys = joined (drop (j + 1) ts) in
+          let begins : IsSeam (concat xs) (text a) = seam_of_left (concat xs) (text a) (concat (leaves_of (drop (i + 1) ts))) (subst (IsSeam (concat xs)) (concat-append a.leaves (leaves_of (drop (i + 1) ts))) (leaves_seam xs (a.leaves ++ leaves_of (drop (i + 1) ts)) s.leaves)) in
+          let last : IsSeam (drop to (text b)) ys = seam-drop to (text b) ys (leaves_seam b.leaves (leaves_of (drop (j + 1) ts)) own) in
+          record {
+            ordered = ordered;
+            within = omega (arith, within);
+            at_start = at_first;
+            at_end = at_last;
+            tree = tree;
+            same_breaks = same_breaks;
+            not_higher = omega (arith, sides.not_higher, s.above, t.above, ap (λ u. u.height) is);
+            seam_before = rw sides.text_is (seam_right_longer (concat xs) (take from (text a)) (drop to (text b)) (seam-take from (concat xs) (text a) begins) (seam_of_left (concat xs ++ take from (text a)) (drop to (text b)) ys ends_only));
+            seam_behind = rw sides.text_is (seam_left_longer (take from (text a)) (drop to (text b)) ys (seam_of_right (concat xs) (take from (text a)) (drop to (text b) ++ ys) ends_only) last);
+            fits = omega (arith, sizes, ap byte_len sides.text_is, IsMeasure-byte_len.joined (take from (text a)) (drop to (text b)));
+          }
+
+    pub first_sides : (r : Tree) → i ≡ 0 → j + 1 < length ts → (gathered (drop (j + 1) ts)).height ≤ height_of ts + 1 → IsJoin part (gathered (drop (j + 1) ts)) r → IsSides n start n end r
+    first_sides r none more low joined_is =
+        let ys = leaves_of (drop (j + 1) ts) in
+        let rest = a.leaves ++ leaves_of (drop (i + 1) ts) in
+        let some_ys : 1 ≤ length ys = omega (arith, nodes_le b.breaks b.height (drop (j + 1) ts) t.after, length-drop (j + 1) ts, more) in
+        let g = is_gathered (drop (j + 1) ts) (omega (arith, length-drop (j + 1) ts, more)) in
+        let no_leaves : leaves_of (take i ts) ≡ [] = ap (λ k. leaves_of (take k ts)) none in
+        let leaves_are : n.leaves ≡ rest = s.leaves_is ∙ ap (λ ls. ls ++ rest) no_leaves in
+        let whole_front : take start (text n) ≡ take from (text a) = front ∙ ap (λ ls. concat ls ++ take from (text a)) no_leaves in
+        let spared : SparesFirst start n → SparesFirst from a = spares_first_of from start n a (leaves_of (drop (i + 1) ts)) leaves_are s.some (omega (arith, at_start, ap (λ ls. length (concat ls)) no_leaves)) in
+        record {
+          text_is = join_text part (gathered (drop (j + 1) ts)) r joined_is ∙ ap₂ (λ x y. x ++ concat y) sides.text_is g.leaves ∙ append_assoc (take from (text a)) (drop to (text b)) (concat ys) ∙ ap₂ (λ x y. x ++ y) (sym whole_front) (sym rear);
+          same_breaks = joined_is.same_breaks ∙ same_breaks ∙ sym (ap (λ u. u.breaks) is);
+          leaves = joined_is.recuts.leaves;
+          not_higher = omega (arith, joined_is.most, low, sides.not_higher, s.above, t.above, ap (λ u. u.height) is);
+          behind = λ spares m dense. joined_is.recuts.behind (some_by (spared spares)) m (sides.behind (spared spares) m (dense_left m a.leaves (leaves_of (drop (i + 1) ts)) (subst (IsDenseBehind m) leaves_are dense)));
+          ahead = λ _ m k.
+              let front_leaves = leaves_of (take j ts) in
+              let old : last_bytes m n.leaves ≡ last_bytes 0 ys =
+              ap (last_bytes m) t.leaves_is ∙ last_bytes-append m front_leaves (b.leaves ++ ys) ∙ last_bytes-append (last_bytes m front_leaves) b.leaves ys ∙ last_bytes-some (last_bytes (last_bytes m front_leaves) b.leaves) 0 ys some_ys in
+              omega (arith, old, joined_is.recuts.last (rw g.leaves some_ys) 0 k, ap (last_bytes 0) g.leaves);
+        }
+
+    pub last_sides : (r : Tree) → 0 < i → i ≤ length ts → j + 1 ≡ length ts → (gathered (take i ts)).height ≤ height_of ts + 1 → IsJoin (gathered (take i ts)) part r → IsSides n start n end r
+    last_sides r more le all low joined_is =
+        let xs = leaves_of (take i ts) in
+        let front_leaves = leaves_of (take j ts) in
+        let some_xs : 1 ≤ length xs = omega (arith, nodes_le a.breaks a.height (take i ts) s.before, length-take-le i ts le, more) in
+        let g = is_gathered (take i ts) (omega (arith, length-take-le i ts le, more)) in
+        let none : drop (j + 1) ts ≡ [] = drop_all (j + 1) ts (omega (arith, all)) in
+        let leaves_are : n.leaves ≡ front_leaves ++ b.leaves = t.leaves_is ∙ ap (λ us. front_leaves ++ (b.leaves ++ leaves_of us)) none ∙ ap (λ ls. front_leaves ++ ls) (append-nil b.leaves) in
+        let whole_rear : drop end (text n) ≡ drop to (text b) = rear ∙ ap (λ us. drop to (text b) ++ joined us) none ∙ append-nil (drop to (text b)) in
+        let lengths = ap length t.text_is ∙ length-append (joined (take j ts)) (text b ++ joined (drop (j + 1) ts)) in
+        let no_rest : length (text b ++ joined (drop (j + 1) ts)) ≡ length (text b) = ap (λ us. length (text b ++ joined us)) none ∙ ap length (append-nil (text b)) in
+        let spared : SparesLast end n → SparesLast to b = spares_last_of to end n b front_leaves leaves_are t.some (omega (arith, at_end, lengths, no_rest)) in
+        record {
+          text_is = join_text (gathered (take i ts)) part r joined_is ∙ ap₂ (λ x y. concat x ++ y) g.leaves sides.text_is ∙ sym (append_assoc (concat xs) (take from (text a)) (drop to (text b))) ∙ ap₂ (λ x y. x ++ y) (sym front) (sym whole_rear);
+          same_breaks = joined_is.same_breaks ∙ g.same_breaks ∙ first_breaks_of ∙ sym (ap (λ u. u.breaks) is);
+          leaves = joined_is.recuts.leaves;
+          not_higher = omega (arith, joined_is.most, low, sides.not_higher, s.above, t.above, ap (λ u. u.height) is);
+          behind = λ _ m dense. joined_is.recuts.behind (rw g.leaves some_xs) m (rw g.leaves (dense_left m xs (a.leaves ++ leaves_of (drop (i + 1) ts)) (subst (IsDenseBehind m) s.leaves_is dense)));
+          ahead = λ spares m k.
+              let last = sides.ahead (spared spares) (last_bytes m front_leaves) 0 in
+              let old : last_bytes m n.leaves ≡ last_bytes (last_bytes m front_leaves) b.leaves = ap (last_bytes m) leaves_are ∙ last_bytes-append m front_leaves b.leaves in
+              omega (arith, old, last, joined_is.recuts.last (some_behind (spared spares)) 0 k);
+        }
+      where
+        first_breaks_of : breaks_of (take i ts) ≡ breaks_of ts
+        first_breaks_of = breaks_of_is (breaks_of ts) (height_of ts) (take i ts) (omega (arith, length-take-le i ts le, more)) (all_left (IsChild (breaks_of ts) (height_of ts)) (take i ts) (drop i ts) (rw take-append-drop c.each))
+
+        leaves_some : (ls : List (List ℕ)) → 1 ≤ length (concat ls) → 1 ≤ length ls
+        leaves_some [] none = absurd (omega arith)
+        leaves_some (x ∷ xs) none = omega arith
+
+        some_behind : SparesLast to b → 1 ≤ length part.leaves
+        some_behind spares = leaves_some part.leaves (omega (arith, spares.some, spares.before, length-drop to (text b), ap length sides.text_is, length-append (take from (text a)) (drop to (text b))))
 
     module _ (seam : IsSeam (take start (text n)) (drop end (text n))) (next : IsDenseBehind (last_bytes 492 part.leaves) (leaves_of (drop (j + 1) ts))) where
       ends : IsSeam (joined (take i ts) ++ take from (text a)) (drop to (text b) ++ joined (drop (j + 1) ts))

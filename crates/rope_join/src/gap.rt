@@ -5,16 +5,18 @@ ghost use Rattle.rope_text.specs.declared.TheConstants.{MIN_PAIR_BYTES};
 ghost use Rattle.rope_text.specs.Dense.{IsDenseBehind, last_bytes};
 ghost use Rattle.rope_text.specs.Text.{byte_len};
 ghost use Rattle.rope_tree.specs.Leaves.{IsSeam};
+ghost use Rattle.rope_tree.specs.Siblings.{gathered};
 ghost use Rattle.rope_tree.specs.Totals.{HasTotals};
 ghost use Rattle.rope_tree.specs.Tree.{text, leaves_of, height_of, breaks_of, IsTree, AreFamily};
 ghost use Rattle.rope_join.specs.Cut.{SparesFirst, SparesLast, IsSides};
-ghost use Rattle.rope_join.specs.Put.{CanPut, IsPut, leaves_before};
+ghost use Rattle.rope_join.specs.Put.{CanPut, CanPutAtEnd, IsPut, IsPutAtEnd, leaves_before};
 
 use crate::cut::{back, front};
 use crate::join::{end_leaf_len, join, unite};
 use rope_text::{MIN_PAIR_BYTES, Steps};
 use rope_tree::{
-    Made, Maker, Node, Row, Totals, Unit, View, pack, pack_over, place_of, root_of, total_before,
+    Made, Maker, Node, Row, Totals, Unit, View, node_over, pack, pack_over, place_of, root_of,
+    total_before,
 };
 
 /// Above this height a removal goes by a front and a back of the whole tree: so the nodes that it makes are bounded by the height, and
@@ -120,6 +122,41 @@ pub(crate) fn put(
     root_of(maker, packed)
 }
 
+/// Nodes side by side as one: the only one, or a node over them.
+fn gather(maker: &mut Maker, nodes: &[Node]) -> Made<Node>
+    requires some { 1 ≤ length nodes.now }
+    requires family { 2 ≤ length nodes.now → AreFamily nodes.now }
+    ensures ok { IfOk result (λ node. node ≡ gathered nodes.now) }
+    ensures made { maker.new.made ≤ maker.old.made + 1 }
+{
+    if nodes.len() == 1 {
+        return nodes[0].share();
+    }
+    node_over(maker, nodes)
+}
+
+/// A tree in the place of the first children of a node, up to `past`, or of the last, from `first` on.
+fn put_at_end(
+    maker: &mut Maker,
+    children: &[Node],
+    first: usize,
+    past: usize,
+    part: &Node,
+) -> Made<Node>
+    requires children { AreFamily children.now }
+    requires put { CanPutAtEnd children.now first past part.now }
+    ensures put { IfOk result (λ node. IsPutAtEnd children.now first past part.now node) }
+    ensures tree { IfOk result (λ node. IsTree node) }
+    ensures made { maker.new.made ≤ maker.old.made + 2 * height_of children.now + 6 }
+{
+    if past < children.len() {
+        let after = gather(maker, &children[past..])?;
+        return join(maker, part, &after);
+    }
+    let before = gather(maker, &children[..first])?;
+    join(maker, &before, part)
+}
+
 /// The tree without the characters from `start` up to `end`, at least one, where no CR meets an LF.
 pub(crate) fn without(maker: &mut Maker, node: &Node, start: usize, end: usize) -> Made<Node>
     requires ordered { start < end }
@@ -153,6 +190,13 @@ pub(crate) fn without(maker: &mut Maker, node: &Node, start: usize, end: usize) 
                 };
                 return put(maker, children, totals, first, last + 1, &part);
             }
+        } else if height > 1 && (first > 0 || last + 1 < children.len()) {
+            let part = if first == last {
+                without(maker, left, from, to)?
+            } else {
+                join_sides(maker, left, from, right, to)?
+            };
+            return put_at_end(maker, children, first, last + 1, &part);
         }
     }
     join_sides(maker, node, start, node, end)

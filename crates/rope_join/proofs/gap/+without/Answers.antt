@@ -1,4 +1,4 @@
-use Rattle.std.proofs.Common.{◌≡◌, ℕ, ◌+◌, ◌-◌, ◌≤◌, ◌<◌, length, take, drop, get_or, sym, ap, subst, ◌∙◌, arith}
+use Rattle.std.proofs.Common.{◌≡◌, ℕ, ◌+◌, ◌-◌, ◌≤◌, ◌<◌, length, take, drop, get_or, sym, ap, subst, ◌∙◌, arith, inl, inr, ltb, true}
 use Rattle.std.proofs.lemmas.Result.{IfOk-weaker}
 use Rattle.rope_tree.specs.declared.search.Unit.TheVariants.{Char}
 use Rattle.rope_tree.specs.Leaves.{IsSeam}
@@ -8,9 +8,11 @@ use Rattle.rope_tree.proofs.Descents.{Descends, descends}
 use Rattle.rope_join.specs.Cut.{IsSides}
 use Rattle.rope_join.proofs.Cuts.{CutsAt, cuts_at}
 use Rattle.rope_join.proofs.Gaps.{leaf_by_bytes}
-use Rattle.rope_join.proofs.OneWay.{same_child, in_order, part_fits, part_seam, some_by, near_by, next_by, can_put, put_sides}
+use Rattle.rope_join.proofs.OneWay.{same_child, in_order, part_fits, part_seam, some_by, near_by, next_by, can_put, put_sides, can_put_at_end, first_sides, last_sides}
+use Rattle.rope_join.proofs.Ends.{low_before, low_behind}
+use Rattle.std.proofs.lemmas.Bool.{cases_lt}
 use Rattle.rope_join.proofs.Seams.{left_le}
-use Rattle.rope_join.proofs.gap.+without.Goals.{After-total_before, Joined-first-last, After-total_before-2, then-first-last+in_ok-part-2, else-first-last+in_ok-part-3}
+use Rattle.rope_join.proofs.gap.+without.Goals.{After-total_before, Joined-first-last-2, then-first-gt0-2, else-first-gt0-2, then-first-last-2+in_ok-part-4, else-first-last-2+in_ok-part-5, else-first-gt0-via-then-first-gt0+else-last-children, else-first-gt0-via-else-first-gt0, Joined-first-last, After-total_before-2, then-first-last+in_ok-part-2, else-first-last+in_ok-part-3}
 use Rattle.rope_join.proofs.gap.+without.Goals as goal
 
 -- the ways down to the two ends
@@ -200,3 +202,92 @@ returns-then-stands-clause-sides t c =
 
 pub join_sides-requires-2-clause-fits : goal.join_sides-requires-2-clause-fits
 join_sides-requires-2-clause-fits t c = omega (arith, c.height-height.ensures.tree.fits, left_le (text c.args.node.now) c.args.start c.args.end (omega (arith, c.requires.ordered)))
+
+pub without-requires-then-first-last-2 : goal.without-requires-then-first-last-2
+without-requires-then-first-last-2 t c =
+    let e = (goal.at.without-requires-then-first-last-2 t c).After-total_before-2 in
+    let one = one_child t e c.if-first-last-2.true in
+    let fronts = ap (λ k. length (joined (take k c.in-Inner.children.now))) c.if-first-last-2.true in (
+      omega (arith, c.decreases, (first_cut t e).above),
+      (
+        omega (arith, at_start t e, at_end t e, fronts, c.requires.ordered),
+        (
+          omega (arith, in_last t e, ap (λ u. length (text u)) one),
+          subst (λ u. IsSeam (take (c.args.start - c.total_before.result.chars) (text c.index-children-first.result)) (drop (c.args.end - c.total_before-2.result.chars) (text u))) one (seam t e),
+        ),
+      ),
+    )
+
+pub join_sides-requires-else-first-last-2-clause-end : goal.join_sides-requires-else-first-last-2-clause-end
+join_sides-requires-else-first-last-2-clause-end t c = in_first t (goal.at.join_sides-requires-else-first-last-2-clause-end t c).After-total_before-2
+
+pub join_sides-requires-else-first-last-2-clause-start : goal.join_sides-requires-else-first-last-2-clause-start
+join_sides-requires-else-first-last-2-clause-start t c = in_last t (goal.at.join_sides-requires-else-first-last-2-clause-start t c).After-total_before-2
+
+pub join_sides-requires-else-first-last-2-clause-same_breaks : goal.join_sides-requires-else-first-last-2-clause-same_breaks
+join_sides-requires-else-first-last-2-clause-same_breaks t c =
+    let e = (goal.at.join_sides-requires-else-first-last-2-clause-same_breaks t c).After-total_before-2 in
+    (last_cut t e).same_breaks ∙ sym (first_cut t e).same_breaks
+
+pub join_sides-requires-else-first-last-2-clause-seam : goal.join_sides-requires-else-first-last-2-clause-seam
+join_sides-requires-else-first-last-2-clause-seam t c = seam t (goal.at.join_sides-requires-else-first-last-2-clause-seam t c).After-total_before-2
+
+pub join_sides-requires-else-first-last-2-clause-fits : goal.join_sides-requires-else-first-last-2-clause-fits
+join_sides-requires-else-first-last-2-clause-fits t c =
+    let e = (goal.at.join_sides-requires-else-first-last-2-clause-fits t c).After-total_before-2 in
+    part_fits c.args.node.now c.in-Inner.children.now c.place_of-first.result c.place_of-last.result (c.args.start - c.total_before.result.chars) (c.args.end - c.total_before-2.result.chars) c.args.start c.args.end c.index-children-first.result c.index-children-last.result
+    (first_cut t e) (last_cut t e) (at_start t e) (at_end t e) (in_first t e) (in_last t e) (omega (arith, c.requires.ordered)) (whole t e)
+
+end_part : (t : ℕ) (c : Joined-first-last-2 t) → IsSides c.index-children-first.result (c.args.start - c.total_before.result.chars) c.index-children-last.result (c.args.end - c.total_before-2.result.chars) c.if-first-last-2.part × IsTree c.if-first-last-2.part
+end_part t c = elim c.if-first-last-2.branch [
+  | then-first-last-2+in_ok-part-4 w ↦
+      let e = (goal.at.Joined-first-last-2 t c).After-total_before-2 in
+      let one = one_child t e w.if-first-last-2.true in
+      rw (one, w.part-is) (w.in_ok-part-4.ensures.sides, w.in_ok-part-4.ensures.tree)
+  | else-first-last-2+in_ok-part-5 w ↦ rw w.part-is (w.in_ok-part-5.ensures.sides, w.in_ok-part-5.ensures.tree)
+]
+
+-- the children that are cut are the first or the last of the node, and not all
+at_first : (t : ℕ) (c : Joined-first-last-2 t) → c.place_of-last.result + 1 < length c.in-Inner.children.now → c.place_of-first.result ≡ 0
+at_first t c more = elim c.else-first-gt0.branch [
+  | else-first-gt0-via-then-first-gt0+else-last-children w ↦ absurd (omega (arith, w.if-last-children.false, more))
+  | else-first-gt0-via-else-first-gt0 w ↦ omega (arith, w.if-first-gt0.false)
+]
+
+beyond : (m n : ℕ) → m ≡ n → ltb m n ≡ true → ⊥
+beyond m n same e = grind (arith, same, e)
+
+at_last : (t : ℕ) (c : Joined-first-last-2 t) → c.place_of-last.result + 1 ≡ length c.in-Inner.children.now → 0 < c.place_of-first.result
+at_last t c same = elim c.if-first-gt0-2.branch [
+  | then-first-gt0-2 w ↦ omega (arith, w.if-first-gt0-2.true)
+  | else-first-gt0-2 w ↦ absurd (beyond (c.place_of-last.result + 1) (length c.in-Inner.children.now) same (sym w.value-is ∙ c.if-last-children-2.true))
+]
+
+pub put_at_end-requires-clause-put : goal.put_at_end-requires-clause-put
+put_at_end-requires-clause-put t c =
+    let e = (goal.at.put_at_end-requires-clause-put t c).After-total_before-2 in
+    let f = (goal.at.put_at_end-requires-clause-put t c).Joined-first-last-2 in
+    let is = end_part t f in
+    can_put_at_end c.args.node.now c.in-Inner.children.now c.place_of-first.result c.place_of-last.result (c.args.start - c.total_before.result.chars) (c.args.end - c.total_before-2.result.chars) c.args.start c.args.end c.index-children-first.result c.index-children-last.result
+    (first_cut t e) (last_cut t e) (at_start t e) (at_end t e) (in_first t e) (in_last t e) (omega (arith, c.requires.ordered)) (whole t e) c.if-first-last-2.part c.in-Inner.ensures.children c.in-Inner.ensures.is is.0 c.requires.seam
+    (ordered t e) (last_down t e).within (at_first t f) (at_last t f) is.1
+
+pub returns-then-last-children-2-clause-sides : goal.returns-then-last-children-2-clause-sides
+returns-then-last-children-2-clause-sides t c =
+    let e = (goal.at.returns-then-last-children-2-clause-sides t c).After-total_before-2 in
+    let f = (goal.at.returns-then-last-children-2-clause-sides t c).Joined-first-last-2 in
+    let is = end_part t f in
+    let ts = c.in-Inner.children.now in
+    let can = can_put_at_end c.args.node.now c.in-Inner.children.now c.place_of-first.result c.place_of-last.result (c.args.start - c.total_before.result.chars) (c.args.end - c.total_before-2.result.chars) c.args.start c.args.end c.index-children-first.result c.index-children-last.result
+    (first_cut t e) (last_cut t e) (at_start t e) (at_end t e) (in_first t e) (in_last t e) (omega (arith, c.requires.ordered)) (whole t e) c.if-first-last-2.part c.in-Inner.ensures.children c.in-Inner.ensures.is is.0 c.requires.seam
+    (ordered t e) (last_down t e).within (at_first t f) (at_last t f) is.1 in
+    IfOk-weaker c.put_at_end.result _ (IsSides c.args.node.now c.args.start c.args.node.now c.args.end) (λ r p.
+    elim (cases_lt (c.place_of-last.result + 1) (length ts)) [
+      | inl more ↦
+          first_sides c.args.node.now c.in-Inner.children.now c.place_of-first.result c.place_of-last.result (c.args.start - c.total_before.result.chars) (c.args.end - c.total_before-2.result.chars) c.args.start c.args.end c.index-children-first.result c.index-children-last.result
+          (first_cut t e) (last_cut t e) (at_start t e) (at_end t e) (in_first t e) (in_last t e) (omega (arith, c.requires.ordered)) (whole t e) c.if-first-last-2.part c.in-Inner.ensures.children c.in-Inner.ensures.is is.0 r (at_first t f more) more (low_behind ts c.in-Inner.ensures.children c.place_of-first.result (c.place_of-last.result + 1) c.if-first-last-2.part can more) (p.before more)
+      | inr none ↦
+          let all : c.place_of-last.result + 1 ≡ length ts = omega (arith, none, (last_down t e).within) in
+          last_sides c.args.node.now c.in-Inner.children.now c.place_of-first.result c.place_of-last.result (c.args.start - c.total_before.result.chars) (c.args.end - c.total_before-2.result.chars) c.args.start c.args.end c.index-children-first.result c.index-children-last.result
+          (first_cut t e) (last_cut t e) (at_start t e) (at_end t e) (in_first t e) (in_last t e) (omega (arith, c.requires.ordered)) (whole t e) c.if-first-last-2.part c.in-Inner.ensures.children c.in-Inner.ensures.is is.0 r (at_last t f all) (omega (arith, (ordered t e), (last_down t e).within)) all (low_before ts c.in-Inner.ensures.children c.place_of-first.result (c.place_of-last.result + 1) c.if-first-last-2.part can (at_last t f all)) (p.behind all)
+    ]) c.put_at_end.ensures.put
