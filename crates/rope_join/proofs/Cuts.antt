@@ -249,7 +249,7 @@ module _ (n : Tree) (xs : List Tree) (t : Tree) (ys : List Tree) (s : CutsAt n x
               rw (s.leaves_is, last_bytes-append a (leaves_of xs) (t.leaves ++ leaves_of ys), last_bytes-append front t.leaves (leaves_of ys)) (rw gi.leaves at last)
 
 -- all of a tree
-some_list : (ls : List (List ℕ)) → 1 ≤ length (concat ls) → 1 ≤ length ls
+pub some_list : (ls : List (List ℕ)) → 1 ≤ length (concat ls) → 1 ≤ length ls
 some_list [] some = absurd (omega arith)
 some_list (l ∷ ls) some = omega arith
 

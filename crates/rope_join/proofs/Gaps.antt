@@ -16,7 +16,7 @@ use Rattle.rope_tree.proofs.LeafLaws.{all_left, all_right, leaves_right}
 use Rattle.rope_tree.proofs.BuildLaws.{nodes_le}
 use Rattle.rope_join.specs.Cut.{first_chars, last_chars, SparesFirst, SparesLast, IsFront, IsBack, IsSides}
 use Rattle.rope_join.specs.Join.{IsJoin}
-use Rattle.rope_join.proofs.Cuts.{first_chars-append, last_chars-append, last_chars-some}
+use Rattle.rope_join.proofs.Cuts.{some_list, first_chars-append, last_chars-append, last_chars-some}
 use Rattle.rope_join.proofs.Seams.{join_text}
 
 first_le : (ls : List (List ℕ)) → first_chars ls ≤ length (concat ls)
@@ -108,18 +108,10 @@ pub leaf_by_bytes : (t : Tree) → 1 ≤ byte_len (text t) → 1 ≤ length t.le
 leaf_by_bytes t some = leaves_by_bytes t.leaves some
 
 some_by_first : (l part : Tree) (at : ℕ) → at ≤ length (text l) → SparesFirst at l → text part ≡ take at (text l) → 1 ≤ length part.leaves
-some_by_first l part at le s e = leaves_some part.leaves (omega (arith, s.some, s.past, ap length e, length-take-le at (text l) le))
-  where
-    leaves_some : (ls : List (List ℕ)) → 1 ≤ length (concat ls) → 1 ≤ length ls
-    leaves_some [] some = absurd (omega arith)
-    leaves_some (x ∷ xs) some = omega arith
+some_by_first l part at le s e = some_list part.leaves (omega (arith, s.some, s.past, ap length e, length-take-le at (text l) le))
 
 some_by_last : (l part : Tree) (at : ℕ) → SparesLast at l → text part ≡ drop at (text l) → 1 ≤ length part.leaves
-some_by_last l part at s e = leaves_some part.leaves (omega (arith, s.some, s.before, ap length e, length-drop at (text l)))
-  where
-    leaves_some : (ls : List (List ℕ)) → 1 ≤ length (concat ls) → 1 ≤ length ls
-    leaves_some [] some = absurd (omega arith)
-    leaves_some (x ∷ xs) some = omega arith
+some_by_last l part at s e = some_list part.leaves (omega (arith, s.some, s.before, ap length e, length-drop at (text l)))
 
 -- a front and a back that are joined
 pub sides_joined : (left right first second node : Tree) (end start : ℕ) → end ≤ length (text left) → IsFront end left first → IsBack start right second → IsJoin first second node → IsSides left end right start node

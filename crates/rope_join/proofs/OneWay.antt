@@ -22,7 +22,7 @@ use Rattle.rope_join.specs.Put.{CanPut, CanPutAtEnd, IsPut, leaves_before, leave
 use Rattle.rope_tree.specs.Siblings.{gathered}
 use Rattle.rope_tree.proofs.Gathered.{is_gathered}
 use Rattle.rope_join.specs.Join.{IsJoin}
-use Rattle.rope_join.proofs.Cuts.{CutsAt, spares_first_of, spares_last_of, front_text, back_text}
+use Rattle.rope_join.proofs.Cuts.{some_list, CutsAt, spares_first_of, spares_last_of, front_text, back_text}
 use Rattle.rope_join.proofs.Seams.{left_le, join_text}
 
 -- a child doesn't depend on what a place past the end would give
@@ -72,11 +72,7 @@ module _ (n : Tree) (ts : List Tree) (i j from to start end : ℕ) (a b : Tree)
 
     -- what the leaves at its ends may stand beside, where they are those of the children
     pub some_by : SparesFirst from a → 1 ≤ length part.leaves
-    some_by spares = leaves_some part.leaves (omega (arith, spares.some, spares.past, length-take-le from (text a) in_a, ap length sides.text_is, length-append (take from (text a)) (drop to (text b))))
-      where
-        leaves_some : (ls : List (List ℕ)) → 1 ≤ length (concat ls) → 1 ≤ length ls
-        leaves_some [] none = absurd (omega arith)
-        leaves_some (x ∷ xs) none = omega arith
+    some_by spares = some_list part.leaves (omega (arith, spares.some, spares.past, length-take-le from (text a) in_a, ap length sides.text_is, length-append (take from (text a)) (drop to (text b))))
 
     pub near_by : SparesFirst from a → IsDenseBehind (last_bytes 492 (leaves_before ts i)) part.leaves
     near_by spares =
@@ -165,12 +161,9 @@ module _ (n : Tree) (ts : List Tree) (i j from to start end : ℕ) (a b : Tree)
         first_breaks_of : breaks_of (take i ts) ≡ breaks_of ts
         first_breaks_of = breaks_of_is (breaks_of ts) (height_of ts) (take i ts) (omega (arith, length-take-le i ts le, more)) (all_left (IsChild (breaks_of ts) (height_of ts)) (take i ts) (drop i ts) (rw take-append-drop c.each))
 
-        leaves_some : (ls : List (List ℕ)) → 1 ≤ length (concat ls) → 1 ≤ length ls
-        leaves_some [] none = absurd (omega arith)
-        leaves_some (x ∷ xs) none = omega arith
 
         some_behind : SparesLast to b → 1 ≤ length part.leaves
-        some_behind spares = leaves_some part.leaves (omega (arith, spares.some, spares.before, length-drop to (text b), ap length sides.text_is, length-append (take from (text a)) (drop to (text b))))
+        some_behind spares = some_list part.leaves (omega (arith, spares.some, spares.before, length-drop to (text b), ap length sides.text_is, length-append (take from (text a)) (drop to (text b))))
 
     module _ (seam : IsSeam (take start (text n)) (drop end (text n))) (next : IsDenseBehind (last_bytes 492 part.leaves) (leaves_of (drop (j + 1) ts))) where
       ends : IsSeam (joined (take i ts) ++ take from (text a)) (drop to (text b) ++ joined (drop (j + 1) ts))
@@ -233,11 +226,7 @@ module _ (n : Tree) (ts : List Tree) (k i at : ℕ) (a : Tree) (new : List ℕ) 
   last_is = longer ∙ sym (append_assoc (take i (text a)) new (drop i (text a)))
 
   pub inserted_some : 1 ≤ length part.leaves
-  inserted_some = leaves_some part.leaves (omega (arith, ap length longer, length-append (take i (text a)) (new ++ drop i (text a)), length-take-le i (text a) (omega (arith, more)), inside))
-    where
-      leaves_some : (ls : List (List ℕ)) → 1 ≤ length (concat ls) → 1 ≤ length ls
-      leaves_some [] none = absurd (omega arith)
-      leaves_some (x ∷ xs) none = omega arith
+  inserted_some = some_list part.leaves (omega (arith, ap length longer, length-append (take i (text a)) (new ++ drop i (text a)), length-take-le i (text a) (omega (arith, more)), inside))
 
   inserted_texts : concat (leaves_behind ts (k + 1) part) ≡ text part ++ joined (drop (k + 1) ts)
   inserted_texts = concat-append part.leaves (leaves_of (drop (k + 1) ts))
