@@ -161,7 +161,6 @@ module _ (n : Tree) (ts : List Tree) (i j from to start end : ℕ) (a b : Tree)
         first_breaks_of : breaks_of (take i ts) ≡ breaks_of ts
         first_breaks_of = breaks_of_is (breaks_of ts) (height_of ts) (take i ts) (omega (arith, length-take-le i ts le, more)) (all_left (IsChild (breaks_of ts) (height_of ts)) (take i ts) (drop i ts) (rw take-append-drop c.each))
 
-
         some_behind : SparesLast to b → 1 ≤ length part.leaves
         some_behind spares = some_list part.leaves (omega (arith, spares.some, spares.before, length-drop to (text b), ap length sides.text_is, length-append (take from (text a)) (drop to (text b))))
 

@@ -1,5 +1,6 @@
-//! Trees with a part taken out or put in, and put one behind the other. Where a CR and an LF would meet at a seam, the two
-//! become a leaf of their own between what stands before and what follows, so that no CR LF lies across two leaves.
+//! Trees with a part taken out or put in, and put one behind the other. Where a CR and an LF would
+//! meet at a seam, the two become a leaf of their own between what stands before and what follows,
+//! so that no CR LF lies across two leaves.
 ghost use Rattle.std.specs.Prelude.{◌≡◌, ◌+◌, ◌*◌, ◌<◌, ◌≤◌, ◌^◌, ◌++◌, true, length, take, drop, max, IfOk, OnOk, OnErr};
 ghost use Rattle.std.specs.Str.{chars};
 ghost use Rattle.rope_text.specs.Text.{byte_len};
@@ -18,7 +19,8 @@ use rope_tree::{
     remove_at, total_before,
 };
 
-/// Whether a CR at the end of the first `end` characters of the one tree meets an LF behind the first `start` of the other.
+/// Whether a CR at the end of the first `end` characters of the one tree meets an LF behind the
+/// first `start` of the other.
 fn meets(left: &Node, end: usize, right: &Node, start: usize) -> bool
     requires tree { IsTree left.now }
     requires end { end ≤ length (text left.now) }
@@ -29,7 +31,8 @@ fn meets(left: &Node, end: usize, right: &Node, start: usize) -> bool
     end > 0 && char_at(left, end - 1, &mut Steps::new()) == '\r' && is_lf(right, start)
 }
 
-/// The first `end` characters of the one tree, and behind them what follows the first `start` of the other.
+/// The first `end` characters of the one tree, and behind them what follows the first `start` of
+/// the other.
 fn join_parts(maker: &mut Maker, left: &Node, end: usize, right: &Node, start: usize) -> Made<Node>
     requires tree { IsTree left.now }
     requires end { end ≤ length (text left.now) }
@@ -83,9 +86,9 @@ fn removed_from(maker: &mut Maker, root: &Node, start: usize, end: usize) -> Mad
     without(maker, root, start, end)
 }
 
-/// Takes the characters from `start` up to `end` out, at least one: where they lie in one leaf that may do without them, in
-/// that leaf alone, which isn't tried with more of them than a leaf has bytes; else by a tree without them. It takes the old one's
-/// place last of all.
+/// Takes the characters from `start` up to `end` out, at least one: where they lie in one leaf that
+/// may do without them, in that leaf alone, which isn't tried with more of them than a leaf has
+/// bytes; else by a tree without them. It takes the old one's place last of all.
 pub fn remove(maker: &mut Maker, root: &mut Node, start: usize, end: usize) -> Made<()>
     requires ordered { start < end }
     requires within { end ≤ length (text root.old) }
@@ -102,8 +105,9 @@ pub fn remove(maker: &mut Maker, root: &mut Node, start: usize, end: usize) -> M
     Ok(())
 }
 
-/// The tree with a text of any length before its character `at`: it is split, and the text goes between as a tree of its
-/// own. What is made of the old tree are its parts, so it costs what the new text and the height do.
+/// The tree with a text of any length before its character `at`: it is split, and the text goes
+/// between as a tree of its own. What is made of the old tree are its parts, so it costs what the
+/// new text and the height do.
 fn insert_apart(maker: &mut Maker, node: &Node, at: usize, added: &str) -> Made<Node>
     requires within { at ≤ length (text node.now) }
     requires fits { byte_len (text node.now) + length added.now < 2 ^ 63 }
@@ -141,7 +145,8 @@ fn insert_into_leaf(
     builder.finish(maker)
 }
 
-/// What stands before the character `start` of a tree, then another tree, and then what stands from its character `end` on.
+/// What stands before the character `start` of a tree, then another tree, and then what stands from
+/// its character `end` on.
 fn join_around(maker: &mut Maker, node: &Node, start: usize, part: &Node, end: usize) -> Made<Node>
     requires start { start ≤ length (text node.now) }
     requires end { end ≤ length (text node.now) }
@@ -162,12 +167,14 @@ fn join_around(maker: &mut Maker, node: &Node, start: usize, part: &Node, end: u
     join(maker, &first, &back)
 }
 
-/// A longer text goes between two parts of the tree. So many bytes and a leaf's make a node over leaves at the most.
+/// A longer text goes between two parts of the tree. So many bytes and a leaf's make a node over
+/// leaves at the most.
 const MAX_AMONG_BYTES: usize = 20 * MAX_BYTES;
 
-/// The tree with a text of any length before its character `at`. A text of some leaves is built into the leaf that holds the
-/// character, and the leaves that this gives are put in its place, on one way down; where they can't be, at the ends of a node or
-/// for a longer text, the tree is split. It costs what the new text and the height do.
+/// The tree with a text of any length before its character `at`. A text of some leaves is built
+/// into the leaf that holds the character, and the leaves that this gives are put in its place, on
+/// one way down; where they can't be, at the ends of a node or for a longer text, the tree is
+/// split. It costs what the new text and the height do.
 pub fn insert(maker: &mut Maker, node: &Node, at: usize, added: &str) -> Made<Node>
     requires within { at ≤ length (text node.now) }
     requires fits { byte_len (text node.now) + length added.now < 2 ^ 63 }

@@ -1,5 +1,6 @@
-//! Trees without some of their characters, on one way down to where the two ends of what goes part. There both ends are cut, and on
-//! the way back each node's children are listed once, with what became of those that were cut.
+//! Trees without some of their characters, on one way down to where the two ends of what goes part.
+//! There both ends are cut, and on the way back each node's children are listed once, with what
+//! became of those that were cut.
 ghost use Rattle.std.specs.Prelude.{◌≡◌, ◌+◌, ◌*◌, ◌<◌, ◌≤◌, ◌^◌, true, length, take, drop, max, IfOk};
 ghost use Rattle.rope_text.specs.declared.TheConstants.{MIN_PAIR_BYTES};
 ghost use Rattle.rope_text.specs.Dense.{IsDenseBehind, last_bytes};
@@ -19,8 +20,8 @@ use rope_tree::{
     total_before,
 };
 
-/// Above this height a removal goes by a front and a back of the whole tree: so the nodes that it makes are bounded by the height, and
-/// not by its square. Such a tree has half a gigabyte at the least.
+/// Above this height a removal goes by a front and a back of the whole tree: so the nodes that it
+/// makes are bounded by a multiple of the height. Such a tree has half a gigabyte at the least.
 const MAX_ONE_WAY: usize = 6;
 
 /// Whether a cut before a character leaves the first leaf whole, and that is not the only one.
@@ -49,7 +50,8 @@ fn spares_last(node: &Node, at: usize) -> bool
     }
 }
 
-/// Whether a tree's leaves at its two ends have bytes enough to stand in the place of the children from `first` up to `past`.
+/// Whether a tree's leaves at its two ends have bytes enough to stand in the place of the children
+/// from `first` up to `past`.
 pub(crate) fn stands(children: &[Node], first: usize, past: usize, part: &Node) -> bool
     requires children { AreFamily children.now }
     requires some_before { 1 ≤ first }
@@ -67,7 +69,8 @@ pub(crate) fn stands(children: &[Node], first: usize, past: usize, part: &Node) 
         && end_leaf_len(part, true) + behind >= MIN_PAIR_BYTES
 }
 
-/// The first `end` characters of the one tree, and behind them what follows the first `start` of the other, where no CR meets an LF.
+/// The first `end` characters of the one tree, and behind them what follows the first `start` of
+/// the other, where no CR meets an LF.
 pub(crate) fn join_sides(
     maker: &mut Maker,
     left: &Node,
@@ -91,8 +94,9 @@ pub(crate) fn join_sides(
     join(maker, &first, &second)
 }
 
-/// The children of a node with a tree in the place of those from `first` up to `past`. One that is higher than they are is a node over
-/// two such children; any other is made one with the child before it, so that it has children enough.
+/// The children of a node with a tree in the place of those from `first` up to `past`. One that is
+/// higher than they are is a node over such children, which are listed with them; any other is made
+/// one with the child before it, so that it has children enough.
 pub(crate) fn put(
     maker: &mut Maker,
     children: &[Node],
@@ -135,7 +139,8 @@ fn gather(maker: &mut Maker, nodes: &[Node]) -> Made<Node>
     node_over(maker, nodes)
 }
 
-/// A tree in the place of the first children of a node, up to `past`, or of the last, from `first` on.
+/// A tree in the place of the first children of a node, up to `past`, or of the last, from `first`
+/// on.
 fn put_at_end(
     maker: &mut Maker,
     children: &[Node],
