@@ -2,7 +2,7 @@
 use Rattle.std.proofs.Common.{◌≡◌, ℕ, ◌+◌, ◌^◌, ◌<◌, ◌≤◌, List, [], ◌∷◌, ◌++◌, length, take, drop, get_or, refl, sym, ap, subst, ◌∙◌, arith, inl, inr}
 use Rattle.std.specs.List.{concat, All}
 use Rattle.std.proofs.lemmas.Bool.{cases_lt}
-use Rattle.std.proofs.lemmas.List.{append-nil, length-drop, length-take-le, take-append-drop, nil_from_length}
+use Rattle.std.proofs.lemmas.List.{append-nil, length-append, length-drop, length-take-le, take-append-drop, nil_from_length}
 use Rattle.rope_text.specs.declared.line_breaks.LineBreaks.{LineBreaks}
 use Rattle.rope_text.specs.Text.{byte_len}
 use Rattle.rope_text.proofs.Measures.{IsMeasure-byte_len}
@@ -21,7 +21,7 @@ use Rattle.rope_tree.proofs.InsertTrees.{text_around}
 use Rattle.rope_tree.proofs.InsertLaws.{front_of, rest_of}
 use Rattle.rope_join.specs.Join.{CanJoin, IsNear, IsJoin}
 use Rattle.rope_tree.proofs.Gathered.{IsGathered}
-use Rattle.rope_join.specs.Cut.{IsFront, IsBack}
+use Rattle.rope_join.specs.Cut.{SparesFirst, SparesLast, first_chars, last_chars, IsFront, IsBack}
 
 -- the parts of an inner node around one child
 pub record CutsAt (n : Tree) (xs : List Tree) (t : Tree) (ys : List Tree) : Type 0 where
@@ -34,6 +34,7 @@ pub record CutsAt (n : Tree) (xs : List Tree) (t : Tree) (ys : List Tree) : Type
   pub before : All (IsChild t.breaks t.height) xs
   pub after : All (IsChild t.breaks t.height) ys
   pub few : length xs + (length ys + 1) ≤ 24
+  pub some : 1 ≤ length t.leaves
 
 pub cuts_at : (n : Tree) (br : LineBreaks) (h : ℕ) (ts : List Tree) (k : ℕ) (t : Tree) → n ≡ tree_over ts → AreChildren br h ts → k < length ts → get_or ts k t ≡ t → CutsAt n (take k ts) t (drop (k + 1) ts)
 cuts_at n br h ts k t is a lt here =
@@ -53,7 +54,31 @@ cuts_at n br h ts k t is a lt here =
       before = rw (own.same_breaks, own.at_height) (all_left (IsChild br h) (take k ts) (drop k ts) all);
       after = rw (own.same_breaks, own.at_height) (all_right (IsChild br h) (take (k + 1) ts) (drop (k + 1) ts) all');
       few = omega (arith, a.at_most_24, length-take-le k ts (omega arith), length-drop (k + 1) ts);
+      some = own.some;
     }
+
+-- the first leaf of two lists, and the last
+pub first_chars-append : (xs ys : List (List ℕ)) → 1 ≤ length xs → first_chars (xs ++ ys) ≡ first_chars xs
+first_chars-append [] ys some = absurd (omega arith)
+first_chars-append (x ∷ xs) ys some = refl
+
+pub last_chars-append : (n : ℕ) (xs ys : List (List ℕ)) → last_chars n (xs ++ ys) ≡ last_chars (last_chars n xs) ys
+last_chars-append n [] ys = refl
+last_chars-append n (x ∷ xs) ys = last_chars-append (length x) xs ys
+
+pub last_chars-some : (m n : ℕ) (xs : List (List ℕ)) → 1 ≤ length xs → last_chars m xs ≡ last_chars n xs
+last_chars-some m n [] some = absurd (omega arith)
+last_chars-some m n (x ∷ xs) some = refl
+
+pub spares_first_of : (k at : ℕ) (n t : Tree) (ls : List (List ℕ)) → n.leaves ≡ t.leaves ++ ls → 1 ≤ length t.leaves → at ≡ k → SparesFirst at n → SparesFirst k t
+spares_first_of k at n t ls e some same s =
+    let first = ap first_chars e ∙ first_chars-append t.leaves ls some in
+    record { some = omega (arith, s.some, first); past = omega (arith, s.past, first, same) }
+
+pub spares_last_of : (k at : ℕ) (n t : Tree) (ls : List (List ℕ)) → n.leaves ≡ ls ++ t.leaves → 1 ≤ length t.leaves → at + length (text t) ≡ length (text n) + k → SparesLast at n → SparesLast k t
+spares_last_of k at n t ls e some same s =
+    let last = ap (last_chars 0) e ∙ last_chars-append 0 ls t.leaves ∙ last_chars-some (last_chars 0 ls) 0 t.leaves some in
+    record { some = omega (arith, s.some, last); before = omega (arith, s.before, last, same) }
 
 -- the height of gathered trees
 module _ (br : LineBreaks) (h : ℕ) (xs : List Tree) (g : Tree) (each : All (IsChild br h) xs) (some : 1 ≤ length xs) (i : IsGathered xs g) where
@@ -98,10 +123,10 @@ module _ (n : Tree) (xs : List Tree) (t : Tree) (ys : List Tree) (s : CutsAt n x
   after_siblings some = gather_siblings t.breaks t.height ys s.after some (leaves_right t.leaves (leaves_of ys) right_leaves) (omega (arith, s.fits))
 
   module _ (at k : ℕ) (p : Tree) (e : at ≡ length (joined xs) + k) (le : k ≤ length (text t)) where
-    front_text : take at (text n) ≡ joined xs ++ take k (text t)
+    pub front_text : take at (text n) ≡ joined xs ++ take k (text t)
     front_text = ap (take at) s.text_is ∙ front_of (joined xs) (text t) (joined ys) [] k at e le
 
-    back_text : drop at (text n) ≡ drop k (text t) ++ joined ys
+    pub back_text : drop at (text n) ≡ drop k (text t) ++ joined ys
     back_text = ap (drop at) s.text_is ∙ rest_of (joined xs) (text t) (joined ys) [] k at e le
 
     pub front_alone : length xs ≡ 0 → IsFront k t p → IsFront at n p
@@ -116,6 +141,10 @@ module _ (n : Tree) (xs : List Tree) (t : Tree) (ys : List Tree) (s : CutsAt n x
           near = λ high m dense.
               let whole = subst (λ us. IsDenseBehind m (leaves_of us ++ (t.leaves ++ leaves_of ys))) x (subst (IsDenseBehind m) s.leaves_is dense) in
               i.near high m (dense_left m t.leaves (leaves_of ys) whole);
+          behind = λ spares m dense.
+              let l : n.leaves ≡ t.leaves ++ leaves_of ys = subst (λ us. n.leaves ≡ leaves_of us ++ (t.leaves ++ leaves_of ys)) x s.leaves_is in
+              let none : length (joined xs) ≡ 0 = ap (λ us. length (joined us)) x in
+              i.behind (spares_first_of k at n t (leaves_of ys) l s.some (omega (arith, e, none)) spares) m (dense_left m t.leaves (leaves_of ys) (subst (IsDenseBehind m) l dense));
         }
 
     pub back_alone : length ys ≡ 0 → IsBack k t p → IsBack at n p
@@ -129,6 +158,10 @@ module _ (n : Tree) (xs : List Tree) (t : Tree) (ys : List Tree) (s : CutsAt n x
           leaves = i.leaves;
           not_higher = omega (arith, i.not_higher, s.above);
           near = λ high a b. rw (l, last_bytes-append a (leaves_of xs) t.leaves) (i.near high (last_bytes a (leaves_of xs)) b);
+          ahead = λ spares a b.
+              let sizes = ap length s.text_is ∙ length-append (joined xs) (text t ++ joined ys) in
+              let none : length (text t ++ joined ys) ≡ length (text t) = ap (λ us. length (text t ++ joined us)) y ∙ ap length (append-nil (text t)) in
+              rw (l, last_bytes-append a (leaves_of xs) t.leaves) (i.ahead (spares_last_of k at n t (leaves_of xs) l s.some (omega (arith, e, sizes, none)) spares) (last_bytes a (leaves_of xs)) b);
         }
 
     module _ (g : Tree) (some : 1 ≤ length xs) (gi : IsGathered xs g) (i : IsFront k t p) where
@@ -165,10 +198,14 @@ module _ (n : Tree) (xs : List Tree) (t : Tree) (ys : List Tree) (s : CutsAt n x
               | inl l ↦ omega (arith, j.below_left (omega (arith, i.not_higher)) (omega (arith, s.few, gathered_width t.breaks t.height xs g s.before some gi l)), s.above)
               | inr ge ↦ omega (arith, j.most, i.not_higher, s.above)
             ];
-            near = λ _ m dense.
-                let whole = subst (IsDenseBehind m) s.leaves_is dense in
-                j.recuts.behind (rw gi.leaves (omega (arith, some, nodes_le t.breaks t.height xs s.before))) m (rw gi.leaves (dense_left m (leaves_of xs) (t.leaves ++ leaves_of ys) whole));
+            near = λ _. dense;
+            behind = λ _. dense;
           }
+        where
+          dense : (m : ℕ) → IsDenseBehind m n.leaves → IsDenseBehind m r.leaves
+          dense m behind =
+              let whole = subst (IsDenseBehind m) s.leaves_is behind in
+              j.recuts.behind (rw gi.leaves (omega (arith, some, nodes_le t.breaks t.height xs s.before))) m (rw gi.leaves (dense_left m (leaves_of xs) (t.leaves ++ leaves_of ys) whole))
 
     module _ (g : Tree) (some : 1 ≤ length ys) (gi : IsGathered ys g) (i : IsBack k t p) where
       back_set : g.breaks ≡ t.breaks
@@ -201,19 +238,26 @@ module _ (n : Tree) (xs : List Tree) (t : Tree) (ys : List Tree) (s : CutsAt n x
               | inl l ↦ omega (arith, j.below_right (omega (arith, i.not_higher)) (omega (arith, s.few, gathered_width t.breaks t.height ys g s.after some gi l)), s.above)
               | inr ge ↦ omega (arith, j.most, i.not_higher, s.above)
             ];
-            near = λ _ a b.
-                let front = last_bytes a (leaves_of xs) in
-                let last = j.recuts.last (rw gi.leaves (omega (arith, some, nodes_le t.breaks t.height ys s.after))) (last_bytes front t.leaves) b in
-                rw (s.leaves_is, last_bytes-append a (leaves_of xs) (t.leaves ++ leaves_of ys), last_bytes-append front t.leaves (leaves_of ys)) (rw gi.leaves at last);
+            near = λ _. enough;
+            ahead = λ _. enough;
           }
+        where
+          enough : (a b : ℕ) → last_bytes a n.leaves ≤ last_bytes b r.leaves
+          enough a b =
+              let front = last_bytes a (leaves_of xs) in
+              let last = j.recuts.last (rw gi.leaves (omega (arith, some, nodes_le t.breaks t.height ys s.after))) (last_bytes front t.leaves) b in
+              rw (s.leaves_is, last_bytes-append a (leaves_of xs) (t.leaves ++ leaves_of ys), last_bytes-append front t.leaves (leaves_of ys)) (rw gi.leaves at last)
 
 -- all of a tree
-some_list : (ls : List (List ℕ)) → 1 ≤ length (concat ls) → 1 ≤ length ls
+pub some_list : (ls : List (List ℕ)) → 1 ≤ length (concat ls) → 1 ≤ length ls
 some_list [] some = absurd (omega arith)
 some_list (l ∷ ls) some = omega arith
 
 pub whole_back : (n r : Tree) (at : ℕ) → IsTree n → at ≡ 0 → 1 ≤ length (text n) → r ≡ n → IsBack at n r
-whole_back n r at i z some e = rw (e, z) (record { text_is = refl; same_breaks = refl; leaves = i.leaves; not_higher = omega arith; near = λ _ a b. omega (arith, last_bytes-some a b n.leaves (some_list n.leaves some)) })
+whole_back n r at i z some e = rw (e, z) (record { text_is = refl; same_breaks = refl; leaves = i.leaves; not_higher = omega arith; near = λ _. all; ahead = λ _. all })
+  where
+    all : (a b : ℕ) → last_bytes a n.leaves ≤ last_bytes b n.leaves
+    all a b = omega (arith, last_bytes-some a b n.leaves (some_list n.leaves some))
 
 -- a part that has a character has a leaf
 some_leaf : (p : Tree) → 1 ≤ length (text p) → 1 ≤ length p.leaves

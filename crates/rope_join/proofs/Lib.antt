@@ -8,3 +8,7 @@ pub mod Empty
 pub mod Seams
 pub mod PartCounts
 pub mod PartTexts
+pub mod Puts
+pub mod Gaps
+pub mod OneWay
+pub mod Ends

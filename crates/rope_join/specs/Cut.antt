@@ -1,10 +1,28 @@
 -- What the front and the back of a tree are.
-use Rattle.std.specs.Prelude.{◌≡◌, ℕ, ◌≤◌, List, take, drop}
+use Rattle.std.specs.Prelude.{◌≡◌, ℕ, ◌+◌, ◌≤◌, max, List, [], ◌∷◌, ◌++◌, length, take, drop}
 use Rattle.rope_text.specs.Dense.{IsDenseBehind, last_bytes}
 use Rattle.rope_tree.specs.Leaves.{AreLeaves}
 use Rattle.rope_tree.specs.Tree.{Tree, text}
 use Rattle.rope_join.specs.declared.cut.Side.{Side}
 use Rattle.rope_join.specs.declared.cut.Side.TheVariants.{Front, Back}
+
+-- the characters of the first leaf, and of the last
+abbrev pub first_chars : List (List ℕ) → ℕ
+first_chars [] = 0
+first_chars (l ∷ ls) = length l
+
+abbrev pub last_chars : ℕ → List (List ℕ) → ℕ
+last_chars n [] = n
+last_chars n (l ∷ ls) = last_chars (length l) ls
+
+-- a cut before the character `at` leaves the first leaf whole, or the last
+pub record SparesFirst (at : ℕ) (t : Tree) : Type 0 where
+  pub some : 1 ≤ first_chars t.leaves
+  pub past : first_chars t.leaves ≤ at
+
+pub record SparesLast (at : ℕ) (t : Tree) : Type 0 where
+  pub some : 1 ≤ last_chars 0 t.leaves
+  pub before : at + last_chars 0 t.leaves ≤ length (text t)
 
 -- the first characters; a part that is more than one leaf may stand behind what the tree may stand behind
 pub record IsFront (at : ℕ) (t part : Tree) : Type 0 where
@@ -13,6 +31,7 @@ pub record IsFront (at : ℕ) (t part : Tree) : Type 0 where
   pub leaves : AreLeaves part.leaves
   pub not_higher : part.height ≤ t.height
   pub near : 1 ≤ part.height → (n : ℕ) → IsDenseBehind n t.leaves → IsDenseBehind n part.leaves
+  pub behind : SparesFirst at t → (n : ℕ) → IsDenseBehind n t.leaves → IsDenseBehind n part.leaves
 
 -- what follows the first characters; the last leaf of a part that has more of them is as long as the tree's
 pub record IsBack (at : ℕ) (t part : Tree) : Type 0 where
@@ -21,8 +40,18 @@ pub record IsBack (at : ℕ) (t part : Tree) : Type 0 where
   pub leaves : AreLeaves part.leaves
   pub not_higher : part.height ≤ t.height
   pub near : 1 ≤ part.height → (m n : ℕ) → last_bytes m t.leaves ≤ last_bytes n part.leaves
+  pub ahead : SparesLast at t → (m n : ℕ) → last_bytes m t.leaves ≤ last_bytes n part.leaves
 
 -- a text's first characters, or what follows them
 abbrev pub side_of : Side → ℕ → List ℕ → List ℕ
 side_of Front at cs = take at cs
 side_of Back at cs = drop at cs
+
+-- the first `end` characters of the one tree, and behind them what follows the first `start` of the other; next to it may stand what may stand next to those, where their leaves there stay whole
+pub record IsSides (left : Tree) (end : ℕ) (right : Tree) (start : ℕ) (part : Tree) : Type 0 where
+  pub text_is : text part ≡ take end (text left) ++ drop start (text right)
+  pub same_breaks : part.breaks ≡ left.breaks
+  pub leaves : AreLeaves part.leaves
+  pub not_higher : part.height ≤ max left.height right.height + 1
+  pub behind : SparesFirst end left → (n : ℕ) → IsDenseBehind n left.leaves → IsDenseBehind n part.leaves
+  pub ahead : SparesLast start right → (m n : ℕ) → last_bytes m right.leaves ≤ last_bytes n part.leaves

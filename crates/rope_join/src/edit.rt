@@ -1,18 +1,38 @@
-//! Trees with a part taken out or put in, and put one behind the other. Where a CR and an LF would meet at a seam, the two
-//! become a leaf of their own between what stands before and what follows, so that no CR LF lies across two leaves.
-ghost use Rattle.std.specs.Prelude.{◌≡◌, ◌+◌, ◌*◌, ◌<◌, ◌≤◌, ◌^◌, ◌++◌, length, take, drop, max, IfOk, OnOk, OnErr};
+//! Trees with a part taken out or put in, and put one behind the other. Where a CR and an LF would
+//! meet at a seam, the two become a leaf of their own between what stands before and what follows,
+//! so that no CR LF lies across two leaves.
+ghost use Rattle.std.specs.Prelude.{◌≡◌, ◌+◌, ◌*◌, ◌<◌, ◌≤◌, ◌^◌, ◌++◌, true, length, take, drop, max, IfOk, OnOk, OnErr};
 ghost use Rattle.std.specs.Str.{chars};
 ghost use Rattle.rope_text.specs.Text.{byte_len};
+ghost use Rattle.rope_text.specs.Cutting.{parts_crlf};
 ghost use Rattle.rope_text.specs.Edit.{inserted, removed};
-ghost use Rattle.rope_tree.specs.Tree.{text, IsTree};
+ghost use Rattle.rope_tree.specs.Leaves.{IsSeam};
+ghost use Rattle.rope_tree.specs.Tree.{text, leaf_tree, IsTree};
 
 use crate::cut::{back, front};
+use crate::gap::{join_sides, put, stands, without};
 use crate::join::join;
-use rope_text::Steps;
+use rope_text::{MAX_BYTES, Steps};
 use rope_tree::build::build;
-use rope_tree::{Made, Maker, Node, char_at, is_lf, leaf_of, remove_at};
+use rope_tree::{
+    Builder, Made, Maker, Node, ShortText, Unit, View, char_at, is_lf, leaf_of, place_of,
+    remove_at, total_before,
+};
 
-/// The first `end` characters of the one tree, and behind them what follows the first `start` of the other.
+/// Whether a CR at the end of the first `end` characters of the one tree meets an LF behind the
+/// first `start` of the other.
+fn meets(left: &Node, end: usize, right: &Node, start: usize) -> bool
+    requires tree { IsTree left.now }
+    requires end { end ≤ length (text left.now) }
+    requires start { start ≤ length (text right.now) }
+    ensures value { result ≡ parts_crlf (take end (text left.now)) (drop start (text right.now)) }
+    ensures tree { result ≡ true → IsTree right.now }
+{
+    end > 0 && char_at(left, end - 1, &mut Steps::new()) == '\r' && is_lf(right, start)
+}
+
+/// The first `end` characters of the one tree, and behind them what follows the first `start` of
+/// the other.
 fn join_parts(maker: &mut Maker, left: &Node, end: usize, right: &Node, start: usize) -> Made<Node>
     requires tree { IsTree left.now }
     requires end { end ≤ length (text left.now) }
@@ -27,16 +47,14 @@ fn join_parts(maker: &mut Maker, left: &Node, end: usize, right: &Node, start: u
     ensures made { maker.new.made
         ≤ maker.old.made + 16 * max left.now.height right.now.height + 11 }
 {
-    if end > 0 && char_at(left, end - 1, &mut Steps::new()) == '\r' && is_lf(right, start) {
-        let first = front(maker, left, end - 1)?;
-        let second = back(maker, right, start + 1)?;
-        let pair = leaf_of(maker, left.line_breaks(), "\r\n")?;
-        let ended = join(maker, &first, &pair)?;
-        return join(maker, &ended, &second);
+    if !meets(left, end, right, start) {
+        return join_sides(maker, left, end, right, start);
     }
-    let first = front(maker, left, end)?;
-    let second = back(maker, right, start)?;
-    join(maker, &first, &second)
+    let first = front(maker, left, end - 1)?;
+    let second = back(maker, right, start + 1)?;
+    let pair = leaf_of(maker, left.line_breaks(), "\r\n")?;
+    let ended = join(maker, &first, &pair)?;
+    join(maker, &ended, &second)
 }
 
 /// The text of the one tree and then that of the other.
@@ -52,8 +70,25 @@ pub fn append(maker: &mut Maker, left: &Node, right: &Node) -> Made<Node>
     join_parts(maker, left, left.info().chars, right, 0)
 }
 
-/// Takes the characters from `start` up to `end` out, at least one: where they lie in one leaf that may do without them, in
-/// that leaf alone; else by a front and a back that are joined. A new tree takes the old one's place last of all.
+/// A tree without the characters from `start` up to `end`, at least one.
+fn removed_from(maker: &mut Maker, root: &Node, start: usize, end: usize) -> Made<Node>
+    requires ordered { start < end }
+    requires within { end ≤ length (text root.now) }
+    ensures text { IfOk result (λ node. text node ≡ removed (text root.now) start end) }
+    ensures breaks { IfOk result (λ node. node.breaks ≡ root.now.breaks) }
+    ensures tree { IfOk result (λ node. IsTree node) }
+    ensures own { IsTree root.now }
+    ensures made { maker.new.made ≤ maker.old.made + 16 * root.now.height + 11 }
+{
+    if root.height() == 0 || meets(root, start, root, end) {
+        return join_parts(maker, root, start, root, end);
+    }
+    without(maker, root, start, end)
+}
+
+/// Takes the characters from `start` up to `end` out, at least one: where they lie in one leaf that
+/// may do without them, in that leaf alone, which isn't tried with more of them than a leaf has
+/// bytes; else by a tree without them. It takes the old one's place last of all.
 pub fn remove(maker: &mut Maker, root: &mut Node, start: usize, end: usize) -> Made<()>
     requires ordered { start < end }
     requires within { end ≤ length (text root.old) }
@@ -63,16 +98,17 @@ pub fn remove(maker: &mut Maker, root: &mut Node, start: usize, end: usize) -> M
     ensures err { OnErr result (root.new ≡ root.old) }
     ensures made { maker.new.made ≤ maker.old.made + 17 * root.old.height + 12 }
 {
-    if remove_at(maker, root, start, end)? {
+    if end - start < MAX_BYTES && remove_at(maker, root, start, end)? {
         return Ok(());
     }
-    *root = join_parts(maker, root, start, root, end)?;
+    *root = removed_from(maker, root, start, end)?;
     Ok(())
 }
 
-/// The tree with a text of any length before its character `at`: it is split, and the text goes between as a tree of its
-/// own. What is made of the old tree are its parts, so it costs what the new text and the height do.
-pub fn insert(maker: &mut Maker, node: &Node, at: usize, added: &str) -> Made<Node>
+/// The tree with a text of any length before its character `at`: it is split, and the text goes
+/// between as a tree of its own. What is made of the old tree are its parts, so it costs what the
+/// new text and the height do.
+fn insert_apart(maker: &mut Maker, node: &Node, at: usize, added: &str) -> Made<Node>
     requires within { at ≤ length (text node.now) }
     requires fits { byte_len (text node.now) + length added.now < 2 ^ 63 }
     ensures text { IfOk result (λ new. text new ≡ inserted (text node.now) at (chars added.now)) }
@@ -84,4 +120,89 @@ pub fn insert(maker: &mut Maker, node: &Node, at: usize, added: &str) -> Made<No
     let middle = build(maker, added, node.line_breaks())?;
     let first = append(maker, &front, &middle)?;
     append(maker, &first, &back)
+}
+
+/// A leaf with a text of any length before its character `at`, as a tree that is built anew.
+fn insert_into_leaf(
+    maker: &mut Maker,
+    node: &Node,
+    leaf: &ShortText<'_>,
+    at: usize,
+    added: &str,
+) -> Made<Node>
+    requires leaf { node.now ≡ leaf_tree node.now.breaks leaf.now }
+    requires fits { byte_len (text node.now) + length added.now < 2 ^ 63 }
+    ensures text { IfOk result (λ new. text new ≡ inserted (text node.now) at (chars added.now)) }
+    ensures breaks { IfOk result (λ new. new.breaks ≡ node.now.breaks) }
+    ensures tree { IfOk result (λ new. IsTree new) }
+{
+    let text = leaf.as_str();
+    let place = leaf.char_to_byte_idx(at);
+    let mut builder = Builder::new(maker.alloc, node.line_breaks());
+    builder.append(&text[..place])?;
+    builder.append(added)?;
+    builder.append(&text[place..])?;
+    builder.finish(maker)
+}
+
+/// What stands before the character `start` of a tree, then another tree, and then what stands from
+/// its character `end` on.
+fn join_around(maker: &mut Maker, node: &Node, start: usize, part: &Node, end: usize) -> Made<Node>
+    requires start { start ≤ length (text node.now) }
+    requires end { end ≤ length (text node.now) }
+    requires same_breaks { part.now.breaks ≡ node.now.breaks }
+    requires some { 1 ≤ length (text part.now) }
+    requires seam_before { IsSeam (take start (text node.now)) (text part.now) }
+    requires seam_behind { IsSeam (text part.now) (drop end (text node.now)) }
+    requires fits { byte_len (take start (text node.now))
+        + (byte_len (text part.now) + byte_len (drop end (text node.now))) < 2 ^ 63 }
+    ensures text { IfOk result (λ new. text new
+        ≡ take start (text node.now) ++ (text part.now ++ drop end (text node.now))) }
+    ensures breaks { IfOk result (λ new. new.breaks ≡ node.now.breaks) }
+    ensures tree { IfOk result (λ new. IsTree new) }
+{
+    let front = front(maker, node, start)?;
+    let first = join(maker, &front, part)?;
+    let back = back(maker, node, end)?;
+    join(maker, &first, &back)
+}
+
+/// A longer text goes between two parts of the tree. So many bytes and a leaf's make a node over
+/// leaves at the most.
+const MAX_AMONG_BYTES: usize = 20 * MAX_BYTES;
+
+/// The tree with a text of any length before its character `at`. A text of some leaves is built
+/// into the leaf that holds the character, and the leaves that this gives are put in its place, on
+/// one way down; where they can't be, at the ends of a node or for a longer text, the tree is
+/// split. It costs what the new text and the height do.
+pub fn insert(maker: &mut Maker, node: &Node, at: usize, added: &str) -> Made<Node>
+    requires within { at ≤ length (text node.now) }
+    requires fits { byte_len (text node.now) + length added.now < 2 ^ 63 }
+    ensures text { IfOk result (λ new. text new ≡ inserted (text node.now) at (chars added.now)) }
+    ensures breaks { IfOk result (λ new. new.breaks ≡ node.now.breaks) }
+    ensures tree { IfOk result (λ new. IsTree new) }
+{
+    if added.len() > MAX_AMONG_BYTES || at >= node.info().chars {
+        return insert_apart(maker, node, at, added);
+    }
+    match node.view() {
+        View::Leaf(leaf) => insert_into_leaf(maker, node, &leaf, at, added),
+        View::Inner(children, totals) => {
+            let place = place_of(totals, Unit::Char, at, &mut Steps::new());
+            let child = &children[place];
+            let inside = at - total_before(totals, place).chars;
+            if inside == 0 {
+                return insert_apart(maker, node, at, added);
+            }
+            let part = insert(maker, child, inside, added)?;
+            if place > 0
+                && place + 1 < children.len()
+                && part.height() <= child.height() + 1
+                && stands(children, place, place + 1, &part)
+            {
+                return put(maker, children, totals, place, place + 1, &part);
+            }
+            join_around(maker, node, at - inside, &part, totals.get(place).chars)
+        }
+    }
 }

@@ -15,7 +15,7 @@ use rope_tree::{
 };
 
 /// The bytes of a tree's last leaf or of its first: those of the one and of the other that stands behind it say whether it may.
-fn end_leaf_len(node: &Node, is_last: bool) -> usize
+pub(crate) fn end_leaf_len(node: &Node, is_last: bool) -> usize
     requires { 1 ≤ length node.now.leaves }
     ensures last { IsTrue is_last → (n : ℕ) → result ≡ last_bytes n node.now.leaves }
     ensures first { is_last ≡ false → (n : ℕ)
@@ -100,7 +100,7 @@ fn end_of(node: &Node, least: usize, is_last: bool) -> (Row<'_>, &Node, Row<'_>)
 
 /// Two trees that aren't empty as one tree or two of the greater height. It goes down the sides on which they meet to nodes of
 /// one height, and where the two leaves there have too few bytes together, down to those, which become one.
-fn unite(maker: &mut Maker, left: &Node, right: &Node) -> Made<Nodes>
+pub(crate) fn unite(maker: &mut Maker, left: &Node, right: &Node) -> Made<Nodes>
     requires left_some { 1 ≤ length left.now.leaves }
     requires right_some { 1 ≤ length right.now.leaves }
     requires join { CanJoin left.now right.now }

@@ -3,4 +3,5 @@
 
 pub mod cut;
 pub mod edit;
+mod gap;
 pub mod join;

@@ -1,7 +1,0 @@
-use Rattle.std.proofs.Common.{arith}
-use Rattle.rope_tree.specs.Tree.{text}
-use Rattle.rope_join.proofs.Seams.{left_le}
-use Rattle.rope_join.proofs.edit.remove.Goals as goal
-
-pub join_parts-requires-clause-fits : goal.join_parts-requires-clause-fits
-join_parts-requires-clause-fits c = omega (arith, c.remove_at.ensures.tree.fits, left_le (text c.remove_at.new.root) c.args.start c.args.end (omega (arith, c.requires.ordered)))

@@ -1,0 +1,208 @@
+//! Trees without some of their characters, on one way down to where the two ends of what goes part.
+//! There both ends are cut, and on the way back each node's children are listed once, with what
+//! became of those that were cut.
+ghost use Rattle.std.specs.Prelude.{◌≡◌, ◌+◌, ◌*◌, ◌<◌, ◌≤◌, ◌^◌, true, length, take, drop, max, IfOk};
+ghost use Rattle.rope_text.specs.declared.TheConstants.{MIN_PAIR_BYTES};
+ghost use Rattle.rope_text.specs.Dense.{IsDenseBehind, last_bytes};
+ghost use Rattle.rope_text.specs.Text.{byte_len};
+ghost use Rattle.rope_tree.specs.Leaves.{IsSeam};
+ghost use Rattle.rope_tree.specs.Siblings.{gathered};
+ghost use Rattle.rope_tree.specs.Totals.{HasTotals};
+ghost use Rattle.rope_tree.specs.Tree.{text, leaves_of, height_of, breaks_of, IsTree, AreFamily};
+ghost use Rattle.rope_join.specs.Cut.{SparesFirst, SparesLast, IsSides};
+ghost use Rattle.rope_join.specs.Put.{CanPut, CanPutAtEnd, IsPut, IsPutAtEnd, leaves_before};
+
+use crate::cut::{back, front};
+use crate::join::{end_leaf_len, join, unite};
+use rope_text::{MIN_PAIR_BYTES, Steps};
+use rope_tree::{
+    Made, Maker, Node, Row, Totals, Unit, View, node_over, pack, pack_over, place_of, root_of,
+    total_before,
+};
+
+/// Above this height a removal goes by a front and a back of the whole tree: so the nodes that it
+/// makes are bounded by a multiple of the height. Such a tree has half a gigabyte at the least.
+const MAX_ONE_WAY: usize = 6;
+
+/// Whether a cut before a character leaves the first leaf whole, and that is not the only one.
+fn spares_first(node: &Node, at: usize) -> bool
+    ensures { result ≡ true → SparesFirst at node.now }
+{
+    match node.view() {
+        View::Leaf(_) => false,
+        View::Inner(children, totals) => {
+            totals.get(0).chars <= at || spares_first(&children[0], at)
+        }
+    }
+}
+
+/// Whether a cut before a character leaves the last leaf whole, and that is not the only one.
+fn spares_last(node: &Node, at: usize) -> bool
+    ensures { result ≡ true → SparesLast at node.now }
+{
+    match node.view() {
+        View::Leaf(_) => false,
+        View::Inner(children, totals) => {
+            let last = children.len() - 1;
+            let before = total_before(totals, last).chars;
+            at <= before || spares_last(&children[last], at - before)
+        }
+    }
+}
+
+/// Whether a tree's leaves at its two ends have bytes enough to stand in the place of the children
+/// from `first` up to `past`.
+pub(crate) fn stands(children: &[Node], first: usize, past: usize, part: &Node) -> bool
+    requires children { AreFamily children.now }
+    requires some_before { 1 ≤ first }
+    requires ordered { first < past }
+    requires some_behind { past < length children.now }
+    requires some { 1 ≤ length part.now.leaves }
+    ensures near { result ≡ true
+        → IsDenseBehind (last_bytes MIN_PAIR_BYTES (leaves_before children.now first)) part.now.leaves }
+    ensures next { result ≡ true → IsDenseBehind (last_bytes MIN_PAIR_BYTES part.now.leaves)
+        (leaves_of (drop past children.now)) }
+{
+    let before = end_leaf_len(&children[first - 1], true);
+    let behind = end_leaf_len(&children[past], false);
+    before + end_leaf_len(part, false) >= MIN_PAIR_BYTES
+        && end_leaf_len(part, true) + behind >= MIN_PAIR_BYTES
+}
+
+/// The first `end` characters of the one tree, and behind them what follows the first `start` of
+/// the other, where no CR meets an LF.
+pub(crate) fn join_sides(
+    maker: &mut Maker,
+    left: &Node,
+    end: usize,
+    right: &Node,
+    start: usize,
+) -> Made<Node>
+    requires end { end ≤ length (text left.now) }
+    requires start { start ≤ length (text right.now) }
+    requires same_breaks { right.now.breaks ≡ left.now.breaks }
+    requires seam { IsSeam (take end (text left.now)) (drop start (text right.now)) }
+    requires fits { byte_len (take end (text left.now)) + byte_len (drop start (text right.now))
+        < 2 ^ 63 }
+    ensures sides { IfOk result (λ node. IsSides left.now end right.now start node) }
+    ensures tree { IfOk result (λ node. IsTree node) }
+    ensures made { maker.new.made
+        ≤ maker.old.made + 14 * max left.now.height right.now.height + 5 }
+{
+    let first = front(maker, left, end)?;
+    let second = back(maker, right, start)?;
+    join(maker, &first, &second)
+}
+
+/// The children of a node with a tree in the place of those from `first` up to `past`. One that is
+/// higher than they are is a node over such children, which are listed with them; any other is made
+/// one with the child before it, so that it has children enough.
+pub(crate) fn put(
+    maker: &mut Maker,
+    children: &[Node],
+    totals: &Totals,
+    first: usize,
+    past: usize,
+    part: &Node,
+) -> Made<Node>
+    requires children { AreFamily children.now }
+    requires totals { HasTotals (breaks_of children.now) totals.now children.now }
+    requires put { CanPut children.now first past part.now }
+    ensures put { IfOk result (λ node. IsPut children.now first past part.now node) }
+    ensures tree { IfOk result (λ node. IsTree node) }
+    ensures made { maker.new.made ≤ maker.old.made + 2 * height_of children.now + 5 }
+{
+    let row = Row::of(children, totals);
+    let after = row.rest(past);
+    if part.height() > children[0].height() {
+        let View::Inner(nodes, _) = part.view() else {
+            unreachable!()
+        };
+        let packed = pack_over(maker, row.first(first), nodes, after)?;
+        return root_of(maker, packed);
+    }
+    let middle = unite(maker, &children[first - 1], part)?;
+    let packed = pack(maker, row.first(first - 1), middle, after)?;
+    root_of(maker, packed)
+}
+
+/// Nodes side by side as one: the only one, or a node over them.
+fn gather(maker: &mut Maker, nodes: &[Node]) -> Made<Node>
+    requires some { 1 ≤ length nodes.now }
+    requires family { 2 ≤ length nodes.now → AreFamily nodes.now }
+    ensures ok { IfOk result (λ node. node ≡ gathered nodes.now) }
+    ensures made { maker.new.made ≤ maker.old.made + 1 }
+{
+    if nodes.len() == 1 {
+        return nodes[0].share();
+    }
+    node_over(maker, nodes)
+}
+
+/// A tree in the place of the first children of a node, up to `past`, or of the last, from `first`
+/// on.
+fn put_at_end(
+    maker: &mut Maker,
+    children: &[Node],
+    first: usize,
+    past: usize,
+    part: &Node,
+) -> Made<Node>
+    requires children { AreFamily children.now }
+    requires put { CanPutAtEnd children.now first past part.now }
+    ensures put { IfOk result (λ node. IsPutAtEnd children.now first past part.now node) }
+    ensures tree { IfOk result (λ node. IsTree node) }
+    ensures made { maker.new.made ≤ maker.old.made + 2 * height_of children.now + 6 }
+{
+    if past < children.len() {
+        let after = gather(maker, &children[past..])?;
+        return join(maker, part, &after);
+    }
+    let before = gather(maker, &children[..first])?;
+    join(maker, &before, part)
+}
+
+/// The tree without the characters from `start` up to `end`, at least one, where no CR meets an LF.
+pub(crate) fn without(maker: &mut Maker, node: &Node, start: usize, end: usize) -> Made<Node>
+    requires ordered { start < end }
+    requires within { end ≤ length (text node.now) }
+    requires seam { IsSeam (take start (text node.now)) (drop end (text node.now)) }
+    ensures sides { IfOk result (λ part. IsSides node.now start node.now end part) }
+    ensures tree { IfOk result (λ part. IsTree part) }
+    ensures made { maker.new.made ≤ maker.old.made + 16 * node.now.height + 11 }
+{
+    let height = node.height();
+    if let View::Inner(children, totals) = node.view()
+        && height <= MAX_ONE_WAY
+    {
+        let first = place_of(totals, Unit::Char, start, &mut Steps::new());
+        let last = place_of(totals, Unit::Char, end - 1, &mut Steps::new());
+        let (left, right) = (&children[first], &children[last]);
+        let from = start - total_before(totals, first).chars;
+        let to = end - total_before(totals, last).chars;
+        if first > 0 && last + 1 < children.len() {
+            if height == 1 {
+                // Of leaves at most three are made before it is known whether they can stand there.
+                let part = join_sides(maker, left, from, right, to)?;
+                if part.info().bytes > 0 && stands(children, first, last + 1, &part) {
+                    return put(maker, children, totals, first, last + 1, &part);
+                }
+            } else if spares_first(left, from) && spares_last(right, to) {
+                let part = if first == last {
+                    without(maker, left, from, to)?
+                } else {
+                    join_sides(maker, left, from, right, to)?
+                };
+                return put(maker, children, totals, first, last + 1, &part);
+            }
+        } else if height > 1 && (first > 0 || last + 1 < children.len()) {
+            let part = if first == last {
+                without(maker, left, from, to)?
+            } else {
+                join_sides(maker, left, from, right, to)?
+            };
+            return put_at_end(maker, children, first, last + 1, &part);
+        }
+    }
+    join_sides(maker, node, start, node, end)
+}
