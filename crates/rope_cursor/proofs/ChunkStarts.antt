@@ -1,10 +1,10 @@
 -- Where a cursor over chunks starts.
 use Rattle.std.proofs.Common.{◌≡◌, ℕ, suc, ◌+◌, ◌-◌, ◌<◌, ◌≤◌, ◌==◌, true, false, List, [], ◌∷◌, ◌++◌, length, get_or, refl, sym, ap, ◌∙◌, arith, inl, inr, All, append_assoc, subst}
-use Rattle.std.specs.Prelude.{if◌then◌else◌}
+use Rattle.std.specs.Prelude.{if◌then◌else◌, take, drop}
 use Rattle.std.specs.List.{concat}
 use Rattle.std.proofs.lemmas.Bool.Decides.{nat_tests}
 use Rattle.std.proofs.lemmas.Bool.{cases_eq, cases_lt}
-use Rattle.std.proofs.lemmas.List.{length-append, nil_from_length, take_at, take_all}
+use Rattle.std.proofs.lemmas.List.{length-append, nil_from_length, take_at, take_all, take-append-drop}
 use Rattle.std.proofs.lemmas.Str.{length-le-encodes}
 use Rattle.std.proofs.Math.Seq.{get_or-append_seam}
 use Rattle.rope_text.specs.declared.line_breaks.LineBreaks.{LineBreaks}
@@ -20,10 +20,7 @@ use Rattle.rope_cursor.specs.Chunks.{at_chunk}
 use Rattle.rope_text.proofs.CuttingLaws.{concat-append}
 use Rattle.rope_text.proofs.ChunkLaws.{before_more}
 use Rattle.rope_text.proofs.LookupLaws.{chunk_index_at_byte_is, chunk_index_at_char_is, chunk_index_at_line_break-le}
-use Rattle.rope_text.specs.Lines.{line_count, line_start}
-use Rattle.rope_text.proofs.LineLaws.{line_start-le-length}
-use Rattle.rope_tree.proofs.FoundLaws.{line_start_past}
-use Rattle.rope_part.proofs.Lookups.{line_break_index}
+use Rattle.rope_text.specs.Lines.{line_count}
 use Rattle.rope_text.proofs.Measures.{IsMeasure-byte_len}
 use Rattle.rope_text.specs.Conversions.{char_to_line}
 use Rattle.rope_tree.specs.declared.search.Unit.{Unit}
@@ -209,26 +206,37 @@ module _ (breaks : LineBreaks) (p : Place) (text : List ℕ) (chunks : List (Lis
     starts_past CodeUnit i at_end within = absurd i
     starts_past LineBreak i at_end within = absurd i
 
--- the place of a line break is that of the character that ends it
+-- the first chunks have no more characters than all
+pub front_le : (chunks : List (List ℕ)) (k : ℕ) → length (front_chunks chunks k) ≤ length (concat chunks)
+front_le chunks k =
+    let parts = ap concat (sym (take-append-drop k chunks)) ∙ concat-append (take k chunks) (drop k chunks) in
+    omega (arith, ap length parts, length-append (front_chunks chunks k) (concat (drop k chunks)))
+
+-- the place of the first character of a chunk is that chunk
+chunk_start_place : (chunks : List (List ℕ)) → All (λ chunk. 0 < length chunk) chunks → (k : ℕ) → k ≤ length chunks - 1 → chunk_place_at_char chunks (length (front_chunks chunks k)) ≡ k
+chunk_start_place [] full k le =
+    let none : k ≡ 0 = omega (arith, le) in
+    rw none refl
+chunk_start_place (chunk ∷ chunks) full k le =
+    let all : List (List ℕ) = chunk ∷ chunks in
+    let next : length (front_chunks all k) < length (front_chunks all (suc k)) = omega (arith, ap length (before_more all k (omega (arith, le))), length-append (front_chunks all k) (get_or all k []), full k [] (omega (arith, le))) in
+    place_inside all (length (front_chunks all k)) (length (concat all)) _ (λ e. omega (arith, e, next, front_le all (suc k)))
+    ∙ chunk_index_at_char_is all (length (front_chunks all k)) k (omega (arith, le)) (omega arith) (λ _. next)
+
+-- the place of a line break is that of the chunk that it ends in
 module _ (breaks : LineBreaks) (text : List ℕ) (chunks : List (List ℕ)) (cut : IsCutting text chunks) (k i : ℕ) where
   lines_are : line_count breaks (concat chunks) ≡ line_count breaks text
   lines_are = ap (line_count breaks) cut.joined
 
-  pub line_break_end : k ≡ line_count breaks text → i ≡ line_start breaks text k → chunk_place_at_char chunks i ≡ chunk_place_at_line_break breaks chunks k
+  pub line_break_end : k ≡ line_count breaks text → i ≡ length text → chunk_place_at_char chunks i ≡ chunk_place_at_line_break breaks chunks k
   line_break_end past at =
-      place_at_end chunks i (length (concat chunks)) _ (at ∙ line_start_past breaks text k (omega (arith, past)) ∙ ap length (sym cut.joined))
+      place_at_end chunks i (length (concat chunks)) _ (at ∙ ap length (sym cut.joined))
       ∙ sym (place_at_end chunks k (line_count breaks (concat chunks)) _ (past ∙ sym lines_are))
 
-  pub line_break_place : k < line_count breaks text → i ≡ line_start breaks text k - 1 → chunk_place_at_char chunks i ≡ chunk_place_at_line_break breaks chunks k
-  line_break_place less at =
-      let here : chunk_index_at_line_break breaks chunks k ≡ chunk_index_at_char chunks i =
-      line_break_index breaks chunks k cut.nonempty ∙ ap (λ t. chunk_index_at_char chunks (line_start breaks t k - 1)) cut.joined ∙ ap (chunk_index_at_char chunks) (sym at) in
-      let own = place_inside chunks k (line_count breaks (concat chunks)) (chunk_index_at_line_break breaks chunks k) (λ e. omega (arith, e, lines_are, less)) in
-      elim (cases_eq i (length (concat chunks))) [
-        | inl at_end ↦
-            let start = line_start-le-length breaks text k in
-            let none : length (concat chunks) ≡ 0 = omega (arith, at_end, at, start, ap length cut.joined) in
-            let no = no_chunks chunks cut.nonempty none in
-            place_at_end chunks i (length (concat chunks)) _ at_end ∙ no ∙ sym (own ∙ omega (arith, chunk_index_at_line_break-le breaks chunks k, no))
-        | inr inside ↦ place_inside chunks i (length (concat chunks)) _ inside ∙ sym (own ∙ here)
-      ]
+  -- where the look-up answers how much lies before its chunk
+  pub line_break_start : k < line_count breaks text → i ≡ length (front_chunks chunks (chunk_index_at_line_break breaks chunks k)) → chunk_place_at_char chunks i ≡ chunk_place_at_line_break breaks chunks k
+  line_break_start less at =
+      let index : ℕ = chunk_index_at_line_break breaks chunks k in
+      let own = place_inside chunks k (line_count breaks (concat chunks)) index (λ e. omega (arith, e, lines_are, less)) in
+      let place : chunk_place_at_char chunks (length (front_chunks chunks index)) ≡ index = chunk_start_place chunks cut.nonempty index (chunk_index_at_line_break-le breaks chunks k) in
+      ap (chunk_place_at_char chunks) at ∙ place ∙ sym own

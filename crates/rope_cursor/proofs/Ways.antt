@@ -1,11 +1,11 @@
 -- The way down to a leaf, and the leaves beside it.
-use Rattle.std.proofs.Common.{◌≡◌, ℕ, zero, suc, ◌+◌, ◌-◌, ◌<◌, ◌≤◌, List, [], ◌∷◌, ◌++◌, length, take, drop, get_or, refl, sym, ap, subst, ◌∙◌, arith, inl, inr, All, append_assoc}
+use Rattle.std.proofs.Common.{◌≡◌, ℕ, zero, suc, ◌+◌, ◌-◌, ◌<◌, ◌≤◌, List, [], ◌∷◌, ◌++◌, length, take, drop, get_or, refl, sym, ap, subst, ◌∙◌, arith, inl, inr, All}
 use Rattle.std.specs.List.{concat}
 use Rattle.std.proofs.lemmas.Bool.{cases_lt}
-use Rattle.std.proofs.lemmas.List.{take_all, take_more, drop_more, take_at, take-append-drop, length-append, length-take, length-take-le, append-nil, get_or-append-add, get_or_append_left, append_cancel_left}
+use Rattle.std.proofs.lemmas.List.{take_all, take_more, drop_more, take_at, length-append, length-take-le, get_or-append-add, get_or_append_left}
 use Rattle.std.proofs.lemmas.List.Elements.{All-get_or, All-take, All-drop, All-nil, All-cons, All-head, All-tail}
 use Rattle.std.proofs.lemmas.Str.{length-le-encodes}
-use Rattle.std.proofs.Math.Seq.{drop-append_seam, drop-append-add, get_or-append_seam}
+use Rattle.std.proofs.Math.Seq.{drop-append-add, get_or-append_seam}
 use Rattle.rope_text.specs.declared.line_breaks.LineBreaks.{LineBreaks}
 use Rattle.rope_text.specs.declared.text_info.TextInfo.{TextInfo}
 use Rattle.rope_text.specs.declared.TheConstants.{MAX_CHILDREN}
@@ -19,7 +19,6 @@ use Rattle.rope_text.proofs.Measures.{IsMeasure-byte_len}
 use Rattle.rope_tree.specs.declared.search.Unit.{Unit}
 use Rattle.rope_tree.specs.Search.{count_of}
 use Rattle.rope_tree.specs.Tree.{Tree, text, leaves_of, height_of, breaks_of, leaf_tree, tree_over, IsTree, IsChild}
-use Rattle.rope_tree.specs.Found.{IsFound}
 use Rattle.rope_tree.proofs.Descents.{Descends, count_of-nil}
 use Rattle.rope_tree.proofs.LeafLaws.{nonempty_leaves}
 use Rattle.rope_tree.proofs.OnTheWay.{IsOnWay, at_start, at_end, further}

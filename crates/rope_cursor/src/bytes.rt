@@ -124,6 +124,7 @@ impl<'a> Iterator for Bytes<'a> {
     ghost remaining = { item_count ahead };
 
     /// The next byte, or none at the end, where it stays.
+    #[inline(always)]
     fn next(&mut self) -> Option<u8>
         ensures steps { YieldsFirstBy (λ x. x) ahead self.old result self.new }
         ensures goes { GoesAhead (λ x. x) self.old result self.new }

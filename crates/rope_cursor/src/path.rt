@@ -56,6 +56,12 @@ fn lowest_text(node: &Node) -> &str
     }
 }
 
+// Whether all nodes have bytes, as leaves of a list do. A walk comes to one after the other, and would wait for memory at each:
+// here what it will read of their heads is read side by side, so that their waits are one.
+fn have_text(nodes: &[Node]) -> bool {
+    nodes.iter().all(|node| node.info().bytes > 0)
+}
+
 impl<'a> Path<'a> {
     /// The way to the leaf that holds a place of a tree's text, and the counts of the text before the leaf. It enters each
     /// node on the way once.
@@ -98,6 +104,7 @@ impl<'a> Path<'a> {
     }
 
     // The leaf that holds a byte of the tree's text. Never inlined: most steps stay in the list of the leaf.
+    // What a walk reads next is read ahead; were there no text, which never is, the leaf would be looked up again.
     #[inline(never)]
     fn look_up(&self, byte_idx: usize) -> Path<'a>
         requires { byte_idx < byte_len (concat (leaves self.now)) }
@@ -105,6 +112,10 @@ impl<'a> Path<'a> {
         ensures starts { byte_len (concat result.before) ≤ byte_idx }
         ensures ends { byte_idx < byte_len (concat result.before) + byte_len result.here }
     {
+        let (path, _) = Path::at(self.root, Unit::Byte, byte_idx);
+        if have_text(path.nodes) {
+            return path;
+        }
         Path::at(self.root, Unit::Byte, byte_idx).0
     }
 
@@ -185,7 +196,7 @@ impl<'a> Model for TreeSpan<'a> {
 impl<'a> TreeSpan<'a> {
     /// The chunk of an excerpt that holds a byte or a character; at the end of the text the last chunk. With it the bytes, the
     /// characters and the line breaks of the text before it.
-    // Inlined: a way is half a kilobyte, and is then moved once less.
+    // Inlined, since a call would answer the way through memory.
     #[inline(always)]
     pub(crate) fn holding(
         excerpt: &Excerpt<'a>,

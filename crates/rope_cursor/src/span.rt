@@ -17,7 +17,7 @@ use rope_tree::Unit;
 use std::marker::Model;
 
 /// A chunk of a part, seen as the chunks before it, the chunk, and the chunks after it.
-// A plain text has no way: a way is half a kilobyte, which is neither filled nor moved for the lines that a screen shows.
+// A plain text has no way: none is filled or moved for the lines that a screen shows.
 #[derive(Drop)]
 pub(crate) struct Span<'a> {
     chunk: &'a str,
@@ -40,7 +40,7 @@ impl<'a> Model for Span<'a> {
 impl<'a> Span<'a> {
     /// The chunk of a part that holds a byte or a character; at the end of the text the last chunk. With it the bytes, the
     /// characters and the line breaks of the text before it. An empty part has no chunk: then it is the empty text.
-    // Inlined: a way is half a kilobyte, and is then moved once less.
+    // Inlined, since a call would answer the way through memory.
     #[inline(always)]
     pub(crate) fn holding(
         part: &Part<'a>,
@@ -68,8 +68,8 @@ impl<'a> Span<'a> {
     /// The chunk of a part that holds a character, and the byte of the chunk at which that character starts. At the end of the
     /// text it is the last chunk, and its end. An empty part has no chunk: then it is the empty text. The caller has the part's
     /// counts, and passes them in.
-    // Inlined: a way is half a kilobyte, and is then moved once less. Of a narrow text, which has as many bytes as characters,
-    // nothing is read: no byte of it has to be waited for.
+    // Inlined, since a call would answer the way through memory. Of a narrow text, which has as many bytes as characters, nothing
+    // is read: no byte of it has to be waited for.
     #[inline(always)]
     pub(crate) fn at(part: &Part<'a>, info: TextInfo, char_idx: usize) -> (Span<'a>, usize)
         requires info { info ≡ info_of (breaks_of part.now) (text_of part.now) }

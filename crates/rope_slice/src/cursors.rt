@@ -107,11 +107,13 @@ impl<'a> RopeSlice<'a> {
             (chunk_place_at_line_break (breaks_of self.now) (chunks_of self.now) line_break_idx)
             result }
     {
-        let start = self.line_to_char(line_break_idx);
-        let is_past = line_break_idx == self.len_lines();
-        // the last of these breaks ends right before the line that starts there
-        let before = start.saturating_sub(1);
-        let char_idx = if is_past { start } else { before };
+        let info = self.part.info();
+        let char_idx = if line_break_idx > info.break_count {
+            info.chars
+        } else {
+            let (_, _, before, _) = self.part.chunk_at_line_break(line_break_idx);
+            before
+        };
         chunks_at(&self.part, Unit::Char, char_idx)
     }
 

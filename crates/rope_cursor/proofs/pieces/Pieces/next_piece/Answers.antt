@@ -1,9 +1,8 @@
-use Rattle.std.proofs.Common.{◌≡◌, ◌<◌, ◌∷◌, ◌∙◌, List, ℕ, length, ap, sym, subst, arith, All}
-use Rattle.std.specs.Str.{chars, encode_utf8_all}
+use Rattle.std.proofs.Common.{◌≡◌, ◌<◌, ◌∷◌, ◌∙◌, List, ℕ, length, ap, subst, arith, All}
+use Rattle.std.specs.Str.{encode_utf8_all}
 use Rattle.std.specs.List.{concat}
 use Rattle.std.proofs.lemmas.List.Elements.{All-head, All-tail}
 use Rattle.std.proofs.lemmas.Str.{length-le-encodes}
-use Rattle.rope_cursor.specs.Path.{IsNext}
 use Rattle.rope_cursor.specs.Pieces.{after_way}
 use Rattle.rope_cursor.proofs.PiecesAhead.{bytes_of, leaf_and_rest, none_left}
 use Rattle.rope_cursor.proofs.pieces.Pieces.next_piece.Goals.{After-as_bytes-bytes}

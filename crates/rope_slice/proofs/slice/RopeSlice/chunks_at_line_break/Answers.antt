@@ -1,26 +1,35 @@
-use Rattle.std.proofs.Common.{◌≡◌, ◌-◌, ℕ, ap, ◌∙◌, subst, arith}
-use Rattle.rope_text.specs.Lookup.{StandsAt, chunk_place_at_line_break, chunk_place_at_char}
-use Rattle.rope_text.proofs.LineLaws.{line_start-le-length}
+use Rattle.std.proofs.Common.{◌≡◌, ℕ, length, ap, ◌∙◌, subst, arith}
+use Rattle.rope_text.specs.Lookup.{StandsAt, found_chunk, chunk_index_at_line_break, chunk_place_at_line_break, chunk_place_at_char}
 use Rattle.rope_slice.specs.Slice.{text_of, chunks_of, breaks_of}
-use Rattle.rope_cursor.proofs.ChunkStarts.{line_break_place, line_break_end}
-use Rattle.rope_slice.proofs.slice.RopeSlice.chunks_at_line_break.Goals.{After-chunks_at, then-is_past, else-is_past}
+use Rattle.rope_cursor.proofs.ChunkStarts.{front_le, line_break_start, line_break_end}
+use Rattle.rope_slice.proofs.slice.RopeSlice.chunks_at_line_break.Goals.{After-chunks_at, then-line_break_idx-info, else-line_break_idx-info}
 use Rattle.rope_slice.proofs.slice.RopeSlice.chunks_at_line_break.Goals as goal
 
 pub chunks_at-requires-clause-within : goal.chunks_at-requires-clause-within
+unfolding found_chunk
 chunks_at-requires-clause-within c =
-    let least = line_start-le-length (breaks_of c.args.self.now) (text_of c.args.self.now) c.args.line_break_idx in
-    elim c.if-is_past.branch [
-      | then-is_past w ↦ omega (arith, w.char_idx-is, c.line_to_char-start.ensures, least)
-      | else-is_past w ↦ omega (arith, w.char_idx-is, c.saturating_sub-before.ensures, c.line_to_char-start.ensures, least)
+    let part = c.args.self.now in
+    let cut = c.info-info.ensures.kept.cut in
+    elim c.if-line_break_idx-info.branch [
+      | then-line_break_idx-info w ↦ omega (arith, w.char_idx-is, ap (λ i. i.chars) c.info-info.ensures.value)
+      | else-line_break_idx-info w ↦ omega (
+          arith,
+          w.char_idx-is,
+          w.chunk_at_line_break-before.ensures.chars_are,
+          front_le (chunks_of part) (chunk_index_at_line_break (breaks_of part) (chunks_of part) c.args.line_break_idx),
+          ap length cut.joined,
+        )
     ]
 
-place_is : (c : After-chunks_at) → chunk_place_at_char (chunks_of c.args.self.now) c.if-is_past.char_idx ≡ chunk_place_at_line_break (breaks_of c.args.self.now) (chunks_of c.args.self.now) c.args.line_break_idx
+place_is : (c : After-chunks_at) → chunk_place_at_char (chunks_of c.args.self.now) c.if-line_break_idx-info.char_idx ≡ chunk_place_at_line_break (breaks_of c.args.self.now) (chunks_of c.args.self.now) c.args.line_break_idx
+unfolding found_chunk
 place_is c =
     let part = c.args.self.now in
-    let cut = c.chunks_at.ensures.cut in
-    elim c.if-is_past.branch [
-      | then-is_past w ↦ line_break_end (breaks_of part) (text_of part) (chunks_of part) cut c.args.line_break_idx c.if-is_past.char_idx (omega (arith, w.if-is_past.true, c.len_lines.ensures)) (w.char_idx-is ∙ c.line_to_char-start.ensures)
-      | else-is_past w ↦ line_break_place (breaks_of part) (text_of part) (chunks_of part) cut c.args.line_break_idx c.if-is_past.char_idx (omega (arith, c.requires, w.if-is_past.false, c.len_lines.ensures)) (w.char_idx-is ∙ c.saturating_sub-before.ensures ∙ ap (λ n. n - 1) c.line_to_char-start.ensures)
+    let cut = c.info-info.ensures.kept.cut in
+    let breaks = ap (λ i. i.break_count) c.info-info.ensures.value in
+    elim c.if-line_break_idx-info.branch [
+      | then-line_break_idx-info w ↦ line_break_end (breaks_of part) (text_of part) (chunks_of part) cut c.args.line_break_idx c.if-line_break_idx-info.char_idx (omega (arith, c.requires, w.if-line_break_idx-info.true, breaks)) (w.char_idx-is ∙ ap (λ i. i.chars) c.info-info.ensures.value)
+      | else-line_break_idx-info w ↦ line_break_start (breaks_of part) (text_of part) (chunks_of part) cut c.args.line_break_idx c.if-line_break_idx-info.char_idx (omega (arith, c.requires, w.if-line_break_idx-info.false, breaks)) (w.char_idx-is ∙ w.chunk_at_line_break-before.ensures.chars_are)
     ]
 
 pub returns : goal.returns
