@@ -8,8 +8,8 @@ ghost use Rattle.rope_text.specs.Sides.{ahead, at_place, turned, GoesRight, Goes
 ghost use Rattle.rope_part.specs.Part.{text_of};
 ghost use Rattle.rope_cursor.specs.Hints.{CountsAhead};
 
-use crate::span::Span;
 use crate::point::{end_of, step_chunk};
+use crate::span::Span;
 use rope_part::Part;
 use rope_tree::Unit;
 use std::alloc::AllocError;

@@ -5,8 +5,8 @@ ghost use Rattle.rope_text.specs.Sides.{ahead, at_place, turned, GoesRight, Goes
 ghost use Rattle.rope_part.specs.Part.{text_of};
 ghost use Rattle.rope_cursor.specs.Hints.{CountsAhead};
 
-use crate::span::Span;
 use crate::point::{char_after, char_before, step_chunk};
+use crate::span::Span;
 use rope_part::Part;
 use std::alloc::AllocError;
 use std::iter::ExactSizeIterator;

@@ -14,8 +14,8 @@ ghost use Rattle.rope_cursor.specs.Caret.{before_byte, after_byte, last_line_byt
 ghost use Rattle.rope_cursor.specs.Path.{leaves};
 ghost use Rattle.rope_cursor.specs.Hints.{CountsAhead};
 
-use crate::span::Span;
 use crate::point::end_of;
+use crate::span::Span;
 use rope_part::Part;
 use rope_text::crlf::prev_break;
 use rope_text::str_utils::{

@@ -81,7 +81,16 @@ impl<'a> Path<'a> {
                 View::Leaf(leaf) => {
                     let leaf = leaf.as_str();
                     let start = before.bytes;
-                    return (Path { root, nodes, at, leaf, start }, before);
+                    return (
+                        Path {
+                            root,
+                            nodes,
+                            at,
+                            leaf,
+                            start,
+                        },
+                        before,
+                    );
                 }
                 View::Inner(children, totals) => {
                     at = place_of(totals, unit, rest, &mut Steps::new());
@@ -167,7 +176,11 @@ impl<'a> Path<'a> {
         ensures stays { OnFalse result (self.new ≡ self.old) }
         ensures ended { OnFalse result (IsLast is_backward self.old) }
     {
-        if is_backward { self.step_back() } else { self.step_on() }
+        if is_backward {
+            self.step_back()
+        } else {
+            self.step_on()
+        }
     }
 }
 

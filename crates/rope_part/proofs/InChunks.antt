@@ -1,9 +1,9 @@
 -- What lies in one chunk: of some chunks, of a clip of them, of a plain text.
-use Rattle.std.proofs.Common.{◌≡◌, ℕ, suc, ◌+◌, ◌-◌, ◌<◌, ◌≤◌, min, List, [], ◌∷◌, ◌++◌, length, take, drop, get_or, refl, sym, ap, ◌∙◌, arith, inl, inr}
+use Rattle.std.proofs.Common.{◌≡◌, ℕ, suc, ◌+◌, ◌-◌, ◌<◌, ◌≤◌, List, [], ◌∷◌, ◌++◌, length, take, drop, get_or, refl, sym, ap, ◌∙◌, arith, inl, inr}
 use Rattle.std.specs.List.{concat, slice_range}
 use Rattle.std.proofs.lemmas.Bool.{cases_lt}
-use Rattle.std.proofs.lemmas.List.{append-nil, length-append, length-drop, length-take, take_all, take-take}
-use Rattle.rope_text.specs.Cutting.{clip, single_chunk, cons_nonempty}
+use Rattle.std.proofs.lemmas.List.{append-nil, length-append, length-drop, take_all, take-take}
+use Rattle.rope_text.specs.Cutting.{clip, single_chunk}
 use Rattle.rope_text.specs.Text.{byte_len}
 use Rattle.rope_text.proofs.Measures.{IsMeasure-byte_len, size_lt}
 use Rattle.rope_text.proofs.ClipLaws.{clip_empty, slice_range_empty, concat-clip, length-slice_range, slice_range-slice_range, clip-clip, slice_range_past}

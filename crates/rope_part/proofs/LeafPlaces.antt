@@ -81,8 +81,7 @@ module _ (b : ℕ) (t : Tree) (leaf : List ℕ) (front : TextInfo) (tree : IsTre
         let size = ap byte_len leaf_part in
         let n : ℕ = b - front.bytes in
         let inside = boundary_in (text t) front.chars e front.bytes (omega arith) q starts n (omega (arith, less, size)) in
-        let outside = boundary_out (text t) front.chars e front.bytes (omega arith) q starts n (omega (arith, less, size)) in
-        (
+        let outside = boundary_out (text t) front.chars e front.bytes (omega arith) q starts n (omega (arith, less, size)) in (
           (λ h. ap (λ s. is_char_boundary s n) (sym leaf_part) ∙ inside (ap (is_char_boundary (text t)) here ∙ h)),
           (λ h. sym (ap (is_char_boundary (text t)) here) ∙ outside (ap (λ s. is_char_boundary s n) leaf_part ∙ h)),
         )

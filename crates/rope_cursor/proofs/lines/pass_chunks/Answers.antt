@@ -45,7 +45,7 @@ loop-breaks-smaller c = omega (arith, ap length c.loop-breaks-test.ensures.moved
 pub loop-breaks-preserved : goal.loop-breaks-preserved
 loop-breaks-preserved c = record {
   passed = passed_more c.args.breaks c.args.span.now c.loop-breaks.span c.step.new.self c.loop-breaks.passed c.loop-breaks.invariant.passed.0 c.loop-breaks.invariant.passed.1 c.loop-breaks-test.ensures.moved
-    c.of_first_line-more.result c.plus-passed.result (c.of_first_line-more.ensures ∙ ap (λ t. info_of c.args.breaks (first_line c.args.breaks t)) c.chunk.ensures) c.plus-passed.ensures.sum c.if-more-gt0.false;
+      c.of_first_line-more.result c.plus-passed.result (c.of_first_line-more.ensures ∙ ap (λ t. info_of c.args.breaks (first_line c.args.breaks t)) c.chunk.ensures) c.plus-passed.ensures.sum c.if-more-gt0.false;
   same = leaves_next c.loop-breaks.span c.step.new.self c.loop-breaks-test.ensures.moved ∙ c.loop-breaks.invariant.same;
 }
 

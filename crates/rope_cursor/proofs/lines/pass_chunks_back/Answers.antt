@@ -72,13 +72,13 @@ loop-breaks-smaller c = omega (arith, ap length c.loop-breaks-test.ensures.moved
 pub loop-breaks-preserved : goal.loop-breaks-preserved
 loop-breaks-preserved c = record {
   passed = (
-  c.step.new.self.here ++ c.loop-breaks.invariant.passed.0,
-  chunk_over c.args.breaks c.args.skip c.loop-breaks.left (concat c.args.span.now.before) (c.args.span.now.here ++ concat c.args.span.now.after) c.loop-breaks.invariant.passed.0 c.loop-breaks.span c.step.new.self
-      c.count_last-start.result.0 c.count_last-start.result.1 c.loop-breaks.passed c.loop-breaks.invariant.passed.1 c.loop-breaks-test.ensures.moved
-      (c.count_last-start.ensures.start ∙ ap (λ t. byte_len (take (last_start c.args.breaks t c.loop-breaks.left) t)) (whole _ _ c.byte_len_of-end.ensures ∙ c.chunk-chunk.ensures))
-      (c.count_last-start.ensures.counts ∙ ap (λ t. info_of c.args.breaks (drop (last_start c.args.breaks t c.loop-breaks.left) t)) (whole _ _ c.byte_len_of-end.ensures ∙ c.chunk-chunk.ensures))
-      c.plus-passed.result c.plus-passed.ensures.sum c.if-start-gt0.false,
-);
+    c.step.new.self.here ++ c.loop-breaks.invariant.passed.0,
+    chunk_over c.args.breaks c.args.skip c.loop-breaks.left (concat c.args.span.now.before) (c.args.span.now.here ++ concat c.args.span.now.after) c.loop-breaks.invariant.passed.0 c.loop-breaks.span c.step.new.self
+        c.count_last-start.result.0 c.count_last-start.result.1 c.loop-breaks.passed c.loop-breaks.invariant.passed.1 c.loop-breaks-test.ensures.moved
+        (c.count_last-start.ensures.start ∙ ap (λ t. byte_len (take (last_start c.args.breaks t c.loop-breaks.left) t)) (whole _ _ c.byte_len_of-end.ensures ∙ c.chunk-chunk.ensures))
+        (c.count_last-start.ensures.counts ∙ ap (λ t. info_of c.args.breaks (drop (last_start c.args.breaks t c.loop-breaks.left) t)) (whole _ _ c.byte_len_of-end.ensures ∙ c.chunk-chunk.ensures))
+        c.plus-passed.result c.plus-passed.ensures.sum c.if-start-gt0.false,
+  );
   same = sym (leaves_next c.step.new.self c.loop-breaks.span c.loop-breaks-test.ensures.moved) ∙ c.loop-breaks.invariant.same;
 }
 

@@ -21,7 +21,7 @@ overflow_add-start c =
 pub overflow_add-at : goal.overflow_add-at
 overflow_add-at c =
     let l = c.self.invariant.list in
-    elim (cases_lt 0 (c.self.inside.at + length c.self.inside.nodes.now)) [ | inl some ↦ omega (arith, l.here some, l.few) | inr none ↦ omega arith ]
+    elim (cases_lt 0 (c.self.inside.at + length c.self.inside.nodes.now)) [ inl some ↦ omega (arith, l.here some, l.few) | inr none ↦ omega arith ]
 
 on : (c : After-lowest_text-self-inside) → IsWay c.self.inside.root.now c.self.inside.nodes.now (c.self.inside.at + 1) (chars c.lowest_text-self-inside.result.now) (c.self.inside.start + byte_len (chars c.self.inside.leaf.now))
 on c =

@@ -1,4 +1,4 @@
-use Rattle.std.proofs.Common.{◌≡◌, ◌+◌, ◌-◌, ◌∙◌, true, false, refl, sym, ap, arith}
+use Rattle.std.proofs.Common.{◌≡◌, ◌+◌, ◌-◌, ◌∙◌, true, refl, ap, arith}
 use Rattle.rope_text.specs.Conversions.{byte_to_char}
 use Rattle.rope_text.specs.Edit.{is_char_boundary}
 use Rattle.rope_part.proofs.LeafPlaces.{ByteAt, byte_at, cut_of_boundary, boundary_of_cut}
@@ -16,8 +16,7 @@ at c =
 
 pub returns-then-not-is_char_boundary-clause-whole : goal.returns-then-not-is_char_boundary-clause-whole
 returns-then-not-is_char_boundary-clause-whole c =
-    let here = at (goal.at.returns-then-not-is_char_boundary-clause-whole c).After-leaf_at-found in
-    (
+    let here = at (goal.at.returns-then-not-is_char_boundary-clause-whole c).After-leaf_at-found in (
       (λ h. absurd (cc)),
       (λ h. (c.if-not-is_char_boundary.ensures.test.1 (rw c.place-place.ensures.value (cut_of_boundary c.as_str-leaf.result.now c.leaf_at-found.result.leaf _ c.as_str-leaf.utf8 c.as_str-leaf.ensures.chars (here.whole.0 h))))),
     )

@@ -1,8 +1,7 @@
 use Rattle.std.proofs.Common.{ℕ, List, ◌≡◌, ◌++◌, take, drop, false, ◌-◌, ◌<◌, ◌≤◌, ◌∙◌, inl, inr, length, refl, ap, sym, arith}
-use Rattle.std.proofs.lemmas.Str.{chars-nil}
 use Rattle.rope_text.specs.Cutting.{single_chunk}
 use Rattle.rope_text.specs.TextInfo.{info_sum}
-use Rattle.rope_text.proofs.ClipLaws.{slice_range_empty, clip_empty}
+use Rattle.rope_text.proofs.ClipLaws.{slice_range_empty}
 use Rattle.rope_text.specs.LineParts.{part_between}
 use Rattle.rope_tree.specs.Tree.{text}
 use Rattle.rope_part.specs.declared.excerpt.Excerpt.{Excerpt}

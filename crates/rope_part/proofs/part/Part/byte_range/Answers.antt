@@ -1,6 +1,4 @@
-use Rattle.std.proofs.Common.{◌≡◌, ◌+◌, ◌-◌, ◌<◌, ◌≤◌, ◌∙◌, ℕ, take, true, false, length, refl, sym, ap, subst, arith, rules, inl, inr}
-use Rattle.std.specs.List.{slice_range}
-use Rattle.std.specs.Str.{chars, IsCharBoundary}
+use Rattle.std.proofs.Common.{◌≡◌, ◌+◌, ◌-◌, ◌<◌, ◌≤◌, ◌∙◌, ℕ, true, refl, sym, ap, arith, rules, inl, inr}
 use Rattle.std.proofs.lemmas.Bool.{cases_lt}
 use Rattle.std.proofs.lemmas.List.{length-take-le}
 use Rattle.rope_text.specs.declared.text_info.TextInfo.{TextInfo}
@@ -12,7 +10,6 @@ use Rattle.rope_text.specs.Conversions.{byte_to_char}
 use Rattle.rope_text.specs.Cutting.{single_chunk}
 use Rattle.rope_text.specs.Edit.{is_char_boundary}
 use Rattle.rope_text.specs.LineParts.{part_between}
-use Rattle.rope_text.specs.TextInfo.{info_of}
 use Rattle.rope_text.proofs.ByteSlices.{boundary_is}
 use Rattle.rope_text.proofs.ClipLaws.{slice_range_empty, clip_empty}
 use Rattle.rope_text.proofs.ConversionLaws.{byte_to_char-le-length}

@@ -13,12 +13,12 @@ chunks_at-requires-clause-within c =
     elim c.if-line_break_idx-info.branch [
       | then-line_break_idx-info w ↦ omega (arith, w.char_idx-is, ap (λ i. i.chars) c.info-info.ensures.value)
       | else-line_break_idx-info w ↦ omega (
-          arith,
-          w.char_idx-is,
-          w.chunk_at_line_break-before.ensures.chars_are,
-          front_le (chunks_of part) (chunk_index_at_line_break (breaks_of part) (chunks_of part) c.args.line_break_idx),
-          ap length cut.joined,
-        )
+        arith,
+        w.char_idx-is,
+        w.chunk_at_line_break-before.ensures.chars_are,
+        front_le (chunks_of part) (chunk_index_at_line_break (breaks_of part) (chunks_of part) c.args.line_break_idx),
+        ap length cut.joined,
+      )
     ]
 
 place_is : (c : After-chunks_at) → chunk_place_at_char (chunks_of c.args.self.now) c.if-line_break_idx-info.char_idx ≡ chunk_place_at_line_break (breaks_of c.args.self.now) (chunks_of c.args.self.now) c.args.line_break_idx
