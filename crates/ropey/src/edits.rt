@@ -68,8 +68,8 @@ impl Rope {
     ///
     /// The index is at most `len_chars()`. An empty text takes no memory and changes nothing. A short one goes into
     /// the chunk around that place, and takes no memory where the chunk has room and nothing on the way down to it is
-    /// shared with a clone; else nodes on the way down are made. A text of more than 981 bytes becomes a tree of its
-    /// own first. The rope's text is not walked.
+    /// shared with a clone; else nodes on the way down are made. A text of more than 981 bytes becomes chunks of its
+    /// own. The rope's text is not walked.
     ///
     /// # Errors
     ///
