@@ -21,7 +21,8 @@ use Rattle.rope_text.proofs.LineSeams.{parts_crlf-take, first_line-left, first_l
 use Rattle.rope_part.specs.Kept.{IsPart}
 use Rattle.rope_cursor.specs.Path.{Place, leaves}
 use Rattle.rope_part.proofs.InChunks.{in_chunk}
-use Rattle.rope_cursor.specs.Caret.{after_byte, halves_at, HoldsAhead, IsCaret, PassesLine}
+use Rattle.rope_text.specs.LineParts.{after_byte}
+use Rattle.rope_cursor.specs.Caret.{halves_at, HoldsAhead, IsCaret, PassesLine}
 use Rattle.rope_cursor.proofs.Carets.{some_break, here_apart, whole_text, size_two, size_front, front_place, half_of, AreHalf}
 
 -- chunks of no text

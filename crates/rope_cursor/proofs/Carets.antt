@@ -26,7 +26,8 @@ use Rattle.rope_text.proofs.LineLaws.{line_start-le-length}
 use Rattle.rope_text.proofs.LineSeams.{parts_crlf-take, first_line-left, first_line-right, first_line-all, no_break_at_all, break_count-apart}
 use Rattle.rope_text.proofs.InfoLaws.{break_count-le-length}
 use Rattle.rope_cursor.specs.Path.{Place, IsNext, leaves}
-use Rattle.rope_cursor.specs.Caret.{after_byte, IsBetween, AreChunks, PassesLine, PassedTexts, PassedChunks}
+use Rattle.rope_text.specs.LineParts.{after_byte, IsBetween}
+use Rattle.rope_cursor.specs.Caret.{AreChunks, PassesLine, PassedTexts, PassedChunks}
 use Rattle.rope_cursor.proofs.Spans.{leaves_next}
 
 -- no CR meets LF behind joined texts, or before part of a text

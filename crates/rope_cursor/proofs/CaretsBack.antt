@@ -24,7 +24,8 @@ use Rattle.rope_text.proofs.LineSeams.{never, break_count-apart, last_start-left
 use Rattle.rope_text.proofs.InfoLaws.{same_info}
 use Rattle.rope_cursor.specs.Path.{Place, IsNext}
 use Rattle.rope_part.proofs.PartsBetween.{char_at_byte}
-use Rattle.rope_cursor.specs.Caret.{before_byte, after_byte, halves_at, AreChunks, IsCaret, PassesBack, PassedBack, PassedBackTo}
+use Rattle.rope_text.specs.LineParts.{before_byte, after_byte}
+use Rattle.rope_cursor.specs.Caret.{halves_at, AreChunks, IsCaret, PassesBack, PassedBack, PassedBackTo}
 use Rattle.rope_cursor.proofs.Spans.{leaves_next}
 use Rattle.rope_cursor.proofs.Carets.{apart_joined, apart_front, here_apart, front_place, half_of, AreHalf, size_two, whole_text}
 use Rattle.rope_cursor.proofs.CaretSteps.{apart_back}

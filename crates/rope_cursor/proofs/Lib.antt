@@ -11,6 +11,4 @@ pub mod PiecesAhead
 pub mod Carets
 pub mod CaretSteps
 pub mod CaretsBack
-pub mod LineCounts
-pub mod LineNear
 mod NarrowChunks

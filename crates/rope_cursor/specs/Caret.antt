@@ -6,9 +6,8 @@ use Rattle.rope_text.specs.declared.text_info.TextInfo.{TextInfo}
 use Rattle.rope_text.specs.Text.{byte_len}
 use Rattle.rope_text.specs.TextInfo.{info_of}
 use Rattle.rope_text.specs.Breaks.{break_count}
-use Rattle.rope_text.specs.Conversions.{byte_to_char}
 use Rattle.rope_text.specs.Cutting.{KeepsCrlf, parts_crlf}
-use Rattle.rope_text.specs.LineParts.{first_line, last_start}
+use Rattle.rope_text.specs.LineParts.{before_byte, after_byte, IsBetween, first_line, last_start}
 use Rattle.rope_part.specs.InChunk.{IsInChunk}
 use Rattle.rope_cursor.specs.Path.{Place, leaves}
 
@@ -16,24 +15,6 @@ pub record Halves : Type 0 where
   pub front : List ℕ
   pub back : List ℕ
   pub chunks : List (List ℕ)
-
--- the text before the byte b, and from it on
-abbrev pub before_byte : List ℕ → ℕ → List ℕ
-before_byte text b = take (byte_to_char text b) text
-
-abbrev pub after_byte : List ℕ → ℕ → List ℕ
-after_byte text b = drop (byte_to_char text b) text
-
--- a character begins at the byte b, or the text ends there
-abbrev pub IsBetween : List ℕ → ℕ → Type 0
-IsBetween text b = byte_len (before_byte text b) ≡ b
-
--- of the text before the byte `end`, where its last line starts, or the one so many breaks before it: the byte, and the counts from there on
-abbrev pub last_line_byte : LineBreaks → List ℕ → ℕ → ℕ → ℕ
-last_line_byte breaks text end skip = byte_len (take (last_start breaks (before_byte text end) skip) (before_byte text end))
-
-abbrev pub last_line_info : LineBreaks → List ℕ → ℕ → ℕ → TextInfo
-last_line_info breaks text end skip = info_of breaks (drop (last_start breaks (before_byte text end) skip) (before_byte text end))
 
 -- before the byte b of the chunk here, and from it on
 abbrev pub halves_at : Place → ℕ → Halves

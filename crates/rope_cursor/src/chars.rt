@@ -110,6 +110,7 @@ impl<'a> Chars<'a> {
     }
 
     /// The character behind, to which it steps back; or none at that end, where it stays.
+    #[inline(always)]
     pub fn prev(&mut self) -> Option<char>
         ensures { StepsBack (λ x. x) self.old result self.new }
     {

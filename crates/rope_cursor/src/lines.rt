@@ -10,18 +10,15 @@ ghost use Rattle.rope_text.specs.LineParts.{lines_of, first_line, last_start};
 ghost use Rattle.rope_text.specs.Sides.{ahead, at_place, turned, GoesRight, GoesLeft, GoesAhead, StepsBack};
 ghost use Rattle.rope_text.specs.TextInfo.{info_of};
 ghost use Rattle.rope_part.specs.Part.{content_of, text_of, breaks_of};
-ghost use Rattle.rope_cursor.specs.Caret.{before_byte, after_byte, last_line_byte, last_line_info, AreChunks, HoldsAhead, IsBetween, PassesLine, PassesBack};
+ghost use Rattle.rope_cursor.specs.Caret.{AreChunks, HoldsAhead, PassesLine, PassesBack};
 ghost use Rattle.rope_cursor.specs.Path.{leaves};
 ghost use Rattle.rope_cursor.specs.Hints.{CountsAhead};
 
 use crate::point::end_of;
 use crate::span::Span;
 use rope_part::Part;
-use rope_text::crlf::prev_break;
-use rope_text::str_utils::{
-    byte_len_of, byte_to_char_idx, byte_to_line_with, byte_to_surrogates, line_to_byte_with,
-};
-use rope_text::{LineBreaks, MAX_BYTES, TextInfo};
+use rope_text::str_utils::byte_len_of;
+use rope_text::{LineBreaks, TextInfo};
 use std::alloc::AllocError;
 use std::iter::ExactSizeIterator;
 use std::marker::{Model, PhantomData};
@@ -80,10 +77,9 @@ pub fn lines_at<'a, T: OfPart<'a>>(part: &Part<'a>, line_idx: usize) -> Lines<'a
     let info = part.info();
     let before = part.before_line(line_idx);
     let (span, inside) = Span::at(part, info, before.chars);
-    let near = NEAR_BYTES;
     Lines {
         part: *part,
-        caret: Caret { span, inside, near },
+        caret: Caret { span, inside },
         before,
         line: line_idx,
         total: info.break_count + 1,
@@ -179,7 +175,10 @@ impl<'a, T> Clone for Lines<'a, T> {
 
     fn clone(&self) -> Result<Lines<'a, T>, AllocError> {
         let span = self.caret.span.copy();
-        let caret = Caret { span, ..self.caret };
+        let caret = Caret {
+            span,
+            inside: self.caret.inside,
+        };
         Ok(Lines { caret, ..*self })
     }
 }
@@ -189,8 +188,6 @@ impl<'a, T> Clone for Lines<'a, T> {
 struct Caret<'a> {
     span: Span<'a>,
     inside: usize,
-    // in how many bytes before the place a step backward looks first, but in no fewer than `NEAR_BYTES`
-    near: usize,
 }
 
 impl<'a> Model for Caret<'a> {
@@ -223,62 +220,6 @@ fn pass_chunks(span: &mut Span<'_>, breaks: LineBreaks) -> (usize, TextInfo)
     (byte_len_of(span.chunk()), passed)
 }
 
-// The last line of a text is looked for first in at least so many bytes before its end.
-const NEAR_BYTES: usize = 64;
-
-// And in at most so many, however long the line was that was found before.
-const FAR_BYTES: usize = 256;
-
-// The byte at which the last line of a text's front starts, or the one `skip` lines before it, and the counts from there to the
-// front's end, which is the byte `end`. It is looked for in the last `first` bytes of the front, and then in `times` as many, until
-// it is found: so a line costs its own length, however long the text before it is. The text behind the front is passed in, too,
-// since it fills the blocks that are counted at once.
-fn count_last(
-    text: &str,
-    end: usize,
-    first: usize,
-    times: usize,
-    skip: usize,
-    breaks: LineBreaks,
-) -> (usize, TextInfo)
-    requires between { IsBetween (chars text.now) end }
-    requires apart { parts_crlf (before_byte (chars text.now) end) (after_byte (chars text.now) end)
-        ≡ false }
-    requires more { 1 < times }
-    ensures start { result.0 ≡ last_line_byte breaks (chars text.now) end skip }
-    ensures counts { result.1 ≡ last_line_info breaks (chars text.now) end skip }
-{
-    let mut back = first.max(NEAR_BYTES);
-    loop {
-        // the last `back` bytes of the front, or a few more, so that no character and no CR LF is cut
-        let cut = prev_break(end.saturating_sub(back), text.as_bytes());
-        let near = &text[cut..];
-        let len = end - cut;
-        let break_count = byte_to_line_with(near, len, breaks);
-        if break_count <= skip && cut > 0 {
-            back = back.saturating_mul(times);
-            continue;
-        }
-        let skip = skip.min(break_count);
-        // the text is so short that it mostly is the second line
-        let line_idx = break_count - skip;
-        let start = if line_idx == 1 {
-            TextInfo::of_first_line(near, breaks).bytes
-        } else {
-            line_to_byte_with(near, line_idx, breaks)
-        };
-        let rest = &near[start..];
-        let bytes = len - start;
-        let info = TextInfo {
-            bytes,
-            chars: byte_to_char_idx(rest, bytes),
-            utf16_surrogates: byte_to_surrogates(rest, bytes),
-            break_count: skip,
-        };
-        return (cut + start, info);
-    }
-}
-
 // From the start of a chunk back to the start of a line: the place in the last chunk, and the counts of what was passed.
 fn pass_chunks_back(span: &mut Span<'_>, skip: usize, breaks: LineBreaks) -> (usize, TextInfo)
     requires { AreChunks span.old }
@@ -291,8 +232,7 @@ fn pass_chunks_back(span: &mut Span<'_>, skip: usize, breaks: LineBreaks) -> (us
     while span.step(true) {
         let chunk = span.chunk();
         let end = byte_len_of(chunk);
-        // first near the chunk's end, and then in all of it
-        let (start, more) = count_last(chunk, end, NEAR_BYTES, MAX_BYTES, left, breaks);
+        let (start, more) = TextInfo::of_last_line(chunk, end, left, breaks);
         passed = more.plus(passed);
         if start > 0 {
             return (start, passed);
@@ -339,13 +279,9 @@ impl<'a> Caret<'a> {
         ensures held { HoldsAhead self.new (chars result.1.now) }
     {
         let chunk = self.span.chunk();
-        let (start, last) = count_last(chunk, self.inside, self.near, 2, skip, breaks);
+        let (start, last) = TextInfo::of_last_line(chunk, self.inside, skip, breaks);
         if start > 0 {
             self.inside = start;
-            // neighbouring lines are mostly of much the same length: the next one is looked for in a quarter more, and a few bytes
-            // for its break
-            let most = last.bytes.min(FAR_BYTES);
-            self.near = (most + most / 4 + 8).min(FAR_BYTES);
             return (last, &chunk[start..]);
         }
         let (inside, more) = pass_chunks_back(&mut self.span, skip - last.break_count, breaks);

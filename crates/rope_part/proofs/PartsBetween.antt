@@ -15,7 +15,7 @@ use Rattle.rope_text.proofs.Measures.{IsMeasure-byte_len}
 use Rattle.rope_text.proofs.BreakLaws.{joins_break}
 use Rattle.rope_text.proofs.InfoLaws.{surrogate_count-append, info_of-append_apart}
 use Rattle.rope_text.proofs.LineSeams.{parts_crlf-take}
-use Rattle.rope_text.proofs.SliceLaws.{break_count-take}
+use Rattle.rope_text.proofs.SliceLaws.{breaks_apart}
 use Rattle.rope_part.specs.Edge.{start_info, end_info, IsExcerpt}
 use Rattle.rope_part.proofs.Measured.{measured}
 use Rattle.rope_text.proofs.InfoLaws.{same_info}
@@ -25,12 +25,6 @@ use Rattle.rope_text.specs.Lines.{line_start, line_count}
 use Rattle.rope_text.specs.LineParts.{part_between, line_of}
 use Rattle.rope_text.proofs.LineLaws.{line_start-le-length, line_start_mono}
 use Rattle.rope_text.proofs.LineSeams.{line_start_apart}
-
--- the breaks up to a place that lies in no CR LF
-pub breaks_apart : (breaks : LineBreaks) (text : List ℕ) (i : ℕ) → i ≤ length text → parts_crlf (take i text) (drop i text) ≡ false → char_to_line breaks text i ≡ break_count breaks (take i text)
-breaks_apart breaks text i within apart =
-    let none : cond {A = ℕ} (joins_break breaks (take i text) (drop i text)) 1 0 ≡ 0 = ap (λ (x : Bool). cond {A = ℕ} (x && is_break_char breaks 13) 1 0) apart in
-    omega (arith, break_count-take breaks text i within)
 
 -- the character that starts at a byte
 pub char_at_byte : (text : List ℕ) (b i : ℕ) → i ≤ length text → b ≡ byte_len (take i text) → byte_to_char text b ≡ i

@@ -1,7 +1,9 @@
 -- Set bits of a number, those below a place and those from there on.
-use Rattle.std.proofs.Common.{◌≡◌, ℕ, zero, suc, ◌+◌, ◌-◌, ◌*◌, ◌/◌, ◌%◌, ◌^◌, ◌≤◌, ◌<◌, Bool, true, false, cond, List, [], ◌∷◌, take, count_ones, refl, sym, ap, ap₂, ◌∙◌, arith, add-one}
-use Rattle.std.proofs.Math.Nat.{mod-one, div-one, zero-mod, div-div-eq-div-mul, pow-succ'}
-use Rattle.std.proofs.lemmas.Nat.{ones_le_self, mod-pow-add, pow-add}
+use Rattle.std.proofs.Common.{◌≡◌, ℕ, zero, suc, inl, inr, ◌+◌, ◌-◌, ◌*◌, ◌/◌, ◌%◌, ◌^◌, ◌≤◌, ◌<◌, Bool, true, false, cond, List, [], ◌∷◌, take, count_ones, refl, sym, ap, ap₂, ◌∙◌, arith, add-one}
+use Rattle.std.proofs.Math.Nat.{zero-mul, mod-one, mod-lt, mod-eq_of_lt, div-one, zero-mod, div-div-eq-div-mul, pow-succ'}
+use Rattle.std.proofs.Math.Pow.{pow_mono, mod-mod-pow}
+use Rattle.std.proofs.lemmas.Bool.{cases_lt}
+use Rattle.std.proofs.lemmas.Nat.{ones_le_self, mod-pow-add, pow-add, pow_pos}
 use Rattle.std.specs.Int.Count.{count_trailing_zeros, ones-ones}
 use lib.Count.{ones_step, under}
 use lib.Lanes.{mask_l}
@@ -117,3 +119,47 @@ pub first_within : (m k t n : ℕ) → IsFirst m k t → 0 < ones_below m n → 
 first_within m k t n first some =
     let past : n ≤ t → ⊥ = λ above. omega (arith, ones_more m n (t - n) t (omega (arith, above)), first.before, some) in
     omega (arith, past)
+
+-- the highest set digit among the lowest n
+pub record IsLast (m n j : ℕ) : Type 0 where
+  pub bound : j < n
+  pub before : ones_below m n ≡ ones_below m j + 1
+  pub with_it : ones_below m n ≡ ones_below m (j + 1)
+
+some_digit : (d : ℕ) → d < 2 → 0 < d → count_ones d ≡ 1
+some_digit d few some = ap count_ones (let one : d ≡ 1 = omega arith in one) ∙ ones-ones 1
+
+pub last_one : (m n j : ℕ) → 2 ^ j ≤ m % 2 ^ n → m % 2 ^ n < 2 ^ suc j → IsLast m n j
+last_one m n j from to =
+    let below : m % 2 ^ n < 2 ^ n = mod-lt m (pow_pos n) in
+    let bound : j < n = elim (cases_lt j n) [
+      | inl less ↦ less
+      | inr past ↦ absurd (omega (arith, below, from, pow_mono past))
+    ] in
+    let split : n ≡ (n - suc j) + suc j = omega (arith, bound) in
+    let front : m % 2 ^ suc j ≡ m % 2 ^ n =
+    sym (mod-mod-pow m (n - suc j) (suc j)) ∙ ap (λ k. m % 2 ^ k % 2 ^ suc j) (sym split) ∙ mod-eq_of_lt to in
+    let d : ℕ = m / 2 ^ j % 2 ^ 1 in
+    let digits : m % 2 ^ suc j ≡ d * 2 ^ j + m % 2 ^ j = ap (λ k. m % 2 ^ k) (let next : suc j ≡ 1 + j = omega arith in next) ∙ mod-pow-add m 1 j in
+    let some : 0 < d = elim (cases_lt 0 d) [
+      | inl more ↦ more
+      | inr none ↦ absurd (let zero_times : d * 2 ^ j ≡ 0 = ap (λ k. k * 2 ^ j) (let no : d ≡ 0 = omega (arith, none) in no) ∙ zero-mul (2 ^ j) in omega (arith, mod-lt m (pow_pos j), digits, front, from, zero_times))
+    ] in
+    let one : ones_below (m / 2 ^ j) 1 ≡ 1 = some_digit d (omega (arith, mod-lt (m / 2 ^ j) (pow_pos 1))) some in
+    let all : ones_below m (j + 1) ≡ ones_below m n = ap (λ k. count_ones (m % 2 ^ k)) (add-one j) ∙ ap count_ones front in record {
+      bound = bound;
+      before = omega (arith, all, one, ones_more m j 1 (j + 1) refl);
+      with_it = sym all;
+    }
+
+-- the mark that has so many behind it among the lowest n
+pub mark_back : (m n left r : ℕ) → left < ones_below m n → marks_below m 0 r ≤ ones_below m n - 1 - left → ones_below m n - 1 - left < marks_below m 0 (r + 1)
+    → (r < n) × (ones_below m n ≡ ones_below m r + (left + 1)) × (ones_below m n ≡ ones_below m (r + 1) + left)
+mark_back m n left r some before after =
+    let step = ones_more m r 1 (r + 1) refl in
+    let most = ones_le (m / 2 ^ r) 1 in
+    let bound : r < n = elim (cases_lt r n) [
+      | inl less ↦ less
+      | inr past ↦ absurd (omega (arith, ones_more m n (r - n) r (omega (arith, past)), before, some, no_marks r))
+    ] in
+    (bound, omega (arith, some, before, after, step, most, no_marks r, no_marks (r + 1)), omega (arith, some, before, after, step, most, no_marks r, no_marks (r + 1)))

@@ -44,6 +44,8 @@ pub mod LinePartLaws
 pub mod LineSeams
 pub mod ByteOrder
 pub mod Scans
+pub mod Backs
+pub mod LastLines
 pub mod LaneSums
 pub mod Padded
 pub mod Utf8Laws

@@ -56,3 +56,29 @@ pub(crate) fn place_of_mark(first: u64, second: u64, n: usize) -> usize
     }
     place
 }
+
+// The last of the first `len` bytes that has a mark.
+fn last_mark(mask: u64, len: usize) -> usize
+    requires len { len ≤ 32 }
+    requires some { 0 < ones_below mask len }
+    ensures bound { result < len }
+    ensures before { ones_below mask len ≡ ones_below mask result + 1 }
+    ensures with_it { ones_below mask len ≡ ones_below mask (result + 1) }
+{
+    let front = mask & ((1 << len) - 1);
+    63 - front.leading_zeros() as usize
+}
+
+/// The one among the first `len` bytes that has a mark and `left` bytes with a mark behind it.
+pub(crate) fn mark_from_end(mask: u64, len: usize, left: usize) -> usize
+    requires len { len ≤ 32 }
+    requires some { left < ones_below mask len }
+    ensures bound { result < len }
+    ensures before { ones_below mask len ≡ ones_below mask result + (left + 1) }
+    ensures with_it { ones_below mask len ≡ ones_below mask (result + 1) + left }
+{
+    if left == 0 {
+        return last_mark(mask, len);
+    }
+    place_of_mark(mask, 0, ones_before(mask, len) - 1 - left)
+}

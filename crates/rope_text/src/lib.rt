@@ -2,6 +2,7 @@
 //! index ranges and errors; and the definitions that the contracts of every crate cite.
 #![tactic(auto)]
 
+mod back;
 mod bits;
 pub mod crlf;
 mod error;

@@ -4,10 +4,12 @@
 ghost use Rattle.std.specs.Prelude.{◌≡◌, ◌+◌, ◌<◌, ◌≤◌, ◌^◌, [], ◌++◌, false, take, List, ℕ};
 ghost use Rattle.std.specs.Str.{chars};
 ghost use Rattle.rope_text.specs.Breaks.{break_count};
-ghost use Rattle.rope_text.specs.LineParts.{first_line};
+ghost use Rattle.rope_text.specs.LineParts.{before_byte, after_byte, first_line, last_line_byte, last_line_info, IsBetween};
+ghost use Rattle.rope_text.specs.Cutting.{parts_crlf};
 ghost use Rattle.rope_text.specs.Lines.{line_start};
 ghost use Rattle.rope_text.specs.TextInfo.{info_of, info_sum};
 
+use crate::back::back_to_break;
 use crate::lanes::count_all;
 use crate::seek::{front_of_line, to_first_break, width_of};
 use crate::{LineBreaks, known_set};
@@ -27,8 +29,6 @@ pub struct TextInfo {
 }
 
 impl TextInfo {
-    ghost use Rattle.rope_text.specs.Cutting.{parts_crlf};
-
     /// The counts of the empty text: all 0. Takes constant time and no memory.
     pub fn new() -> TextInfo
         ensures { (breaks : LineBreaks) → result ≡ info_of breaks [] }
@@ -72,6 +72,40 @@ impl TextInfo {
             line.break_count = 1;
         }
         line
+    }
+
+    /// Of the text before the byte `end`, where its last line starts, or the line `skip` line breaks before it: that byte, and
+    /// the counts from there up to `end`. `end` lies in no character and no CR LF. Reads the text once, from `end` back to there;
+    /// takes no memory.
+    // Inlined, since what a call answers through memory has to be waited for.
+    #[inline(always)]
+    pub fn of_last_line(
+        text: &str,
+        end: usize,
+        skip: usize,
+        breaks: LineBreaks,
+    ) -> (usize, TextInfo)
+        requires between { IsBetween (chars text.now) end }
+        requires apart { parts_crlf (before_byte (chars text.now) end)
+            (after_byte (chars text.now) end) ≡ false }
+        ensures start { result.0 ≡ last_line_byte breaks (chars text.now) end skip }
+        ensures counts { result.1 ≡ last_line_info breaks (chars text.now) end skip }
+    {
+        let bytes = text.as_bytes();
+        let (back, is_found) = known_set!(breaks => back_to_break(bytes, end, skip, breaks));
+        let mut start = 0;
+        let mut chars = back.chars;
+        if is_found {
+            start = back.at + width_of(bytes[back.at]);
+            chars -= 1;
+        }
+        let line = TextInfo {
+            bytes: end - start,
+            chars,
+            utf16_surrogates: back.pairs,
+            break_count: skip - back.left,
+        };
+        (start, line)
     }
 
     /// The counts of the text before the line `line_idx`, which is not the first, by the line breaks of the set. Reads the

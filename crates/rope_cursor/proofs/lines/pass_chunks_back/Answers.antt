@@ -12,58 +12,58 @@ use Rattle.rope_cursor.proofs.lines.pass_chunks_back.Goals as goal
 pub loop-breaks-init : goal.loop-breaks-init
 loop-breaks-init c = record { passed = none_back c.args.breaks c.args.skip c.args.span.now c.new-passed.result c.requires (c.new-passed.ensures c.args.breaks); same = refl }
 
-pub count_last-start-requires-clause-between : goal.count_last-start-requires-clause-between
-count_last-start-requires-clause-between c = ap byte_len (whole _ _ c.byte_len_of-end.ensures) ∙ sym c.byte_len_of-end.ensures
+pub of_last_line-start-requires-clause-between : goal.of_last_line-start-requires-clause-between
+of_last_line-start-requires-clause-between c = ap byte_len (whole _ _ c.byte_len_of-end.ensures) ∙ sym c.byte_len_of-end.ensures
 
-pub count_last-start-requires-clause-apart : goal.count_last-start-requires-clause-apart
-count_last-start-requires-clause-apart c = apart_at_end _ _ c.byte_len_of-end.ensures
+pub of_last_line-start-requires-clause-apart : goal.of_last_line-start-requires-clause-apart
+of_last_line-start-requires-clause-apart c = apart_at_end _ _ c.byte_len_of-end.ensures
 
 pub plus-passed-requires-clause-bytes : goal.plus-passed-requires-clause-bytes
 plus-passed-requires-clause-bytes c =
     let half = chunk_half c.args.breaks c.args.skip c.loop-breaks.left (concat c.args.span.now.before) (c.args.span.now.here ++ concat c.args.span.now.after) c.loop-breaks.invariant.passed.0 c.loop-breaks.span c.step.new.self
-    c.count_last-start.result.0 c.count_last-start.result.1 c.loop-breaks.passed c.loop-breaks.invariant.passed.1 c.loop-breaks-test.ensures.moved
-    (c.count_last-start.ensures.start ∙ ap (λ t. byte_len (take (last_start c.args.breaks t c.loop-breaks.left) t)) (whole _ _ c.byte_len_of-end.ensures ∙ c.chunk-chunk.ensures))
-    (c.count_last-start.ensures.counts ∙ ap (λ t. info_of c.args.breaks (drop (last_start c.args.breaks t c.loop-breaks.left) t)) (whole _ _ c.byte_len_of-end.ensures ∙ c.chunk-chunk.ensures)) in
+    c.of_last_line-start.result.0 c.of_last_line-start.result.1 c.loop-breaks.passed c.loop-breaks.invariant.passed.1 c.loop-breaks-test.ensures.moved
+    (c.of_last_line-start.ensures.start ∙ ap (λ t. byte_len (take (last_start c.args.breaks t c.loop-breaks.left) t)) (whole _ _ c.byte_len_of-end.ensures ∙ c.chunk-chunk.ensures))
+    (c.of_last_line-start.ensures.counts ∙ ap (λ t. info_of c.args.breaks (drop (last_start c.args.breaks t c.loop-breaks.left) t)) (whole _ _ c.byte_len_of-end.ensures ∙ c.chunk-chunk.ensures)) in
     omega (arith, half.0.bytes, half.1.bytes)
 
 pub plus-passed-requires-clause-chars : goal.plus-passed-requires-clause-chars
 plus-passed-requires-clause-chars c =
     let half = chunk_half c.args.breaks c.args.skip c.loop-breaks.left (concat c.args.span.now.before) (c.args.span.now.here ++ concat c.args.span.now.after) c.loop-breaks.invariant.passed.0 c.loop-breaks.span c.step.new.self
-    c.count_last-start.result.0 c.count_last-start.result.1 c.loop-breaks.passed c.loop-breaks.invariant.passed.1 c.loop-breaks-test.ensures.moved
-    (c.count_last-start.ensures.start ∙ ap (λ t. byte_len (take (last_start c.args.breaks t c.loop-breaks.left) t)) (whole _ _ c.byte_len_of-end.ensures ∙ c.chunk-chunk.ensures))
-    (c.count_last-start.ensures.counts ∙ ap (λ t. info_of c.args.breaks (drop (last_start c.args.breaks t c.loop-breaks.left) t)) (whole _ _ c.byte_len_of-end.ensures ∙ c.chunk-chunk.ensures)) in
+    c.of_last_line-start.result.0 c.of_last_line-start.result.1 c.loop-breaks.passed c.loop-breaks.invariant.passed.1 c.loop-breaks-test.ensures.moved
+    (c.of_last_line-start.ensures.start ∙ ap (λ t. byte_len (take (last_start c.args.breaks t c.loop-breaks.left) t)) (whole _ _ c.byte_len_of-end.ensures ∙ c.chunk-chunk.ensures))
+    (c.of_last_line-start.ensures.counts ∙ ap (λ t. info_of c.args.breaks (drop (last_start c.args.breaks t c.loop-breaks.left) t)) (whole _ _ c.byte_len_of-end.ensures ∙ c.chunk-chunk.ensures)) in
     omega (arith, half.0.chars, half.1.chars)
 
 pub plus-passed-requires-clause-utf16_surrogates : goal.plus-passed-requires-clause-utf16_surrogates
 plus-passed-requires-clause-utf16_surrogates c =
     let half = chunk_half c.args.breaks c.args.skip c.loop-breaks.left (concat c.args.span.now.before) (c.args.span.now.here ++ concat c.args.span.now.after) c.loop-breaks.invariant.passed.0 c.loop-breaks.span c.step.new.self
-    c.count_last-start.result.0 c.count_last-start.result.1 c.loop-breaks.passed c.loop-breaks.invariant.passed.1 c.loop-breaks-test.ensures.moved
-    (c.count_last-start.ensures.start ∙ ap (λ t. byte_len (take (last_start c.args.breaks t c.loop-breaks.left) t)) (whole _ _ c.byte_len_of-end.ensures ∙ c.chunk-chunk.ensures))
-    (c.count_last-start.ensures.counts ∙ ap (λ t. info_of c.args.breaks (drop (last_start c.args.breaks t c.loop-breaks.left) t)) (whole _ _ c.byte_len_of-end.ensures ∙ c.chunk-chunk.ensures)) in
+    c.of_last_line-start.result.0 c.of_last_line-start.result.1 c.loop-breaks.passed c.loop-breaks.invariant.passed.1 c.loop-breaks-test.ensures.moved
+    (c.of_last_line-start.ensures.start ∙ ap (λ t. byte_len (take (last_start c.args.breaks t c.loop-breaks.left) t)) (whole _ _ c.byte_len_of-end.ensures ∙ c.chunk-chunk.ensures))
+    (c.of_last_line-start.ensures.counts ∙ ap (λ t. info_of c.args.breaks (drop (last_start c.args.breaks t c.loop-breaks.left) t)) (whole _ _ c.byte_len_of-end.ensures ∙ c.chunk-chunk.ensures)) in
     omega (arith, half.0.utf16_surrogates, half.1.utf16_surrogates)
 
 pub plus-passed-requires-clause-break_count : goal.plus-passed-requires-clause-break_count
 plus-passed-requires-clause-break_count c =
     let half = chunk_half c.args.breaks c.args.skip c.loop-breaks.left (concat c.args.span.now.before) (c.args.span.now.here ++ concat c.args.span.now.after) c.loop-breaks.invariant.passed.0 c.loop-breaks.span c.step.new.self
-    c.count_last-start.result.0 c.count_last-start.result.1 c.loop-breaks.passed c.loop-breaks.invariant.passed.1 c.loop-breaks-test.ensures.moved
-    (c.count_last-start.ensures.start ∙ ap (λ t. byte_len (take (last_start c.args.breaks t c.loop-breaks.left) t)) (whole _ _ c.byte_len_of-end.ensures ∙ c.chunk-chunk.ensures))
-    (c.count_last-start.ensures.counts ∙ ap (λ t. info_of c.args.breaks (drop (last_start c.args.breaks t c.loop-breaks.left) t)) (whole _ _ c.byte_len_of-end.ensures ∙ c.chunk-chunk.ensures)) in
+    c.of_last_line-start.result.0 c.of_last_line-start.result.1 c.loop-breaks.passed c.loop-breaks.invariant.passed.1 c.loop-breaks-test.ensures.moved
+    (c.of_last_line-start.ensures.start ∙ ap (λ t. byte_len (take (last_start c.args.breaks t c.loop-breaks.left) t)) (whole _ _ c.byte_len_of-end.ensures ∙ c.chunk-chunk.ensures))
+    (c.of_last_line-start.ensures.counts ∙ ap (λ t. info_of c.args.breaks (drop (last_start c.args.breaks t c.loop-breaks.left) t)) (whole _ _ c.byte_len_of-end.ensures ∙ c.chunk-chunk.ensures)) in
     omega (arith, half.0.break_count, half.1.break_count)
 
 pub returns-then-start-gt0-clause-passes : goal.returns-then-start-gt0-clause-passes
 returns-then-start-gt0-clause-passes c =
     chunk_found c.args.breaks c.args.skip c.loop-breaks.left (concat c.args.span.now.before) (c.args.span.now.here ++ concat c.args.span.now.after) c.loop-breaks.invariant.passed.0 c.loop-breaks.span c.step.new.self
-    c.count_last-start.result.0 c.count_last-start.result.1 c.loop-breaks.passed c.loop-breaks.invariant.passed.1 c.loop-breaks-test.ensures.moved
-    (c.count_last-start.ensures.start ∙ ap (λ t. byte_len (take (last_start c.args.breaks t c.loop-breaks.left) t)) (whole _ _ c.byte_len_of-end.ensures ∙ c.chunk-chunk.ensures))
-    (c.count_last-start.ensures.counts ∙ ap (λ t. info_of c.args.breaks (drop (last_start c.args.breaks t c.loop-breaks.left) t)) (whole _ _ c.byte_len_of-end.ensures ∙ c.chunk-chunk.ensures))
+    c.of_last_line-start.result.0 c.of_last_line-start.result.1 c.loop-breaks.passed c.loop-breaks.invariant.passed.1 c.loop-breaks-test.ensures.moved
+    (c.of_last_line-start.ensures.start ∙ ap (λ t. byte_len (take (last_start c.args.breaks t c.loop-breaks.left) t)) (whole _ _ c.byte_len_of-end.ensures ∙ c.chunk-chunk.ensures))
+    (c.of_last_line-start.ensures.counts ∙ ap (λ t. info_of c.args.breaks (drop (last_start c.args.breaks t c.loop-breaks.left) t)) (whole _ _ c.byte_len_of-end.ensures ∙ c.chunk-chunk.ensures))
     c.plus-passed.result c.plus-passed.ensures.sum c.if-start-gt0.true
 
 pub overflow_sub-left : goal.overflow_sub-left
 overflow_sub-left c =
     chunk_left c.args.breaks c.args.skip c.loop-breaks.left (concat c.args.span.now.before) (c.args.span.now.here ++ concat c.args.span.now.after) c.loop-breaks.invariant.passed.0 c.loop-breaks.span c.step.new.self
-    c.count_last-start.result.0 c.count_last-start.result.1 c.loop-breaks.passed c.loop-breaks.invariant.passed.1 c.loop-breaks-test.ensures.moved
-    (c.count_last-start.ensures.start ∙ ap (λ t. byte_len (take (last_start c.args.breaks t c.loop-breaks.left) t)) (whole _ _ c.byte_len_of-end.ensures ∙ c.chunk-chunk.ensures))
-    (c.count_last-start.ensures.counts ∙ ap (λ t. info_of c.args.breaks (drop (last_start c.args.breaks t c.loop-breaks.left) t)) (whole _ _ c.byte_len_of-end.ensures ∙ c.chunk-chunk.ensures))
+    c.of_last_line-start.result.0 c.of_last_line-start.result.1 c.loop-breaks.passed c.loop-breaks.invariant.passed.1 c.loop-breaks-test.ensures.moved
+    (c.of_last_line-start.ensures.start ∙ ap (λ t. byte_len (take (last_start c.args.breaks t c.loop-breaks.left) t)) (whole _ _ c.byte_len_of-end.ensures ∙ c.chunk-chunk.ensures))
+    (c.of_last_line-start.ensures.counts ∙ ap (λ t. info_of c.args.breaks (drop (last_start c.args.breaks t c.loop-breaks.left) t)) (whole _ _ c.byte_len_of-end.ensures ∙ c.chunk-chunk.ensures))
     c.if-start-gt0.false
 
 pub loop-breaks-smaller : goal.loop-breaks-smaller
@@ -74,9 +74,9 @@ loop-breaks-preserved c = record {
   passed = (
     c.step.new.self.here ++ c.loop-breaks.invariant.passed.0,
     chunk_over c.args.breaks c.args.skip c.loop-breaks.left (concat c.args.span.now.before) (c.args.span.now.here ++ concat c.args.span.now.after) c.loop-breaks.invariant.passed.0 c.loop-breaks.span c.step.new.self
-        c.count_last-start.result.0 c.count_last-start.result.1 c.loop-breaks.passed c.loop-breaks.invariant.passed.1 c.loop-breaks-test.ensures.moved
-        (c.count_last-start.ensures.start ∙ ap (λ t. byte_len (take (last_start c.args.breaks t c.loop-breaks.left) t)) (whole _ _ c.byte_len_of-end.ensures ∙ c.chunk-chunk.ensures))
-        (c.count_last-start.ensures.counts ∙ ap (λ t. info_of c.args.breaks (drop (last_start c.args.breaks t c.loop-breaks.left) t)) (whole _ _ c.byte_len_of-end.ensures ∙ c.chunk-chunk.ensures))
+        c.of_last_line-start.result.0 c.of_last_line-start.result.1 c.loop-breaks.passed c.loop-breaks.invariant.passed.1 c.loop-breaks-test.ensures.moved
+        (c.of_last_line-start.ensures.start ∙ ap (λ t. byte_len (take (last_start c.args.breaks t c.loop-breaks.left) t)) (whole _ _ c.byte_len_of-end.ensures ∙ c.chunk-chunk.ensures))
+        (c.of_last_line-start.ensures.counts ∙ ap (λ t. info_of c.args.breaks (drop (last_start c.args.breaks t c.loop-breaks.left) t)) (whole _ _ c.byte_len_of-end.ensures ∙ c.chunk-chunk.ensures))
         c.plus-passed.result c.plus-passed.ensures.sum c.if-start-gt0.false,
   );
   same = sym (leaves_next c.step.new.self c.loop-breaks.span c.loop-breaks-test.ensures.moved) ∙ c.loop-breaks.invariant.same;

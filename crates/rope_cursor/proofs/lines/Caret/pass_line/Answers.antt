@@ -2,7 +2,8 @@ use Rattle.std.proofs.Common.{◌≡◌, ◌∙◌, ap, arith}
 use Rattle.rope_text.specs.TextInfo.{info_of}
 use Rattle.rope_text.specs.LineParts.{first_line}
 use Rattle.std.specs.Str.{chars}
-use Rattle.rope_cursor.specs.Caret.{after_byte, halves_at, HoldsAhead}
+use Rattle.rope_text.specs.LineParts.{after_byte}
+use Rattle.rope_cursor.specs.Caret.{halves_at, HoldsAhead}
 use Rattle.rope_cursor.proofs.Carets.{between_boundary, between_after}
 use Rattle.rope_cursor.proofs.CaretSteps.{holds_ahead, info_half, place_fits, pass_inside, more_half, pass_over}
 use Rattle.rope_cursor.proofs.lines.Caret.pass_line.Goals.{After-of_first_line-first}

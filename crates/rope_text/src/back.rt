@@ -1,0 +1,108 @@
+//! Searches backward for a line break: with it what the text from there on counts, in one pass over its bytes, in blocks of 32.
+ghost use Rattle.std.specs.Prelude.{◌≡◌, ◌+◌, ◌<◌, ◌≤◌, false, length};
+ghost use Rattle.rope_text.specs.Scan.{GoesBack, HasRoom, back_from};
+
+use crate::LineBreaks;
+use crate::bits::{mark_from_end, ones_before, ones_between};
+use crate::lanes::{Mark, is_mark, known_mask};
+
+/// A place that was come to on the way back from the end of a text's front, and what the text between counts.
+#[derive(Clone, Copy)]
+pub(crate) struct Back {
+    pub at: usize,
+    pub chars: usize,
+    pub pairs: usize,
+    /// How many breaks are still to be passed before the one that is looked for.
+    pub left: usize,
+}
+
+/// Goes back over single bytes to the byte `to`, or to the break that is looked for. Answers whether it came to that break. Cold: a
+/// line has one or two such bytes at its end.
+#[inline(never)]
+fn back_by_bytes(bytes: &[u8], from: Back, to: usize, breaks: LineBreaks) -> (Back, bool)
+    requires room { HasRoom from }
+    requires within { from.at ≤ length bytes.now }
+    requires to { to ≤ from.at }
+    ensures goes { GoesBack breaks bytes.now from result.0 result.1 }
+    ensures end { result.1 ≡ false → result.0.at ≡ to }
+{
+    let mut back = from;
+    while back.at > to {
+        let at = back.at - 1;
+        back.at = at;
+        back.chars += is_mark(bytes, at, Mark::Char) as usize;
+        back.pairs += is_mark(bytes, at, Mark::Pair) as usize;
+        if is_mark(bytes, at, Mark::Break(breaks)) {
+            if back.left == 0 {
+                return (back, true);
+            }
+            back.left -= 1;
+        }
+    }
+    (back, false)
+}
+
+/// The same by one block, of which a short text has none.
+#[inline(always)]
+fn back_by_block(bytes: &[u8], back: Back, breaks: LineBreaks) -> (Back, bool)
+    requires room { HasRoom back }
+    requires within { back.at + 2 ≤ length bytes.now }
+    requires some { 0 < back.at }
+    ensures goes { GoesBack breaks bytes.now back result.0 result.1 }
+    ensures further { result.0.at < back.at }
+{
+    let from = back.at.saturating_sub(32);
+    if bytes.len() - from < 34 {
+        return back_by_bytes(bytes, back, 0, breaks);
+    }
+    let len = back.at - from;
+    let marks = known_mask(bytes, from, Mark::Break(breaks));
+    let begins = known_mask(bytes, from, Mark::Char);
+    let pairs = known_mask(bytes, from, Mark::Pair);
+    let passed = ones_before(marks, len);
+    if back.left >= passed {
+        let before = Back {
+            at: from,
+            chars: back.chars + ones_before(begins, len),
+            pairs: back.pairs + ones_before(pairs, len),
+            left: back.left - passed,
+        };
+        return (before, false);
+    }
+    let place = mark_from_end(marks, len, back.left);
+    let before = Back {
+        at: from + place,
+        chars: back.chars + ones_between(begins, place, len),
+        pairs: back.pairs + ones_between(pairs, place, len),
+        left: 0,
+    };
+    (before, true)
+}
+
+/// Goes back from the byte `end` over `skip` breaks, and on to the one before them, at whose last character it ends; or to the start.
+/// Answers whether it came to that break. Inlined: a set that is known leaves no test for it in the loop.
+#[inline(always)]
+pub(crate) fn back_to_break(
+    bytes: &[u8],
+    end: usize,
+    skip: usize,
+    breaks: LineBreaks,
+) -> (Back, bool)
+    requires within { end ≤ length bytes.now }
+    ensures goes { GoesBack breaks bytes.now (back_from end skip) result.0 result.1 }
+    ensures start { result.1 ≡ false → result.0.at ≡ 0 }
+{
+    // The break at the line's end is one byte nearly always; and a block is read two bytes past its end.
+    let near = end.saturating_sub(1).min(bytes.len().saturating_sub(2));
+    let start = Back {
+        at: end,
+        chars: 0,
+        pairs: 0,
+        left: skip,
+    };
+    let (mut back, mut is_found) = back_by_bytes(bytes, start, near, breaks);
+    while !is_found && back.at > 0 {
+        (back, is_found) = back_by_block(bytes, back, breaks);
+    }
+    (back, is_found)
+}
