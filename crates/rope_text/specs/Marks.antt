@@ -1,10 +1,11 @@
 -- What begins with a byte and is counted: characters, characters of two code units, and line breaks. Private working definitions: only clauses of private functions cite them.
-use Rattle.std.specs.Prelude.{◌≡◌, ℕ, ◌+◌, ◌<◌, ◌≤◌, Bool, cond, if◌then◌else◌, List, length, map, drop, get_or, count_by, IsTrue, ◌==◌, ◌||◌}
+use Rattle.std.specs.Prelude.{◌≡◌, ℕ, ◌+◌, ◌<◌, ◌≤◌, Bool, cond, if◌then◌else◌, List, length, map, drop, get_or, count_by, bit_and, IsTrue, ◌==◌, ◌||◌}
 use Rattle.rope_text.specs.declared.line_breaks.LineBreaks.{LineBreaks}
 use Rattle.rope_text.specs.declared.line_breaks.LineBreaks.TheVariants.{Lf, CrLf, Unicode}
 use Rattle.rope_text.specs.declared.lanes.Mark.{Mark}
 use Rattle.rope_text.specs.declared.lanes.Mark.TheVariants.{Char, Pair, Break}
 use Rattle.std.specs.Int.{is_in_range}
+use Rattle.std.specs.List.{range_with_len}
 use Rattle.rope_text.specs.Bits.{ones_below}
 use Rattle.rope_text.specs.Bytes.{begins_char, begins_pair}
 use Rattle.rope_text.specs.ByteBreaks.{lone_cr, breaks_at, byte_break_count}
@@ -71,3 +72,7 @@ pub record IsLanes (ks : List ℕ) (g : ℕ → ℕ) (v : List ℕ) : Type 0 whe
 
 pub record IsMask (ks : List ℕ) (p : ℕ → Bool) (a : List ℕ) : Type 0 where
   pub same : a ≡ map (λ k. cond (p k) 255 0) ks
+
+-- none of the n bytes from the byte `at` on is C2 or E2, with which breaks above 127 begin, where a mark may be such a break
+abbrev pub HasNoWide : Mark → List ℕ → ℕ → ℕ → Type 0
+HasNoWide mark bytes at n = ahead mark ≡ 2 → count_by (λ k. bit_and (get_or bytes k 0) 223 == 194) (range_with_len at n) ≡ 0

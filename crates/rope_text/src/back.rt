@@ -4,7 +4,7 @@ ghost use Rattle.rope_text.specs.Scan.{GoesBack, HasRoom, back_from};
 
 use crate::LineBreaks;
 use crate::bits::{mark_from_end, ones_before, ones_between};
-use crate::lanes::{Mark, is_mark, known_mask};
+use crate::lanes::{Mark, is_mark, masks_of};
 
 /// A place that was come to on the way back from the end of a text's front, and what the text between counts.
 #[derive(Clone, Copy)]
@@ -56,24 +56,22 @@ fn back_by_block(bytes: &[u8], back: Back, breaks: LineBreaks) -> (Back, bool)
         return back_by_bytes(bytes, back, 0, breaks);
     }
     let len = back.at - from;
-    let marks = known_mask(bytes, from, Mark::Break(breaks));
-    let begins = known_mask(bytes, from, Mark::Char);
-    let pairs = known_mask(bytes, from, Mark::Pair);
-    let passed = ones_before(marks, len);
+    let masks = masks_of(bytes, from, breaks);
+    let passed = ones_before(masks.breaks, len);
     if back.left >= passed {
         let before = Back {
             at: from,
-            chars: back.chars + ones_before(begins, len),
-            pairs: back.pairs + ones_before(pairs, len),
+            chars: back.chars + ones_before(masks.chars, len),
+            pairs: back.pairs + ones_before(masks.pairs, len),
             left: back.left - passed,
         };
         return (before, false);
     }
-    let place = mark_from_end(marks, len, back.left);
+    let place = mark_from_end(masks.breaks, len, back.left);
     let before = Back {
         at: from + place,
-        chars: back.chars + ones_between(begins, place, len),
-        pairs: back.pairs + ones_between(pairs, place, len),
+        chars: back.chars + ones_between(masks.chars, place, len),
+        pairs: back.pairs + ones_between(masks.pairs, place, len),
         left: 0,
     };
     (before, true)

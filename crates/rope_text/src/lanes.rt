@@ -8,7 +8,8 @@
 ghost use Rattle.std.specs.Prelude.{◌≡◌, ◌+◌, ◌-◌, ◌*◌, ◌<◌, ◌≤◌, length, cond, count_by, drop, List, ℕ, take};
 ghost use Rattle.rope_text.specs.Bytes.{begins_char, begins_pair};
 ghost use Rattle.rope_text.specs.ByteBreaks.{byte_break_count, AreCounts};
-ghost use Rattle.rope_text.specs.Marks.{IsLanes, IsBlockMask, narrow_mark, mark_at, marks, ahead, lf_or_cr_lf};
+ghost use Rattle.rope_text.specs.Bits.{ones_below};
+ghost use Rattle.rope_text.specs.Marks.{HasNoWide, IsLanes, IsBlockMask, narrow_mark, mark_at, marks, ahead, lf_or_cr_lf};
 ghost use lib.Lanes.{sum_l};
 ghost use Rattle.rope_text.specs.Runs.{IsSum, count_of, wide_of, wide_at, wide_begin, places};
 
@@ -79,25 +80,67 @@ fn unicode_mask(bytes: &[u8], at: usize) -> u64
     (low | (nel | wide)).to_bitmask()
 }
 
-/// Which of the 32 bytes from `at` on begin a mark. For breaks that may take several bytes, those behind the block are read too,
-/// since one may go on there.
-pub(crate) fn known_mask(bytes: &[u8], at: usize, mark: Mark) -> u64
+// Which of the 32 bytes from `at` on begin a mark, of the breaks those alone that begin below 128.
+fn narrow_mask(bytes: &[u8], at: usize, mark: Mark) -> u64
     requires { (at + 32) + ahead mark ≤ length bytes.now }
-    ensures { IsBlockMask mark bytes.now at result }
+    ensures { (n : ℕ) → n ≤ 32 → HasNoWide mark bytes.now at n
+        → marks mark (drop at bytes.now) ≡ ones_below result n + marks mark (drop (at + n) bytes.now) }
 {
     let x = u8x32::from_slice(&bytes[at..]);
     let mut y = x;
     if ahead(mark) > 0 {
         y = u8x32::from_slice(&bytes[at + 1..]);
     }
+    ones(x, y, mark).simd_eq(u8x32::splat(1)).to_bitmask()
+}
+
+/// Which of the 32 bytes from `at` on begin a mark. For breaks that may take several bytes, those behind the block are read too,
+/// since one may go on there.
+pub(crate) fn known_mask(bytes: &[u8], at: usize, mark: Mark) -> u64
+    requires { (at + 32) + ahead mark ≤ length bytes.now }
+    ensures { IsBlockMask mark bytes.now at result }
+{
     if ahead(mark) == 2 {
         // Most blocks have none of the bytes C2 and E2, which begin NEL, LS and PS.
+        let x = u8x32::from_slice(&bytes[at..]);
         let wide_begin = (x & u8x32::splat(0xDF)).simd_eq(u8x32::splat(0xC2));
         if wide_begin.to_bitmask() != 0 {
             return unicode_mask(bytes, at);
         }
     }
-    ones(x, y, mark).simd_eq(u8x32::splat(1)).to_bitmask()
+    narrow_mask(bytes, at, mark)
+}
+
+/// The masks of a block.
+#[derive(Clone, Copy)]
+pub(crate) struct Masks {
+    pub breaks: u64,
+    pub chars: u64,
+    pub pairs: u64,
+}
+
+/// Which of the 32 bytes from `at` on begin a break of the set, a character, and one of two code units: of ASCII by one test more.
+#[inline(always)]
+pub(crate) fn masks_of(bytes: &[u8], at: usize, breaks: LineBreaks) -> Masks
+    requires { at + 34 ≤ length bytes.now }
+    ensures breaks { IsBlockMask (Mark.Break breaks) bytes.now at result.breaks }
+    ensures chars { IsBlockMask Mark.Char bytes.now at result.chars }
+    ensures pairs { IsBlockMask Mark.Pair bytes.now at result.pairs }
+{
+    let lanes = u8x32::from_slice(&bytes[at..]);
+    if lanes.simd_ge(u8x32::splat(0x80)).to_bitmask() == 0 {
+        // ASCII begins a character at each byte, and no pair and none of the breaks above it.
+        return Masks {
+            breaks: narrow_mask(bytes, at, Mark::Break(breaks)),
+            chars: 0xFFFF_FFFF,
+            pairs: 0,
+        };
+    }
+    Masks {
+        breaks: known_mask(bytes, at, Mark::Break(breaks)),
+        chars: known_mask(bytes, at, Mark::Char),
+        pairs: known_mask(bytes, at, Mark::Pair),
+    }
 }
 
 // Never inlined: with the masks of all three sets side by side, the compiler would put the chosen one together bit by bit.

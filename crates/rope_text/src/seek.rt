@@ -18,7 +18,7 @@ ghost use Rattle.rope_text.specs.TextInfo.{info_of};
 ghost use Rattle.rope_text.specs.Scan.{IsFront};
 
 use crate::bits::{first_mark, ones_before, ones_between, place_of_mark};
-use crate::lanes::{Mark, ahead, is_mark, known_mask, marks_between, marks_in, mask};
+use crate::lanes::{Mark, ahead, is_mark, known_mask, marks_between, marks_in, mask, masks_of};
 use crate::{LineBreaks, TextInfo, known_set};
 
 // The byte with which the mark `n` begins, counted from the byte `from` on, byte by byte.
@@ -298,17 +298,15 @@ pub(crate) fn to_first_break(bytes: &[u8], breaks: LineBreaks) -> (usize, usize,
 {
     let (mut chars, mut at, mut pairs) = (0, 0, 0);
     while bytes.len() - at >= 34 {
-        let marks = known_mask(bytes, at, Mark::Break(breaks));
-        let begins = known_mask(bytes, at, Mark::Char);
-        let doubles = known_mask(bytes, at, Mark::Pair);
-        if ones_before(marks, 32) > 0 {
-            let skip = first_mark(marks);
-            chars += ones_before(begins, skip);
-            return (chars, at + skip, pairs + ones_before(doubles, skip));
+        let masks = masks_of(bytes, at, breaks);
+        if ones_before(masks.breaks, 32) > 0 {
+            let skip = first_mark(masks.breaks);
+            chars += ones_before(masks.chars, skip);
+            return (chars, at + skip, pairs + ones_before(masks.pairs, skip));
         }
         at += 32;
-        chars += ones_before(begins, 32);
-        pairs += ones_before(doubles, 32);
+        chars += ones_before(masks.chars, 32);
+        pairs += ones_before(masks.pairs, 32);
     }
     go_to_end(bytes, (chars, at, pairs), breaks)
 }

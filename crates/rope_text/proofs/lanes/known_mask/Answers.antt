@@ -1,33 +1,20 @@
-use Rattle.std.proofs.Common.{◌≡◌, ◌+◌, ℕ, List, get_or, drop, replicate, cond, count_by, eqb, bit_and, sym, ap, ◌∙◌, arith}
+use Rattle.std.proofs.Common.{◌≡◌, ◌+◌, ℕ, get_or, count_by, eqb, bit_and, ◌∙◌, arith}
 use Rattle.std.specs.List.{range_with_len}
 use Rattle.std.proofs.lemmas.List.FromFn.{length-range_with_len}
-use lib.Lanes.{zip2}
-use Rattle.rope_text.specs.Marks.{marks, narrow_mark, ahead, IsMask}
-use Rattle.rope_text.proofs.Blocks.{marks-block, narrow_alone, narrow_all}
+use Rattle.rope_text.specs.Marks.{ahead}
 use Rattle.rope_text.proofs.LaneSums.{none_in_front}
-use Rattle.rope_text.proofs.Marks.{compared, computed, retested, counted_from, none_set, set_where, loaded, loaded_from}
-use Rattle.rope_text.proofs.lanes.known_mask.Goals.{then-ahead-gt0, else-ahead-gt0, then-ahead-eq2+else-wide_begin-ne0, else-ahead-eq2}
+use Rattle.rope_text.proofs.Marks.{compared, computed, none_set, loaded}
+use Rattle.rope_text.proofs.lanes.known_mask.Goals.{then-ahead-eq2+else-wide_begin-ne0, else-ahead-eq2}
 use Rattle.rope_text.proofs.lanes.known_mask.Goals as goal
 
 pub returns : goal.returns
 returns c = λ n few.
     let s = c.args.bytes.now in
-    let m = c.args.mark in
     let i = c.args.at in
-    let ks : List ℕ = range_with_len i 32 in
     let long = length-range_with_len i 32 in
     let x = loaded s i 32 (omega arith) in
-    let first : ℕ → ℕ = λ k. get_or s k 0 in
-    let next : ℕ → ℕ = λ k. get_or s (k + 1) 0 in
-    let mask : IsMask ks (λ k. narrow_mark m (first k) (next k)) (zip2 (λ a b. cond (eqb a b) 255 0) c.ones.result (replicate 32 1)) = elim c.if-ahead-gt0.branch [
-      | then-ahead-gt0 w ↦ set_where 32 long (c.ones.ensures ks first next long (λ k. (c.type_inv.bytes k).fits) x (rw w.y-is (loaded_from s i 1 32 (omega (arith, w.if-ahead-gt0.true, c.ahead.ensures, c.requires)))))
-      | else-ahead-gt0 w ↦
-          retested (λ k. narrow_alone m (first k) (first k) (next k) (omega (arith, w.if-ahead-gt0.false, c.ahead.ensures)))
-          (set_where 32 long (c.ones.ensures ks first first long (λ k. (c.type_inv.bytes k).fits) x (rw w.y-is x)))
-    ] in
-    let none : ahead m ≡ 2 → count_by (λ k. eqb (bit_and (get_or s k 0) 223) 194) (range_with_len i n) ≡ 0 = elim c.if-ahead-eq2.branch [
+    let none : ahead c.args.mark ≡ 2 → count_by (λ k. eqb (bit_and (get_or s k 0) 223) 194) (range_with_len i n) ≡ 0 = elim c.if-ahead-eq2.branch [
       | then-ahead-eq2+else-wide_begin-ne0 w ↦ λ _. none_in_front _ i n 32 few (none_set (omega (arith, long)) (compared eqb 194 32 long (computed bit_and 223 32 long x)) w.if-wide_begin-ne0.false)
-      | else-ahead-eq2 w ↦ λ two. absurd (w.if-ahead-eq2.false (c.ahead-2.ensures ∙ two))
+      | else-ahead-eq2 w ↦ λ two. absurd (w.if-ahead-eq2.false (c.ahead.ensures ∙ two))
     ] in
-    marks-block m s i n (omega arith)
-    ∙ ap (λ k. k + marks m (drop (i + n) s)) (sym (counted_from {m = 32} i n few (omega arith) mask ∙ narrow_all m s (range_with_len i n) none))
+    c.narrow_mask.ensures n few none

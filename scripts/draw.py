@@ -1,0 +1,260 @@
+#!/usr/bin/env python3
+"""Draws docs/speed.svg, docs/growth.svg and docs/tree.svg, and prints what docs/figures.tsv says.
+
+Every number comes from docs/figures.tsv, which holds what benchmarks/turns.py wrote with --tsv: a line a workload. The groups are
+the headings of benchmarks/WORKLOADS.md.
+
+    scripts/draw.py            # draws the pictures anew
+    scripts/draw.py --tables   # prints the tables of the document
+    scripts/draw.py --rows     # prints a line for each workload, and how many there are
+    scripts/draw.py --check    # fails where a picture or a table in docs/ isn't what the figures say
+"""
+import math
+import pathlib
+import re
+import sys
+
+TOP = pathlib.Path(__file__).resolve().parent.parent
+FIGURES = TOP / "docs" / "figures.tsv"
+WORKLOADS = TOP / "benchmarks" / "WORKLOADS.md"
+BENCHMARKS = TOP / "docs" / "BENCHMARKS.md"
+TEXTS = ("P", "M", "C")
+LENGTHS = ("1MB", "10MB", "100MB", "1GB")
+
+STYLE = """<style>
+text { font: 15px system-ui, sans-serif; fill: #24292f }
+.small { font-size: 13px }
+.title { font-size: 18px; font-weight: 600 }
+.ours { fill: #0969da; stroke: #0969da }
+.theirs { fill: #cf222e; stroke: #cf222e }
+.line { fill: none; stroke-width: 2.5 }
+.axis { stroke: #8c959f; stroke-width: 1 }
+.even { stroke: #24292f; stroke-width: 1.5; stroke-dasharray: 5 4 }
+.node { fill: #ddf4ff; stroke: #0969da; stroke-width: 1.5 }
+.copy { fill: #fff1e5; stroke: #bc4c00; stroke-width: 1.5 }
+.leaf { fill: #f6f8fa; stroke: #57606a; stroke-width: 1.5 }
+.edge { stroke: #57606a; stroke-width: 1.5 }
+.new { stroke: #bc4c00; stroke-width: 2 }
+@media (prefers-color-scheme: dark) {
+  text { fill: #e6edf3 }
+  .ours { fill: #58a6ff; stroke: #58a6ff }
+  .theirs { fill: #ff7b72; stroke: #ff7b72 }
+  .axis { stroke: #6e7681 }
+  .even { stroke: #e6edf3 }
+  .node { fill: #0c2d6b; stroke: #58a6ff }
+  .copy { fill: #5a1e02; stroke: #ffa657 }
+  .leaf { fill: #161b22; stroke: #8b949e }
+  .edge { stroke: #8b949e }
+  .new { stroke: #ffa657 }
+}
+</style>"""
+
+
+def rows():
+    """The figures, without the line of names."""
+    lines = FIGURES.read_text(encoding="utf-8").splitlines()[1:]
+    return [line.split("\t") for line in lines]
+
+
+def groups():
+    """The headings of workloads, each with the names below it, in order."""
+    found, name = {}, None
+    for line in WORKLOADS.read_text(encoding="utf-8").splitlines():
+        if line.startswith("### "):
+            name = line[4:].lower()
+        elif name and line.startswith("| `"):
+            found.setdefault(name, []).extend(re.findall(r"`([^`]+)`", line.split("|")[1]))
+    return found
+
+
+def ratios():
+    """For each workload and text the least and the middle ratio."""
+    known = {}
+    for row in rows():
+        workload, _, text = row[0].partition("/")
+        if text in TEXTS or not text:
+            known[workload, text] = float(row[6]), float(row[7])
+    return known
+
+
+def mean(numbers):
+    return math.exp(sum(map(math.log, numbers)) / len(numbers))
+
+
+def group_means(known):
+    """For each group its mean on each text, of the least ratios."""
+    means = []
+    for group, names in groups().items():
+        of_texts = [[known[name, text][0] for name in names if (name, text) in known] for text in TEXTS]
+        if any(of_texts):
+            means.append((group, [mean(numbers) if numbers else None for numbers in of_texts]))
+    worn = [[least for (name, text), (least, _) in known.items() if name.startswith("worn_") and text == t] for t in TEXTS]
+    if any(worn) and "worn ropes" not in dict(means):
+        means.append(("worn ropes", [mean(numbers) if numbers else None for numbers in worn]))
+    return means
+
+
+def group_table(known):
+    """The mean of each group on each text."""
+    lines = ["| group | P | M | C |", "|---|---|---|---|"]
+    for group, means in group_means(known):
+        lines.append(f"| {group} | " + " | ".join("" if m is None else f"{m:.2f}" for m in means) + " |")
+    return lines
+
+
+def growth_table():
+    """Nanoseconds an operation of both, and their ratio, by length."""
+    lines = ["| workload | 1 MB | 10 MB | 100 MB | 1 GB |", "|---|---|---|---|---|"]
+    for name, of_lengths in growth().items():
+        cells = [f"{ours:.0f}, {theirs:.0f}: {ours / theirs:.2f}" for ours, theirs in of_lengths]
+        lines.append(f"| `{name}` | " + " | ".join(cells) + " |")
+    return lines
+
+
+def row_table(known):
+    """The least and the middle ratio of each workload on each text."""
+    lines = ["| workload | P | M | C |", "|---|---|---|---|"]
+    for name in dict.fromkeys(name for name, _ in known):
+        shown = [known.get((name, text)) for text in TEXTS]
+        if (name, "") in known:
+            shown[0] = known[name, ""]
+        lines.append(f"| `{name}` | " + " | ".join("" if r is None else f"{r[0]:.2f}, {r[1]:.2f}" for r in shown) + " |")
+    return lines
+
+
+def summary(known):
+    """How many workloads there are, how many are below 0.9 by both figures, and the mean of all."""
+    below = sum(max(pair) < 0.9 for pair in known.values())
+    return f"{len(known)} rows, {below} below 0.9 by both figures, geometric mean {mean([least for least, _ in known.values()]):.2f}"
+
+
+def tables():
+    """What docs/BENCHMARKS.md shows of the figures."""
+    known = ratios()
+    return [*group_table(known), "", *growth_table()]
+
+
+def growth():
+    """For each workload of growing texts the nanoseconds of both, by length."""
+    found = {}
+    for row in rows():
+        workload, _, length = row[0].partition("/")
+        if length in LENGTHS:
+            found.setdefault(workload, []).append((float(row[2]), float(row[4])))
+    return found
+
+
+def picture(width, height, parts, title):
+    head = (f'<svg xmlns="http://www.w3.org/2000/svg" viewBox="0 0 {width} {height}" width="{width}" '
+            f'height="{height}" role="img" aria-label="{title}">')
+    return "\n".join([head, f"<title>{title}</title>", STYLE, *parts, "</svg>", ""])
+
+
+def text(x, y, words, name="", anchor="start"):
+    style = f' class="{name}"' if name else ""
+    return f'<text x="{x}" y="{y}"{style} text-anchor="{anchor}">{words}</text>'
+
+
+def line(x1, y1, x2, y2, name):
+    return f'<line x1="{x1}" y1="{y1}" x2="{x2}" y2="{y2}" class="{name}"/>'
+
+
+def speed():
+    """A bar for each group: our time over ropey's, in the mean of all texts."""
+    known = ratios()
+    bars = [(group, mean([m for m in means if m is not None])) for group, means in group_means(known)]
+    bars.append(("all workloads", mean([least for least, _ in known.values()])))
+    left, scale, top = 190, 320, 78
+    parts = [text(16, 30, "Time of each call over that of the Rust crate ropey 1.6.1", "title"),
+             text(16, 54, "shorter is faster; the dashed line is ropey", "small")]
+    for at, (group, ratio) in enumerate(bars):
+        y = top + at * 30
+        parts.append(text(left - 10, y + 15, group, anchor="end"))
+        parts.append(f'<rect x="{left}" y="{y}" width="{ratio * scale:.0f}" height="20" rx="3" class="ours"/>')
+        parts.append(text(left + ratio * scale + 8, y + 15, f"{ratio:.2f}", "small"))
+    bottom = top + len(bars) * 30
+    parts.append(line(left + scale, top - 8, left + scale, bottom, "even"))
+    return picture(left + scale + 70, bottom + 16, parts, "Speed by groups of calls")
+
+
+def curve(points, name):
+    path = " ".join(f"{'L' if k else 'M'}{x:.0f} {y:.0f}" for k, (x, y) in enumerate(points))
+    dots = "".join(f'<circle cx="{x:.0f}" cy="{y:.0f}" r="3.5" class="{name}"/>' for x, y in points)
+    return f'<path d="{path}" class="line {name}" style="fill:none"/>{dots}'
+
+
+def growth_picture():
+    """Nanoseconds an operation by the text's length, a panel a workload, both axes in powers of ten."""
+    panels = [(name, of) for name, of in growth().items() if name != "from_str"]
+    most = max(max(pair) for _, of in panels for pair in of)
+    low, high = 1, math.ceil(math.log10(most))
+    width, tall, top = 580, 150, 70
+    parts = [text(16, 30, "Nanoseconds an operation, by the length of the text", "title"),
+             text(16, 54, "this library", "small ours"), text(120, 54, "the Rust crate", "small theirs")]
+    for at, (name, of_lengths) in enumerate(panels):
+        base = top + at * (tall + 50) + tall + 22
+        parts.append(text(16, base - tall - 6, name))
+        for power in range(low, high + 1):
+            y = base - (power - low) * tall / (high - low)
+            parts.append(line(70, round(y), width - 20, round(y), "axis"))
+            parts.append(text(62, round(y) + 5, f"{10 ** power:,}", "small", "end"))
+        places = [100 + k * 145 for k in range(len(of_lengths))]
+        for side, style in ((1, "theirs"), (0, "ours")):
+            points = [(x, base - (math.log10(pair[side]) - low) * tall / (high - low))
+                      for x, pair in zip(places, of_lengths)]
+            parts.append(curve(points, style))
+        for x, length in zip(places, LENGTHS):
+            parts.append(text(x, base + 18, length.replace("MB", " MB").replace("GB", " GB"), "small", "middle"))
+    return picture(width, top + len(panels) * (tall + 50) + 10, parts, "Time by the length of the text")
+
+
+def box(x, y, wide, words, name):
+    return (f'<rect x="{x - wide / 2:.0f}" y="{y}" width="{wide}" height="30" rx="5" class="{name}"/>'
+            + text(round(x), y + 20, words, "small", "middle"))
+
+
+def tree():
+    """A rope, its clone, and what an insert into the rope copies."""
+    parts = [text(16, 30, "A rope, its clone, and what one insert copies", "title"),
+             text(16, 54, "nodes that both share stay as they were", "small")]
+    leaves = [(60, "The qu"), (150, "ick br"), (240, "own fo"), (330, "x jump"), (420, "s over")]
+    inner = [(105, leaves[:2]), (330, leaves[2:])]
+    for x, below in inner:
+        parts += [line(215, 130, x, 170, "edge")] + [line(x, 200, leaf, 250, "edge") for leaf, _ in below]
+    parts += [line(465, 130, 105, 170, "new"), line(465, 130, 530, 170, "new"), line(530, 200, 240, 250, "new"),
+              line(530, 200, 420, 250, "new"), line(530, 200, 540, 250, "new")]
+    parts += [text(215, 84, "the clone", anchor="middle"), text(465, 84, "the rope", anchor="middle")]
+    parts += [box(215, 100, 90, "root", "node"), box(465, 100, 90, "new root", "copy")]
+    parts += [box(x, 170, 90, "node", "node") for x, _ in inner] + [box(530, 170, 90, "new node", "copy")]
+    parts += [box(x, 250, 78, words, "leaf") for x, words in leaves] + [box(540, 250, 92, "x! jump", "copy")]
+    parts.append(text(16, 312, "Each leaf holds 1 to 984 bytes, each node up to 24 children. The insert of ! copies one", "small"))
+    parts.append(text(16, 332, "node a level, and takes memory for those alone; the clone keeps its text.", "small"))
+    return picture(600, 350, parts, "What an insert copies")
+
+
+def drawn():
+    return {"speed.svg": speed(), "growth.svg": growth_picture(), "tree.svg": tree()}
+
+
+def main(words):
+    if "--tables" in words:
+        print("\n".join(tables()))
+        return 0
+    if "--rows" in words:
+        print("\n".join([*row_table(ratios()), summary(ratios())]))
+        return 0
+    if "--check" in words:
+        old = [name for name, svg in drawn().items()
+               if not (TOP / "docs" / name).exists() or (TOP / "docs" / name).read_text(encoding="utf-8") != svg]
+        lines = set(BENCHMARKS.read_text(encoding="utf-8").splitlines())
+        old += [row for row in tables() if row and row not in lines]
+        for name in old:
+            print(f"not what docs/figures.tsv says: {name}")
+        return 1 if old else 0
+    for name, svg in drawn().items():
+        (TOP / "docs" / name).write_text(svg, encoding="utf-8")
+    return 0
+
+
+if __name__ == "__main__":
+    sys.exit(main(sys.argv[1:]))
