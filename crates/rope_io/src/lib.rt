@@ -1,4 +1,11 @@
 //! Ropes read from devices and written to them: readers and writers that mark their failures, and the two loops.
+//!
+//! Modules, lowest first:
+//! - `device`: readers and writers that mark their failures
+//! - `error`: why no rope was read
+//! - `reading`: a tree of what a reader gives
+//! - `writing`: a text given to a writer
+//! - `laws`: what was written whole is what is read
 #![tactic(auto)]
 
 mod device;

@@ -1,4 +1,12 @@
 //! The language of lines for commands and replies, and sessions that are led by it.
+//!
+//! Modules, lowest first:
+//! - `words`: words of lines
+//! - `language`: commands as lines
+//! - `escapes`: texts as lines write them
+//! - `replies`: replies as lines
+//! - `output`: replies gathered before they are written
+//! - `service`: lines in, replies out
 #![tactic(auto)]
 
 mod escapes;

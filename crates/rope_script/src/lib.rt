@@ -1,4 +1,13 @@
 //! Commands on numbered ropes, queries, and their replies.
+//!
+//! Modules, lowest first:
+//! - `script`: commands, queries, replies
+//! - `making`, `edits`: commands that add or change a rope
+//! - `asking`: queries
+//! - `walker`, `walks`: cursors as replies
+//! - `shown`: texts as replies
+//! - `session`: ropes by number, and runs of commands
+//! - `laws`: runs keep ropes
 #![tactic(auto)]
 
 mod asking;

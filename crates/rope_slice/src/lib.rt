@@ -6,6 +6,13 @@
 //!
 //!     let slice = RopeSlice::from("one\ntwo");
 //!     let second = slice.line(1);  // "two"
+//!
+//! Modules, lowest first:
+//! - `slice`: slices, their lengths, slices of slices
+//! - `lookups`: bytes, characters, chunks and conversions
+//! - `cursors`: lines by number, and cursors
+//! - `text`: comparing, copying, display
+//! - `laws`: equality, order and hash
 #![tactic(auto)]
 
 mod cursors;

@@ -1,5 +1,20 @@
 //! Plain texts: line breaks, counts, conversions between indices, places where a text may be cut,
 //! index ranges and errors; and the definitions that the contracts of every crate cite.
+//!
+//! Modules, lowest first:
+//! - `bits`: masks of blocks of 32 bytes
+//! - `lanes`: counts over bytes, a block at once
+//! - `seek`: the byte of a character, a code unit or a break
+//! - `back`: the line break before a place, with what lies between
+//! - `str_utils`: counts of a text, conversions between its indices
+//! - `text_info`: the four counts of a text
+//! - `utf8`: which front of some bytes is UTF-8
+//! - `crlf`: places where a text may be cut
+//! - `line_breaks`: the three sets of line breaks
+//! - `range`: the six kinds of ranges
+//! - `error`: why a call is refused
+//! - `steps`: counts of what a call did
+//! - `laws`: what the definitions have in common
 #![tactic(auto)]
 
 mod back;

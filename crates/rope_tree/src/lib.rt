@@ -1,4 +1,27 @@
 //! The tree of a rope: leaf texts under nodes with running totals.
+//!
+//! A leaf has 1 to 984 bytes of text, which fill a block of 1,024 with its counts. An inner node has up to 24 children and, for
+//! each kind of count, a row of running totals: a search for a place reads one row, by halving, and waits for two cache lines.
+//! Nodes are shared between trees by their counts of owners, and one with more owners than one is copied before it changes.
+//!
+//! Any two neighbouring leaves have 492 bytes or more together, so that the memory of a tree follows its text. An insert keeps
+//! that by itself: a full leaf is cut into two of 491 bytes or more, and a byte of a neighbour makes 492. A removal asks its
+//! neighbours' lengths, which the totals tell. No leaf is merged with another but by a join, so an edit changes one leaf.
+//!
+//! No CR LF lies in two leaves: so each leaf's line breaks are counted by itself, and the totals are sums.
+//!
+//! Modules, lowest first:
+//! - `node_text`: the text of a leaf, and where a longer one is cut
+//! - `short_text`: a text on its way into a leaf
+//! - `counts`: the counts of an edited leaf, by sums and differences
+//! - `leaf`: a text with its counts
+//! - `maker`: where nodes' memory comes from
+//! - `search`: running totals, and the child that holds a place
+//! - `node`: nodes; `node::row` puts them side by side, `node::in_place` edits them where they stand
+//! - `lookup`, `conversions`: the way down to a leaf, and indices on it
+//! - `beside`: how few bytes a leaf may keep beside its neighbours
+//! - `edit`: short inserts into whole trees, and removals from one leaf
+//! - `build`, `builder`: trees of whole texts, and of texts passed in one after the other
 #![tactic(auto)]
 
 mod beside;

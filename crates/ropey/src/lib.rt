@@ -23,10 +23,10 @@
 //!     rope.insert(5, ", you")?;          // "hello, you"
 //!     let start = rope.line_to_char(0);  // 0
 //!
-//! *Where to look.* `rope` makes and measures ropes; `inserts` and `edits` change them; `conversions` and `lookups`
-//! answer about a place; `slices` borrows parts; `cursors` and `iter` step through bytes, characters, lines and
-//! chunks; `compare`, `text_out` and `io` read whole texts; `counted` has twins that count their steps; `laws` says
-//! what the definitions of the contracts have in common.
+//! *Where to look.* `rope` makes, clones and measures ropes, `rope_builder` and `texts` make them of pieces; `edits` changes
+//! them, with twins that count their steps; `lookups` answers about a place; `slices` borrows parts and starts cursors, which
+//! `iter` names; `compare`, `texts` and `io` read whole texts; `str_utils` is about plain ones; `laws` says what equality,
+//! order and hash have in common.
 #![tactic(auto)]
 
 mod compare;
