@@ -14,6 +14,9 @@ import sys
 
 LENGTHS = ("1MB", "10MB", "100MB", "1GB")
 OF_LENGTHS = ("from_str", "byte", "char_to_line", "insert_char_random")
+# Freed memory stays with the process. Otherwise it depends on the last blocks that a run frees whether the C library gives its
+# pages back, and the next run pays for clearing them anew.
+MEMORY_IS_KEPT = {"MALLOC_TRIM_THRESHOLD_": str(1 << 34), "MALLOC_MMAP_THRESHOLD_": str(1 << 34), "MALLOC_TOP_PAD_": str(1 << 26)}
 COLUMNS = ("workload", "operations", "first least", "first middle", "second least", "second middle",
            "least", "middle", "checksums")
 
@@ -34,7 +37,8 @@ def arguments():
 def rows(program, trace, *words):
     """The lines that the program prints, each in its parts."""
     with open(trace, "rb") as edits:
-        done = subprocess.run([program, *words], stdin=edits, capture_output=True, check=True)
+        done = subprocess.run([program, *words], stdin=edits, capture_output=True, check=True,
+                              env={**os.environ, **MEMORY_IS_KEPT})
     return [line.split() for line in done.stdout.decode().splitlines()]
 
 
