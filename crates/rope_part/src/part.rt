@@ -265,6 +265,8 @@ impl<'a> Part<'a> {
     /// The chunk that holds a byte or a character; at the end of the text the last chunk. Or the one that holds the last character
     /// of a line break, counted from 0. With it the bytes, the characters and the line breaks that end before it. With no chunk it
     /// is `("", 0, 0, 0)`.
+    // Inlined: the unit is a constant at most calls, and a search for one kind of count has no test for it.
+    #[inline(always)]
     pub fn chunk_at(&self, unit: Unit, idx: usize) -> (&'a str, usize, usize, usize)
         requires { MayHold unit (breaks_of self.now) (text_of self.now) idx }
         ensures { IsFoundChunk (found_chunk (breaks_of self.now) (chunks_of self.now)
@@ -291,6 +293,17 @@ impl<'a> Part<'a> {
         }
     }
 
+    // The same, for callers that are small.
+    #[inline(never)]
+    fn chunk_apart(&self, unit: Unit, idx: usize) -> (&'a str, usize, usize, usize)
+        requires { MayHold unit (breaks_of self.now) (text_of self.now) idx }
+        ensures { IsFoundChunk (found_chunk (breaks_of self.now) (chunks_of self.now)
+            (chunk_index unit (breaks_of self.now) (chunks_of self.now) idx))
+            (chars result.0.now) result.1 result.2 result.3 }
+    {
+        self.chunk_at(unit, idx)
+    }
+
     /// The first chunk by whose end so many line breaks have ended; where there are fewer, the last chunk. With it the bytes,
     /// the characters and the line breaks that end before it. With no chunk it is `("", 0, 0, 0)`.
     ///
@@ -303,12 +316,12 @@ impl<'a> Part<'a> {
     {
         let info = self.info();
         if line_break_idx == 0 {
-            return self.chunk_at(Unit::Char, 0);
+            return self.chunk_apart(Unit::Char, 0);
         }
         if line_break_idx > info.break_count {
-            return self.chunk_at(Unit::Char, info.chars.saturating_sub(1));
+            return self.chunk_apart(Unit::Char, info.chars.saturating_sub(1));
         }
-        self.chunk_at(Unit::LineBreak, line_break_idx - 1)
+        self.chunk_apart(Unit::LineBreak, line_break_idx - 1)
     }
 
     /// The text, where it is one chunk or none.
@@ -317,8 +330,11 @@ impl<'a> Part<'a> {
         ensures more { IfNone result (1 < length (chunks_of self.now)) }
         ensures value { IfSome result (λ s. chars s.now ≡ text_of self.now) }
     {
+        if let Part::Alone(plain) = self {
+            return Some(plain.text);
+        }
         let len = self.info().bytes;
-        let (chunk, _, _, _) = self.chunk_at(Unit::Char, 0);
+        let (chunk, _, _, _) = self.chunk_apart(Unit::Char, 0);
         (byte_len_of(chunk) == len).then_some(chunk)
     }
 
