@@ -167,14 +167,14 @@ impl Leaf {
         }
     }
 
-    /// Whether some bytes of its text, the last of `len` and one in each 64 from `from` on, have a sum that none have: so it never is. It
-    /// is asked before an edit, for then the leaf's places in memory are read side by side, where the edit would wait for each. The length
-    /// is the caller's, since the text's own would be waited for.
-    pub(crate) fn is_no_text(&self, from: usize, len: usize) -> bool {
+    /// Prefetch: reads the last of `len` bytes and one in each cache line from `from` on, which an edit goes over. The length is the
+    /// caller's, since the text's own would miss. Answers whether their sum is one that none have: a caller that tests it keeps the
+    /// compiler from dropping the reads.
+    pub(crate) fn touch(&self, from: usize, len: usize) -> bool {
         let bytes = self.text.as_str().as_bytes();
         let len = len.min(MAX_BYTES);
         let mut sum = 0;
-        // Each test is a branch, which a processor guesses: a choice between two addresses would wait for the text's own length.
+        // Each test is a branch, which is predicted: a choice between two addresses would wait for the text's own length.
         if let Some(last) = bytes.get(len.saturating_sub(1)) {
             sum = usize::from(*last);
         }

@@ -63,19 +63,18 @@ fn own(form: &mut Form, maker: &mut Maker) -> Made<()>
     }
 }
 
-/// Whether a list of children has none: it is asked before a search in a list over leaves, of one place in each 64 bytes, so that the
-/// list's places in memory are read side by side, where the way down would wait for each. It stands by itself, since an edit that
-/// follows the one before has no use for it.
+/// Prefetch: reads a child in each cache line of the list, so that the search and the step to a child don't miss on them one by one.
+/// Answers whether all of those are empty, which none is: a caller that tests it keeps the compiler from dropping the reads.
 #[inline(never)]
-fn has_no_child(nodes: &[Node; MAX_CHILDREN]) -> bool {
+fn touch_list(nodes: &[Node; MAX_CHILDREN]) -> bool {
     nodes[0].is_empty() & nodes[4].is_empty() & nodes[8].is_empty()
         && nodes[12].is_empty() & nodes[16].is_empty() & nodes[20].is_empty()
 }
 
-/// Whether the child at a place is a leaf that has no text, which none is: it is asked before an edit at its character `at`, so that what
-/// the edit goes over is read ahead. How long the leaf is, the totals tell.
+/// Prefetch: reads what an edit at the character `at` of the child at a place goes over, where that is a leaf. How long it is, the
+/// totals tell. The answer is `Leaf::touch`'s.
 #[inline(never)]
-fn has_no_text(totals: &Totals, nodes: &[Node], place: usize, at: usize) -> bool
+fn touch_leaf(totals: &Totals, nodes: &[Node], place: usize, at: usize) -> bool
     requires totals { place < length totals.now }
     requires nodes { place < length nodes.now }
 {
@@ -85,10 +84,10 @@ fn has_no_text(totals: &Totals, nodes: &[Node], place: usize, at: usize) -> bool
     let chars = total.chars.wrapping_sub(before.chars);
     let is_behind = bytes == chars || at > chars / 2;
     let from = if is_behind { at } else { 0 };
-    matches!(nodes[place].leaf(), Some(leaf) if leaf.is_no_text(from, bytes))
+    matches!(nodes[place].leaf(), Some(leaf) if leaf.touch(from, bytes))
 }
 
-/// What an edit answers that changes nothing. It stands by itself, and is seldom called, so that the way of other edits lies straight.
+/// What an edit answers that changes nothing. Cold, so that the hot path has no jump.
 #[cold]
 #[inline(never)]
 fn unchanged() -> Made<bool>
@@ -126,6 +125,28 @@ impl Children {
         (place, at - before, follows)
     }
 
+    /// The same, with what the edit will go over read ahead, where it isn't that of the edit before. None only for the answers of
+    /// `touch_list` and `touch_leaf`, which never come.
+    #[inline(always)]
+    fn locate(&self, at: usize, to_right: bool, follows: bool) -> Option<(usize, usize, bool)>
+        requires children { AreFamily self.now }
+        requires within { at ≤ length (joined self.now) }
+        requires right { to_right ≡ true → at < length (joined self.now) }
+        ensures child { IfSome result (λ way. way.0 < length self.now) }
+        ensures place { IfSome result (λ way. at ≡ length (joined (take way.0 self.now)) + way.1) }
+        ensures goes { IfSome result (λ way. (child : Tree)
+            → GoesIn at way.1 (length (text (slice_index_or self.now way.0 child))) to_right) }
+    {
+        if !follows && self.height == 1 && touch_list(&self.nodes) {
+            return None;
+        }
+        let (place, inside, follows) = self.way_in(at, to_right, follows);
+        if !follows && self.height == 1 && touch_leaf(&self.totals, &self.nodes, place, inside) {
+            return None;
+        }
+        Some((place, inside, follows))
+    }
+
     /// Puts a text before the character `at`, where the leaf has room, or is cut into two and the node over it has room for one
     /// more; returns whether it did, and in `more` by how much the counts grew. `follows` says whether the way is that of the edit
     /// before so far. Where memory is refused, the children are as they were.
@@ -148,16 +169,12 @@ impl Children {
         ensures tried { IsTried result self.old self.new
             (AreGrown self.old self.new (inserted (joined self.old) at added.now)) }
     {
-        if !follows && self.height == 1 && has_no_child(&self.nodes) {
-            return unchanged();
-        }
         if !self.totals.has_room_for(added.len()) {
             return unchanged();
         }
-        let (place, inside, follows) = self.way_in(at, to_right, follows);
-        if !follows && self.height == 1 && has_no_text(&self.totals, &self.nodes, place, inside) {
+        let Some((place, inside, follows)) = self.locate(at, to_right, follows) else {
             return unchanged();
-        }
+        };
         let most = MAX_BYTES.saturating_sub(added.len());
         if matches!(self.nodes[place].leaf(), Some(leaf) if leaf.info().bytes > most) {
             let before = self.total();
@@ -234,17 +251,13 @@ impl Children {
         ensures tried { IsTried result self.old self.new
             (AreRemoved least.first least.last self.old self.new start end) }
     {
-        if !follows && self.height == 1 && has_no_child(&self.nodes) {
+        let Some((place, at, follows)) = self.locate(start, true, follows) else {
             return unchanged();
-        }
-        let (place, at, follows) = self.way_in(start, true, follows);
+        };
         if self.totals.get(place).chars < end {
             return unchanged();
         }
         let least = least_at(usize::from(self.height), &self.totals, place, least);
-        if !follows && self.height == 1 && has_no_text(&self.totals, &self.nodes, place, at) {
-            return unchanged();
-        }
         let node = &mut self.nodes[place];
         if !node.remove_in_place(maker, at, end - (start - at), least, follows, less)? {
             return unchanged();

@@ -27,21 +27,21 @@ cut_has t c =
     c.total-before.result c.total.result c.total-before.ensures c.total.ensures
 
 -- the child that takes the text
-found : (t : ℕ) (c : Children::insert_in_place-After-index-self-place-2 t) → Finds c.self.inside c.args.self.now c.way_in-place.result.0 (get_or c.self.inside.nodes c.way_in-place.result.0 c.index-self-place-2.result)
-    c.args.at c.way_in-place.result.1 c.args.to_right
+found : (t : ℕ) (c : Children::insert_in_place-After-index-self-place-2 t) → Finds c.self.inside c.args.self.now c.in-Some.place (get_or c.self.inside.nodes c.in-Some.place c.index-self-place-2.result)
+    c.args.at c.in-Some.inside c.args.to_right
 found t c = record {
   view = c.self.view_is;
   fields = c.self.invariant;
-  taken = takes c.args.self.now c.way_in-place.result.0 (get_or c.self.inside.nodes c.way_in-place.result.0 c.index-self-place-2.result) c.args.at c.way_in-place.result.1 c.args.to_right
-      c.requires.children c.way_in-place.ensures.child (seen_at c.self.inside c.args.self.now c.way_in-place.result.0 c.index-self-place-2.result c.self.view_is c.way_in-place.ensures.child)
-      c.way_in-place.ensures.place c.way_in-place.ensures.goes;
+  taken = takes c.args.self.now c.in-Some.place (get_or c.self.inside.nodes c.in-Some.place c.index-self-place-2.result) c.args.at c.in-Some.inside c.args.to_right
+      c.requires.children (rw c.in-Some.is at c.locate.ensures.child) (seen_at c.self.inside c.args.self.now c.in-Some.place c.index-self-place-2.result c.self.view_is (rw c.in-Some.is at c.locate.ensures.child))
+      (rw c.in-Some.is at c.locate.ensures.place) (rw c.in-Some.is at c.locate.ensures.goes);
 }
 
 pub Children::insert_in_place-insert_in_place-requires :
     goal.Children::insert_in_place-insert_in_place-requires
 Children::insert_in_place-insert_in_place-requires t c =
     let f = found t (goal.at.Children::insert_in_place-insert_in_place-requires t c).After-index-self-place-2 in
-    let low = rw f.taken.child_is at (tallest_above c.args.self.now c.way_in-place.result.0 (get_or c.self.inside.nodes c.way_in-place.result.0 c.index-self-place-2.result) f.taken.within) in
+    let low = rw f.taken.child_is at (tallest_above c.args.self.now c.in-Some.place (get_or c.self.inside.nodes c.in-Some.place c.index-self-place-2.result) f.taken.within) in
     let fits = child_fits _ _ _ _ _ _ _ f c.args.added.now c.requires.takes.some c.requires.side c.requires.takes.fits in
     let side = may _ _ _ _ _ _ _ f c.args.added.now c.requires.takes.some c.requires.side c.requires.takes.fits in
     (omega (arith, c.decreases, low), (record { within = f.taken.goes.within; some = c.requires.takes.some; short = c.requires.takes.short; fits = fits }, side))
