@@ -56,9 +56,9 @@ fn lowest_text(node: &Node) -> &str
     }
 }
 
-// Whether all nodes have bytes, as leaves of a list do. A walk comes to one after the other, and would wait for memory at each:
-// here what it will read of their heads is read side by side, so that their waits are one.
-fn have_text(nodes: &[Node]) -> bool {
+// Prefetch: reads the head of each leaf of a list, so that a walk that comes to one after the other doesn't miss on each. Answers
+// whether all have bytes, as leaves have: a caller that tests it keeps the compiler from dropping the reads.
+fn touch_heads(nodes: &[Node]) -> bool {
     nodes.iter().all(|node| node.info().bytes > 0)
 }
 
@@ -113,7 +113,6 @@ impl<'a> Path<'a> {
     }
 
     // The leaf that holds a byte of the tree's text. Never inlined: most steps stay in the list of the leaf.
-    // What a walk reads next is read ahead; were there no text, which never is, the leaf would be looked up again.
     #[inline(never)]
     fn look_up(&self, byte_idx: usize) -> Path<'a>
         requires { byte_idx < byte_len (concat (leaves self.now)) }
@@ -122,7 +121,7 @@ impl<'a> Path<'a> {
         ensures ends { byte_idx < byte_len (concat result.before) + byte_len result.here }
     {
         let (path, _) = Path::at(self.root, Unit::Byte, byte_idx);
-        if have_text(path.nodes) {
+        if touch_heads(path.nodes) {
             return path;
         }
         Path::at(self.root, Unit::Byte, byte_idx).0

@@ -68,8 +68,7 @@ impl<'a> Span<'a> {
     /// The chunk of a part that holds a character, and the byte of the chunk at which that character starts. At the end of the
     /// text it is the last chunk, and its end. An empty part has no chunk: then it is the empty text. The caller has the part's
     /// counts, and passes them in.
-    // Inlined, since a call would answer the way through memory. Of a narrow text, which has as many bytes as characters, nothing
-    // is read: no byte of it has to be waited for.
+    // Inlined, since a call would answer the way through memory. ASCII: the byte index is the character index, and no byte is read.
     #[inline(always)]
     pub(crate) fn at(part: &Part<'a>, info: TextInfo, char_idx: usize) -> (Span<'a>, usize)
         requires info { info ≡ info_of (breaks_of part.now) (text_of part.now) }

@@ -18,7 +18,7 @@ enum Side {
     Back,
 }
 
-/// A leaf of the first `at` characters of a leaf, or of what follows them. It stands by itself, since a way down would clear room
+/// A leaf of the first `at` characters of a leaf, or of what follows them. Never inlined, since a way down would clear room
 /// for its text at each node. Only the shorter part is gone over: the longer one's counts are the sum less those.
 #[inline(never)]
 fn leaf_part(

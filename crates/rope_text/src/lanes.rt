@@ -231,8 +231,7 @@ pub(crate) fn marks_between(bytes: &[u8], from: usize, to: usize, mark: Mark) ->
     marks_byte_by_byte(bytes, from, to, mark)
 }
 
-// A text of so many bytes or more is counted at four places side by side. It comes from slow memory, and the waits for the four
-// places overlap; a single pass would wait for each in turn.
+// A text of so many bytes or more is counted at four places at once: it comes from slow memory, and the four misses overlap.
 const LONG_BYTES: usize = 65_536;
 
 // The first whole blocks of a long text, none of a shorter one: their end, and how many marks begin in them.

@@ -15,7 +15,6 @@ use crate::seek::{front_of_line, to_first_break, width_of};
 use crate::{LineBreaks, known_set};
 
 /// How many bytes, characters, surrogate pairs in UTF-16 and line breaks a text has. Copying it takes no memory.
-// The bytes stand last: in a leaf they then lie beside the text, and a walk over leaves reads both at once.
 #[derive(Clone, Copy, Debug, Default, PartialEq, Eq)]
 pub struct TextInfo {
     /// The characters.
@@ -46,7 +45,7 @@ impl TextInfo {
     }
 
     /// The same, for a text that mostly has few bytes, such as one that is put in or taken out.
-    // Inlined, since what a call answers through memory has to be waited for.
+    // Inlined: a call would store the counts and load them again.
     #[inline(always)]
     pub fn of_short(text: &str, breaks: LineBreaks) -> TextInfo
         ensures { result ≡ info_of breaks (chars text.now) }
@@ -56,7 +55,7 @@ impl TextInfo {
 
     /// The counts of a text up to the end of its first line break of the set, or of all of it. Reads the text once, up
     /// to there; takes no memory.
-    // Inlined, since what a call answers through memory has to be waited for.
+    // Inlined: a call would store the counts and load them again.
     #[inline(always)]
     pub fn of_first_line(text: &str, breaks: LineBreaks) -> TextInfo
         ensures { result ≡ info_of breaks (first_line breaks (chars text.now)) }
@@ -77,7 +76,7 @@ impl TextInfo {
     /// Of the text before the byte `end`, where its last line starts, or the line `skip` line breaks before it: that byte, and
     /// the counts from there up to `end`. `end` lies in no character and no CR LF. Reads the text once, from `end` back to there;
     /// takes no memory.
-    // Inlined, since what a call answers through memory has to be waited for.
+    // Inlined: a call would store the counts and load them again.
     #[inline(always)]
     pub fn of_last_line(
         text: &str,

@@ -109,7 +109,7 @@ pub fn put_in(
     ensures info { result ≡ info_of breaks (inserted leaf.old at added.now) }
 {
     let text = leaf.as_str();
-    // Of a text that has as many bytes as characters nothing is read, and nothing is waited for.
+    // ASCII: the byte index is the character index.
     let place = if info.chars == info.bytes {
         at
     } else {

@@ -129,7 +129,7 @@ impl Leaf {
             summary: Summary::new(LineBreaks::Lf, TextInfo::new()),
             text: NodeText::new(),
         };
-        // Matched by hand: through `?` the leaf that a refusal gives back would be moved where none is refused, too.
+        // Matched by hand: `?` would move the leaf that a refusal gives back on the path that succeeds, too.
         let Ok(mut leaf) = Rc::new(alloc, empty) else {
             return Err(AllocError);
         };
@@ -155,8 +155,8 @@ impl Leaf {
         self.summary.info()
     }
 
-    /// Its text, by its counts, which the caller knows or reads in the leaf: the length that is kept with the text lies behind it, and a
-    /// walk over leaves would wait for one more place in memory at each.
+    /// Its text, by its counts, which the caller knows or reads in the leaf: the length that is kept with the text lies behind it, a
+    /// cache line that a walk over leaves would miss on at each.
     pub(crate) fn known_text(&self, info: TextInfo) -> ShortText<'_>
         requires { info ≡ info_of self.now.breaks (text self.now) }
         ensures { IsLeafOf self.now result }

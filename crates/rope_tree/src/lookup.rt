@@ -36,7 +36,7 @@ pub fn leaf_at<'a>(node: &'a Node, unit: Unit, at: usize, steps: &mut Steps) -> 
     ensures made { steps.new.made ≡ steps.old.made }
 {
     let mut here = node;
-    // A leaf's counts are told by its list's totals, so that no look-up has to wait for the leaf's own.
+    // A leaf's counts are told by its list's totals, so that no look-up misses on the leaf's head.
     let mut inside = node.info();
     let mut rest = at;
     let mut before = TextInfo::new();

@@ -296,9 +296,8 @@ pub fn place_of(totals: &Totals, unit: Unit, at: usize, steps: &mut Steps) -> us
     base
 }
 
-/// The child that holds a character, and whether the way there still follows another. Where the way follows another, that one's child
-/// is tried first: so nothing waits for a search where it is that child time and again. Of few children none is tried, since a
-/// processor would guess wrongly too often.
+/// The child that holds `at`. While `follows`, the child of the last edit is tried before the search; of few children none is, since
+/// the branch would be mispredicted too often. Answers, too, whether the way still follows that edit.
 #[inline(always)]
 pub(crate) fn try_place(totals: &Totals, at: usize, likely: usize, follows: bool) -> (usize, bool)
     requires some { 0 < length totals.now }
@@ -313,7 +312,7 @@ pub(crate) fn try_place(totals: &Totals, at: usize, likely: usize, follows: bool
 {
     let are_few = totals.len() < MIN_CHILDREN;
     if follows && !are_few && likely < totals.len() {
-        // Both comparisons are made, of which a processor guesses what they give.
+        // Both comparisons are made, so that there is one branch to predict.
         let is_before = at < count(totals.get(likely), Unit::Char);
         let is_behind = likely == 0 || count(totals.get(likely - 1), Unit::Char) <= at;
         if is_before & is_behind {

@@ -16,11 +16,11 @@ same c =
 pub at-path-requires-clause-within : goal.at-path-requires-clause-within
 at-path-requires-clause-within c = omega (arith, c.requires, ap (λ xs. byte_len (concat xs)) (same (goal.at.at-path-requires-clause-within c).After-self))
 
-pub returns-then-have_text-clause-leaves : goal.returns-then-have_text-clause-leaves
-returns-then-have_text-clause-leaves c = c.at-path.ensures.leaves ∙ sym (same (goal.at.returns-then-have_text-clause-leaves c).After-self)
+pub returns-then-touch_heads-clause-leaves : goal.returns-then-touch_heads-clause-leaves
+returns-then-touch_heads-clause-leaves c = c.at-path.ensures.leaves ∙ sym (same (goal.at.returns-then-touch_heads-clause-leaves c).After-self)
 
-pub returns-then-have_text-clause-ends : goal.returns-then-have_text-clause-ends
-returns-then-have_text-clause-ends c = omega (arith, c.at-path.ensures.holds.past, IsMeasure-byte_len.joined (concat c.at-path.result.0.before) c.at-path.result.0.here)
+pub returns-then-touch_heads-clause-ends : goal.returns-then-touch_heads-clause-ends
+returns-then-touch_heads-clause-ends c = omega (arith, c.at-path.ensures.holds.past, IsMeasure-byte_len.joined (concat c.at-path.result.0.before) c.at-path.result.0.here)
 
 pub at-requires-clause-within : goal.at-requires-clause-within
 at-requires-clause-within c = omega (arith, c.requires, ap (λ xs. byte_len (concat xs)) (same (goal.at.at-requires-clause-within c).After-self))
