@@ -1,6 +1,7 @@
 pub mod Handles
-pub mod Lending
 pub mod Status
 pub mod Answers
+pub mod Counts
+pub mod ByteEdits
 pub mod Places
 pub mod Pieces

@@ -6,7 +6,7 @@ use Rattle.std.specs.Str.{chars, encode_utf8_all}
 use Rattle.rope_text.specs.Text.{byte_len}
 use Rattle.rope_text.specs.Lookup.{front_chunks, chunk_place_at_byte}
 use Rattle.ropey.specs.View.{RopeView}
-use Rattle.ropey_c.specs.declared.status.TheConstants.{OK, NO_ROPE, BYTE_INDEX_OUT_OF_BOUNDS}
+use Rattle.ropey_c.specs.declared.status.TheConstants.{OK, NO_ROPE_HELD, BYTE_INDEX_OUT_OF_BOUNDS}
 use Rattle.ropey_c.specs.declared.pieces.Piece.{Piece}
 
 -- the bytes of a piece, and how many they are, as functions
@@ -39,7 +39,7 @@ Fills chunks old new count =
 
 -- the same from the chunk that holds a byte on, with the bytes before it
 abbrev pub FillsFrom : Option RopeView → ℕ → ℕ → List Piece → List Piece → ℕ → ℕ → ℕ → ℕ → Type 0
-FillsFrom None i status old new count_old count before_old before = (status ≡ NO_ROPE) × (new ≡ old) × (count ≡ count_old) × (before ≡ before_old)
+FillsFrom None i status old new count_old count before_old before = (status ≡ NO_ROPE_HELD) × (new ≡ old) × (count ≡ count_old) × (before ≡ before_old)
 FillsFrom (Some rope) i status old new count_old count before_old before =
     (byte_len rope.text < i → (status ≡ BYTE_INDEX_OUT_OF_BOUNDS) × (new ≡ old) × (count ≡ count_old) × (before ≡ before_old))
     × (i ≤ byte_len rope.text → (status ≡ OK) × (before ≡ byte_len (front_chunks rope.chunks (chunk_place_at_byte rope.chunks i)))

@@ -23,16 +23,21 @@
 //! compares texts; `handle` and `unboxed` keep a rope behind a pointer; `status` has the numbers that stand for refusals.
 #![tactic(auto)]
 
+pub mod byte_edits;
 pub mod chunks;
 pub mod compare;
 pub mod conversions;
 pub mod copies;
+pub mod counts;
 pub mod edits;
 pub mod handle;
 pub mod lengths;
+pub mod lent;
 pub mod lookups;
 pub mod makers;
 pub mod pieces;
 pub mod positions;
+pub mod replace;
 pub mod status;
+pub mod texts;
 mod unboxed;

@@ -1,0 +1,32 @@
+-- Bytes and characters of ranges.
+use Rattle.std.proofs.Common.{◌≡◌, ℕ, ◌+◌, ◌-◌, ◌≤◌, List, ◌++◌, length, take, drop, Some, None, ap, sym, ◌∙◌, arith}
+use Rattle.std.proofs.lemmas.List.{take-append-drop}
+use Rattle.rope_text.specs.Text.{byte_len}
+use Rattle.rope_text.specs.Conversions.{byte_to_char}
+use Rattle.rope_text.specs.Edit.{byte_range_error, removed}
+use Rattle.rope_text.proofs.Measures.{IsMeasure-byte_len, size_le, front_greatest, front_fits, front-le-length}
+use Rattle.rope_text.proofs.ByteSlices.{is_range}
+
+-- the characters of a range of bytes are in order
+pub chars_ordered : (text : List ℕ) (a b : ℕ) → byte_range_error text (Some a) (Some b) ≡ None → byte_to_char text a ≤ byte_to_char text b
+unfolding byte_to_char
+chars_ordered text a b fine =
+    let range = is_range text a b fine in
+    let fits = front_fits byte_len IsMeasure-byte_len text a in
+    front_greatest byte_len IsMeasure-byte_len text b (byte_to_char text a) (front-le-length byte_len IsMeasure-byte_len text a) (omega (arith, range.ordered, fits))
+
+-- the bytes before a place
+pub bytes_before-le : (text : List ℕ) (a b : ℕ) → a ≤ b → byte_len (take a text) ≤ byte_len (take b text)
+bytes_before-le text a b l = size_le byte_len IsMeasure-byte_len text a b l
+
+bytes_around : (text : List ℕ) (b : ℕ) → byte_len (take b text) + byte_len (drop b text) ≡ byte_len text
+bytes_around text b = sym (IsMeasure-byte_len.joined (take b text) (drop b text)) ∙ ap byte_len (take-append-drop b text)
+
+-- what stays without a range
+pub removed_bytes : (text : List ℕ) (a b : ℕ) → a ≤ b → byte_len text - (byte_len (take b text) - byte_len (take a text)) ≡ byte_len (removed text a b)
+removed_bytes text a b l =
+    let stays : byte_len (removed text a b) ≡ byte_len (take a text) + byte_len (drop b text) = IsMeasure-byte_len.joined (take a text) (drop b text) in
+    omega (arith, stays, bytes_around text b, bytes_before-le text a b l)
+
+pub cut_within : (text : List ℕ) (a b : ℕ) → byte_len (take b text) - byte_len (take a text) ≤ byte_len text
+cut_within text a b = omega (arith, bytes_around text b)
