@@ -41,3 +41,4 @@ pub mod replace;
 pub mod status;
 pub mod texts;
 mod unboxed;
+pub mod version;

@@ -86,13 +86,13 @@ pub extern "C" fn ropey_char(rope: &Lent, char_idx: usize, c: &mut u32) -> u32
     }
 }
 
-fn find_line(rope: &Rope, line_idx: usize, line: &mut Span) -> u32
-    ensures { FindsLine (Some rope.now) line_idx result line.old line.new }
+fn find_line(rope: &Rope, line_idx: usize, chars: &mut Span) -> u32
+    ensures { FindsLine (Some rope.now) line_idx result chars.old chars.new }
 {
     if line_idx >= rope.len_lines() {
         return LINE_INDEX_OUT_OF_BOUNDS;
     }
-    *line = Span {
+    *chars = Span {
         start: rope.line_to_char(line_idx),
         end: rope.line_to_char(line_idx + 1),
     };
@@ -108,12 +108,12 @@ fn find_line(rope: &Rope, line_idx: usize, line: &mut Span) -> u32
 pub extern "C" fn ropey_line(
     rope: &Lent,
     line_idx: usize,
-    line: &mut Span,
+    chars: &mut Span,
 ) -> u32
-    ensures answer { FindsLine rope.now.rope line_idx result line.old line.new }
+    ensures answer { FindsLine rope.now.rope line_idx result chars.old chars.new }
 {
     let Some(held) = rope.held() else {
         return NO_ROPE_HELD;
     };
-    find_line(held, line_idx, line)
+    find_line(held, line_idx, chars)
 }

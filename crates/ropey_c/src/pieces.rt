@@ -6,10 +6,11 @@ ghost use Rattle.std.specs.Prelude.{◌≡◌, Some};
 ghost use Rattle.std.specs.Iterator.{IsFinite};
 ghost use Rattle.std.specs.Str.{chars, encode_utf8_all};
 ghost use Rattle.ropey_c.specs.Handles.{HoldsRope};
-ghost use Rattle.ropey_c.specs.Pieces.{FillsBy, FillsFrom};
+ghost use Rattle.ropey_c.specs.Pieces.{FillsBy, FillsFrom, FillsBefore, FillsLine};
 
 use crate::lent::Lent;
-use crate::status::{BYTE_INDEX_OUT_OF_BOUNDS, NO_ROPE_HELD, OK};
+use crate::lookups::Span;
+use crate::status::{BYTE_INDEX_OUT_OF_BOUNDS, LINE_INDEX_OUT_OF_BOUNDS, NO_ROPE_HELD, OK};
 use ropey::Rope;
 
 /// A piece of a text: its bytes, which are lent. C sees a pointer, which is never null, and their number.
@@ -83,4 +84,90 @@ pub extern "C" fn ropey_chunks_from_byte<'a>(
         return NO_ROPE_HELD;
     };
     find_pieces(held, byte_idx, pieces, count, bytes_before)
+}
+
+fn find_pieces_before<'a>(
+    rope: &'a Rope,
+    byte_idx: usize,
+    pieces: &mut [Piece<'a>],
+    count: &mut usize,
+    bytes_before: &mut usize,
+) -> u32
+    ensures { FillsBefore (Some rope.now) byte_idx result pieces.old pieces.new count.old count.new bytes_before.old bytes_before.new }
+{
+    if byte_idx > rope.len_bytes() {
+        return BYTE_INDEX_OUT_OF_BOUNDS;
+    }
+    let (cursor, before, _, _) = rope.chunks_at_byte(byte_idx);
+    *bytes_before = before;
+    *count = fill(cursor.reversed(), pieces);
+    OK
+}
+
+/// The chunks before the one that holds the byte `byte_idx`, the nearest first, written to `pieces` as far as there is
+/// room. Their number is written to `count`, and how many bytes lie before the chunk that holds the byte to
+/// `bytes_before`. At the end of the text the last chunk comes first. To go on, a program asks for the first byte of the
+/// last piece.
+///
+/// # Errors
+///
+/// `NO_ROPE_HELD`, then `BYTE_INDEX_OUT_OF_BOUNDS`. Then nothing is written.
+#[unsafe(no_mangle)]
+pub extern "C" fn ropey_chunks_before_byte<'a>(
+    rope: &'a Lent,
+    byte_idx: usize,
+    pieces: &mut [Piece<'a>],
+    count: &mut usize,
+    bytes_before: &mut usize,
+) -> u32
+    ensures answer { FillsBefore rope.now.rope byte_idx result pieces.old pieces.new count.old count.new bytes_before.old bytes_before.new }
+    ensures kept { HoldsRope rope.now.rope }
+{
+    let Some(held) = rope.held() else {
+        return NO_ROPE_HELD;
+    };
+    find_pieces_before(held, byte_idx, pieces, count, bytes_before)
+}
+
+fn find_line_pieces<'a>(
+    rope: &'a Rope,
+    line_idx: usize,
+    bytes: &mut Span,
+    pieces: &mut [Piece<'a>],
+    count: &mut usize,
+) -> u32
+    ensures { FillsLine (Some rope.now) line_idx result pieces.old pieces.new count.old count.new bytes.old bytes.new }
+{
+    if line_idx >= rope.len_lines() {
+        return LINE_INDEX_OUT_OF_BOUNDS;
+    }
+    *bytes = Span {
+        start: rope.line_to_byte(line_idx),
+        end: rope.line_to_byte(line_idx + 1),
+    };
+    *count = fill(rope.line(line_idx).chunks(), pieces);
+    OK
+}
+
+/// The bytes of the line `line_idx`, counted from 0, its line break among them, and its pieces from its start on, written
+/// to `pieces` as far as there is room. Their number is written to `count`. Costs a few look-ups, and then a step a piece.
+///
+/// # Errors
+///
+/// `NO_ROPE_HELD`, then `LINE_INDEX_OUT_OF_BOUNDS`, also for the number of lines. Then nothing is written.
+#[unsafe(no_mangle)]
+pub extern "C" fn ropey_line_pieces<'a>(
+    rope: &'a Lent,
+    line_idx: usize,
+    bytes: &mut Span,
+    pieces: &mut [Piece<'a>],
+    count: &mut usize,
+) -> u32
+    ensures answer { FillsLine rope.now.rope line_idx result pieces.old pieces.new count.old count.new bytes.old bytes.new }
+    ensures kept { HoldsRope rope.now.rope }
+{
+    let Some(held) = rope.held() else {
+        return NO_ROPE_HELD;
+    };
+    find_line_pieces(held, line_idx, bytes, pieces, count)
 }

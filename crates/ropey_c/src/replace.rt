@@ -1,6 +1,8 @@
 //! Parts of a rope's text that are replaced by another: the whole of it is done, or nothing.
 ghost use Rattle.std.specs.Prelude.{◌≡◌, ◌<◌, ◌≤◌, ◌^◌, length, Some, None, IfErr, IfOk};
+ghost use Rattle.std.specs.Bool.{MatchBool};
 ghost use Rattle.std.specs.Str.{chars};
+ghost use Rattle.rope_text.specs.declared.error.Error.TheVariants.{TooLong};
 ghost use Rattle.rope_text.specs.Conversions.{byte_to_char};
 ghost use Rattle.rope_text.specs.Edit.{IsRefusal, removed};
 ghost use Rattle.rope_text.specs.Text.{byte_len};
@@ -29,6 +31,16 @@ fn len_without(rope: &Rope, start: usize, end: usize) -> usize
     rope.len_bytes() - cut
 }
 
+// Whether the text that takes the place of a range leaves the whole short enough.
+fn has_room(rope: &Rope, start: usize, end: usize, text: &str) -> bool
+    requires ordered { start ≤ end }
+    requires within { end ≤ length rope.now.text }
+    ensures { MatchBool result (replaced_size_error rope.now.text start end (chars text.now) ≡ None)
+        (replaced_size_error rope.now.text start end (chars text.now) ≡ Some TooLong) }
+{
+    text.len() <= MAX_TEXT_BYTES - len_without(rope, start, end)
+}
+
 // The rope with another text in the place of a range. It is made beside the old one, which shares what stays.
 fn replaced(rope: &Rope, start: usize, end: usize, text: &str) -> Result<Rope>
     requires ordered { start ≤ end }
@@ -37,12 +49,15 @@ fn replaced(rope: &Rope, start: usize, end: usize, text: &str) -> Result<Rope>
         × (made.text ≡ replaced rope.now.text start end (chars text.now)) × (made.breaks ≡ rope.now.breaks) × IsRope made) }
     ensures err { IfErr result (IsRefusal (replaced_size_error rope.now.text start end (chars text.now))) }
 {
-    if text.len() > MAX_TEXT_BYTES - len_without(rope, start, end) {
+    if !has_room(rope, start, end, text) {
         return Err(Error::TooLong);
     }
-    let mut made = rope.clone()?;
-    made.remove(start..end)?;
-    made.insert(start, text)?;
+    let Ok(mut made) = rope.clone() else {
+        return Err(Error::OutOfMemory);
+    };
+    if made.remove(start..end).is_err() || made.insert(start, text).is_err() {
+        return Err(Error::OutOfMemory);
+    }
     Ok(made)
 }
 
