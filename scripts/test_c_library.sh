@@ -43,7 +43,7 @@ echo 'C: the checksums of rope_bench'
 
 "$cc" $strict -O2 "$here/differential.c" "$library" $refusals -o "$work/differential"
 "$work/differential" "$calls" 1
-"$cc" $strict -O2 "$here/look_ups_write_nothing.c" "$library" -o "$work/look_ups"
+"$cc" $strict -O2 "$here/look_ups_write_nothing.c" "$library" $refusals -Wl,--wrap=free -o "$work/look_ups"
 "$work/look_ups"
 if "$cc" $strict -g -O1 -fsanitize=address,undefined "$here/differential.c" "$library" $refusals -o "$work/checked" 2> "$work/no_checker"; then
     "$work/checked" "$calls" 2

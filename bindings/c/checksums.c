@@ -84,17 +84,16 @@ static void report(const char *name, size_t operations, uint64_t checksum) {
     printf("%s/%c %zu %016" PRIx64 "\n", name, kind, operations, checksum);
 }
 
-static uint64_t lens(ropey_rope *rope) {
+static uint64_t lens(const ropey_rope *rope) {
     return (uint64_t)ropey_len_bytes(rope) ^ (uint64_t)ropey_len_chars(rope) << 1 ^ (uint64_t)ropey_len_lines(rope) << 2
         ^ (uint64_t)ropey_len_utf16(rope) << 3;
 }
 
 /* The bytes by FNV-1a, some chunks at a time, and the lengths. */
-static uint64_t whole(ropey_rope *rope) {
+static uint64_t whole(const ropey_rope *rope) {
     uint64_t sum = UINT64_C(0xCBF29CE484222325);
     size_t at = 0, count = 0, before = 0;
-    ropey_piece pieces[PIECES];
-    for (size_t k = 0; k < PIECES; k++) pieces[k] = ROPEY_NO_PIECE;
+    ropey_piece pieces[PIECES] = {{0}};
     do {
         expect(ropey_chunks_from_byte(rope, at, pieces, PIECES, &count, &before));
         if (count > 0 && before != at) exit(1);
@@ -147,9 +146,9 @@ static void edits(void) {
     ropey_free(&rope);
 }
 
-typedef uint32_t conversion(ropey_rope *, size_t, size_t *);
+typedef ropey_status conversion(const ropey_rope *, size_t, size_t *);
 
-static void convert(ropey_rope *rope, const char *name, conversion *call, size_t most) {
+static void convert(const ropey_rope *rope, const char *name, conversion *call, size_t most) {
     uint64_t sum = 0;
     restart();
     for (int k = 0; k < LOOK_UPS; k++) {
@@ -160,7 +159,7 @@ static void convert(ropey_rope *rope, const char *name, conversion *call, size_t
     report(name, LOOK_UPS, sum);
 }
 
-static void look_ups(ropey_rope *rope) {
+static void look_ups(const ropey_rope *rope) {
     size_t bytes = ropey_len_bytes(rope), chars = ropey_len_chars(rope), lines = ropey_len_lines(rope);
     uint64_t sum = 0;
     convert(rope, "char_to_byte", ropey_char_to_byte, chars);

@@ -8,14 +8,14 @@
 static const uint8_t *bytes(const char *text) { return (const uint8_t *)text; }
 
 /* Ends the program where a call is refused. */
-static void expect(uint32_t status, const char *what) {
+static void expect(ropey_status status, const char *what) {
     if (status != ROPEY_OK) {
-        fprintf(stderr, "%s: status %u\n", what, status);
+        fprintf(stderr, "%s: %s\n", what, ropey_status_text(status));
         exit(1);
     }
 }
 
-static void print(const char *label, ropey_rope *rope) {
+static void print(const char *label, const ropey_rope *rope) {
     uint8_t buffer[256];
     size_t len = 0;
     expect(ropey_copy_chars(rope, 0, ropey_len_chars(rope), buffer, sizeof buffer, &len), "copy");
@@ -28,7 +28,7 @@ int main(void) {
     expect(ropey_from_text(bytes(text), strlen(text), ROPEY_UNICODE, &rope), "from_text");
     printf("bytes %zu, chars %zu, lines %zu\n", ropey_len_bytes(&rope), ropey_len_chars(&rope), ropey_len_lines(&rope));
 
-    ropey_line_range line;
+    ropey_range line;
     expect(ropey_line(&rope, 1, &line), "line");
     printf("line 1: %zu to %zu\n", line.start, line.end);
 
@@ -52,7 +52,7 @@ int main(void) {
     bool equal = false;
     uint8_t few[4];
     expect(ropey_position_to_char(&rope, 1, 3, &char_idx), "position_to_char");
-    expect(ropey_line_breaks(&rope, &breaks), "line_breaks");
+    expect(ropey_get_break_set(&rope, &breaks), "get_break_set");
     expect(ropey_equals_text(&old, bytes(text), strlen(text), &equal), "equals_text");
     printf("char %zu, set %u, equal %d\n", char_idx, breaks, equal);
     expect(ropey_copy_bytes(&rope, 0, 3, few, sizeof few, &len), "copy_bytes");
