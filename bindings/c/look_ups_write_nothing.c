@@ -55,7 +55,7 @@ static size_t below(size_t n) {
 static void make(ropey_rope *ropes) {
     static const char text[] = "a line\r\nanother, \xC3\xA9 \xE4\xB8\xAD \xF0\x9F\x98\x80\n\xE2\x80\xA8";
     expect(ropey_from_text((const uint8_t *)text, sizeof text - 1, ROPEY_UNICODE, &ropes[0]));
-    for (int k = 0; k < 4000; k++) {
+    for (int k = 0; k < 20000; k++) {
         expect(ropey_insert(&ropes[0], below(ropey_len_chars(&ropes[0]) + 1), (const uint8_t *)text, sizeof text - 1));
     }
     for (int i = 1; i < ROPES; i++) {
@@ -124,6 +124,6 @@ int main(void) {
     for (int k = 0; k < 20000; k++) {
         look(&ropes[below(ROPES)], &ropes[below(ROPES)]);
     }
-    printf("C: look-ups wrote neither to nodes nor to handles (%zu MB of them)\n", used >> 20);
+    printf("C: look-ups wrote neither to nodes nor to handles (%zu KB of them)\n", used >> 10);
     return 0;
 }
