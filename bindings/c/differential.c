@@ -565,10 +565,53 @@ static void plain(void) {
     free(m.chars);
 }
 
+/* A rope of bytes in parts, which are cut anywhere, and some of which are no text. */
+static void build(pair *p) {
+    size_t len = 0, at = 0, valid = 77;
+    model text = drawn_text(below(4) == 0 ? LONGEST : 40);
+    uint8_t *bytes = bytes_of(&text, &len);
+    size_t bad = len > 0 && below(4) == 0 ? below(len) : len;
+    size_t whole = bad == len ? len : counts_before(&text, char_at_byte(&text, bad)).bytes;
+    ropey_builder builder = ROPEY_NO_BUILDER;
+    if (bad < len) {
+        bytes[bad] = 0xFF;
+    }
+    CHECK(ropey_builder_append(&builder, bytes, len, &valid) == ROPEY_NO_BUILDER_HELD);
+    CHECK(ropey_builder_finish(&builder, &p->rope, &valid) == ROPEY_NO_BUILDER_HELD && valid == 77);
+    text.break_set = (uint32_t)below(4);
+    ropey_status status = CALL(ropey_builder_new(text.break_set, &builder)), wanted = ROPEY_OK;
+    CHECK(status == (text.break_set > ROPEY_UNICODE ? ROPEY_UNKNOWN_BREAK_SET : refused ? ROPEY_OUT_OF_MEMORY : ROPEY_OK));
+    while (status == ROPEY_OK && at < len) {
+        size_t part = 1 + below(below(2) ? 5 : len - at);
+        part = part < len - at ? part : len - at;
+        status = CALL(ropey_builder_append(&builder, below(2) ? bytes + at : NULL, 0, &valid));
+        status = status == ROPEY_OK ? CALL(ropey_builder_append(&builder, bytes + at, part, &valid)) : status;
+        at += part;
+        wanted = at >= whole + 4 && bad < len ? ROPEY_INVALID_UTF8 : ROPEY_OK;
+        CHECK(status == wanted || status == ROPEY_OUT_OF_MEMORY);
+    }
+    if (builder.ptr != NULL) {
+        ropey_status said = status;
+        status = CALL(ropey_builder_finish(&builder, &p->rope, &valid));
+        CHECK(said == ROPEY_OK || status == said);
+        CHECK(status == ROPEY_OUT_OF_MEMORY || status == (whole < len ? ROPEY_INVALID_UTF8 : ROPEY_OK));
+    }
+    CHECK(valid == (status == ROPEY_INVALID_UTF8 ? whole : 77));
+    ropey_builder_free(&builder);
+    free(bytes);
+    if (status == ROPEY_OK) {
+        take(p, text);
+        held_all(p);
+        return;
+    }
+    free(text.chars);
+    held_all(NULL);
+}
+
 int main(int argc, char **argv) {
     static const char *const names[] = {"make", "make_clone", "release", "shrink", "put_text", "put_char", "cut", "split", "append", "convert", "place",
-        "item", "chunk", "pieces", "line", "range", "compare", "plain"};
-    static const int weights[] = {2, 3, 1, 1, 24, 8, 12, 3, 4, 10, 6, 6, 6, 6, 6, 8, 3, 3};
+        "item", "chunk", "pieces", "line", "range", "compare", "plain", "build"};
+    static const int weights[] = {2, 3, 1, 1, 24, 8, 12, 3, 4, 10, 6, 6, 6, 6, 6, 8, 3, 3, 2};
     enum { STEPS = sizeof weights / sizeof *weights };
     long calls = argc > 1 ? atol(argv[1]) : 20000;
     int all = 0;
@@ -605,7 +648,8 @@ int main(int argc, char **argv) {
         case 14: line(p); break;
         case 15: range(p); break;
         case 16: compare(p, q); break;
-        default: plain(); break;
+        case 17: plain(); break;
+        default: build(p); break;
         }
         held_all(NULL);
     }

@@ -44,3 +44,11 @@ room_told w l a b fits at_a at_b =
     elim (cases_lt (9223372036854775807 - w) l) [
       inl more ↦ let long : nat_lt (a + b) (2 ^ 63) ≡ false = grind (arith, nat_tests) in subst Told (sym (lt-leb _ _ more)) (rw long refl)
     | inr less ↦ let short : nat_lt (a + b) (2 ^ 63) ≡ true = grind (arith, nat_tests) in subst Told (sym (le-leb _ _ less)) (rw short refl) ]
+
+-- a size that is not refused
+pub fits_from : (n : ℕ) → size_error n ≡ None → n < 2 ^ 63
+fits_from n fine = elim (cases_lt n (2 ^ 63)) [ inl less ↦ less | inr more ↦ let long : nat_lt n (2 ^ 63) ≡ false = grind (arith, nat_tests) in absurd (cc) ]
+
+-- a text behind another, whose bytes are counted
+pub byte_len-behind : (text new : List ℕ) (bytes : ℕ) → byte_len new ≡ bytes → byte_len text + bytes ≡ byte_len (text ++ new)
+byte_len-behind text new bytes is = sym (IsMeasure-byte_len.joined text new ∙ ap (λ n. byte_len text + n) is)

@@ -1,3 +1,4 @@
+pub mod BuilderHandles
 pub mod Bytes
 pub mod Copying
 pub mod Filling

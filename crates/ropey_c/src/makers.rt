@@ -17,7 +17,7 @@ use ropey::{LineBreaks, Rope};
 use std::alloc::Global;
 
 // Puts a rope that was just made into a handle.
-fn keep(alloc: Global, made: Rope, rope: &mut Handle) -> u32
+pub(crate) fn keep(alloc: Global, made: Rope, rope: &mut Handle) -> u32
     ensures status { IsStatus None result }
     ensures ok { result ≡ OK → rope.new.rope ≡ Some made }
     ensures err { 0 < result → rope.new.rope ≡ rope.old.rope }

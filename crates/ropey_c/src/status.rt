@@ -1,5 +1,5 @@
 //! What a call answers: 0, or the number that stands for the first reason for which it was refused.
-ghost use Rattle.std.specs.Prelude.{◌≡◌, IsOk, MatchResult};
+ghost use Rattle.std.specs.Prelude.{◌≡◌, ◌<◌, IsOk, MatchResult};
 ghost use Rattle.ropey_c.specs.Status.{status_of, given_breaks, number_of};
 ghost use Rattle.ropey_c.specs.Answers.{Answers};
 
@@ -55,7 +55,8 @@ pub const UNICODE: u32 = 2;
 
 // The status of an error.
 pub(crate) fn status_of(error: Error) -> u32
-    ensures { result ≡ status_of error }
+    ensures value { result ≡ status_of error }
+    ensures refused { 0 < result }
 {
     match error {
         Error::ByteIndexOutOfBounds(_, _) => BYTE_INDEX_OUT_OF_BOUNDS,
