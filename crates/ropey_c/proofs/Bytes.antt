@@ -42,8 +42,9 @@ pub room_told : (w l a b : ℕ) → w < 2 ^ 63 → w ≡ a → b ≡ l
 room_told w l a b fits at_a at_b =
     let Told : Bool → Type 0 = λ t. MatchBool t (size_error (a + b) ≡ None) (size_error (a + b) ≡ Some TooLong) in
     elim (cases_lt (9223372036854775807 - w) l) [
-      inl more ↦ let long : nat_lt (a + b) (2 ^ 63) ≡ false = grind (arith, nat_tests) in subst Told (sym (lt-leb _ _ more)) (rw long refl)
-    | inr less ↦ let short : nat_lt (a + b) (2 ^ 63) ≡ true = grind (arith, nat_tests) in subst Told (sym (le-leb _ _ less)) (rw short refl) ]
+      | inl more ↦ let long : nat_lt (a + b) (2 ^ 63) ≡ false = grind (arith, nat_tests) in subst Told (sym (lt-leb _ _ more)) (rw long refl)
+      | inr less ↦ let short : nat_lt (a + b) (2 ^ 63) ≡ true = grind (arith, nat_tests) in subst Told (sym (le-leb _ _ less)) (rw short refl)
+    ]
 
 -- a size that is not refused
 pub fits_from : (n : ℕ) → size_error n ≡ None → n < 2 ^ 63

@@ -111,12 +111,12 @@ module _ {M : Type 1} {𝓤 : Ura M} (𝓛 : Logic 𝓤) where
     pub halves : Halves 𝓤 H A Φ
     halves = record {
       cut = λ q. qed 𝓛 (‵ (Φ q) ∷ []) ∵ use1 𝓛 (‵ (cell q) ⊛ ‵ (rope_lent d.ptr d.rope)) (part_out q) $ split ! $
-        use1 𝓛 (‵ (cell (Share.left q)) ⊛ ‵ (cell (Share.right q))) (cell_cut 𝓛 q (Share.left q) (Share.right q) (share_halves q) Lent.mir (word d.ptr ∷ []) b o) $ split ! $ move ! (2 ∷ []) $
-        use1 𝓛 (‵ (rope_lent d.ptr d.rope) ⊛ ‵ (rope_lent d.ptr d.rope)) (lent_dup d.ptr d.rope) $ split ! $ move ! (2 ∷ 0 ∷ []) $
-        use2 𝓛 (‵ (Φ (Share.left q))) (part_in (Share.left q)) $ move ! (2 ∷ 1 ∷ []) $ use2 𝓛 (‵ (Φ (Share.right q))) (part_in (Share.right q)) $ move ! (1 ∷ 0 ∷ []) $ done !;
+          use1 𝓛 (‵ (cell (Share.left q)) ⊛ ‵ (cell (Share.right q))) (cell_cut 𝓛 q (Share.left q) (Share.right q) (share_halves q) Lent.mir (word d.ptr ∷ []) b o) $ split ! $ move ! (2 ∷ []) $
+          use1 𝓛 (‵ (rope_lent d.ptr d.rope) ⊛ ‵ (rope_lent d.ptr d.rope)) (lent_dup d.ptr d.rope) $ split ! $ move ! (2 ∷ 0 ∷ []) $
+          use2 𝓛 (‵ (Φ (Share.left q))) (part_in (Share.left q)) $ move ! (2 ∷ 1 ∷ []) $ use2 𝓛 (‵ (Φ (Share.right q))) (part_in (Share.right q)) $ move ! (1 ∷ 0 ∷ []) $ done !;
       join = λ q. qed 𝓛 (‵ (Φ (Share.left q)) ∷ ‵ (Φ (Share.right q)) ∷ []) ∵ use1 𝓛 (‵ (cell (Share.left q)) ⊛ ‵ (rope_lent d.ptr d.rope)) (part_out (Share.left q)) $ split ! $ move ! (2 ∷ []) $
-        use1 𝓛 (‵ (cell (Share.right q)) ⊛ ‵ (rope_lent d.ptr d.rope)) (part_out (Share.right q)) $ split ! $ keep ! (2 ∷ 0 ∷ 1 ∷ []) $
-        use2 𝓛 (‵ (cell q)) (cell_join 𝓛 q (Share.left q) (Share.right q) (share_halves q) Lent.mir (word d.ptr ∷ []) b o) $ use2 𝓛 (‵ (Φ q)) (part_in q) $ done !;
+          use1 𝓛 (‵ (cell (Share.right q)) ⊛ ‵ (rope_lent d.ptr d.rope)) (part_out (Share.right q)) $ split ! $ keep ! (2 ∷ 0 ∷ 1 ∷ []) $
+          use2 𝓛 (‵ (cell q)) (cell_join 𝓛 q (Share.left q) (Share.right q) (share_halves q) Lent.mir (word d.ptr ∷ []) b o) $ use2 𝓛 (‵ (Φ q)) (part_in q) $ done !;
     }
 
     module _ (κ : Lft) (q : Share) where

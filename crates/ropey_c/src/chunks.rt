@@ -68,7 +68,11 @@ fn write_chunk<'a>(
 /// `NO_ROPE_HELD`, then `BYTE_INDEX_OUT_OF_BOUNDS`, exactly where the index is past the number of bytes. Then nothing is
 /// written.
 #[unsafe(no_mangle)]
-pub extern "C" fn ropey_chunk_at_byte<'a>(rope: &'a Lent, byte_idx: usize, chunk: &mut Chunk<'a>) -> u32
+pub extern "C" fn ropey_chunk_at_byte<'a>(
+    rope: &'a Lent,
+    byte_idx: usize,
+    chunk: &mut Chunk<'a>,
+) -> u32
     ensures answer { FindsChunk rope.now.rope (λ r. byte_len r.text) byte_idx
         (λ r. found_chunk r.breaks r.chunks (chunk_index_at_byte r.chunks byte_idx))
         BYTE_INDEX_OUT_OF_BOUNDS result chunk.old chunk.new }
@@ -91,7 +95,11 @@ pub extern "C" fn ropey_chunk_at_byte<'a>(rope: &'a Lent, byte_idx: usize, chunk
 /// `NO_ROPE_HELD`, then `CHAR_INDEX_OUT_OF_BOUNDS`, exactly where the index is past the number of characters. Then nothing is
 /// written.
 #[unsafe(no_mangle)]
-pub extern "C" fn ropey_chunk_at_char<'a>(rope: &'a Lent, char_idx: usize, chunk: &mut Chunk<'a>) -> u32
+pub extern "C" fn ropey_chunk_at_char<'a>(
+    rope: &'a Lent,
+    char_idx: usize,
+    chunk: &mut Chunk<'a>,
+) -> u32
     ensures answer { FindsChunk rope.now.rope (λ r. length r.text) char_idx
         (λ r. found_chunk r.breaks r.chunks (chunk_index_at_char r.chunks char_idx))
         CHAR_INDEX_OUT_OF_BOUNDS result chunk.old chunk.new }
@@ -115,7 +123,11 @@ pub extern "C" fn ropey_chunk_at_char<'a>(rope: &'a Lent, char_idx: usize, chunk
 /// `NO_ROPE_HELD`, then `LINE_INDEX_OUT_OF_BOUNDS`, exactly where the index is past the number of lines. Then nothing is
 /// written.
 #[unsafe(no_mangle)]
-pub extern "C" fn ropey_chunk_at_line_break<'a>(rope: &'a Lent, line_idx: usize, chunk: &mut Chunk<'a>) -> u32
+pub extern "C" fn ropey_chunk_at_line_break<'a>(
+    rope: &'a Lent,
+    line_idx: usize,
+    chunk: &mut Chunk<'a>,
+) -> u32
     ensures answer { FindsChunk rope.now.rope (λ r. line_count r.breaks r.text) line_idx
         (λ r. found_chunk r.breaks r.chunks (chunk_index_at_line_break r.breaks r.chunks line_idx))
         LINE_INDEX_OUT_OF_BOUNDS result chunk.old chunk.new }

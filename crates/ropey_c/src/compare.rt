@@ -57,11 +57,7 @@ fn equals(rope: &Rope, text: &[u8], equal: &mut bool) -> u32
 ///
 /// `NO_ROPE_HELD`, then `INVALID_UTF8`. Then nothing is written.
 #[unsafe(no_mangle)]
-pub extern "C" fn ropey_equals_text(
-    rope: &Lent,
-    text: &[u8],
-    equal: &mut bool,
-) -> u32
+pub extern "C" fn ropey_equals_text(rope: &Lent, text: &[u8], equal: &mut bool) -> u32
     ensures answer { ComparesText rope.now.rope text.now result equal.old equal.new }
 {
     let Some(held) = rope.held() else {

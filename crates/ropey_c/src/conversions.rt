@@ -20,11 +20,7 @@ use crate::status::{NO_ROPE_HELD, answer};
 ///
 /// `NO_ROPE_HELD`, then `BYTE_INDEX_OUT_OF_BOUNDS`.
 #[unsafe(no_mangle)]
-pub extern "C" fn ropey_byte_to_char(
-    rope: &Lent,
-    byte_idx: usize,
-    char_idx: &mut usize,
-) -> u32
+pub extern "C" fn ropey_byte_to_char(rope: &Lent, byte_idx: usize, char_idx: &mut usize) -> u32
     ensures answer { AnswersAt rope.now.rope (λ r. checked (byte_index_error byte_idx (byte_len r.text)) (byte_to_char r.text byte_idx))
         result char_idx.old char_idx.new }
 {
@@ -41,11 +37,7 @@ pub extern "C" fn ropey_byte_to_char(
 ///
 /// `NO_ROPE_HELD`, then `BYTE_INDEX_OUT_OF_BOUNDS`.
 #[unsafe(no_mangle)]
-pub extern "C" fn ropey_byte_to_line(
-    rope: &Lent,
-    byte_idx: usize,
-    line_idx: &mut usize,
-) -> u32
+pub extern "C" fn ropey_byte_to_line(rope: &Lent, byte_idx: usize, line_idx: &mut usize) -> u32
     ensures answer { AnswersAt rope.now.rope (λ r. checked (byte_index_error byte_idx (byte_len r.text)) (byte_to_line r.breaks r.text byte_idx))
         result line_idx.old line_idx.new }
 {
@@ -61,11 +53,7 @@ pub extern "C" fn ropey_byte_to_line(
 ///
 /// `NO_ROPE_HELD`, then `CHAR_INDEX_OUT_OF_BOUNDS`.
 #[unsafe(no_mangle)]
-pub extern "C" fn ropey_char_to_byte(
-    rope: &Lent,
-    char_idx: usize,
-    byte_idx: &mut usize,
-) -> u32
+pub extern "C" fn ropey_char_to_byte(rope: &Lent, char_idx: usize, byte_idx: &mut usize) -> u32
     ensures answer { AnswersAt rope.now.rope (λ r. checked (char_index_error char_idx (length r.text)) (char_to_byte r.text char_idx))
         result byte_idx.old byte_idx.new }
 {
@@ -82,11 +70,7 @@ pub extern "C" fn ropey_char_to_byte(
 ///
 /// `NO_ROPE_HELD`, then `CHAR_INDEX_OUT_OF_BOUNDS`.
 #[unsafe(no_mangle)]
-pub extern "C" fn ropey_char_to_line(
-    rope: &Lent,
-    char_idx: usize,
-    line_idx: &mut usize,
-) -> u32
+pub extern "C" fn ropey_char_to_line(rope: &Lent, char_idx: usize, line_idx: &mut usize) -> u32
     ensures answer { AnswersAt rope.now.rope (λ r. checked (char_index_error char_idx (length r.text)) (char_to_line r.breaks r.text char_idx))
         result line_idx.old line_idx.new }
 {
@@ -102,11 +86,7 @@ pub extern "C" fn ropey_char_to_line(
 ///
 /// `NO_ROPE_HELD`, then `CHAR_INDEX_OUT_OF_BOUNDS`.
 #[unsafe(no_mangle)]
-pub extern "C" fn ropey_char_to_utf16(
-    rope: &Lent,
-    char_idx: usize,
-    utf16_idx: &mut usize,
-) -> u32
+pub extern "C" fn ropey_char_to_utf16(rope: &Lent, char_idx: usize, utf16_idx: &mut usize) -> u32
     ensures answer { AnswersAt rope.now.rope (λ r. checked (char_index_error char_idx (length r.text)) (char_to_utf16 r.text char_idx))
         result utf16_idx.old utf16_idx.new }
 {
@@ -123,11 +103,7 @@ pub extern "C" fn ropey_char_to_utf16(
 ///
 /// `NO_ROPE_HELD`, then `UTF16_INDEX_OUT_OF_BOUNDS`.
 #[unsafe(no_mangle)]
-pub extern "C" fn ropey_utf16_to_char(
-    rope: &Lent,
-    utf16_idx: usize,
-    char_idx: &mut usize,
-) -> u32
+pub extern "C" fn ropey_utf16_to_char(rope: &Lent, utf16_idx: usize, char_idx: &mut usize) -> u32
     ensures answer { AnswersAt rope.now.rope (λ r. checked (utf16_index_error utf16_idx (utf16_len r.text)) (utf16_to_char r.text utf16_idx))
         result char_idx.old char_idx.new }
 {
@@ -143,11 +119,7 @@ pub extern "C" fn ropey_utf16_to_char(
 ///
 /// `NO_ROPE_HELD`, then `LINE_INDEX_OUT_OF_BOUNDS`.
 #[unsafe(no_mangle)]
-pub extern "C" fn ropey_line_to_byte(
-    rope: &Lent,
-    line_idx: usize,
-    byte_idx: &mut usize,
-) -> u32
+pub extern "C" fn ropey_line_to_byte(rope: &Lent, line_idx: usize, byte_idx: &mut usize) -> u32
     ensures answer { AnswersAt rope.now.rope (λ r. checked (line_index_error line_idx (line_count r.breaks r.text)) (line_to_byte r.breaks r.text line_idx))
         result byte_idx.old byte_idx.new }
 {
@@ -163,11 +135,7 @@ pub extern "C" fn ropey_line_to_byte(
 ///
 /// `NO_ROPE_HELD`, then `LINE_INDEX_OUT_OF_BOUNDS`.
 #[unsafe(no_mangle)]
-pub extern "C" fn ropey_line_to_char(
-    rope: &Lent,
-    line_idx: usize,
-    char_idx: &mut usize,
-) -> u32
+pub extern "C" fn ropey_line_to_char(rope: &Lent, line_idx: usize, char_idx: &mut usize) -> u32
     ensures answer { AnswersAt rope.now.rope (λ r. checked (line_index_error line_idx (line_count r.breaks r.text)) (line_to_char r.breaks r.text line_idx))
         result char_idx.old char_idx.new }
 {

@@ -9,8 +9,8 @@ ghost use Rattle.ropey_c.specs.Answers.{Changes, Keeps};
 
 use crate::handle::Handle;
 use crate::status::{
-    CHAR_INDEX_OUT_OF_BOUNDS, INVALID_UTF8, NO_ROPE_HELD, NOT_A_CHARACTER, OK, OUT_OF_MEMORY, status,
-    status_of,
+    CHAR_INDEX_OUT_OF_BOUNDS, INVALID_UTF8, NO_ROPE_HELD, NOT_A_CHARACTER, OK, OUT_OF_MEMORY,
+    status, status_of,
 };
 use rope_text::{MAX_TEXT_BYTES, utf8};
 use ropey::{Error, Result, Rope};

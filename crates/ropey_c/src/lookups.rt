@@ -44,11 +44,7 @@ pub extern "C" fn ropey_get_break_set(rope: &Lent, break_set: &mut u32) -> u32
 ///
 /// `NO_ROPE_HELD`, then `BYTE_INDEX_OUT_OF_BOUNDS`, also for the number of bytes.
 #[unsafe(no_mangle)]
-pub extern "C" fn ropey_byte(
-    rope: &Lent,
-    byte_idx: usize,
-    byte: &mut u8,
-) -> u32
+pub extern "C" fn ropey_byte(rope: &Lent, byte_idx: usize, byte: &mut u8) -> u32
     ensures answer { FindsAt rope.now.rope (λ r. slice_get (encode_utf8_all r.text) byte_idx)
         BYTE_INDEX_OUT_OF_BOUNDS result byte.old byte.new }
 {
@@ -105,11 +101,7 @@ fn find_line(rope: &Rope, line_idx: usize, chars: &mut Span) -> u32
 ///
 /// `NO_ROPE_HELD`, then `LINE_INDEX_OUT_OF_BOUNDS`, also for the number of lines.
 #[unsafe(no_mangle)]
-pub extern "C" fn ropey_line(
-    rope: &Lent,
-    line_idx: usize,
-    chars: &mut Span,
-) -> u32
+pub extern "C" fn ropey_line(rope: &Lent, line_idx: usize, chars: &mut Span) -> u32
     ensures answer { FindsLine rope.now.rope line_idx result chars.old chars.new }
 {
     let Some(held) = rope.held() else {

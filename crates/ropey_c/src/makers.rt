@@ -53,7 +53,12 @@ fn make(alloc: Global, text: &[u8], breaks: LineBreaks, rope: &mut Handle) -> u3
 ///
 /// `UNKNOWN_BREAK_SET`, then `INVALID_UTF8`, then `OUT_OF_MEMORY`. A refused call leaves the handle as it was.
 #[unsafe(no_mangle)]
-pub extern "C" fn ropey_from_text(alloc: Global, text: &[u8], break_set: u32, rope: &mut Handle) -> u32
+pub extern "C" fn ropey_from_text(
+    alloc: Global,
+    text: &[u8],
+    break_set: u32,
+    rope: &mut Handle,
+) -> u32
     ensures status { IsMakerStatus (given_breaks break_set) text.now result }
     ensures ok { result ≡ OK → IsSomeAnd rope.new.rope (λ r. (r.text ≡ chars text.now) × IsBuiltWith (given_breaks break_set) r) }
     ensures err { 0 < result → rope.new.rope ≡ rope.old.rope }

@@ -43,11 +43,7 @@ fn answer_place(found: Result<Position>, place: &mut Place) -> u32
 ///
 /// `NO_ROPE_HELD`, then `CHAR_INDEX_OUT_OF_BOUNDS`.
 #[unsafe(no_mangle)]
-pub extern "C" fn ropey_char_to_position(
-    rope: &Lent,
-    char_idx: usize,
-    place: &mut Place,
-) -> u32
+pub extern "C" fn ropey_char_to_position(rope: &Lent, char_idx: usize, place: &mut Place) -> u32
     ensures answer { PlacesAt rope.now.rope (λ r. checked (char_index_error char_idx (length r.text))
         (position_at r.breaks r.text char_idx)) result place.old place.new }
 {
@@ -77,5 +73,8 @@ pub extern "C" fn ropey_position_to_char(
     let Some(held) = rope.held() else {
         return NO_ROPE_HELD;
     };
-    answer(held.try_position_to_char(Position { line, column }), char_idx)
+    answer(
+        held.try_position_to_char(Position { line, column }),
+        char_idx,
+    )
 }

@@ -136,7 +136,11 @@ pub extern "C" fn ropey_text_char_to_line(
 ///
 /// `INVALID_UTF8`.
 #[unsafe(no_mangle)]
-pub extern "C" fn ropey_text_char_to_utf16(text: &[u8], char_idx: usize, utf16_idx: &mut usize) -> u32
+pub extern "C" fn ropey_text_char_to_utf16(
+    text: &[u8],
+    char_idx: usize,
+    utf16_idx: &mut usize,
+) -> u32
     ensures { AnswersText text.now (λ t. char_to_utf16 t char_idx) result utf16_idx.old utf16_idx.new }
 {
     let Some(text) = utf8::text_of(text) else {
@@ -152,7 +156,11 @@ pub extern "C" fn ropey_text_char_to_utf16(text: &[u8], char_idx: usize, utf16_i
 ///
 /// `INVALID_UTF8`.
 #[unsafe(no_mangle)]
-pub extern "C" fn ropey_text_utf16_to_char(text: &[u8], utf16_idx: usize, char_idx: &mut usize) -> u32
+pub extern "C" fn ropey_text_utf16_to_char(
+    text: &[u8],
+    utf16_idx: usize,
+    char_idx: &mut usize,
+) -> u32
     ensures { AnswersText text.now (λ t. utf16_to_char t utf16_idx) result char_idx.old char_idx.new }
 {
     let Some(text) = utf8::text_of(text) else {

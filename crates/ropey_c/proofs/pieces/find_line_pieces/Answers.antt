@@ -7,14 +7,13 @@ use Rattle.ropey_c.proofs.pieces.find_line_pieces.Goals as goal
 
 pub returns : goal.returns
 returns c =
-    let within = c.if-line_idx-len_lines.false in
-    (
+    let within = c.if-line_idx-len_lines.false in (
       λ past. absurd (omega (arith, past, within, c.len_lines.ensures)),
       λ _. (
         refl,
         c.line_to_byte.ensures,
         c.line_to_byte-2.ensures,
         subst (λ chunks. Fills chunks c.args.pieces.now c.fill.new.pieces c.fill.result)
-        (ap ahead c.chunks.ensures ∙ ap (λ (s : Content). s.chunks) c.line.ensures) (chunks_filled _ _ _ _ c.fill.ensures),
+            (ap ahead c.chunks.ensures ∙ ap (λ (s : Content). s.chunks) c.line.ensures) (chunks_filled _ _ _ _ c.fill.ensures),
       ),
     )

@@ -28,8 +28,8 @@ use Rattle.ropey_c.proofs.builder_handle.BuilderHandle.none.Code as code
 abbrev stayed : Stays ended.signature.params ended.kept
 stayed = (stay_dropped (plain (λ _. Z)) yes, tt)
 
-abbrev no_rope : Option R.Denot
-no_held = None
+abbrev no_builder : Option R.Denot
+no_builder = None
 
 pub none_spec : {M : Type 1} → statement M
 none_spec 𝓤 𝓛 𝓜 𝓡 wired =
@@ -41,7 +41,7 @@ none_spec 𝓤 𝓛 𝓜 𝓡 wired =
     suffices ! (Run (h ∷ [])) (subst (λ (us : List Val). ent 𝓤 (Run (h ∷ [])) (Run us)) (sym (λ i. ea i ++ [])) (id⊢ 𝓤 (Run (h ∷ [])))) $
     enter ! 𝓣.C 𝓣.Λ code.function (h ∷ []) Post $ alloc_all ! (λ l. pass_all ! refl (fits, tt) $
     sets ! (agg ! (and_then ! (lit ! tt) (and_then ! (get ! refl) (no_more !)))) refl (handle_good null_ptr h fits) $
-    feq_i ! Ptr null_ptr null_ptr refl $ handle_in ! null_ptr h a no_rope $
-    use0 𝓛 (raw (fact 𝓤 (no_rope ≡ no_rope))) (fact_i 𝓤 (no_rope ≡ no_rope) (emp 𝓤) refl) $ nothing ! $ nothing ! $ fjoin ! $ nothing ! $
+    feq_i ! Ptr null_ptr null_ptr refl $ handle_in ! null_ptr h a no_builder $
+    use0 𝓛 (raw (fact 𝓤 (no_builder ≡ no_builder))) (fact_i 𝓤 (no_builder ≡ no_builder) (emp 𝓤) refl) $ nothing ! $ nothing ! $ fjoin ! $ nothing ! $
     returns ! (look_at ! 0 refl) $ free_all ! refl $ keep ! (0 ∷ 1 ∷ 3 ∷ 2 ∷ []) $
-    by ! (leaves 𝓛 ended stayed c z (pair (ptr_val null_ptr) h) (record { ptr = null_ptr; alloc = a; rope = no_rope }) (tt, tt) (tt, tt)))))
+    by ! (leaves 𝓛 ended stayed c z (pair (ptr_val null_ptr) h) (record { ptr = null_ptr; alloc = a; held = no_builder }) (tt, tt) (tt, tt)))))
