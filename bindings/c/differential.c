@@ -592,7 +592,7 @@ static void build(pair *p) {
     }
     if (builder.ptr != NULL) {
         ropey_status said = status;
-        status = CALL(ropey_builder_finish(&builder, &p->rope, &valid));
+        status = said == ROPEY_OK ? CALL(ropey_builder_finish(&builder, &p->rope, &valid)) : ropey_builder_finish(&builder, &p->rope, &valid);
         CHECK(said == ROPEY_OK || status == said);
         CHECK(status == ROPEY_OUT_OF_MEMORY || status == (whole < len ? ROPEY_INVALID_UTF8 : ROPEY_OK));
     }
