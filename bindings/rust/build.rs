@@ -10,10 +10,7 @@ const ADVICE: &str = "It is made by scripts/build_c_library.sh of this repositor
 
 /// The folder that `pkg-config` names, where the library is installed.
 fn installed() -> Option<PathBuf> {
-    let output = Command::new("pkg-config")
-        .args(["--variable=libdir", "ropey"])
-        .output()
-        .ok()?;
+    let output = Command::new("pkg-config").args(["--variable=libdir", "ropey"]).output().ok()?;
     let folder = String::from_utf8(output.stdout).ok()?;
     let folder = Path::new(folder.trim());
     (output.status.success() && folder.join(ARCHIVE).is_file()).then(|| folder.to_path_buf())
@@ -27,11 +24,7 @@ fn built() -> Option<PathBuf> {
 
 fn named() -> Option<PathBuf> {
     let folder = PathBuf::from(std::env::var_os("ROPEY_LIB_DIR")?);
-    assert!(
-        folder.join(ARCHIVE).is_file(),
-        "ROPEY_LIB_DIR is {}, which has no {ARCHIVE}. {ADVICE}",
-        folder.display()
-    );
+    assert!(folder.join(ARCHIVE).is_file(), "ROPEY_LIB_DIR is {}, which has no {ARCHIVE}. {ADVICE}", folder.display());
     Some(folder)
 }
 
@@ -41,7 +34,8 @@ fn main() {
     if std::env::var_os("DOCS_RS").is_some() {
         return;
     }
-    let folder = named().or_else(installed).or_else(built).unwrap_or_else(|| panic!("{ARCHIVE} is not found. {ADVICE}"));
+    let folder =
+        named().or_else(installed).or_else(built).unwrap_or_else(|| panic!("{ARCHIVE} is not found. {ADVICE}"));
     println!("cargo:rerun-if-changed={}", folder.join(ARCHIVE).display());
     println!("cargo:rustc-link-search=native={}", folder.display());
     println!("cargo:rustc-link-lib=static=ropey");

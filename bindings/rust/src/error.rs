@@ -61,31 +61,20 @@ impl fmt::Display for Bounds {
 impl fmt::Display for Error {
     fn fmt(&self, f: &mut fmt::Formatter<'_>) -> fmt::Result {
         const OF: &str = "Rope/RopeSlice";
+        let mut index = |what, unit, measure, index, len| {
+            write!(f, "{what} index out of bounds: {unit} index {index}, {OF} {measure} {len}")
+        };
         match *self {
-            Error::ByteIndexOutOfBounds(i, len) => {
-                write!(f, "Byte index out of bounds: byte index {i}, {OF} byte length {len}")
-            }
-            Error::CharIndexOutOfBounds(i, len) => {
-                write!(f, "Char index out of bounds: char index {i}, {OF} char length {len}")
-            }
-            Error::LineIndexOutOfBounds(i, len) => {
-                write!(f, "Line index out of bounds: line index {i}, {OF} line count {len}")
-            }
-            Error::Utf16IndexOutOfBounds(i, len) => {
-                write!(f, "Utf16 code-unit index out of bounds: utf16 index {i}, {OF} utf16 length {len}")
-            }
-            Error::ByteIndexNotCharBoundary(i) => {
-                write!(f, "Byte index is not a valid char boundary: byte index {i}")
-            }
+            Error::ByteIndexOutOfBounds(i, len) => index("Byte", "byte", "byte length", i, len),
+            Error::CharIndexOutOfBounds(i, len) => index("Char", "char", "char length", i, len),
+            Error::LineIndexOutOfBounds(i, len) => index("Line", "line", "line count", i, len),
+            Error::Utf16IndexOutOfBounds(i, len) => index("Utf16 code-unit", "utf16", "utf16 length", i, len),
+            Error::ByteIndexNotCharBoundary(i) => write!(f, "Byte index is not a valid char boundary: byte index {i}"),
             Error::ByteRangeNotCharBoundary(start, end) => {
                 write!(f, "Byte range does not align with char boundaries: range {}", Bounds(start, end))
             }
-            Error::ByteRangeInvalid(start, end) => {
-                write!(f, "Invalid byte range {start}..{end}: start must be <= end")
-            }
-            Error::CharRangeInvalid(start, end) => {
-                write!(f, "Invalid char range {start}..{end}: start must be <= end")
-            }
+            Error::ByteRangeInvalid(start, end) => write!(f, "Invalid byte range {start}..{end}: start must be <= end"),
+            Error::CharRangeInvalid(start, end) => write!(f, "Invalid char range {start}..{end}: start must be <= end"),
             Error::ByteRangeOutOfBounds(start, end, len) => {
                 write!(f, "Byte range out of bounds: byte range {}, {OF} byte length {len}", Bounds(start, end))
             }

@@ -3,7 +3,7 @@
 //! What is relied on, and by what it holds:
 //!
 //! - A `Root` alone holds its handle, which the library alone writes. It is neither copied nor written here.
-//! - What a look-up lends of a rope's bytes stays where it is until the rope is changed or freed. The answers borrow the
+//! - What a look-up lends of a rope's bytes stays where it is until the rope is edited or freed. The answers borrow the
 //!   `Root`, and edits borrow it mutably, so that none of them outlives an edit.
 //! - The bytes of a chunk, and of a piece, are UTF-8, and a character that is answered is a Unicode scalar value.
 //! - A `&str` is UTF-8, and its length is at most `isize::MAX`.
@@ -17,19 +17,13 @@ use std::marker::PhantomData;
 use std::mem::MaybeUninit;
 use std::ptr;
 
-/// `ropey_rope`.
+/// `ropey_rope` and `ropey_builder`.
 #[repr(C)]
 struct Handle {
     ptr: *mut c_void,
 }
 
-const NO_ROPE: Handle = Handle { ptr: ptr::null_mut() };
-
-/// `ropey_builder`.
-#[repr(C)]
-struct RawBuilder {
-    ptr: *mut c_void,
-}
+const NONE: Handle = Handle { ptr: ptr::null_mut() };
 
 /// `ropey_chunk`.
 #[repr(C)]
@@ -41,6 +35,9 @@ struct RawChunk {
     line_breaks_before: usize,
 }
 
+const NO_CHUNK: RawChunk =
+    RawChunk { text: NO_PIECE.text, len: 0, bytes_before: 0, chars_before: 0, line_breaks_before: 0 };
+
 /// `ropey_piece`.
 #[repr(C)]
 #[derive(Clone, Copy)]
@@ -51,9 +48,16 @@ struct Piece {
 
 const NO_PIECE: Piece = Piece { text: "".as_ptr(), len: 0 };
 
+/// `ropey_range`.
+#[repr(C)]
+struct Range {
+    start: usize,
+    end: usize,
+}
+
 /// `ropey_counts`: how much a text holds.
 #[repr(C)]
-#[derive(Clone, Copy, Debug, Default, PartialEq, Eq)]
+#[derive(Clone, Copy, Debug)]
 pub(crate) struct Counts {
     pub bytes: usize,
     pub chars: usize,
@@ -66,17 +70,15 @@ const OUT_OF_MEMORY: u32 = 1;
 const TOO_LONG: u32 = 15;
 
 /// The set of line breaks that the crate was built with: LF; LF, CR and CR LF; or all of Unicode's.
-const BREAK_SET: u32 = if cfg!(feature = "unicode_lines") {
-    2
-} else if cfg!(feature = "cr_lines") {
-    1
-} else {
-    0
+const BREAK_SET: u32 = match (cfg!(feature = "cr_lines"), cfg!(feature = "unicode_lines")) {
+    (false, false) => 0,
+    (true, false) => 1,
+    (_, true) => 2,
 };
 
-type Look = unsafe extern "C" fn(*const Handle, usize, *mut usize) -> u32;
 type Fetch = unsafe extern "C" fn(*const Handle, usize, *mut Piece, usize, *mut usize, *mut usize) -> u32;
 
+// Those that are alike are declared where they are called.
 extern "C" {
     fn ropey_from_text(text: *const u8, len: usize, break_set: u32, rope: *mut Handle) -> u32;
     fn ropey_free(rope: *mut Handle);
@@ -87,23 +89,6 @@ extern "C" {
     fn ropey_remove(rope: *mut Handle, start: usize, end: usize) -> u32;
     fn ropey_split_off(rope: *mut Handle, char_idx: usize, tail: *mut Handle) -> u32;
     fn ropey_append(rope: *mut Handle, other: *mut Handle) -> u32;
-    fn ropey_len_bytes(rope: *const Handle) -> usize;
-    fn ropey_len_chars(rope: *const Handle) -> usize;
-    fn ropey_len_lines(rope: *const Handle) -> usize;
-    fn ropey_len_utf16(rope: *const Handle) -> usize;
-    fn ropey_byte_to_char(rope: *const Handle, byte_idx: usize, char_idx: *mut usize) -> u32;
-    fn ropey_byte_to_line(rope: *const Handle, byte_idx: usize, line_idx: *mut usize) -> u32;
-    fn ropey_char_to_byte(rope: *const Handle, char_idx: usize, byte_idx: *mut usize) -> u32;
-    fn ropey_char_to_line(rope: *const Handle, char_idx: usize, line_idx: *mut usize) -> u32;
-    fn ropey_char_to_utf16(rope: *const Handle, char_idx: usize, utf16_idx: *mut usize) -> u32;
-    fn ropey_utf16_to_char(rope: *const Handle, utf16_idx: usize, char_idx: *mut usize) -> u32;
-    fn ropey_line_to_byte(rope: *const Handle, line_idx: usize, byte_idx: *mut usize) -> u32;
-    fn ropey_line_to_char(rope: *const Handle, line_idx: usize, char_idx: *mut usize) -> u32;
-    fn ropey_byte(rope: *const Handle, byte_idx: usize, byte: *mut u8) -> u32;
-    fn ropey_char(rope: *const Handle, char_idx: usize, c: *mut u32) -> u32;
-    fn ropey_chunk_at_byte(rope: *const Handle, byte_idx: usize, chunk: *mut RawChunk) -> u32;
-    fn ropey_chunk_at_char(rope: *const Handle, char_idx: usize, chunk: *mut RawChunk) -> u32;
-    fn ropey_chunk_at_line_break(rope: *const Handle, line_break_idx: usize, chunk: *mut RawChunk) -> u32;
     fn ropey_chunks_from_byte(
         rope: *const Handle,
         byte_idx: usize,
@@ -120,46 +105,23 @@ extern "C" {
         count: *mut usize,
         bytes_before: *mut usize,
     ) -> u32;
+    fn ropey_counts_in_chars(rope: *const Handle, start: usize, end: usize, counts: *mut Counts) -> u32;
+    fn ropey_counts_in_bytes(rope: *const Handle, start: usize, end: usize, counts: *mut Counts) -> u32;
+    fn ropey_line_pieces(
+        rope: *const Handle,
+        line_idx: usize,
+        bytes: *mut Range,
+        pieces: *mut Piece,
+        room: usize,
+        count: *mut usize,
+    ) -> u32;
     fn ropey_compare(rope: *const Handle, other: *const Handle, order: *mut i32) -> u32;
     fn ropey_equals_text(rope: *const Handle, text: *const u8, len: usize, equal: *mut bool) -> u32;
-
-    fn ropey_builder_new(break_set: u32, builder: *mut RawBuilder) -> u32;
-    fn ropey_builder_append(builder: *mut RawBuilder, bytes: *const u8, len: usize, valid: *mut usize) -> u32;
-    fn ropey_builder_finish(builder: *mut RawBuilder, rope: *mut Handle, valid: *mut usize) -> u32;
-    fn ropey_builder_free(builder: *mut RawBuilder);
+    fn ropey_builder_new(break_set: u32, builder: *mut Handle) -> u32;
+    fn ropey_builder_append(builder: *mut Handle, bytes: *const u8, len: usize, valid: *mut usize) -> u32;
+    fn ropey_builder_finish(builder: *mut Handle, rope: *mut Handle, valid: *mut usize) -> u32;
+    fn ropey_builder_free(builder: *mut Handle);
     fn ropey_text_counts(text: *const u8, len: usize, break_set: u32, counts: *mut Counts) -> u32;
-    fn ropey_text_byte_to_char(text: *const u8, len: usize, byte_idx: usize, char_idx: *mut usize) -> u32;
-    fn ropey_text_char_to_byte(text: *const u8, len: usize, char_idx: usize, byte_idx: *mut usize) -> u32;
-    fn ropey_text_char_to_utf16(text: *const u8, len: usize, char_idx: usize, utf16_idx: *mut usize) -> u32;
-    fn ropey_text_utf16_to_char(text: *const u8, len: usize, utf16_idx: usize, char_idx: *mut usize) -> u32;
-    fn ropey_text_byte_to_line(
-        text: *const u8,
-        len: usize,
-        break_set: u32,
-        byte_idx: usize,
-        line_idx: *mut usize,
-    ) -> u32;
-    fn ropey_text_char_to_line(
-        text: *const u8,
-        len: usize,
-        break_set: u32,
-        char_idx: usize,
-        line_idx: *mut usize,
-    ) -> u32;
-    fn ropey_text_line_to_byte(
-        text: *const u8,
-        len: usize,
-        break_set: u32,
-        line_idx: usize,
-        byte_idx: *mut usize,
-    ) -> u32;
-    fn ropey_text_line_to_char(
-        text: *const u8,
-        len: usize,
-        break_set: u32,
-        line_idx: usize,
-        char_idx: *mut usize,
-    ) -> u32;
 }
 
 /// One lock for all ropes, around every call that may touch a count of owners: clones, edits, frees.
@@ -174,8 +136,9 @@ mod owners {
         OWNERS.lock().unwrap_or_else(PoisonError::into_inner)
     }
 
-    // Safety: whoever changes a count of owners holds the lock. Look-ups touch no count, and what they read is written only
-    // by an edit that has found itself its one owner; whoever let go of it before did so under the lock, after its last look-up.
+    // Safety: whoever changes a count of owners holds the lock. Look-ups touch no count, and what they read is written
+    // only by an edit that has found itself its one owner. Whoever let go of it before did so under the lock, after its
+    // last look-up.
     unsafe impl Send for super::Root {}
     unsafe impl Sync for super::Root {}
 
@@ -201,6 +164,12 @@ fn done(status: u32) -> bool {
     status == OK
 }
 
+/// For calls that are given nothing to refuse.
+#[inline(always)]
+fn must(status: u32) {
+    assert!(done(status), "the library refused good arguments: status {status}");
+}
+
 #[cold]
 #[inline(never)]
 fn cannot_grow(status: u32) -> ! {
@@ -214,15 +183,6 @@ fn cannot_grow(status: u32) -> ! {
 #[inline(always)]
 unsafe fn text_at<'a>(text: *const u8, len: usize) -> &'a str {
     std::str::from_utf8_unchecked(std::slice::from_raw_parts(text, len))
-}
-
-/// A chunk of a rope, and how much of the text lies before it.
-#[derive(Clone, Copy)]
-pub(crate) struct Chunk<'a> {
-    pub text: &'a str,
-    pub bytes: usize,
-    pub chars: usize,
-    pub line_breaks: usize,
 }
 
 /// A rope of the library.
@@ -239,26 +199,24 @@ impl Drop for Root {
 impl Clone for Root {
     #[inline]
     fn clone(&self) -> Root {
-        let mut copy = Root(NO_ROPE);
+        let mut copy = Root(NONE);
         let _lock = lock();
-        let is_done = done(unsafe { ropey_clone(&self.0, &mut copy.0) });
-        assert!(is_done, "a rope is cloned");
+        must(unsafe { ropey_clone(&self.0, &mut copy.0) });
         copy
     }
 }
 
-/// Edits answer whether the index or range was in range. Out of memory, they end as `Vec` does.
+/// Edits answer whether the index or range was in range. Out of memory, they end as those of a `Vec` do.
 impl Root {
     pub(crate) fn of_text(text: &str) -> Root {
-        let mut root = Root(NO_ROPE);
-        let is_done = done(unsafe { ropey_from_text(text.as_ptr(), text.len(), BREAK_SET, &mut root.0) });
-        assert!(is_done, "a text is taken");
+        let mut root = Root(NONE);
+        must(unsafe { ropey_from_text(text.as_ptr(), text.len(), BREAK_SET, &mut root.0) });
         root
     }
 
     pub(crate) fn shrink_to_fit(&mut self) {
         let _lock = lock();
-        done(unsafe { ropey_shrink_to_fit(&mut self.0) });
+        must(unsafe { ropey_shrink_to_fit(&mut self.0) });
     }
 
     #[inline]
@@ -280,7 +238,7 @@ impl Root {
     }
 
     pub(crate) fn split_off(&mut self, char_idx: usize) -> Option<Root> {
-        let mut tail = Root(NO_ROPE);
+        let mut tail = Root(NONE);
         let is_done = {
             let _lock = lock();
             done(unsafe { ropey_split_off(&mut self.0, char_idx, &mut tail.0) })
@@ -290,113 +248,136 @@ impl Root {
 
     pub(crate) fn append(&mut self, mut other: Root) {
         let _lock = lock();
-        let is_done = done(unsafe { ropey_append(&mut self.0, &mut other.0) });
-        assert!(is_done, "a rope is appended");
+        must(unsafe { ropey_append(&mut self.0, &mut other.0) });
+        // It holds no rope now, and its drop would wait for the lock.
+        std::mem::forget(other);
     }
 }
 
 macro_rules! lengths {
     ($($name:ident: $call:ident;)*) => {
-        $(
-            #[inline]
-            pub(crate) fn $name(&self) -> usize {
-                unsafe { $call(&self.0) }
-            }
-        )*
-    };
-}
+        extern "C" {
+            $(fn $call(rope: *const Handle) -> usize;)*
+        }
 
-macro_rules! conversions {
-    ($($name:ident: $call:ident;)*) => {
-        $(
-            #[inline]
-            pub(crate) fn $name(&self, index: usize) -> Option<usize> {
-                self.number($call, index)
-            }
-        )*
-    };
-}
-
-macro_rules! chunks {
-    ($($name:ident: $call:ident;)*) => {
-        $(
-            #[inline]
-            pub(crate) fn $name(&self, index: usize) -> Option<Chunk<'_>> {
-                let mut chunk = RawChunk {
-                    text: NO_PIECE.text,
-                    len: 0,
-                    bytes_before: 0,
-                    chars_before: 0,
-                    line_breaks_before: 0,
-                };
-                if !done(unsafe { $call(&self.0, index, &mut chunk) }) {
-                    return None;
+        impl Root {
+            $(
+                #[inline]
+                pub(crate) fn $name(&self) -> usize {
+                    unsafe { $call(&self.0) }
                 }
-                Some(Chunk {
-                    text: unsafe { text_at(chunk.text, chunk.len) },
-                    bytes: chunk.bytes_before,
-                    chars: chunk.chars_before,
-                    line_breaks: chunk.line_breaks_before,
-                })
-            }
-        )*
+            )*
+        }
     };
 }
 
-/// Look-ups. They answer none where the index is out of bounds.
-impl Root {
-    lengths! {
-        len_bytes: ropey_len_bytes;
-        len_chars: ropey_len_chars;
-        len_lines: ropey_len_lines;
-        len_utf16: ropey_len_utf16;
-    }
+lengths! {
+    len_bytes: ropey_len_bytes;
+    len_chars: ropey_len_chars;
+    len_lines: ropey_len_lines;
+    len_utf16: ropey_len_utf16;
+}
 
-    conversions! {
-        byte_to_char: ropey_byte_to_char;
-        byte_to_line: ropey_byte_to_line;
-        char_to_byte: ropey_char_to_byte;
-        char_to_line: ropey_char_to_line;
-        char_to_utf16: ropey_char_to_utf16;
-        utf16_to_char: ropey_utf16_to_char;
-        line_to_byte: ropey_line_to_byte;
-        line_to_char: ropey_line_to_char;
-    }
+/// Look-ups of one kind: what is written, what it begins as, and what is made of it. They answer none where the index is out
+/// of bounds.
+macro_rules! look_ups {
+    (($raw:ty = $none:expr) -> $answer:ty, $answered:expr; $($name:ident: $call:ident;)*) => {
+        extern "C" {
+            $(fn $call(rope: *const Handle, index: usize, answer: *mut $raw) -> u32;)*
+        }
 
-    chunks! {
-        chunk_at_byte: ropey_chunk_at_byte;
-        chunk_at_char: ropey_chunk_at_char;
-        chunk_at_line_break: ropey_chunk_at_line_break;
-    }
+        impl Root {
+            $(
+                #[inline]
+                pub(crate) fn $name(&self, index: usize) -> Option<$answer> {
+                    let mut answer: $raw = $none;
+                    done(unsafe { $call(&self.0, index, &mut answer) }).then(|| $answered(answer))
+                }
+            )*
+        }
+    };
+}
 
+look_ups! {
+    (usize = 0) -> usize, |number| number;
+    byte_to_char: ropey_byte_to_char;
+    byte_to_line: ropey_byte_to_line;
+    char_to_byte: ropey_char_to_byte;
+    char_to_line: ropey_char_to_line;
+    char_to_utf16: ropey_char_to_utf16;
+    utf16_to_char: ropey_utf16_to_char;
+    line_to_byte: ropey_line_to_byte;
+    line_to_char: ropey_line_to_char;
+}
+
+look_ups! {
+    (u8 = 0) -> u8, |byte| byte;
+    byte: ropey_byte;
+}
+
+look_ups! {
+    (u32 = 0) -> char, |c| unsafe { char::from_u32_unchecked(c) };
+    char: ropey_char;
+}
+
+look_ups! {
+    (RawChunk = NO_CHUNK) -> Chunk<'_>, |chunk: RawChunk| unsafe { chunk.lent() };
+    chunk_at_byte: ropey_chunk_at_byte;
+    chunk_at_char: ropey_chunk_at_char;
+    chunk_at_line_break: ropey_chunk_at_line_break;
+}
+
+/// A chunk of a rope, and how much of the text lies before it.
+#[derive(Clone, Copy)]
+pub(crate) struct Chunk<'a> {
+    pub text: &'a str,
+    pub bytes: usize,
+    pub chars: usize,
+    pub line_breaks: usize,
+}
+
+impl RawChunk {
+    /// Safety: the rope is neither edited nor freed for `'a`.
     #[inline(always)]
-    fn number(&self, call: Look, index: usize) -> Option<usize> {
-        let mut answer = 0;
-        done(unsafe { call(&self.0, index, &mut answer) }).then_some(answer)
+    unsafe fn lent<'a>(self) -> Chunk<'a> {
+        Chunk {
+            text: text_at(self.text, self.len),
+            bytes: self.bytes_before,
+            chars: self.chars_before,
+            line_breaks: self.line_breaks_before,
+        }
+    }
+}
+
+impl Root {
+    /// How much the characters from `start` up to `end` hold, as a text of its own.
+    pub(crate) fn counts_in_chars(&self, start: usize, end: usize) -> Option<Counts> {
+        let mut counts = Counts::NONE;
+        done(unsafe { ropey_counts_in_chars(&self.0, start, end, &mut counts) }).then_some(counts)
     }
 
-    #[inline]
-    pub(crate) fn byte(&self, byte_idx: usize) -> Option<u8> {
-        let mut byte = 0;
-        done(unsafe { ropey_byte(&self.0, byte_idx, &mut byte) }).then_some(byte)
+    /// How much the bytes from `start` up to `end` hold; none also where one of them lies inside a character.
+    pub(crate) fn counts_in_bytes(&self, start: usize, end: usize) -> Option<Counts> {
+        let mut counts = Counts::NONE;
+        done(unsafe { ropey_counts_in_bytes(&self.0, start, end, &mut counts) }).then_some(counts)
     }
 
-    #[inline]
-    pub(crate) fn char(&self, char_idx: usize) -> Option<char> {
-        let mut c = 0;
-        let is_done = done(unsafe { ropey_char(&self.0, char_idx, &mut c) });
-        is_done.then(|| unsafe { char::from_u32_unchecked(c) })
+    /// The bytes of a line, from start to end, and as much of its text as lies in the chunk in which it starts.
+    pub(crate) fn line(&self, line_idx: usize) -> Option<(usize, usize, &str)> {
+        let (mut bytes, mut piece, mut count) = (Range { start: 0, end: 0 }, NO_PIECE, 0);
+        let status = unsafe { ropey_line_pieces(&self.0, line_idx, &mut bytes, &mut piece, 1, &mut count) };
+        done(status).then(|| (bytes.start, bytes.end, unsafe { text_at(piece.text, piece.len) }))
     }
 
     pub(crate) fn order(&self, other: &Root) -> Ordering {
         let mut order = 0;
-        done(unsafe { ropey_compare(&self.0, &other.0, &mut order) });
+        must(unsafe { ropey_compare(&self.0, &other.0, &mut order) });
         order.cmp(&0)
     }
 
     pub(crate) fn is_text(&self, text: &str) -> bool {
         let mut equal = false;
-        done(unsafe { ropey_equals_text(&self.0, text.as_ptr(), text.len(), &mut equal) });
+        must(unsafe { ropey_equals_text(&self.0, text.as_ptr(), text.len(), &mut equal) });
         equal
     }
 }
@@ -430,36 +411,28 @@ impl<'a> Pieces<'a> {
         if i >= self.count {
             return None;
         }
-        // Safety: the piece was written, by `set` or by the library, which lends the text of a `Root` that is borrowed for `'a`.
+        // Safety: the piece was written, by `set`, or by the library as a part of a rope that is borrowed for `'a`.
         unsafe {
             let piece = self.array[i].assume_init();
             Some(text_at(piece.text, piece.len))
         }
     }
 
-    /// Puts a text in the place of the piece `i`, or behind the last one.
+    /// The text alone.
+    #[inline]
+    pub(crate) fn hold(&mut self, text: &'a str) {
+        (self.begun, self.count) = (self.begun.max(1), 1);
+        self.set(0, text);
+    }
+
+    /// Puts a text in the place of the piece `i`.
     #[inline]
     pub(crate) fn set(&mut self, i: usize, text: &'a str) {
-        assert!(i <= self.count);
-        self.array[i].write(Piece { text: text.as_ptr(), len: text.len() });
-        self.count = self.count.max(i + 1);
-        self.begun = self.begun.max(self.count);
+        self.array[..self.count][i].write(Piece { text: text.as_ptr(), len: text.len() });
     }
 
-    /// Keeps the first pieces.
-    #[inline]
-    pub(crate) fn truncate(&mut self, count: usize) {
-        self.count = self.count.min(count);
-    }
-
-    /// Drops the first pieces.
-    pub(crate) fn skip(&mut self, count: usize) {
-        self.array[..self.count].rotate_left(count);
-        self.count -= count;
-    }
-
-    /// The chunks from the one that holds a byte on, at most `room` of them, and where the first of them begins. The
-    /// index is at most the length.
+    /// The chunks from the one that holds a byte on, at most `room` of them, and where the first of them begins. The index
+    /// is at most the length.
     pub(crate) fn fetch(&mut self, root: &'a Root, byte_idx: usize, room: usize) -> usize {
         self.fetch_by(ropey_chunks_from_byte, root, byte_idx, room)
     }
@@ -481,18 +454,17 @@ impl<'a> Pieces<'a> {
         }
         let (mut count, mut bytes_before) = (0, 0);
         let pieces = self.array.as_mut_ptr().cast::<Piece>();
-        done(unsafe { call(&root.0, byte_idx, pieces, room, &mut count, &mut bytes_before) });
+        must(unsafe { call(&root.0, byte_idx, pieces, room, &mut count, &mut bytes_before) });
         self.count = count;
         bytes_before
     }
 }
 
 /// A rope in the making, of bytes that come in parts.
-pub(crate) struct Builder(RawBuilder);
+pub(crate) struct Builder(Handle);
 
 impl Drop for Builder {
     fn drop(&mut self) {
-        let _lock = lock();
         unsafe { ropey_builder_free(&mut self.0) }
     }
 }
@@ -500,8 +472,8 @@ impl Drop for Builder {
 /// Both answer none where the bytes are not UTF-8.
 impl Builder {
     pub(crate) fn new() -> Builder {
-        let mut builder = Builder(RawBuilder { ptr: ptr::null_mut() });
-        done(unsafe { ropey_builder_new(BREAK_SET, &mut builder.0) });
+        let mut builder = Builder(NONE);
+        must(unsafe { ropey_builder_new(BREAK_SET, &mut builder.0) });
         builder
     }
 
@@ -512,42 +484,70 @@ impl Builder {
     }
 
     pub(crate) fn finish(mut self) -> Option<Root> {
-        let (mut root, mut valid) = (Root(NO_ROPE), 0);
+        let (mut root, mut valid) = (Root(NONE), 0);
         done(unsafe { ropey_builder_finish(&mut self.0, &mut root.0, &mut valid) }).then_some(root)
     }
 }
 
-macro_rules! of_text {
-    ($($name:ident: $call:ident($($break_set:ident)?);)*) => {
+/// Conversions in a text, by the set of line breaks where it is given. An index past the end stands for the end.
+macro_rules! text_conversions {
+    ($($name:ident: $call:ident($($break_set:ident: $set:ty)?);)*) => {
+        extern "C" {
+            $(fn $call(text: *const u8, len: usize, $(break_set: $set,)? index: usize, answer: *mut usize) -> u32;)*
+        }
+
         $(
             #[inline]
             pub(crate) fn $name(text: &str, index: usize) -> usize {
                 let mut answer = 0;
-                done(unsafe { $call(text.as_ptr(), text.len(), $($break_set,)? index, &mut answer) });
+                must(unsafe { $call(text.as_ptr(), text.len(), $($break_set,)? index, &mut answer) });
                 answer
             }
         )*
     };
 }
 
-// Conversions in a text. An index past the end stands for the end.
-of_text! {
+text_conversions! {
     byte_to_char: ropey_text_byte_to_char();
     char_to_byte: ropey_text_char_to_byte();
     char_to_utf16: ropey_text_char_to_utf16();
     utf16_to_char: ropey_text_utf16_to_char();
-    byte_to_line: ropey_text_byte_to_line(BREAK_SET);
-    char_to_line: ropey_text_char_to_line(BREAK_SET);
-    line_to_byte: ropey_text_line_to_byte(BREAK_SET);
-    line_to_char: ropey_text_line_to_char(BREAK_SET);
+    byte_to_line: ropey_text_byte_to_line(BREAK_SET: u32);
+    char_to_line: ropey_text_char_to_line(BREAK_SET: u32);
+    line_to_byte: ropey_text_line_to_byte(BREAK_SET: u32);
+    line_to_char: ropey_text_line_to_char(BREAK_SET: u32);
 }
 
 impl Counts {
+    pub(crate) const NONE: Counts = Counts { bytes: 0, chars: 0, utf16: 0, line_breaks: 0 };
+
     /// How much a text holds.
     #[inline]
     pub(crate) fn of(text: &str) -> Counts {
-        let mut counts = Counts::default();
-        done(unsafe { ropey_text_counts(text.as_ptr(), text.len(), BREAK_SET, &mut counts) });
+        let mut counts = Counts::NONE;
+        must(unsafe { ropey_text_counts(text.as_ptr(), text.len(), BREAK_SET, &mut counts) });
         counts
+    }
+
+    /// Both together. A cursor over a plain text counts from where it began, so that it may go below 0.
+    #[inline]
+    pub(crate) fn plus(self, other: Counts) -> Counts {
+        Counts {
+            bytes: self.bytes.wrapping_add(other.bytes),
+            chars: self.chars.wrapping_add(other.chars),
+            utf16: self.utf16.wrapping_add(other.utf16),
+            line_breaks: self.line_breaks.wrapping_add(other.line_breaks),
+        }
+    }
+
+    /// This without the other.
+    #[inline]
+    pub(crate) fn minus(self, other: Counts) -> Counts {
+        Counts {
+            bytes: self.bytes.wrapping_sub(other.bytes),
+            chars: self.chars.wrapping_sub(other.chars),
+            utf16: self.utf16.wrapping_sub(other.utf16),
+            line_breaks: self.line_breaks.wrapping_sub(other.line_breaks),
+        }
     }
 }

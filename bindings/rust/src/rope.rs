@@ -3,11 +3,11 @@ use std::io;
 use std::ops::RangeBounds;
 
 use crate::calls::{panicking_calls, refuse};
-use crate::ffi::{Builder, Root};
+use crate::ffi::{Builder, Counts, Root};
 use crate::instance::Instance;
 use crate::iter::{Bytes, Chars, Chunks, Lines};
 use crate::range::Bounds;
-use crate::slice::{ChunkAt, ChunksAt, Place, RopeSlice};
+use crate::slice::{ChunkAt, ChunksAt, RopeSlice};
 use crate::{Error, Result, MAX_BYTES};
 
 /// A long text that is edited anywhere.
@@ -314,15 +314,19 @@ impl Rope {
     /// A cursor over the chunks.
     #[inline]
     pub fn chunks(&self) -> Chunks<'_> {
-        Chunks::of_range(&self.root, 0, self.len_bytes(), 0)
+        self.part().chunks()
     }
 
     /// The slice of all of the text, as a range, though it may lie in one chunk.
     #[inline]
     fn part(&self) -> RopeSlice<'_> {
-        let root = &self.root;
-        let end = Place { bytes: root.len_bytes(), chars: root.len_chars(), line_breaks: root.len_lines() - 1 };
-        RopeSlice::of_range(root, Place::default(), end)
+        let counts = Counts {
+            bytes: self.len_bytes(),
+            chars: self.len_chars(),
+            utf16: self.len_utf16_cu(),
+            line_breaks: self.len_lines() - 1,
+        };
+        RopeSlice::of_range(&self.root, Counts::NONE, counts)
     }
 
     #[inline]

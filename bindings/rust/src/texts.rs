@@ -283,28 +283,26 @@ impl Hash for Rope {
 
 // Display.
 
-impl fmt::Display for RopeSlice<'_> {
-    fn fmt(&self, f: &mut fmt::Formatter<'_>) -> fmt::Result {
-        self.chunks().try_for_each(|chunk| f.write_str(chunk))
-    }
+macro_rules! shown {
+    ($($text:ty;)*) => {
+        $(
+            impl fmt::Display for $text {
+                fn fmt(&self, f: &mut fmt::Formatter<'_>) -> fmt::Result {
+                    self.chunks().try_for_each(|chunk| f.write_str(chunk))
+                }
+            }
+
+            impl fmt::Debug for $text {
+                /// The list of the chunks.
+                fn fmt(&self, f: &mut fmt::Formatter<'_>) -> fmt::Result {
+                    f.debug_list().entries(self.chunks()).finish()
+                }
+            }
+        )*
+    };
 }
 
-impl fmt::Debug for RopeSlice<'_> {
-    /// The list of the chunks.
-    fn fmt(&self, f: &mut fmt::Formatter<'_>) -> fmt::Result {
-        f.debug_list().entries(self.chunks()).finish()
-    }
-}
-
-impl fmt::Display for Rope {
-    fn fmt(&self, f: &mut fmt::Formatter<'_>) -> fmt::Result {
-        fmt::Display::fmt(&self.slice(..), f)
-    }
-}
-
-impl fmt::Debug for Rope {
-    /// The list of the chunks.
-    fn fmt(&self, f: &mut fmt::Formatter<'_>) -> fmt::Result {
-        fmt::Debug::fmt(&self.slice(..), f)
-    }
+shown! {
+    Rope;
+    RopeSlice<'_>;
 }

@@ -1,4 +1,5 @@
 //! Ropes and slices as texts: made of others, made into others, compared, hashed, read and written.
+#![allow(clippy::op_ref)]
 mod common;
 
 use std::borrow::Cow;
@@ -38,7 +39,9 @@ fn equal_texts_are_equal_however_they_are_cut() {
         let (rope, other) = (Rope::from_str(&text), cut_otherwise(&text, &mut random));
         let (slice, other_slice) = (rope.slice(..), other.slice(..));
         assert!(rope == other && slice == other_slice && slice == other && rope == other_slice);
-        assert!(hash(&rope) == hash(&other) && hash(&slice) == hash(&rope) && hash(&RopeSlice::from(&*text)) == hash(&rope));
+        assert!(
+            hash(&rope) == hash(&other) && hash(&slice) == hash(&rope) && hash(&RopeSlice::from(&*text)) == hash(&rope)
+        );
         assert!(rope.cmp(&other).is_eq() && slice.cmp(&other_slice).is_eq());
         let (owned, cow) = (text.clone(), Cow::Borrowed(&*text));
         assert!(other == *text && other == &*text && other == owned && other == cow);

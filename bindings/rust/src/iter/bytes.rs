@@ -1,7 +1,6 @@
 //! Bytes, chunk by chunk.
-use crate::ffi::Root;
+use crate::ffi::{Counts, Root};
 use crate::iter::{counted_cursor, Chunks};
-use crate::slice::Place;
 
 /// A cursor over the bytes of a text.
 ///
@@ -30,10 +29,9 @@ counted_cursor!(Bytes, u8);
 impl<'a> Bytes<'a> {
     /// Over a range of a rope, at its byte `at`.
     #[inline]
-    pub(crate) fn of_range(root: &'a Root, start: Place, end: Place, at: usize) -> Bytes<'a> {
-        let (chunks, text, first) = Chunks::behind(root, start, end, start.bytes + at);
-        let idx = start.bytes + at - first;
-        Bytes { chunks, chunk: text.as_bytes(), idx, passed: at, total: end.bytes - start.bytes, is_reversed: false }
+    pub(crate) fn of_range(root: &'a Root, start: Counts, counts: Counts, at: usize) -> Bytes<'a> {
+        let (chunks, text, idx) = Chunks::behind(root, start, counts, at);
+        Bytes { chunks, chunk: text.as_bytes(), idx, passed: at, total: counts.bytes, is_reversed: false }
     }
 
     #[inline]

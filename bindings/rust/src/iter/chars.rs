@@ -1,9 +1,8 @@
 //! Characters, chunk by chunk.
 use std::str;
 
-use crate::ffi::{char_to_byte, Root};
+use crate::ffi::{char_to_byte, Counts, Root};
 use crate::iter::{counted_cursor, Chunks};
-use crate::slice::Place;
 
 /// A cursor over the characters of a text.
 ///
@@ -32,25 +31,21 @@ counted_cursor!(Chars, char);
 impl<'a> Chars<'a> {
     /// Over a range of a rope, at its character `at`.
     #[inline]
-    pub(crate) fn of_range(root: &'a Root, start: Place, end: Place, at: usize) -> Chars<'a> {
-        let total = end.chars - start.chars;
-        let byte_idx = if at == total {
-            end.bytes
-        } else if at == 0 {
-            start.bytes
-        } else {
-            root.char_to_byte(start.chars + at).unwrap_or(end.bytes)
+    pub(crate) fn of_range(root: &'a Root, start: Counts, counts: Counts, at: usize) -> Chars<'a> {
+        let byte_idx = match at {
+            0 => 0,
+            _ if at == counts.chars => counts.bytes,
+            _ => root.char_to_byte(start.chars + at).map_or(counts.bytes, |byte_idx| byte_idx - start.bytes),
         };
-        let (chunks, chunk, first) = Chunks::behind(root, start, end, byte_idx);
-        let ahead = chunk[byte_idx - first..].chars();
-        Chars { chunks, chunk, ahead, passed: at, total, is_reversed: false }
+        let (chunks, chunk, idx) = Chunks::behind(root, start, counts, byte_idx);
+        Chars { chunks, chunk, ahead: chunk[idx..].chars(), passed: at, total: counts.chars, is_reversed: false }
     }
 
-    /// Over a text of `total` characters in one piece.
     #[inline]
-    pub(crate) fn of_text(text: &'a str, total: usize, at: usize) -> Chars<'a> {
+    pub(crate) fn of_text(text: &'a str, counts: Counts, at: usize) -> Chars<'a> {
         let ahead = if at == 0 { text.chars() } else { text[char_to_byte(text, at)..].chars() };
-        Chars { chunks: Chunks::of_text(text, true), chunk: text, ahead, passed: at, total, is_reversed: false }
+        let chunks = Chunks::of_text(text, true);
+        Chars { chunks, chunk: text, ahead, passed: at, total: counts.chars, is_reversed: false }
     }
 
     #[inline(always)]

@@ -1,9 +1,8 @@
 //! Chunks, fetched some at a time.
 use std::fmt;
 
-use crate::ffi::{Pieces, Root, ROOM};
+use crate::ffi::{Counts, Pieces, Root, ROOM};
 use crate::iter::cursor;
-use crate::slice::Place;
 
 /// A cursor over the chunks of a text: pieces of at most 984 bytes, none of them empty, that join to the text.
 ///
@@ -30,7 +29,7 @@ pub struct Chunks<'a> {
     is_reversed: bool,
 }
 
-cursor!(Chunks, &'a str);
+cursor!(Chunks, &'a str, {});
 
 impl fmt::Debug for Chunks<'_> {
     fn fmt(&self, f: &mut fmt::Formatter<'_>) -> fmt::Result {
@@ -43,9 +42,10 @@ impl fmt::Debug for Chunks<'_> {
 }
 
 impl<'a> Chunks<'a> {
-    /// Over a range of a rope, at a byte where a chunk begins or at an end of the range.
+    /// Over a range of a rope, at its byte `at`, where a chunk begins, or at an end of the range.
     #[inline]
-    pub(crate) fn of_range(root: &'a Root, start: usize, end: usize, at: usize) -> Chunks<'a> {
+    pub(crate) fn of_range(root: &'a Root, start: Counts, counts: Counts, at: usize) -> Chunks<'a> {
+        let (start, end, at) = (start.bytes, start.bytes + counts.bytes, start.bytes + at);
         Chunks { pieces: Pieces::new(), passed: 0, root: Some(root), start, end, at, room: 2, is_reversed: false }
     }
 
@@ -53,34 +53,39 @@ impl<'a> Chunks<'a> {
     #[inline]
     pub(crate) fn of_text(text: &'a str, is_behind: bool) -> Chunks<'a> {
         let mut pieces = Pieces::new();
-        if !text.is_empty() {
-            pieces.set(0, text);
-        }
-        let passed = if is_behind { pieces.len() } else { 0 };
-        let at = if is_behind { text.len() } else { 0 };
-        Chunks { pieces, passed, root: None, start: 0, end: text.len(), at, room: 0, is_reversed: false }
+        pieces.hold(text);
+        let passed = usize::from(is_behind);
+        let end = text.len();
+        Chunks { pieces, passed, root: None, start: 0, end, at: passed * end, room: 0, is_reversed: false }
     }
 
-    /// Over a range of a rope, behind the chunk that holds the byte `at`, or the last one; with that chunk, as far as it
-    /// lies in the range, and the byte at which it begins. The range isn't empty.
+    /// Over a range of a rope, behind the chunk that holds its byte `at`, or behind the last one; with that chunk, as far as
+    /// it lies in the range, and how many of its bytes lie before `at`.
     #[inline]
-    pub(crate) fn behind(root: &'a Root, start: Place, end: Place, at: usize) -> (Chunks<'a>, &'a str, usize) {
-        let (text, first) = match root.chunk_at_byte(at.min(end.bytes - 1)) {
-            Some(chunk) => chunk.cut(start, end),
-            None => unreachable!("a byte of the text has a chunk"),
-        };
-        let mut chunks = Chunks::of_range(root, start.bytes, end.bytes, first + text.len());
-        chunks.pieces.set(0, text);
+    pub(crate) fn behind(root: &'a Root, start: Counts, counts: Counts, at: usize) -> (Chunks<'a>, &'a str, usize) {
+        let end = start.plus(counts);
+        let chunk = root.chunk_at_byte((start.bytes + at).min(end.bytes - 1));
+        let (text, first) = chunk.map_or(("", start.bytes), |chunk| chunk.cut(start, end));
+        let mut chunks = Chunks::of_range(root, start, counts, first + text.len() - start.bytes);
+        chunks.pieces.hold(text);
         chunks.passed = 1;
-        (chunks, text, first)
+        (chunks, text, start.bytes + at - first)
     }
 
     #[inline]
     pub(crate) fn forward(&mut self) -> Option<&'a str> {
-        if self.passed == self.pieces.len() {
-            self.fetch_ahead()?;
+        let left = self.end - self.at;
+        if left == 0 {
+            return None;
         }
-        let text = self.pieces.get(self.passed)?;
+        if self.passed == self.pieces.len() {
+            self.fetch_ahead();
+        }
+        let mut text = self.pieces.get(self.passed)?;
+        if text.len() > left {
+            text = &text[..left];
+            self.pieces.set(self.passed, text);
+        }
         self.passed += 1;
         self.at += text.len();
         Some(text)
@@ -88,10 +93,18 @@ impl<'a> Chunks<'a> {
 
     #[inline]
     pub(crate) fn backward(&mut self) -> Option<&'a str> {
-        if self.passed == 0 {
-            self.fetch_behind()?;
+        let left = self.at - self.start;
+        if left == 0 {
+            return None;
         }
-        let text = self.pieces.get(self.passed - 1)?;
+        if self.passed == 0 {
+            self.fetch_behind();
+        }
+        let mut text = self.pieces.get(self.passed.checked_sub(1)?)?;
+        if text.len() > left {
+            text = &text[text.len() - left..];
+            self.pieces.set(self.passed - 1, text);
+        }
         self.passed -= 1;
         self.at -= text.len();
         Some(text)
@@ -112,65 +125,27 @@ impl<'a> Chunks<'a> {
         self.root
     }
 
+    /// Fetches the chunks ahead; the first may begin before the cursor, where the range does.
     #[inline(never)]
-    fn fetch_ahead(&mut self) -> Option<()> {
-        let root = self.root.filter(|_| self.at < self.end)?;
+    fn fetch_ahead(&mut self) {
+        let Some(root) = self.root else { return };
         let first = self.pieces.fetch(root, self.at, self.room);
         self.room = ROOM.min(2 * self.room);
         self.passed = 0;
-        let text = self.pieces.get(0)?;
-        self.pieces.set(0, &text[self.at - first..]);
-        self.cut_at_end();
-        Some(())
-    }
-
-    /// Cuts the pieces ahead off at the end of the range.
-    fn cut_at_end(&mut self) {
-        let mut left = self.end - self.at;
-        for i in 0..self.pieces.len() {
-            let Some(text) = self.pieces.get(i) else { return };
-            if text.len() >= left {
-                self.pieces.set(i, &text[..left]);
-                self.pieces.truncate(i + 1);
-                return;
-            }
-            left -= text.len();
+        if let Some(text) = self.pieces.get(0) {
+            self.pieces.set(0, &text[self.at - first..]);
         }
     }
 
+    /// Fetches the chunks behind; of the one in which the range ends, the part behind the cursor.
     #[inline(never)]
-    fn fetch_behind(&mut self) -> Option<()> {
-        let root = self.root.filter(|_| self.at > self.start)?;
+    fn fetch_behind(&mut self) {
+        let Some(root) = self.root else { return };
         let end = self.pieces.fetch_before(root, self.at, self.room);
-        if end < self.at {
-            // The range ends inside of a chunk.
-            let chunk = root.chunk_at_byte(end)?;
-            self.pieces.truncate(0);
-            self.pieces.set(0, &chunk.text[self.start.saturating_sub(end)..self.at - end]);
-        } else {
-            self.room = ROOM.min(2 * self.room);
-            self.cut_at_start();
+        self.room = ROOM.min(2 * self.room);
+        if let Some(chunk) = root.chunk_at_byte(end).filter(|_| end < self.at) {
+            self.pieces.hold(&chunk.text[..self.at - end]);
         }
         self.passed = self.pieces.len();
-        Some(())
-    }
-
-    /// Cuts the pieces behind off at the start of the range.
-    fn cut_at_start(&mut self) {
-        let mut left = self.at - self.start;
-        for i in (0..self.pieces.len()).rev() {
-            let Some(text) = self.pieces.get(i) else { return };
-            if text.len() >= left {
-                self.pieces.set(i, &text[text.len() - left..]);
-                self.pieces.skip(i);
-                return;
-            }
-            left -= text.len();
-        }
-    }
-
-    #[inline]
-    fn left(&self) -> (usize, Option<usize>) {
-        (0, None)
     }
 }

@@ -1,7 +1,7 @@
 //! Lines, chunk by chunk. A line that lies in one chunk is a slice of that chunk; any other is a range of the rope.
 use crate::ffi::{line_to_byte, Counts, Root};
 use crate::iter::{counted_cursor, Chunks};
-use crate::slice::{Place, RopeSlice};
+use crate::slice::RopeSlice;
 use crate::str_utils::{first_line, last_line};
 
 /// A cursor over the lines of a text, each with the line break that ends it.
@@ -21,9 +21,8 @@ pub struct Lines<'a> {
     chunks: Chunks<'a>,
     chunk: &'a str,
     idx: usize,
-    // Where the cursor stands in the rope, and the start of the range; of no use in a plain text.
-    at: Place,
-    start: Place,
+    // How much of the rope lies before the cursor; of no use in a plain text.
+    at: Counts,
     passed: usize,
     total: usize,
     is_reversed: bool,
@@ -33,32 +32,17 @@ counted_cursor!(Lines, RopeSlice<'a>);
 
 impl<'a> Lines<'a> {
     /// Over a range of a rope, at its line `line_idx`.
-    pub(crate) fn of_range(root: &'a Root, start: Place, end: Place, line_idx: usize) -> Lines<'a> {
-        let total = end.line_breaks - start.line_breaks + 1;
-        let at = Place::of_line(root, start, end, line_idx);
-        let (chunks, chunk, first) = Chunks::behind(root, start, end, at.bytes);
-        let idx = at.bytes - first;
-        Lines { chunks, chunk, idx, at, start, passed: line_idx, total, is_reversed: false }
+    pub(crate) fn of_range(root: &'a Root, start: Counts, counts: Counts, line_idx: usize) -> Lines<'a> {
+        let at = place_of(root, start, counts, line_idx);
+        let (chunks, chunk, idx) = Chunks::behind(root, start, counts, at.bytes - start.bytes);
+        Lines { chunks, chunk, idx, at, passed: line_idx, total: counts.line_breaks + 1, is_reversed: false }
     }
 
-    /// Over a text of `total` lines in one piece.
     #[inline]
-    pub(crate) fn of_text(text: &'a str, total: usize, line_idx: usize) -> Lines<'a> {
-        let idx = match line_idx {
-            0 => 0,
-            _ if line_idx == total => text.len(),
-            _ => line_to_byte(text, line_idx),
-        };
-        Lines {
-            chunks: Chunks::of_text(text, true),
-            chunk: text,
-            idx,
-            at: Place::default(),
-            start: Place::default(),
-            passed: line_idx,
-            total,
-            is_reversed: false,
-        }
+    pub(crate) fn of_text(text: &'a str, counts: Counts, line_idx: usize) -> Lines<'a> {
+        let idx = if line_idx == 0 { 0 } else { line_to_byte(text, line_idx) };
+        let (chunks, total) = (Chunks::of_text(text, true), counts.line_breaks + 1);
+        Lines { chunks, chunk: text, idx, at: Counts::NONE, passed: line_idx, total, is_reversed: false }
     }
 
     fn forward(&mut self) -> Option<RopeSlice<'a>> {
@@ -69,21 +53,25 @@ impl<'a> Lines<'a> {
         if self.idx == self.chunk.len() && !self.enter_next() {
             return Some(RopeSlice::EMPTY);
         }
-        let from = self.at;
-        let (text, counts) = self.pass();
-        if counts.line_breaks == 0 && self.enter_next() {
-            while self.pass().1.line_breaks == 0 && self.enter_next() {}
-            return self.between(from, self.at);
+        let start = self.at;
+        let (text, mut counts) = self.pass();
+        if counts.line_breaks > 0 || !self.enter_next() {
+            return Some(RopeSlice::of_text(text, counts));
         }
-        Some(RopeSlice::counted(text, counts))
+        while counts.line_breaks == 0 {
+            counts = counts.plus(self.pass().1);
+            if counts.line_breaks == 0 && !self.enter_next() {
+                break;
+            }
+        }
+        self.of_range_at(start, counts)
     }
 
     /// Goes to the start of the next chunk, if there is one.
     fn enter_next(&mut self) -> bool {
         let next = self.chunks.forward();
         if let Some(text) = next {
-            self.chunk = text;
-            self.idx = 0;
+            (self.chunk, self.idx) = (text, 0);
         }
         next.is_some()
     }
@@ -106,24 +94,23 @@ impl<'a> Lines<'a> {
         if self.idx == 0 && !self.enter_previous() {
             return Some(RopeSlice::EMPTY);
         }
-        let to = self.at;
         let line = last_line(&self.chunk[..self.idx]);
         if is_last && line.is_ended {
             return Some(RopeSlice::EMPTY);
         }
         let (text, counts) = self.pass_back(line.start);
-        if line.start > 0 || !self.pass_back_over_chunks() {
-            return Some(RopeSlice::counted(text, counts));
+        let all = self.pass_back_over_chunks(counts);
+        if all.bytes == counts.bytes {
+            return Some(RopeSlice::of_text(text, counts));
         }
-        self.between(self.at, to)
+        self.of_range_at(self.at, all)
     }
 
     /// Goes to the end of the previous chunk, if there is one.
     fn enter_previous(&mut self) -> bool {
         let previous = self.chunks.back();
         if let Some(text) = previous {
-            self.chunk = text;
-            self.idx = text.len();
+            (self.chunk, self.idx) = (text, text.len());
         }
         previous.is_some()
     }
@@ -137,21 +124,34 @@ impl<'a> Lines<'a> {
         (text, counts)
     }
 
-    /// Goes back to the start of a line that begins in a chunk before; answers false where it begins here.
-    fn pass_back_over_chunks(&mut self) -> bool {
-        let mut has_passed = false;
-        while self.idx == 0 && self.at.bytes != self.start.bytes && self.enter_previous() {
+    /// Goes back to where a line starts of which so much was passed, and answers how much it holds in all.
+    fn pass_back_over_chunks(&mut self, mut counts: Counts) -> Counts {
+        while self.idx == 0 && self.enter_previous() {
             let line = last_line(self.chunk);
             if line.is_ended {
                 break;
             }
-            self.pass_back(line.start);
-            has_passed = true;
+            counts = counts.plus(self.pass_back(line.start).1);
         }
-        has_passed
+        counts
     }
 
-    fn between(&self, start: Place, end: Place) -> Option<RopeSlice<'a>> {
-        self.chunks.root().map(|root| RopeSlice::of_range(root, start, end))
+    fn of_range_at(&self, start: Counts, counts: Counts) -> Option<RopeSlice<'a>> {
+        self.chunks.root().map(|root| RopeSlice::of_range(root, start, counts))
+    }
+}
+
+/// How much of a rope lies before a line of a range; for the number of lines, before the range's end.
+fn place_of(root: &Root, start: Counts, counts: Counts, line_idx: usize) -> Counts {
+    let end = start.plus(counts);
+    let line_breaks = start.line_breaks + line_idx;
+    match (root.line_to_byte(line_breaks), root.line_to_char(line_breaks)) {
+        _ if line_idx == 0 => start,
+        (Some(bytes), Some(chars)) if bytes < end.bytes => {
+            let utf16 = root.char_to_utf16(chars).unwrap_or(end.utf16);
+            Counts { bytes, chars, utf16, line_breaks }
+        }
+        // The end, or past it: the line after a CR whose LF is cut off.
+        _ => end,
     }
 }

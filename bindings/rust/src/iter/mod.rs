@@ -28,7 +28,7 @@ pub use self::lines::Lines;
 
 /// What the four cursors have alike, over `forward` and `backward`.
 macro_rules! cursor {
-    ($name:ident, $item:ty) => {
+    ($name:ident, $item:ty, {$($size_hint:item)?}) => {
         impl<'a> $name<'a> {
             /// Turns the cursor round where it stands.
             #[inline]
@@ -67,10 +67,7 @@ macro_rules! cursor {
                 }
             }
 
-            #[inline]
-            fn size_hint(&self) -> (usize, Option<usize>) {
-                self.left()
-            }
+            $($size_hint)?
         }
     };
 }
@@ -78,15 +75,13 @@ macro_rules! cursor {
 /// A cursor that knows how many items it has passed, of how many.
 macro_rules! counted_cursor {
     ($name:ident, $item:ty) => {
-        crate::iter::cursor!($name, $item);
-
-        impl $name<'_> {
+        crate::iter::cursor!($name, $item, {
             #[inline]
-            fn left(&self) -> (usize, Option<usize>) {
+            fn size_hint(&self) -> (usize, Option<usize>) {
                 let left = if self.is_reversed { self.passed } else { self.total - self.passed };
                 (left, Some(left))
             }
-        }
+        });
 
         impl ExactSizeIterator for $name<'_> {}
     };

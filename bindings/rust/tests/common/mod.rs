@@ -25,7 +25,8 @@ impl Random {
     /// A text of characters of all widths, with many line breaks of every kind.
     pub fn text(&mut self, chars: usize) -> String {
         const KINDS: [&str; 16] = [
-            "a", "b", " ", "é", "ß", "语", "あ", "😀", "\n", "\r", "\r\n", "\u{b}", "\u{c}", "\u{85}", "\u{2028}", "\u{2029}",
+            "a", "b", " ", "é", "ß", "语", "あ", "😀", "\n", "\r", "\r\n", "\u{b}", "\u{c}", "\u{85}", "\u{2028}",
+            "\u{2029}",
         ];
         (0..chars).map(|_| KINDS[self.below(KINDS.len())]).collect()
     }
