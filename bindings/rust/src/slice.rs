@@ -251,7 +251,7 @@ impl<'a> RopeSlice<'a> {
     }
 
     /// The chunk that holds a byte, or the last chunk for the length; none where the index is past that.
-    pub fn get_chunk_at_byte(&self, byte_idx: usize) -> Option<ChunkAt<'a>> {
+    pub(crate) fn get_chunk_at_byte(&self, byte_idx: usize) -> Option<ChunkAt<'a>> {
         let is_inside = byte_idx <= self.counts.bytes;
         is_inside
             .then(|| self.chunk_by(|root, start, end| root.chunk_at_byte((start.bytes + byte_idx).min(end.bytes - 1))))

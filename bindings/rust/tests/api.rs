@@ -56,7 +56,7 @@ macro_rules! look_ups {
         are!(fn($this, usize) -> Option<RopeSlice<$lent>>; <$text>::get_line);
         are!(fn($this, usize) -> ChunkAt<$lent>; <$text>::chunk_at_byte, <$text>::chunk_at_char,
             <$text>::chunk_at_line_break);
-        are!(fn($this, usize) -> Option<ChunkAt<$lent>>; <$text>::get_chunk_at_byte, <$text>::get_chunk_at_char,
+        are!(fn($this, usize) -> Option<ChunkAt<$lent>>; <$text>::get_chunk_at_char,
             <$text>::get_chunk_at_line_break);
         are!(fn($this, Range<usize>) -> RopeSlice<$lent>; <$text>::slice::<Range<usize>>,
             <$text>::byte_slice::<Range<usize>>);
@@ -83,6 +83,7 @@ macro_rules! look_ups {
 fn look_ups_of_ropes_and_slices() {
     fn of_ropes<'a>() {
         look_ups!(Rope, 'a, &'a Rope);
+        are!(fn(&'a Rope, usize) -> Option<ChunkAt<'a>>; Rope::get_chunk_at_byte);
     }
     // What a slice lends outlives the slice.
     fn of_slices<'a>() {

@@ -84,7 +84,7 @@ macro_rules! refusals {
             assert!(matches!($subject.try_utf16_cu_to_char(unit), Err(Error::Utf16IndexOutOfBounds(i, n)) if (i, n) == (unit, $units)));
             assert!(matches!($subject.try_line_to_byte(line), Err(Error::LineIndexOutOfBounds(i, n)) if (i, n) == (line, $lines)));
             assert!(matches!($subject.try_line_to_char(line), Err(Error::LineIndexOutOfBounds(i, n)) if (i, n) == (line, $lines)));
-            assert!($subject.get_chunk_at_byte(byte).is_none() && $subject.get_chunks_at_byte(byte).is_none());
+            assert!($subject.get_chunks_at_byte(byte).is_none());
             assert!($subject.get_chunk_at_char(char).is_none() && $subject.get_chunks_at_char(char).is_none());
             assert!($subject.get_chunk_at_line_break(line).is_none() && $subject.get_chunks_at_line_break(line).is_none());
             assert!($subject.get_bytes_at(byte).is_none() && $subject.get_chars_at(char).is_none());
