@@ -185,10 +185,7 @@ fn errors() {
             "Utf16 code-unit index out of bounds: utf16 index 4, Rope/RopeSlice utf16 length 3",
         ),
         (Error::ByteIndexNotCharBoundary(4), "Byte index is not a valid char boundary: byte index 4"),
-        (
-            Error::ByteRangeNotCharBoundary(Some(1), None),
-            "Byte range does not align with char boundaries: range 1..",
-        ),
+        (Error::ByteRangeNotCharBoundary(Some(1), None), "Byte range does not align with char boundaries: range 1.."),
         (Error::ByteRangeInvalid(2, 1), "Invalid byte range 2..1: start must be <= end"),
         (Error::CharRangeInvalid(2, 1), "Invalid char range 2..1: start must be <= end"),
         (

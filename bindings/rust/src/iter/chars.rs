@@ -17,10 +17,12 @@ use crate::iter::{counted_cursor, Chunks};
 /// ```
 #[derive(Clone, Debug)]
 pub struct Chars<'a> {
-    // Behind the chunk, of which the cursor has some ahead.
+    // Behind the chunk. Of its characters, those on the side to which the cursor went last: a step the same way takes the
+    // next of them, and tests no boundary.
     chunks: Chunks<'a>,
     chunk: &'a str,
-    ahead: str::Chars<'a>,
+    side: str::Chars<'a>,
+    is_ahead: bool,
     passed: usize,
     total: usize,
     is_reversed: bool,
@@ -38,24 +40,32 @@ impl<'a> Chars<'a> {
             _ => root.char_to_byte(start.chars + at).map_or(counts.bytes, |byte_idx| byte_idx - start.bytes),
         };
         let (chunks, chunk, idx) = Chunks::behind(root, start, counts, byte_idx);
-        Chars { chunks, chunk, ahead: chunk[idx..].chars(), passed: at, total: counts.chars, is_reversed: false }
+        Chars::at(chunks, chunk, chunk[idx..].chars(), at, counts)
     }
 
     #[inline]
     pub(crate) fn of_text(text: &'a str, counts: Counts, at: usize) -> Chars<'a> {
         let ahead = if at == 0 { text.chars() } else { text[char_to_byte(text, at)..].chars() };
-        let chunks = Chunks::of_text(text, true);
-        Chars { chunks, chunk: text, ahead, passed: at, total: counts.chars, is_reversed: false }
+        Chars::at(Chunks::of_text(text, true), text, ahead, at, counts)
+    }
+
+    #[inline]
+    fn at(chunks: Chunks<'a>, chunk: &'a str, side: str::Chars<'a>, passed: usize, counts: Counts) -> Chars<'a> {
+        Chars { chunks, chunk, side, is_ahead: true, passed, total: counts.chars, is_reversed: false }
     }
 
     #[inline(always)]
     fn forward(&mut self) -> Option<char> {
-        let c = match self.ahead.next() {
+        if !self.is_ahead {
+            self.side = self.chunk[self.side.as_str().len()..].chars();
+            self.is_ahead = true;
+        }
+        let c = match self.side.next() {
             Some(c) => c,
             None => {
                 self.chunk = self.chunks.forward()?;
-                self.ahead = self.chunk.chars();
-                self.ahead.next()?
+                self.side = self.chunk.chars();
+                self.side.next()?
             }
         };
         self.passed += 1;
@@ -64,13 +74,18 @@ impl<'a> Chars<'a> {
 
     #[inline(always)]
     fn backward(&mut self) -> Option<char> {
-        let mut idx = self.chunk.len() - self.ahead.as_str().len();
-        if idx == 0 {
-            self.chunk = self.chunks.back()?;
-            idx = self.chunk.len();
+        if self.is_ahead {
+            self.side = self.chunk[..self.chunk.len() - self.side.as_str().len()].chars();
+            self.is_ahead = false;
         }
-        let c = self.chunk[..idx].chars().next_back()?;
-        self.ahead = self.chunk[idx - c.len_utf8()..].chars();
+        let c = match self.side.next_back() {
+            Some(c) => c,
+            None => {
+                self.chunk = self.chunks.back()?;
+                self.side = self.chunk.chars();
+                self.side.next_back()?
+            }
+        };
         self.passed -= 1;
         Some(c)
     }
