@@ -1,0 +1,147 @@
+//! The calls of ropes and slices that panic where the index is out of bounds, each over its twin that answers that.
+use crate::Error;
+
+#[cold]
+#[inline(never)]
+#[track_caller]
+pub(crate) fn refuse(error: Error) -> ! {
+    panic!("{error}")
+}
+
+/// Over a `try_` twin, which answers the error.
+macro_rules! over_try {
+    ($($(#[$doc:meta])* $name:ident($index:ident) by $twin:ident;)*) => {
+        $(
+            $(#[$doc])*
+            ///
+            /// # Panics
+            ///
+            /// Where the index is past the end.
+            #[inline]
+            #[track_caller]
+            pub fn $name(&self, $index: usize) -> usize {
+                self.$twin($index).unwrap_or_else(|error| crate::calls::refuse(error))
+            }
+        )*
+    };
+}
+
+/// Over a `get_` twin, which answers none.
+macro_rules! over_get {
+    ($($(#[$doc:meta])* $name:ident($index:ident) by $twin:ident else $error:ident of $len:ident -> $answer:ty;)*) => {
+        $(
+            $(#[$doc])*
+            ///
+            /// # Panics
+            ///
+            /// Where there is none.
+            #[inline]
+            #[track_caller]
+            pub fn $name(&self, $index: usize) -> $answer {
+                match self.$twin($index) {
+                    Some(answer) => answer,
+                    None => crate::calls::refuse(Error::$error($index, self.$len())),
+                }
+            }
+        )*
+    };
+}
+
+/// All of them, and the cursors that stand at the start. The lifetime is that of the text which is lent.
+macro_rules! panicking_calls {
+    ($text:lifetime) => {
+        crate::calls::over_try! {
+            /// The character that holds a byte; for the length in bytes, the length in characters.
+            byte_to_char(byte_idx) by try_byte_to_char;
+            /// The line on which a byte lies; for the length in bytes, the last line.
+            byte_to_line(byte_idx) by try_byte_to_line;
+            /// The byte at which a character starts; for the length in characters, the length in bytes.
+            char_to_byte(char_idx) by try_char_to_byte;
+            /// The line on which a character lies; for the length in characters, the last line.
+            char_to_line(char_idx) by try_char_to_line;
+            /// The UTF-16 code unit at which a character starts; for the length in characters, the length in code units.
+            char_to_utf16_cu(char_idx) by try_char_to_utf16_cu;
+            /// The character that holds a UTF-16 code unit; for the length in code units, the length in characters.
+            utf16_cu_to_char(utf16_cu_idx) by try_utf16_cu_to_char;
+            /// The byte at which a line starts; for the number of lines, the length in bytes.
+            line_to_byte(line_idx) by try_line_to_byte;
+            /// The character at which a line starts; for the number of lines, the length in characters.
+            line_to_char(line_idx) by try_line_to_char;
+        }
+
+        crate::calls::over_get! {
+            /// A byte.
+            byte(byte_idx) by get_byte else ByteIndexOutOfBounds of len_bytes -> u8;
+            /// A character.
+            char(char_idx) by get_char else CharIndexOutOfBounds of len_chars -> char;
+            /// A line, its line break among it.
+            line(line_idx) by get_line else LineIndexOutOfBounds of len_lines -> RopeSlice<$text>;
+            /// The chunk that holds a byte, and the first of its bytes, characters and line breaks, counted from the start of
+            /// the text. For the length it is the last chunk.
+            chunk_at_byte(byte_idx) by get_chunk_at_byte else ByteIndexOutOfBounds of len_bytes -> (&$text str, usize, usize, usize);
+            /// The chunk that holds a character, and the first of its bytes, characters and line breaks, counted from the
+            /// start of the text. For the length it is the last chunk.
+            chunk_at_char(char_idx) by get_chunk_at_char else CharIndexOutOfBounds of len_chars -> (&$text str, usize, usize, usize);
+            /// The chunk that holds the line break before a line, and the first of its bytes, characters and line breaks,
+            /// counted from the start of the text. For the first line it is the first chunk, for the number of lines the last.
+            chunk_at_line_break(line_break_idx) by get_chunk_at_line_break else LineIndexOutOfBounds of len_lines -> (&$text str, usize, usize, usize);
+            /// A cursor over the bytes that stands before a byte, or at the end for the length.
+            bytes_at(byte_idx) by get_bytes_at else ByteIndexOutOfBounds of len_bytes -> Bytes<$text>;
+            /// A cursor over the characters that stands before a character, or at the end for the length.
+            chars_at(char_idx) by get_chars_at else CharIndexOutOfBounds of len_chars -> Chars<$text>;
+            /// A cursor over the lines that stands before a line, or at the end for the number of lines.
+            lines_at(line_idx) by get_lines_at else LineIndexOutOfBounds of len_lines -> Lines<$text>;
+            /// A cursor over the chunks that stands before the one that holds a byte, or at the end for the length; and the
+            /// byte, character and line break at which it stands.
+            chunks_at_byte(byte_idx) by get_chunks_at_byte else ByteIndexOutOfBounds of len_bytes -> (Chunks<$text>, usize, usize, usize);
+            /// A cursor over the chunks that stands before the one that holds a character, or at the end for the length; and
+            /// the byte, character and line break at which it stands.
+            chunks_at_char(char_idx) by get_chunks_at_char else CharIndexOutOfBounds of len_chars -> (Chunks<$text>, usize, usize, usize);
+            /// A cursor over the chunks that stands before the one that holds the line break before a line, or at the end for
+            /// the number of lines; and the byte, character and line break at which it stands.
+            chunks_at_line_break(line_break_idx) by get_chunks_at_line_break else LineIndexOutOfBounds of len_lines -> (Chunks<$text>, usize, usize, usize);
+        }
+
+        /// A cursor over the bytes.
+        #[inline]
+        pub fn bytes(&self) -> Bytes<$text> {
+            self.bytes_at(0)
+        }
+
+        /// A cursor over the characters.
+        #[inline]
+        pub fn chars(&self) -> Chars<$text> {
+            self.chars_at(0)
+        }
+
+        /// A cursor over the lines, each with its line break.
+        #[inline]
+        pub fn lines(&self) -> Lines<$text> {
+            self.lines_at(0)
+        }
+
+        /// A slice of a range of characters. No text is copied.
+        ///
+        /// # Panics
+        ///
+        /// Where the range starts past its end, or reaches past the text's.
+        #[inline]
+        #[track_caller]
+        pub fn slice<R: RangeBounds<usize>>(&self, char_range: R) -> RopeSlice<$text> {
+            self.slice_chars(Bounds::of(&char_range)).unwrap_or_else(|error| crate::calls::refuse(error))
+        }
+
+        /// A slice of a range of bytes. No text is copied.
+        ///
+        /// # Panics
+        ///
+        /// Where the range starts past its end, reaches past the text's, or has a bound inside a character.
+        #[inline]
+        #[track_caller]
+        pub fn byte_slice<R: RangeBounds<usize>>(&self, byte_range: R) -> RopeSlice<$text> {
+            self.slice_bytes(Bounds::of(&byte_range)).unwrap_or_else(|error| crate::calls::refuse(error))
+        }
+    };
+}
+
+pub(crate) use {over_get, over_try, panicking_calls};

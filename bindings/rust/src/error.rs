@@ -1,0 +1,92 @@
+//! Why calls are refused.
+use std::fmt;
+
+/// What a call that may be refused answers.
+pub type Result<T> = std::result::Result<T, Error>;
+
+/// Why a call was refused, with the index or range that it was given and the length that it met.
+///
+/// `Debug` prints what `Display` prints.
+///
+/// ```
+/// use ropey::{Error, Rope};
+///
+/// let rope = Rope::from_str("one\ntwo\n");
+/// let error = rope.try_char_to_byte(20).unwrap_err();
+/// assert!(matches!(error, Error::CharIndexOutOfBounds(20, 8)));
+/// assert_eq!(
+///     error.to_string(),
+///     "Char index out of bounds: char index 20, Rope/RopeSlice char length 8",
+/// );
+/// ```
+#[derive(Clone, Copy)]
+#[non_exhaustive]
+pub enum Error {
+    /// A byte index past the end: the index, and the length in bytes.
+    ByteIndexOutOfBounds(usize, usize),
+    /// A character index past the end: the index, and the length in characters.
+    CharIndexOutOfBounds(usize, usize),
+    /// A line index past the last line: the index, and the number of lines.
+    LineIndexOutOfBounds(usize, usize),
+    /// An index in UTF-16 past the end: the index, and the length in code units.
+    Utf16IndexOutOfBounds(usize, usize),
+    /// A byte index inside a character. No call answers it.
+    ByteIndexNotCharBoundary(usize),
+    /// A range of bytes that starts or ends inside a character: its bounds as they were given.
+    ByteRangeNotCharBoundary(Option<usize>, Option<usize>),
+    /// A range of bytes whose start is past its end.
+    ByteRangeInvalid(usize, usize),
+    /// A range of characters whose start is past its end.
+    CharRangeInvalid(usize, usize),
+    /// A range of bytes past the end: its bounds as they were given, and the length in bytes.
+    ByteRangeOutOfBounds(Option<usize>, Option<usize>, usize),
+    /// A range of characters past the end: its bounds as they were given, and the length in characters.
+    CharRangeOutOfBounds(Option<usize>, Option<usize>, usize),
+}
+
+impl std::error::Error for Error {}
+
+/// The bounds of a range as they were given, printed as Rust writes them.
+struct Bounds(Option<usize>, Option<usize>);
+
+impl fmt::Display for Bounds {
+    fn fmt(&self, f: &mut fmt::Formatter<'_>) -> fmt::Result {
+        let Bounds(start, end) = self;
+        start.map_or(Ok(()), |start| write!(f, "{start}"))?;
+        f.write_str("..")?;
+        end.map_or(Ok(()), |end| write!(f, "{end}"))
+    }
+}
+
+impl fmt::Display for Error {
+    fn fmt(&self, f: &mut fmt::Formatter<'_>) -> fmt::Result {
+        const OF: &str = "Rope/RopeSlice";
+        let mut index = |what, unit, measure, index, len| {
+            write!(f, "{what} index out of bounds: {unit} index {index}, {OF} {measure} {len}")
+        };
+        match *self {
+            Error::ByteIndexOutOfBounds(i, len) => index("Byte", "byte", "byte length", i, len),
+            Error::CharIndexOutOfBounds(i, len) => index("Char", "char", "char length", i, len),
+            Error::LineIndexOutOfBounds(i, len) => index("Line", "line", "line count", i, len),
+            Error::Utf16IndexOutOfBounds(i, len) => index("Utf16 code-unit", "utf16", "utf16 length", i, len),
+            Error::ByteIndexNotCharBoundary(i) => write!(f, "Byte index is not a valid char boundary: byte index {i}"),
+            Error::ByteRangeNotCharBoundary(start, end) => {
+                write!(f, "Byte range does not align with char boundaries: range {}", Bounds(start, end))
+            }
+            Error::ByteRangeInvalid(start, end) => write!(f, "Invalid byte range {start}..{end}: start must be <= end"),
+            Error::CharRangeInvalid(start, end) => write!(f, "Invalid char range {start}..{end}: start must be <= end"),
+            Error::ByteRangeOutOfBounds(start, end, len) => {
+                write!(f, "Byte range out of bounds: byte range {}, {OF} byte length {len}", Bounds(start, end))
+            }
+            Error::CharRangeOutOfBounds(start, end, len) => {
+                write!(f, "Char range out of bounds: char range {}, {OF} char length {len}", Bounds(start, end))
+            }
+        }
+    }
+}
+
+impl fmt::Debug for Error {
+    fn fmt(&self, f: &mut fmt::Formatter<'_>) -> fmt::Result {
+        fmt::Display::fmt(self, f)
+    }
+}

@@ -1,0 +1,89 @@
+//! A text buffer for editors, with the API of the crate ropey 1.6.1, over a library whose every function is proved.
+//!
+//! A [`Rope`] keeps a long UTF-8 text in chunks under a balanced tree. Clones share its nodes, [slices](RopeSlice) copy
+//! nothing, and indices are exact in bytes, characters, lines and UTF-16 code units, with CR LF as one line break. A
+//! program that uses ropey changes one line of its Cargo.toml:
+//!
+//! ```toml
+//! ropey = { path = "bindings/rust" }
+//! ```
+//!
+//! ```
+//! use ropey::Rope;
+//!
+//! # fn main() -> std::io::Result<()> {
+//! let mut rope = Rope::from_reader(&b"one\ntwo\nthree\n"[..])?;
+//! let start = rope.line_to_char(1);
+//! let end = rope.line_to_char(2);
+//! rope.remove(start..end);
+//! rope.insert(start, "flowers\n");
+//! assert_eq!(rope.line(1), "flowers\n");
+//!
+//! let mut written = Vec::new();
+//! rope.write_to(&mut written)?;
+//! assert_eq!(written, b"one\nflowers\nthree\n");
+//! # Ok(())
+//! # }
+//! ```
+//!
+//! # The library
+//!
+//! All counting, searching, editing and checking of UTF-8 is done by the library for C of this repository, `libropey.a`.
+//! Its functions are proved against plain lists of characters: for every text and index they answer what the list says. This
+//! crate holds handles, ranges and pieces, and is tested, not proved. The build finds the archive in the folder that
+//! `ROPEY_LIB_DIR` names, by `pkg-config`, or where the repository builds it.
+//!
+//! # Line breaks
+//!
+//! Chosen by the features that ropey has: all of Unicode's line breaks (`unicode_lines`, the default); LF, CR and CR LF
+//! (`cr_lines` alone); or LF alone. The features `simd` and `small_chunks` are there, and change nothing.
+//!
+//! # Threads
+//!
+//! Ropes count the owners of shared nodes without atomic steps, so that by default they are neither `Send` nor `Sync`. With the
+//! feature `threads` all types of this crate are both, for the price of one uncontended lock an edit, clone or drop:
+//!
+//! - Counts of owners are read and written by clones, edits and drops alone. These take one lock of the whole process, so that
+//!   no two of them run at once, whichever ropes they are of.
+//! - Look-ups, slices and cursors touch no count and take no lock. They run at once on any threads, on one rope or on many.
+//! - A look-up never reads what an edit writes. By `&mut`, no look-up of the edited rope runs. Of another rope it sees those
+//!   nodes alone that this rope owns or shares; and a node that has two owners is copied before it is changed.
+//! - What an edit writes in place was seen last by an owner that has let go of it since. It did so under the lock, after its
+//!   own last look-up, and so before the edit.
+//!
+//! # Differences from ropey 1.6.1
+//!
+//! - Chunks have at most 984 bytes, and are cut elsewhere than ropey's. No CR LF lies in two chunks.
+//! - Without the feature `threads`, ropes are neither `Send` nor `Sync`.
+//! - A range of bytes that ends between a CR and its LF counts the CR as a line break, as one of characters does.
+//! - Ropes and slices are ordered by their bytes, however they are cut.
+//! - At its end, a slice's look-up of a chunk answers the last chunk, never an empty one.
+//! - A cursor over lines that stands at the end of a slice of one chunk goes back from there, also in an empty text; and a line
+//!   that it answers counts its own line break alone.
+//! - `chunks_at_line_break` stands at the end for the number of lines, also in a slice of one chunk.
+//! - An inclusive bound of `usize::MAX` is out of bounds; ropey's overflows.
+//! - A text past `isize::MAX` bytes panics, and a refusal of memory ends as that of a `Vec` does.
+//! - Ropey's hidden functions for its own tests are not there.
+#![deny(unsafe_code)]
+#![warn(missing_docs, missing_debug_implementations)]
+
+mod builder;
+mod calls;
+mod error;
+mod ffi;
+mod instance;
+mod range;
+mod rope;
+mod slice;
+mod texts;
+
+pub mod iter;
+pub mod str_utils;
+
+pub use crate::builder::RopeBuilder;
+pub use crate::error::{Error, Result};
+pub use crate::rope::Rope;
+pub use crate::slice::RopeSlice;
+
+/// The most bytes that a chunk has.
+const MAX_BYTES: usize = 984;

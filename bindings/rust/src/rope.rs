@@ -1,0 +1,364 @@
+//! Ropes.
+use std::io;
+use std::ops::RangeBounds;
+
+use crate::calls::{panicking_calls, refuse};
+use crate::ffi::{Builder, Counts, Root};
+use crate::instance::Instance;
+use crate::iter::{Bytes, Chars, Chunks, Lines};
+use crate::range::Bounds;
+use crate::slice::{ChunkAt, ChunksAt, RopeSlice};
+use crate::{Error, Result, MAX_BYTES};
+
+/// A long text that is edited anywhere.
+///
+/// Indices count from 0, in bytes, characters (Unicode scalar values), UTF-16 code units or lines. A line ends after a line
+/// break; CR LF is one. A text has one line more than it has line breaks, and its last line may be empty.
+///
+/// A clone shares all of its text with its original and takes constant time. An edit of one leaves the other as it was.
+///
+/// ```
+/// use ropey::Rope;
+///
+/// let mut rope = Rope::from_str("one\ntwo\nthree\n");
+/// let before = rope.clone();
+/// let start = rope.line_to_char(1);
+/// rope.remove(start..start + 3);
+/// rope.insert(start, "flowers");
+/// assert_eq!(rope, "one\nflowers\nthree\n");
+/// assert_eq!(before, "one\ntwo\nthree\n");
+/// ```
+pub struct Rope {
+    root: Root,
+    instance: Instance,
+}
+
+macro_rules! conversions {
+    ($($name:ident($index:ident) else $error:ident of $len:ident by $call:ident for $plain:literal;)*) => {
+        $(
+            #[doc = concat!("What [`", $plain, "`](Self::", $plain, ") answers, refused where the index is past the end.")]
+            #[inline]
+            pub fn $name(&self, $index: usize) -> Result<usize> {
+                self.root.$call($index).ok_or_else(|| Error::$error($index, self.$len()))
+            }
+        )*
+    };
+}
+
+/// The calls that a rope has as the slice of all of it.
+macro_rules! as_slice {
+    ($($(#[$doc:meta])* $name:ident($index:ident) -> $answer:ty;)*) => {
+        $(
+            $(#[$doc])*
+            #[inline]
+            pub fn $name(&self, $index: usize) -> Option<$answer> {
+                self.part().$name($index)
+            }
+        )*
+    };
+}
+
+/// Making, reading and writing.
+impl Rope {
+    /// An empty rope.
+    #[inline]
+    pub fn new() -> Rope {
+        Rope::of(Root::of_text(""))
+    }
+
+    /// A rope of a copy of the text.
+    #[inline]
+    #[allow(clippy::should_implement_trait)]
+    pub fn from_str(text: &str) -> Rope {
+        Rope::of(Root::of_text(text))
+    }
+
+    pub(crate) fn of(root: Root) -> Rope {
+        Rope { root, instance: Instance::default() }
+    }
+
+    /// A rope of all that the reader gives, which has to be UTF-8.
+    ///
+    /// # Errors
+    ///
+    /// The reader's first error, an interruption among them, and `InvalidData` where the bytes are not UTF-8.
+    pub fn from_reader<T: io::Read>(mut reader: T) -> io::Result<Rope> {
+        let invalid = || io::Error::new(io::ErrorKind::InvalidData, "the bytes that were read are not UTF-8");
+        let mut buffer = vec![0; 1 << 16];
+        let mut builder = Builder::new();
+        loop {
+            let count = reader.read(&mut buffer)?;
+            if count == 0 {
+                return builder.finish().map(Rope::of).ok_or_else(invalid);
+            }
+            builder.append(&buffer[..count]).ok_or_else(invalid)?;
+        }
+    }
+
+    /// Writes the text, chunk by chunk.
+    ///
+    /// # Errors
+    ///
+    /// The writer's first error. A beginning of the text is written then.
+    pub fn write_to<T: io::Write>(&self, mut writer: T) -> io::Result<()> {
+        self.chunks().try_for_each(|chunk| writer.write_all(chunk.as_bytes()))
+    }
+}
+
+/// Lengths and memory.
+impl Rope {
+    /// The length in bytes, in constant time.
+    #[inline]
+    pub fn len_bytes(&self) -> usize {
+        self.root.len_bytes()
+    }
+
+    /// The length in characters, in constant time.
+    #[inline]
+    pub fn len_chars(&self) -> usize {
+        self.root.len_chars()
+    }
+
+    /// The number of lines, in constant time: one more than there are line breaks.
+    #[inline]
+    pub fn len_lines(&self) -> usize {
+        self.root.len_lines()
+    }
+
+    /// The length in UTF-16 code units, in constant time.
+    #[inline]
+    pub fn len_utf16_cu(&self) -> usize {
+        self.root.len_utf16()
+    }
+
+    /// How many bytes of text the rope's chunks have room for, those that it shares among them.
+    pub fn capacity(&self) -> usize {
+        self.chunks().count() * MAX_BYTES
+    }
+
+    /// Cuts the text into as few chunks as a rope just made has. It shares none of them with its clones then.
+    pub fn shrink_to_fit(&mut self) {
+        self.instance.forget();
+        self.root.shrink_to_fit();
+    }
+
+    /// Whether one of the two is a clone of the other, or both are clones of a third, and neither was edited since. Then
+    /// their texts are equal. Takes constant time.
+    pub fn is_instance(&self, other: &Rope) -> bool {
+        std::ptr::eq(self, other) || self.instance.is(&other.instance)
+    }
+}
+
+/// Edits. Out of memory, they end the program as an edit of a `Vec` does.
+impl Rope {
+    /// Inserts a text before a character, or at the end for the length.
+    ///
+    /// # Panics
+    ///
+    /// Where the index is past the end.
+    #[inline]
+    #[track_caller]
+    pub fn insert(&mut self, char_idx: usize, text: &str) {
+        self.try_insert(char_idx, text).unwrap_or_else(|error| refuse(error))
+    }
+
+    /// Inserts a character before another, or at the end for the length.
+    ///
+    /// # Panics
+    ///
+    /// Where the index is past the end.
+    #[inline]
+    #[track_caller]
+    pub fn insert_char(&mut self, char_idx: usize, ch: char) {
+        self.try_insert_char(char_idx, ch).unwrap_or_else(|error| refuse(error))
+    }
+
+    /// Takes a range of characters out.
+    ///
+    /// # Panics
+    ///
+    /// Where the range starts past its end, or reaches past the text's.
+    #[inline]
+    #[track_caller]
+    pub fn remove<R: RangeBounds<usize>>(&mut self, char_range: R) {
+        self.try_remove(char_range).unwrap_or_else(|error| refuse(error))
+    }
+
+    /// Keeps the characters before an index, and answers a rope of the others.
+    ///
+    /// # Panics
+    ///
+    /// Where the index is past the end.
+    #[track_caller]
+    pub fn split_off(&mut self, char_idx: usize) -> Rope {
+        self.try_split_off(char_idx).unwrap_or_else(|error| refuse(error))
+    }
+
+    /// Puts the text of another rope behind this one's.
+    pub fn append(&mut self, other: Rope) {
+        if self.len_bytes() == 0 {
+            *self = other;
+        } else if other.len_bytes() > 0 {
+            self.instance.forget();
+            self.root.append(other.root);
+        }
+    }
+
+    /// What [`insert`](Self::insert) does, refused where the index is past the end. Then the rope is as it was.
+    #[inline]
+    pub fn try_insert(&mut self, char_idx: usize, text: &str) -> Result<()> {
+        if !self.root.insert(char_idx, text) {
+            return Err(Error::CharIndexOutOfBounds(char_idx, self.len_chars()));
+        }
+        if !text.is_empty() {
+            self.instance.forget();
+        }
+        Ok(())
+    }
+
+    /// What [`insert_char`](Self::insert_char) does, refused where the index is past the end. Then the rope is as it was.
+    #[inline]
+    pub fn try_insert_char(&mut self, char_idx: usize, ch: char) -> Result<()> {
+        if !self.root.insert_char(char_idx, ch) {
+            return Err(Error::CharIndexOutOfBounds(char_idx, self.len_chars()));
+        }
+        self.instance.forget();
+        Ok(())
+    }
+
+    /// What [`remove`](Self::remove) does, refused where the range is not in range. Then the rope is as it was.
+    pub fn try_remove<R: RangeBounds<usize>>(&mut self, char_range: R) -> Result<()> {
+        let (start, end) = Bounds::of(&char_range).of_chars(self.len_chars())?;
+        self.instance.forget();
+        self.root.remove(start, end);
+        Ok(())
+    }
+
+    /// What [`split_off`](Self::split_off) does, refused where the index is past the end. Then the rope is as it was.
+    pub fn try_split_off(&mut self, char_idx: usize) -> Result<Rope> {
+        let len = self.len_chars();
+        match self.root.split_off(char_idx) {
+            None => Err(Error::CharIndexOutOfBounds(char_idx, len)),
+            Some(tail) => {
+                if char_idx < len {
+                    self.instance.forget();
+                }
+                Ok(Rope::of(tail))
+            }
+        }
+    }
+}
+
+/// Look-ups. They take no memory.
+impl Rope {
+    panicking_calls!('_);
+
+    conversions! {
+        try_byte_to_char(byte_idx) else ByteIndexOutOfBounds of len_bytes by byte_to_char for "byte_to_char";
+        try_byte_to_line(byte_idx) else ByteIndexOutOfBounds of len_bytes by byte_to_line for "byte_to_line";
+        try_char_to_byte(char_idx) else CharIndexOutOfBounds of len_chars by char_to_byte for "char_to_byte";
+        try_char_to_line(char_idx) else CharIndexOutOfBounds of len_chars by char_to_line for "char_to_line";
+        try_char_to_utf16_cu(char_idx) else CharIndexOutOfBounds of len_chars by char_to_utf16 for "char_to_utf16_cu";
+        try_utf16_cu_to_char(utf16_cu_idx) else Utf16IndexOutOfBounds of len_utf16_cu by utf16_to_char for "utf16_cu_to_char";
+        try_line_to_byte(line_idx) else LineIndexOutOfBounds of len_lines by line_to_byte for "line_to_byte";
+        try_line_to_char(line_idx) else LineIndexOutOfBounds of len_lines by line_to_char for "line_to_char";
+    }
+
+    as_slice! {
+        /// A line, its line break among it; none where the index is past the last one.
+        get_line(line_idx) -> RopeSlice<'_>;
+        /// What [`chunk_at_byte`](Self::chunk_at_byte) answers; none where the index is past the end.
+        get_chunk_at_byte(byte_idx) -> ChunkAt<'_>;
+        /// What [`chunk_at_char`](Self::chunk_at_char) answers; none where the index is past the end.
+        get_chunk_at_char(char_idx) -> ChunkAt<'_>;
+        /// What [`chunk_at_line_break`](Self::chunk_at_line_break) answers; none where the index is past the number of lines.
+        get_chunk_at_line_break(line_break_idx) -> ChunkAt<'_>;
+        /// A cursor over the bytes that stands before a byte; none where the index is past the end.
+        get_bytes_at(byte_idx) -> Bytes<'_>;
+        /// A cursor over the characters that stands before a character; none where the index is past the end.
+        get_chars_at(char_idx) -> Chars<'_>;
+        /// A cursor over the lines that stands before a line; none where the index is past the number of lines.
+        get_lines_at(line_idx) -> Lines<'_>;
+        /// What [`chunks_at_byte`](Self::chunks_at_byte) answers; none where the index is past the end.
+        get_chunks_at_byte(byte_idx) -> ChunksAt<'_>;
+        /// What [`chunks_at_char`](Self::chunks_at_char) answers; none where the index is past the end.
+        get_chunks_at_char(char_idx) -> ChunksAt<'_>;
+        /// What [`chunks_at_line_break`](Self::chunks_at_line_break) answers; none where the index is past the number of lines.
+        get_chunks_at_line_break(line_break_idx) -> ChunksAt<'_>;
+    }
+
+    /// A byte; none where the index is past the last one.
+    #[inline]
+    pub fn get_byte(&self, byte_idx: usize) -> Option<u8> {
+        self.root.byte(byte_idx)
+    }
+
+    /// A character; none where the index is past the last one.
+    #[inline]
+    pub fn get_char(&self, char_idx: usize) -> Option<char> {
+        self.root.char(char_idx)
+    }
+
+    /// A slice of a range of characters; none where it is not in range.
+    #[inline]
+    pub fn get_slice<R: RangeBounds<usize>>(&self, char_range: R) -> Option<RopeSlice<'_>> {
+        self.slice_chars(Bounds::of(&char_range)).ok()
+    }
+
+    /// A slice of a range of bytes; none where it is not in range, or one of its bounds lies inside a character.
+    #[inline]
+    pub fn get_byte_slice<R: RangeBounds<usize>>(&self, byte_range: R) -> Option<RopeSlice<'_>> {
+        self.slice_bytes(Bounds::of(&byte_range)).ok()
+    }
+
+    /// A cursor over the chunks.
+    #[inline]
+    pub fn chunks(&self) -> Chunks<'_> {
+        self.part().chunks()
+    }
+
+    /// The slice of all of the text, as a range, though it may lie in one chunk.
+    #[inline]
+    fn part(&self) -> RopeSlice<'_> {
+        let counts = Counts {
+            bytes: self.len_bytes(),
+            chars: self.len_chars(),
+            utf16: self.len_utf16_cu(),
+            line_breaks: self.len_lines() - 1,
+        };
+        RopeSlice::of_range(&self.root, Counts::NONE, counts)
+    }
+
+    #[inline]
+    fn slice_chars(&self, bounds: Bounds) -> Result<RopeSlice<'_>> {
+        let len = self.len_chars();
+        let (start, end) = bounds.of_chars(len)?;
+        if end - start == len && self.len_bytes() > MAX_BYTES {
+            return Ok(self.part());
+        }
+        Ok(RopeSlice::of_chars(&self.root, start, end))
+    }
+
+    #[inline]
+    fn slice_bytes(&self, bounds: Bounds) -> Result<RopeSlice<'_>> {
+        let len = self.len_bytes();
+        let (start, end) = bounds.of_bytes(len)?;
+        if end - start == len && len > MAX_BYTES {
+            return Ok(self.part());
+        }
+        RopeSlice::of_bytes(&self.root, start, end).ok_or(bounds.inside_character())
+    }
+
+    #[inline]
+    pub(crate) fn root(&self) -> &Root {
+        &self.root
+    }
+}
+
+impl Clone for Rope {
+    /// A rope that shares all of its text with this one, in constant time.
+    #[inline]
+    fn clone(&self) -> Rope {
+        Rope { root: self.root.clone(), instance: self.instance.clone() }
+    }
+}

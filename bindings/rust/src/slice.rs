@@ -1,0 +1,417 @@
+//! Slices: ranges of a rope's text, or of a plain one.
+use std::ops::RangeBounds;
+
+use crate::calls::panicking_calls;
+use crate::ffi::{self, Chunk, Counts, Root};
+use crate::iter::{Bytes, Chars, Chunks, Lines};
+use crate::range::Bounds;
+use crate::{Error, Result};
+
+/// A part of a text: of a rope's, which stays where it is, or of a plain `&str`.
+///
+/// A slice is a text of its own, whose indices count from its start. It has all look-ups that a rope has. A line break that
+/// is cut counts in the slice as it stands there: of a CR LF, a CR or an LF alone.
+///
+/// ```
+/// use ropey::{Rope, RopeSlice};
+///
+/// let rope = Rope::from_str("one\ntwo\nthree\n");
+/// let slice = rope.slice(4..10);
+/// assert_eq!(slice, "two\nth");
+/// assert_eq!(slice.len_lines(), 2);
+/// assert_eq!(slice.char_to_line(4), 1);
+/// assert_eq!(slice.slice(4..), RopeSlice::from("th"));
+/// ```
+#[derive(Clone, Copy)]
+pub struct RopeSlice<'a> {
+    counts: Counts,
+    part: Part<'a>,
+}
+
+#[derive(Clone, Copy)]
+enum Part<'a> {
+    /// A range of a rope, which begins behind so much of its text.
+    Range { root: &'a Root, start: Counts },
+    /// A text in one piece.
+    Text(&'a str),
+}
+
+/// A chunk, and the first of its bytes, characters and line breaks, counted from the start of the text.
+pub(crate) type ChunkAt<'a> = (&'a str, usize, usize, usize);
+/// A cursor over chunks, and the byte, character and line break at which it stands.
+pub(crate) type ChunksAt<'a> = (Chunks<'a>, usize, usize, usize);
+
+/// What the library answers for an index that was compared with the length.
+fn known<T>(answer: Option<T>) -> T {
+    answer.expect("an index in range has an answer")
+}
+
+impl<'a> Chunk<'a> {
+    /// The chunk's text as far as it lies in a range, and the byte of the rope at which that begins.
+    #[inline]
+    pub(crate) fn cut(self, start: Counts, end: Counts) -> (&'a str, usize) {
+        let skipped = start.bytes.saturating_sub(self.bytes);
+        (&self.text[skipped..self.text.len().min(end.bytes - self.bytes)], self.bytes + skipped)
+    }
+}
+
+/// How slices are made.
+impl<'a> RopeSlice<'a> {
+    pub(crate) const EMPTY: RopeSlice<'static> = RopeSlice { counts: Counts::NONE, part: Part::Text("") };
+
+    /// A range of a rope.
+    #[inline]
+    pub(crate) fn of_range(root: &'a Root, start: Counts, counts: Counts) -> RopeSlice<'a> {
+        match counts.bytes {
+            0 => RopeSlice::EMPTY,
+            _ => RopeSlice { counts, part: Part::Range { root, start } },
+        }
+    }
+
+    /// A text whose counts are known.
+    #[inline]
+    pub(crate) fn of_text(text: &'a str, counts: Counts) -> RopeSlice<'a> {
+        RopeSlice { counts, part: Part::Text(text) }
+    }
+
+    /// The characters of a rope from `start` up to `end`, which are in range.
+    pub(crate) fn of_chars(root: &'a Root, start: usize, end: usize) -> RopeSlice<'a> {
+        let first = known(root.chunk_at_char(start));
+        let at = known(root.char_to_byte(start));
+        RopeSlice::of_counted(root, first, at, known(root.counts_in_chars(start, end)))
+    }
+
+    /// The bytes of a rope from `start` up to `end`, which are in range; none where one of them lies inside a character.
+    pub(crate) fn of_bytes(root: &'a Root, start: usize, end: usize) -> Option<RopeSlice<'a>> {
+        let counts = root.counts_in_bytes(start, end)?;
+        Some(RopeSlice::of_counted(root, known(root.chunk_at_byte(start)), start, counts))
+    }
+
+    /// So much text from the byte `at` on, which the chunk holds: one text, where all of it lies in the chunk.
+    fn of_counted(root: &'a Root, first: Chunk<'a>, at: usize, counts: Counts) -> RopeSlice<'a> {
+        let from = at - first.bytes;
+        if let Some(text) = first.text.get(from..from + counts.bytes) {
+            return RopeSlice::of_text(text, counts);
+        }
+        // A CR whose LF follows the start is no line break before it.
+        let line_breaks = known(root.byte_to_line(at));
+        RopeSlice::of_range(root, Counts { line_breaks, ..known(root.counts_in_bytes(0, at)) }, counts)
+    }
+
+    /// The rope and the characters that a slice is of, where it isn't a text in one piece.
+    pub(crate) fn range(&self) -> Option<(&'a Root, usize, usize)> {
+        match self.part {
+            Part::Range { root, start } => Some((root, start.chars, start.chars + self.counts.chars)),
+            Part::Text(_) => None,
+        }
+    }
+}
+
+macro_rules! conversions {
+    ($($name:ident($index:ident: $from:ident -> $to:ident) else $error:ident by $call:ident for $plain:literal;)*) => {
+        $(
+            #[doc = concat!("What [`", $plain, "`](Self::", $plain, ") answers, refused where the index is past the end.")]
+            #[inline]
+            pub fn $name(&self, $index: usize) -> Result<usize> {
+                let counts = self.counts;
+                if $index >= counts.$from {
+                    return if $index == counts.$from { Ok(counts.$to) } else { Err(Error::$error($index, counts.$from)) };
+                }
+                Ok(match self.part {
+                    Part::Range { root, start } => known(root.$call(start.$from + $index)) - start.$to,
+                    Part::Text(text) => ffi::$call(text, $index),
+                })
+            }
+        )*
+    };
+}
+
+macro_rules! line_starts {
+    ($($name:ident -> $to:ident by $call:ident for $plain:literal;)*) => {
+        $(
+            #[doc = concat!("What [`", $plain, "`](Self::", $plain, ") answers, refused where the index is past the last line.")]
+            #[inline]
+            pub fn $name(&self, line_idx: usize) -> Result<usize> {
+                let (lines, len) = (self.len_lines(), self.counts.$to);
+                if line_idx >= lines {
+                    return if line_idx == lines { Ok(len) } else { Err(Error::LineIndexOutOfBounds(line_idx, lines)) };
+                }
+                Ok(match self.part {
+                    _ if line_idx == 0 => 0,
+                    // The line after a CR whose LF is cut off starts past the range.
+                    Part::Range { root, start } => {
+                        len.min(known(root.$call(start.line_breaks + line_idx)) - start.$to)
+                    }
+                    Part::Text(text) => ffi::$call(text, line_idx),
+                })
+            }
+        )*
+    };
+}
+
+/// Lengths, in constant time.
+impl<'a> RopeSlice<'a> {
+    /// The length in bytes.
+    #[inline]
+    pub fn len_bytes(&self) -> usize {
+        self.counts.bytes
+    }
+
+    /// The length in characters.
+    #[inline]
+    pub fn len_chars(&self) -> usize {
+        self.counts.chars
+    }
+
+    /// The number of lines: one more than there are line breaks.
+    #[inline]
+    pub fn len_lines(&self) -> usize {
+        self.counts.line_breaks + 1
+    }
+
+    /// The length in UTF-16 code units.
+    #[inline]
+    pub fn len_utf16_cu(&self) -> usize {
+        self.counts.utf16
+    }
+
+    /// The text, where it lies in one piece, as it always does in a slice of one chunk.
+    #[inline]
+    pub fn as_str(&self) -> Option<&'a str> {
+        match self.part {
+            Part::Range { .. } => None,
+            Part::Text(text) => Some(text),
+        }
+    }
+}
+
+/// Look-ups. They take no memory.
+impl<'a> RopeSlice<'a> {
+    panicking_calls!('a);
+
+    conversions! {
+        try_byte_to_char(byte_idx: bytes -> chars) else ByteIndexOutOfBounds by byte_to_char for "byte_to_char";
+        try_byte_to_line(byte_idx: bytes -> line_breaks) else ByteIndexOutOfBounds by byte_to_line for "byte_to_line";
+        try_char_to_byte(char_idx: chars -> bytes) else CharIndexOutOfBounds by char_to_byte for "char_to_byte";
+        try_char_to_line(char_idx: chars -> line_breaks) else CharIndexOutOfBounds by char_to_line for "char_to_line";
+        try_char_to_utf16_cu(char_idx: chars -> utf16)
+            else CharIndexOutOfBounds by char_to_utf16 for "char_to_utf16_cu";
+        try_utf16_cu_to_char(utf16_cu_idx: utf16 -> chars)
+            else Utf16IndexOutOfBounds by utf16_to_char for "utf16_cu_to_char";
+    }
+
+    line_starts! {
+        try_line_to_byte -> bytes by line_to_byte for "line_to_byte";
+        try_line_to_char -> chars by line_to_char for "line_to_char";
+    }
+
+    /// A byte; none where the index is past the last one.
+    #[inline]
+    pub fn get_byte(&self, byte_idx: usize) -> Option<u8> {
+        match self.part {
+            _ if byte_idx >= self.counts.bytes => None,
+            Part::Range { root, start } => root.byte(start.bytes + byte_idx),
+            Part::Text(text) => Some(text.as_bytes()[byte_idx]),
+        }
+    }
+
+    /// A character; none where the index is past the last one.
+    #[inline]
+    pub fn get_char(&self, char_idx: usize) -> Option<char> {
+        match self.part {
+            _ if char_idx >= self.counts.chars => None,
+            Part::Range { root, start } => root.char(start.chars + char_idx),
+            Part::Text(text) => text[ffi::char_to_byte(text, char_idx)..].chars().next(),
+        }
+    }
+
+    /// A line, its line break among it; none where the index is past the last one.
+    pub fn get_line(&self, line_idx: usize) -> Option<RopeSlice<'a>> {
+        match self.part {
+            _ if line_idx > self.counts.line_breaks => None,
+            Part::Range { root, start } => {
+                let (first, last, text) = known(root.line(start.line_breaks + line_idx));
+                let (from, to) = (first.max(start.bytes), last.min(start.bytes + self.counts.bytes));
+                match text.get(from - first..to.max(from) - first) {
+                    Some(text) => Some(RopeSlice::from(text)),
+                    None => RopeSlice::of_bytes(root, from, to),
+                }
+            }
+            Part::Text(text) => {
+                let rest = &text[ffi::line_to_byte(text, line_idx)..];
+                Some(RopeSlice::from(&rest[..ffi::line_to_byte(rest, 1)]))
+            }
+        }
+    }
+
+    /// What [`chunk_at_byte`](Self::chunk_at_byte) answers, refused where the index is past the end.
+    pub fn try_chunk_at_byte(&self, byte_idx: usize) -> Result<ChunkAt<'a>> {
+        let len = self.len_bytes();
+        self.get_chunk_at_byte(byte_idx).ok_or(Error::ByteIndexOutOfBounds(byte_idx, len))
+    }
+
+    /// The chunk that holds a byte, or the last chunk for the length; none where the index is past that.
+    pub(crate) fn get_chunk_at_byte(&self, byte_idx: usize) -> Option<ChunkAt<'a>> {
+        let is_inside = byte_idx <= self.counts.bytes;
+        is_inside
+            .then(|| self.chunk_by(|root, start, end| root.chunk_at_byte((start.bytes + byte_idx).min(end.bytes - 1))))
+    }
+
+    /// The chunk that holds a character, or the last chunk for the length; none where the index is past that.
+    pub fn get_chunk_at_char(&self, char_idx: usize) -> Option<ChunkAt<'a>> {
+        let is_inside = char_idx <= self.counts.chars;
+        is_inside
+            .then(|| self.chunk_by(|root, start, end| root.chunk_at_char((start.chars + char_idx).min(end.chars - 1))))
+    }
+
+    /// The chunk that holds the line break before a line: the first chunk for the first line, the last chunk for the
+    /// number of lines; none where the index is past that.
+    pub fn get_chunk_at_line_break(&self, line_break_idx: usize) -> Option<ChunkAt<'a>> {
+        let lines = self.len_lines();
+        let is_inside = line_break_idx <= lines;
+        is_inside.then(|| {
+            self.chunk_by(|root, start, end| match line_break_idx {
+                0 => root.chunk_at_byte(start.bytes),
+                _ if line_break_idx == lines => root.chunk_at_byte(end.bytes - 1),
+                _ => root.chunk_at_line_break(start.line_breaks + line_break_idx),
+            })
+        })
+    }
+
+    /// A chunk of the range that a look-up finds, cut to the range and counted from its start.
+    #[inline]
+    fn chunk_by(&self, find: impl FnOnce(&'a Root, Counts, Counts) -> Option<Chunk<'a>>) -> ChunkAt<'a> {
+        match self.part {
+            Part::Range { root, start } => {
+                let end = start.plus(self.counts);
+                let chunk = known(find(root, start, end));
+                let (text, first) = chunk.cut(start, end);
+                let chars = chunk.chars.saturating_sub(start.chars);
+                (text, first - start.bytes, chars, chunk.line_breaks.saturating_sub(start.line_breaks))
+            }
+            Part::Text(text) => (text, 0, 0, 0),
+        }
+    }
+
+    /// A slice of a range of characters; none where it is not in range.
+    #[inline]
+    pub fn get_slice<R: RangeBounds<usize>>(&self, char_range: R) -> Option<RopeSlice<'a>> {
+        self.slice_chars(Bounds::of(&char_range)).ok()
+    }
+
+    #[inline]
+    pub(crate) fn slice_chars(&self, bounds: Bounds) -> Result<RopeSlice<'a>> {
+        let len = self.counts.chars;
+        let (from, to) = bounds.of_chars(len)?;
+        if to - from == len {
+            return Ok(*self);
+        }
+        Ok(match self.part {
+            Part::Range { root, start } => RopeSlice::of_chars(root, start.chars + from, start.chars + to),
+            Part::Text(text) => {
+                let rest = &text[ffi::char_to_byte(text, from)..];
+                RopeSlice::from(&rest[..ffi::char_to_byte(rest, to - from)])
+            }
+        })
+    }
+
+    /// A slice of a range of bytes; none where it is not in range, or one of its bounds lies inside a character.
+    #[inline]
+    pub fn get_byte_slice<R: RangeBounds<usize>>(&self, byte_range: R) -> Option<RopeSlice<'a>> {
+        self.slice_bytes(Bounds::of(&byte_range)).ok()
+    }
+
+    #[inline]
+    pub(crate) fn slice_bytes(&self, bounds: Bounds) -> Result<RopeSlice<'a>> {
+        let len = self.counts.bytes;
+        let (from, to) = bounds.of_bytes(len)?;
+        if to - from == len {
+            return Ok(*self);
+        }
+        let slice = match self.part {
+            Part::Range { root, start } => RopeSlice::of_bytes(root, start.bytes + from, start.bytes + to),
+            Part::Text(text) => text.get(from..to).map(RopeSlice::from),
+        };
+        slice.ok_or(bounds.inside_character())
+    }
+}
+
+/// Cursors; none where the index is past the end.
+impl<'a> RopeSlice<'a> {
+    /// A cursor over the bytes that stands before a byte; none where the index is past the end.
+    #[inline]
+    pub fn get_bytes_at(&self, byte_idx: usize) -> Option<Bytes<'a>> {
+        let is_inside = byte_idx <= self.counts.bytes;
+        is_inside.then(|| match self.part {
+            Part::Range { root, start } => Bytes::of_range(root, start, self.counts, byte_idx),
+            Part::Text(text) => Bytes::of_text(text, byte_idx),
+        })
+    }
+
+    /// A cursor over the characters that stands before a character; none where the index is past the end.
+    #[inline]
+    pub fn get_chars_at(&self, char_idx: usize) -> Option<Chars<'a>> {
+        let is_inside = char_idx <= self.counts.chars;
+        is_inside.then(|| match self.part {
+            Part::Range { root, start } => Chars::of_range(root, start, self.counts, char_idx),
+            Part::Text(text) => Chars::of_text(text, self.counts, char_idx),
+        })
+    }
+
+    /// A cursor over the lines that stands before a line, or at the end for the number of lines; none where the index is
+    /// past that.
+    #[inline]
+    pub fn get_lines_at(&self, line_idx: usize) -> Option<Lines<'a>> {
+        let is_inside = line_idx <= self.len_lines();
+        is_inside.then(|| match self.part {
+            Part::Range { root, start } => Lines::of_range(root, start, self.counts, line_idx),
+            Part::Text(text) => Lines::of_text(text, self.counts, line_idx),
+        })
+    }
+
+    /// What [`chunks_at_byte`](Self::chunks_at_byte) answers; none where the index is past the end.
+    #[inline]
+    pub fn get_chunks_at_byte(&self, byte_idx: usize) -> Option<ChunksAt<'a>> {
+        Some(self.chunks_from(self.get_chunk_at_byte(byte_idx)?, byte_idx == self.len_bytes()))
+    }
+
+    /// What [`chunks_at_char`](Self::chunks_at_char) answers; none where the index is past the end.
+    #[inline]
+    pub fn get_chunks_at_char(&self, char_idx: usize) -> Option<ChunksAt<'a>> {
+        Some(self.chunks_from(self.get_chunk_at_char(char_idx)?, char_idx == self.len_chars()))
+    }
+
+    /// What [`chunks_at_line_break`](Self::chunks_at_line_break) answers; none where the index is past the number of lines.
+    #[inline]
+    pub fn get_chunks_at_line_break(&self, line_break_idx: usize) -> Option<ChunksAt<'a>> {
+        Some(self.chunks_from(self.get_chunk_at_line_break(line_break_idx)?, line_break_idx == self.len_lines()))
+    }
+
+    /// A cursor before a chunk, or at the end.
+    fn chunks_from(&self, (_, first, chars, line_breaks): ChunkAt<'a>, is_at_end: bool) -> ChunksAt<'a> {
+        let Counts { bytes, chars, line_breaks, .. } =
+            if is_at_end { self.counts } else { Counts { bytes: first, chars, line_breaks, utf16: 0 } };
+        let chunks = match self.part {
+            Part::Range { root, start } => Chunks::of_range(root, start, self.counts, bytes),
+            Part::Text(text) => Chunks::of_text(text, is_at_end),
+        };
+        (chunks, bytes, chars, line_breaks)
+    }
+
+    /// A cursor over the chunks.
+    #[inline]
+    pub fn chunks(&self) -> Chunks<'a> {
+        match self.part {
+            Part::Range { root, start } => Chunks::of_range(root, start, self.counts, 0),
+            Part::Text(text) => Chunks::of_text(text, false),
+        }
+    }
+}
+
+impl<'a> From<&'a str> for RopeSlice<'a> {
+    /// A slice of a plain text, which is counted once.
+    #[inline]
+    fn from(text: &'a str) -> RopeSlice<'a> {
+        RopeSlice::of_text(text, Counts::of(text))
+    }
+}

@@ -1,0 +1,308 @@
+//! Ropes and slices as texts: conversions, comparisons, hashes, display.
+use std::borrow::Cow;
+use std::cmp::Ordering;
+use std::fmt;
+use std::hash::{Hash, Hasher};
+
+use crate::builder::RopeBuilder;
+use crate::rope::Rope;
+use crate::slice::RopeSlice;
+
+// Ropes of texts.
+
+macro_rules! rope_of_texts {
+    ($($text:ty;)*) => {
+        $(
+            impl<'a> From<$text> for Rope {
+                #[inline]
+                fn from(text: $text) -> Rope {
+                    Rope::from_str(&text)
+                }
+            }
+
+            impl<'a> FromIterator<$text> for Rope {
+                /// A rope of the texts, one behind another.
+                fn from_iter<T: IntoIterator<Item = $text>>(texts: T) -> Rope {
+                    let mut builder = RopeBuilder::new();
+                    texts.into_iter().for_each(|text| builder.append(&text));
+                    builder.finish()
+                }
+            }
+        )*
+    };
+}
+
+// `String` has no lifetime to name, so that it stands apart.
+rope_of_texts! {
+    &'a str;
+    Cow<'a, str>;
+}
+
+impl From<String> for Rope {
+    #[inline]
+    fn from(text: String) -> Rope {
+        Rope::from_str(&text)
+    }
+}
+
+impl FromIterator<String> for Rope {
+    /// A rope of the texts, one behind another.
+    fn from_iter<T: IntoIterator<Item = String>>(texts: T) -> Rope {
+        texts.into_iter().map(Cow::<str>::Owned).collect()
+    }
+}
+
+impl<'a> From<RopeSlice<'a>> for Rope {
+    /// A rope of the slice's text, of which it shares what it can with the slice's rope.
+    fn from(slice: RopeSlice<'a>) -> Rope {
+        let Some((root, start, end)) = slice.range() else {
+            return Rope::from_str(slice.as_str().unwrap_or_default());
+        };
+        let mut rope = Rope::of(root.clone());
+        if end < rope.len_chars() {
+            drop(rope.split_off(end));
+        }
+        if start > 0 {
+            rope = rope.split_off(start);
+        }
+        rope
+    }
+}
+
+impl Default for Rope {
+    #[inline]
+    fn default() -> Rope {
+        Rope::new()
+    }
+}
+
+// Texts of ropes.
+
+impl<'a> From<RopeSlice<'a>> for String {
+    fn from(slice: RopeSlice<'a>) -> String {
+        let mut text = String::with_capacity(slice.len_bytes());
+        slice.chunks().for_each(|chunk| text.push_str(chunk));
+        text
+    }
+}
+
+impl<'a> From<RopeSlice<'a>> for Cow<'a, str> {
+    /// The text itself where it lies in one piece, and else a copy of it.
+    fn from(slice: RopeSlice<'a>) -> Cow<'a, str> {
+        match slice.as_str() {
+            Some(text) => Cow::Borrowed(text),
+            None => Cow::Owned(slice.into()),
+        }
+    }
+}
+
+impl<'a> From<&'a Rope> for String {
+    fn from(rope: &'a Rope) -> String {
+        rope.slice(..).into()
+    }
+}
+
+impl From<Rope> for String {
+    fn from(rope: Rope) -> String {
+        String::from(&rope)
+    }
+}
+
+impl<'a> From<&'a Rope> for Cow<'a, str> {
+    /// The text itself where it lies in one piece, and else a copy of it.
+    fn from(rope: &'a Rope) -> Cow<'a, str> {
+        rope.slice(..).into()
+    }
+}
+
+impl<'a> From<Rope> for Cow<'a, str> {
+    fn from(rope: Rope) -> Cow<'a, str> {
+        Cow::Owned(rope.into())
+    }
+}
+
+// Comparisons, of texts by their bytes.
+
+fn order(left: RopeSlice<'_>, right: RopeSlice<'_>) -> Ordering {
+    let (mut left_chunks, mut right_chunks) = (left.chunks(), right.chunks());
+    let (mut left, mut right): (&[u8], &[u8]) = (b"", b"");
+    loop {
+        if left.is_empty() {
+            left = left_chunks.next().unwrap_or_default().as_bytes();
+        }
+        if right.is_empty() {
+            right = right_chunks.next().unwrap_or_default().as_bytes();
+        }
+        let len = left.len().min(right.len());
+        let (left_part, right_part);
+        (left_part, left) = left.split_at(len);
+        (right_part, right) = right.split_at(len);
+        match left_part.cmp(right_part) {
+            // One of the texts is at its end.
+            Ordering::Equal if len == 0 => return left.len().cmp(&right.len()),
+            Ordering::Equal => {}
+            unequal => return unequal,
+        }
+    }
+}
+
+fn is_text(slice: RopeSlice<'_>, text: &str) -> bool {
+    let mut rest = text.as_bytes();
+    slice.len_bytes() == text.len()
+        && slice.chunks().all(|chunk| {
+            let (part, behind) = rest.split_at(chunk.len());
+            rest = behind;
+            part == chunk.as_bytes()
+        })
+}
+
+impl PartialEq for Rope {
+    #[inline]
+    fn eq(&self, other: &Rope) -> bool {
+        self.len_bytes() == other.len_bytes() && self.cmp(other).is_eq()
+    }
+}
+
+impl Eq for Rope {}
+
+impl Ord for Rope {
+    /// The order of the texts' bytes, which is that of their characters.
+    fn cmp(&self, other: &Rope) -> Ordering {
+        if self.is_instance(other) {
+            return Ordering::Equal;
+        }
+        self.root().order(other.root())
+    }
+}
+
+impl PartialOrd for Rope {
+    #[inline]
+    fn partial_cmp(&self, other: &Rope) -> Option<Ordering> {
+        Some(self.cmp(other))
+    }
+}
+
+impl<'b> PartialEq<RopeSlice<'b>> for RopeSlice<'_> {
+    #[inline]
+    fn eq(&self, other: &RopeSlice<'b>) -> bool {
+        self.len_bytes() == other.len_bytes() && order(*self, *other).is_eq()
+    }
+}
+
+impl Eq for RopeSlice<'_> {}
+
+impl Ord for RopeSlice<'_> {
+    /// The order of the texts' bytes, which is that of their characters.
+    fn cmp(&self, other: &Self) -> Ordering {
+        order(*self, *other)
+    }
+}
+
+impl<'b> PartialOrd<RopeSlice<'b>> for RopeSlice<'_> {
+    #[inline]
+    fn partial_cmp(&self, other: &RopeSlice<'b>) -> Option<Ordering> {
+        Some(order(*self, *other))
+    }
+}
+
+/// Equality of a text and another kind of text, from either side.
+macro_rules! equal {
+    ($(<$($life:lifetime),*> $left:ty, $right:ty: |$a:ident, $b:ident| $equal:expr;)*) => {
+        $(
+            impl<$($life),*> PartialEq<$right> for $left {
+                #[inline]
+                fn eq(&self, $b: &$right) -> bool {
+                    let $a = self;
+                    $equal
+                }
+            }
+
+            impl<$($life),*> PartialEq<$left> for $right {
+                #[inline]
+                fn eq(&self, $a: &$left) -> bool {
+                    let $b = self;
+                    $equal
+                }
+            }
+        )*
+    };
+}
+
+equal! {
+    <> Rope, str: |rope, text| rope.len_bytes() == text.len() && rope.root().is_text(text);
+    <'b> Rope, &'b str: |rope, text| *rope == **text;
+    <> Rope, String: |rope, text| *rope == **text;
+    <'b> Rope, Cow<'b, str>: |rope, text| *rope == **text;
+    <'a> RopeSlice<'a>, str: |slice, text| is_text(*slice, text);
+    <'a, 'b> RopeSlice<'a>, &'b str: |slice, text| is_text(*slice, text);
+    <'a> RopeSlice<'a>, String: |slice, text| is_text(*slice, text);
+    <'a, 'b> RopeSlice<'a>, Cow<'b, str>: |slice, text| is_text(*slice, text);
+    <'a> RopeSlice<'a>, Rope: |slice, rope| *slice == rope.slice(..);
+}
+
+// Hashes.
+
+impl Hash for RopeSlice<'_> {
+    /// Equal texts hash alike, however they are cut: the hasher is given all of the text in blocks of one size, of which only
+    /// those are copied that lie in two chunks.
+    fn hash<H: Hasher>(&self, state: &mut H) {
+        const BLOCK: usize = 256;
+        let mut block = [0; BLOCK];
+        let mut filled = 0;
+        for chunk in self.chunks() {
+            let mut bytes = chunk.as_bytes();
+            if filled > 0 {
+                let (head, rest) = bytes.split_at(bytes.len().min(BLOCK - filled));
+                block[filled..filled + head.len()].copy_from_slice(head);
+                filled += head.len();
+                bytes = rest;
+                if filled < BLOCK {
+                    continue;
+                }
+                state.write(&block);
+            }
+            let blocks = bytes.chunks_exact(BLOCK);
+            let rest = blocks.remainder();
+            blocks.for_each(|block| state.write(block));
+            block[..rest.len()].copy_from_slice(rest);
+            filled = rest.len();
+        }
+        if filled > 0 {
+            state.write(&block[..filled]);
+        }
+        // An end that is no byte of UTF-8, so that two texts one after another hash by where they are parted.
+        state.write_u8(0xff);
+    }
+}
+
+impl Hash for Rope {
+    fn hash<H: Hasher>(&self, state: &mut H) {
+        self.slice(..).hash(state)
+    }
+}
+
+// Display.
+
+macro_rules! shown {
+    ($($text:ty;)*) => {
+        $(
+            impl fmt::Display for $text {
+                fn fmt(&self, f: &mut fmt::Formatter<'_>) -> fmt::Result {
+                    self.chunks().try_for_each(|chunk| f.write_str(chunk))
+                }
+            }
+
+            impl fmt::Debug for $text {
+                /// The list of the chunks.
+                fn fmt(&self, f: &mut fmt::Formatter<'_>) -> fmt::Result {
+                    f.debug_list().entries(self.chunks()).finish()
+                }
+            }
+        )*
+    };
+}
+
+shown! {
+    Rope;
+    RopeSlice<'_>;
+}
