@@ -6,7 +6,7 @@ modules (`//!`). In them
 
 - each word between backticks stands somewhere in a file of the tree that is no document,
 - each link leads to a file,
-- each block of Rust, C or C++ stands in a file, line by line,
+- each block of Rust, C or C++ stands in a file, line by line, perhaps further in,
 - no sentence tells of machines, days or trees that are gone,
 - no document is longer than its size below.
 """
@@ -14,24 +14,28 @@ import pathlib
 import re
 import subprocess
 import sys
+import textwrap
 
 TOP = pathlib.Path(__file__).resolve().parent.parent
 SIZES = {
     "README.md": 7000, "CONTRIBUTING.md": 4500, "CHANGELOG.md": 3000,
-    "docs/BENCHMARKS.md": 12000, "docs/CALLING.md": 17000, "docs/COMMANDS.md": 3500, "docs/DECISIONS.md": 13000,
+    "docs/BENCHMARKS.md": 9000, "docs/CALLING.md": 17500, "docs/COMMANDS.md": 3500, "docs/DECISIONS.md": 12500,
     "docs/DEFINITIONS.md": 6500, "docs/DIFFERENCES.md": 7000, "docs/GATE.md": 4500, "docs/MAP.md": 9500, "docs/PROVED.md": 10000,
 }
 GONE = ("machine of four cores,", "the tree before", "fifth machine", "thirteenth machine", "the one before that", "last session")
 # Words of the system, of Rust and of the Rust crate that no file of this tree has.
 KNOWN = set("""std rustc usize isize u64 u32 malloc realloc free no_std gcc clang callgrind fnv
-    Arc FromIterator RangeBounds is_instance smallvec str_indices cr_lines unicode_lines simd""".split())
+    Arc FromIterator RangeBounds is_instance smallvec str_indices cr_lines unicode_lines simd axioms lasting""".split())
 # What begins with one of these is a command line.
 COMMANDS = ("rt ", "perf ", "cargo ", "git ", "rattle-kit")
 
 
 def tracked():
-    listed = subprocess.run(["git", "ls-files"], cwd=TOP, capture_output=True, text=True, check=True)
-    return [TOP / name for name in listed.stdout.splitlines() if (TOP / name).is_file()]
+    """The files of the repository, or where this is no clone all but what builds leave."""
+    listed = subprocess.run(["git", "ls-files"], cwd=TOP, capture_output=True, text=True, check=False)
+    if listed.returncode == 0:
+        return [TOP / name for name in listed.stdout.splitlines() if (TOP / name).is_file()]
+    return [path for path in TOP.rglob("*") if path.is_file() and not {"out", "target", ".git"} & set(path.parts)]
 
 
 def read(path):
@@ -80,9 +84,13 @@ def lost_links(path, text):
             yield f"no file at the link {link}"
 
 
+def stands_in(block, source):
+    return any(textwrap.indent(block, " " * indent) in source for indent in (0, 4, 8))
+
+
 def lost_blocks(text, sources):
     for language, block in blocks(text):
-        if language in ("rust", "c", "cpp") and not any(block in source for source in sources):
+        if language in ("rust", "c", "cpp") and not any(stands_in(block, source) for source in sources):
             yield f"no file has the block that begins {block.strip().splitlines()[0]}"
 
 

@@ -1,0 +1,13 @@
+//! A first edit, by calls that refuse an index that isn't inside.
+use ropey::{Result, Rope};
+use std::alloc::Global;
+
+/// Three lines, of which the second one is put in another's place.
+pub fn with_flowers(alloc: Global) -> Result<Rope> {
+    let mut rope = Rope::from_str(alloc, "one\ntwo\nthree\n")?;
+    let start = rope.try_line_to_char(1)?;
+    let end = rope.try_line_to_char(2)?;
+    rope.try_remove(start..end)?;
+    rope.try_insert(start, "flowers\n")?;
+    Ok(rope)
+}
