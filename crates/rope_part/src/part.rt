@@ -49,6 +49,8 @@ impl<'a> Part<'a> {
     }
 
     /// The whole text of a tree.
+    // Inlined: a call would answer it through memory, in words that are loaded again as vectors.
+    #[inline(always)]
     pub fn of_node(node: &'a Node) -> Part<'a>
         ensures text { text_of result ≡ text node.now }
         ensures chunks { chunks_of result ≡ node.now.leaves }

@@ -48,6 +48,7 @@ impl<'a> RopeSlice<'a> {
     /// bytes, of characters and of line breaks that end before the chunk; with no chunk at all `("", 0, 0, 0)`.
     ///
     /// The index is at most `len_bytes()`. Costs one or two look-ups; takes no memory.
+    #[inline(always)]
     pub fn chunk_at_byte(&self, byte_idx: usize) -> ChunkAt<'a>
         requires { byte_idx ≤ byte_len (text_of self.now) }
         ensures { ShowsChunk (content_of self.now)
@@ -61,6 +62,7 @@ impl<'a> RopeSlice<'a> {
     /// `("", 0, 0, 0)`.
     ///
     /// The index is at most `len_chars()`. Costs one or two look-ups; takes no memory.
+    #[inline(always)]
     pub fn chunk_at_char(&self, char_idx: usize) -> ChunkAt<'a>
         requires { char_idx ≤ length (text_of self.now) }
         ensures { ShowsChunk (content_of self.now)
