@@ -82,7 +82,8 @@ pub fn expect_same<T: PartialEq + Debug>(what: &str, found: &T, wanted: &T) -> R
 }
 
 /// Ends a function with a failure unless what was found is what was wanted.
-/// It is an `if let`, since that is proved sooner than a `?`.
+/// It is an `if let`, since that is proved sooner than a `?`. Code behind it doesn't know that the
+/// values are equal; where a call needs that, write `holds!(a == b)`.
 #[macro_export]
 macro_rules! same {
     ($found:expr, $wanted:expr $(,)?) => {
