@@ -1,4 +1,5 @@
-//! Callers of ropes, each with a contract that says what it did. docs/CALLING.md shows them one by one.
+//! Examples: small callers of ropes, each with a contract that says what it did. They are proved
+//! from public contracts alone. docs/CALLING.md shows them, and `rope_tests` runs them.
 #![tactic(auto)]
 
 pub mod copies;

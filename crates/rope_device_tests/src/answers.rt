@@ -1,28 +1,22 @@
 //! What a plain rope answers to each query.
-use crate::plain_rope::{Count, Part, PlainRope, last_place, lengths_of, line_place, place_at};
+use crate::commands::{Outcome, expect_reply};
+use crate::shown::other_reply;
 use crate::walking::moved;
+use rope_plain::failure::Failure;
 use rope_plain::plain_cursor::PlainCursor;
-use rope_plain::plain_text::Place;
+use rope_plain::plain_rope::{Count, PlainRope, last_place, lengths_of, line_place, place_at};
+use rope_plain::plain_slice::PlainSlice;
+use rope_plain::plain_text::{Place, places};
+use rope_plain::texts::expect_chars;
+use rope_plain::{holds, same, some};
 use rope_script::{At, Conv, Item, Move, Query, Reply, Unit};
 use ropey::Error;
-use std::alloc::{AllocError, Global};
-
-/// Whether a text is these characters.
-pub fn is_text(text: &str, chars: &[char]) -> bool {
-    let mut place: usize = 0;
-    for c in text.chars() {
-        if chars.get(place) != Some(&c) {
-            return false;
-        }
-        place = place.saturating_add(1);
-    }
-    place == chars.len()
-}
+use std::alloc::Global;
 
 /// A part that is asked, and its places.
 #[derive(Clone, Copy)]
 struct Asked<'a> {
-    part: Part<'a>,
+    part: PlainSlice<'a>,
     places: &'a [Place],
 }
 
@@ -134,78 +128,96 @@ impl<'a> Asked<'a> {
         (index <= end).then_some((found, index == end))
     }
 
-    /// Whether this is the chunk with that index; where there is none it is empty.
-    fn is_chunk(&self, text: &str, index: usize) -> bool {
+    /// Fails unless this is the chunk with that index; where there is none it is empty.
+    fn expect_chunk(&self, text: &str, index: usize) -> Result<(), Failure> {
         match self.part.chunk(index) {
-            Some(chunk) => is_text(text, chunk),
-            None => text.is_empty(),
+            Some(chunk) => { expect_chars(text, chunk) }
+            None => {
+                holds!(text.is_empty());
+                Ok(())
+            }
         }
     }
 
-    fn is_chunk_reply(&self, at: &At, index: usize, reply: &Reply) -> bool {
+    fn expect_chunk_reply(&self, at: &At, index: usize, reply: &Reply) -> Result<(), Failure> {
         match (self.chunk_index(at, index), reply) {
-            (None, Reply::Absent) => true,
+            (None, Reply::Absent) => Ok(()),
             (Some((found, _)), Reply::Chunk(text, bytes, chars, break_count)) => {
                 let start = self.part.chunk_start(found);
                 let place = place_at(self.places, start);
-                [*bytes, *chars, *break_count] == [place.byte, start, place.line]
-                    && self.is_chunk(text.as_str(), found)
+                same!(
+                    [*bytes, *chars, *break_count],
+                    [place.byte, start, place.line]
+                );
+                self.expect_chunk(text.as_str(), found)
             }
-            _ => false,
+            (wanted, _) => Err(other_reply(&wanted, reply)),
         }
     }
 
-    /// Whether these are all chunks, in order.
-    fn are_chunks(&self, texts: &[String]) -> bool {
+    /// Fails unless these are all chunks, in order.
+    fn expect_chunks(&self, texts: &[String]) -> Result<(), Failure> {
         for (index, text) in texts.iter().enumerate() {
-            if !self.is_chunk(text.as_str(), index) {
-                return false;
-            }
+            self.expect_chunk(text.as_str(), index)?;
         }
-        texts.len() == self.part.chunk_count()
+        same!(texts.len(), self.part.chunk_count());
+        Ok(())
     }
 
-    /// Whether an item that a cursor gave is the one with that index.
-    fn is_item(&self, unit: &Unit, item: &Item, index: usize) -> bool {
+    /// Fails unless an item that a cursor gave is the one with that index.
+    fn expect_item(&self, unit: &Unit, item: &Item, index: usize) -> Result<(), Failure> {
         match (unit, item) {
-            (Unit::Bytes, Item::Byte(byte)) => self.byte(index) == Some(*byte),
-            (Unit::Chars, Item::Char(c)) => self.part.text.get(index) == Some(c),
-            (Unit::Lines, Item::Text(text)) => is_text_of(text.as_str(), self.line(index)),
-            (Unit::Chunks(_), Item::Text(text)) => {
-                is_text_of(text.as_str(), self.part.chunk(index))
+            (Unit::Bytes, Item::Byte(byte)) => {
+                same!(self.byte(index), Some(*byte));
+                Ok(())
             }
-            _ => false,
+            (Unit::Chars, Item::Char(c)) => {
+                same!(self.part.text.get(index), Some(c));
+                Ok(())
+            }
+            (Unit::Lines, Item::Text(text)) => expect_text_of(text.as_str(), self.line(index)),
+            (Unit::Chunks(_), Item::Text(text)) => expect_text_of(
+                text.as_str(),
+                self.part.chunk(index),
+            ),
+            _ => Err(Failure::new(format_args!("item {index} is of another kind"))),
         }
     }
 
-    /// Whether a step of a walk gave what it has to.
-    fn agrees(&self, unit: &Unit, item: Option<&Option<Item>>, index: Option<usize>) -> bool {
+    /// Fails unless a step of a walk gave what it has to.
+    fn agrees(
+        &self,
+        unit: &Unit,
+        item: Option<&Option<Item>>,
+        index: Option<usize>,
+    ) -> Result<(), Failure> {
         match (item, index) {
-            (Some(Some(item)), Some(index)) => self.is_item(unit, item, index),
-            (Some(None), None) => true,
-            _ => false,
+            (Some(Some(item)), Some(index)) => self.expect_item(unit, item, index),
+            (Some(None), None) => Ok(()),
+            (None, _) => Err(Failure::new("a step gave no item")),
+            (Some(Some(_)), None) => Err(Failure::new("an item, not none")),
+            (Some(None), Some(index)) => Err(Failure::new(format_args!("none, not item {index}"))),
         }
     }
 
-    /// Whether the items are those of a walk from where the cursor stands.
-    fn are_items(
+    /// Fails unless the items are those of a walk from where the cursor stands.
+    fn expect_items(
         &self,
         unit: &Unit,
         start: PlainCursor,
         moves: &[Move],
         items: &[Option<Item>],
-    ) -> bool {
+    ) -> Result<(), Failure> {
         let mut cursor = start;
         let mut count: usize = 0;
         for step in moves {
             if let Some(index) = moved(&mut cursor, step) {
-                if !self.agrees(unit, items.get(count), index) {
-                    return false;
-                }
+                self.agrees(unit, items.get(count), index)?;
                 count = count.saturating_add(1);
             }
         }
-        count == items.len()
+        same!(count, items.len());
+        Ok(())
     }
 
     /// Where a walk starts among the chunks; none out of range.
@@ -227,23 +239,36 @@ impl<'a> Asked<'a> {
         (index <= len).then_some(PlainCursor::at(len, index))
     }
 
-    fn is_walk(&self, unit: &Unit, index: usize, moves: &[Move], reply: &Reply) -> bool {
+    fn expect_walk(
+        &self,
+        unit: &Unit,
+        index: usize,
+        moves: &[Move],
+        reply: &Reply,
+    ) -> Result<(), Failure> {
         match (self.walk_start(unit, index), reply) {
-            (None, Reply::Absent) => true,
-            (Some(start), Reply::Walk(items)) => self.are_items(unit, start, moves, items),
-            _ => false,
+            (None, Reply::Absent) => Ok(()),
+            (Some(start), Reply::Walk(items)) => self.expect_items(unit, start, moves, items),
+            (wanted, _) => Err(other_reply(&wanted, reply)),
         }
     }
 
-    fn is_position(&self, index: usize, reply: &Reply) -> bool {
+    fn expect_position(&self, index: usize, reply: &Reply) -> Result<(), Failure> {
         match (self.char_error(index), reply) {
-            (Some(error), Reply::Refused(refusal)) => error == *refusal,
+            (Some(error), Reply::Refused(refusal)) => {
+                same!(error, *refusal);
+                Ok(())
+            }
             (None, Reply::Position(line, column)) => {
                 let place = place_at(self.places, index);
                 let start = place_at(self.places, place.line_start_char);
-                [*line, *column] == [place.line, place.unit.saturating_sub(start.unit)]
+                same!(
+                    [*line, *column],
+                    [place.line, place.unit.saturating_sub(start.unit)]
+                );
+                Ok(())
             }
-            _ => false,
+            (wanted, _) => Err(other_reply(&wanted, reply)),
         }
     }
 
@@ -264,114 +289,148 @@ impl<'a> Asked<'a> {
         Ok(last_place(self.places, Count::Units, unit).min(last))
     }
 
-    fn are_lens(&self, reply: &Reply) -> bool {
+    fn expect_lens(&self, reply: &Reply) -> Result<(), Failure> {
         let lens = lengths_of(self.places);
         match reply {
             Reply::Lens(bytes, chars, lines, units) => {
-                [*bytes, *chars, *lines, *units] == [lens.bytes, lens.chars, lens.lines, lens.units]
+                same!(
+                    [*bytes, *chars, *lines, *units],
+                    [lens.bytes, lens.chars, lens.lines, lens.units]
+                );
+                Ok(())
             }
-            _ => false,
+            _ => Err(other_reply(&"lens", reply)),
         }
     }
 
-    fn is_byte(&self, index: usize, reply: &Reply) -> bool {
+    fn expect_byte(&self, index: usize, reply: &Reply) -> Result<(), Failure> {
         match (self.byte(index), reply) {
-            (Some(byte), Reply::Byte(shown)) => byte == *shown,
-            (None, Reply::Absent) => true,
-            _ => false,
+            (Some(byte), Reply::Byte(shown)) => {
+                same!(byte, *shown);
+                Ok(())
+            }
+            (None, Reply::Absent) => Ok(()),
+            (wanted, _) => Err(other_reply(&wanted, reply)),
         }
     }
 
-    fn is_char(&self, index: usize, reply: &Reply) -> bool {
+    fn expect_char(&self, index: usize, reply: &Reply) -> Result<(), Failure> {
         match (self.part.text.get(index), reply) {
-            (Some(c), Reply::Char(shown)) => c == shown,
-            (None, Reply::Absent) => true,
-            _ => false,
+            (Some(c), Reply::Char(shown)) => {
+                same!(c, shown);
+                Ok(())
+            }
+            (None, Reply::Absent) => Ok(()),
+            (wanted, _) => Err(other_reply(&wanted, reply)),
         }
     }
 
-    /// Whether it is so ordered against a part of one of the ropes.
-    fn is_order(
+    /// Fails unless it is so ordered against a part of one of the ropes.
+    fn expect_order(
         &self,
         ropes: &[PlainRope],
         number: usize,
         range: Option<(usize, usize)>,
         reply: &Reply,
-    ) -> bool {
+    ) -> Result<(), Failure> {
         let Some(rope) = ropes.get(number) else {
-            return matches!(reply, Reply::NoRope);
+            return expect_reply(Outcome::NoRope, 0, reply);
         };
         match (rope.part(range), reply) {
-            (Some(part), Reply::Order(order)) => self.part.text.cmp(part.text) == *order,
-            (None, Reply::NoSlice) => true,
-            _ => false,
-        }
-    }
-
-    /// Whether a part may be replied so to a query.
-    fn is_reply(&self, ropes: &[PlainRope], query: &Query, reply: &Reply) -> bool {
-        match query {
-            Query::Lens => self.are_lens(reply),
-            Query::Show => is_text_or_absent(Some(self.part.text), reply),
-            Query::Chunks => match reply {
-                Reply::Texts(texts) => self.are_chunks(texts),
-                _ => false,
-            },
-            Query::Breaks => match reply {
-                Reply::Breaks(breaks) => *breaks == self.part.breaks,
-                _ => false,
-            },
-            Query::Convert(conversion, index) => is_number(self.convert(conversion, *index), reply),
-            Query::Byte(index) => self.is_byte(*index, reply),
-            Query::Char(index) => self.is_char(*index, reply),
-            Query::Line(line) => is_text_or_absent(self.line(*line), reply),
-            Query::ChunkAt(at, index) => self.is_chunk_reply(at, *index, reply),
-            Query::Walk(unit, index, moves) => self.is_walk(unit, *index, moves, reply),
-            Query::Compare((number, range)) => self.is_order(ropes, *number, *range, reply),
-            Query::ToPosition(index) => self.is_position(*index, reply),
-            Query::FromPosition(line, column) => {
-                is_number(self.position_to_char(*line, *column), reply)
+            (Some(part), Reply::Order(order)) => {
+                same!(self.part.text.cmp(part.text), *order);
+                Ok(())
             }
+            (None, Reply::NoSlice) => Ok(()),
+            (wanted, _) => Err(other_reply(&wanted, reply)),
+        }
+    }
+
+    /// Fails unless a part may be replied so to a query.
+    fn expect_reply(
+        &self,
+        ropes: &[PlainRope],
+        query: &Query,
+        reply: &Reply,
+    ) -> Result<(), Failure> {
+        match query {
+            Query::Lens => self.expect_lens(reply),
+            Query::Show => expect_text_or_absent(Some(self.part.text), reply),
+            Query::Chunks => {
+                match reply {
+                    Reply::Texts(texts) => self.expect_chunks(texts),
+                    _ => Err(other_reply(&"chunks", reply)),
+                }
+            }
+            Query::Breaks => {
+                match reply {
+                    Reply::Breaks(breaks) => {
+                        same!(*breaks, self.part.breaks);
+                        Ok(())
+                    }
+                    _ => Err(other_reply(&"breaks", reply)),
+                }
+            }
+            Query::Convert(conversion, index) => expect_number(
+                self.convert(conversion, *index),
+                reply,
+            ),
+            Query::Byte(index) => self.expect_byte(*index, reply),
+            Query::Char(index) => self.expect_char(*index, reply),
+            Query::Line(line) => expect_text_or_absent(self.line(*line), reply),
+            Query::ChunkAt(at, index) => self.expect_chunk_reply(at, *index, reply),
+            Query::Walk(unit, index, moves) => self.expect_walk(unit, *index, moves, reply),
+            Query::Compare((number, range)) => self.expect_order(ropes, *number, *range, reply),
+            Query::ToPosition(index) => self.expect_position(*index, reply),
+            Query::FromPosition(line, column) => expect_number(
+                self.position_to_char(*line, *column),
+                reply,
+            ),
         }
     }
 }
 
-fn is_number(answer: Answer, reply: &Reply) -> bool {
+fn expect_number(answer: Answer, reply: &Reply) -> Result<(), Failure> {
     match (answer, reply) {
-        (Ok(number), Reply::Number(shown)) => number == *shown,
-        (Err(error), Reply::Refused(shown)) => error == *shown,
-        _ => false,
+        (Ok(number), Reply::Number(shown)) => {
+            same!(number, *shown);
+            Ok(())
+        }
+        (Err(error), Reply::Refused(shown)) => {
+            same!(error, *shown);
+            Ok(())
+        }
+        (wanted, _) => Err(other_reply(&wanted, reply)),
     }
 }
 
-/// Whether there are characters, and a text is these.
-fn is_text_of(text: &str, chars: Option<&[char]>) -> bool {
-    match chars {
-        Some(chars) => is_text(text, chars),
-        None => false,
-    }
+/// Fails unless there are characters, and a text is these.
+fn expect_text_of(text: &str, chars: Option<&[char]>) -> Result<(), Failure> {
+    let chars = some!(chars);
+    expect_chars(text, chars)
 }
 
-fn is_text_or_absent(chars: Option<&[char]>, reply: &Reply) -> bool {
+fn expect_text_or_absent(chars: Option<&[char]>, reply: &Reply) -> Result<(), Failure> {
     match (chars, reply) {
-        (Some(chars), Reply::Text(text)) => is_text(text.as_str(), chars),
-        (None, Reply::Absent) => true,
-        _ => false,
+        (Some(chars), Reply::Text(text)) => { expect_chars(text.as_str(), chars) }
+        (None, Reply::Absent) => Ok(()),
+        (wanted, _) => Err(other_reply(&wanted, reply)),
     }
 }
 
-/// Whether a part may be replied so to a query; `ropes` are all ropes, of which one may be compared with it.
+/// Fails unless a part may be replied so to a query; `ropes` are all ropes, of which one may be
+/// compared with it.
 pub fn answers(
     alloc: Global,
     ropes: &[PlainRope],
-    part: Part<'_>,
+    part: PlainSlice<'_>,
     query: &Query,
     reply: &Reply,
-) -> Result<bool, AllocError> {
-    let places = part.places(alloc)?;
+) -> Result<(), Failure> {
+    let places = places(alloc, part.text, part.breaks)?;
     let asked = Asked {
         part,
         places: &places,
     };
-    Ok(asked.is_reply(ropes, query, reply))
+    asked.expect_reply(ropes, query, reply)
 }

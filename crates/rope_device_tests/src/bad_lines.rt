@@ -1,29 +1,30 @@
 //! Lines that are not of the language.
-use crate::served::is_served;
+use crate::served::expect_served;
 use rope_language::Ended;
-use std::alloc::{AllocError, Global};
-use std::process::Abort;
-use std::test::Fail;
+use rope_plain::failure::{Failure, within};
+use std::alloc::Global;
 
-/// Whether nothing is written for a line alone, and it is reported as a bad one.
-fn is_refused(alloc: Global, line: &[u8]) -> Result<bool, AllocError> {
+/// Fails unless nothing is written for a line alone, and it is reported as a bad one.
+fn expect_refused(alloc: Global, line: &[u8]) -> Result<(), Failure> {
     let mut input = Vec::from_slice(alloc, line)?;
     input.push(b'\n')?;
-    Ok(is_served(alloc, &input, 4096, Ended::BadLine(1), ""))
+    expect_served(alloc, &input, 4096, Ended::BadLine(1), "")
 }
 
-/// Serves each line alone, and none is taken.
-fn refuse(rt: &impl Abort, alloc: Global, lines: &[&[u8]]) -> Result<(), Fail> {
+/// Fails unless each line, served alone, is refused.
+fn refuse(alloc: Global, lines: &[&[u8]]) -> Result<(), Failure> {
     for line in lines {
-        assert!(rt; is_refused(alloc, line)?);
+        within(
+            format_args!("line {:?}", str::from_utf8(line)),
+            expect_refused(alloc, line),
+        )?;
     }
     Ok(())
 }
 
 #[test]
-fn words(rt: HostRuntime) -> Result<(), Fail> {
+fn words_that_are_none_are_bad_lines(rt: HostRuntime) -> Result<(), Failure> {
     refuse(
-        &rt,
         rt.alloc(),
         &[
             b"",
@@ -81,9 +82,8 @@ fn words(rt: HostRuntime) -> Result<(), Fail> {
 }
 
 #[test]
-fn parts_and_queries(rt: HostRuntime) -> Result<(), Fail> {
+fn parts_and_queries_that_are_none_are_bad_lines(rt: HostRuntime) -> Result<(), Failure> {
     refuse(
-        &rt,
         rt.alloc(),
         &[
             b"len 0:1..",
@@ -136,9 +136,8 @@ fn parts_and_queries(rt: HostRuntime) -> Result<(), Fail> {
 }
 
 #[test]
-fn texts(rt: HostRuntime) -> Result<(), Fail> {
+fn texts_that_are_not_escaped_are_bad_lines(rt: HostRuntime) -> Result<(), Failure> {
     refuse(
-        &rt,
         rt.alloc(),
         &[
             b"ins 0 0",

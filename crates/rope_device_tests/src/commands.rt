@@ -1,12 +1,15 @@
 //! What commands do to plain ropes.
-use crate::plain_rope::PlainRope;
-use rope_plain::texts::{chars_of, inserted, part_from};
+use crate::shown::other_reply;
+use rope_plain::failure::Failure;
+use rope_plain::plain_rope::PlainRope;
+use rope_plain::same;
+use rope_plain::texts::{chars_of, inserted, part_from, take_out};
 use rope_script::{Command, Reply};
 use ropey::{Error, LineBreaks};
 use std::alloc::{AllocError, Global};
 
 /// What a command has to be replied.
-#[derive(Clone, Copy)]
+#[derive(Clone, Copy, Debug)]
 pub enum Outcome {
     Done,
     Made,
@@ -43,15 +46,22 @@ fn recut(outcome: Outcome, rope: usize) -> Effect {
     }
 }
 
-/// Whether a reply is the one that a command has to be replied, where so many ropes stood before it.
-pub fn is_reply(outcome: Outcome, count: usize, reply: &Reply) -> bool {
+/// Fails unless a reply is the one that a command has to be replied, where so many ropes stood
+/// before it.
+pub fn expect_reply(outcome: Outcome, count: usize, reply: &Reply) -> Result<(), Failure> {
     match (outcome, reply) {
         (Outcome::Done, Reply::Done)
         | (Outcome::NoRope, Reply::NoRope)
-        | (Outcome::NoSlice, Reply::NoSlice) => true,
-        (Outcome::Made, Reply::Made(number)) => *number == count,
-        (Outcome::Refused(error), Reply::Refused(shown)) => error == *shown,
-        _ => false,
+        | (Outcome::NoSlice, Reply::NoSlice) => Ok(()),
+        (Outcome::Made, Reply::Made(number)) => {
+            same!(*number, count);
+            Ok(())
+        }
+        (Outcome::Refused(error), Reply::Refused(shown)) => {
+            same!(error, *shown);
+            Ok(())
+        }
+        (wanted, _) => Err(other_reply(&wanted, reply)),
     }
 }
 
@@ -108,18 +118,6 @@ fn range_error(start: Option<usize>, end: Option<usize>, len: usize) -> Option<E
         return Some(Error::CharRangeOutOfBounds(start, end, len));
     }
     (first > last).then_some(Error::CharRangeInvalid(first, last))
-}
-
-/// Takes the characters from one on and before another out.
-fn take_out(
-    alloc: Global,
-    text: &mut Vec<char>,
-    first: usize,
-    last: usize,
-) -> Result<(), AllocError> {
-    let back = part_from(alloc, text, last)?;
-    text.truncate(first);
-    text.extend_from_slice(&back)
 }
 
 fn remove(

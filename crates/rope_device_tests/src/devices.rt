@@ -13,7 +13,8 @@ pub const SINGLY: u64 = u64::MAX;
 
 /// Gives its bytes in parts, and fails once so many were given.
 ///
-/// A bit of `ends` that is set makes that byte the last of its read; the bytes past the 64th come one a read.
+/// A bit of `ends` that is set makes that byte the last of its read; the bytes past the 64th come
+/// one a read.
 #[derive(Drop)]
 pub struct Parts<'a> {
     rest: &'a [u8],
@@ -58,7 +59,8 @@ impl Read for Parts<'_> {
     }
 }
 
-/// Gives one byte a read, without end: so many `a`, then FF, then `a` again. It fails once so many were given.
+/// Gives one byte a read, without end: so many `a`, then FF, then `a` again. It fails once so many
+/// were given.
 #[derive(Drop)]
 pub struct Endless {
     before: usize,
@@ -143,7 +145,8 @@ impl Write for Narrow {
     }
 }
 
-/// Gives one byte a read. Once so many were given one read fails, or says an end, and would be followed by the others.
+/// Gives one byte a read. Once so many were given one read fails, or says an end, and would be
+/// followed by the others.
 #[derive(Drop)]
 pub struct Stumbling<'a> {
     rest: &'a [u8],
@@ -204,7 +207,8 @@ impl Read for Stumbling<'_> {
     }
 }
 
-/// Keeps at most so many bytes a write. Once so many were kept one write fails, or takes none, and the next would go on.
+/// Keeps at most so many bytes a write. Once so many were kept one write fails, or takes none, and
+/// the next would go on.
 #[derive(Drop)]
 pub struct Halting<'a> {
     pub kept: Vec<u8>,

@@ -1,6 +1,6 @@
 //! Commands and queries that are drawn at random, with indices of which some are out of range.
-use crate::plain_rope::PlainRope;
 use rope_plain::numbers::Numbers;
+use rope_plain::plain_rope::PlainRope;
 use rope_plain::texts::{random_edit_text, random_text};
 use rope_script::{At, Command, Conv, Move, Query, Unit};
 use ropey::LineBreaks;
@@ -143,7 +143,8 @@ fn query(
     ropes: &[PlainRope],
     len: usize,
 ) -> Result<Query, AllocError> {
-    // Lines are few and bytes are many: a third of the indices, or twice as many, hit and miss both.
+    // Lines are few and bytes are many: a third of the indices, or twice as many, hit and miss
+    // both.
     let few = index(numbers, len / 3);
     let many = index(numbers, len.saturating_mul(2));
     match numbers.take() % 16 {

@@ -9,13 +9,27 @@ fn a_text_is_read_edited_and_written(rt: HostRuntime) -> Result<(), Fail> {
         Ok(rope) => rope,
         Err(_) => return Err(Fail::from("no rope")),
     };
-    assert!(rt; rope.line(1).as_str() == Some("two\n"));
-    assert_eq!(rt; [rope.line_to_char(1), rope.line_to_char(2)], [4, 8]);
+    assert!(rt;
+        rope.line(1).as_str() == Some("two\n"),
+        "line 1 is not `two`"
+    );
+    assert_eq!(rt;
+        [rope.line_to_char(1), rope.line_to_char(2)],
+        [4, 8],
+        "the starts of lines"
+    );
     rope.remove(4..8)?;
     rope.insert(4, "flowers\n")?;
-    assert!(rt; rope.slice(0..12).as_str() == Some("one\nflowers\n"));
+    assert!(rt;
+        rope.slice(0..12).as_str() == Some("one\nflowers\n"),
+        "the first lines"
+    );
     let mut written = Vec::new(rt.alloc());
     rope.write_to(&mut written)?;
-    assert_eq!(rt; written.as_slice(), b"one\nflowers\nthree\n".as_slice());
+    assert_eq!(rt;
+        written.as_slice(),
+        b"one\nflowers\nthree\n".as_slice(),
+        "what was written"
+    );
     Ok(())
 }

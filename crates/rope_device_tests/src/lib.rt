@@ -1,6 +1,12 @@
-//! Tests of what goes through devices: ropes read and written, by readers and writers that move bytes in any parts and
-//! fail at any place; sessions and the line language, against worked rows; and random sessions of commands, against plain
-//! lists of characters.
+//! Tests of what goes through devices, and of sessions and the line language.
+//!
+//! No contract shows these:
+//! - a device that failed is not asked again, and its error is the one that is answered;
+//! - which command a line stands for, and at which line and how a run ends;
+//! - replies are flushed before the next read.
+//!
+//! The proofs show these too, and they are run for the compiler's sake: 500 random sessions of 60
+//! commands against lists of characters, and texts that are read and written in any parts.
 #![tactic(auto)]
 
 #[cfg(test)]
@@ -16,8 +22,6 @@ mod draw;
 #[cfg(test)]
 mod example;
 #[cfg(test)]
-mod plain_rope;
-#[cfg(test)]
 mod reading;
 #[cfg(test)]
 mod replies;
@@ -31,6 +35,8 @@ mod served;
 mod serving;
 #[cfg(test)]
 mod sessions;
+#[cfg(test)]
+mod shown;
 #[cfg(test)]
 mod stumbles;
 #[cfg(test)]

@@ -1,8 +1,9 @@
 //! A run, told by its replies.
+use rope_plain::failure::Failure;
+use rope_plain::{holds, same};
 use rope_script::{Command, Query, Reply, Session};
 use ropey::Error;
 use std::alloc::Global;
-use std::test::Fail;
 
 /// Two commands, and then a third.
 fn run_three(alloc: Global, session: &mut Session, replies: &mut Vec<Reply>) -> Result<(), Error> {
@@ -14,21 +15,21 @@ fn run_three(alloc: Global, session: &mut Session, replies: &mut Vec<Reply>) -> 
     session.run(&[Command::Insert(1, 0, String::new(alloc))], replies)
 }
 
-/// Whether a rope was made, it was empty, and there was no second.
-fn are_added(replies: &[Reply]) -> bool {
-    replies.len() == 3
-        && matches!(replies.get(0), Some(Reply::Made(0)))
-        && matches!(replies.get(1), Some(Reply::Lens(0, 0, 1, 0)))
-        && matches!(replies.get(2), Some(Reply::NoRope))
+/// Fails unless a rope was made, it was empty, and there was no second.
+fn expect_added(replies: &[Reply]) -> Result<(), Failure> {
+    same!(replies.len(), 3);
+    holds!(matches!(replies.get(0), Some(Reply::Made(0))));
+    holds!(matches!(replies.get(1), Some(Reply::Lens(0, 0, 1, 0))));
+    holds!(matches!(replies.get(2), Some(Reply::NoRope)));
+    Ok(())
 }
 
 #[test]
-fn replies_are_added(rt: HostRuntime) -> Result<(), Fail> {
+fn replies_are_added(rt: HostRuntime) -> Result<(), Failure> {
     let mut session = Session::new(rt.alloc());
     let mut replies = Vec::new(rt.alloc());
     run_three(rt.alloc(), &mut session, &mut replies)?;
-    assert!(rt; are_added(&replies));
-    Ok(())
+    expect_added(&replies)
 }
 
 /// A rope of so many letters, each put in at the front.
@@ -53,14 +54,15 @@ fn shrink_and_ask(session: &mut Session, replies: &mut Vec<Reply>) -> Result<(),
     session.run(&commands, replies)
 }
 
-/// Whether the rope was re-chunked, has 5,000 letters, and they lie in six chunks.
-fn are_few(replies: &[Reply]) -> bool {
-    matches!(replies.get(0), Some(Reply::Done))
-        && matches!(replies.get(1), Some(Reply::Lens(5000, 5000, 1, 5000)))
-        && match replies.get(2) {
-            Some(Reply::Texts(chunks)) => chunks.len() == 6,
-            _ => false,
-        }
+/// Fails unless the rope was re-chunked, has 5,000 letters, and they lie in six chunks.
+fn expect_few(replies: &[Reply]) -> Result<(), Failure> {
+    holds!(matches!(replies.get(0), Some(Reply::Done)));
+    holds!(matches!(replies.get(1), Some(Reply::Lens(5000, 5000, 1, 5000))));
+    let Some(Reply::Texts(chunks)) = replies.get(2) else {
+        return Err(Failure::new("the third reply has no texts"));
+    };
+    same!(chunks.len(), 6);
+    Ok(())
 }
 
 fn shrink_typed_letters(session: &mut Session, replies: &mut Vec<Reply>) -> Result<(), Error> {
@@ -70,10 +72,9 @@ fn shrink_typed_letters(session: &mut Session, replies: &mut Vec<Reply>) -> Resu
 }
 
 #[test]
-fn shrinking_leaves_few_chunks(rt: HostRuntime) -> Result<(), Fail> {
+fn shrinking_leaves_few_chunks(rt: HostRuntime) -> Result<(), Failure> {
     let mut session = Session::new(rt.alloc());
     let mut replies = Vec::new(rt.alloc());
     shrink_typed_letters(&mut session, &mut replies)?;
-    assert!(rt; are_few(&replies));
-    Ok(())
+    expect_few(&replies)
 }

@@ -1,11 +1,10 @@
 //! Worked rows: lines, and the replies to them.
 use crate::served::expect;
-use std::test::Fail;
+use rope_plain::failure::Failure;
 
 #[test]
-fn cursors_and_parts(rt: HostRuntime) -> Result<(), Fail> {
+fn cursors_and_parts_are_replied(rt: HostRuntime) -> Result<(), Failure> {
     expect(
-        &rt,
         rt.alloc(),
         &[
             "text ab\\ncd",
@@ -27,9 +26,8 @@ fn cursors_and_parts(rt: HostRuntime) -> Result<(), Fail> {
 }
 
 #[test]
-fn between_cr_and_lf(rt: HostRuntime) -> Result<(), Fail> {
+fn places_between_cr_and_lf_are_replied(rt: HostRuntime) -> Result<(), Failure> {
     expect(
-        &rt,
         rt.alloc(),
         &[
             "text a\\r\\nb",
@@ -55,9 +53,8 @@ fn between_cr_and_lf(rt: HostRuntime) -> Result<(), Fail> {
 }
 
 #[test]
-fn copies_apart(rt: HostRuntime) -> Result<(), Fail> {
+fn copies_are_edited_apart(rt: HostRuntime) -> Result<(), Failure> {
     expect(
-        &rt,
         rt.alloc(),
         &[
             "text abc",
@@ -80,9 +77,8 @@ fn copies_apart(rt: HostRuntime) -> Result<(), Fail> {
 }
 
 #[test]
-fn quoted_lines(rt: HostRuntime) -> Result<(), Fail> {
+fn texts_are_replied_in_quotes(rt: HostRuntime) -> Result<(), Failure> {
     expect(
-        &rt,
         rt.alloc(),
         &[
             "text x\\u{85}y",
@@ -116,9 +112,8 @@ fn quoted_lines(rt: HostRuntime) -> Result<(), Fail> {
 }
 
 #[test]
-fn refusals(rt: HostRuntime) -> Result<(), Fail> {
+fn refusals_are_replied(rt: HostRuntime) -> Result<(), Failure> {
     expect(
-        &rt,
         rt.alloc(),
         &[
             "text abc",
@@ -158,9 +153,8 @@ fn refusals(rt: HostRuntime) -> Result<(), Fail> {
 }
 
 #[test]
-fn sets_of_line_breaks(rt: HostRuntime) -> Result<(), Fail> {
+fn sets_of_line_breaks_are_replied(rt: HostRuntime) -> Result<(), Failure> {
     expect(
-        &rt,
         rt.alloc(),
         &[
             "textb lf a\\rb\\n",
@@ -194,9 +188,8 @@ fn sets_of_line_breaks(rt: HostRuntime) -> Result<(), Fail> {
 }
 
 #[test]
-fn every_query(rt: HostRuntime) -> Result<(), Fail> {
+fn every_query_is_replied(rt: HostRuntime) -> Result<(), Failure> {
     expect(
-        &rt,
         rt.alloc(),
         &[
             "text \u{e9}\u{1f438}\\r\\nb",

@@ -1,11 +1,12 @@
 //! Lines that come in parts, devices that fail, and how a run ends.
-use crate::served::is_served;
+use crate::served::expect_served;
 use crate::talks::{Asking, Dripping, Halting, Narrow, Stumbling, Telling};
 use rope_language::{Ended, serve};
+use rope_plain::failure::{Failure, within};
 use rope_plain::texts::repeated;
+use rope_plain::{holds, same};
 use std::alloc::{AllocError, Global};
 use std::cell::Cell;
-use std::test::Fail;
 
 /// Inputs, how the runs over them end, and what is written.
 const ENDS: [(&[u8], Ended, &str); 13] = [
@@ -48,34 +49,36 @@ const ENDS: [(&[u8], Ended, &str); 13] = [
     ),
 ];
 
-/// Whether the run over the input of a row ends as told, byte by byte and at once.
-fn is_row(alloc: Global, row: &(&[u8], Ended, &str)) -> bool {
+/// Fails unless the run over the input of a row ends as told, byte by byte and at once.
+fn expect_row(alloc: Global, row: &(&[u8], Ended, &str)) -> Result<(), Failure> {
     let (input, ended, output) = row;
-    is_served(alloc, input, 1, *ended, output) && is_served(alloc, input, 4096, *ended, output)
+    expect_served(alloc, input, 1, *ended, output)?;
+    expect_served(alloc, input, 4096, *ended, output)
 }
 
 #[test]
-fn ends(rt: HostRuntime) {
-    for row in &ENDS {
-        assert!(rt; is_row(rt.alloc(), row));
+fn a_run_ends_as_its_input_does(rt: HostRuntime) -> Result<(), Failure> {
+    for (number, row) in ENDS.iter().enumerate() {
+        within(format_args!("row {number}"), expect_row(rt.alloc(), row))?;
     }
+    Ok(())
 }
 
-/// Whether the run over an input ends well, with these replies.
+/// Fails unless the run over an input ends well, with these replies.
 fn ends_with(
     alloc: Global,
     input: Result<String, AllocError>,
     replies: Result<String, AllocError>,
-) -> bool {
+) -> Result<(), Failure> {
     match (input, replies) {
-        (Ok(input), Ok(replies)) => is_served(
+        (Ok(input), Ok(replies)) => expect_served(
             alloc,
             input.as_str().as_bytes(),
             4096,
             Ended::Done,
             replies.as_str(),
         ),
-        _ => false,
+        _ => Err(Failure::new("no memory for the input")),
     }
 }
 
@@ -96,49 +99,57 @@ fn replies_to_doublings(alloc: Global) -> Result<String, AllocError> {
 }
 
 #[test]
-fn longest_text(rt: HostRuntime) {
+fn the_longest_text_is_served(rt: HostRuntime) -> Result<(), Failure> {
     let input = doublings(rt.alloc());
     let replies = replies_to_doublings(rt.alloc());
-    assert!(rt; ends_with(rt.alloc(), input, replies));
+    ends_with(rt.alloc(), input, replies)
 }
 
-/// Whether a run ends at the reader's failure, and the replies to the two whole lines before it are flushed.
-fn is_stopped_by_its_reader(alloc: Global) -> bool {
+/// Fails unless a run ends at the reader's failure, and the replies to the two whole lines before
+/// it are flushed.
+fn expect_stopped_by_its_reader(alloc: Global) -> Result<(), Failure> {
     let mut reader = Dripping {
         rest: b"text \nlen 0\nlen 0",
         step: 4,
         fails: true,
     };
     let mut writer = Narrow::new(alloc, 1000);
-    serve(alloc, &mut reader, &mut writer) == Ended::Failed
-        && writer.is_flushed
-        && writer.has_flushed("rope 0\n0 0 1 0\n")
+    same!(serve(alloc, &mut reader, &mut writer), Ended::Failed);
+    holds!(writer.is_flushed);
+    writer.expect_flushed("rope 0\n0 0 1 0\n")
 }
 
 #[test]
-fn failed_read(rt: HostRuntime) {
-    assert!(rt; is_stopped_by_its_reader(rt.alloc()));
+fn a_failed_read_ends_the_run_behind_its_replies(rt: HostRuntime) -> Result<(), Failure> {
+    expect_stopped_by_its_reader(rt.alloc())
 }
 
-/// Whether a run fails at such a writer, which has kept these bytes then.
-fn is_stopped_by(alloc: Global, input: &[u8], device: Narrow, kept: &[u8]) -> bool {
+/// Fails unless a run fails at such a writer, which has kept these bytes then.
+fn expect_stopped_by(
+    alloc: Global,
+    input: &[u8],
+    device: Narrow,
+    kept: &[u8],
+) -> Result<(), Failure> {
     let mut reader = input;
     let mut writer = device;
-    serve(alloc, &mut reader, &mut writer) == Ended::Failed && writer.kept.as_slice() == kept
+    same!(serve(alloc, &mut reader, &mut writer), Ended::Failed);
+    same!(writer.kept.as_slice(), kept);
+    Ok(())
 }
 
-/// Whether a run fails that has room for three bytes, and one whose writer can't be flushed.
-fn is_stopped(alloc: Global, input: &[u8]) -> bool {
+/// Fails unless a run fails that has room for three bytes, and one whose writer can't be flushed.
+fn expect_stopped(alloc: Global, input: &[u8]) -> Result<(), Failure> {
     let mut blocked = Narrow::new(alloc, 1000);
     blocked.fails_to_flush = true;
-    is_stopped_by(alloc, input, Narrow::new(alloc, 3), b"rop")
-        && is_stopped_by(alloc, input, blocked, b"rope 0\n")
+    expect_stopped_by(alloc, input, Narrow::new(alloc, 3), b"rop")?;
+    expect_stopped_by(alloc, input, blocked, b"rope 0\n")
 }
 
 #[test]
-fn failed_writes(rt: HostRuntime) {
-    assert!(rt; is_stopped(rt.alloc(), b"text \n"));
-    assert!(rt; is_stopped(rt.alloc(), b"text \nfrob\n"));
+fn a_failed_write_ends_the_run(rt: HostRuntime) -> Result<(), Failure> {
+    expect_stopped(rt.alloc(), b"text \n")?;
+    expect_stopped(rt.alloc(), b"text \nfrob\n")
 }
 
 /// A line of 5,000 digits.
@@ -162,17 +173,19 @@ fn written(alloc: Global, input: &[u8], room: usize) -> (Ended, usize) {
     (ended, writer.kept.len())
 }
 
-/// Whether long lines are answered where there is room for all replies, and the run fails where there is not.
-fn are_served(alloc: Global, input: &[u8]) -> bool {
+/// Fails unless long lines are answered where there is room for all replies, and the run fails
+/// where there is not.
+fn expect_all_served(alloc: Global, input: &[u8]) -> Result<(), Failure> {
     let (ended, _) = written(alloc, input, 9000);
-    written(alloc, input, 20000) == (Ended::Done, 2003 * 8) && ended == Ended::Failed
+    same!(written(alloc, input, 20000), (Ended::Done, 2003 * 8));
+    same!(ended, Ended::Failed);
+    Ok(())
 }
 
 #[test]
-fn long_lines_and_replies(rt: HostRuntime) -> Result<(), Fail> {
+fn long_lines_and_replies_are_served(rt: HostRuntime) -> Result<(), Failure> {
     let input = long_lines(rt.alloc())?;
-    assert!(rt; are_served(rt.alloc(), input.as_str().as_bytes()));
-    Ok(())
+    expect_all_served(rt.alloc(), input.as_str().as_bytes())
 }
 
 /// A text of 9,000 letters that is shown.
@@ -188,10 +201,10 @@ fn replies_to_shown(alloc: Global) -> Result<String, AllocError> {
 }
 
 #[test]
-fn reply_longer_than_what_is_gathered(rt: HostRuntime) {
+fn a_reply_longer_than_what_is_gathered_is_written(rt: HostRuntime) -> Result<(), Failure> {
     let input = shown(rt.alloc());
     let replies = replies_to_shown(rt.alloc());
-    assert!(rt; ends_with(rt.alloc(), input, replies));
+    ends_with(rt.alloc(), input, replies)
 }
 
 const LONG: &str = "text a\nlen 0\n";
@@ -208,63 +221,79 @@ const SEEN: [(&[&str], &[usize]); 5] = [
     (&[LONG, LONG, "len 0"], &[0, 2, 4, 4, 5]),
 ];
 
-fn are_flushed(alloc: Global, parts: &[&str], seen: &[usize]) -> bool {
+fn expect_flushed(alloc: Global, parts: &[&str], seen: &[usize]) -> Result<(), Failure> {
     let flushed = Cell::new(0usize);
     let mut reader = Asking::new(alloc, parts, &flushed);
     let mut writer = Telling::new(&flushed);
     serve(alloc, &mut reader, &mut writer);
-    reader.seen.as_slice() == seen
+    same!(reader.seen.as_slice(), seen);
+    Ok(())
 }
 
 #[test]
-fn replies_come_before_the_next_read(rt: HostRuntime) {
-    for (parts, seen) in &SEEN {
-        assert!(rt; are_flushed(rt.alloc(), parts, seen));
+fn replies_come_before_the_next_read(rt: HostRuntime) -> Result<(), Failure> {
+    for (row, (parts, seen)) in SEEN.iter().enumerate() {
+        within(
+            format_args!("row {row}"),
+            expect_flushed(rt.alloc(), parts, seen),
+        )?;
     }
+    Ok(())
 }
 
-/// Whether a run ends at the read that fails once, with these replies flushed, and asks no more.
-fn is_stopped_once(alloc: Global, fails_at: usize, replies: &[u8]) -> bool {
+/// Fails unless a run ends at the read that fails once, with these replies flushed, and asks no
+/// more.
+fn expect_stopped_once(alloc: Global, fails_at: usize, replies: &[u8]) -> Result<(), Failure> {
     let parts = ["text a\n", "len 0\nsh", "ow 0\n"];
     let mut reader = Stumbling::new(&parts, fails_at);
     let mut writer = Narrow::new(alloc, 1000);
-    serve(alloc, &mut reader, &mut writer) == Ended::Failed
-        && reader.reads == fails_at.saturating_add(1)
-        && writer.kept.as_slice() == replies
+    same!(serve(alloc, &mut reader, &mut writer), Ended::Failed);
+    same!(reader.reads, fails_at.saturating_add(1));
+    same!(writer.kept.as_slice(), replies);
+    Ok(())
 }
 
 #[test]
-fn reads_that_fail_once(rt: HostRuntime) {
-    assert!(rt; is_stopped_once(rt.alloc(), 0, b""));
-    assert!(rt; is_stopped_once(rt.alloc(), 1, b"rope 0\n"));
-    assert!(rt; is_stopped_once(rt.alloc(), 2, b"rope 0\n1 1 1 1\n"));
-    assert!(rt; is_stopped_once(rt.alloc(), 3, b"rope 0\n1 1 1 1\n\"a\"\n"));
+fn a_read_that_fails_once_ends_the_run(rt: HostRuntime) -> Result<(), Failure> {
+    expect_stopped_once(rt.alloc(), 0, b"")?;
+    expect_stopped_once(rt.alloc(), 1, b"rope 0\n")?;
+    expect_stopped_once(rt.alloc(), 2, b"rope 0\n1 1 1 1\n")?;
+    expect_stopped_once(rt.alloc(), 3, b"rope 0\n1 1 1 1\n\"a\"\n")
 }
 
-/// Whether the run over three lines, of which the last is bad, ends so, and the writer that stumbles has kept this.
-fn is_halted(alloc: Global, device: Halting, ended: Ended, replies: &[u8]) -> bool {
+/// Fails unless the run over three lines, of which the last is bad, ends so, and the writer that
+/// stumbles has kept this.
+fn expect_halted(
+    alloc: Global,
+    device: Halting,
+    ended: Ended,
+    replies: &[u8],
+) -> Result<(), Failure> {
     let mut reader = b"text a\nlen 0\nfrob\n".as_slice();
     let mut writer = device;
-    serve(alloc, &mut reader, &mut writer) == ended && writer.kept.as_slice() == replies
+    same!(serve(alloc, &mut reader, &mut writer), ended);
+    same!(writer.kept.as_slice(), replies);
+    Ok(())
 }
 
-/// Whether a write that takes none after so many bytes ends the run, and one that is interrupted is tried again, as the
-/// standard library's `write_all` does.
-fn stumbles(alloc: Global, room: usize) -> bool {
+/// Fails unless a write that takes none after so many bytes ends the run, and one that is
+/// interrupted is tried again, as the standard library's `write_all` does.
+fn stumbles(alloc: Global, room: usize) -> Result<(), Failure> {
     let replies = b"rope 0\n1 1 1 1\n".as_slice();
     let (front, _) = replies.split_at(room.min(replies.len()));
-    is_halted(alloc, Halting::new(alloc, room, true), Ended::Failed, front)
-        && is_halted(
-            alloc,
-            Halting::new(alloc, room, false),
-            Ended::BadLine(3),
-            replies,
-        )
+    expect_halted(alloc, Halting::new(alloc, room, true), Ended::Failed, front)?;
+    expect_halted(
+        alloc,
+        Halting::new(alloc, room, false),
+        Ended::BadLine(3),
+        replies,
+    )
 }
 
 #[test]
-fn writes_that_stumble_once(rt: HostRuntime) {
+fn a_write_that_takes_none_once_ends_the_run(rt: HostRuntime) -> Result<(), Failure> {
     for room in 0..15usize {
-        assert!(rt; stumbles(rt.alloc(), room));
+        within(format_args!("room {room}"), stumbles(rt.alloc(), room))?;
     }
+    Ok(())
 }

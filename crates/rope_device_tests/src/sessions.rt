@@ -1,25 +1,31 @@
 //! Random sessions of commands, against plain ropes.
-use crate::answers::{answers, is_text};
-use crate::commands::{Effect, apply, is_reply};
+use crate::answers::answers;
+use crate::commands::{Effect, Outcome, apply, expect_reply};
 use crate::draw::command;
-use crate::plain_rope::PlainRope;
+use crate::shown::Shown;
+use rope_plain::failure::{Failure, within};
 use rope_plain::numbers::Numbers;
+use rope_plain::plain_rope::PlainRope;
+use rope_plain::texts::expect_chars;
+use rope_plain::{holds, same, some};
 use rope_script::{Command, Query, Reply, Session};
 use ropey::{Error, MAX_BYTES};
-use std::alloc::{AllocError, Global};
-use std::test::Fail;
+use std::alloc::Global;
 
 /// How many sessions there are, and how many commands each has.
 const SESSIONS: u64 = 500;
 
 const COMMANDS: usize = 60;
 
-/// Whether a chunk is neither empty nor too long, and these characters.
-fn is_chunk(chunk: &str, chars: Option<&[char]>) -> bool {
-    match chars {
-        Some(chars) => !chunk.is_empty() && chunk.len() <= MAX_BYTES && is_text(chunk, chars),
-        None => false,
-    }
+/// How many bytes each chunk but the last has at least in a rope that is re-chunked.
+const FRESH_BYTES: usize = 981;
+
+/// Fails unless a chunk is neither empty nor too long, and these characters.
+fn expect_chunk(chunk: &str, chars: Option<&[char]>) -> Result<(), Failure> {
+    let chars = some!(chars);
+    holds!(!chunk.is_empty());
+    holds!(chunk.len() <= MAX_BYTES);
+    expect_chars(chunk, chars)
 }
 
 /// Whether a place lies between a CR and its LF.
@@ -30,42 +36,53 @@ fn parts_a_pair(text: &[char], place: usize) -> bool {
     }
 }
 
-/// Adds where each chunk ends, and says whether the chunks are the text, and none ends in a CR whose LF begins the next.
-fn add_ends(ends: &mut Vec<usize>, chunks: &[String], text: &[char]) -> Result<bool, AllocError> {
+/// Adds where each chunk ends, and says whether the chunks are the text, and none ends in a CR
+/// whose LF begins the next.
+fn add_ends(ends: &mut Vec<usize>, chunks: &[String], text: &[char]) -> Result<(), Failure> {
     let mut place: usize = 0;
     for chunk in chunks {
         let end = place.saturating_add(chunk.as_str().chars().count());
-        if !is_chunk(chunk.as_str(), text.get(place..end)) || parts_a_pair(text, end) {
-            return Ok(false);
-        }
+        expect_chunk(chunk.as_str(), text.get(place..end))?;
+        holds!(!parts_a_pair(text, end));
         ends.push(end)?;
         place = end;
     }
-    Ok(place == text.len())
+    same!(place, text.len());
+    Ok(())
 }
 
-/// Whether there is at most one chunk for each 981 bytes, and one for the rest.
-fn are_few(rope: &PlainRope) -> bool {
+/// Fails unless there is at most one chunk for each 981 bytes, and one for the rest.
+fn expect_few(rope: &PlainRope) -> Result<(), Failure> {
     let mut bytes: usize = 0;
     for c in &rope.text {
         bytes = bytes.saturating_add(c.len_utf8());
     }
-    rope.ends.len() <= bytes.div_ceil(981)
+    let chunks = rope.ends.len();
+    if chunks > bytes.div_ceil(FRESH_BYTES) {
+        return Err(Failure::new(format_args!("{bytes} bytes in {chunks} chunks")));
+    }
+    Ok(())
 }
 
-/// Whether a rope has its text in these chunks, which are the old ones, unless a command left them open. They are noted.
-fn is_left(
+/// Fails unless a rope has its text in these chunks, which are the old ones, unless a command left
+/// them open. They are noted.
+fn expect_left(
     alloc: Global,
     rope: &mut PlainRope,
     chunks: &[String],
     is_recut: bool,
     is_few: bool,
-) -> Result<bool, AllocError> {
+) -> Result<(), Failure> {
     let mut ends = Vec::new(alloc);
-    let is_cutting = add_ends(&mut ends, chunks, &rope.text)?;
-    let is_same = rope.ends == ends;
+    add_ends(&mut ends, chunks, &rope.text)?;
+    if !is_recut {
+        same!(ends.as_slice(), rope.ends.as_slice());
+    }
     rope.ends = ends;
-    Ok(is_cutting && (is_recut || is_same) && (!is_recut || !is_few || are_few(rope)))
+    if is_recut && is_few {
+        expect_few(rope)?;
+    }
+    Ok(())
 }
 
 /// The texts of the one reply.
@@ -81,89 +98,90 @@ fn ask_chunks(session: &mut Session, number: usize, replies: &mut Vec<Reply>) ->
     session.run(&[Command::Ask(number, None, Query::Chunks)], replies)
 }
 
-/// Whether a rope of the session is as a command with this effect has to leave it.
-fn is_rope_left(
+/// Fails unless a rope of the session is as a command with this effect has to leave it.
+fn expect_rope_left(
     alloc: Global,
     session: &mut Session,
     rope: &mut PlainRope,
     number: usize,
     effect: Effect,
-) -> Result<bool, Error> {
+) -> Result<(), Failure> {
     let mut replies = Vec::new(alloc);
     ask_chunks(session, number, &mut replies)?;
     let is_recut = effect.recut.contains(&Some(number));
-    match texts_of(&replies) {
-        Some(chunks) => Ok(is_left(alloc, rope, chunks, is_recut, effect.is_few)?),
-        None => Ok(false),
-    }
+    let chunks = some!(texts_of(&replies));
+    expect_left(alloc, rope, chunks, is_recut, effect.is_few)
 }
 
-fn are_left(
+fn expect_all_left(
     alloc: Global,
     session: &mut Session,
     ropes: &mut [PlainRope],
     effect: Effect,
-) -> Result<bool, Error> {
+) -> Result<(), Failure> {
     for (number, rope) in ropes.iter_mut().enumerate() {
-        if !is_rope_left(alloc, session, rope, number, effect)? {
-            return Ok(false);
-        }
+        let breaks = rope.breaks;
+        within(
+            format_args!("line breaks {breaks:?}, rope {number}"),
+            expect_rope_left(alloc, session, rope, number, effect),
+        )?;
     }
-    Ok(true)
+    Ok(())
 }
 
-/// Whether a query of a rope or of a range of it may be replied so.
-fn is_answer(
+/// Fails unless a query of a rope or of a range of it may be replied so.
+fn expect_answer(
     alloc: Global,
     ropes: &[PlainRope],
     number: usize,
     range: Option<(usize, usize)>,
     query: &Query,
     reply: &Reply,
-) -> Result<bool, AllocError> {
+) -> Result<(), Failure> {
     let Some(rope) = ropes.get(number) else {
-        return Ok(matches!(reply, Reply::NoRope));
+        return expect_reply(Outcome::NoRope, 0, reply);
     };
     match rope.part(range) {
-        Some(part) => answers(alloc, ropes, part, query, reply),
-        None => Ok(matches!(reply, Reply::NoSlice)),
+        Some(part) => within(
+            format_args!("line breaks {:?}", part.breaks),
+            answers(alloc, ropes, part, query, reply),
+        ),
+        None => expect_reply(Outcome::NoSlice, 0, reply),
     }
 }
 
-/// Whether a command may be replied so, and leaves the ropes as it has to.
-fn is_right(
+/// Fails unless a command may be replied so, and leaves the ropes as it has to.
+fn expect_right(
     alloc: Global,
     session: &mut Session,
     ropes: &mut Vec<PlainRope>,
     command: &Command,
     reply: &Reply,
-) -> Result<bool, Error> {
+) -> Result<(), Failure> {
     if let Command::Ask(number, range, query) = command {
-        return Ok(is_answer(alloc, ropes, *number, *range, query, reply)?);
+        return expect_answer(alloc, ropes, *number, *range, query, reply);
     }
     let count = ropes.len();
-    match apply(alloc, ropes, command)? {
-        Some(effect) if is_reply(effect.outcome, count, reply) => {
-            are_left(alloc, session, ropes, effect)
-        }
-        _ => Ok(false),
-    }
+    let effect = some!(apply(alloc, ropes, command)?);
+    expect_reply(effect.outcome, count, reply)?;
+    expect_all_left(alloc, session, ropes, effect)
 }
 
-/// Whether a command has its one reply, and leaves the ropes as it has to.
-fn is_run(
+/// Fails unless a command has its one reply, and leaves the ropes as it has to.
+fn expect_run(
     alloc: Global,
     session: &mut Session,
     ropes: &mut Vec<PlainRope>,
     commands: &[Command; 1],
-) -> Result<bool, Error> {
+) -> Result<(), Failure> {
     let mut replies = Vec::new(alloc);
     session.run(commands, &mut replies)?;
     let [command] = commands;
-    match replies.first() {
-        Some(reply) => is_right(alloc, session, ropes, command, reply),
-        None => Ok(false),
-    }
+    let reply = some!(replies.first());
+    within(
+        Shown(command),
+        expect_right(alloc, session, ropes, command, reply),
+    )
 }
 
 fn run_one(
@@ -171,9 +189,9 @@ fn run_one(
     session: &mut Session,
     ropes: &mut Vec<PlainRope>,
     numbers: &mut Numbers,
-) -> Result<bool, Error> {
+) -> Result<(), Failure> {
     let commands = [command(alloc, numbers, ropes)?];
-    is_run(alloc, session, ropes, &commands)
+    expect_run(alloc, session, ropes, &commands)
 }
 
 fn run_many(
@@ -181,28 +199,35 @@ fn run_many(
     session: &mut Session,
     ropes: &mut Vec<PlainRope>,
     numbers: &mut Numbers,
-) -> Result<bool, Error> {
-    for _ in 0..COMMANDS {
-        if !run_one(alloc, session, ropes, numbers)? {
-            return Ok(false);
-        }
+) -> Result<(), Failure> {
+    for number in 0..COMMANDS {
+        within(
+            format_args!("command {number}"),
+            run_one(alloc, session, ropes, numbers),
+        )?;
     }
-    Ok(true)
+    Ok(())
 }
 
-/// Whether a session of random commands, which begin at a number, is as the plain ropes say.
-fn is_session(alloc: Global, start: u64) -> Result<bool, Error> {
-    let mut numbers = Numbers::new(start.wrapping_mul(0x9E37_79B9_7F4A_7C15));
+/// Fails unless a session of random commands, which begin at a number, is as the plain ropes say.
+fn expect_session(alloc: Global, start: u64) -> Result<(), Failure> {
+    let seed = start.wrapping_mul(0x9E37_79B9_7F4A_7C15);
+    let mut numbers = Numbers::new(seed);
     let mut session = Session::new(alloc);
     let mut ropes = Vec::new(alloc);
-    run_many(alloc, &mut session, &mut ropes, &mut numbers)
+    within(
+        format_args!("seed {seed:#x}"),
+        run_many(alloc, &mut session, &mut ropes, &mut numbers),
+    )
 }
 
 #[test]
-fn random_sessions(rt: HostRuntime) -> Result<(), Fail> {
+fn sessions_reply_and_leave_ropes_as_lists_do(rt: HostRuntime) -> Result<(), Failure> {
     for start in 1..=SESSIONS {
-        assert!(rt; is_session(rt.alloc(), start)?);
+        within(
+            format_args!("session {start}"),
+            expect_session(rt.alloc(), start),
+        )?;
     }
-    assert!(rt; is_text("ab", &['a', 'b']));
-    Ok(())
+    expect_chars("ab", &['a', 'b'])
 }

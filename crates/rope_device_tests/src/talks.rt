@@ -1,4 +1,6 @@
 //! Readers that give a few bytes at once, writers with little room, and both ends of a talk.
+use rope_plain::failure::Failure;
+use rope_plain::same;
 use std::alloc::Global;
 use std::cell::Cell;
 use std::io::{self, ErrorKind, Read, Write};
@@ -24,6 +26,20 @@ impl Read for Dripping<'_> {
     }
 }
 
+/// Fails unless the bytes that were written are a text.
+fn expect_same_text(written: &[u8], text: &str) -> Result<(), Failure> {
+    let Ok(found) = str::from_utf8(written) else {
+        return Err(Failure::new("bytes were written that are no UTF-8"));
+    };
+    for (i, (line, wanted)) in found.lines().zip(text.lines()).enumerate() {
+        if line != wanted {
+            return Err(Failure::new(format_args!("line {i} is {line:?}, not {wanted:?}")));
+        }
+    }
+    same!(written, text.as_bytes());
+    Ok(())
+}
+
 /// Keeps so many bytes, and then fails. Its flush may fail too.
 #[derive(Drop)]
 pub struct Narrow {
@@ -43,12 +59,14 @@ impl Narrow {
         }
     }
 
-    /// Whether what was flushed last is this; where the last of what it keeps was not, that is nothing.
-    pub fn has_flushed(&self, text: &str) -> bool {
+    /// Fails unless what was flushed last is this; where the last of what it keeps was not, that is
+    /// nothing.
+    pub fn expect_flushed(&self, text: &str) -> Result<(), Failure> {
         if self.is_flushed {
-            return self.kept.as_slice() == text.as_bytes();
+            expect_same_text(self.kept.as_slice(), text)
+        } else {
+            expect_same_text(b"", text)
         }
-        text.is_empty()
     }
 }
 
@@ -138,7 +156,8 @@ impl Write for Telling<'_> {
     }
 }
 
-/// Gives one part a read. Once so many were given one read is interrupted, and the next would go on. It counts its reads.
+/// Gives one part a read. Once so many were given one read is interrupted, and the next would go
+/// on. It counts its reads.
 #[derive(Drop)]
 pub struct Stumbling<'a> {
     parts: &'a [&'a str],
@@ -180,7 +199,8 @@ impl Read for Stumbling<'_> {
     }
 }
 
-/// Keeps one byte a write. Once so many were kept one write is interrupted, or takes none, and the next would go on.
+/// Keeps one byte a write. Once so many were kept one write is interrupted, or takes none, and the
+/// next would go on.
 #[derive(Drop)]
 pub struct Halting {
     pub kept: Vec<u8>,

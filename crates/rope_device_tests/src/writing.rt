@@ -1,99 +1,109 @@
 //! Writers that take few bytes, fail, or take none.
 use crate::devices::Narrow;
 use crate::stumbles::write_kind;
+use rope_plain::failure::{Failure, within};
 use rope_plain::texts::repeated;
+use rope_plain::{holds, same};
 use ropey::Rope;
 use ropey::io::{Mark, Watched};
 use std::alloc::Global;
 use std::io::ErrorKind;
-use std::test::Fail;
 
-/// Whether a writing is refused with this kind, or with none, and leaves these bytes.
-fn is_written(rope: &Rope, device: Narrow, kind: Option<ErrorKind>, bytes: &[u8]) -> bool {
-    let mut writer = device;
-    write_kind(rope.write_to(&mut writer)) == kind && writer.kept.as_slice() == bytes
-}
-
-/// Whether a writing that marks its device does the same, and sets the mark only where it is refused.
-fn is_written_and_marked(
+/// Fails unless a writing is refused with this kind, or with none, and leaves these bytes.
+fn expect_written(
     rope: &Rope,
     device: Narrow,
     kind: Option<ErrorKind>,
     bytes: &[u8],
-) -> bool {
+) -> Result<(), Failure> {
+    let mut writer = device;
+    same!(write_kind(rope.write_to(&mut writer)), kind);
+    same!(writer.kept.as_slice(), bytes);
+    Ok(())
+}
+
+/// Fails unless a writing that marks its device does the same, and sets the mark only where it is
+/// refused.
+fn expect_written_and_marked(
+    rope: &Rope,
+    device: Narrow,
+    kind: Option<ErrorKind>,
+    bytes: &[u8],
+) -> Result<(), Failure> {
     let mut sink = Watched::new(device);
-    let is_same = write_kind(rope.write_watched(&mut sink)) == kind;
+    same!(write_kind(rope.write_watched(&mut sink)), kind);
     let is_marked = sink.failed();
     let writer = sink.into_inner();
-    is_same && is_marked == kind.is_some() && writer.kept.as_slice() == bytes
+    same!(is_marked, kind.is_some());
+    same!(writer.kept.as_slice(), bytes);
+    Ok(())
 }
 
 #[test]
-fn a_write_fails(rt: HostRuntime) -> Result<(), Fail> {
+fn a_failing_write_is_answered_and_marked(rt: HostRuntime) -> Result<(), Failure> {
     let rope = Rope::from_str(rt.alloc(), "Hello!")?;
     let kind = Some(ErrorKind::Interrupted);
-    let is_marked = is_written_and_marked(&rope, Narrow::new(&rt, 3, 3), kind, b"Hel");
-    assert!(rt; is_marked && is_written(&rope, Narrow::new(&rt, 3, 3), kind, b"Hel"));
-    Ok(())
+    expect_written_and_marked(&rope, Narrow::new(&rt, 3, 3), kind, b"Hel")?;
+    expect_written(&rope, Narrow::new(&rt, 3, 3), kind, b"Hel")
 }
 
 #[test]
-fn a_write_takes_none(rt: HostRuntime) -> Result<(), Fail> {
+fn a_write_that_takes_none_is_answered_and_marked(rt: HostRuntime) -> Result<(), Failure> {
     let rope = Rope::from_str(rt.alloc(), "Hello!")?;
     let kind = Some(ErrorKind::WriteZero);
-    let is_marked = is_written_and_marked(&rope, Narrow::full(&rt), kind, b"");
-    assert!(rt; is_marked && is_written(&rope, Narrow::full(&rt), kind, b""));
-    Ok(())
+    expect_written_and_marked(&rope, Narrow::full(&rt), kind, b"")?;
+    expect_written(&rope, Narrow::full(&rt), kind, b"")
 }
 
-/// Whether a rope is written without a mark, and once more behind its bytes.
-fn is_written_twice(alloc: Global, rope: &Rope) -> bool {
+/// Fails unless a rope is written without a mark, and once more behind its bytes.
+fn expect_written_twice(alloc: Global, rope: &Rope) -> Result<(), Failure> {
     let mut sink = Watched::new(Vec::new(alloc));
-    let is_written = rope.write_watched(&mut sink).is_ok() && !sink.failed();
+    rope.write_watched(&mut sink)?;
+    holds!(!sink.failed());
     let mut bytes = sink.into_inner();
-    is_written
-        && rope.write_to(&mut bytes).is_ok()
-        && bytes.as_slice() == b"Hello!Hello!".as_slice()
+    rope.write_to(&mut bytes)?;
+    same!(bytes.as_slice(), b"Hello!Hello!".as_slice());
+    Ok(())
 }
 
 #[test]
-fn to_memory(rt: HostRuntime) -> Result<(), Fail> {
+fn a_rope_is_written_to_memory_twice(rt: HostRuntime) -> Result<(), Failure> {
     let rope = Rope::from_str(rt.alloc(), "Hello!")?;
-    assert!(rt; is_written_twice(rt.alloc(), &rope));
-    Ok(())
+    expect_written_twice(rt.alloc(), &rope)
 }
 
 #[test]
-fn the_empty_text_is_never_refused(rt: HostRuntime) -> Result<(), Fail> {
+fn the_empty_text_is_never_refused(rt: HostRuntime) -> Result<(), Failure> {
     let rope = Rope::new(rt.alloc())?;
-    assert!(rt; is_written_and_marked(&rope, Narrow::full(&rt), None, b""));
-    Ok(())
+    expect_written_and_marked(&rope, Narrow::full(&rt), None, b"")
 }
 
-/// Whether a writing to a device of so much room keeps as much, and is refused where that is short.
-fn is_stopped(rt: &HostRuntime, rope: &Rope, bytes: &[u8], room: usize) -> bool {
+/// Fails unless a writing to a device of so much room keeps as much, and is refused where that is
+/// short.
+fn expect_stopped(rt: &HostRuntime, rope: &Rope, bytes: &[u8], room: usize) -> Result<(), Failure> {
     let kind = if room < 3000 {
         Some(ErrorKind::Interrupted)
     } else {
         None
     };
     let (front, _) = bytes.split_at(room.min(bytes.len()));
-    is_written_and_marked(rope, Narrow::new(rt, 7, room), kind, front)
+    expect_written_and_marked(rope, Narrow::new(rt, 7, room), kind, front)
 }
 
-fn stop_at_each_byte(rt: &HostRuntime, rope: &Rope, bytes: &[u8]) -> bool {
+fn stop_at_each_byte(rt: &HostRuntime, rope: &Rope, bytes: &[u8]) -> Result<(), Failure> {
     for room in 0..3001usize {
-        if !is_stopped(rt, rope, bytes, room) {
-            return false;
-        }
+        within(
+            format_args!("room {room}"),
+            expect_stopped(rt, rope, bytes, room),
+        )?;
     }
-    bytes.len() == 3000
+    same!(bytes.len(), 3000);
+    Ok(())
 }
 
 #[test]
-fn stopped_at_each_byte(rt: HostRuntime) -> Result<(), Fail> {
+fn a_write_stops_at_each_byte(rt: HostRuntime) -> Result<(), Failure> {
     let text = repeated(rt.alloc(), "abc\ndefgh\r", 300)?;
     let rope = Rope::from_str(rt.alloc(), text.as_str())?;
-    assert!(rt; stop_at_each_byte(&rt, &rope, text.as_str().as_bytes()));
-    Ok(())
+    stop_at_each_byte(&rt, &rope, text.as_str().as_bytes())
 }

@@ -1,6 +1,8 @@
 //! Ropes that texts are put into, against rows that were worked by hand.
-use crate::texts::rope_of;
-use rope_plain::compare::{lens, lie_together};
+use rope_plain::compare::{expect_together, lens};
+use rope_plain::failure::{Failure, within};
+use rope_plain::texts::rope_of;
+use rope_plain::{holds, same};
 use ropey::Rope;
 use std::alloc::Global;
 
@@ -70,35 +72,31 @@ const ROWS: [Row<'static>; 5] = [
     },
 ];
 
-fn takes_all(rope: &mut Rope, inserts: &[(usize, &str)]) -> bool {
+fn takes_all(rope: &mut Rope, inserts: &[(usize, &str)]) -> Result<(), Failure> {
     for (char_idx, text) in inserts {
-        if rope.try_insert(*char_idx, text).is_err() {
-            return false;
-        }
+        rope.try_insert(*char_idx, text)?;
     }
-    true
+    Ok(())
 }
 
-fn is_edited(rope: &mut Rope, row: &Row<'_>) -> bool {
-    let is_taken = takes_all(rope, row.inserts);
+fn expect_edited(rope: &mut Rope, row: &Row<'_>) -> Result<(), Failure> {
+    takes_all(rope, row.inserts)?;
     let chunks = rope.chunks().count();
-    is_taken
-        && lens(rope) == row.lens
-        && row.least <= chunks
-        && chunks <= row.most
-        && lie_together(rope, row.first)
+    same!(lens(rope), row.lens);
+    holds!(row.least <= chunks);
+    holds!(chunks <= row.most);
+    expect_together(rope, row.first)
 }
 
-fn is_row(alloc: Global, row: &Row<'_>) -> bool {
-    match rope_of(alloc, row.text, row.count) {
-        Ok(mut rope) => is_edited(&mut rope, row),
-        Err(_) => false,
-    }
+fn expect_row(alloc: Global, row: &Row<'_>) -> Result<(), Failure> {
+    let mut rope = rope_of(alloc, row.text, row.count)?;
+    expect_edited(&mut rope, row)
 }
 
 #[test]
-fn pairs_that_are_put_in_made_or_parted(rt: HostRuntime) {
-    for row in &ROWS {
-        assert!(rt; is_row(rt.alloc(), row));
+fn inserts_keep_make_and_part_pairs(rt: HostRuntime) -> Result<(), Failure> {
+    for (number, row) in ROWS.iter().enumerate() {
+        within(format_args!("row {number}"), expect_row(rt.alloc(), row))?;
     }
+    Ok(())
 }

@@ -1,5 +1,13 @@
-//! Tests of edits of ropes, against worked rows and plain lists of characters; of edits and of builders also where line
-//! breaks and long characters lie where leaves are cut.
+//! Tests of edits of ropes and of builders, against lists of characters.
+//!
+//! No contract shows these:
+//! - a call succeeds where there is memory, and rows worked by hand come out;
+//! - a rope lies in few chunks after many edits;
+//! - texts of 2^62 bytes are edited without a walk over them.
+//!
+//! The proofs show these too, and they are run for the compiler's sake: each edit leaves its text,
+//! with its lengths and look-ups, and clones stay. Breaks and wide characters lie where leaves are
+//! cut.
 #![tactic(auto)]
 
 #[cfg(test)]

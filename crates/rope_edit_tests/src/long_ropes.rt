@@ -1,9 +1,10 @@
 //! Ropes as long as a text may be, whose parts are shared.
 use rope_plain::compare::{compare_unicode, lens};
+use rope_plain::failure::{Failure, within};
 use rope_plain::texts::repeated;
+use rope_plain::{holds, same};
 use ropey::{Error, Rope, Steps};
 use std::alloc::Global;
-use std::test::Fail;
 
 /// Half of the longest text made by doubling, and its double.
 const HALF: usize = 1 << 61;
@@ -32,18 +33,26 @@ fn doubled(alloc: Global, text: &str, times: usize) -> Result<Rope, Error> {
     Ok(rope)
 }
 
-fn has_lengths(alloc: Global, text: &str, times: usize, counts: [usize; 4]) -> bool {
-    match doubled(alloc, text, times) {
-        Ok(rope) => lens(&rope) == counts,
-        Err(_) => false,
-    }
+fn expect_lengths(
+    alloc: Global,
+    text: &str,
+    times: usize,
+    counts: [usize; 4],
+) -> Result<(), Failure> {
+    let rope = doubled(alloc, text, times)?;
+    same!(lens(&rope), counts);
+    Ok(())
 }
 
 #[test]
-fn texts_doubled(rt: HostRuntime) {
-    for (text, times, counts) in &DOUBLED {
-        assert!(rt; has_lengths(rt.alloc(), text, *times, *counts));
+fn a_text_doubled_to_2_to_the_62_bytes_has_its_lengths(rt: HostRuntime) -> Result<(), Failure> {
+    for (row, (text, times, counts)) in DOUBLED.iter().enumerate() {
+        within(
+            format_args!("row {row}"),
+            expect_lengths(rt.alloc(), text, *times, *counts),
+        )?;
     }
+    Ok(())
 }
 
 /// What is done to a long text of one letter.
@@ -56,124 +65,130 @@ enum Step<'a> {
     InsertLong(&'a str),
 }
 
-/// Whether the rope has the character before the end, by each look-up that takes a character's index.
-fn has_char(rope: &Rope, char_idx: usize, c: char) -> bool {
-    if char_idx >= rope.len_chars() {
-        return false;
-    }
+/// Fails unless the rope has the character before the end, by each look-up that takes a character's
+/// index.
+fn expect_char(rope: &Rope, char_idx: usize, c: char) -> Result<(), Failure> {
+    holds!(char_idx < rope.len_chars());
     let mut steps = Steps::new();
     let answers = [rope.char(char_idx), rope.char_counted(char_idx, &mut steps)];
-    answers == [c, c] && rope.get_char(char_idx) == Some(c)
+    same!(answers, [c, c]);
+    same!(rope.get_char(char_idx), Some(c));
+    Ok(())
 }
 
-fn refuses_its_double(rope: &mut Rope) -> bool {
-    match rope.clone() {
-        Ok(copy) => rope.append(copy) == Err(Error::TooLong) && rope.len_bytes() == WHOLE,
-        Err(_) => false,
-    }
+fn refuses_its_double(rope: &mut Rope) -> Result<(), Failure> {
+    let copy = rope.clone()?;
+    same!(rope.append(copy), Err(Error::TooLong));
+    same!(rope.len_bytes(), WHOLE);
+    Ok(())
 }
 
-/// Whether a text is joined with what is behind its first character, which is as long but for one.
-fn takes_rest(rope: &mut Rope, first: &mut Rope) -> bool {
-    match first.try_split_off(1) {
-        Ok(rest) => {
-            let is_cut = [first.len_bytes(), rest.len_bytes()] == [1, WHOLE - 1];
-            rope.append(rest).is_ok() && is_cut
-        }
-        Err(_) => false,
-    }
+/// Fails unless a text is joined with what is behind its first character, which is as long but for
+/// one.
+fn takes_rest(rope: &mut Rope, first: &mut Rope) -> Result<(), Failure> {
+    let rest = first.try_split_off(1)?;
+    let lens = [first.len_bytes(), rest.len_bytes()];
+    rope.append(rest)?;
+    same!(lens, [1, WHOLE - 1]);
+    Ok(())
 }
 
-fn refuses_more(rope: &mut Rope) -> bool {
+/// Fails unless a text is joined with itself, but for one character.
+fn joins_with_itself_but_one(rope: &mut Rope) -> Result<(), Failure> {
+    let mut first = rope.clone()?;
+    takes_rest(rope, &mut first)
+}
+
+fn refuses_more(rope: &mut Rope) -> Result<(), Failure> {
     let answers = [rope.try_insert_char(0, 'x'), rope.try_insert(0, "")];
-    answers == [Err(Error::TooLong), Ok(())]
-        && rope.len_bytes() == isize::MAX as usize
-        && rope.depth() <= 18
+    same!(answers, [Err(Error::TooLong), Ok(())]);
+    same!(rope.len_bytes(), isize::MAX as usize);
+    holds!(rope.depth() <= 18);
+    Ok(())
 }
 
-/// Whether the longest text is made, cut behind its first character and joined with as long a text, and takes no more.
-fn is_made_longest(rope: &mut Rope) -> bool {
-    match rope.clone() {
-        Ok(mut first) => {
-            takes_rest(rope, &mut first)
-                && rope.len_bytes() == isize::MAX as usize
-                && refuses_more(rope)
-        }
-        Err(_) => false,
-    }
+/// Fails unless the longest text is made, cut behind its first character and joined with as long a
+/// text, and takes no more.
+fn expect_made_longest(rope: &mut Rope) -> Result<(), Failure> {
+    joins_with_itself_but_one(rope)?;
+    same!(rope.len_bytes(), isize::MAX as usize);
+    refuses_more(rope)
 }
 
-/// Whether a character and a text are put into the middle, and all but the ends taken out.
-fn is_edited(rope: &mut Rope) -> bool {
-    rope.len_chars() == WHOLE
-        && rope.insert_char(HALF, 'x').is_ok()
-        && has_char(rope, HALF, 'x')
-        && rope.len_chars() == WHOLE + 1
-        && rope.insert(HALF, "yz").is_ok()
-        && has_char(rope, HALF, 'y')
-        && rope.len_chars() == WHOLE + 3
-        && rope.remove(1..WHOLE + 2).is_ok()
-        && compare_unicode(rope, &['a', 'a']).is_ok()
+/// Fails unless a character and a text are put into the middle, and all but the ends taken out.
+fn expect_edited(rope: &mut Rope) -> Result<(), Failure> {
+    holds!(rope.len_chars() == WHOLE);
+    rope.insert_char(HALF, 'x')?;
+    expect_char(rope, HALF, 'x')?;
+    holds!(rope.len_chars() == WHOLE + 1);
+    rope.insert(HALF, "yz")?;
+    expect_char(rope, HALF, 'y')?;
+    holds!(rope.len_chars() == WHOLE + 3);
+    rope.remove(1..WHOLE + 2)?;
+    compare_unicode(rope, &['a', 'a'])
 }
 
-/// Whether a clone is edited, and the rope stays.
-fn is_clone_edited(whole: &Rope) -> bool {
-    match whole.clone() {
-        Ok(mut rope) => is_edited(&mut rope) && whole.len_bytes() == WHOLE,
-        Err(_) => false,
-    }
+fn expect_copy_edited(whole: &Rope) -> Result<(), Failure> {
+    let mut rope = whole.clone()?;
+    expect_edited(&mut rope)
+}
+
+/// Fails unless a clone is edited, and the rope stays.
+fn expect_clone_edited(whole: &Rope) -> Result<(), Failure> {
+    expect_copy_edited(whole)?;
+    same!(whole.len_bytes(), WHOLE);
+    Ok(())
 }
 
 /// The same edits, by calls that count their steps.
-fn is_edited_counted(rope: &mut Rope) -> bool {
+fn expect_edited_counted(rope: &mut Rope) -> Result<(), Failure> {
     let mut steps = Steps::new();
-    rope.len_chars() == WHOLE
-        && rope.insert_char_counted(HALF, 'x', &mut steps).is_ok()
-        && has_char(rope, HALF, 'x')
-        && rope.try_insert(HALF, "yz").is_ok()
-        && has_char(rope, HALF, 'y')
-        && rope.len_chars() == WHOLE + 3
-        && rope.remove_counted(1..WHOLE + 2, &mut steps).is_ok()
-        && compare_unicode(rope, &['a', 'a']).is_ok()
+    holds!(rope.len_chars() == WHOLE);
+    rope.insert_char_counted(HALF, 'x', &mut steps)?;
+    expect_char(rope, HALF, 'x')?;
+    rope.try_insert(HALF, "yz")?;
+    expect_char(rope, HALF, 'y')?;
+    holds!(rope.len_chars() == WHOLE + 3);
+    rope.remove_counted(1..WHOLE + 2, &mut steps)?;
+    compare_unicode(rope, &['a', 'a'])
 }
 
-fn takes_long(rope: &mut Rope, text: &str) -> bool {
-    rope.try_insert(HALF, text).is_ok()
-        && rope.len_bytes() == WHOLE + 6_000
-        && has_char(rope, HALF + 5_999, 'z')
-        && has_char(rope, HALF + 6_000, 'a')
+fn takes_long(rope: &mut Rope, text: &str) -> Result<(), Failure> {
+    rope.try_insert(HALF, text)?;
+    same!(rope.len_bytes(), WHOLE + 6_000);
+    expect_char(rope, HALF + 5_999, 'z')?;
+    expect_char(rope, HALF + 6_000, 'a')
 }
 
-fn does(rope: &mut Rope, step: Step<'_>) -> bool {
+fn does(rope: &mut Rope, step: Step<'_>) -> Result<(), Failure> {
     match step {
         Step::Double => refuses_its_double(rope),
-        Step::MakeLongest => is_made_longest(rope),
-        Step::EditClone => is_clone_edited(rope),
-        Step::EditCounted => is_edited_counted(rope),
+        Step::MakeLongest => expect_made_longest(rope),
+        Step::EditClone => expect_clone_edited(rope),
+        Step::EditCounted => expect_edited_counted(rope),
         Step::InsertLong(text) => takes_long(rope, text),
     }
 }
 
-fn is_done(alloc: Global, step: Step<'_>) -> bool {
-    match doubled(alloc, "a", 62) {
-        Ok(mut rope) => does(&mut rope, step),
-        Err(_) => false,
-    }
+fn expect_done(alloc: Global, step: Step<'_>) -> Result<(), Failure> {
+    let mut rope = doubled(alloc, "a", 62)?;
+    does(&mut rope, step)
 }
 
 #[test]
-fn the_longest_text(rt: HostRuntime) {
-    assert!(rt; is_done(rt.alloc(), Step::Double) && is_done(rt.alloc(), Step::MakeLongest));
+fn the_longest_text_is_made_and_takes_no_more(rt: HostRuntime) -> Result<(), Failure> {
+    expect_done(rt.alloc(), Step::Double)?;
+    expect_done(rt.alloc(), Step::MakeLongest)
 }
 
 #[test]
-fn edits_in_the_middle(rt: HostRuntime) {
-    assert!(rt; is_done(rt.alloc(), Step::EditClone) && is_done(rt.alloc(), Step::EditCounted));
+fn a_text_of_2_to_the_62_bytes_is_edited_in_the_middle(rt: HostRuntime) -> Result<(), Failure> {
+    expect_done(rt.alloc(), Step::EditClone)?;
+    expect_done(rt.alloc(), Step::EditCounted)
 }
 
 #[test]
-fn a_long_text_in_the_middle(rt: HostRuntime) -> Result<(), Fail> {
+fn a_text_of_2_to_the_62_bytes_takes_a_long_one(rt: HostRuntime) -> Result<(), Failure> {
     let text = repeated(rt.alloc(), "z", 6_000)?;
-    assert!(rt; is_done(rt.alloc(), Step::InsertLong(text.as_str())));
-    Ok(())
+    expect_done(rt.alloc(), Step::InsertLong(text.as_str()))
 }

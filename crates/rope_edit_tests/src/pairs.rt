@@ -1,47 +1,49 @@
-//! Long texts of CR and LF alone, against rows that were worked by hand and plain lists of characters.
-use crate::texts::{add_letters, is_text, rope_of};
-use rope_plain::compare::{compare_unicode, lens};
-use rope_plain::texts::{chars_of, repeated};
+//! Long texts of CR and LF alone, against rows that were worked by hand and plain lists of
+//! characters.
+use crate::texts::add_letters;
+use rope_plain::compare::{compare_unicode, expect_text, lens};
+use rope_plain::failure::{Failure, within};
+use rope_plain::texts::{chars_of, repeated, rope_of};
+use rope_plain::{holds, same};
 use ropey::Rope;
 use std::alloc::{AllocError, Global};
-use std::test::Fail;
 
-/// Whether a clone without its first break is this text.
-fn is_without_first(whole: &Rope, rest: &[char]) -> bool {
-    match whole.clone() {
-        Ok(mut rope) => {
-            rope.try_remove(0..1).is_ok()
-                && lens(&rope) == [3_999, 3_999, 2_001, 3_999]
-                && compare_unicode(&rope, rest).is_ok()
-        }
-        Err(_) => false,
-    }
+/// Fails unless a clone without its first break is this text.
+fn expect_without_first(whole: &Rope, rest: &[char]) -> Result<(), Failure> {
+    let mut rope = whole.clone()?;
+    loses_first(&mut rope, rest)
 }
 
-/// Whether a clone with a CR before its first break is this text.
-fn is_with_cr_first(whole: &Rope, all: &[char]) -> bool {
-    match whole.clone() {
-        Ok(mut rope) => {
-            rope.try_insert(0, "\r").is_ok()
-                && lens(&rope) == [4_001, 4_001, 2_002, 4_001]
-                && compare_unicode(&rope, all).is_ok()
-        }
-        Err(_) => false,
-    }
+fn loses_first(rope: &mut Rope, rest: &[char]) -> Result<(), Failure> {
+    rope.try_remove(0..1)?;
+    same!(lens(rope), [3_999, 3_999, 2_001, 3_999]);
+    compare_unicode(rope, rest)
 }
 
-/// Whether clones are edited, and the rope, which is all but a CR before it, stays.
-fn are_clones_edited(whole: &Rope, all: &[char]) -> bool {
+/// Fails unless a clone with a CR before its first break is this text.
+fn expect_with_cr_first(whole: &Rope, all: &[char]) -> Result<(), Failure> {
+    let mut rope = whole.clone()?;
+    takes_cr(&mut rope, all)
+}
+
+fn takes_cr(rope: &mut Rope, all: &[char]) -> Result<(), Failure> {
+    rope.try_insert(0, "\r")?;
+    same!(lens(rope), [4_001, 4_001, 2_002, 4_001]);
+    compare_unicode(rope, all)
+}
+
+/// Fails unless clones are edited, and the rope, which is all but a CR before it, stays.
+fn expect_clones_edited(whole: &Rope, all: &[char]) -> Result<(), Failure> {
     let [_, plain @ ..] = all else {
-        return false;
+        return Err(Failure::new("an empty list"));
     };
     let [_, rest @ ..] = plain else {
-        return false;
+        return Err(Failure::new("a list of one"));
     };
-    lens(whole) == [4_000, 4_000, 2_002, 4_000]
-        && is_without_first(whole, rest)
-        && is_with_cr_first(whole, all)
-        && compare_unicode(whole, plain).is_ok()
+    same!(lens(whole), [4_000, 4_000, 2_002, 4_000]);
+    expect_without_first(whole, rest)?;
+    expect_with_cr_first(whole, all)?;
+    compare_unicode(whole, plain)
 }
 
 /// Adds a text so many times, and then another.
@@ -76,85 +78,85 @@ fn cr_and_pairs(alloc: Global) -> Result<Vec<char>, AllocError> {
 }
 
 #[test]
-fn a_break_at_the_start_of_pairs(rt: HostRuntime) -> Result<(), Fail> {
+fn a_break_at_the_start_shifts_all_pairs(rt: HostRuntime) -> Result<(), Failure> {
     let all = cr_and_pairs(rt.alloc())?;
     let whole = rope_of(rt.alloc(), "\n\r", 2_000)?;
-    assert!(rt; are_clones_edited(&whole, &all));
-    Ok(())
+    expect_clones_edited(&whole, &all)
 }
 
 /// How many edits are done between two comparisons of the whole text.
 const BETWEEN: usize = 40;
 
-fn is_text_of(
+fn expect_text_of(
     alloc: Global,
     rope: &Rope,
     first: &str,
     count: usize,
     second: &str,
     more: usize,
-) -> bool {
-    match text_of(alloc, first, count, second, more) {
-        Ok(text) => is_text(alloc, rope, text.as_str()),
-        Err(_) => false,
-    }
+) -> Result<(), Failure> {
+    let text = text_of(alloc, first, count, second, more)?;
+    expect_text(alloc, rope, text.as_str())
 }
 
-/// Whether the LF is taken out of each pair, the first one first. The number of breaks stays.
-fn is_taken_apart(alloc: Global, rope: &mut Rope) -> bool {
+/// Fails unless the LF is taken out of each pair, the first one first. The number of breaks stays.
+fn expect_taken_apart(alloc: Global, rope: &mut Rope) -> Result<(), Failure> {
     for i in 0..2_000usize {
-        let is_taken = rope.try_remove(i + 1..i + 2).is_ok();
+        rope.try_remove(i + 1..i + 2)?;
         let len = 3_999 - i;
-        if !is_taken || lens(rope) != [len, len, 2_001, len] {
-            return false;
-        }
-        if i % BETWEEN == 0 && !is_text_of(alloc, rope, "\r", i + 1, "\r\n", 1_999 - i) {
-            return false;
+        same!(lens(rope), [len, len, 2_001, len]);
+        if i % BETWEEN == 0 {
+            within(
+                format_args!("edit {i}"),
+                expect_text_of(alloc, rope, "\r", i + 1, "\r\n", 1_999 - i),
+            )?;
         }
     }
-    true
+    Ok(())
 }
 
-/// Whether an LF is put behind each CR, the first one first. The number of breaks stays.
-fn is_put_together(alloc: Global, rope: &mut Rope) -> bool {
+/// Fails unless an LF is put behind each CR, the first one first. The number of breaks stays.
+fn expect_put_together(alloc: Global, rope: &mut Rope) -> Result<(), Failure> {
     for i in 0..2_000usize {
-        let is_put_in = rope.try_insert(2 * i + 1, "\n").is_ok();
+        rope.try_insert(2 * i + 1, "\n")?;
         let len = 2_001 + i;
-        if !is_put_in || lens(rope) != [len, len, 2_001, len] {
-            return false;
-        }
-        if i % BETWEEN == 0 && !is_text_of(alloc, rope, "\r\n", i + 1, "\r", 1_999 - i) {
-            return false;
+        same!(lens(rope), [len, len, 2_001, len]);
+        if i % BETWEEN == 0 {
+            within(
+                format_args!("edit {i}"),
+                expect_text_of(alloc, rope, "\r\n", i + 1, "\r", 1_999 - i),
+            )?;
         }
     }
-    true
+    Ok(())
 }
 
-/// Whether the rope has 2,000 CR.
-fn has_crs_alone(alloc: Global, rope: &Rope) -> bool {
-    match repeated(alloc, "\r", 2_000) {
-        Ok(crs) => rope.eq_str(crs.as_str()) && lens(rope) == [2_000, 2_000, 2_001, 2_000],
-        Err(_) => false,
-    }
+/// Fails unless the rope has 2,000 CR.
+fn expect_crs_alone(alloc: Global, rope: &Rope) -> Result<(), Failure> {
+    let crs = repeated(alloc, "\r", 2_000)?;
+    holds!(rope.eq_str(crs.as_str()));
+    same!(lens(rope), [2_000, 2_000, 2_001, 2_000]);
+    Ok(())
 }
 
-/// Whether the pairs of a clone are taken apart and put together again, and it has the text of the rope again.
-fn is_clone_edited(alloc: Global, first: &Rope) -> bool {
-    match first.clone() {
-        Ok(mut rope) => {
-            is_taken_apart(alloc, &mut rope)
-                && has_crs_alone(alloc, &rope)
-                && is_put_together(alloc, &mut rope)
-                && rope == *first
-                && lens(&rope) == [4_000, 4_000, 2_001, 4_000]
-        }
-        Err(_) => false,
-    }
+fn expect_pairs_again(alloc: Global, rope: &mut Rope, first: &Rope) -> Result<(), Failure> {
+    expect_taken_apart(alloc, rope)?;
+    expect_crs_alone(alloc, rope)?;
+    expect_put_together(alloc, rope)?;
+    same!(*rope, *first);
+    same!(lens(rope), [4_000, 4_000, 2_001, 4_000]);
+    Ok(())
+}
+
+/// Fails unless the pairs of a clone are taken apart and put together again, and it has the text of
+/// the rope again.
+fn expect_clone_edited(alloc: Global, first: &Rope) -> Result<(), Failure> {
+    let mut rope = first.clone()?;
+    expect_pairs_again(alloc, &mut rope, first)
 }
 
 #[test]
-fn pairs_taken_apart_and_put_together(rt: HostRuntime) -> Result<(), Fail> {
+fn pairs_are_taken_apart_and_put_together(rt: HostRuntime) -> Result<(), Failure> {
     let first = rope_of(rt.alloc(), "\r\n", 2_000)?;
-    assert!(rt; is_clone_edited(rt.alloc(), &first));
-    Ok(())
+    expect_clone_edited(rt.alloc(), &first)
 }

@@ -1,11 +1,13 @@
 //! Random edits of ropes and their clones, against plain lists of characters.
-use rope_plain::compare::{compare, has_few_chunks};
+use rope_plain::compare::expect_few_chunks;
+use rope_plain::failure::{Failure, within};
 use rope_plain::numbers::Numbers;
-use rope_plain::texts::{inserted, part_from, random_edit_text};
-use ropey::{Error, LineBreaks, Rope};
+use rope_plain::pair::Pair;
+use rope_plain::texts::random_edit_text;
+use ropey::{Error, LineBreaks};
 use std::alloc::{AllocError, Global};
 
-/// How many edits are done between two comparisons.
+/// How many edits are done between two comparisons of all ropes.
 const BETWEEN: usize = 100;
 
 /// How many ropes there are at the most.
@@ -16,118 +18,61 @@ const LONG: usize = 30_000;
 
 const SHORT: usize = 200;
 
-/// Takes the characters from one on and before another out.
-fn take_out(
+/// What was done last, with its place and how many bytes or characters it moved.
+#[derive(Clone, Copy, Debug)]
+enum Command {
+    Insert { at: usize, bytes: usize },
+    InsertChar { at: usize, c: char },
+    Remove { from: usize, to: usize },
+    Split { at: usize },
+    Append,
+    Clone,
+}
+
+/// Puts a random text in at a random place.
+fn insert(pair: &mut Pair, alloc: Global, numbers: &mut Numbers) -> Result<Command, Error> {
+    let at = pair.place(numbers);
+    let text = random_edit_text(alloc, numbers)?;
+    let bytes = text.len();
+    pair.insert(alloc, at, text.as_str())?;
+    Ok(Command::Insert { at, bytes })
+}
+
+fn insert_char(pair: &mut Pair, alloc: Global, numbers: &mut Numbers) -> Result<Command, Error> {
+    let at = pair.place(numbers);
+    let c = ['\r', '\n', 'x', '🐸'][numbers.take() % 4];
+    pair.insert_char(alloc, at, c)?;
+    Ok(Command::InsertChar { at, c })
+}
+
+/// Takes up to `most` characters out.
+fn remove(
+    pair: &mut Pair,
     alloc: Global,
-    text: &mut Vec<char>,
-    first: usize,
-    last: usize,
-) -> Result<(), AllocError> {
-    let back = part_from(alloc, text, last)?;
-    text.truncate(first);
-    text.extend_from_slice(&back)
+    numbers: &mut Numbers,
+    most: usize,
+) -> Result<Command, Error> {
+    let from = pair.place(numbers);
+    let count = numbers.up_to(most);
+    let to = from.saturating_add(count).min(pair.plain.len());
+    pair.remove(alloc, from, to)?;
+    Ok(Command::Remove { from, to })
 }
 
-/// A rope, and the list of characters that it has to have.
-#[derive(Drop)]
-pub struct Pair {
-    pub rope: Rope,
-    pub plain: Vec<char>,
-}
-
-impl Pair {
-    /// An empty rope that goes by a set of line breaks.
-    pub fn new(alloc: Global, breaks: LineBreaks) -> Result<Pair, Error> {
-        Ok(Pair {
-            rope: Rope::new_with(alloc, breaks)?,
-            plain: Vec::new(alloc),
-        })
+/// An edit of one rope, which keeps its length within bounds.
+fn edit_one(pair: &mut Pair, alloc: Global, numbers: &mut Numbers) -> Result<Command, Error> {
+    let len = pair.plain.len();
+    if len > LONG {
+        return remove(pair, alloc, numbers, LONG);
     }
-
-    fn copy(&self) -> Result<Pair, Error> {
-        let plain = self.plain.clone()?;
-        let rope = self.rope.clone()?;
-        Ok(Pair { rope, plain })
+    if len < SHORT {
+        return insert(pair, alloc, numbers);
     }
-
-    /// A place before a character or at the end.
-    fn place(&self, numbers: &mut Numbers) -> usize {
-        numbers.up_to(self.plain.len())
-    }
-
-    fn put_in(&mut self, alloc: Global, at: usize, text: &str) -> Result<(), Error> {
-        self.rope.try_insert(at, text)?;
-        self.plain = inserted(alloc, &self.plain, at, text)?;
-        Ok(())
-    }
-
-    /// Puts a random text in at a random place.
-    pub fn insert(&mut self, alloc: Global, numbers: &mut Numbers) -> Result<(), Error> {
-        let at = self.place(numbers);
-        let text = random_edit_text(alloc, numbers)?;
-        self.put_in(alloc, at, text.as_str())
-    }
-
-    fn insert_char(&mut self, alloc: Global, numbers: &mut Numbers) -> Result<(), Error> {
-        let at = self.place(numbers);
-        let c = ['\r', '\n', 'x', '🐸'][numbers.take() % 4];
-        self.rope.try_insert_char(at, c)?;
-        let mut bytes = [0; 4];
-        self.plain = inserted(alloc, &self.plain, at, c.encode_utf8(&mut bytes))?;
-        Ok(())
-    }
-
-    /// Takes up to `most` characters out.
-    fn remove(&mut self, alloc: Global, numbers: &mut Numbers, most: usize) -> Result<(), Error> {
-        let start = self.place(numbers);
-        let count = numbers.up_to(most);
-        let end = start.saturating_add(count).min(self.plain.len());
-        self.rope.try_remove(start..end)?;
-        Ok(take_out(alloc, &mut self.plain, start, end)?)
-    }
-
-    /// Leaves the front, and answers the back.
-    fn split_off(&mut self, alloc: Global, numbers: &mut Numbers) -> Result<Pair, Error> {
-        let at = self.place(numbers);
-        let plain = part_from(alloc, &self.plain, at)?;
-        self.plain.truncate(at);
-        let rope = self.rope.try_split_off(at)?;
-        Ok(Pair { rope, plain })
-    }
-
-    fn append(&mut self, other: Pair) -> Result<(), Error> {
-        let Pair { rope, plain } = other;
-        let appended = self.rope.append(rope);
-        self.plain.extend_from_slice(&plain)?;
-        appended
-    }
-
-    /// An edit of it alone, which keeps its length within bounds.
-    fn edit(&mut self, alloc: Global, numbers: &mut Numbers) -> Result<(), Error> {
-        let len = self.plain.len();
-        if len > LONG {
-            return self.remove(alloc, numbers, LONG);
-        }
-        if len < SHORT {
-            return self.insert(alloc, numbers);
-        }
-        match numbers.take() % 16 {
-            0..=4 => self.insert(alloc, numbers),
-            5..=9 => self.insert_char(alloc, numbers),
-            10..=14 => self.remove(alloc, numbers, 12),
-            _ => self.remove(alloc, numbers, 1_500),
-        }
-    }
-
-    fn is_right(&self, breaks: LineBreaks) -> bool {
-        compare(&self.rope, &self.plain, breaks).is_ok()
-    }
-
-    /// Whether it is right when it is re-chunked.
-    fn shrinks(&mut self, breaks: LineBreaks) -> bool {
-        self.rope.shrink_to_fit().is_ok()
-            && self.is_right(breaks)
-            && has_few_chunks(&self.rope).is_ok()
+    match numbers.take() % 16 {
+        0..=4 => insert(pair, alloc, numbers),
+        5..=9 => insert_char(pair, alloc, numbers),
+        10..=14 => remove(pair, alloc, numbers, 12),
+        _ => remove(pair, alloc, numbers, 1_500),
     }
 }
 
@@ -163,16 +108,19 @@ fn add_copy(pairs: &mut Vec<Pair>) -> Result<(), Error> {
 }
 
 /// Makes of the last rope two, and leaves the front last.
-fn split_last(pairs: &mut Vec<Pair>, alloc: Global, numbers: &mut Numbers) -> Result<(), Error> {
-    match pairs.last_mut() {
-        Some(last) => {
-            let back = last.split_off(alloc, numbers)?;
-            keep(pairs, back)?;
-            swap_last(pairs);
-            Ok(())
-        }
-        None => Ok(()),
-    }
+fn split_last(
+    pairs: &mut Vec<Pair>,
+    alloc: Global,
+    numbers: &mut Numbers,
+) -> Result<Command, Error> {
+    let Some(last) = pairs.last_mut() else {
+        return Ok(Command::Split { at: 0 });
+    };
+    let at = last.place(numbers);
+    let back = last.split_off(alloc, at)?;
+    keep(pairs, back)?;
+    swap_last(pairs);
+    Ok(Command::Split { at })
 }
 
 /// Puts the last but one behind the last, where there are two.
@@ -191,30 +139,58 @@ fn join_last(pairs: &mut Vec<Pair>) -> Result<(), Error> {
 }
 
 /// An edit that makes of the last rope two, or of the last two one.
-fn edit_two(pairs: &mut Vec<Pair>, alloc: Global, numbers: &mut Numbers) -> Result<(), Error> {
+fn edit_two(pairs: &mut Vec<Pair>, alloc: Global, numbers: &mut Numbers) -> Result<Command, Error> {
     let has_room = pairs.len() < MOST;
     match numbers.take() % 3 {
-        0 if has_room => add_copy(pairs),
+        0 if has_room => {
+            add_copy(pairs)?;
+            Ok(Command::Clone)
+        }
         1 if has_room => split_last(pairs, alloc, numbers),
-        _ => join_last(pairs),
+        _ => {
+            join_last(pairs)?;
+            Ok(Command::Append)
+        }
     }
 }
 
 /// An edit, one in eight of them of more than one rope.
-fn edit_once(pairs: &mut Vec<Pair>, alloc: Global, numbers: &mut Numbers) -> Result<(), Error> {
+fn edit_once(
+    pairs: &mut Vec<Pair>,
+    alloc: Global,
+    numbers: &mut Numbers,
+) -> Result<Command, Error> {
     choose(pairs, numbers);
     if numbers.take() % 8 == 0 {
         return edit_two(pairs, alloc, numbers);
     }
     match pairs.last_mut() {
-        Some(pair) => pair.edit(alloc, numbers),
+        Some(pair) => edit_one(pair, alloc, numbers),
+        None => Ok(Command::Clone),
+    }
+}
+
+/// Fails unless the rope that was edited last is right.
+fn expect_last(pairs: &[Pair], breaks: LineBreaks) -> Result<(), Failure> {
+    match pairs.last() {
+        Some(last) => last.expect_same(breaks),
         None => Ok(()),
     }
 }
 
-fn edit(pairs: &mut Vec<Pair>, alloc: Global, numbers: &mut Numbers) -> Result<(), Error> {
-    for _ in 0..BETWEEN {
-        edit_once(pairs, alloc, numbers)?;
+/// Fails unless the edited rope is right behind each edit of a round.
+fn expect_edits(
+    pairs: &mut Vec<Pair>,
+    alloc: Global,
+    numbers: &mut Numbers,
+    breaks: LineBreaks,
+) -> Result<(), Failure> {
+    for edit in 0..BETWEEN {
+        let command = edit_once(pairs, alloc, numbers)?;
+        within(
+            format_args!("edit {edit}, {command:?}"),
+            expect_last(pairs, breaks),
+        )?;
     }
     Ok(())
 }
@@ -228,84 +204,78 @@ fn add_copies(all: &mut Vec<Pair>, pairs: &[Pair]) -> Result<(), Error> {
     Ok(())
 }
 
-fn are_right(pairs: &[Pair], breaks: LineBreaks) -> bool {
-    for pair in pairs {
-        if !pair.is_right(breaks) {
-            return false;
-        }
+/// Fails unless all ropes are right; `which` says which they are.
+fn expect_all(pairs: &[Pair], breaks: LineBreaks, which: &str) -> Result<(), Failure> {
+    for (i, pair) in pairs.iter().enumerate() {
+        within(format_args!("{which} {i}"), pair.expect_same(breaks))?;
     }
-    true
+    Ok(())
 }
 
-/// Whether all ropes are right when they are re-chunked.
-fn are_shrunk(pairs: &mut [Pair], breaks: LineBreaks) -> bool {
-    for pair in pairs.iter_mut() {
-        if !pair.shrinks(breaks) {
-            return false;
-        }
+/// Fails unless a rope is right, in few chunks, when it is re-chunked.
+fn expect_shrunk(pair: &mut Pair, breaks: LineBreaks) -> Result<(), Failure> {
+    pair.rope.shrink_to_fit()?;
+    pair.expect_same(breaks)?;
+    expect_few_chunks(&pair.rope)
+}
+
+fn expect_all_shrunk(pairs: &mut [Pair], breaks: LineBreaks) -> Result<(), Failure> {
+    for (i, pair) in pairs.iter_mut().enumerate() {
+        within(format_args!("shrunk rope {i}"), expect_shrunk(pair, breaks))?;
     }
-    true
+    Ok(())
 }
 
 /// How many rounds of edits are done between two times that all ropes are re-chunked.
 const BETWEEN_SHRINKS: usize = 16;
 
-/// Whether the ropes are right after a round of edits, and the clones made before it too.
-fn is_round_right(
+/// Fails unless the ropes are right after a round of edits, and the clones made before it too.
+fn expect_round(
     pairs: &mut Vec<Pair>,
     alloc: Global,
     numbers: &mut Numbers,
     breaks: LineBreaks,
     round: usize,
-) -> bool {
+) -> Result<(), Failure> {
     let mut clones = Vec::new(alloc);
-    add_copies(&mut clones, pairs).is_ok()
-        && edit(pairs, alloc, numbers).is_ok()
-        && are_right(pairs, breaks)
-        && (round % BETWEEN_SHRINKS != 0 || are_shrunk(pairs, breaks))
-        && are_right(&clones, breaks)
-}
-
-/// Whether rounds of edits of several ropes go well.
-fn are_rounds_right(
-    pairs: &mut Vec<Pair>,
-    alloc: Global,
-    breaks: LineBreaks,
-    rounds: usize,
-) -> bool {
-    let mut numbers = Numbers::new(0x9E37_79B9_7F4A_7C15);
-    for round in 0..rounds {
-        if !is_round_right(pairs, alloc, &mut numbers, breaks, round + 1) {
-            return false;
-        }
+    add_copies(&mut clones, pairs)?;
+    expect_edits(pairs, alloc, numbers, breaks)?;
+    expect_all(pairs, breaks, "rope")?;
+    if round % BETWEEN_SHRINKS == 0 {
+        expect_all_shrunk(pairs, breaks)?;
     }
-    true
+    expect_all(&clones, breaks, "clone")
 }
 
-/// A row of one empty rope that goes by a set of line breaks.
-fn add_empty(pairs: &mut Vec<Pair>, alloc: Global, breaks: LineBreaks) -> Result<(), Error> {
-    let pair = Pair::new(alloc, breaks)?;
-    keep(pairs, pair)
-}
+/// The number that all rows of edits begin with.
+const SEED: u64 = 0x9E37_79B9_7F4A_7C15;
 
-/// Whether rounds of edits go well of ropes of one set of line breaks, of which the first is empty.
-fn is_edited(alloc: Global, breaks: LineBreaks, rounds: usize) -> bool {
+/// Fails unless rounds of edits go well of ropes of one set of line breaks, of which the first is
+/// empty.
+fn expect_rounds(alloc: Global, breaks: LineBreaks, rounds: usize) -> Result<(), Failure> {
     let mut pairs = Vec::new(alloc);
-    add_empty(&mut pairs, alloc, breaks).is_ok()
-        && are_rounds_right(&mut pairs, alloc, breaks, rounds)
+    keep(&mut pairs, Pair::new(alloc, "", breaks)?)?;
+    let mut numbers = Numbers::new(SEED);
+    for round in 1..=rounds {
+        within(
+            format_args!("line breaks {breaks:?}, seed {SEED:#x}, round {round}"),
+            expect_round(&mut pairs, alloc, &mut numbers, breaks, round),
+        )?;
+    }
+    Ok(())
 }
 
 #[test]
-fn many_edits(rt: HostRuntime) {
-    assert!(rt; is_edited(rt.alloc(), LineBreaks::Unicode, 200));
+fn ropes_and_clones_stay_their_lists_through_20_000_edits(rt: HostRuntime) -> Result<(), Failure> {
+    expect_rounds(rt.alloc(), LineBreaks::Unicode, 200)
 }
 
 #[test]
-fn edits_by_lf(rt: HostRuntime) {
-    assert!(rt; is_edited(rt.alloc(), LineBreaks::Lf, 60));
+fn ropes_by_lf_stay_their_lists_through_6_000_edits(rt: HostRuntime) -> Result<(), Failure> {
+    expect_rounds(rt.alloc(), LineBreaks::Lf, 60)
 }
 
 #[test]
-fn edits_by_cr_and_lf(rt: HostRuntime) {
-    assert!(rt; is_edited(rt.alloc(), LineBreaks::CrLf, 60));
+fn ropes_by_cr_and_lf_stay_their_lists_through_6_000_edits(rt: HostRuntime) -> Result<(), Failure> {
+    expect_rounds(rt.alloc(), LineBreaks::CrLf, 60)
 }

@@ -1,55 +1,69 @@
 //! Random inserts, against plain lists of characters.
-use crate::random_edits::Pair;
-use rope_plain::compare::compare_unicode;
+use rope_plain::failure::{Failure, within};
 use rope_plain::numbers::Numbers;
+use rope_plain::pair::Pair;
 use rope_plain::places::compare_at;
-use ropey::{LineBreaks, Rope};
+use rope_plain::texts::random_edit_text;
+use ropey::{Error, LineBreaks};
 use std::alloc::Global;
 
 /// How many inserts are done between two comparisons.
 const BETWEEN: usize = 100;
 
-/// Whether the rope is the plain text, in whole and at some places.
-fn is_right(rope: &Rope, plain: &[char], numbers: &mut Numbers) -> bool {
-    for _ in 0..4 {
-        if compare_at(rope, plain, numbers.up_to(plain.len())).is_err() {
-            return false;
-        }
+/// How many places are compared each time, beside the end.
+const PLACES: usize = 4;
+
+/// Fails unless the rope is the plain text, in whole and at some places.
+fn expect_right(pair: &Pair, numbers: &mut Numbers) -> Result<(), Failure> {
+    for _ in 0..PLACES {
+        compare_at(&pair.rope, &pair.plain, pair.place(numbers))?;
     }
-    compare_at(rope, plain, plain.len()).is_ok() && compare_unicode(rope, plain).is_ok()
+    compare_at(&pair.rope, &pair.plain, pair.plain.len())?;
+    pair.expect_same(LineBreaks::Unicode)
 }
 
-/// Whether many inserts into one rope go well, which is compared now and then at some places, and at the end in whole.
-fn takes_many(pair: &mut Pair, alloc: Global, numbers: &mut Numbers, inserts: usize) -> bool {
-    for round in 0..inserts {
-        let is_taken = pair.insert(alloc, numbers).is_ok();
-        let is_compared = (round + 1) % BETWEEN == 0;
-        if !is_taken || (is_compared && !is_right(&pair.rope, &pair.plain, numbers)) {
-            return false;
-        }
-    }
-    compare_unicode(&pair.rope, &pair.plain).is_ok()
+/// Puts a random text in, and answers where and how many bytes.
+fn insert(pair: &mut Pair, alloc: Global, numbers: &mut Numbers) -> Result<(usize, usize), Error> {
+    let char_idx = pair.place(numbers);
+    let text = random_edit_text(alloc, numbers)?;
+    let bytes = text.len();
+    pair.insert(alloc, char_idx, text.as_str())?;
+    Ok((char_idx, bytes))
 }
 
-fn are_taken(alloc: Global, numbers: &mut Numbers, inserts: usize) -> bool {
-    match Pair::new(alloc, LineBreaks::Unicode) {
-        Ok(mut pair) => takes_many(&mut pair, alloc, numbers, inserts),
-        Err(_) => false,
+/// Fails unless the rope is right behind many inserts, as it is compared now and then.
+fn takes_many(alloc: Global, numbers: &mut Numbers, inserts: usize) -> Result<(), Failure> {
+    let mut pair = Pair::new(alloc, "", LineBreaks::Unicode)?;
+    for number in 1..=inserts {
+        let (char_idx, bytes) = insert(&mut pair, alloc, numbers)?;
+        if number % BETWEEN == 0 {
+            within(
+                format_args!("insert {number}, of {bytes} bytes before character {char_idx}"),
+                expect_right(&pair, numbers),
+            )?;
+        }
     }
+    pair.expect_same(LineBreaks::Unicode)
+}
+
+/// Fails unless many ropes, which begin empty, take so many inserts each.
+fn expect_taken(alloc: Global, seed: u64, ropes: usize, inserts: usize) -> Result<(), Failure> {
+    let mut numbers = Numbers::new(seed);
+    for rope in 0..ropes {
+        within(
+            format_args!("line breaks Unicode, seed {seed:#x}, rope {rope}"),
+            takes_many(alloc, &mut numbers, inserts),
+        )?;
+    }
+    Ok(())
 }
 
 #[test]
-fn many_inserts_into_short_texts(rt: HostRuntime) {
-    let mut numbers = Numbers::new(0x9E37_79B9_7F4A_7C15);
-    for _ in 0..20 {
-        assert!(rt; are_taken(rt.alloc(), &mut numbers, 250));
-    }
+fn short_ropes_stay_their_lists_through_inserts(rt: HostRuntime) -> Result<(), Failure> {
+    expect_taken(rt.alloc(), 0x9E37_79B9_7F4A_7C15, 20, 250)
 }
 
 #[test]
-fn many_inserts_into_long_texts(rt: HostRuntime) {
-    let mut numbers = Numbers::new(0xD1B5_4A32_D192_ED03);
-    for _ in 0..3 {
-        assert!(rt; are_taken(rt.alloc(), &mut numbers, 5_000));
-    }
+fn long_ropes_stay_their_lists_through_inserts(rt: HostRuntime) -> Result<(), Failure> {
+    expect_taken(rt.alloc(), 0xD1B5_4A32_D192_ED03, 3, 5_000)
 }

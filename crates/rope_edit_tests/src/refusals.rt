@@ -1,15 +1,17 @@
 //! Edits of a short rope that are refused, and such as are done at its end.
-use crate::texts::is_text;
+use rope_plain::compare::expect_text;
+use rope_plain::failure::Failure;
+use rope_plain::same;
 use ropey::{Error, Rope};
 use std::alloc::Global;
-use std::test::Fail;
 
-fn refuses_inserts(rope: &mut Rope) -> bool {
+fn refuses_inserts(rope: &mut Rope) -> Result<(), Failure> {
     let refused = [rope.try_insert(7, "x"), rope.try_insert(7, "")];
-    refused == [Err(Error::CharIndexOutOfBounds(7, 6)); 2]
+    same!(refused, [Err(Error::CharIndexOutOfBounds(7, 6)); 2]);
+    Ok(())
 }
 
-fn refuses_ranges(rope: &mut Rope) -> bool {
+fn refuses_ranges(rope: &mut Rope) -> Result<(), Failure> {
     let refused = [
         rope.try_remove(9..7),
         rope.try_remove(4..2),
@@ -20,51 +22,67 @@ fn refuses_ranges(rope: &mut Rope) -> bool {
         Err(Error::CharRangeInvalid(4, 2)),
         Err(Error::CharRangeOutOfBounds(None, Some(usize::MAX), 6)),
     ];
-    refused == expected
+    same!(refused, expected);
+    Ok(())
 }
 
-fn refuses_a_split(rope: &mut Rope) -> bool {
+fn refuses_a_split(rope: &mut Rope) -> Result<(), Failure> {
     match rope.try_split_off(7) {
-        Ok(_) => false,
-        Err(refused) => refused == Error::CharIndexOutOfBounds(7, 6),
-    }
-}
-
-/// Whether nothing is cut off and taken out at the end.
-fn leaves_all(alloc: Global, rope: &mut Rope) -> bool {
-    let is_cut = match rope.try_split_off(6) {
-        Ok(back) => is_text(alloc, &back, ""),
-        Err(_) => false,
-    };
-    is_cut && is_text(alloc, rope, "Hello!") && rope.try_remove(6..6).is_ok()
-}
-
-/// Whether a text, none and a character are put in at the end.
-fn takes_more(alloc: Global, rope: &mut Rope) -> bool {
-    let is_first_taken = rope.try_insert(6, "x").is_ok() && is_text(alloc, rope, "Hello!x");
-    let taken = [rope.try_insert(7, ""), rope.try_insert_char(7, 'y')];
-    is_first_taken && taken == [Ok(()); 2] && is_text(alloc, rope, "Hello!xy")
-}
-
-/// Whether a refusal is printed as it has to be.
-fn is_printed(alloc: Global, rope: &mut Rope) -> bool {
-    let Err(error) = rope.try_insert(7, "x") else {
-        return false;
-    };
-    match format!(in alloc; "{error}") {
-        Ok(text) => {
-            text.as_str() == "Char index out of bounds: char index 7, Rope/RopeSlice char length 6"
+        Ok(_) => Err(Failure::new("a split past the end is not refused")),
+        Err(refused) => {
+            same!(refused, Error::CharIndexOutOfBounds(7, 6));
+            Ok(())
         }
-        Err(_) => false,
     }
+}
+
+fn cuts_nothing_off(alloc: Global, rope: &mut Rope) -> Result<(), Failure> {
+    let back = rope.try_split_off(6)?;
+    expect_text(alloc, &back, "")
+}
+
+/// Fails unless nothing is cut off and taken out at the end.
+fn leaves_all(alloc: Global, rope: &mut Rope) -> Result<(), Failure> {
+    cuts_nothing_off(alloc, rope)?;
+    expect_text(alloc, rope, "Hello!")?;
+    rope.try_remove(6..6)?;
+    Ok(())
+}
+
+/// Fails unless a text, none and a character are put in at the end.
+fn takes_more(alloc: Global, rope: &mut Rope) -> Result<(), Failure> {
+    rope.try_insert(6, "x")?;
+    expect_text(alloc, rope, "Hello!x")?;
+    let taken = [rope.try_insert(7, ""), rope.try_insert_char(7, 'y')];
+    same!(taken, [Ok(()); 2]);
+    expect_text(alloc, rope, "Hello!xy")
+}
+
+/// Fails unless a refusal is printed as it has to be.
+fn expect_printed(alloc: Global, rope: &mut Rope) -> Result<(), Failure> {
+    let Err(error) = rope.try_insert(7, "x") else {
+        return Err(Failure::new("an insert past the end is not refused"));
+    };
+    let text = format!(in alloc; "{error}")?;
+    same!(
+        text.as_str(),
+        "Char index out of bounds: char index 7, Rope/RopeSlice char length 6"
+    );
+    Ok(())
+}
+
+fn refuses_all(alloc: Global, rope: &mut Rope) -> Result<(), Failure> {
+    refuses_inserts(rope)?;
+    refuses_ranges(rope)?;
+    refuses_a_split(rope)?;
+    expect_printed(alloc, rope)?;
+    leaves_all(alloc, rope)?;
+    expect_text(alloc, rope, "Hello!")?;
+    takes_more(alloc, rope)
 }
 
 #[test]
-fn refusals(rt: HostRuntime) -> Result<(), Fail> {
+fn a_short_rope_refuses_what_lies_past_its_end(rt: HostRuntime) -> Result<(), Failure> {
     let mut rope = Rope::from_str(rt.alloc(), "Hello!")?;
-    let are_refused = refuses_inserts(&mut rope) && refuses_ranges(&mut rope);
-    assert!(rt; are_refused && refuses_a_split(&mut rope) && is_printed(rt.alloc(), &mut rope));
-    assert!(rt; leaves_all(rt.alloc(), &mut rope) && is_text(rt.alloc(), &rope, "Hello!"));
-    assert!(rt; takes_more(rt.alloc(), &mut rope));
-    Ok(())
+    refuses_all(rt.alloc(), &mut rope)
 }

@@ -1,33 +1,34 @@
 //! Ropes with a part taken out, split and joined again, against rows that were worked by hand.
-use crate::texts::{add_letters, is_text, rope_of};
-use rope_plain::compare::{compare_unicode, lens, lie_together};
-use rope_plain::texts::padded;
+use crate::texts::add_letters;
+use rope_plain::compare::{compare_unicode, expect_text, expect_together, lens};
+use rope_plain::failure::{Failure, within};
+use rope_plain::texts::{padded, rope_of};
+use rope_plain::{holds, same};
 use ropey::{Rope, Steps};
 use std::alloc::{AllocError, Global};
-use std::test::Fail;
 
-fn leaves_the_ends(rope: &mut Rope) -> bool {
-    if rope.len_chars() != 2_000 || rope.remove(1..1_999).is_err() {
-        return false;
-    }
+fn leaves_the_ends(rope: &mut Rope) -> Result<(), Failure> {
+    holds!(rope.len_chars() == 2_000);
+    rope.remove(1..1_999)?;
     let counts = [
         rope.len_lines(),
         rope.chunks().count(),
         rope.depth(),
         rope.capacity(),
     ];
-    compare_unicode(rope, &['\r', '\n']).is_ok() && counts == [2, 1, 0, 984]
-}
-
-#[test]
-fn all_pairs_but_the_ends(rt: HostRuntime) -> Result<(), Fail> {
-    let mut rope = rope_of(rt.alloc(), "\r\n", 1_000)?;
-    assert!(rt; leaves_the_ends(&mut rope));
+    compare_unicode(rope, &['\r', '\n'])?;
+    same!(counts, [2, 1, 0, 984]);
     Ok(())
 }
 
+#[test]
+fn a_removal_of_all_pairs_leaves_a_pair(rt: HostRuntime) -> Result<(), Failure> {
+    let mut rope = rope_of(rt.alloc(), "\r\n", 1_000)?;
+    leaves_the_ends(&mut rope)
+}
+
 /// What is done to a clone of a million letters.
-#[derive(Clone, Copy)]
+#[derive(Clone, Copy, Debug)]
 enum Step {
     LeaveOne,
     LeaveTwenty,
@@ -54,78 +55,73 @@ const STEPS: [Step; 12] = [
     Step::CountAppend,
 ];
 
-fn leaves_one(rope: &mut Rope) -> bool {
-    rope.try_remove(0..999_999).is_ok()
-        && compare_unicode(rope, &['a']).is_ok()
-        && [rope.chunks().count(), rope.depth()] == [1, 0]
+fn leaves_one(rope: &mut Rope) -> Result<(), Failure> {
+    rope.try_remove(0..999_999)?;
+    compare_unicode(rope, &['a'])?;
+    same!([rope.chunks().count(), rope.depth()], [1, 0]);
+    Ok(())
 }
 
-fn leaves_twenty(rope: &mut Rope) -> bool {
-    rope.try_remove(10..999_990).is_ok()
-        && compare_unicode(rope, &['a'; 20]).is_ok()
-        && rope.depth() <= 1
+fn leaves_twenty(rope: &mut Rope) -> Result<(), Failure> {
+    rope.try_remove(10..999_990)?;
+    compare_unicode(rope, &['a'; 20])?;
+    holds!(rope.depth() <= 1);
+    Ok(())
 }
 
-/// Whether the back is cut off at a character, and joined again.
-fn is_split(front: &mut Rope, char_idx: usize, rest: usize) -> bool {
-    match front.try_split_off(char_idx) {
-        Ok(back) => {
-            let is_cut = [front.len_bytes(), back.len_bytes()] == [char_idx, rest];
-            let is_joined = front.append(back).is_ok() && front.len_bytes() == 1_000_000;
-            is_cut && is_joined && (3..=4).contains(&front.depth())
-        }
-        Err(_) => false,
-    }
+/// Fails unless the back is cut off at a character, and joined again.
+fn expect_split(front: &mut Rope, char_idx: usize, rest: usize) -> Result<(), Failure> {
+    let back = front.try_split_off(char_idx)?;
+    let lens = [front.len_bytes(), back.len_bytes()];
+    front.append(back)?;
+    same!(lens, [char_idx, rest]);
+    same!(front.len_bytes(), 1_000_000);
+    holds!((3..=4).contains(&front.depth()));
+    Ok(())
 }
 
-fn counts_an_insert(rope: &mut Rope) -> bool {
+fn counts_an_insert(rope: &mut Rope) -> Result<(), Failure> {
     let mut steps = Steps::new();
-    rope.len_chars() == 1_000_000
-        && rope.insert_char_counted(500_000, 'x', &mut steps).is_ok()
-        && (4..=40).contains(&steps.made)
-        && rope.len_bytes() == 1_000_001
-        && rope.get_char(500_000) == Some('x')
+    holds!(rope.len_chars() == 1_000_000);
+    rope.insert_char_counted(500_000, 'x', &mut steps)?;
+    holds!((4..=40).contains(&steps.made));
+    same!(rope.len_bytes(), 1_000_001);
+    same!(rope.get_char(500_000), Some('x'));
+    Ok(())
 }
 
-fn counts_a_removal(rope: &mut Rope) -> bool {
+fn counts_a_removal(rope: &mut Rope) -> Result<(), Failure> {
     let mut steps = Steps::new();
-    rope.len_chars() == 1_000_000
-        && rope.remove_counted(10..999_990, &mut steps).is_ok()
-        && rope.len_bytes() == 20
-        && (1..=80).contains(&steps.made)
+    holds!(rope.len_chars() == 1_000_000);
+    rope.remove_counted(10..999_990, &mut steps)?;
+    same!(rope.len_bytes(), 20);
+    holds!((1..=80).contains(&steps.made));
+    Ok(())
 }
 
-fn counts_a_split(front: &mut Rope) -> bool {
-    if front.len_chars() != 1_000_000 {
-        return false;
-    }
+fn counts_a_split(front: &mut Rope) -> Result<(), Failure> {
+    holds!(front.len_chars() == 1_000_000);
     let mut steps = Steps::new();
-    match front.split_off_counted(500_000, &mut steps) {
-        Ok(back) => {
-            [front.len_bytes(), back.len_bytes()] == [500_000, 500_000]
-                && (2..=80).contains(&steps.made)
-        }
-        Err(_) => false,
-    }
+    let rest = front.split_off_counted(500_000, &mut steps)?.len_bytes();
+    same!([front.len_bytes(), rest], [500_000, 500_000]);
+    holds!((2..=80).contains(&steps.made));
+    Ok(())
 }
 
-fn counts_an_append(front: &mut Rope) -> bool {
+fn counts_an_append(front: &mut Rope) -> Result<(), Failure> {
     let mut steps = Steps::new();
-    match front.try_split_off(500_000) {
-        Ok(back) => {
-            front.append_counted(back, &mut steps).is_ok()
-                && (1..=80).contains(&steps.made)
-                && front.len_bytes() == 1_000_000
-        }
-        Err(_) => false,
-    }
+    let back = front.try_split_off(500_000)?;
+    front.append_counted(back, &mut steps)?;
+    holds!((1..=80).contains(&steps.made));
+    same!(front.len_bytes(), 1_000_000);
+    Ok(())
 }
 
-fn does(rope: &mut Rope, step: Step) -> bool {
+fn does(rope: &mut Rope, step: Step) -> Result<(), Failure> {
     match step {
         Step::LeaveOne => leaves_one(rope),
         Step::LeaveTwenty => leaves_twenty(rope),
-        Step::Split(char_idx, rest) => is_split(rope, char_idx, rest),
+        Step::Split(char_idx, rest) => expect_split(rope, char_idx, rest),
         Step::CountInsert => counts_an_insert(rope),
         Step::CountRemoval => counts_a_removal(rope),
         Step::CountSplit => counts_a_split(rope),
@@ -133,32 +129,34 @@ fn does(rope: &mut Rope, step: Step) -> bool {
     }
 }
 
-/// Whether a clone is edited, and the rope stays.
-fn is_done(whole: &Rope, step: Step) -> bool {
-    match whole.clone() {
-        Ok(mut rope) => {
-            does(&mut rope, step)
-                && [whole.len_bytes(), whole.depth()] == [1_000_000, 3]
-                && whole.get_char(500_000) == Some('a')
-        }
-        Err(_) => false,
-    }
+/// Fails unless a clone is edited.
+fn expect_clone_done(whole: &Rope, step: Step) -> Result<(), Failure> {
+    let mut rope = whole.clone()?;
+    does(&mut rope, step)
 }
 
-fn are_done(whole: &Rope) -> bool {
-    for step in &STEPS {
-        if !is_done(whole, *step) {
-            return false;
-        }
+/// Fails unless a clone is edited, and the rope stays.
+fn expect_done(whole: &Rope, step: Step) -> Result<(), Failure> {
+    expect_clone_done(whole, step)?;
+    same!([whole.len_bytes(), whole.depth()], [1_000_000, 3]);
+    same!(whole.get_char(500_000), Some('a'));
+    Ok(())
+}
+
+fn expect_all_done(whole: &Rope) -> Result<(), Failure> {
+    for (row, step) in STEPS.iter().enumerate() {
+        within(
+            format_args!("step {row}, {step:?}"),
+            expect_done(whole, *step),
+        )?;
     }
-    true
+    Ok(())
 }
 
 #[test]
-fn removals_and_splits_of_a_million(rt: HostRuntime) -> Result<(), Fail> {
+fn a_million_letters_are_cut_split_and_counted(rt: HostRuntime) -> Result<(), Failure> {
     let whole = rope_of(rt.alloc(), "a", 1_000_000)?;
-    assert!(rt; are_done(&whole));
-    Ok(())
+    expect_all_done(&whole)
 }
 
 fn add_parted_pair(text: &mut String) -> Result<(), AllocError> {
@@ -176,50 +174,51 @@ fn parted_pair(alloc: Global) -> Result<String, AllocError> {
     Ok(text)
 }
 
-/// Whether a pair meets where the letters between are taken out.
-fn meets_by_removal(rope: &mut Rope) -> bool {
-    rope.try_remove(984..1_968).is_ok()
-        && lens(rope) == [1_969, 1_969, 2, 1_969]
-        && lie_together(rope, 983)
+/// Fails unless a pair meets where the letters between are taken out.
+fn meets_by_removal(rope: &mut Rope) -> Result<(), Failure> {
+    rope.try_remove(984..1_968)?;
+    same!(lens(rope), [1_969, 1_969, 2, 1_969]);
+    expect_together(rope, 983)
 }
 
 #[test]
-fn a_pair_that_meets_by_removal(rt: HostRuntime) -> Result<(), Fail> {
+fn a_pair_that_meets_by_a_removal_lies_in_one_chunk(rt: HostRuntime) -> Result<(), Failure> {
     let text = parted_pair(rt.alloc())?;
     let mut rope = Rope::from_str(rt.alloc(), text.as_str())?;
-    assert!(rt; meets_by_removal(&mut rope));
+    meets_by_removal(&mut rope)
+}
+
+fn expect_a_pair(rope: &Rope) -> Result<(), Failure> {
+    let lines = [rope.try_char_to_line(984), rope.try_char_to_line(985)];
+    same!(lens(rope), [985, 985, 2, 985]);
+    same!(lines, [Ok(0), Ok(1)]);
+    holds!(rope.chunks().count() >= 2);
+    expect_together(rope, 983)
+}
+
+/// Fails unless a text of letters that ends in a pair is 983 of them and the pair.
+fn expect_joined_text(alloc: Global, rope: &Rope) -> Result<(), Failure> {
+    let text = padded(alloc, "", 985, "\r\n")?;
+    expect_text(alloc, rope, text.as_str())
+}
+
+/// Fails unless a text of an LF is put behind one that ends in CR.
+fn takes_lf(alloc: Global, rope: &mut Rope) -> Result<(), Failure> {
+    let lf = Rope::from_str(alloc, "\n")?;
+    rope.append(lf)?;
     Ok(())
 }
 
-fn has_a_pair(rope: &Rope) -> bool {
-    let lines = [rope.try_char_to_line(984), rope.try_char_to_line(985)];
-    lens(rope) == [985, 985, 2, 985]
-        && lines == [Ok(0), Ok(1)]
-        && rope.chunks().count() >= 2
-        && lie_together(rope, 983)
-}
-
-/// Whether a text of letters that ends in a pair is 983 of them and the pair.
-fn is_joined_text(alloc: Global, rope: &Rope) -> bool {
-    match padded(alloc, "", 985, "\r\n") {
-        Ok(text) => is_text(alloc, rope, text.as_str()),
-        Err(_) => false,
-    }
-}
-
-/// Whether a text of an LF is put behind one that ends in CR.
-fn takes_lf(alloc: Global, rope: &mut Rope) -> bool {
-    match Rope::from_str(alloc, "\n") {
-        Ok(lf) => rope.append(lf).is_ok(),
-        Err(_) => false,
-    }
+/// Fails unless a pair meets where an LF is put behind the CR at the end.
+fn meets_by_append(alloc: Global, rope: &mut Rope) -> Result<(), Failure> {
+    takes_lf(alloc, rope)?;
+    expect_a_pair(rope)?;
+    expect_joined_text(alloc, rope)
 }
 
 #[test]
-fn a_pair_that_meets_by_append(rt: HostRuntime) -> Result<(), Fail> {
+fn a_pair_that_meets_by_an_append_lies_in_one_chunk(rt: HostRuntime) -> Result<(), Failure> {
     let text = padded(rt.alloc(), "", 984, "\r")?;
     let mut rope = Rope::from_str(rt.alloc(), text.as_str())?;
-    assert!(rt; takes_lf(rt.alloc(), &mut rope) && has_a_pair(&rope));
-    assert!(rt; is_joined_text(rt.alloc(), &rope));
-    Ok(())
+    meets_by_append(rt.alloc(), &mut rope)
 }

@@ -1,13 +1,15 @@
 //! Each edit at each place around a word that stands where a leaf is cut.
 use crate::words::{LENGTHS, OF_BREAKS, OF_WIDE, SHORTEST, WIDE, Words, around};
 use rope_plain::compare::{compare, lens};
+use rope_plain::failure::{Failure, within};
 use rope_plain::places::compare_at;
+use rope_plain::same;
 use rope_plain::texts::{chars_of, inserted};
-use ropey::{Error, LineBreaks, Rope};
+use ropey::{LineBreaks, Rope};
 use std::alloc::{AllocError, Global};
 
 /// What is done at one place.
-#[derive(Clone, Copy)]
+#[derive(Clone, Copy, Debug)]
 enum Edit<'a> {
     Insert(&'a str),
     Remove,
@@ -37,26 +39,30 @@ fn expected(
     }
 }
 
-/// Whether the rope is split into these characters before a place and behind it, and joined again.
-fn is_split_and_joined(rope: &mut Rope, plain: &[char], at: usize) -> bool {
+/// Fails unless the rope is split into these characters before a place and behind it, and joined
+/// again.
+fn expect_split_and_joined(rope: &mut Rope, plain: &[char], at: usize) -> Result<(), Failure> {
     let breaks = rope.line_breaks();
     let (front, back) = plain.split_at(at.min(plain.len()));
-    match rope.try_split_off(at) {
-        Ok(rest) => {
-            let is_back = compare(&rest, back, breaks).is_ok();
-            let is_front = compare(rope, front, breaks).is_ok();
-            rope.append(rest).is_ok() && is_front && is_back
-        }
-        Err(_) => false,
-    }
+    let rest = rope.try_split_off(at)?;
+    compare(&rest, back, breaks)?;
+    compare(rope, front, breaks)?;
+    rope.append(rest)?;
+    Ok(())
 }
 
-/// Whether the edit is done to a rope of these characters.
-fn is_done(rope: &mut Rope, plain: &[char], at: usize, edit: Edit<'_>) -> bool {
+/// Fails unless the edit is done to a rope of these characters.
+fn expect_done(rope: &mut Rope, plain: &[char], at: usize, edit: Edit<'_>) -> Result<(), Failure> {
     match edit {
-        Edit::Insert(text) => rope.try_insert(at, text).is_ok(),
-        Edit::Remove => rope.try_remove(at..at.saturating_add(1)).is_ok(),
-        Edit::SplitAndJoin => is_split_and_joined(rope, plain, at),
+        Edit::Insert(text) => {
+            rope.try_insert(at, text)?;
+            Ok(())
+        }
+        Edit::Remove => {
+            rope.try_remove(at..at.saturating_add(1))?;
+            Ok(())
+        }
+        Edit::SplitAndJoin => expect_split_and_joined(rope, plain, at),
     }
 }
 
@@ -70,78 +76,79 @@ struct Given<'a> {
 }
 
 impl Given<'_> {
-    /// Whether the edit of a rope and of a clone, whose original stays, give these characters and the same lengths.
-    fn are_edited(
+    /// Fails unless the edit of a rope and of a clone, whose original stays, give these characters
+    /// and the same lengths.
+    fn expect_all_edited(
         &self,
         alone: &mut Rope,
         clone: &mut Rope,
         left: &[char],
         at: usize,
         edit: Edit<'_>,
-    ) -> bool {
-        is_done(alone, self.plain, at, edit)
-            && is_done(clone, self.plain, at, edit)
-            && compare(alone, left, self.breaks).is_ok()
-            && *clone == *alone
-            && lens(clone) == lens(alone)
-            && compare_at(clone, left, at.min(left.len())).is_ok()
+    ) -> Result<(), Failure> {
+        expect_done(alone, self.plain, at, edit)?;
+        expect_done(clone, self.plain, at, edit)?;
+        compare(alone, left, self.breaks)?;
+        same!(*clone, *alone);
+        same!(lens(clone), lens(alone));
+        compare_at(clone, left, at.min(left.len()))
     }
 
-    /// Whether the edit leaves these characters, done to a rope of its own and to a clone.
+    /// Fails unless the edit leaves these characters, done to a rope of its own and to a clone.
     fn leaves(
         &self,
         alloc: Global,
         left: &[char],
         at: usize,
         edit: Edit<'_>,
-    ) -> Result<bool, Error> {
+    ) -> Result<(), Failure> {
         let mut alone = Rope::from_str_with(alloc, self.text, self.breaks)?;
         let mut clone = self.rope.clone()?;
-        Ok(self.are_edited(&mut alone, &mut clone, left, at, edit))
+        self.expect_all_edited(&mut alone, &mut clone, left, at, edit)
     }
 
-    fn is_edited(&self, alloc: Global, at: usize, edit: Edit<'_>) -> Result<bool, Error> {
+    fn expect_edited(&self, alloc: Global, at: usize, edit: Edit<'_>) -> Result<(), Failure> {
         let left = expected(alloc, self.plain, at, edit)?;
-        self.leaves(alloc, &left, at, edit)
+        within(
+            format_args!("{edit:?} at character {at}"),
+            self.leaves(alloc, &left, at, edit),
+        )
     }
 
-    /// Whether each edit goes well at one place, with each of these texts put in.
-    fn is_edited_at(&self, alloc: Global, at: usize, texts: &[&str]) -> Result<bool, Error> {
+    /// Fails unless each edit goes well at one place, with each of these texts put in.
+    fn expect_edited_at(&self, alloc: Global, at: usize, texts: &[&str]) -> Result<(), Failure> {
         for text in texts {
-            if !self.is_edited(alloc, at, Edit::Insert(text))? {
-                return Ok(false);
-            }
+            self.expect_edited(alloc, at, Edit::Insert(text))?;
         }
-        if at < self.plain.len() && !self.is_edited(alloc, at, Edit::Remove)? {
-            return Ok(false);
+        if at < self.plain.len() {
+            self.expect_edited(alloc, at, Edit::Remove)?;
         }
-        self.is_edited(alloc, at, Edit::SplitAndJoin)
+        self.expect_edited(alloc, at, Edit::SplitAndJoin)
     }
 }
 
-/// Whether each edit goes well at each place from the character before the word to the sixth of it and what follows.
-fn is_edited_around(
+/// Fails unless each edit goes well at each place from the character before the word to the sixth
+/// of it and what follows.
+fn expect_edited_around(
     alloc: Global,
     given: Given<'_>,
     before: usize,
     texts: &[&str],
-) -> Result<bool, Error> {
+) -> Result<(), Failure> {
     for more in 0..7usize {
         let at = before.saturating_add(more).saturating_sub(1);
-        if !given.is_edited_at(alloc, at, texts)? {
-            return Ok(false);
-        }
+        given.expect_edited_at(alloc, at, texts)?;
     }
-    Ok(compare(given.rope, given.plain, given.breaks).is_ok())
+    compare(given.rope, given.plain, given.breaks)
 }
 
-fn is_text_edited(
+fn expect_text_edited(
     alloc: Global,
     text: &str,
     before: usize,
     breaks: LineBreaks,
     texts: &[&str],
-) -> Result<bool, Error> {
+) -> Result<(), Failure> {
     let plain = chars_of(alloc, text)?;
     let rope = Rope::from_str_with(alloc, text, breaks)?;
     let given = Given {
@@ -150,65 +157,72 @@ fn is_text_edited(
         rope: &rope,
         breaks,
     };
-    is_edited_around(alloc, given, before, texts)
+    expect_edited_around(alloc, given, before, texts)
 }
 
-fn is_word_edited(
+fn expect_word_edited(
     alloc: Global,
     before: usize,
     letters: &[&str],
     number: usize,
     breaks: LineBreaks,
     texts: &[&str],
-) -> Result<bool, Error> {
+) -> Result<(), Failure> {
     let text = around(alloc, before, letters, number)?;
-    is_text_edited(alloc, text.as_str(), before, breaks, texts)
+    expect_text_edited(alloc, text.as_str(), before, breaks, texts)
 }
 
-fn are_edited_behind(
+fn expect_edited_behind(
     alloc: Global,
     before: usize,
     words: Words<'_>,
     breaks: LineBreaks,
     texts: &[&str],
-) -> Result<bool, Error> {
+) -> Result<(), Failure> {
     for number in 0..words.count {
-        if !is_word_edited(alloc, before, words.letters, number, breaks, texts)? {
-            return Ok(false);
-        }
+        within(
+            format_args!("word {number}"),
+            expect_word_edited(alloc, before, words.letters, number, breaks, texts),
+        )?;
     }
-    Ok(true)
+    Ok(())
 }
 
-/// Whether each edit goes well around all words behind a text of each length.
-fn are_edited(alloc: Global, words: Words<'_>, breaks: LineBreaks, texts: &[&str]) -> bool {
+/// Fails unless each edit goes well around all words behind a text of each length.
+fn expect_all_edited(
+    alloc: Global,
+    words: Words<'_>,
+    breaks: LineBreaks,
+    texts: &[&str],
+) -> Result<(), Failure> {
     for more in 0..LENGTHS {
-        if are_edited_behind(alloc, SHORTEST + more, words, breaks, texts) != Ok(true) {
-            return false;
-        }
+        within(
+            format_args!("line breaks {breaks:?}, {SHORTEST} + {more} letters"),
+            expect_edited_behind(alloc, SHORTEST + more, words, breaks, texts),
+        )?;
     }
-    true
+    Ok(())
 }
 
 /// What is put in next to breaks.
 const PUT_IN: [&str; 3] = ["\r", "\n", "\r\n"];
 
 #[test]
-fn breaks(rt: HostRuntime) {
-    assert!(rt; are_edited(rt.alloc(), OF_BREAKS, LineBreaks::Unicode, &PUT_IN));
+fn each_edit_beside_breaks_leaves_its_list(rt: HostRuntime) -> Result<(), Failure> {
+    expect_all_edited(rt.alloc(), OF_BREAKS, LineBreaks::Unicode, &PUT_IN)
 }
 
 #[test]
-fn breaks_by_cr_and_lf(rt: HostRuntime) {
-    assert!(rt; are_edited(rt.alloc(), OF_BREAKS, LineBreaks::CrLf, &PUT_IN));
+fn each_edit_beside_breaks_by_cr_and_lf_leaves_its_list(rt: HostRuntime) -> Result<(), Failure> {
+    expect_all_edited(rt.alloc(), OF_BREAKS, LineBreaks::CrLf, &PUT_IN)
 }
 
 #[test]
-fn breaks_by_lf(rt: HostRuntime) {
-    assert!(rt; are_edited(rt.alloc(), OF_BREAKS, LineBreaks::Lf, &PUT_IN));
+fn each_edit_beside_breaks_by_lf_leaves_its_list(rt: HostRuntime) -> Result<(), Failure> {
+    expect_all_edited(rt.alloc(), OF_BREAKS, LineBreaks::Lf, &PUT_IN)
 }
 
 #[test]
-fn wide_characters(rt: HostRuntime) {
-    assert!(rt; are_edited(rt.alloc(), OF_WIDE, LineBreaks::Unicode, &WIDE));
+fn each_edit_beside_wide_characters_leaves_its_list(rt: HostRuntime) -> Result<(), Failure> {
+    expect_all_edited(rt.alloc(), OF_WIDE, LineBreaks::Unicode, &WIDE)
 }

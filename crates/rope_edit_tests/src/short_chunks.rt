@@ -1,11 +1,11 @@
 //! Removals that leave little of each chunk: what is left lies in few.
-use crate::texts::{is_text, rope_of};
-use rope_plain::compare::lies_in_few_chunks;
+use rope_plain::compare::{expect_no_short_chunks, expect_text};
+use rope_plain::failure::{Failure, within};
 use rope_plain::numbers::Numbers;
-use rope_plain::texts::{padded, repeated};
+use rope_plain::same;
+use rope_plain::texts::{padded, repeated, rope_of};
 use ropey::{Error, Rope};
 use std::alloc::Global;
-use std::test::Fail;
 
 /// How many full chunks there are at first, and how many letters each of them has.
 const CHUNKS: usize = 400;
@@ -31,44 +31,41 @@ fn full_chunks(alloc: Global) -> Result<Rope, Error> {
     rope_of(alloc, chunk.as_str(), CHUNKS)
 }
 
-/// Whether of each chunk the x and the y are left, in four chunks at the most: 800 bytes.
-fn has_only_ends(alloc: Global, rope: &Rope) -> bool {
-    match repeated(alloc, "xy", CHUNKS) {
-        Ok(ends) => is_text(alloc, rope, ends.as_str()) && lies_in_few_chunks(rope).is_ok(),
-        Err(_) => false,
-    }
+/// Fails unless of each chunk the x and the y are left, in four chunks at the most: 800 bytes.
+fn expect_only_ends(alloc: Global, rope: &Rope) -> Result<(), Failure> {
+    let ends = repeated(alloc, "xy", CHUNKS)?;
+    expect_text(alloc, rope, ends.as_str())?;
+    expect_no_short_chunks(rope)
 }
 
-/// Whether the middle of a chunk is taken out that starts there.
-fn is_emptied(rope: &mut Rope, start: usize) -> bool {
+/// Fails unless the middle of a chunk is taken out that starts there.
+fn expect_emptied(rope: &mut Rope, start: usize) -> Result<(), Failure> {
     let first = start.saturating_add(1);
-    rope.try_remove(first..first.saturating_add(FULL - 2))
-        .is_ok()
-        && lies_in_few_chunks(rope).is_ok()
+    rope.try_remove(first..first.saturating_add(FULL - 2))?;
+    expect_no_short_chunks(rope)
 }
 
-/// Whether a clone keeps what the rope loses.
-fn is_emptied_beside_clone(rope: &mut Rope, start: usize) -> bool {
-    match rope.clone() {
-        Ok(old) => {
-            is_emptied(rope, start) && old.len_bytes() == rope.len_bytes().saturating_add(FULL - 2)
-        }
-        Err(_) => false,
-    }
+/// Fails unless a clone keeps what the rope loses.
+fn expect_emptied_beside_clone(rope: &mut Rope, start: usize) -> Result<(), Failure> {
+    let old = rope.clone()?;
+    let emptied = expect_emptied(rope, start);
+    let kept = old.len_bytes();
+    emptied?;
+    same!(kept, rope.len_bytes().saturating_add(FULL - 2));
+    Ok(())
 }
 
-fn is_emptied_by_letters(rope: &mut Rope, start: usize) -> bool {
+fn expect_emptied_by_letters(rope: &mut Rope, start: usize) -> Result<(), Failure> {
     let first = start.saturating_add(1);
     for _ in 0..FULL - 2 {
-        if rope.try_remove(first..first.saturating_add(1)).is_err() {
-            return false;
-        }
+        rope.try_remove(first..first.saturating_add(1))?;
     }
-    lies_in_few_chunks(rope).is_ok()
+    expect_no_short_chunks(rope)
 }
 
-/// Whether a chunk is emptied behind so many others of these lengths, of which its new one is noted.
-fn is_emptied_behind(rope: &mut Rope, lens: &mut [usize], chunk: usize) -> bool {
+/// Fails unless a chunk is emptied behind so many others of these lengths, of which its new one is
+/// noted.
+fn expect_emptied_behind(rope: &mut Rope, lens: &mut [usize], chunk: usize) -> Result<(), Failure> {
     let mut start: usize = 0;
     for len in lens.iter().take(chunk) {
         start = start.saturating_add(*len);
@@ -76,92 +73,101 @@ fn is_emptied_behind(rope: &mut Rope, lens: &mut [usize], chunk: usize) -> bool 
     if let Some(len) = lens.get_mut(chunk) {
         *len = 2;
     }
-    is_emptied(rope, start)
+    expect_emptied(rope, start)
 }
 
-/// Whether the chunk that comes in such a turn is emptied.
-fn is_turn_done(rope: &mut Rope, lens: &mut [usize], order: Order, turn: usize) -> bool {
+/// Fails unless the chunk that comes in such a turn is emptied.
+fn expect_turn_done(
+    rope: &mut Rope,
+    lens: &mut [usize],
+    order: Order,
+    turn: usize,
+) -> Result<(), Failure> {
     let last = (CHUNKS - 1).saturating_sub(turn).saturating_mul(FULL);
     match order {
-        Order::FromTheLast => is_emptied(rope, last),
-        Order::FromTheFirst => is_emptied(rope, turn.saturating_mul(2)),
-        Order::BesideClones => is_emptied_beside_clone(rope, last),
-        Order::InJumps => is_emptied_behind(rope, lens, turn.saturating_mul(173) % CHUNKS),
-        Order::ByLetters => is_emptied_by_letters(rope, last),
+        Order::FromTheLast => expect_emptied(rope, last),
+        Order::FromTheFirst => expect_emptied(rope, turn.saturating_mul(2)),
+        Order::BesideClones => expect_emptied_beside_clone(rope, last),
+        Order::InJumps => expect_emptied_behind(rope, lens, turn.saturating_mul(173) % CHUNKS),
+        Order::ByLetters => expect_emptied_by_letters(rope, last),
     }
 }
 
-fn are_turns_done(rope: &mut Rope, order: Order) -> bool {
+fn expect_turns_done(rope: &mut Rope, order: Order) -> Result<(), Failure> {
     let mut lens = [FULL; CHUNKS];
     for turn in 0..CHUNKS {
-        if !is_turn_done(rope, &mut lens, order, turn) {
-            return false;
-        }
+        within(
+            format_args!("turn {turn}"),
+            expect_turn_done(rope, &mut lens, order, turn),
+        )?;
     }
-    true
+    Ok(())
 }
 
-/// Whether little is left of each chunk, and that in few, where they are emptied in this order.
-fn are_emptied(alloc: Global, order: Order) -> bool {
-    match full_chunks(alloc) {
-        Ok(mut rope) => {
-            rope.chunks().count() == CHUNKS
-                && are_turns_done(&mut rope, order)
-                && has_only_ends(alloc, &rope)
-        }
-        Err(_) => false,
-    }
+fn expect_emptied_in(alloc: Global, rope: &mut Rope, order: Order) -> Result<(), Failure> {
+    same!(rope.chunks().count(), CHUNKS);
+    expect_turns_done(rope, order)?;
+    expect_only_ends(alloc, rope)
 }
 
-#[test]
-fn from_the_last_chunk_to_the_first(rt: HostRuntime) {
-    assert!(rt; are_emptied(rt.alloc(), Order::FromTheLast));
+/// Fails unless little is left of each chunk, and that in few, where they are emptied in this
+/// order.
+fn expect_all_emptied(alloc: Global, order: Order) -> Result<(), Failure> {
+    let mut rope = full_chunks(alloc)?;
+    expect_emptied_in(alloc, &mut rope, order)
 }
 
 #[test]
-fn from_the_first_chunk_to_the_last(rt: HostRuntime) {
-    assert!(rt; are_emptied(rt.alloc(), Order::FromTheFirst));
+fn chunks_emptied_from_the_last_to_the_first_are_joined(rt: HostRuntime) -> Result<(), Failure> {
+    expect_all_emptied(rt.alloc(), Order::FromTheLast)
 }
 
 #[test]
-fn of_clones(rt: HostRuntime) {
-    assert!(rt; are_emptied(rt.alloc(), Order::BesideClones));
+fn chunks_emptied_from_the_first_to_the_last_are_joined(rt: HostRuntime) -> Result<(), Failure> {
+    expect_all_emptied(rt.alloc(), Order::FromTheFirst)
 }
 
 #[test]
-fn in_an_order_that_jumps_about(rt: HostRuntime) {
-    assert!(rt; are_emptied(rt.alloc(), Order::InJumps));
+fn chunks_emptied_beside_clones_are_joined(rt: HostRuntime) -> Result<(), Failure> {
+    expect_all_emptied(rt.alloc(), Order::BesideClones)
 }
 
 #[test]
-fn a_letter_at_a_time(rt: HostRuntime) {
-    assert!(rt; are_emptied(rt.alloc(), Order::ByLetters));
+fn chunks_emptied_in_jumps_are_joined(rt: HostRuntime) -> Result<(), Failure> {
+    expect_all_emptied(rt.alloc(), Order::InJumps)
 }
 
-/// Whether a thousand letters are taken out, each at a random place.
-fn loses_a_thousand(rope: &mut Rope, numbers: &mut Numbers) -> bool {
+#[test]
+fn chunks_emptied_letter_by_letter_are_joined(rt: HostRuntime) -> Result<(), Failure> {
+    expect_all_emptied(rt.alloc(), Order::ByLetters)
+}
+
+/// The number that the row of places begins with.
+const SEED: u64 = 0x9E37_79B9_7F4A_7C15;
+
+/// Fails unless a thousand letters are taken out, each at a random place.
+fn loses_a_thousand(rope: &mut Rope, numbers: &mut Numbers) -> Result<(), Failure> {
     for _ in 0..1_000usize {
         let at = numbers.up_to(rope.len_chars().saturating_sub(1));
-        if rope.try_remove(at..=at).is_err() {
-            return false;
-        }
+        rope.try_remove(at..=at)?;
     }
-    lies_in_few_chunks(rope).is_ok()
+    expect_no_short_chunks(rope)
 }
 
-fn loses_a_million(rope: &mut Rope) -> bool {
-    let mut numbers = Numbers::new(0x9E37_79B9_7F4A_7C15);
-    for _ in 0..1_000usize {
-        if !loses_a_thousand(rope, &mut numbers) {
-            return false;
-        }
+fn loses_a_million(rope: &mut Rope) -> Result<(), Failure> {
+    let mut numbers = Numbers::new(SEED);
+    for round in 0..1_000usize {
+        within(
+            format_args!("seed {SEED:#x}, round {round}"),
+            loses_a_thousand(rope, &mut numbers),
+        )?;
     }
-    [rope.len_bytes(), rope.chunks().count()] == [0, 0]
+    same!([rope.len_bytes(), rope.chunks().count()], [0, 0]);
+    Ok(())
 }
 
 #[test]
-fn a_million_letters_at_random_down_to_none(rt: HostRuntime) -> Result<(), Fail> {
+fn a_million_letters_taken_at_random_leave_none(rt: HostRuntime) -> Result<(), Failure> {
     let mut rope = rope_of(rt.alloc(), "a", 1_000_000)?;
-    assert!(rt; loses_a_million(&mut rope));
-    Ok(())
+    loses_a_million(&mut rope)
 }

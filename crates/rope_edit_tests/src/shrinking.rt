@@ -1,7 +1,8 @@
 //! Ropes that are re-chunked.
-use rope_plain::compare::{compare_unicode, has_few_chunks, lens};
+use rope_plain::compare::{compare_unicode, expect_few_chunks, lens};
+use rope_plain::failure::Failure;
+use rope_plain::same;
 use ropey::{Error, Rope};
-use std::test::Fail;
 
 fn type_at_the_front(rope: &mut Rope, count: usize) -> Result<(), Error> {
     for _ in 0..count {
@@ -10,22 +11,26 @@ fn type_at_the_front(rope: &mut Rope, count: usize) -> Result<(), Error> {
     rope.shrink_to_fit()
 }
 
-fn is_typed(rope: &mut Rope) -> bool {
-    type_at_the_front(rope, 5_000).is_ok()
-        && lens(rope) == [5_000, 5_000, 1, 5_000]
-        && rope.chunks().count() == 6
-        && compare_unicode(rope, &['a'; 5_000]).is_ok()
+fn expect_typed(rope: &mut Rope) -> Result<(), Failure> {
+    type_at_the_front(rope, 5_000)?;
+    same!(lens(rope), [5_000, 5_000, 1, 5_000]);
+    same!(rope.chunks().count(), 6);
+    compare_unicode(rope, &['a'; 5_000])
 }
 
-fn is_empty(rope: &mut Rope) -> bool {
-    rope.shrink_to_fit().is_ok()
-        && compare_unicode(rope, &[]).is_ok()
-        && has_few_chunks(rope).is_ok()
+fn expect_empty(rope: &mut Rope) -> Result<(), Failure> {
+    rope.shrink_to_fit()?;
+    compare_unicode(rope, &[])?;
+    expect_few_chunks(rope)
+}
+
+fn expect_empty_and_typed(rope: &mut Rope) -> Result<(), Failure> {
+    expect_empty(rope)?;
+    expect_typed(rope)
 }
 
 #[test]
-fn an_empty_rope_and_letters_typed_at_its_front(rt: HostRuntime) -> Result<(), Fail> {
+fn a_rope_typed_at_its_front_shrinks_to_full_chunks(rt: HostRuntime) -> Result<(), Failure> {
     let mut rope = Rope::new(rt.alloc())?;
-    assert!(rt; is_empty(&mut rope) && is_typed(&mut rope));
-    Ok(())
+    expect_empty_and_typed(&mut rope)
 }

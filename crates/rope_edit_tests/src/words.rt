@@ -1,6 +1,5 @@
 //! Words, and texts in which they stand where a leaf is cut.
 use crate::texts::add_letters;
-use ropey::LineBreaks;
 use std::alloc::{AllocError, Global};
 
 /// Words of some letters: those of no letter, of one, of two and so on are numbered in a row.
@@ -29,7 +28,8 @@ pub const OF_WIDE: Words<'static> = Words {
     count: 73,
 };
 
-/// Of how many bytes the text before a word is at least, and how many lengths it has: a full leaf has 984.
+/// Of how many bytes the text before a word is at least, and how many lengths it has: a full leaf
+/// has 984.
 pub const SHORTEST: usize = 978;
 
 pub const LENGTHS: usize = 9;

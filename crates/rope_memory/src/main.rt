@@ -1,5 +1,7 @@
-//! Does every call that takes memory, checks what a refusal left, and tries again.
-//! It prints the same whichever allocation is refused, so that a run with one refused can be compared with a run with none.
+//! Refuses allocations: does every call that takes memory, checks what a refusal left, tries again.
+//! The gate runs it with none refused, and `scripts/refuse_each_allocation.sh` with each in turn.
+//! It prints the same whichever is refused, so that the runs can be compared. No contract shows
+//! that a call succeeds in the end.
 #![tactic(auto)]
 
 mod edits;

@@ -1,46 +1,22 @@
 //! Ropes compared with lists of characters.
 
-use crate::plain_text;
-use ropey::{Error, LineBreaks, MAX_BYTES, Rope};
+use crate::failure::Failure;
+use crate::texts::chars_of;
+use crate::{plain_text, same};
+use ropey::{LineBreaks, MAX_BYTES, Rope};
+use std::alloc::Global;
 
-/// Where a rope is not what a list of characters says.
-#[derive(Clone, Copy, PartialEq, Eq, Debug)]
-pub enum Difference {
-    /// It goes by another set of line breaks.
-    LineBreaks,
-    /// It has another number of bytes.
-    Bytes,
-    /// It has another number of characters.
-    Chars,
-    /// It has another number of code units.
-    Units,
-    /// It has another number of lines.
-    Lines,
-    /// A chunk is empty or too long.
-    Chunk,
-    /// A CR and its LF lie in two chunks.
-    Pair,
-    /// The characters of its chunks are others.
-    Text,
-    /// It has more chunks than it may have.
-    Chunks,
-    /// A conversion at a place answers otherwise.
-    Conversion,
-    /// Another byte or character stands at a place.
-    Item,
-    /// The chunk at a byte or a character is another, or begins elsewhere.
-    ChunkAt,
-    /// The chunk at a line break is another, or begins elsewhere.
-    ChunkAtBreak,
-    /// A call was refused.
-    Refused(Error),
-}
+/// Each set of line breaks.
+pub const SETS: [LineBreaks; 3] = [LineBreaks::Lf, LineBreaks::CrLf, LineBreaks::Unicode];
 
-impl From<Error> for Difference {
-    fn from(error: Error) -> Difference {
-        Difference::Refused(error)
-    }
-}
+/// How many bytes each chunk but the last has at least in a rope that was made of a text.
+const FRESH_BYTES: usize = 981;
+
+/// How many bytes two neighbouring chunks have at least in any rope.
+const PAIR_BYTES: usize = 492;
+
+/// How many bytes a chunk has at least in the mean: half of what two neighbours have.
+const MEAN_BYTES: usize = 246;
 
 /// A rope's bytes, characters, lines and code units.
 pub fn lens(rope: &Rope) -> [usize; 4] {
@@ -52,46 +28,40 @@ pub fn lens(rope: &Rope) -> [usize; 4] {
     ]
 }
 
-/// The rope has the text, its lengths by the set of line breaks, and its chunks are cut by the rules.
-pub fn compare(rope: &Rope, text: &[char], breaks: LineBreaks) -> Result<(), Difference> {
+/// The rope has the text, its lengths by the set of line breaks, and its chunks are cut by the
+/// rules.
+pub fn compare(rope: &Rope, text: &[char], breaks: LineBreaks) -> Result<(), Failure> {
     compare_lengths(rope, text, breaks)?;
     compare_chunks(rope)?;
     compare_text(rope, text)
 }
 
 /// The rope has Unicode's line breaks, the text, and chunks that are cut by the rules.
-pub fn compare_unicode(rope: &Rope, text: &[char]) -> Result<(), Difference> {
+pub fn compare_unicode(rope: &Rope, text: &[char]) -> Result<(), Failure> {
     compare(rope, text, LineBreaks::Unicode)
 }
 
-fn compare_lengths(rope: &Rope, text: &[char], breaks: LineBreaks) -> Result<(), Difference> {
-    if rope.line_breaks() != breaks {
-        return Err(Difference::LineBreaks);
-    }
-    if rope.len_bytes() != plain_text::char_to_byte(text, text.len()) {
-        return Err(Difference::Bytes);
-    }
-    if rope.len_chars() != text.len() {
-        return Err(Difference::Chars);
-    }
-    if rope.len_utf16_cu() != plain_text::char_to_utf16(text, text.len()) {
-        return Err(Difference::Units);
-    }
-    if rope.len_lines() != plain_text::char_to_line(text, text.len(), breaks).saturating_add(1) {
-        return Err(Difference::Lines);
-    }
+/// The set of line breaks, and the lengths.
+fn compare_lengths(rope: &Rope, text: &[char], breaks: LineBreaks) -> Result<(), Failure> {
+    let end = plain_text::place_of(text, text.len(), breaks);
+    same!(rope.line_breaks(), breaks);
+    same!(rope.len_bytes(), end.byte);
+    same!(rope.len_chars(), text.len());
+    same!(rope.len_utf16_cu(), end.unit);
+    same!(rope.len_lines(), end.line.saturating_add(1));
     Ok(())
 }
 
 /// Each chunk has 1 to `MAX_BYTES` bytes, and none ends in a CR whose LF begins the next.
-fn compare_chunks(rope: &Rope) -> Result<(), Difference> {
+fn compare_chunks(rope: &Rope) -> Result<(), Failure> {
     let mut after_cr = false;
-    for chunk in rope.chunks() {
+    for (i, chunk) in rope.chunks().enumerate() {
         if chunk.is_empty() || chunk.len() > MAX_BYTES {
-            return Err(Difference::Chunk);
+            let len = chunk.len();
+            return Err(Failure::new(format_args!("chunk {i} has {len} bytes")));
         }
         if after_cr && chunk.starts_with('\n') {
-            return Err(Difference::Pair);
+            return Err(Failure::new(format_args!("chunk {i} begins with the LF of a CR")));
         }
         after_cr = chunk.ends_with('\r');
     }
@@ -99,49 +69,73 @@ fn compare_chunks(rope: &Rope) -> Result<(), Difference> {
 }
 
 /// The chunks are the text.
-fn compare_text(rope: &Rope, text: &[char]) -> Result<(), Difference> {
+fn compare_text(rope: &Rope, text: &[char]) -> Result<(), Failure> {
     let mut place: usize = 0;
     for chunk in rope.chunks() {
         for c in chunk.chars() {
             if text.get(place) != Some(&c) {
-                return Err(Difference::Text);
+                return Err(other_char(place, c, text));
             }
             place = place.saturating_add(1);
         }
     }
     if place != text.len() {
-        return Err(Difference::Text);
+        let len = text.len();
+        return Err(Failure::new(format_args!("the chunks have {place} characters, not {len}")));
     }
     Ok(())
 }
 
-/// A rope that is made of a text has at most one chunk for each 981 bytes and one more for the rest.
-pub fn has_few_chunks(rope: &Rope) -> Result<(), Difference> {
-    if rope.chunks().count() > rope.len_bytes().div_ceil(981) {
-        return Err(Difference::Chunks);
+/// Another character than the text has there.
+fn other_char(place: usize, c: char, text: &[char]) -> Failure {
+    match text.get(place) {
+        Some(wanted) => Failure::new(format_args!("character {place} is {c:?}, not {wanted:?}")),
+        None => Failure::new(format_args!("character {place} is {c:?}, past the end")),
+    }
+}
+
+/// A rope made of a text: at most one chunk for each `FRESH_BYTES` bytes, and one for the rest.
+pub fn expect_few_chunks(rope: &Rope) -> Result<(), Failure> {
+    let bytes = rope.len_bytes();
+    let chunks = rope.chunks().count();
+    if chunks > bytes.div_ceil(FRESH_BYTES) {
+        return Err(Failure::new(format_args!("{bytes} bytes in {chunks} chunks")));
     }
     Ok(())
 }
 
-/// A rope has at most one chunk for each 246 bytes and one more for the rest, and no two side by side have fewer than 492 bytes.
-pub fn lies_in_few_chunks(rope: &Rope) -> Result<(), Difference> {
-    let mut before: usize = 492;
+/// Any rope: at most one chunk for each `MEAN_BYTES` bytes and one for the rest, and no two
+/// neighbours with fewer than `PAIR_BYTES`.
+pub fn expect_no_short_chunks(rope: &Rope) -> Result<(), Failure> {
+    let mut before = PAIR_BYTES;
     for chunk in rope.chunks() {
-        if before.saturating_add(chunk.len()) < 492 {
-            return Err(Difference::Chunks);
+        let both = before.saturating_add(chunk.len());
+        if both < PAIR_BYTES {
+            return Err(Failure::new(format_args!("{both} bytes in two chunks")));
         }
         before = chunk.len();
     }
-    if rope.chunks().count() > rope.len_bytes().div_ceil(246) {
-        return Err(Difference::Chunks);
+    let bytes = rope.len_bytes();
+    let chunks = rope.chunks().count();
+    if chunks > bytes.div_ceil(MEAN_BYTES) {
+        return Err(Failure::new(format_args!("{bytes} bytes in {chunks} chunks")));
     }
     Ok(())
 }
 
-/// Whether two characters in a row lie in one chunk.
-pub fn lie_together(rope: &Rope, first: usize) -> bool {
+/// Two characters in a row lie in one chunk.
+pub fn expect_together(rope: &Rope, first: usize) -> Result<(), Failure> {
     let (chunk, start) = chunk_of(rope, first);
-    first.saturating_add(1) < start.saturating_add(chunk.chars().count())
+    if first.saturating_add(1) < start.saturating_add(chunk.chars().count()) {
+        return Ok(());
+    }
+    Err(Failure::new(format_args!("a chunk ends behind character {first}")))
+}
+
+/// The rope has Unicode's line breaks and this text, in chunks that are cut by the rules.
+pub fn expect_text(alloc: Global, rope: &Rope, text: &str) -> Result<(), Failure> {
+    let plain = chars_of(alloc, text)?;
+    compare_unicode(rope, &plain)
 }
 
 /// The chunk in which a character lies, or the last one, and the characters before it.

@@ -1,11 +1,20 @@
-//! A plain partner to compare ropes with: texts as lists of characters, whose counts and conversions scan all of them.
-//! It is written from the rules alone. Nothing of it is proved but that it is safe and ends.
+//! The model that tests share, written from the rules alone: it cites no definition of the crates
+//! that it is compared with. Nothing of it is proved but that it is safe and ends.
+//!
+//! Texts are lists of characters, whose counts and conversions scan all of them. Ropes and slices
+//! are such lists with the ends of their chunks, and cursors are places among items. `failure` has
+//! the line in which a test tells why it failed. The benchmark draws its numbers from here too.
 #![tactic(auto)]
 
 pub mod compare;
+pub mod failure;
 pub mod items;
 pub mod numbers;
+pub mod pair;
 pub mod places;
 pub mod plain_cursor;
+pub mod plain_rope;
+pub mod plain_slice;
 pub mod plain_text;
 pub mod texts;
+pub mod walker;

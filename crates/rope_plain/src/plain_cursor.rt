@@ -1,7 +1,7 @@
 //! The plain partner of a cursor: a place in a list, and a direction.
 
 /// A place among so many items.
-#[derive(Clone, Copy)]
+#[derive(Clone, Copy, Debug)]
 pub struct PlainCursor {
     len: usize,
     place: usize,

@@ -1,5 +1,6 @@
-//! Ropes, and parts of them, as plain lists of characters that are cut into plain chunks.
-use rope_plain::plain_text::{Place, START, places};
+//! A rope as a plain list of characters that is cut into plain chunks, and look-ups by its places.
+use crate::plain_slice::PlainSlice;
+use crate::plain_text::{Place, START};
 use ropey::LineBreaks;
 use std::alloc::{AllocError, Global};
 
@@ -40,10 +41,10 @@ impl PlainRope {
     }
 
     /// The part from one character up to another, or all; none where that is no range of the text.
-    pub fn part(&self, range: Option<(usize, usize)>) -> Option<Part<'_>> {
+    pub fn part(&self, range: Option<(usize, usize)>) -> Option<PlainSlice<'_>> {
         let (start, end) = range.unwrap_or((0, self.text.len()));
         match self.text.get(start..end) {
-            Some(text) => Some(Part {
+            Some(text) => Some(PlainSlice {
                 text,
                 before: start,
                 ends: &self.ends,
@@ -51,76 +52,6 @@ impl PlainRope {
             }),
             None => None,
         }
-    }
-}
-
-/// A part of a plain rope, whose chunks are clipped.
-#[derive(Clone, Copy)]
-pub struct Part<'a> {
-    pub text: &'a [char],
-    /// How many characters of the rope come before it.
-    before: usize,
-    /// Where the chunks of the rope end.
-    ends: &'a [usize],
-    pub breaks: LineBreaks,
-}
-
-impl<'a> Part<'a> {
-    /// The places before each character and at the end.
-    pub fn places(&self, alloc: Global) -> Result<Vec<Place>, AllocError> {
-        places(alloc, self.text, self.breaks)
-    }
-
-    /// Where a chunk of the rope ends in the part.
-    fn clipped(&self, end: usize) -> usize {
-        end.saturating_sub(self.before).min(self.text.len())
-    }
-
-    /// Where the chunk with that index starts and ends; past the last chunk none.
-    fn chunk_place(&self, index: usize) -> Option<(usize, usize)> {
-        let mut start: usize = 0;
-        let mut count: usize = 0;
-        for end in self.ends {
-            let end = self.clipped(*end);
-            if start < end {
-                if count == index {
-                    return Some((start, end));
-                }
-                count = count.saturating_add(1);
-                start = end;
-            }
-        }
-        None
-    }
-
-    /// The chunk with that index.
-    pub fn chunk(&self, index: usize) -> Option<&'a [char]> {
-        match self.chunk_place(index) {
-            Some((start, end)) => self.text.get(start..end),
-            None => None,
-        }
-    }
-
-    /// The character before which so many chunks lie.
-    pub fn chunk_start(&self, index: usize) -> usize {
-        match self.chunk_place(index) {
-            Some((start, _)) => start,
-            None => self.text.len(),
-        }
-    }
-
-    /// How many chunks there are.
-    pub fn chunk_count(&self) -> usize {
-        let mut start: usize = 0;
-        let mut count: usize = 0;
-        for end in self.ends {
-            let end = self.clipped(*end);
-            if start < end {
-                count = count.saturating_add(1);
-                start = end;
-            }
-        }
-        count
     }
 }
 

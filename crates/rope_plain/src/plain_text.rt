@@ -1,5 +1,5 @@
-//! A plain text: a list of characters, whose counts and conversions scan all of it.
-//! It is a partner to compare with, written from the rules alone; nothing of it is proved but that it is safe.
+//! A plain text: a list of characters, whose counts and conversions scan all of it. It is a partner
+//! to compare with, written from the rules alone; nothing of it is proved but that it is safe.
 use rope_text::LineBreaks;
 use std::alloc::{AllocError, Global};
 

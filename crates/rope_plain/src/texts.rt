@@ -1,5 +1,7 @@
 //! Texts, and edits of lists of characters.
+use crate::failure::Failure;
 use crate::numbers::Numbers;
+use ropey::{Error, Rope};
 use std::alloc::{AllocError, Global};
 
 /// So many times a text.
@@ -9,6 +11,32 @@ pub fn repeated(alloc: Global, text: &str, count: usize) -> Result<String, Alloc
         all.push_str(text)?;
     }
     Ok(all)
+}
+
+/// A rope of so many times a text.
+pub fn rope_of(alloc: Global, text: &str, count: usize) -> Result<Rope, Error> {
+    let text = repeated(alloc, text, count)?;
+    Rope::from_str(alloc, text.as_str())
+}
+
+/// Whether a text is these characters.
+pub fn is_text(text: &str, chars: &[char]) -> bool {
+    let mut place: usize = 0;
+    for c in text.chars() {
+        if chars.get(place) != Some(&c) {
+            return false;
+        }
+        place = place.saturating_add(1);
+    }
+    place == chars.len()
+}
+
+/// Fails unless a text is these characters.
+pub fn expect_chars(text: &str, chars: &[char]) -> Result<(), Failure> {
+    if is_text(text, chars) {
+        return Ok(());
+    }
+    Err(Failure::new(format_args!("{text:?}, not {chars:?}")))
 }
 
 /// A text as a list of characters.
@@ -65,6 +93,18 @@ pub fn inserted(
     }
     new.extend_from_slice(back)?;
     Ok(new)
+}
+
+/// Takes the characters from `start` up to `end` out of a list.
+pub fn take_out(
+    alloc: Global,
+    text: &mut Vec<char>,
+    start: usize,
+    end: usize,
+) -> Result<(), AllocError> {
+    let back = part_from(alloc, text, end)?;
+    text.truncate(start);
+    text.extend_from_slice(&back)
 }
 
 /// The characters from `start` on.

@@ -1,9 +1,10 @@
 //! Slices that end after the CR of a CR LF, or start at its LF, count their own text.
 use crate::cuts::{back, byte_back, byte_between, byte_front, front, part};
+use rope_plain::failure::{Failure, within};
+use rope_plain::same;
 use rope_plain::texts::repeated;
 use ropey::{LineBreaks, Rope, RopeSlice};
 use std::alloc::Global;
-use std::test::Fail;
 
 /// The characters and the lines of a slice, where there is one.
 fn counts(slice: Option<RopeSlice<'_>>) -> Option<[usize; 2]> {
@@ -21,25 +22,30 @@ fn lines(slice: Option<RopeSlice<'_>>) -> Option<usize> {
     }
 }
 
-fn cuts_one_pair(rope: &Rope) -> bool {
-    [lines(front(rope, 2)), lines(back(rope, 2))] == [Some(2), Some(2)]
+fn cuts_one_pair(rope: &Rope) -> Result<(), Failure> {
+    same!(
+        [lines(front(rope, 2)), lines(back(rope, 2))],
+        [Some(2), Some(2)]
+    );
+    Ok(())
 }
 
 /// Inclusive ends, behind the CR.
-fn cuts_behind_the_cr(rope: &Rope) -> bool {
+fn cuts_behind_the_cr(rope: &Rope) -> Result<(), Failure> {
     let found = [
         counts(rope.get_slice(..=1)),
         counts(rope.get_slice(0..=1)),
         counts(rope.get_byte_slice(..=1)),
     ];
-    found == [Some([2, 2]), Some([2, 2]), Some([2, 2])]
+    same!(found, [Some([2, 2]), Some([2, 2]), Some([2, 2])]);
+    Ok(())
 }
 
 #[test]
-fn one_pair(rt: HostRuntime) -> Result<(), Fail> {
+fn a_slice_between_cr_and_lf_ends_a_line(rt: HostRuntime) -> Result<(), Failure> {
     let rope = Rope::from_str(rt.alloc(), "a\r\nb")?;
-    assert!(rt; cuts_behind_the_cr(&rope) && cuts_one_pair(&rope));
-    Ok(())
+    cuts_behind_the_cr(&rope)?;
+    cuts_one_pair(&rope)
 }
 
 /// The line of a byte of a slice, where there is one.
@@ -50,84 +56,82 @@ fn line_of(slice: Option<RopeSlice<'_>>, byte_idx: usize) -> Option<usize> {
     }
 }
 
-/// Whether the front of so many characters has its lines: of pairs, and of pairs by LF alone.
-fn has_lines(rope: &Rope, lf: &Rope, len: usize) -> bool {
+/// Fails unless the front of so many characters has its lines: of pairs, and of pairs by LF alone.
+fn expect_lines(rope: &Rope, lf: &Rope, len: usize) -> Result<(), Failure> {
     let answers = [
         line_of(byte_front(rope, len), len),
         lines(front(rope, len)),
         lines(front(lf, len)),
     ];
     let crs = len.div_ceil(2);
-    answers
-        == [
+    same!(
+        answers,
+        [
             Some(crs),
             Some(crs.saturating_add(1)),
             Some((len / 2).saturating_add(1)),
         ]
+    );
+    Ok(())
 }
 
-fn have_lines(rope: &Rope, lf: &Rope) -> bool {
+fn expect_all_lines(rope: &Rope, lf: &Rope) -> Result<(), Failure> {
     for len in 0..=29usize {
-        if !has_lines(rope, lf, len) {
-            return false;
-        }
+        within(format_args!("len {len}"), expect_lines(rope, lf, len))?;
     }
-    true
+    Ok(())
 }
 
 /// 15 pairs.
-fn pairs(alloc: Global) -> Result<Rope, Fail> {
+fn pairs(alloc: Global) -> Result<Rope, Failure> {
     let text = repeated(alloc, "\r\n", 15)?;
     Ok(Rope::from_str(alloc, text.as_str())?)
 }
 
 /// 15 pairs, of which the LF alone are line breaks.
-fn pairs_by_lf(alloc: Global) -> Result<Rope, Fail> {
+fn pairs_by_lf(alloc: Global) -> Result<Rope, Failure> {
     let text = repeated(alloc, "\r\n", 15)?;
     Ok(Rope::from_str_with(alloc, text.as_str(), LineBreaks::Lf)?)
 }
 
 #[test]
-fn fronts_of_pairs(rt: HostRuntime) -> Result<(), Fail> {
+fn fronts_of_pairs_count_a_bare_cr(rt: HostRuntime) -> Result<(), Failure> {
     let rope = pairs(rt.alloc())?;
     let lf = pairs_by_lf(rt.alloc())?;
-    assert!(rt; have_lines(&rope, &lf));
-    Ok(())
+    expect_all_lines(&rope, &lf)
 }
 
-fn have_lines_behind(rope: &Rope) -> bool {
+fn expect_lines_behind(rope: &Rope) -> Result<(), Failure> {
     for start in 0..=29usize {
-        if lines(back(rope, start)) != Some(16 - start / 2) {
-            return false;
-        }
+        same!(lines(back(rope, start)), Some(16 - start / 2));
     }
-    true
+    Ok(())
 }
 
 #[test]
-fn backs_of_pairs(rt: HostRuntime) -> Result<(), Fail> {
+fn backs_of_pairs_count_a_bare_lf(rt: HostRuntime) -> Result<(), Failure> {
     let rope = pairs(rt.alloc())?;
-    assert!(rt; have_lines_behind(&rope));
-    Ok(())
+    expect_lines_behind(&rope)
 }
 
 /// 983 letters, a pair, and more letters.
-fn pair_near_a_full_leaf(alloc: Global) -> Result<Rope, Fail> {
+fn pair_near_a_full_leaf(alloc: Global) -> Result<Rope, Failure> {
     let front = repeated(alloc, "a", 983)?;
     let back = repeated(alloc, "b", 100)?;
     let text = format!(in alloc; "{front}\r\n{back}")?;
     Ok(Rope::from_str(alloc, text.as_str())?)
 }
 
-/// Whether the parts before and behind the LF count their own lines.
-fn is_cut_before_the_lf(rope: &Rope) -> bool {
+/// Fails unless the parts before and behind the LF count their own lines.
+fn expect_cut_before_the_lf(rope: &Rope) -> Result<(), Failure> {
     let found = [
         lines(byte_front(rope, 984)),
         lines(byte_back(rope, 984)),
         line_of_char(byte_front(rope, 984), 984),
         start_of_line(byte_back(rope, 984), 1),
     ];
-    found == [Some(2), Some(2), Some(1), Some(1)]
+    same!(found, [Some(2), Some(2), Some(1), Some(1)]);
+    Ok(())
 }
 
 /// The line of a character of a slice, where there is one.
@@ -162,18 +166,19 @@ fn first<'a>(slice: Option<RopeSlice<'a>>) -> Option<RopeSlice<'a>> {
     }
 }
 
-/// Whether the LF is cut out by its byte, and out of a slice that begins with it.
-fn is_cut_out(rope: &Rope) -> bool {
+/// Fails unless the LF is cut out by its byte, and out of a slice that begins with it.
+fn expect_cut_out(rope: &Rope) -> Result<(), Failure> {
     let found = [
         text(byte_between(rope, 984, 985)),
         text(first(byte_back(rope, 984))),
     ];
-    found == [Some("\n"), Some("\n")]
+    same!(found, [Some("\n"), Some("\n")]);
+    Ok(())
 }
 
 #[test]
-fn a_pair_near_a_full_leaf(rt: HostRuntime) -> Result<(), Fail> {
+fn a_pair_near_a_full_leaf_is_cut(rt: HostRuntime) -> Result<(), Failure> {
     let rope = pair_near_a_full_leaf(rt.alloc())?;
-    assert!(rt; is_cut_before_the_lf(&rope) && is_cut_out(&rope));
-    Ok(())
+    expect_cut_before_the_lf(&rope)?;
+    expect_cut_out(&rope)
 }

@@ -1,7 +1,8 @@
 //! Conversions of slices of ropes, against rows that were worked by hand.
 use crate::cuts::{between, lens, part};
+use rope_plain::failure::Failure;
+use rope_plain::{same, some};
 use ropey::{Error, Rope, RopeSlice};
-use std::test::Fail;
 
 const FROGS: &str =
     "Hello there!🐸  How're you doing?🐸  It's a fine day, isn't it?🐸  Aren't you glad we're alive?🐸  こんにちは、みんなさん！";
@@ -14,20 +15,18 @@ const LINES: &str =
     "Hello there!  How're you doing?\nIt's a fine day, isn't it?\nAren't you glad we're alive?\nこんにちは、みんなさん！";
 
 /// Each character of a row starts at its code unit, and the code unit belongs to it.
-fn have_units(slice: &RopeSlice<'_>, rows: &[(usize, usize)]) -> bool {
+fn expect_all_units(slice: &RopeSlice<'_>, rows: &[(usize, usize)]) -> Result<(), Failure> {
     for (char_idx, unit) in rows {
         let answers = [
             slice.try_char_to_utf16_cu(*char_idx),
             slice.try_utf16_cu_to_char(*unit),
         ];
-        if answers != [Ok(*unit), Ok(*char_idx)] {
-            return false;
-        }
+        same!(answers, [Ok(*unit), Ok(*char_idx)]);
     }
-    true
+    Ok(())
 }
 
-fn has_units(slice: Option<RopeSlice<'_>>) -> bool {
+fn expect_units(slice: Option<RopeSlice<'_>>) -> Result<(), Failure> {
     let rows = [
         (0, 0),
         (11, 11),
@@ -40,30 +39,25 @@ fn has_units(slice: Option<RopeSlice<'_>>) -> bool {
         (92, 96),
         (105, 109),
     ];
-    match slice {
-        Some(slice) => have_units(&slice, &rows),
-        None => false,
-    }
+    let slice = some!(slice);
+    expect_all_units(&slice, &rows)
 }
 
 #[test]
-fn units_behind_frogs(rt: HostRuntime) -> Result<(), Fail> {
+fn code_units_follow_pairs(rt: HostRuntime) -> Result<(), Failure> {
     let rope = Rope::from_str(rt.alloc(), FROGS)?;
-    assert!(rt; has_units(between(&rope, 1, 106)));
-    Ok(())
+    expect_units(between(&rope, 1, 106))
 }
 
 /// Each byte of a row belongs to its character.
-fn have_chars(slice: &RopeSlice<'_>, rows: &[(usize, usize)]) -> bool {
+fn expect_all_chars(slice: &RopeSlice<'_>, rows: &[(usize, usize)]) -> Result<(), Failure> {
     for (byte_idx, char_idx) in rows {
-        if slice.try_byte_to_char(*byte_idx) != Ok(*char_idx) {
-            return false;
-        }
+        same!(slice.try_byte_to_char(*byte_idx), Ok(*char_idx));
     }
-    true
+    Ok(())
 }
 
-fn has_chars(slice: Option<RopeSlice<'_>>) -> bool {
+fn expect_chars(slice: Option<RopeSlice<'_>>) -> Result<(), Failure> {
     let rows = [
         (0, 0),
         (1, 1),
@@ -79,99 +73,88 @@ fn has_chars(slice: Option<RopeSlice<'_>>) -> bool {
         (35, 13),
         (36, 14),
     ];
-    match slice {
-        Some(slice) => have_chars(&slice, &rows),
-        None => false,
-    }
+    let slice = some!(slice);
+    expect_all_chars(&slice, &rows)
 }
 
-fn has_letters(slice: Option<RopeSlice<'_>>) -> bool {
-    match slice {
-        Some(slice) => [slice.len_bytes(), slice.len_chars()] == [105, 91],
-        None => false,
-    }
-}
-
-#[test]
-fn chars_of_bytes(rt: HostRuntime) -> Result<(), Fail> {
-    let rope = Rope::from_str(rt.alloc(), SENTENCES)?;
-    assert!(rt; has_letters(between(&rope, 7, 98)) && has_chars(between(&rope, 88, 102)));
+fn expect_letters(slice: Option<RopeSlice<'_>>) -> Result<(), Failure> {
+    let slice = some!(slice);
+    same!([slice.len_bytes(), slice.len_chars()], [105, 91]);
     Ok(())
 }
 
-/// Each line of a row starts at its byte and at its character.
-fn have_starts(slice: &RopeSlice<'_>, rows: &[(usize, usize, usize)]) -> bool {
-    for (line, byte_idx, char_idx) in rows {
-        let answers = [slice.try_line_to_byte(*line), slice.try_line_to_char(*line)];
-        if answers != [Ok(*byte_idx), Ok(*char_idx)] {
-            return false;
-        }
-    }
-    true
+#[test]
+fn bytes_of_a_slice_belong_to_their_characters(rt: HostRuntime) -> Result<(), Failure> {
+    let rope = Rope::from_str(rt.alloc(), SENTENCES)?;
+    expect_letters(between(&rope, 7, 98))?;
+    expect_chars(between(&rope, 88, 102))
 }
 
-fn has_starts(slice: Option<RopeSlice<'_>>) -> bool {
-    let rows = [(0, 0, 0), (1, 25, 25), (2, 54, 54), (3, 78, 62)];
-    match slice {
-        Some(slice) => {
-            lens(&slice) == [78, 62, 3, 62]
-                && have_starts(&slice, &rows)
-                && slice.try_line_to_char(4) == Err(Error::LineIndexOutOfBounds(4, 3))
-        }
-        None => false,
+/// Each line of a row starts at its byte and at its character.
+fn expect_all_starts(slice: &RopeSlice<'_>, rows: &[(usize, usize, usize)]) -> Result<(), Failure> {
+    for (line, byte_idx, char_idx) in rows {
+        let answers = [slice.try_line_to_byte(*line), slice.try_line_to_char(*line)];
+        same!(answers, [Ok(*byte_idx), Ok(*char_idx)]);
     }
+    Ok(())
+}
+
+fn expect_starts(slice: Option<RopeSlice<'_>>) -> Result<(), Failure> {
+    let rows = [(0, 0, 0), (1, 25, 25), (2, 54, 54), (3, 78, 62)];
+    let slice = some!(slice);
+    same!(lens(&slice), [78, 62, 3, 62]);
+    expect_all_starts(&slice, &rows)?;
+    same!(
+        slice.try_line_to_char(4),
+        Err(Error::LineIndexOutOfBounds(4, 3))
+    );
+    Ok(())
 }
 
 #[test]
-fn starts_of_lines(rt: HostRuntime) -> Result<(), Fail> {
+fn lines_of_a_slice_start_at_their_bytes(rt: HostRuntime) -> Result<(), Failure> {
     let rope = Rope::from_str(rt.alloc(), LINES)?;
-    assert!(rt; has_starts(between(&rope, 34, 96)));
-    assert!(rt; [rope.len_bytes(), rope.len_chars(), rope.len_lines()] == [124, 100, 4]);
+    expect_starts(between(&rope, 34, 96))?;
+    same!(
+        [rope.len_bytes(), rope.len_chars(), rope.len_lines()],
+        [124, 100, 4]
+    );
     Ok(())
 }
 
 /// The characters of a row are its text, in so many lines.
-fn has_line(slice: &RopeSlice<'_>, row: (usize, usize, &str, usize)) -> bool {
+fn expect_line(slice: &RopeSlice<'_>, row: (usize, usize, &str, usize)) -> Result<(), Failure> {
     let (start, end, text, lines) = row;
-    match part(slice, start, end) {
-        Some(line) => line.as_str() == Some(text) && line.len_lines() == lines,
-        None => false,
-    }
-}
-
-fn has_lines(slice: Option<RopeSlice<'_>>) -> bool {
-    match slice {
-        Some(slice) => {
-            has_line(&slice, (0, 25, "'s a fine day, isn't it?\n", 2))
-                && has_line(&slice, (25, 54, "Aren't you glad we're alive?\n", 2))
-                && has_line(&slice, (54, 62, "こんにちは、みん", 1))
-        }
-        None => false,
-    }
-}
-
-#[test]
-fn lines_of_a_slice(rt: HostRuntime) -> Result<(), Fail> {
-    let rope = Rope::from_str(rt.alloc(), LINES)?;
-    assert!(rt; has_lines(between(&rope, 34, 96)));
+    let line = some!(part(slice, start, end));
+    same!(line.as_str(), Some(text));
+    same!(line.len_lines(), lines);
     Ok(())
 }
 
-fn has_last_line(slice: Option<RopeSlice<'_>>) -> bool {
-    match slice {
-        Some(slice) => {
-            slice.as_str() == Some("'s a fine day, isn't it?\n")
-                && slice.len_lines() == 2
-                && slice.try_line_to_char(1) == Ok(25)
-                && slice.try_line_to_char(2) == Ok(25)
-        }
-        None => false,
-    }
+fn expect_lines(slice: Option<RopeSlice<'_>>) -> Result<(), Failure> {
+    let slice = some!(slice);
+    expect_line(&slice, (0, 25, "'s a fine day, isn't it?\n", 2))?;
+    expect_line(&slice, (25, 54, "Aren't you glad we're alive?\n", 2))?;
+    expect_line(&slice, (54, 62, "こんにちは、みん", 1))
 }
 
 #[test]
-fn a_last_line_that_is_empty(rt: HostRuntime) -> Result<(), Fail> {
+fn lines_are_cut_out_of_a_slice(rt: HostRuntime) -> Result<(), Failure> {
     let rope = Rope::from_str(rt.alloc(), LINES)?;
-    assert!(rt; has_last_line(between(&rope, 34, 59)));
+    expect_lines(between(&rope, 34, 96))
+}
+
+fn expect_last_line(slice: Option<RopeSlice<'_>>) -> Result<(), Failure> {
+    let slice = some!(slice);
+    same!(slice.as_str(), Some("'s a fine day, isn't it?\n"));
+    same!(slice.len_lines(), 2);
+    same!(slice.try_line_to_char(1), Ok(25));
+    same!(slice.try_line_to_char(2), Ok(25));
     Ok(())
+}
+
+#[test]
+fn a_slice_may_end_in_an_empty_line(rt: HostRuntime) -> Result<(), Failure> {
+    let rope = Rope::from_str(rt.alloc(), LINES)?;
+    expect_last_line(between(&rope, 34, 59))
 }

@@ -1,13 +1,15 @@
 //! Cursors over short ropes and slices.
 use crate::cuts::{back, between};
+use rope_plain::failure::Failure;
 use rope_plain::items::{bytes_of_chunks, bytes_of_lines, count_byte, count_char};
 use rope_plain::texts::repeated;
+use rope_plain::{holds, same, some};
 use ropey::iter::{Chars, Lines};
 use ropey::{Rope, RopeSlice};
 use std::alloc::Global;
-use std::test::Fail;
 
-/// What a cursor over lines gave: the text of a line that is one chunk, a line of several, or nothing.
+/// What a cursor over lines gave: the text of a line that is one chunk, a line of several, or
+/// nothing.
 fn text<'a>(line: Option<RopeSlice<'a>>) -> Option<Option<&'a str>> {
     match line {
         Some(line) => Some(line.as_str()),
@@ -29,171 +31,168 @@ fn lens(line: Option<RopeSlice<'_>>) -> Option<[usize; 2]> {
 }
 
 /// Neither a chunk nor a byte nor a character is given.
-fn gives_nothing(rope: &Rope) -> bool {
+fn gives_nothing(rope: &Rope) -> Result<(), Failure> {
     let chunk = rope.chunks().next();
     let byte = rope.bytes().next();
     let c = rope.chars().next();
-    chunk.is_none() && byte.is_none() && c.is_none()
+    holds!(chunk.is_none());
+    holds!(byte.is_none());
+    holds!(c.is_none());
+    Ok(())
 }
 
 /// An empty line is given, forward from the start and back from the end.
-fn gives_an_empty_line(rope: &Rope) -> bool {
+fn gives_an_empty_line(rope: &Rope) -> Result<(), Failure> {
     let mut lines = rope.lines();
     let from_start = [text(lines.next()), text(lines.next())];
-    from_start == [one_chunk(""), None] && gives_an_empty_line_back(rope.get_lines_at(1))
+    same!(from_start, [one_chunk(""), None]);
+    gives_an_empty_line_back(rope.get_lines_at(1))
 }
 
-fn gives_an_empty_line_back(from_end: Option<Lines<'_>>) -> bool {
-    match from_end {
-        Some(mut lines) => {
-            [text(lines.next()), text(lines.prev()), text(lines.prev())]
-                == [None, one_chunk(""), None]
-        }
-        None => false,
-    }
+fn gives_an_empty_line_back(from_end: Option<Lines<'_>>) -> Result<(), Failure> {
+    let mut lines = some!(from_end);
+    same!(
+        [text(lines.next()), text(lines.prev()), text(lines.prev())],
+        [None, one_chunk(""), None]
+    );
+    Ok(())
 }
 
 #[test]
-fn the_empty_rope(rt: HostRuntime) -> Result<(), Fail> {
+fn the_empty_rope_gives_one_empty_line(rt: HostRuntime) -> Result<(), Failure> {
     let rope = Rope::new(rt.alloc())?;
-    assert!(rt; gives_nothing(&rope) && gives_an_empty_line(&rope));
-    Ok(())
+    gives_nothing(&rope)?;
+    gives_an_empty_line(&rope)
 }
 
-fn steps_from_the_lf(slice: Option<RopeSlice<'_>>) -> bool {
-    match slice {
-        Some(slice) => {
-            let mut lines = slice.lines();
-            [text(lines.next()), text(lines.next()), text(lines.next())]
-                == [one_chunk("\n"), one_chunk("b"), None]
-        }
-        None => false,
-    }
+fn steps_from_the_lf(slice: Option<RopeSlice<'_>>) -> Result<(), Failure> {
+    let slice = some!(slice);
+    let mut lines = slice.lines();
+    same!(
+        [text(lines.next()), text(lines.next()), text(lines.next())],
+        [one_chunk("\n"), one_chunk("b"), None]
+    );
+    Ok(())
 }
 
 #[test]
-fn a_slice_that_starts_at_the_lf(rt: HostRuntime) -> Result<(), Fail> {
+fn a_slice_that_starts_at_the_lf_begins_with_a_line(rt: HostRuntime) -> Result<(), Failure> {
     let rope = Rope::from_str(rt.alloc(), "a\r\nb")?;
-    assert!(rt; steps_from_the_lf(back(&rope, 2)));
-    Ok(())
+    steps_from_the_lf(back(&rope, 2))
 }
 
-fn steps_both_ways(from_last: Option<Lines<'_>>) -> bool {
-    let Some(mut lines) = from_last else {
-        return false;
-    };
+fn steps_both_ways(from_last: Option<Lines<'_>>) -> Result<(), Failure> {
+    let mut lines = some!(from_last);
     let ahead = [text(lines.next()), text(lines.next())];
     let back = [text(lines.prev()), text(lines.prev()), text(lines.prev())];
-    ahead == [one_chunk("cd"), None] && back == [one_chunk("cd"), one_chunk("ab\n"), None]
+    same!(ahead, [one_chunk("cd"), None]);
+    same!(back, [one_chunk("cd"), one_chunk("ab\n"), None]);
+    Ok(())
 }
 
-fn steps_back_from_the_end(from_end: Option<Lines<'_>>) -> bool {
-    match from_end {
-        Some(mut lines) => lens(lines.prev()) == Some([1, 1]),
-        None => false,
-    }
+fn steps_back_from_the_end(from_end: Option<Lines<'_>>) -> Result<(), Failure> {
+    let mut lines = some!(from_end);
+    same!(lens(lines.prev()), Some([1, 1]));
+    Ok(())
 }
 
-fn has_lines(rope: &Rope) -> bool {
-    steps_both_ways(rope.get_lines_at(1))
-        && rope.get_lines_at(3).is_none()
-        && rope.get_line(2).is_none()
+fn expect_lines(rope: &Rope) -> Result<(), Failure> {
+    steps_both_ways(rope.get_lines_at(1))?;
+    holds!(rope.get_lines_at(3).is_none());
+    holds!(rope.get_line(2).is_none());
+    Ok(())
 }
 
 #[test]
-fn lines_both_ways(rt: HostRuntime) -> Result<(), Fail> {
+fn lines_are_given_both_ways(rt: HostRuntime) -> Result<(), Failure> {
     let rope = Rope::from_str(rt.alloc(), "ab\ncd")?;
     let slice = RopeSlice::from("a\nb");
-    assert!(rt; steps_back_from_the_end(slice.get_lines_at(2)) && has_lines(&rope));
+    steps_back_from_the_end(slice.get_lines_at(2))?;
+    expect_lines(&rope)
+}
+
+fn steps_back_over_chars(from_third: Option<Chars<'_>>) -> Result<(), Failure> {
+    let cursor = some!(from_third);
+    let mut chars = cursor.reversed();
+    same!(chars.size_hint(), (2, Some(2)));
+    same!(chars.len(), 2);
+    let steps = [chars.next(), chars.next(), chars.next(), chars.prev()];
+    same!(steps, [Some('b'), Some('a'), None, Some('a')]);
     Ok(())
 }
 
-fn steps_back_over_chars(from_third: Option<Chars<'_>>) -> bool {
-    let Some(cursor) = from_third else {
-        return false;
-    };
-    let mut chars = cursor.reversed();
-    let is_counted = chars.size_hint() == (2, Some(2)) && chars.len() == 2;
-    let steps = [chars.next(), chars.next(), chars.next(), chars.prev()];
-    is_counted && steps == [Some('b'), Some('a'), None, Some('a')]
-}
-
-fn has_no_places_past_the_end(rope: &Rope) -> bool {
-    rope.get_chars_at(6).is_none() && rope.get_bytes_at(6).is_none()
+fn expect_no_places_past_the_end(rope: &Rope) -> Result<(), Failure> {
+    holds!(rope.get_chars_at(6).is_none());
+    holds!(rope.get_bytes_at(6).is_none());
+    Ok(())
 }
 
 #[test]
-fn characters_turned_round(rt: HostRuntime) -> Result<(), Fail> {
+fn characters_are_given_backward_when_turned_round(rt: HostRuntime) -> Result<(), Failure> {
     let rope = Rope::from_str(rt.alloc(), "ab\ncd")?;
-    assert!(rt; has_no_places_past_the_end(&rope));
-    assert!(rt; steps_back_over_chars(rope.get_chars_at(2)));
+    expect_no_places_past_the_end(&rope)?;
+    steps_back_over_chars(rope.get_chars_at(2))
+}
+
+fn steps_from_the_end(rope: &Rope) -> Result<(), Failure> {
+    let (last, _, _, _) = some!(rope.get_chunk_at_byte(20_000));
+    let (mut chunks, bytes, chars, break_count) = some!(rope.get_chunks_at_byte(20_000));
+    let steps = [chunks.next(), chunks.prev(), chunks.next(), chunks.next()];
+    same!([bytes, chars, break_count], [20_000, 20_000, 0]);
+    same!(steps, [None, Some(last), Some(last), None]);
     Ok(())
 }
 
-fn steps_from_the_end(rope: &Rope) -> bool {
-    let Some((last, _, _, _)) = rope.get_chunk_at_byte(20_000) else {
-        return false;
-    };
-    let Some((mut chunks, bytes, chars, break_count)) = rope.get_chunks_at_byte(20_000) else {
-        return false;
-    };
-    let steps = [chunks.next(), chunks.prev(), chunks.next(), chunks.next()];
-    [bytes, chars, break_count] == [20_000, 20_000, 0]
-        && steps == [None, Some(last), Some(last), None]
-}
-
-fn steps_from_the_end_of_a_text(slice: RopeSlice<'_>) -> bool {
-    let Some((mut chunks, bytes, chars, break_count)) = slice.get_chunks_at_line_break(1) else {
-        return false;
-    };
+fn steps_from_the_end_of_a_text(slice: RopeSlice<'_>) -> Result<(), Failure> {
+    let (mut chunks, bytes, chars, break_count) = some!(slice.get_chunks_at_line_break(1));
     let steps = [chunks.next(), chunks.prev(), chunks.prev()];
-    [bytes, chars, break_count] == [3, 3, 0] && steps == [None, Some("abc"), None]
+    same!([bytes, chars, break_count], [3, 3, 0]);
+    same!(steps, [None, Some("abc"), None]);
+    Ok(())
 }
 
 /// A rope of so many letters.
-fn letters(alloc: Global, count: usize) -> Result<Rope, Fail> {
+fn letters(alloc: Global, count: usize) -> Result<Rope, Failure> {
     let text = repeated(alloc, "a", count)?;
     Ok(Rope::from_str(alloc, text.as_str())?)
 }
 
 #[test]
-fn chunks_at_the_end(rt: HostRuntime) -> Result<(), Fail> {
+fn chunks_are_given_backward_from_the_end(rt: HostRuntime) -> Result<(), Failure> {
     let rope = letters(rt.alloc(), 20_000)?;
-    assert!(rt; steps_from_the_end_of_a_text(RopeSlice::from("abc")) && steps_from_the_end(&rope));
-    Ok(())
+    steps_from_the_end_of_a_text(RopeSlice::from("abc"))?;
+    steps_from_the_end(&rope)
 }
 
 /// Two lines of 3,000 letters.
-fn two_long_lines(alloc: Global) -> Result<Rope, Fail> {
+fn two_long_lines(alloc: Global) -> Result<Rope, Failure> {
     let first = repeated(alloc, "a", 3_000)?;
     let second = repeated(alloc, "b", 3_000)?;
     let text = format!(in alloc; "{first}\n{second}")?;
     Ok(Rope::from_str(alloc, text.as_str())?)
 }
 
-fn has_first_of_long_lines(rope: &Rope) -> bool {
-    match rope.get_line(0) {
-        Some(first) => lens(Some(first)) == Some([3_001, 2]) && first.as_str().is_none(),
-        None => false,
-    }
+fn expect_first_of_long_lines(rope: &Rope) -> Result<(), Failure> {
+    let first = some!(rope.get_line(0));
+    same!(lens(Some(first)), Some([3_001, 2]));
+    holds!(first.as_str().is_none());
+    Ok(())
 }
 
-fn steps_over_long_lines(from_end: Option<Lines<'_>>) -> bool {
-    let Some(mut lines) = from_end else {
-        return false;
-    };
+fn steps_over_long_lines(from_end: Option<Lines<'_>>) -> Result<(), Failure> {
+    let mut lines = some!(from_end);
     let steps = [lens(lines.prev()), lens(lines.prev()), lens(lines.prev())];
-    steps == [Some([3_000, 1]), Some([3_001, 2]), None]
-        && lines.size_hint() == (2, Some(2))
-        && lines.len() == 2
+    same!(steps, [Some([3_000, 1]), Some([3_001, 2]), None]);
+    same!(lines.size_hint(), (2, Some(2)));
+    same!(lines.len(), 2);
+    Ok(())
 }
 
 #[test]
-fn lines_of_several_chunks(rt: HostRuntime) -> Result<(), Fail> {
+fn lines_of_several_chunks_are_given_whole(rt: HostRuntime) -> Result<(), Failure> {
     let rope = two_long_lines(rt.alloc())?;
-    assert!(rt; has_first_of_long_lines(&rope));
-    assert!(rt; steps_over_long_lines(rope.get_lines_at(2)));
-    Ok(())
+    expect_first_of_long_lines(&rope)?;
+    steps_over_long_lines(rope.get_lines_at(2))
 }
 
 const FOUR_LINES: &str =
@@ -207,64 +206,68 @@ fn line_and_count<'a>(line: Option<RopeSlice<'a>>) -> Option<(Option<&'a str>, u
     }
 }
 
-fn steps_over_three_lines(slice: Option<RopeSlice<'_>>) -> bool {
-    let Some(slice) = slice else {
-        return false;
-    };
+fn steps_over_three_lines(slice: Option<RopeSlice<'_>>) -> Result<(), Failure> {
+    let slice = some!(slice);
     let mut lines = slice.lines();
-    line_and_count(lines.next()) == Some((Some("'s a fine day, isn't it?\n"), 2))
-        && line_and_count(lines.next()) == Some((Some("Aren't you glad we're alive?\n"), 2))
-        && line_and_count(lines.next()) == Some((Some("こんにちは、みん"), 1))
-        && line_and_count(lines.next()).is_none()
+    same!(
+        line_and_count(lines.next()),
+        Some((Some("'s a fine day, isn't it?\n"), 2))
+    );
+    same!(
+        line_and_count(lines.next()),
+        Some((Some("Aren't you glad we're alive?\n"), 2))
+    );
+    same!(line_and_count(lines.next()), Some((Some("こんにちは、みん"), 1)));
+    holds!(line_and_count(lines.next()).is_none());
+    Ok(())
 }
 
-fn steps_over_an_empty_line(slice: Option<RopeSlice<'_>>) -> bool {
-    let Some(slice) = slice else {
-        return false;
-    };
+fn steps_over_an_empty_line(slice: Option<RopeSlice<'_>>) -> Result<(), Failure> {
+    let slice = some!(slice);
     let mut lines = slice.lines();
-    [text(lines.next()), text(lines.next()), text(lines.next())]
-        == [one_chunk("'s a fine day, isn't it?\n"), one_chunk(""), None]
+    same!(
+        [text(lines.next()), text(lines.next()), text(lines.next())],
+        [one_chunk("'s a fine day, isn't it?\n"), one_chunk(""), None]
+    );
+    Ok(())
 }
 
 #[test]
-fn lines_of_a_slice(rt: HostRuntime) -> Result<(), Fail> {
+fn lines_of_a_slice_are_cut_at_its_ends(rt: HostRuntime) -> Result<(), Failure> {
     let rope = Rope::from_str(rt.alloc(), FOUR_LINES)?;
-    assert!(rt; steps_over_three_lines(between(&rope, 34, 96)));
-    assert!(rt; steps_over_an_empty_line(between(&rope, 34, 59)));
-    Ok(())
+    steps_over_three_lines(between(&rope, 34, 96))?;
+    steps_over_an_empty_line(between(&rope, 34, 59))
 }
 
-fn steps_with_a_clone(rope: &Rope) -> bool {
+fn steps_with_a_clone(rope: &Rope) -> Result<(), Failure> {
     let mut chars = rope.chars();
-    match chars.clone() {
-        Ok(mut twin) => {
-            [chars.next(), chars.next(), twin.next(), chars.next()]
-                == [Some('a'), Some('b'), Some('a'), Some('\n')]
-        }
-        Err(_) => false,
-    }
+    let mut twin = chars.clone()?;
+    same!(
+        [chars.next(), chars.next(), twin.next(), chars.next()],
+        [Some('a'), Some('b'), Some('a'), Some('\n')]
+    );
+    Ok(())
 }
 
 #[test]
-fn clones_go_their_own_way(rt: HostRuntime) -> Result<(), Fail> {
+fn clones_go_their_own_way(rt: HostRuntime) -> Result<(), Failure> {
     let rope = Rope::from_str(rt.alloc(), "ab\ncd")?;
-    assert!(rt; steps_with_a_clone(&rope));
-    Ok(())
+    steps_with_a_clone(&rope)
 }
 
-fn loops_over_all(rope: &Rope) -> bool {
+fn loops_over_all(rope: &Rope) -> Result<(), Failure> {
     let bytes = [bytes_of_chunks(rope.chunks()), bytes_of_lines(rope.lines())];
     let counts = [
         count_byte(rope.bytes(), 0xA9),
         count_char(rope.chars(), 'b'),
     ];
-    bytes == [8, 8] && counts == [1, 2]
+    same!(bytes, [8, 8]);
+    same!(counts, [1, 2]);
+    Ok(())
 }
 
 #[test]
-fn loops_over_all_items(rt: HostRuntime) -> Result<(), Fail> {
+fn loops_give_every_item(rt: HostRuntime) -> Result<(), Failure> {
     let rope = Rope::from_str(rt.alloc(), "ab\ncdb\u{e9}")?;
-    assert!(rt; loops_over_all(&rope));
-    Ok(())
+    loops_over_all(&rope)
 }

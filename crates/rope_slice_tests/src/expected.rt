@@ -31,7 +31,8 @@ impl Told {
         None
     }
 
-    /// What a range of bytes is refused with, of a text whose characters begin at these bytes, the text's end among them.
+    /// What a range of bytes is refused with, of a text whose characters begin at these bytes, the
+    /// text's end among them.
     pub fn byte_error(self, starts: &[usize], len: usize) -> Option<Error> {
         if let (Some(start), Some(end)) = (self.start, self.end)
             && start > end

@@ -1,5 +1,11 @@
-//! Tests of slices and of cursors, against worked rows and plain lists of characters; of indices and ranges at their
-//! limits, and of texts of 2^62 bytes, against rows that were worked by hand.
+//! Tests of slices and of cursors, against worked rows and lists of characters.
+//!
+//! No contract shows these:
+//! - rows worked by hand come out, for indices and ranges at their limits too;
+//! - texts of 2^62 bytes are sliced, converted and walked without a pass over them.
+//!
+//! The proofs show these too, and they are run for the compiler's sake: slices of slices, and
+//! random walks of each cursor, are what lists of characters say.
 #![tactic(auto)]
 
 #[cfg(test)]
@@ -20,8 +26,6 @@ mod long_cursors;
 mod long_slices;
 #[cfg(test)]
 mod long_texts;
-#[cfg(test)]
-mod plain_slice;
 #[cfg(test)]
 mod plain_texts;
 #[cfg(test)]

@@ -1,23 +1,24 @@
 //! Cursors over texts of 2^62 bytes, started at both ends and in the middle.
-use crate::long_texts::{Long, Place, Unit, WHOLE, all};
+use crate::long_texts::{Long, Place, Unit, WHOLE, of_each};
+use rope_plain::failure::{Failure, within};
+use rope_plain::{holds, same, some};
 use ropey::{Rope, RopeSlice};
-use std::test::Fail;
 
 /// The character of a repeated text with that index, or none past its end.
 pub fn char_at(unit: &Unit, char_idx: usize) -> Option<char> {
     if char_idx >= unit.char_count() {
         return None;
     }
-    unit.text.chars().nth(char_idx.checked_rem(unit.chars)?)
+    unit.text().chars().nth(char_idx.checked_rem(unit.chars)?)
 }
 
-/// A cursor over the characters gives the one behind the place and the one before it, and says how many are left.
-fn has_chars(rope: &Rope, unit: &Unit, place: Place) -> bool {
-    let Some(mut chars) = rope.get_chars_at(place.char_idx) else {
-        return false;
-    };
+/// A cursor over the characters gives the one behind the place and the one before it, and says how
+/// many are left.
+fn expect_chars(rope: &Rope, unit: &Unit, place: Place) -> Result<(), Failure> {
+    let mut chars = some!(rope.get_chars_at(place.char_idx));
     let left = unit.char_count().saturating_sub(place.char_idx);
-    let counts = chars.len() == left && chars.size_hint() == (left, Some(left));
+    same!(chars.len(), left);
+    same!(chars.size_hint(), (left, Some(left)));
     let next = chars.next();
     if next.is_some() {
         chars.prev();
@@ -26,16 +27,17 @@ fn has_chars(rope: &Rope, unit: &Unit, place: Place) -> bool {
         Some(before) => char_at(unit, before),
         None => None,
     };
-    counts && next == char_at(unit, place.char_idx) && chars.prev() == before
+    same!(next, char_at(unit, place.char_idx));
+    same!(chars.prev(), before);
+    Ok(())
 }
 
 /// A cursor over the bytes does the same.
-fn has_bytes(rope: &Rope, place: Place) -> bool {
-    let Some(mut bytes) = rope.get_bytes_at(place.byte_idx) else {
-        return false;
-    };
+fn expect_bytes(rope: &Rope, place: Place) -> Result<(), Failure> {
+    let mut bytes = some!(rope.get_bytes_at(place.byte_idx));
     let left = WHOLE.saturating_sub(place.byte_idx);
-    let counts = bytes.len() == left && bytes.size_hint() == (left, Some(left));
+    same!(bytes.len(), left);
+    same!(bytes.size_hint(), (left, Some(left)));
     let next = bytes.next();
     if next.is_some() {
         bytes.prev();
@@ -44,103 +46,111 @@ fn has_bytes(rope: &Rope, place: Place) -> bool {
         Some(before) => rope.get_byte(before),
         None => None,
     };
-    counts && next == rope.get_byte(place.byte_idx) && bytes.prev() == before
+    same!(next, rope.get_byte(place.byte_idx));
+    same!(bytes.prev(), before);
+    Ok(())
 }
 
-fn bytes_and_chars_of_one(long: &Long) -> bool {
+fn bytes_and_chars_of_one(long: &Long) -> Result<(), Failure> {
     for place in &long.unit.places() {
-        if !has_chars(&long.rope, &long.unit, *place) || !has_bytes(&long.rope, *place) {
-            return false;
-        }
-    }
-    true
-}
-
-fn bytes_and_chars_past_the_end_of_one(long: &Long) -> bool {
-    let past = WHOLE.saturating_add(1);
-    long.rope.get_chars_at(past).is_none()
-        && long.rope.get_chars_at(usize::MAX).is_none()
-        && long.rope.get_bytes_at(past).is_none()
-        && long.rope.get_bytes_at(usize::MAX).is_none()
-}
-
-#[test]
-fn bytes_and_chars(rt: HostRuntime) -> Result<(), Fail> {
-    let all = all(rt.alloc())?;
-    for long in &all {
-        assert!(rt; bytes_and_chars_of_one(long) && bytes_and_chars_past_the_end_of_one(long));
+        within(
+            format_args!("character {}", place.char_idx),
+            expect_chars(&long.rope, &long.unit, *place),
+        )?;
+        within(
+            format_args!("character {}", place.char_idx),
+            expect_bytes(&long.rope, *place),
+        )?;
     }
     Ok(())
 }
 
-/// A cursor over the chunks from a place on, by its byte and by its character, begins where the counts say.
-fn has_chunks(rope: &Rope, unit: &Unit, place: Place) -> bool {
-    let Some((mut by_byte, byte_idx, _, _)) = rope.get_chunks_at_byte(place.byte_idx) else {
-        return false;
-    };
-    let Some((mut by_char, start, char_idx, break_count)) = rope.get_chunks_at_char(place.char_idx)
-    else {
-        return false;
-    };
+fn bytes_and_chars_past_the_end_of_one(long: &Long) -> Result<(), Failure> {
+    let past = WHOLE.saturating_add(1);
+    holds!(long.rope.get_chars_at(past).is_none());
+    holds!(long.rope.get_chars_at(usize::MAX).is_none());
+    holds!(long.rope.get_bytes_at(past).is_none());
+    holds!(long.rope.get_bytes_at(usize::MAX).is_none());
+    Ok(())
+}
+
+#[test]
+fn cursors_of_2_to_the_62_bytes_count_what_is_left(rt: HostRuntime) -> Result<(), Failure> {
+    of_each(rt.alloc(), |long| {
+        bytes_and_chars_of_one(long)?;
+        bytes_and_chars_past_the_end_of_one(long)
+    })
+}
+
+/// A cursor over the chunks from a place on, by its byte and by its character, begins where the
+/// counts say.
+fn expect_chunks(rope: &Rope, unit: &Unit, place: Place) -> Result<(), Failure> {
+    let (mut by_byte, byte_idx, _, _) = some!(rope.get_chunks_at_byte(place.byte_idx));
+    let (mut by_char, start, char_idx, break_count) = some!(rope.get_chunks_at_char(
+        place.char_idx
+    ));
     let before = unit.place(char_idx);
     let chunk = by_byte.next();
-    [byte_idx, start, break_count] == [before.byte_idx, before.byte_idx, before.line_idx]
-        && chunk == by_char.next()
-        && chunk.is_none() == (place.char_idx == unit.char_count())
+    same!(
+        [byte_idx, start, break_count],
+        [before.byte_idx, before.byte_idx, before.line_idx]
+    );
+    same!(chunk, by_char.next());
+    same!(chunk.is_none(), (place.char_idx == unit.char_count()));
+    Ok(())
 }
 
-fn chunks_of_one(long: &Long) -> bool {
+fn chunks_of_one(long: &Long) -> Result<(), Failure> {
     for place in &long.unit.places() {
-        if !has_chunks(&long.rope, &long.unit, *place) {
-            return false;
-        }
+        within(
+            format_args!("character {}", place.char_idx),
+            expect_chunks(&long.rope, &long.unit, *place),
+        )?;
     }
-    true
+    Ok(())
 }
 
-fn chunks_past_the_end_of_one(long: &Long) -> bool {
-    long.rope.get_chunks_at_byte(usize::MAX).is_none()
-        && long.rope.get_chunks_at_char(usize::MAX).is_none()
-        && long.rope.get_chunks_at_line_break(usize::MAX).is_none()
+fn chunks_past_the_end_of_one(long: &Long) -> Result<(), Failure> {
+    holds!(long.rope.get_chunks_at_byte(usize::MAX).is_none());
+    holds!(long.rope.get_chunks_at_char(usize::MAX).is_none());
+    holds!(long.rope.get_chunks_at_line_break(usize::MAX).is_none());
+    Ok(())
 }
 
 #[test]
-fn chunks(rt: HostRuntime) -> Result<(), Fail> {
-    let all = all(rt.alloc())?;
-    for long in &all {
-        assert!(rt; chunks_of_one(long) && chunks_past_the_end_of_one(long));
-    }
-    Ok(())
+fn cursors_of_2_to_the_62_bytes_start_at_chunks(rt: HostRuntime) -> Result<(), Failure> {
+    of_each(rt.alloc(), |long| {
+        chunks_of_one(long)?;
+        chunks_past_the_end_of_one(long)
+    })
 }
 
 /// A cursor behind so many lines stands at the end of the text.
-fn has_chunks_behind(rope: &Rope, unit: &Unit, lines: usize) -> bool {
-    match rope.get_chunks_at_line_break(lines) {
-        Some((mut chunks, byte_idx, char_idx, before)) => {
-            [byte_idx, char_idx, before] == [WHOLE, unit.char_count(), unit.break_count()]
-                && chunks.next().is_none()
-                && chunks.prev().is_some()
-        }
-        None => false,
-    }
+fn expect_chunks_behind(rope: &Rope, unit: &Unit, lines: usize) -> Result<(), Failure> {
+    let (mut chunks, byte_idx, char_idx, before) = some!(rope.get_chunks_at_line_break(lines));
+    same!(
+        [byte_idx, char_idx, before],
+        [WHOLE, unit.char_count(), unit.break_count()]
+    );
+    holds!(chunks.next().is_none());
+    holds!(chunks.prev().is_some());
+    Ok(())
 }
 
-fn chunks_past_the_last_line_of_one(long: &Long) -> bool {
+fn chunks_past_the_last_line_of_one(long: &Long) -> Result<(), Failure> {
     let lines = long.unit.break_count().saturating_add(1);
-    has_chunks_behind(&long.rope, &long.unit, lines)
-        && long
-            .rope
+    expect_chunks_behind(&long.rope, &long.unit, lines)?;
+    holds!(
+        long.rope
             .get_chunks_at_line_break(lines.saturating_add(1))
             .is_none()
+    );
+    Ok(())
 }
 
 #[test]
-fn chunks_past_the_last_line(rt: HostRuntime) -> Result<(), Fail> {
-    let all = all(rt.alloc())?;
-    for long in &all {
-        assert!(rt; chunks_past_the_last_line_of_one(long));
-    }
-    Ok(())
+fn chunks_past_the_last_line_are_the_end(rt: HostRuntime) -> Result<(), Failure> {
+    of_each(rt.alloc(), chunks_past_the_last_line_of_one)
 }
 
 /// The characters of a line that a cursor gave.
@@ -151,91 +161,93 @@ fn chars_of_line(line: Option<RopeSlice<'_>>) -> Option<usize> {
     }
 }
 
-/// Whether a cursor over the lines from one on says how many are left of all.
-fn has_lines_left(rope: &Rope, line_idx: usize, all: usize) -> bool {
-    match rope.get_lines_at(line_idx) {
-        Some(lines) => lines.len() == all.saturating_sub(line_idx),
-        None => false,
-    }
+/// Fails unless a cursor over the lines from one on says how many are left of all.
+fn expect_lines_left(rope: &Rope, line_idx: usize, all: usize) -> Result<(), Failure> {
+    let lines = some!(rope.get_lines_at(line_idx));
+    same!(lines.len(), all.saturating_sub(line_idx));
+    Ok(())
 }
 
-/// Whether a cursor over the lines gives the one behind and the two before a place, each the text of the unit.
-fn has_lines_beside(rope: &Rope, unit: &Unit, line_idx: usize) -> bool {
-    let Some(mut lines) = rope.get_lines_at(line_idx) else {
-        return false;
-    };
+/// Fails unless a cursor over the lines gives the one behind and the two before a place, each the
+/// text of the unit.
+fn expect_lines_beside(rope: &Rope, unit: &Unit, line_idx: usize) -> Result<(), Failure> {
+    let mut lines = some!(rope.get_lines_at(line_idx));
     let steps = [
         chars_of_line(lines.next()),
         chars_of_line(lines.prev()),
         chars_of_line(lines.prev()),
     ];
-    steps == [Some(unit.chars), Some(unit.chars), Some(unit.chars)]
+    same!(
+        steps,
+        [Some(unit.chars), Some(unit.chars), Some(unit.chars)]
+    );
+    Ok(())
 }
 
-fn is_line(line: Option<RopeSlice<'_>>, text: &str) -> bool {
-    match line {
-        Some(line) => line.eq_str(text),
-        None => false,
-    }
+fn expect_line(line: Option<RopeSlice<'_>>, text: &str) -> Result<(), Failure> {
+    let line = some!(line);
+    holds!(line.eq_str(text));
+    Ok(())
 }
 
-fn has_lines_at(rope: &Rope, unit: &Unit, line_idx: usize) -> bool {
+fn expect_lines_at(rope: &Rope, unit: &Unit, line_idx: usize) -> Result<(), Failure> {
     let break_count = unit.break_count();
     let is_within = 0 < line_idx && line_idx < break_count;
-    has_lines_left(rope, line_idx, break_count.saturating_add(1))
-        && (!is_within
-            || (has_lines_beside(rope, unit, line_idx)
-                && is_line(rope.get_line(line_idx), unit.text)))
-}
-
-fn lines_of_one(long: &Long) -> bool {
-    let break_count = long.unit.break_count();
-    has_lines_at(&long.rope, &long.unit, 0)
-        && has_lines_at(&long.rope, &long.unit, break_count / 2)
-        && has_lines_at(&long.rope, &long.unit, break_count)
-        && has_lines_at(&long.rope, &long.unit, break_count.saturating_add(1))
-}
-
-fn lines_past_the_end_of_one(long: &Long) -> bool {
-    let all = long.unit.break_count().saturating_add(1);
-    long.rope.get_lines_at(all.saturating_add(1)).is_none()
-        && long.rope.get_lines_at(usize::MAX).is_none()
-        && long.rope.get_line(all).is_none()
-        && long.rope.get_line(usize::MAX).is_none()
-}
-
-#[test]
-fn lines(rt: HostRuntime) -> Result<(), Fail> {
-    let all = all(rt.alloc())?;
-    for long in &all {
-        assert!(rt; lines_of_one(long) && lines_past_the_end_of_one(long));
+    expect_lines_left(rope, line_idx, break_count.saturating_add(1))?;
+    if is_within {
+        expect_lines_beside(rope, unit, line_idx)?;
+        expect_line(rope.get_line(line_idx), unit.text())?;
     }
     Ok(())
 }
 
-/// Whether a cursor before the last line gives it, which is empty, then nothing, and back it and the line before it.
-fn has_last_lines(rope: &Rope, unit: &Unit) -> bool {
-    let Some(mut lines) = rope.get_lines_at(unit.break_count()) else {
-        return false;
-    };
+fn lines_of_one(long: &Long) -> Result<(), Failure> {
+    let break_count = long.unit.break_count();
+    expect_lines_at(&long.rope, &long.unit, 0)?;
+    expect_lines_at(&long.rope, &long.unit, break_count / 2)?;
+    expect_lines_at(&long.rope, &long.unit, break_count)?;
+    expect_lines_at(&long.rope, &long.unit, break_count.saturating_add(1))
+}
+
+fn lines_past_the_end_of_one(long: &Long) -> Result<(), Failure> {
+    let all = long.unit.break_count().saturating_add(1);
+    holds!(long.rope.get_lines_at(all.saturating_add(1)).is_none());
+    holds!(long.rope.get_lines_at(usize::MAX).is_none());
+    holds!(long.rope.get_line(all).is_none());
+    holds!(long.rope.get_line(usize::MAX).is_none());
+    Ok(())
+}
+
+#[test]
+fn lines_of_2_to_the_62_bytes_are_given_both_ways(rt: HostRuntime) -> Result<(), Failure> {
+    of_each(rt.alloc(), |long| {
+        lines_of_one(long)?;
+        lines_past_the_end_of_one(long)
+    })
+}
+
+/// Fails unless a cursor before the last line gives it, which is empty, then nothing, and back it
+/// and the line before it.
+fn expect_last_lines(rope: &Rope, unit: &Unit) -> Result<(), Failure> {
+    let mut lines = some!(rope.get_lines_at(unit.break_count()));
     let steps = [
         chars_of_line(lines.next()),
         chars_of_line(lines.next()),
         chars_of_line(lines.prev()),
         chars_of_line(lines.prev()),
     ];
-    steps == [Some(0), None, Some(0), Some(unit.chars)]
+    same!(steps, [Some(0), None, Some(0), Some(unit.chars)]);
+    Ok(())
 }
 
-fn the_last_lines_of_texts_with_breaks_of_one(long: &Long) -> bool {
-    long.unit.break_count() == 0 || has_last_lines(&long.rope, &long.unit)
+fn the_last_lines_of_texts_with_breaks_of_one(long: &Long) -> Result<(), Failure> {
+    if long.unit.break_count() == 0 {
+        return Ok(());
+    }
+    expect_last_lines(&long.rope, &long.unit)
 }
 
 #[test]
-fn the_last_lines_of_texts_with_breaks(rt: HostRuntime) -> Result<(), Fail> {
-    let all = all(rt.alloc())?;
-    for long in &all {
-        assert!(rt; the_last_lines_of_texts_with_breaks_of_one(long));
-    }
-    Ok(())
+fn the_last_line_of_2_to_the_62_bytes_is_empty(rt: HostRuntime) -> Result<(), Failure> {
+    of_each(rt.alloc(), the_last_lines_of_texts_with_breaks_of_one)
 }

@@ -1,8 +1,9 @@
 //! Slices of texts of 2^62 bytes, from both ends and across the middle.
 use crate::long_cursors::char_at;
-use crate::long_texts::{Long, Place, UNITS, Unit, WHOLE, all};
+use crate::long_texts::{Long, Place, UNITS, Unit, WHOLE, of_each};
+use rope_plain::failure::{Failure, within};
+use rope_plain::{same, some};
 use ropey::{Rope, RopeSlice};
-use std::test::Fail;
 
 /// A slice's bytes, characters and code units, where there is one.
 fn counts(slice: Option<RopeSlice<'_>>) -> Option<[usize; 3]> {
@@ -18,8 +19,8 @@ fn expected(unit: &Unit, chars: usize) -> [usize; 3] {
     [place.byte_idx, place.char_idx, place.unit_idx]
 }
 
-/// Whether the parts before and behind a place, by characters and by bytes, have their counts.
-fn has_parts(rope: &Rope, unit: &Unit, place: Place) -> bool {
+/// Fails unless the parts before and behind a place, by characters and by bytes, have their counts.
+fn expect_parts(rope: &Rope, unit: &Unit, place: Place) -> Result<(), Failure> {
     let before = expected(unit, place.char_idx);
     let behind = expected(unit, unit.char_count().saturating_sub(place.char_idx));
     let fronts = [
@@ -30,25 +31,26 @@ fn has_parts(rope: &Rope, unit: &Unit, place: Place) -> bool {
         counts(rope.get_slice(place.char_idx..)),
         counts(rope.get_byte_slice(place.byte_idx..)),
     ];
-    fronts == [Some(before), Some(before)] && backs == [Some(behind), Some(behind)]
+    same!(fronts, [Some(before), Some(before)]);
+    same!(backs, [Some(behind), Some(behind)]);
+    Ok(())
 }
 
-fn lengths_of_fronts_and_backs_of_one(long: &Long) -> bool {
+fn lengths_of_fronts_and_backs_of_one(long: &Long) -> Result<(), Failure> {
     for place in &long.unit.places() {
-        if !has_parts(&long.rope, &long.unit, *place) {
-            return false;
-        }
+        within(
+            format_args!("character {}", place.char_idx),
+            expect_parts(&long.rope, &long.unit, *place),
+        )?;
     }
-    true
+    Ok(())
 }
 
 #[test]
-fn lengths_of_fronts_and_backs(rt: HostRuntime) -> Result<(), Fail> {
-    let all = all(rt.alloc())?;
-    for long in &all {
-        assert!(rt; lengths_of_fronts_and_backs_of_one(long));
-    }
-    Ok(())
+fn fronts_and_backs_of_2_to_the_62_bytes_have_their_lengths(
+    rt: HostRuntime,
+) -> Result<(), Failure> {
+    of_each(rt.alloc(), lengths_of_fronts_and_backs_of_one)
 }
 
 /// The lines of a slice, where there is one.
@@ -59,36 +61,36 @@ fn lines_of(slice: Option<RopeSlice<'_>>) -> Option<usize> {
     }
 }
 
-/// Whether the parts before and behind a place have so many lines.
-fn has_lines(pairs: &Rope, row: (usize, usize, usize)) -> bool {
+/// Fails unless the parts before and behind a place have so many lines.
+fn expect_lines(pairs: &Rope, row: (usize, usize, usize)) -> Result<(), Failure> {
     let (char_idx, before, behind) = row;
     let found = [
         lines_of(pairs.get_slice(..char_idx)),
         lines_of(pairs.get_slice(char_idx..)),
     ];
-    found == [Some(before), Some(behind)]
-}
-
-fn has_cut_pairs(pairs: &Rope) -> bool {
-    let middle = WHOLE / 2;
-    has_lines(pairs, (0, 1, middle + 1))
-        && has_lines(pairs, (1, 2, middle + 1))
-        && has_lines(pairs, (middle - 1, middle / 2 + 1, middle / 2 + 2))
-        && has_lines(pairs, (middle, middle / 2 + 1, middle / 2 + 1))
-        && has_lines(pairs, (middle + 1, middle / 2 + 2, middle / 2 + 1))
-        && has_lines(pairs, (WHOLE - 1, middle + 1, 2))
-        && has_lines(pairs, (WHOLE, middle + 1, 1))
-}
-
-#[test]
-fn lines_of_cut_pairs(rt: HostRuntime) -> Result<(), Fail> {
-    let pairs = UNITS[1].whole(rt.alloc())?;
-    assert!(rt; has_cut_pairs(&pairs));
+    same!(found, [Some(before), Some(behind)]);
     Ok(())
 }
 
-/// Whether each conversion of the back half answers at a place of its own what it has to.
-fn is_converted(back: &RopeSlice<'_>, place: Place) -> bool {
+fn expect_cut_pairs(pairs: &Rope) -> Result<(), Failure> {
+    let middle = WHOLE / 2;
+    expect_lines(pairs, (0, 1, middle + 1))?;
+    expect_lines(pairs, (1, 2, middle + 1))?;
+    expect_lines(pairs, (middle - 1, middle / 2 + 1, middle / 2 + 2))?;
+    expect_lines(pairs, (middle, middle / 2 + 1, middle / 2 + 1))?;
+    expect_lines(pairs, (middle + 1, middle / 2 + 2, middle / 2 + 1))?;
+    expect_lines(pairs, (WHOLE - 1, middle + 1, 2))?;
+    expect_lines(pairs, (WHOLE, middle + 1, 1))
+}
+
+#[test]
+fn cut_pairs_of_2_to_the_62_bytes_have_their_lines(rt: HostRuntime) -> Result<(), Failure> {
+    let pairs = UNITS[1].whole(rt.alloc())?;
+    expect_cut_pairs(&pairs)
+}
+
+/// Fails unless each conversion of the back half answers at a place of its own what it has to.
+fn expect_converted(back: &RopeSlice<'_>, place: Place) -> Result<(), Failure> {
     let of_char = [
         back.try_char_to_byte(place.char_idx),
         back.try_char_to_utf16_cu(place.char_idx),
@@ -99,40 +101,37 @@ fn is_converted(back: &RopeSlice<'_>, place: Place) -> bool {
         back.try_byte_to_line(place.byte_idx),
         back.try_utf16_cu_to_char(place.unit_idx),
     ];
-    of_char == [Ok(place.byte_idx), Ok(place.unit_idx), Ok(place.line_idx)]
-        && of_others == [Ok(place.char_idx), Ok(place.line_idx), Ok(place.char_idx)]
-        && back.try_line_to_char(place.line_idx) == Ok(place.line_char)
-}
-
-fn conversions_of_backs_of_one(long: &Long) -> bool {
-    let middle = long.unit.place(long.unit.char_count() / 2);
-    match long.rope.get_slice(middle.char_idx..) {
-        Some(back) => {
-            is_converted(&back, long.unit.place(0))
-                && is_converted(&back, long.unit.place(1))
-                && is_converted(&back, middle)
-        }
-        None => false,
-    }
-}
-
-#[test]
-fn conversions_of_backs(rt: HostRuntime) -> Result<(), Fail> {
-    let all = all(rt.alloc())?;
-    for long in &all {
-        assert!(rt; conversions_of_backs_of_one(long));
-    }
+    same!(
+        of_char,
+        [Ok(place.byte_idx), Ok(place.unit_idx), Ok(place.line_idx)]
+    );
+    same!(
+        of_others,
+        [Ok(place.char_idx), Ok(place.line_idx), Ok(place.char_idx)]
+    );
+    same!(back.try_line_to_char(place.line_idx), Ok(place.line_char));
     Ok(())
 }
 
-/// Whether it has the characters of the text, over and over.
-fn is_repeated(slice: &RopeSlice<'_>, unit: &Unit) -> bool {
+fn conversions_of_backs_of_one(long: &Long) -> Result<(), Failure> {
+    let middle = long.unit.place(long.unit.char_count() / 2);
+    let back = some!(long.rope.get_slice(middle.char_idx..));
+    expect_converted(&back, long.unit.place(0))?;
+    expect_converted(&back, long.unit.place(1))?;
+    expect_converted(&back, middle)
+}
+
+#[test]
+fn backs_of_2_to_the_62_bytes_convert_from_their_start(rt: HostRuntime) -> Result<(), Failure> {
+    of_each(rt.alloc(), conversions_of_backs_of_one)
+}
+
+/// Fails unless it has the characters of the text, over and over.
+fn expect_repeated(slice: &RopeSlice<'_>, unit: &Unit) -> Result<(), Failure> {
     for char_idx in 0..slice.len_chars() {
-        if slice.get_char(char_idx) != char_at(unit, char_idx) {
-            return false;
-        }
+        same!(slice.get_char(char_idx), char_at(unit, char_idx));
     }
-    true
+    Ok(())
 }
 
 /// The first characters of a slice, where there is one and it has so many.
@@ -143,29 +142,24 @@ fn front<'a>(slice: Option<RopeSlice<'a>>, chars: usize) -> Option<RopeSlice<'a>
     }
 }
 
-/// Whether these are 1,000 characters of the text, of which 800 are cut off by their bytes.
-fn is_thousand(slice: &RopeSlice<'_>, unit: &Unit) -> bool {
+/// Fails unless these are 1,000 characters of the text, of which 800 are cut off by their bytes.
+fn expect_thousand(slice: &RopeSlice<'_>, unit: &Unit) -> Result<(), Failure> {
     let bytes = 800usize.saturating_mul(unit.bytes_a_char);
     let part = match slice.get_byte_slice(..bytes) {
         Some(part) => part.len_chars(),
         None => 0,
     };
-    [slice.len_chars(), part] == [1_000, 800] && is_repeated(slice, unit)
+    same!([slice.len_chars(), part], [1_000, 800]);
+    expect_repeated(slice, unit)
 }
 
-fn texts_across_the_middle_of_one(long: &Long) -> bool {
+fn texts_across_the_middle_of_one(long: &Long) -> Result<(), Failure> {
     let start = (long.unit.char_count() / 2).saturating_sub(400);
-    match front(long.rope.get_slice(start..), 1_000) {
-        Some(slice) => is_thousand(&slice, &long.unit),
-        None => false,
-    }
+    let slice = some!(front(long.rope.get_slice(start..), 1_000));
+    expect_thousand(&slice, &long.unit)
 }
 
 #[test]
-fn texts_across_the_middle(rt: HostRuntime) -> Result<(), Fail> {
-    let all = all(rt.alloc())?;
-    for long in &all {
-        assert!(rt; texts_across_the_middle_of_one(long));
-    }
-    Ok(())
+fn slices_across_the_middle_have_their_text(rt: HostRuntime) -> Result<(), Failure> {
+    of_each(rt.alloc(), texts_across_the_middle_of_one)
 }

@@ -1,17 +1,29 @@
-//! Texts of 2^62 bytes, asked for their lengths, conversions, items, chunks and positions at both ends and in the middle.
+//! Texts of 2^62 bytes, asked for their lengths, conversions, items, chunks and positions at both
+//! ends and in the middle.
 use rope_plain::compare::lens;
+use rope_plain::failure::{Failure, within};
+use rope_plain::{holds, same, some};
 use rope_position::{Position, Positions};
 use ropey::{Error, Rope};
 use std::alloc::{AllocError, Global};
-use std::test::Fail;
 
 /// How many bytes such a text has.
 pub const WHOLE: usize = 1 << 62;
 
+/// The text of a few bytes that is repeated. It is no reference, since the borrow checker doesn't
+/// cover a closure that takes one within a struct.
+#[derive(Clone, Copy)]
+enum Text {
+    Letter,
+    Pair,
+    Frog,
+    Line,
+}
+
 /// How often the text of a few bytes is repeated: what it is and what it counts.
 #[derive(Clone, Copy)]
 pub struct Unit {
-    pub text: &'static str,
+    text: Text,
     /// Its characters, each of as many bytes as the others, and of as many code units.
     pub chars: usize,
     pub bytes_a_char: usize,
@@ -22,10 +34,11 @@ pub struct Unit {
     pub times: u32,
 }
 
-/// Letters, pairs, characters of four bytes, and line breaks of three that stand by themselves behind one of one.
+/// Letters, pairs, characters of four bytes, and line breaks of three that stand by themselves
+/// behind one of one.
 pub const UNITS: [Unit; 4] = [
     Unit {
-        text: "a",
+        text: Text::Letter,
         chars: 1,
         bytes_a_char: 1,
         units_a_char: 1,
@@ -33,7 +46,7 @@ pub const UNITS: [Unit; 4] = [
         times: 62,
     },
     Unit {
-        text: "\r\n",
+        text: Text::Pair,
         chars: 2,
         bytes_a_char: 1,
         units_a_char: 1,
@@ -41,7 +54,7 @@ pub const UNITS: [Unit; 4] = [
         times: 61,
     },
     Unit {
-        text: "🐸",
+        text: Text::Frog,
         chars: 1,
         bytes_a_char: 4,
         units_a_char: 2,
@@ -49,7 +62,7 @@ pub const UNITS: [Unit; 4] = [
         times: 60,
     },
     Unit {
-        text: "aaa\n",
+        text: Text::Line,
         chars: 4,
         bytes_a_char: 1,
         units_a_char: 1,
@@ -69,7 +82,7 @@ pub struct Place {
 }
 
 /// A rope is joined to itself so many times.
-fn double(rope: &mut Rope, times: u32) -> Result<(), Fail> {
+fn double(rope: &mut Rope, times: u32) -> Result<(), Failure> {
     for _ in 0..times {
         let copy = rope.clone()?;
         rope.append(copy)?;
@@ -78,9 +91,19 @@ fn double(rope: &mut Rope, times: u32) -> Result<(), Fail> {
 }
 
 impl Unit {
+    /// The text that is repeated.
+    pub fn text(&self) -> &'static str {
+        match self.text {
+            Text::Letter => "a",
+            Text::Pair => "\r\n",
+            Text::Frog => "🐸",
+            Text::Line => "aaa\n",
+        }
+    }
+
     /// The text, repeated to 2^62 bytes.
-    pub fn whole(&self, alloc: Global) -> Result<Rope, Fail> {
-        let mut rope = Rope::from_str(alloc, self.text)?;
+    pub fn whole(&self, alloc: Global) -> Result<Rope, Failure> {
+        let mut rope = Rope::from_str(alloc, self.text())?;
         double(&mut rope, self.times)?;
         Ok(rope)
     }
@@ -133,13 +156,13 @@ pub struct Long {
     pub unit: Unit,
 }
 
-fn add(alloc: Global, long: &mut Vec<Long>, unit: Unit) -> Result<(), Fail> {
+fn add(alloc: Global, long: &mut Vec<Long>, unit: Unit) -> Result<(), Failure> {
     let rope = unit.whole(alloc)?;
     long.push(Long { rope, unit }).map_err(AllocError::from)?;
     Ok(())
 }
 
-fn add_each(alloc: Global, long: &mut Vec<Long>) -> Result<(), Fail> {
+fn add_each(alloc: Global, long: &mut Vec<Long>) -> Result<(), Failure> {
     for unit in UNITS {
         add(alloc, long, unit)?;
     }
@@ -147,15 +170,37 @@ fn add_each(alloc: Global, long: &mut Vec<Long>) -> Result<(), Fail> {
 }
 
 /// One of each.
-pub fn all(alloc: Global) -> Result<Vec<Long>, Fail> {
+fn all(alloc: Global) -> Result<Vec<Long>, Failure> {
     let mut long = Vec::new(alloc);
     add_each(alloc, &mut long)?;
     Ok(long)
 }
 
-/// Whether a long text has these counts, in a tree that is not deep.
-fn has_lengths(rope: &Rope, counts: [usize; 4]) -> bool {
-    lens(rope) == counts && rope.depth() <= 18
+/// Fails unless a question is answered well of each text.
+fn ask_each<F: Fn(&Long) -> Result<(), Failure>>(all: &[Long], ask: F) -> Result<(), Failure>
+    requires { F.IsAlwaysCallable ask }
+{
+    for long in all {
+        let answered = ask(long);
+        within(format_args!("text {:?}", long.unit.text()), answered)?;
+    }
+    Ok(())
+}
+
+/// Makes one of each, and fails unless a question is answered well of it. The texts are dropped
+/// here alone, since each return of a function that owns ropes is proved to drop them.
+pub fn of_each<F: Fn(&Long) -> Result<(), Failure>>(alloc: Global, ask: F) -> Result<(), Failure>
+    requires { F.IsAlwaysCallable ask }
+{
+    let all = all(alloc)?;
+    ask_each(&all, ask)
+}
+
+/// Fails unless a long text has these counts, in a tree that is not deep.
+fn expect_lengths(rope: &Rope, counts: [usize; 4]) -> Result<(), Failure> {
+    same!(lens(rope), counts);
+    holds!(rope.depth() <= 18);
+    Ok(())
 }
 
 /// Their bytes, characters, lines and code units.
@@ -171,26 +216,26 @@ const LENGTHS: [[usize; 4]; 4] = [
     [WHOLE, WHOLE, 1_152_921_504_606_846_977, WHOLE],
 ];
 
-/// Whether the texts have these counts.
-fn have_lengths(all: &[Long]) -> bool {
+/// Fails unless the texts have these counts.
+fn expect_all_lengths(all: &[Long]) -> Result<(), Failure> {
     for (place, counts) in LENGTHS.iter().enumerate() {
-        match all.get(place) {
-            Some(long) if has_lengths(&long.rope, *counts) => {}
-            _ => return false,
-        }
+        let long = some!(all.get(place));
+        within(
+            format_args!("text {place}"),
+            expect_lengths(&long.rope, *counts),
+        )?;
     }
-    true
-}
-
-#[test]
-fn lengths(rt: HostRuntime) -> Result<(), Fail> {
-    let all = all(rt.alloc())?;
-    assert!(rt; have_lengths(&all));
     Ok(())
 }
 
-/// Whether each conversion answers at a place what it has to.
-fn is_converted(rope: &Rope, place: Place) -> bool {
+#[test]
+fn texts_of_2_to_the_62_bytes_have_their_lengths(rt: HostRuntime) -> Result<(), Failure> {
+    let all = all(rt.alloc())?;
+    expect_all_lengths(&all)
+}
+
+/// Fails unless each conversion answers at a place what it has to.
+fn expect_converted(rope: &Rope, place: Place) -> Result<(), Failure> {
     let of_char = [
         rope.try_char_to_byte(place.char_idx),
         rope.try_char_to_utf16_cu(place.char_idx),
@@ -201,12 +246,19 @@ fn is_converted(rope: &Rope, place: Place) -> bool {
         rope.try_byte_to_line(place.byte_idx),
         rope.try_utf16_cu_to_char(place.unit_idx),
     ];
-    of_char == [Ok(place.byte_idx), Ok(place.unit_idx), Ok(place.line_idx)]
-        && of_bytes_and_units == [Ok(place.char_idx), Ok(place.line_idx), Ok(place.char_idx)]
+    same!(
+        of_char,
+        [Ok(place.byte_idx), Ok(place.unit_idx), Ok(place.line_idx)]
+    );
+    same!(
+        of_bytes_and_units,
+        [Ok(place.char_idx), Ok(place.line_idx), Ok(place.char_idx)]
+    );
+    Ok(())
 }
 
-/// Whether the indices within a character belong to it.
-fn is_whole(rope: &Rope, unit: &Unit, place: Place) -> bool {
+/// Fails unless the indices within a character belong to it.
+fn expect_whole(rope: &Rope, unit: &Unit, place: Place) -> Result<(), Failure> {
     let last_byte = place
         .byte_idx
         .saturating_add(unit.bytes_a_char.saturating_sub(1));
@@ -217,45 +269,49 @@ fn is_whole(rope: &Rope, unit: &Unit, place: Place) -> bool {
         rope.try_byte_to_char(last_byte),
         rope.try_utf16_cu_to_char(last_unit),
     ];
-    answers == [Ok(place.char_idx), Ok(place.char_idx)]
+    same!(answers, [Ok(place.char_idx), Ok(place.char_idx)]);
+    Ok(())
 }
 
-/// Whether the line of a place starts at its character and at that one's byte.
-fn has_line_start(rope: &Rope, unit: &Unit, place: Place) -> bool {
+/// Fails unless the line of a place starts at its character and at that one's byte.
+fn expect_line_start(rope: &Rope, unit: &Unit, place: Place) -> Result<(), Failure> {
     let byte_idx = place.line_char.saturating_mul(unit.bytes_a_char);
     let answers = [
         rope.try_line_to_char(place.line_idx),
         rope.try_line_to_byte(place.line_idx),
     ];
-    answers == [Ok(place.line_char), Ok(byte_idx)]
+    same!(answers, [Ok(place.line_char), Ok(byte_idx)]);
+    Ok(())
 }
 
-fn is_converted_within(rope: &Rope, unit: &Unit, place: Place) -> bool {
+fn expect_converted_within(rope: &Rope, unit: &Unit, place: Place) -> Result<(), Failure> {
     let is_within = place.char_idx < unit.char_count();
-    is_converted(rope, place)
-        && (!is_within || (is_whole(rope, unit, place) && has_line_start(rope, unit, place)))
-}
-
-/// Whether each place is converted, and those within the text with what belongs to their characters.
-fn each_conversion_of_one(long: &Long) -> bool {
-    for place in &long.unit.places() {
-        if !is_converted_within(&long.rope, &long.unit, *place) {
-            return false;
-        }
-    }
-    true
-}
-
-#[test]
-fn each_conversion(rt: HostRuntime) -> Result<(), Fail> {
-    let all = all(rt.alloc())?;
-    for long in &all {
-        assert!(rt; each_conversion_of_one(long));
+    expect_converted(rope, place)?;
+    if is_within {
+        expect_whole(rope, unit, place)?;
+        expect_line_start(rope, unit, place)?;
     }
     Ok(())
 }
 
-fn the_start_past_the_last_line_of_one(long: &Long) -> bool {
+/// Fails unless each place is converted, and those within the text with what belongs to their
+/// characters.
+fn each_conversion_of_one(long: &Long) -> Result<(), Failure> {
+    for place in &long.unit.places() {
+        within(
+            format_args!("character {}", place.char_idx),
+            expect_converted_within(&long.rope, &long.unit, *place),
+        )?;
+    }
+    Ok(())
+}
+
+#[test]
+fn each_place_of_2_to_the_62_bytes_is_converted(rt: HostRuntime) -> Result<(), Failure> {
+    of_each(rt.alloc(), each_conversion_of_one)
+}
+
+fn the_start_past_the_last_line_of_one(long: &Long) -> Result<(), Failure> {
     let lines = long.unit.break_count().saturating_add(1);
     let past = lines.saturating_add(1);
     let refused = Error::LineIndexOutOfBounds(past, lines);
@@ -265,211 +321,207 @@ fn the_start_past_the_last_line_of_one(long: &Long) -> bool {
         long.rope.try_line_to_char(past),
         long.rope.try_line_to_byte(past),
     ];
-    starts
-        == [
+    same!(
+        starts,
+        [
             Ok(long.unit.char_count()),
             Ok(WHOLE),
             Err(refused),
             Err(refused),
         ]
+    );
+    Ok(())
 }
 
 #[test]
-fn the_start_past_the_last_line(rt: HostRuntime) -> Result<(), Fail> {
-    let all = all(rt.alloc())?;
-    for long in &all {
-        assert!(rt; the_start_past_the_last_line_of_one(long));
-    }
-    Ok(())
+fn the_line_past_the_last_starts_at_the_end(rt: HostRuntime) -> Result<(), Failure> {
+    of_each(rt.alloc(), the_start_past_the_last_line_of_one)
 }
 
 /// An index past the end, and as great as it may be, is refused.
-fn refuses(rope: &Rope, past: usize, chars: usize, units: usize) -> bool {
+fn refuses(rope: &Rope, past: usize, chars: usize, units: usize) -> Result<(), Failure> {
     let char_error = Err(Error::CharIndexOutOfBounds(past, chars));
     let byte_error = Err(Error::ByteIndexOutOfBounds(past, WHOLE));
     let unit_error = Err(Error::Utf16IndexOutOfBounds(past, units));
-    rope.try_char_to_byte(past) == char_error
-        && rope.try_char_to_utf16_cu(past) == char_error
-        && rope.try_char_to_line(past) == char_error
-        && rope.try_byte_to_char(past) == byte_error
-        && rope.try_byte_to_line(past) == byte_error
-        && rope.try_utf16_cu_to_char(past) == unit_error
-        && rope.get_byte(past).is_none()
-        && rope.get_char(past).is_none()
-        && rope.get_chunk_at_byte(past).is_none()
-        && rope.get_chunk_at_char(past).is_none()
-        && rope.get_chunk_at_line_break(past).is_none()
+    same!(rope.try_char_to_byte(past), char_error);
+    same!(rope.try_char_to_utf16_cu(past), char_error);
+    same!(rope.try_char_to_line(past), char_error);
+    same!(rope.try_byte_to_char(past), byte_error);
+    same!(rope.try_byte_to_line(past), byte_error);
+    same!(rope.try_utf16_cu_to_char(past), unit_error);
+    holds!(rope.get_byte(past).is_none());
+    holds!(rope.get_char(past).is_none());
+    holds!(rope.get_chunk_at_byte(past).is_none());
+    holds!(rope.get_chunk_at_char(past).is_none());
+    holds!(rope.get_chunk_at_line_break(past).is_none());
+    Ok(())
 }
 
-fn past_the_end_of_one(long: &Long) -> bool {
+fn past_the_end_of_one(long: &Long) -> Result<(), Failure> {
     let chars = long.unit.char_count();
     let units = chars.saturating_mul(long.unit.units_a_char);
-    refuses(&long.rope, WHOLE.saturating_add(1), chars, units)
-        && refuses(&long.rope, isize::MAX as usize, chars, units)
-        && refuses(&long.rope, usize::MAX, chars, units)
+    refuses(&long.rope, WHOLE.saturating_add(1), chars, units)?;
+    refuses(&long.rope, isize::MAX as usize, chars, units)?;
+    refuses(&long.rope, usize::MAX, chars, units)
 }
 
 #[test]
-fn past_the_end(rt: HostRuntime) -> Result<(), Fail> {
-    let all = all(rt.alloc())?;
-    for long in &all {
-        assert!(rt; past_the_end_of_one(long));
-    }
-    Ok(())
+fn indices_past_2_to_the_62_bytes_are_refused(rt: HostRuntime) -> Result<(), Failure> {
+    of_each(rt.alloc(), past_the_end_of_one)
 }
 
 /// The character at a place, its first byte, and the same place behind it.
-fn has_items(rope: &Rope, unit: &Unit, place: Place) -> bool {
-    let Some(among) = place.char_idx.checked_rem(unit.chars) else {
-        return false;
-    };
-    let text = unit.text.chars().nth(among);
+fn expect_items(rope: &Rope, unit: &Unit, place: Place) -> Result<(), Failure> {
+    let among = some!(place.char_idx.checked_rem(unit.chars));
+    let text = unit.text().chars().nth(among);
     let byte = unit
-        .text
+        .text()
         .as_bytes()
         .get(among.saturating_mul(unit.bytes_a_char))
         .copied();
-    rope.get_char(place.char_idx) == text && rope.get_byte(place.byte_idx) == byte
+    same!(rope.get_char(place.char_idx), text);
+    same!(rope.get_byte(place.byte_idx), byte);
+    Ok(())
 }
 
-fn items_of_one(long: &Long) -> bool {
+fn items_of_one(long: &Long) -> Result<(), Failure> {
     for place in &long.unit.places() {
-        if place.char_idx < long.unit.char_count() && !has_items(&long.rope, &long.unit, *place) {
-            return false;
+        if place.char_idx < long.unit.char_count() {
+            within(
+                format_args!("character {}", place.char_idx),
+                expect_items(&long.rope, &long.unit, *place),
+            )?;
         }
     }
-    long.rope.get_char(long.unit.char_count()).is_none() && long.rope.get_byte(WHOLE).is_none()
+    holds!(long.rope.get_char(long.unit.char_count()).is_none());
+    holds!(long.rope.get_byte(WHOLE).is_none());
+    Ok(())
 }
 
 #[test]
-fn items(rt: HostRuntime) -> Result<(), Fail> {
-    let all = all(rt.alloc())?;
-    for long in &all {
-        assert!(rt; items_of_one(long));
-    }
-    Ok(())
+fn items_of_2_to_the_62_bytes_are_found(rt: HostRuntime) -> Result<(), Failure> {
+    of_each(rt.alloc(), items_of_one)
 }
 
 /// A chunk holds a place, or ends there at the text's end, and begins where the counts say.
-fn holds(found: (&str, usize, usize, usize), unit: &Unit, place: Place) -> bool {
+fn expect_held(
+    found: (&str, usize, usize, usize),
+    unit: &Unit,
+    place: Place,
+) -> Result<(), Failure> {
     let (chunk, byte_idx, char_idx, break_count) = found;
     let start = unit.place(char_idx);
     let end = byte_idx.saturating_add(chunk.len());
-    let is_in = place.byte_idx < end || (end == WHOLE && place.byte_idx == end);
-    start.byte_idx == byte_idx
-        && start.line_idx == break_count
-        && byte_idx <= place.byte_idx
-        && is_in
+    holds!(place.byte_idx < end || (end == WHOLE && place.byte_idx == end));
+    same!(start.byte_idx, byte_idx);
+    same!(start.line_idx, break_count);
+    holds!(byte_idx <= place.byte_idx);
+    Ok(())
 }
 
-/// Whether the chunk at a place holds it, by its byte and by its character.
-fn has_chunk(rope: &Rope, unit: &Unit, place: Place) -> bool {
+/// Fails unless the chunk at a place holds it, by its byte and by its character.
+fn expect_chunk(rope: &Rope, unit: &Unit, place: Place) -> Result<(), Failure> {
     let by_char = rope.get_chunk_at_char(place.char_idx);
-    match rope.get_chunk_at_byte(place.byte_idx) {
-        Some(by_byte) => by_char == Some(by_byte) && holds(by_byte, unit, place),
-        None => false,
-    }
+    let by_byte = some!(rope.get_chunk_at_byte(place.byte_idx));
+    same!(by_char, Some(by_byte));
+    expect_held(by_byte, unit, place)
 }
 
-fn chunks_of_one(long: &Long) -> bool {
+fn chunks_of_one(long: &Long) -> Result<(), Failure> {
     for place in &long.unit.places() {
-        if !has_chunk(&long.rope, &long.unit, *place) {
-            return false;
-        }
-    }
-    true
-}
-
-#[test]
-fn chunks(rt: HostRuntime) -> Result<(), Fail> {
-    let all = all(rt.alloc())?;
-    for long in &all {
-        assert!(rt; chunks_of_one(long));
+        within(
+            format_args!("character {}", place.char_idx),
+            expect_chunk(&long.rope, &long.unit, *place),
+        )?;
     }
     Ok(())
 }
 
-/// Whether a chunk has a line break, where there is one before it, and begins where the counts say.
-fn has_break(
+#[test]
+fn chunks_of_2_to_the_62_bytes_are_found(rt: HostRuntime) -> Result<(), Failure> {
+    of_each(rt.alloc(), chunks_of_one)
+}
+
+/// Fails unless a chunk has a line break, where there is one before it, and begins where the counts
+/// say.
+fn expect_break(
     rope: &Rope,
     unit: &Unit,
     found: (&str, usize, usize, usize),
     line_break: usize,
-) -> bool {
+) -> Result<(), Failure> {
     let (chunk, byte_idx, char_idx, before) = found;
     let start = unit.place(char_idx);
-    let is_in = match rope.try_byte_to_line(byte_idx.saturating_add(chunk.len())) {
-        Ok(end) => line_break <= end,
-        Err(_) => false,
-    };
-    [start.byte_idx, start.line_idx] == [byte_idx, before]
-        && (before < line_break || byte_idx == 0)
-        && is_in
-}
-
-fn has_chunk_at_break(rope: &Rope, unit: &Unit, line_break: usize) -> bool {
-    match rope.get_chunk_at_line_break(line_break) {
-        Some(found) => has_break(rope, unit, found, line_break),
-        None => false,
-    }
-}
-
-fn chunks_at_line_breaks_of_one(long: &Long) -> bool {
-    let break_count = long.unit.break_count();
-    has_chunk_at_break(&long.rope, &long.unit, 0)
-        && has_chunk_at_break(&long.rope, &long.unit, 1.min(break_count))
-        && has_chunk_at_break(&long.rope, &long.unit, break_count / 2)
-        && has_chunk_at_break(&long.rope, &long.unit, break_count)
-}
-
-#[test]
-fn chunks_at_line_breaks(rt: HostRuntime) -> Result<(), Fail> {
-    let all = all(rt.alloc())?;
-    for long in &all {
-        assert!(rt; chunks_at_line_breaks_of_one(long));
-    }
+    let end = rope.try_byte_to_line(byte_idx.saturating_add(chunk.len()))?;
+    holds!(line_break <= end);
+    same!([start.byte_idx, start.line_idx], [byte_idx, before]);
+    holds!(before < line_break || byte_idx == 0);
     Ok(())
 }
 
-/// Whether a place has its line and column, and they lead back to it.
-fn has_position(rope: &Rope, unit: &Unit, place: Place) -> bool {
+fn expect_chunk_at_break(rope: &Rope, unit: &Unit, line_break: usize) -> Result<(), Failure> {
+    let found = some!(rope.get_chunk_at_line_break(line_break));
+    expect_break(rope, unit, found, line_break)
+}
+
+fn chunks_at_line_breaks_of_one(long: &Long) -> Result<(), Failure> {
+    let break_count = long.unit.break_count();
+    expect_chunk_at_break(&long.rope, &long.unit, 0)?;
+    expect_chunk_at_break(&long.rope, &long.unit, 1.min(break_count))?;
+    expect_chunk_at_break(&long.rope, &long.unit, break_count / 2)?;
+    expect_chunk_at_break(&long.rope, &long.unit, break_count)
+}
+
+#[test]
+fn chunks_of_2_to_the_62_bytes_are_found_by_line_breaks(rt: HostRuntime) -> Result<(), Failure> {
+    of_each(rt.alloc(), chunks_at_line_breaks_of_one)
+}
+
+/// Fails unless a place has its line and column, and they lead back to it.
+fn expect_position(rope: &Rope, unit: &Unit, place: Place) -> Result<(), Failure> {
     let start = unit.place(place.line_char);
     let position = Position {
         line: place.line_idx,
         column: place.unit_idx.saturating_sub(start.unit_idx),
     };
-    rope.try_char_to_position(place.char_idx) == Ok(position)
-        && rope.try_position_to_char(position) == Ok(place.char_idx)
+    same!(rope.try_char_to_position(place.char_idx), Ok(position));
+    same!(rope.try_position_to_char(position), Ok(place.char_idx));
+    Ok(())
 }
 
-fn positions_of_one(long: &Long) -> bool {
+fn positions_of_one(long: &Long) -> Result<(), Failure> {
     for place in &long.unit.places() {
-        if !has_position(&long.rope, &long.unit, *place) {
-            return false;
-        }
+        within(
+            format_args!("character {}", place.char_idx),
+            expect_position(&long.rope, &long.unit, *place),
+        )?;
     }
-    true
+    Ok(())
 }
 
-/// Whether a line is refused that lies past the last of so many.
-fn refuses_line(rope: &Rope, line: usize, lines: usize) -> bool {
+/// Fails unless a line is refused that lies past the last of so many.
+fn refuses_line(rope: &Rope, line: usize, lines: usize) -> Result<(), Failure> {
     let refused = Err(Error::LineIndexOutOfBounds(line, lines));
-    rope.try_position_to_char(Position { line, column: 0 }) == refused
+    same!(
+        rope.try_position_to_char(Position { line, column: 0 }),
+        refused
+    );
+    Ok(())
 }
 
-fn positions_past_the_end_of_one(long: &Long) -> bool {
+fn positions_past_the_end_of_one(long: &Long) -> Result<(), Failure> {
     let lines = long.unit.break_count().saturating_add(1);
     let refused = Err(Error::CharIndexOutOfBounds(usize::MAX, long.unit.char_count()));
-    refuses_line(&long.rope, lines, lines)
-        && refuses_line(&long.rope, usize::MAX, lines)
-        && long.rope.try_char_to_position(usize::MAX) == refused
+    refuses_line(&long.rope, lines, lines)?;
+    refuses_line(&long.rope, usize::MAX, lines)?;
+    same!(long.rope.try_char_to_position(usize::MAX), refused);
+    Ok(())
 }
 
 #[test]
-fn positions(rt: HostRuntime) -> Result<(), Fail> {
-    let all = all(rt.alloc())?;
-    for long in &all {
-        assert!(rt; positions_of_one(long) && positions_past_the_end_of_one(long));
-    }
-    Ok(())
+fn positions_of_2_to_the_62_bytes_lead_back(rt: HostRuntime) -> Result<(), Failure> {
+    of_each(rt.alloc(), |long| {
+        positions_of_one(long)?;
+        positions_past_the_end_of_one(long)
+    })
 }

@@ -1,9 +1,11 @@
 //! Slices of plain texts.
 use crate::cuts::lens;
+use rope_plain::failure::Failure;
+use rope_plain::same;
 use ropey::{LineBreaks, RopeSlice};
 
 #[test]
-fn a_plain_text_is_one_chunk(rt: HostRuntime) {
+fn a_plain_text_is_one_chunk() -> Result<(), Failure> {
     let slice = RopeSlice::from("abc");
     let found = [
         slice.try_chunk_at_byte(3).ok(),
@@ -12,25 +14,31 @@ fn a_plain_text_is_one_chunk(rt: HostRuntime) {
         slice.get_chunk_at_line_break(2),
     ];
     let whole = Some(("abc", 0, 0, 0));
-    assert!(rt; found == [whole, whole, whole, None]);
+    same!(found, [whole, whole, whole, None]);
+    Ok(())
 }
 
 #[test]
-fn the_empty_text(rt: HostRuntime) {
+fn the_empty_text_is_one_line() -> Result<(), Failure> {
     let slice = RopeSlice::from("");
-    assert!(rt; slice.as_str() == Some("") && lens(&slice) == [0, 0, 1, 0]);
+    same!(slice.as_str(), Some(""));
+    same!(lens(&slice), [0, 0, 1, 0]);
+    Ok(())
 }
 
-/// Whether a text has so many lines by a set of line breaks.
-fn has_lines(breaks: LineBreaks, lines: usize) -> bool {
+/// Fails unless a text has so many lines by a set of line breaks.
+fn expect_lines(breaks: LineBreaks, lines: usize) -> Result<(), Failure> {
     let slice = RopeSlice::from_str_with("a\r\nb\rc\u{2028}", breaks);
-    slice.line_breaks() == breaks && slice.len_lines() == lines
+    same!(slice.line_breaks(), breaks);
+    same!(slice.len_lines(), lines);
+    Ok(())
 }
 
 #[test]
-fn lines_by_set(rt: HostRuntime) {
-    let is_by_lf = has_lines(LineBreaks::Lf, 2);
-    let is_by_crlf = has_lines(LineBreaks::CrLf, 3);
-    assert!(rt; is_by_lf && is_by_crlf && has_lines(LineBreaks::Unicode, 4));
-    assert!(rt; RopeSlice::from("a").line_breaks() == LineBreaks::Unicode);
+fn a_plain_text_has_lines_by_its_set() -> Result<(), Failure> {
+    expect_lines(LineBreaks::Lf, 2)?;
+    expect_lines(LineBreaks::CrLf, 3)?;
+    expect_lines(LineBreaks::Unicode, 4)?;
+    same!(RopeSlice::from("a").line_breaks(), LineBreaks::Unicode);
+    Ok(())
 }

@@ -1,9 +1,11 @@
-//! Ranges of all six kinds, with bounds at the ends of a text, past them, reversed, and as great as an index may be.
+//! Ranges of all six kinds, with bounds at the ends of a text, past them, reversed, and as great as
+//! an index may be.
 use crate::expected::{Told, behind};
 use crate::long_texts::{UNITS, WHOLE};
+use rope_plain::failure::{Failure, within};
+use rope_plain::{holds, same};
 use ropey::{IndexRange, Rope, RopeSlice};
 use std::alloc::Global;
-use std::test::Fail;
 
 /// Characters of one to four bytes, and a pair: 6 characters in 12 bytes.
 const TEXT: &str = "aé\r\nこ🐸";
@@ -31,186 +33,217 @@ const BOUNDS: [usize; 12] = [
     usize::MAX,
 ];
 
-/// A removal of the range is refused by its error and changes nothing, or else takes its characters out.
-fn is_removed<R: IndexRange>(rope: &mut Rope, range: R, told: Told) -> bool {
+/// A removal of the range is refused by its error and changes nothing, or else takes its characters
+/// out.
+fn expect_removed<R: IndexRange>(rope: &mut Rope, range: R, told: Told) -> Result<(), Failure> {
     let answer = rope.try_remove(range);
+    same!(answer.err(), told.char_error(CHARS));
     let left = match told.char_error(CHARS) {
-        Some(error) if answer == Err(error) => CHARS,
-        None if answer == Ok(()) => CHARS.saturating_sub(told.count(CHARS)),
-        _ => return false,
+        Some(_) => CHARS,
+        None => CHARS.saturating_sub(told.count(CHARS)),
     };
-    rope.len_chars() == left && (left != CHARS || rope.eq_str(TEXT))
+    same!(rope.len_chars(), left);
+    holds!(left != CHARS || rope.eq_str(TEXT));
+    Ok(())
 }
 
-fn removes<R: IndexRange>(alloc: Global, range: R, told: Told) -> bool {
-    match Rope::from_str(alloc, TEXT) {
-        Ok(mut rope) => is_removed(&mut rope, range, told),
-        Err(_) => false,
-    }
+fn removes<R: IndexRange>(alloc: Global, range: R, told: Told) -> Result<(), Failure> {
+    let mut rope = Rope::from_str(alloc, TEXT)?;
+    expect_removed(&mut rope, range, told)
 }
 
-/// A slice by characters is one exactly where the range is none that a removal refuses, and has its characters.
-fn is_sliced(answer: Option<RopeSlice<'_>>, told: Told) -> bool {
+/// A slice by characters is one exactly where the range is none that a removal refuses, and has its
+/// characters.
+fn expect_sliced(answer: Option<RopeSlice<'_>>, told: Told) -> Result<(), Failure> {
     match (answer, told.char_error(CHARS)) {
-        (Some(slice), None) => slice.len_chars() == told.count(CHARS),
-        (None, Some(_)) => true,
-        _ => false,
+        (Some(slice), None) => {
+            same!(slice.len_chars(), told.count(CHARS));
+            Ok(())
+        }
+        (None, Some(_)) => Ok(()),
+        (Some(_), Some(error)) => Err(Failure::new(format_args!("cut, not {error:?}"))),
+        (None, None) => Err(Failure::new("not cut")),
     }
 }
 
 /// A slice by bytes is refused by its error, or else has its bytes.
-fn is_byte_sliced(answer: ropey::Result<RopeSlice<'_>>, told: Told) -> bool {
+fn expect_byte_sliced(answer: ropey::Result<RopeSlice<'_>>, told: Told) -> Result<(), Failure> {
     match (answer, told.byte_error(&STARTS, BYTES)) {
-        (Ok(slice), None) => slice.len_bytes() == told.count(BYTES),
-        (Err(error), Some(expected)) => error == expected,
-        _ => false,
+        (Ok(slice), None) => {
+            same!(slice.len_bytes(), told.count(BYTES));
+            Ok(())
+        }
+        (Err(error), Some(expected)) => {
+            same!(error, expected);
+            Ok(())
+        }
+        (Ok(_), Some(error)) => Err(Failure::new(format_args!("cut, not {error:?}"))),
+        (Err(error), None) => Err(Failure::new(format_args!("not cut, but {error:?}"))),
     }
 }
 
-/// Whether slices of a text by the range are as told, by characters and by bytes.
-macro_rules! is_cut {
+/// Fails unless slices of a text by the range are as told, by characters and by bytes.
+macro_rules! cut {
     ($text:ident, $range:expr, $told:ident) => {
-        is_sliced($text.get_slice($range), $told)
-            && is_byte_sliced($text.try_byte_slice($range), $told)
-            && $text.get_byte_slice($range).is_none()
-                == $told.byte_error(&STARTS, BYTES).is_some()
+        expect_sliced($text.get_slice($range), $told)?;
+        expect_byte_sliced($text.try_byte_slice($range), $told)?;
+        same!(
+            $text.get_byte_slice($range).is_none(),
+            $told.byte_error(&STARTS, BYTES).is_some()
+        );
     };
 }
 
-/// Whether a rope and a plain text are cut as told.
-macro_rules! are_cut {
+/// Fails unless a rope and a plain text are cut as told.
+macro_rules! both_cut {
     ($rope:ident, $range:expr, $told:ident) => {{
         let slice = RopeSlice::from(TEXT);
-        is_cut!($rope, $range, $told) && is_cut!(slice, $range, $told)
+        cut!($rope, $range, $told);
+        cut!(slice, $range, $told);
     }};
 }
 
 /// Ranges with a start and an excluded end.
-fn half_open(alloc: Global, rope: &Rope, start: usize, end: usize) -> bool {
+fn half_open(alloc: Global, rope: &Rope, start: usize, end: usize) -> Result<(), Failure> {
     let told = Told {
         start: Some(start),
         end: Some(end),
     };
-    removes(alloc, start..end, told) && are_cut!(rope, start..end, told)
+    removes(alloc, start..end, told)?;
+    both_cut!(rope, start..end, told);
+    Ok(())
 }
 
 /// Ranges with a start and a last index.
-fn closed(alloc: Global, rope: &Rope, start: usize, end: usize) -> bool {
+fn closed(alloc: Global, rope: &Rope, start: usize, end: usize) -> Result<(), Failure> {
     let told = Told {
         start: Some(start),
         end: Some(behind(end)),
     };
-    removes(alloc, start..=end, told) && are_cut!(rope, start..=end, told)
+    removes(alloc, start..=end, told)?;
+    both_cut!(rope, start..=end, told);
+    Ok(())
 }
 
 /// Ranges with a start and no end.
-fn open_behind(alloc: Global, rope: &Rope, start: usize) -> bool {
+fn open_behind(alloc: Global, rope: &Rope, start: usize) -> Result<(), Failure> {
     let told = Told {
         start: Some(start),
         end: None,
     };
-    removes(alloc, start.., told) && are_cut!(rope, start.., told)
+    removes(alloc, start.., told)?;
+    both_cut!(rope, start.., told);
+    Ok(())
 }
 
 /// Ranges with an excluded end and no start.
-fn open_before(alloc: Global, rope: &Rope, end: usize) -> bool {
+fn open_before(alloc: Global, rope: &Rope, end: usize) -> Result<(), Failure> {
     let told = Told {
         start: None,
         end: Some(end),
     };
-    removes(alloc, ..end, told) && are_cut!(rope, ..end, told)
+    removes(alloc, ..end, told)?;
+    both_cut!(rope, ..end, told);
+    Ok(())
 }
 
 /// Ranges with a last index and no start.
-fn up_to(alloc: Global, rope: &Rope, end: usize) -> bool {
+fn up_to(alloc: Global, rope: &Rope, end: usize) -> Result<(), Failure> {
     let told = Told {
         start: None,
         end: Some(behind(end)),
     };
-    removes(alloc, ..=end, told) && are_cut!(rope, ..=end, told)
+    removes(alloc, ..=end, told)?;
+    both_cut!(rope, ..=end, told);
+    Ok(())
 }
 
 /// The range with no bound.
-fn open(alloc: Global, rope: &Rope) -> bool {
+fn open(alloc: Global, rope: &Rope) -> Result<(), Failure> {
     let told = Told {
         start: None,
         end: None,
     };
-    removes(alloc, .., told) && are_cut!(rope, .., told)
+    removes(alloc, .., told)?;
+    both_cut!(rope, .., told);
+    Ok(())
 }
 
-fn from_one_start(alloc: Global, rope: &Rope, start: usize) -> bool {
+fn from_one_start(alloc: Global, rope: &Rope, start: usize) -> Result<(), Failure> {
     for end in &BOUNDS {
-        if !half_open(alloc, rope, start, *end) || !closed(alloc, rope, start, *end) {
-            return false;
-        }
+        within(
+            format_args!("{start}..{end}"),
+            half_open(alloc, rope, start, *end),
+        )?;
+        within(
+            format_args!("{start}..={end}"),
+            closed(alloc, rope, start, *end),
+        )?;
     }
-    true
+    Ok(())
 }
 
-fn from_each_start(alloc: Global, rope: &Rope) -> bool {
+fn from_each_start(alloc: Global, rope: &Rope) -> Result<(), Failure> {
     for start in &BOUNDS {
-        if !from_one_start(alloc, rope, *start) {
-            return false;
-        }
+        from_one_start(alloc, rope, *start)?;
     }
-    true
-}
-
-#[test]
-fn of_two_bounds(rt: HostRuntime) -> Result<(), Fail> {
-    let rope = Rope::from_str(rt.alloc(), TEXT)?;
-    assert!(rt; from_each_start(rt.alloc(), &rope));
     Ok(())
 }
 
-fn from_or_to_each_bound(alloc: Global, rope: &Rope) -> bool {
+#[test]
+fn ranges_of_two_bounds_cut_or_are_refused(rt: HostRuntime) -> Result<(), Failure> {
+    let rope = Rope::from_str(rt.alloc(), TEXT)?;
+    from_each_start(rt.alloc(), &rope)
+}
+
+fn from_or_to_each_bound(alloc: Global, rope: &Rope) -> Result<(), Failure> {
     for bound in &BOUNDS {
-        if !open_behind(alloc, rope, *bound)
-            || !open_before(alloc, rope, *bound)
-            || !up_to(alloc, rope, *bound)
-        {
-            return false;
-        }
+        within(format_args!("{bound}.."), open_behind(alloc, rope, *bound))?;
+        within(format_args!("..{bound}"), open_before(alloc, rope, *bound))?;
+        within(format_args!("..={bound}"), up_to(alloc, rope, *bound))?;
     }
-    true
-}
-
-#[test]
-fn of_one_bound_and_of_none(rt: HostRuntime) -> Result<(), Fail> {
-    let rope = Rope::from_str(rt.alloc(), TEXT)?;
-    assert!(rt; open(rt.alloc(), &rope) && from_or_to_each_bound(rt.alloc(), &rope));
     Ok(())
 }
 
-/// Whether a range within the text is cut out by its excluded end, and not by a last index that is the text's end.
-fn is_cut_to_its_end(rope: &Rope, start: usize, end: usize) -> bool {
+#[test]
+fn ranges_of_one_bound_or_none_cut_or_are_refused(rt: HostRuntime) -> Result<(), Failure> {
+    let rope = Rope::from_str(rt.alloc(), TEXT)?;
+    open(rt.alloc(), &rope)?;
+    from_or_to_each_bound(rt.alloc(), &rope)
+}
+
+/// Fails unless a range within the text is cut out by its excluded end, and not by a last index
+/// that is the text's end.
+fn expect_cut_to_its_end(rope: &Rope, start: usize, end: usize) -> Result<(), Failure> {
     let are_none = [
         rope.get_slice(start..end).is_none(),
         rope.get_byte_slice(start..end).is_none(),
         rope.get_slice(start..=end).is_none(),
         rope.get_byte_slice(start..=end).is_none(),
     ];
-    are_none == [false, false, true, true]
+    same!(are_none, [false, false, true, true]);
+    Ok(())
 }
 
-fn is_cut_at_its_end(rope: &Rope) -> bool {
+fn expect_cut_at_its_end(rope: &Rope) -> Result<(), Failure> {
     let len = WHOLE;
-    is_cut_to_its_end(rope, len - 1, len)
-        && is_cut_to_its_end(rope, len, len)
-        && is_cut_to_its_end(rope, 0, len)
-        && rope.get_slice(..=len - 1).is_some()
+    expect_cut_to_its_end(rope, len - 1, len)?;
+    expect_cut_to_its_end(rope, len, len)?;
+    expect_cut_to_its_end(rope, 0, len)?;
+    holds!(rope.get_slice(..=len - 1).is_some());
+    Ok(())
 }
 
-fn is_not_cut_past_its_end(rope: &Rope) -> bool {
-    rope.get_slice(WHOLE + 1..).is_none()
-        && rope.get_slice(usize::MAX..).is_none()
-        && rope.get_byte_slice(..=usize::MAX).is_none()
+fn expect_not_cut_past_its_end(rope: &Rope) -> Result<(), Failure> {
+    holds!(rope.get_slice(WHOLE + 1..).is_none());
+    holds!(rope.get_slice(usize::MAX..).is_none());
+    holds!(rope.get_byte_slice(..=usize::MAX).is_none());
+    Ok(())
 }
 
 #[test]
-fn a_pair_of_a_long_text(rt: HostRuntime) -> Result<(), Fail> {
+fn ranges_of_2_to_the_62_pairs_end_where_the_text_ends(rt: HostRuntime) -> Result<(), Failure> {
     let rope = UNITS[1].whole(rt.alloc())?;
-    assert!(rt; is_cut_at_its_end(&rope) && is_not_cut_past_its_end(&rope));
-    Ok(())
+    expect_cut_at_its_end(&rope)?;
+    expect_not_cut_past_its_end(&rope)
 }

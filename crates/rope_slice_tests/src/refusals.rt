@@ -1,6 +1,7 @@
 //! Ranges of bytes and of characters that are refused.
+use rope_plain::failure::Failure;
+use rope_plain::{holds, same};
 use ropey::{Error, Rope, RopeSlice};
-use std::test::Fail;
 
 /// What the ranges of the bytes of `é` are refused with.
 const REFUSALS: [Option<Error>; 4] = [
@@ -10,8 +11,8 @@ const REFUSALS: [Option<Error>; 4] = [
     Some(Error::ByteRangeOutOfBounds(Some(3), None, 2)),
 ];
 
-/// Whether the ranges of the bytes of `é` are refused so.
-macro_rules! is_refused {
+/// Fails unless the ranges of the bytes of `é` are refused so.
+macro_rules! refuses {
     ($text:ident) => {{
         let refused = [
             $text.try_byte_slice(1..1).err(),
@@ -19,28 +20,30 @@ macro_rules! is_refused {
             $text.try_byte_slice(9..7).err(),
             $text.try_byte_slice(3..).err(),
         ];
-        refused == REFUSALS && $text.get_byte_slice(1..1).is_none()
+        same!(refused, REFUSALS);
+        holds!($text.get_byte_slice(1..1).is_none());
     }};
 }
 
-fn refuses_bytes(rope: &Rope) -> bool {
-    is_refused!(rope)
-}
-
-#[test]
-fn bytes_of_a_rope(rt: HostRuntime) -> Result<(), Fail> {
-    let rope = Rope::from_str(rt.alloc(), "é")?;
-    assert!(rt; refuses_bytes(&rope));
+fn refuses_bytes(rope: &Rope) -> Result<(), Failure> {
+    refuses!(rope);
     Ok(())
 }
 
 #[test]
-fn bytes_of_a_slice(rt: HostRuntime) {
-    let slice = RopeSlice::from("é");
-    assert!(rt; is_refused!(slice));
+fn ranges_within_a_character_of_a_rope_are_refused(rt: HostRuntime) -> Result<(), Failure> {
+    let rope = Rope::from_str(rt.alloc(), "é")?;
+    refuses_bytes(&rope)
 }
 
-fn refuses_chars(rope: &Rope, slice: RopeSlice<'_>) -> bool {
+#[test]
+fn ranges_within_a_character_of_a_slice_are_refused() -> Result<(), Failure> {
+    let slice = RopeSlice::from("é");
+    refuses!(slice);
+    Ok(())
+}
+
+fn refuses_chars(rope: &Rope, slice: RopeSlice<'_>) -> Result<(), Failure> {
     let are_none = [
         rope.get_slice(2..1).is_none(),
         slice.get_slice(2..1).is_none(),
@@ -51,12 +54,12 @@ fn refuses_chars(rope: &Rope, slice: RopeSlice<'_>) -> bool {
         rope.get_slice(2..).is_none(),
         slice.get_slice(2..).is_none(),
     ];
-    are_none == [true, true, true, true, true, true, false, false]
+    same!(are_none, [true, true, true, true, true, true, false, false]);
+    Ok(())
 }
 
 #[test]
-fn chars(rt: HostRuntime) -> Result<(), Fail> {
+fn ranges_of_characters_past_the_end_are_refused(rt: HostRuntime) -> Result<(), Failure> {
     let rope = Rope::from_str(rt.alloc(), "éa")?;
-    assert!(rt; refuses_chars(&rope, RopeSlice::from("éa")));
-    Ok(())
+    refuses_chars(&rope, RopeSlice::from("éa"))
 }

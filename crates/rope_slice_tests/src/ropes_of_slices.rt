@@ -1,37 +1,38 @@
 //! Ropes that are made of slices.
+use rope_plain::failure::Failure;
 use rope_plain::texts::repeated;
+use rope_plain::{same, some};
 use ropey::{LineBreaks, Rope, RopeSlice};
 use std::alloc::Global;
-use std::test::Fail;
 
 /// 3,000 lines that end in CR LF.
-fn lines(alloc: Global) -> Result<Rope, Fail> {
+fn lines(alloc: Global) -> Result<Rope, Failure> {
     let text = repeated(alloc, "Hello!\r\n", 3_000)?;
     Ok(Rope::from_str_with(alloc, text.as_str(), LineBreaks::CrLf)?)
 }
 
-fn is_part(part: &Rope) -> bool {
-    [part.len_chars(), part.len_lines()] == [20_001, 2_502]
-        && [part.get_char(0), part.get_char(20_000)] == [Some('\n'), Some('\n')]
-        && part.line_breaks() == LineBreaks::CrLf
+fn expect_part(part: &Rope) -> Result<(), Failure> {
+    same!([part.len_chars(), part.len_lines()], [20_001, 2_502]);
+    same!(
+        [part.get_char(0), part.get_char(20_000)],
+        [Some('\n'), Some('\n')]
+    );
+    same!(part.line_breaks(), LineBreaks::CrLf);
+    Ok(())
 }
 
-/// Whether a rope of a slice is all but the first CR and what is before it, and the last CR LF.
-fn has_part(alloc: Global, slice: Option<RopeSlice<'_>>) -> bool {
-    let Some(slice) = slice else {
-        return false;
-    };
-    match Rope::from_slice(alloc, slice) {
-        Ok(part) => is_part(&part),
-        Err(_) => false,
-    }
+/// Fails unless a rope of a slice is all but the first CR and what is before it, and the last CR
+/// LF.
+fn expect_has_part(alloc: Global, slice: Option<RopeSlice<'_>>) -> Result<(), Failure> {
+    let slice = some!(slice);
+    let part = Rope::from_slice(alloc, slice)?;
+    expect_part(&part)
 }
 
 #[test]
-fn of_a_part_of_a_rope(rt: HostRuntime) -> Result<(), Fail> {
+fn a_rope_of_a_slice_has_its_text_and_set(rt: HostRuntime) -> Result<(), Failure> {
     let rope = lines(rt.alloc())?;
-    assert!(rt; has_part(rt.alloc(), rope.get_slice(7..20_008)));
-    Ok(())
+    expect_has_part(rt.alloc(), rope.get_slice(7..20_008))
 }
 
 /// The characters and the lines of a rope of a slice.
@@ -42,13 +43,14 @@ fn counts(alloc: Global, slice: RopeSlice<'_>) -> Option<[usize; 2]> {
     }
 }
 
-fn are_counted(alloc: Global) -> bool {
+fn expect_counted(alloc: Global) -> Result<(), Failure> {
     let lf = RopeSlice::from_str_with("a\u{b}b\n", LineBreaks::Lf);
     let found = [counts(alloc, RopeSlice::from("a\u{b}b")), counts(alloc, lf)];
-    found == [Some([3, 2]), Some([4, 2])]
+    same!(found, [Some([3, 2]), Some([4, 2])]);
+    Ok(())
 }
 
 #[test]
-fn of_a_plain_text(rt: HostRuntime) {
-    assert!(rt; are_counted(rt.alloc()));
+fn a_rope_of_a_plain_text_has_its_text_and_set(rt: HostRuntime) -> Result<(), Failure> {
+    expect_counted(rt.alloc())
 }

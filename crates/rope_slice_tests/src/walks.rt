@@ -1,110 +1,22 @@
-//! Random walks of cursors over random ropes, slices and plain texts, against plain lists of their items.
+//! Random walks of cursors over random ropes, slices and plain texts, against plain lists of their
+//! items.
 use crate::compare::compare_whole;
-use crate::plain_slice::{PlainSlice, is_text};
-use crate::random_slices::{Pair, SETS, edited, random_range, slice_of};
+use crate::random_slices::{edited, random_range, slice_of};
+use rope_plain::compare::SETS;
+use rope_plain::failure::{Failure, within};
 use rope_plain::numbers::Numbers;
+use rope_plain::pair::Pair;
 use rope_plain::plain_cursor::PlainCursor;
+use rope_plain::plain_slice::PlainSlice;
 use rope_plain::plain_text::{char_to_byte, char_to_line, line_to_char};
-use rope_plain::texts::{chars_of, random_text};
-use ropey::iter::{Bytes, Chars, Chunks, Lines};
-use ropey::{Error, LineBreaks, RopeSlice};
+use rope_plain::texts::{chars_of, expect_chars, random_text};
+use rope_plain::walker::{Item, Walker};
+use rope_plain::{same, some};
+use ropey::{LineBreaks, RopeSlice};
 use std::alloc::{AllocError, Global};
-use std::test::Fail;
 
 /// How many steps a walk has.
 const STEPS: usize = 60;
-
-/// An item that a cursor gave.
-#[derive(Clone, Copy)]
-enum Item<'a> {
-    Byte(u8),
-    Char(char),
-    Chunk(&'a str),
-    Line(RopeSlice<'a>),
-}
-
-/// A cursor of any kind.
-trait Walker<'a> {
-    fn ahead(&mut self) -> Option<Item<'a>>;
-
-    fn back(&mut self) -> Option<Item<'a>>;
-
-    fn turn(&mut self);
-    /// How many items are left, where the cursor says it.
-    fn left_over(&self) -> Option<usize>;
-}
-
-impl<'a> Walker<'a> for Bytes<'a> {
-    fn ahead(&mut self) -> Option<Item<'a>> {
-        Some(Item::Byte(self.next()?))
-    }
-
-    fn back(&mut self) -> Option<Item<'a>> {
-        Some(Item::Byte(self.prev()?))
-    }
-
-    fn turn(&mut self) {
-        self.reverse();
-    }
-
-    fn left_over(&self) -> Option<usize> {
-        Some(self.len())
-    }
-}
-
-impl<'a> Walker<'a> for Chars<'a> {
-    fn ahead(&mut self) -> Option<Item<'a>> {
-        Some(Item::Char(self.next()?))
-    }
-
-    fn back(&mut self) -> Option<Item<'a>> {
-        Some(Item::Char(self.prev()?))
-    }
-
-    fn turn(&mut self) {
-        self.reverse();
-    }
-
-    fn left_over(&self) -> Option<usize> {
-        Some(self.len())
-    }
-}
-
-impl<'a> Walker<'a> for Chunks<'a> {
-    fn ahead(&mut self) -> Option<Item<'a>> {
-        Some(Item::Chunk(self.next()?))
-    }
-
-    fn back(&mut self) -> Option<Item<'a>> {
-        Some(Item::Chunk(self.prev()?))
-    }
-
-    fn turn(&mut self) {
-        self.reverse();
-    }
-
-    fn left_over(&self) -> Option<usize> {
-        None
-    }
-}
-
-impl<'a> Walker<'a> for Lines<'a> {
-    fn ahead(&mut self) -> Option<Item<'a>> {
-        Some(Item::Line(self.next()?))
-    }
-
-    fn back(&mut self) -> Option<Item<'a>> {
-        Some(Item::Line(self.prev()?))
-    }
-
-    fn turn(&mut self) {
-        self.reverse();
-    }
-
-    fn left_over(&self) -> Option<usize> {
-        Some(self.len())
-    }
-}
 
 /// A slice's plain partner, its bytes, and where its chunks end.
 #[derive(Drop)]
@@ -163,42 +75,49 @@ impl<'p> Items<'p> {
         (index, start)
     }
 
-    /// Whether this is the chunk with that index.
-    fn is_chunk(&self, chunk: &str, index: usize) -> bool {
+    /// Fails unless this is the chunk with that index.
+    fn expect_chunk(&self, chunk: &str, index: usize) -> Result<(), Failure> {
         let start = match index.checked_sub(1) {
             Some(before) => self.ends.get(before),
             None => Some(&0),
         };
         match (start, self.ends.get(index)) {
-            (Some(start), Some(end)) => is_text(chunk, self.plain.part(*start, *end).text),
-            _ => false,
+            (Some(start), Some(end)) => { expect_chars(chunk, self.plain.part(*start, *end).text) }
+            _ => Err(Failure::new(format_args!("chunk {chunk:?}, not none"))),
         }
     }
 
-    /// Whether this is the line with that index.
-    fn is_line(&self, line: &RopeSlice<'_>, index: usize) -> bool {
+    /// Fails unless this is the line with that index.
+    fn expect_line(&self, line: &RopeSlice<'_>, index: usize) -> Result<(), Failure> {
         let next = index.saturating_add(1);
         let start = line_to_char(self.plain.text, index, self.plain.breaks);
         let end = line_to_char(self.plain.text, next, self.plain.breaks);
-        compare_whole(line, &self.plain.part(start, end)).is_ok()
+        compare_whole(line, &self.plain.part(start, end))
     }
 
-    /// Whether this is the item with that index.
-    fn is_item(&self, item: Item<'_>, index: usize) -> bool {
+    /// Fails unless this is the item with that index.
+    fn expect_item(&self, item: Item<'_>, index: usize) -> Result<(), Failure> {
         match item {
-            Item::Byte(byte) => self.bytes.as_str().as_bytes().get(index) == Some(&byte),
-            Item::Char(c) => self.plain.text.get(index) == Some(&c),
-            Item::Chunk(chunk) => self.is_chunk(chunk, index),
-            Item::Line(line) => self.is_line(&line, index),
+            Item::Byte(byte) => {
+                same!(self.bytes.as_str().as_bytes().get(index), Some(&byte));
+                Ok(())
+            }
+            Item::Char(c) => {
+                same!(self.plain.text.get(index), Some(&c));
+                Ok(())
+            }
+            Item::Chunk(chunk) => self.expect_chunk(chunk, index),
+            Item::Line(line) => self.expect_line(&line, index),
         }
     }
 
-    /// Whether a step of the cursor and one of the partner gave the same.
-    fn agree(&self, item: Option<Item<'_>>, index: Option<usize>) -> bool {
+    /// Fails unless a step of the cursor and one of the partner gave the same.
+    fn agree(&self, item: Option<Item<'_>>, index: Option<usize>) -> Result<(), Failure> {
         match (item, index) {
-            (Some(item), Some(index)) => self.is_item(item, index),
-            (None, None) => true,
-            _ => false,
+            (Some(item), Some(index)) => self.expect_item(item, index),
+            (None, None) => Ok(()),
+            (Some(_), None) => Err(Failure::new("an item, not none")),
+            (None, Some(index)) => Err(Failure::new(format_args!("none, not item {index}"))),
         }
     }
 }
@@ -209,37 +128,40 @@ fn steps_agree<'a, W: Walker<'a>>(
     walker: &mut W,
     plain: &mut PlainCursor,
     items: &Items<'_>,
-) -> bool {
-    let agrees = match numbers.up_to(8) {
+) -> Result<(), Failure> {
+    match numbers.up_to(8) {
         0 => {
             walker.turn();
             plain.reverse();
-            true
         }
-        1 | 2 | 3 => items.agree(walker.back(), plain.prev()),
-        _ => items.agree(walker.ahead(), plain.next()),
-    };
-    let counts = match walker.left_over() {
-        Some(count) => count == plain.left_over(),
-        None => true,
-    };
-    agrees && counts
+        1 | 2 | 3 => {
+            within("prev", items.agree(walker.back(), plain.prev()))?;
+        }
+        _ => {
+            within("next", items.agree(walker.ahead(), plain.next()))?;
+        }
+    }
+    if let Some(count) = walker.left_over() {
+        same!(count, plain.left_over());
+    }
+    Ok(())
 }
 
-/// Whether a walk from where the cursor stands goes as that of its partner.
-fn is_walk<'a, W: Walker<'a>>(
+/// Fails unless a walk from where the cursor stands goes as that of its partner.
+fn expect_walk<'a, W: Walker<'a>>(
     numbers: &mut Numbers,
     walker: &mut W,
     partner: PlainCursor,
     items: &Items<'_>,
-) -> bool {
+) -> Result<(), Failure> {
     let mut plain = partner;
-    for _ in 0..STEPS {
-        if !steps_agree(numbers, walker, &mut plain, items) {
-            return false;
-        }
+    for step in 0..STEPS {
+        within(
+            format_args!("step {step}"),
+            steps_agree(numbers, walker, &mut plain, items),
+        )?;
     }
-    true
+    Ok(())
 }
 
 fn walks_bytes(
@@ -247,13 +169,11 @@ fn walks_bytes(
     slice: &RopeSlice<'_>,
     items: &Items<'_>,
     char_idx: usize,
-) -> bool {
+) -> Result<(), Failure> {
     let byte_idx = char_to_byte(items.plain.text, char_idx);
     let partner = PlainCursor::at(items.bytes.len(), byte_idx);
-    match slice.get_bytes_at(byte_idx) {
-        Some(mut cursor) => is_walk(numbers, &mut cursor, partner, items),
-        None => false,
-    }
+    let mut cursor = some!(slice.get_bytes_at(byte_idx));
+    expect_walk(numbers, &mut cursor, partner, items)
 }
 
 fn walks_chars(
@@ -261,12 +181,10 @@ fn walks_chars(
     slice: &RopeSlice<'_>,
     items: &Items<'_>,
     char_idx: usize,
-) -> bool {
+) -> Result<(), Failure> {
     let partner = PlainCursor::at(items.plain.text.len(), char_idx);
-    match slice.get_chars_at(char_idx) {
-        Some(mut cursor) => is_walk(numbers, &mut cursor, partner, items),
-        None => false,
-    }
+    let mut cursor = some!(slice.get_chars_at(char_idx));
+    expect_walk(numbers, &mut cursor, partner, items)
 }
 
 fn walks_lines(
@@ -274,12 +192,10 @@ fn walks_lines(
     slice: &RopeSlice<'_>,
     items: &Items<'_>,
     line_idx: usize,
-) -> bool {
+) -> Result<(), Failure> {
     let partner = PlainCursor::at(items.line_count(), line_idx);
-    match slice.get_lines_at(line_idx) {
-        Some(mut cursor) => is_walk(numbers, &mut cursor, partner, items),
-        None => false,
-    }
+    let mut cursor = some!(slice.get_lines_at(line_idx));
+    expect_walk(numbers, &mut cursor, partner, items)
 }
 
 /// A walk over chunks from the one that holds a character, or from the end.
@@ -288,108 +204,143 @@ fn walks_chunks(
     slice: &RopeSlice<'_>,
     items: &Items<'_>,
     char_idx: usize,
-) -> bool {
+) -> Result<(), Failure> {
     let (index, start) = items.chunk_start(char_idx);
     let partner = PlainCursor::at(items.ends.len(), index);
-    match slice.get_chunks_at_char(char_idx) {
-        Some((mut cursor, bytes, before, break_count)) => {
-            (bytes, before, break_count) == items.plain.counts_before(start)
-                && is_walk(numbers, &mut cursor, partner, items)
-        }
-        None => false,
-    }
+    let (mut cursor, bytes, before, break_count) = some!(slice.get_chunks_at_char(char_idx));
+    same!(
+        (bytes, before, break_count),
+        items.plain.counts_before(start)
+    );
+    expect_walk(numbers, &mut cursor, partner, items)
 }
 
-/// Whether a walk of each kind over a slice goes well, each from a random place or from an end.
-fn walks_all(numbers: &mut Numbers, slice: &RopeSlice<'_>, items: &Items<'_>) -> bool {
+/// Fails unless a walk of each kind over a slice goes well, each from a random place or from an
+/// end.
+fn walks_all(
+    numbers: &mut Numbers,
+    slice: &RopeSlice<'_>,
+    items: &Items<'_>,
+) -> Result<(), Failure> {
     let chars = items.plain.text.len();
     let char_idx = numbers.up_to(chars);
     let line_idx = numbers.up_to(items.line_count());
     let from_start = PlainCursor::at(items.ends.len(), 0);
-    walks_bytes(numbers, slice, items, char_idx)
-        && walks_chars(numbers, slice, items, char_idx)
-        && walks_lines(numbers, slice, items, line_idx)
-        && is_walk(numbers, &mut slice.chunks(), from_start, items)
-        && walks_chunks(numbers, slice, items, char_idx)
-        && walks_chunks(numbers, slice, items, chars)
+    within(
+        format_args!("bytes from character {char_idx}"),
+        walks_bytes(numbers, slice, items, char_idx),
+    )?;
+    within(
+        format_args!("chars from character {char_idx}"),
+        walks_chars(numbers, slice, items, char_idx),
+    )?;
+    within(
+        format_args!("lines from line {line_idx}"),
+        walks_lines(numbers, slice, items, line_idx),
+    )?;
+    within(
+        "chunks from the start",
+        expect_walk(numbers, &mut slice.chunks(), from_start, items),
+    )?;
+    within(
+        format_args!("chunks from character {char_idx}"),
+        walks_chunks(numbers, slice, items, char_idx),
+    )?;
+    walks_chunks(numbers, slice, items, chars)
 }
 
-/// Whether walks over a slice go well, where there is one.
+/// Fails unless walks over a slice go well, where there is one.
 fn walks_slice(
     alloc: Global,
     numbers: &mut Numbers,
     slice: Option<RopeSlice<'_>>,
     plain: PlainSlice<'_>,
-) -> Result<bool, AllocError> {
+) -> Result<(), Failure> {
     let items = Items::new(alloc, plain)?;
-    match slice {
-        Some(slice) => Ok(walks_all(numbers, &slice, &items)),
-        None => Ok(false),
-    }
+    let slice = some!(slice);
+    walks_all(numbers, &slice, &items)
 }
 
-/// Whether walks over three random slices of a rope go well.
+/// Fails unless walks over three random slices of a rope go well.
 fn walks_slices(
     alloc: Global,
     numbers: &mut Numbers,
     pair: &Pair,
     all: &PlainSlice<'_>,
-) -> Result<bool, AllocError> {
+) -> Result<(), Failure> {
     for _ in 0..3 {
         let (start, end) = random_range(numbers, all.text.len());
         let slice = slice_of(numbers, pair, start, end);
-        if !walks_slice(alloc, numbers, slice, all.part(start, end))? {
-            return Ok(false);
-        }
+        within(
+            format_args!("slice {start}..{end}"),
+            walks_slice(alloc, numbers, slice, all.part(start, end)),
+        )?;
     }
-    Ok(true)
+    Ok(())
 }
 
-/// Whether walks over three slices of a random rope go well.
-fn walks_rope(alloc: Global, numbers: &mut Numbers, breaks: LineBreaks) -> Result<bool, Error> {
+/// Fails unless walks over three slices of a random rope go well.
+fn walks_rope(alloc: Global, numbers: &mut Numbers, breaks: LineBreaks) -> Result<(), Failure> {
     let pair = edited(alloc, numbers, breaks)?;
     let ends = pair.chunk_ends(alloc)?;
-    let all = PlainSlice {
-        text: pair.plain(),
-        before: 0,
-        ends: &ends,
-        breaks,
-    };
-    Ok(walks_slices(alloc, numbers, &pair, &all)?)
+    let all = PlainSlice::whole(&pair.plain, &ends, breaks);
+    walks_slices(alloc, numbers, &pair, &all)
 }
 
-/// Whether walks over a random plain text go well.
-fn walks_str(alloc: Global, numbers: &mut Numbers, breaks: LineBreaks) -> Result<bool, AllocError> {
+/// Fails unless walks over a random plain text go well.
+fn walks_str(alloc: Global, numbers: &mut Numbers, breaks: LineBreaks) -> Result<(), Failure> {
     let text = random_text(alloc, numbers, 300)?;
     let plain = chars_of(alloc, text.as_str())?;
-    let all = PlainSlice {
-        text: &plain,
-        before: 0,
-        ends: &[plain.len()],
-        breaks,
-    };
+    let ends = [plain.len()];
+    let all = PlainSlice::whole(&plain, &ends, breaks);
     let slice = RopeSlice::from_str_with(text.as_str(), breaks);
     walks_slice(alloc, numbers, Some(slice), all)
 }
 
-#[test]
-fn walks_over_ropes(rt: HostRuntime) -> Result<(), Fail> {
-    let mut numbers = Numbers::new(0x2545_F491_4F6C_DD1D);
-    for _ in 0..115 {
-        for breaks in SETS {
-            assert!(rt; walks_rope(rt.alloc(), &mut numbers, breaks)?);
-        }
+/// Fails unless walks over random ropes go well, by each set of line breaks.
+fn walks_rope_by_each_set(alloc: Global, numbers: &mut Numbers) -> Result<(), Failure> {
+    for breaks in SETS {
+        within(
+            format_args!("line breaks {breaks:?}"),
+            walks_rope(alloc, numbers, breaks),
+        )?;
     }
     Ok(())
 }
 
 #[test]
-fn walks_over_plain_texts(rt: HostRuntime) -> Result<(), Fail> {
-    let mut numbers = Numbers::new(0x8CB9_2BA7_2F3D_8DD7);
-    for _ in 0..330 {
-        for breaks in SETS {
-            assert!(rt; walks_str(rt.alloc(), &mut numbers, breaks)?);
-        }
+fn cursors_over_slices_of_ropes_walk_as_places_do(rt: HostRuntime) -> Result<(), Failure> {
+    let seed = 0x2545_F491_4F6C_DD1D;
+    let mut numbers = Numbers::new(seed);
+    for round in 0..115usize {
+        within(
+            format_args!("seed {seed:#x}, round {round}"),
+            walks_rope_by_each_set(rt.alloc(), &mut numbers),
+        )?;
+    }
+    Ok(())
+}
+
+/// Fails unless walks over random plain texts go well, by each set of line breaks.
+fn walks_str_by_each_set(alloc: Global, numbers: &mut Numbers) -> Result<(), Failure> {
+    for breaks in SETS {
+        within(
+            format_args!("line breaks {breaks:?}"),
+            walks_str(alloc, numbers, breaks),
+        )?;
+    }
+    Ok(())
+}
+
+#[test]
+fn cursors_over_plain_texts_walk_as_places_do(rt: HostRuntime) -> Result<(), Failure> {
+    let seed = 0x8CB9_2BA7_2F3D_8DD7;
+    let mut numbers = Numbers::new(seed);
+    for round in 0..330usize {
+        within(
+            format_args!("seed {seed:#x}, round {round}"),
+            walks_str_by_each_set(rt.alloc(), &mut numbers),
+        )?;
     }
     Ok(())
 }

@@ -1,4 +1,6 @@
 //! Trees of texts.
+use rope_plain::failure::Failure;
+use rope_plain::same;
 use rope_text::LineBreaks;
 use rope_tree::Maker;
 use rope_tree::build::build;
@@ -22,8 +24,20 @@ fn counts_of_lines(alloc: Global, lines: usize) -> Result<(u64, [usize; 4]), All
 }
 
 #[test]
-fn levels_and_the_empty_text(rt: HostRuntime) {
-    assert!(rt; counts_of_lines(rt.alloc(), 2952) == Ok((25, [1, 23_616, 23_616, 2952])));
-    assert!(rt; counts_of_lines(rt.alloc(), 2953) == Ok((28, [2, 23_624, 23_624, 2953])));
-    assert!(rt; counts(rt.alloc(), "", LineBreaks::Unicode) == Ok((1, [0, 0, 0, 0])));
+fn a_tree_gets_a_level_past_24_leaves_and_the_empty_text_a_leaf(
+    rt: HostRuntime,
+) -> Result<(), Failure> {
+    same!(
+        counts_of_lines(rt.alloc(), 2952),
+        Ok((25, [1, 23_616, 23_616, 2952]))
+    );
+    same!(
+        counts_of_lines(rt.alloc(), 2953),
+        Ok((28, [2, 23_624, 23_624, 2953]))
+    );
+    same!(
+        counts(rt.alloc(), "", LineBreaks::Unicode),
+        Ok((1, [0, 0, 0, 0]))
+    );
+    Ok(())
 }

@@ -1,11 +1,13 @@
-//! Ropes that a builder makes of pieces, against rows that were worked by hand and plain lists of characters.
-use crate::ropes::is_made;
-use rope_plain::compare::{compare, has_few_chunks, lens};
+//! Ropes that a builder makes of pieces, against rows that were worked by hand and plain lists of
+//! characters.
+use crate::ropes::asks_made;
+use rope_plain::compare::{SETS, compare, expect_few_chunks, lens};
+use rope_plain::failure::{Failure, within};
 use rope_plain::numbers::Numbers;
+use rope_plain::same;
 use rope_plain::texts::{padded, random_text, repeated};
 use ropey::{LineBreaks, Rope, RopeBuilder};
 use std::alloc::Global;
-use std::test::Fail;
 
 /// A builder, and the list of characters that it was handed.
 #[derive(Drop)]
@@ -16,52 +18,46 @@ struct Pair {
 }
 
 impl Pair {
-    /// Hands a piece to both, and answers whether there was memory for it.
-    fn append(&mut self, text: &str) -> bool {
+    /// Hands a piece to both.
+    fn hand(&mut self, text: &str) -> Result<(), Failure> {
         for c in text.chars() {
-            if self.plain.push(c).is_err() {
-                return false;
-            }
+            self.plain.push(c)?;
         }
-        self.builder.append(text).is_ok()
+        self.builder.append(text)?;
+        Ok(())
     }
 
-    /// Whether the rope has the text in few chunks, and is right.
-    fn ends_in<F: FnOnce(&Rope) -> bool>(self, is_right: F) -> bool
-        requires { F.IsAlwaysCallable is_right }
+    /// Fails unless the rope has the text in few chunks, and is right.
+    fn ends_in<F: FnOnce(&Rope) -> Result<(), Failure>>(self, ask: F) -> Result<(), Failure>
+        requires { F.IsAlwaysCallable ask }
     {
-        match self.builder.finish() {
-            Ok(rope) => is_of_few_chunks(&rope, &self.plain, self.breaks) && is_right(&rope),
-            Err(_) => false,
-        }
+        let rope = self.builder.finish()?;
+        expect_of_few_chunks(&rope, &self.plain, self.breaks)?;
+        ask(&rope)
     }
 }
 
-fn is_of_few_chunks(rope: &Rope, plain: &[char], breaks: LineBreaks) -> bool {
-    compare(rope, plain, breaks).is_ok() && has_few_chunks(rope).is_ok()
+fn expect_of_few_chunks(rope: &Rope, plain: &[char], breaks: LineBreaks) -> Result<(), Failure> {
+    compare(rope, plain, breaks)?;
+    expect_few_chunks(rope)
 }
 
-/// Whether the rope of what is appended is right.
-fn is_built<A: FnOnce(&mut Pair) -> bool, F: FnOnce(&Rope) -> bool>(
-    alloc: Global,
-    breaks: LineBreaks,
-    append: A,
-    is_right: F,
-) -> bool
-    requires appends { A.IsAlwaysCallable append }
-    requires asks { F.IsAlwaysCallable is_right }
+/// Fails unless the rope of what is appended is right.
+fn expect_built<
+    A: FnOnce(&mut Pair) -> Result<(), Failure>,
+    F: FnOnce(&Rope) -> Result<(), Failure>,
+>(alloc: Global, breaks: LineBreaks, hand: A, ask: F) -> Result<(), Failure>
+    requires appends { A.IsAlwaysCallable hand }
+    requires asks { F.IsAlwaysCallable ask }
 {
-    match RopeBuilder::new_with(alloc, breaks) {
-        Ok(builder) => {
-            let mut pair = Pair {
-                builder,
-                plain: Vec::new(alloc),
-                breaks,
-            };
-            append(&mut pair) && pair.ends_in(is_right)
-        }
-        Err(_) => false,
-    }
+    let builder = RopeBuilder::new_with(alloc, breaks)?;
+    let mut pair = Pair {
+        builder,
+        plain: Vec::new(alloc),
+        breaks,
+    };
+    hand(&mut pair)?;
+    pair.ends_in(ask)
 }
 
 /// Pieces that part each CR LF, or lie between two.
@@ -85,69 +81,79 @@ const PIECES: [&str; 14] = [
 const WHOLE: &str =
     "Hello there!  How're you doing?\r\nIt's a fine day, isn't it?\r\nAren't you glad we're alive?\r\nこんにちは、みんなさん！";
 
-fn appends_all(builder: &mut RopeBuilder) -> bool {
+fn appends_all(builder: &mut RopeBuilder) -> Result<(), Failure> {
     for piece in &PIECES {
-        if builder.append(piece).is_err() {
-            return false;
-        }
+        builder.append(piece)?;
     }
-    true
+    Ok(())
 }
 
-/// Whether the builder ends in a rope of these lengths, which begins with this chunk.
-fn ends_in_one(builder: RopeBuilder, expected: [usize; 4], chunk: Option<&str>) -> bool {
-    is_made(builder.finish(), |rope| {
-        lens(rope) == expected && rope.chunks().next() == chunk
+/// Fails unless the builder ends in a rope of these lengths, which begins with this chunk.
+fn ends_in_one(
+    builder: RopeBuilder,
+    expected: [usize; 4],
+    chunk: Option<&str>,
+) -> Result<(), Failure> {
+    asks_made(builder.finish(), |rope| {
+        same!(lens(rope), expected);
+        same!(rope.chunks().next(), chunk);
+        Ok(())
     })
 }
 
 #[test]
-fn pieces_and_none(rt: HostRuntime) -> Result<(), Fail> {
+fn a_builder_joins_pieces_and_ends_empty_without_any(rt: HostRuntime) -> Result<(), Failure> {
     let mut builder = RopeBuilder::new(rt.alloc())?;
-    assert!(rt; appends_all(&mut builder));
-    assert!(rt; ends_in_one(builder, [127, 103, 4, 103], Some(WHOLE)));
-    assert!(rt; ends_in_one(RopeBuilder::new(rt.alloc())?, [0, 0, 1, 0], None));
-    Ok(())
+    appends_all(&mut builder)?;
+    ends_in_one(builder, [127, 103, 4, 103], Some(WHOLE))?;
+    ends_in_one(RopeBuilder::new(rt.alloc())?, [0, 0, 1, 0], None)
 }
 
-/// Whether two pieces behind so many letters make a rope of two chunks.
-fn is_of_two_chunks(
+/// Fails unless two pieces behind so many letters make a rope of two chunks.
+fn expect_of_two_chunks(
     alloc: Global,
     letters: &str,
     (first, second): (&str, &str),
     expected: [usize; 4],
-) -> bool {
-    is_built(
+) -> Result<(), Failure> {
+    expect_built(
         alloc,
         LineBreaks::Unicode,
-        |pair| pair.append(letters) && pair.append(first) && pair.append(second),
-        |rope| lens(rope) == expected && rope.chunks().count() == 2,
+        |pair| {
+            pair.hand(letters)?;
+            pair.hand(first)?;
+            pair.hand(second)
+        },
+        |rope| {
+            same!(lens(rope), expected);
+            same!(rope.chunks().count(), 2);
+            Ok(())
+        },
     )
 }
 
 #[test]
-fn a_piece_behind_a_nearly_full_leaf(rt: HostRuntime) -> Result<(), Fail> {
+fn a_piece_behind_a_nearly_full_leaf_begins_a_second(rt: HostRuntime) -> Result<(), Failure> {
     let letters = repeated(rt.alloc(), "a", 983)?;
     let letters = letters.as_str();
-    assert!(rt; is_of_two_chunks(rt.alloc(), letters, ("こ", ""), [986, 984, 1, 984]));
-    assert!(rt; is_of_two_chunks(rt.alloc(), letters, ("\r", "\n"), [985, 985, 2, 985]));
+    expect_of_two_chunks(rt.alloc(), letters, ("こ", ""), [986, 984, 1, 984])?;
+    expect_of_two_chunks(rt.alloc(), letters, ("\r", "\n"), [985, 985, 2, 985])
+}
+
+fn expect_two_lines(rope: &Rope) -> Result<(), Failure> {
+    same!(rope.len_lines(), 2);
+    same!(rope.line_breaks(), LineBreaks::Lf);
     Ok(())
 }
 
-fn has_two_lines(rope: &Rope) -> bool {
-    rope.len_lines() == 2 && rope.line_breaks() == LineBreaks::Lf
-}
-
 #[test]
-fn pieces_by_lf(rt: HostRuntime) {
-    assert!(rt;
-        is_built(
-            rt.alloc(),
-            LineBreaks::Lf,
-            |pair| pair.append("a\r\n"),
-            has_two_lines
-        )
-    );
+fn a_builder_by_lf_counts_lf_alone(rt: HostRuntime) -> Result<(), Failure> {
+    expect_built(
+        rt.alloc(),
+        LineBreaks::Lf,
+        |pair| pair.hand("a\r\n"),
+        expect_two_lines,
+    )
 }
 
 /// What a piece ends in, and what the next one begins with.
@@ -163,11 +169,15 @@ const SEAMS: [(&str, &str); 8] = [
 ];
 
 /// A piece of so many bytes, with such ends.
-fn appends_padded(pair: &mut Pair, alloc: Global, first: &str, bytes: usize, last: &str) -> bool {
-    match padded(alloc, first, bytes, last) {
-        Ok(piece) => pair.append(piece.as_str()),
-        Err(_) => false,
-    }
+fn appends_padded(
+    pair: &mut Pair,
+    alloc: Global,
+    first: &str,
+    bytes: usize,
+    last: &str,
+) -> Result<(), Failure> {
+    let piece = padded(alloc, first, bytes, last)?;
+    pair.hand(piece.as_str())
 }
 
 /// Three pieces with such ends between them, the first and the last of so many bytes.
@@ -177,115 +187,148 @@ fn appends_with_seams(
     (last, first): (&str, &str),
     bytes: usize,
     middle: usize,
-) -> bool {
-    appends_padded(pair, alloc, "", bytes, last)
-        && appends_padded(pair, alloc, first, middle, last)
-        && appends_padded(pair, alloc, first, bytes, "")
+) -> Result<(), Failure> {
+    appends_padded(pair, alloc, "", bytes, last)?;
+    appends_padded(pair, alloc, first, middle, last)?;
+    appends_padded(pair, alloc, first, bytes, "")
 }
 
 /// Ropes of three pieces, the one in the middle of some lengths.
-fn are_built_with_seams(
+fn expect_built_with_seams(
     alloc: Global,
     seam: (&str, &str),
     bytes: usize,
     breaks: LineBreaks,
-) -> bool {
+) -> Result<(), Failure> {
     for middle in [0, 1, 462, 978, 984, 1_968] {
-        if !is_built(
+        let built = expect_built(
             alloc,
             breaks,
             |pair| appends_with_seams(pair, alloc, seam, bytes, middle),
-            |_| true,
-        ) {
-            return false;
-        }
+            |_| Ok(()),
+        );
+        within(format_args!("{middle} bytes between {seam:?}"), built)?;
     }
-    true
+    Ok(())
 }
 
-/// Each set of line breaks.
-const SETS: [LineBreaks; 3] = [LineBreaks::Lf, LineBreaks::CrLf, LineBreaks::Unicode];
+/// Pieces of so many bytes, with such ends, by each set of line breaks.
+fn expect_built_by_each_set(
+    alloc: Global,
+    seam: (&str, &str),
+    bytes: usize,
+) -> Result<(), Failure> {
+    for breaks in SETS {
+        within(
+            format_args!("line breaks {breaks:?}"),
+            expect_built_with_seams(alloc, seam, bytes, breaks),
+        )?;
+    }
+    Ok(())
+}
 
 /// Pieces of so many bytes, with each of the ends.
-fn are_built_of(alloc: Global, bytes: usize) -> bool {
+fn expect_built_of(alloc: Global, bytes: usize) -> Result<(), Failure> {
     for seam in SEAMS {
-        for breaks in SETS {
-            if !are_built_with_seams(alloc, seam, bytes, breaks) {
-                return false;
-            }
-        }
+        expect_built_by_each_set(alloc, seam, bytes)?;
     }
-    true
+    Ok(())
 }
 
 /// Pieces of every length of a range.
-fn are_built(alloc: Global, from: usize, to: usize) -> bool {
+fn expect_all_built(alloc: Global, from: usize, to: usize) -> Result<(), Failure> {
     for bytes in from..=to {
-        if !are_built_of(alloc, bytes) {
-            return false;
-        }
+        within(
+            format_args!("pieces of {bytes} bytes"),
+            expect_built_of(alloc, bytes),
+        )?;
     }
-    true
+    Ok(())
 }
 
 #[test]
-fn pieces_of_nearly_no_bytes(rt: HostRuntime) {
-    assert!(rt; are_built(rt.alloc(), 0, 6));
+fn a_builder_keeps_seams_between_pieces_of_nearly_no_bytes(rt: HostRuntime) -> Result<(), Failure> {
+    expect_all_built(rt.alloc(), 0, 6)
 }
 
 #[test]
-fn pieces_of_nearly_half_a_leaf(rt: HostRuntime) {
-    assert!(rt; are_built(rt.alloc(), 458, 466));
+fn a_builder_keeps_seams_between_pieces_of_nearly_half_a_leaf(
+    rt: HostRuntime,
+) -> Result<(), Failure> {
+    expect_all_built(rt.alloc(), 458, 466)
 }
 
 #[test]
-fn pieces_of_nearly_a_leaf(rt: HostRuntime) {
-    assert!(rt; are_built(rt.alloc(), 976, 990));
+fn a_builder_keeps_seams_between_pieces_of_nearly_a_leaf(rt: HostRuntime) -> Result<(), Failure> {
+    expect_all_built(rt.alloc(), 976, 990)
 }
 
 #[test]
-fn pieces_of_nearly_two_leaves(rt: HostRuntime) {
-    assert!(rt; are_built(rt.alloc(), 1_960, 1_975));
+fn a_builder_keeps_seams_between_pieces_of_nearly_two_leaves(
+    rt: HostRuntime,
+) -> Result<(), Failure> {
+    expect_all_built(rt.alloc(), 1_960, 1_975)
 }
 
 /// How many bytes a piece has at the most.
 const MOST: [usize; 6] = [3, 12, 100, 990, 2_000, 9_000];
 
-fn appends_random(pair: &mut Pair, alloc: Global, numbers: &mut Numbers, most: usize) -> bool {
-    match random_text(alloc, numbers, most) {
-        Ok(piece) => pair.append(piece.as_str()),
-        Err(_) => false,
-    }
+fn appends_random(
+    pair: &mut Pair,
+    alloc: Global,
+    numbers: &mut Numbers,
+    most: usize,
+) -> Result<(), Failure> {
+    let piece = random_text(alloc, numbers, most)?;
+    pair.hand(piece.as_str())
 }
 
 /// Many pieces, most of them short.
-fn appends_at_random(pair: &mut Pair, alloc: Global, numbers: &mut Numbers) -> bool {
+fn appends_at_random(pair: &mut Pair, alloc: Global, numbers: &mut Numbers) -> Result<(), Failure> {
     let kinds = numbers.up_to(5);
     for _ in 0..numbers.up_to(60) {
         let most = MOST[numbers.up_to(kinds) % 6];
-        if !appends_random(pair, alloc, numbers, most) {
-            return false;
-        }
+        appends_random(pair, alloc, numbers, most)?;
     }
-    true
+    Ok(())
 }
 
-/// Whether a rope of many pieces is right.
-fn is_built_at_random(alloc: Global, numbers: &mut Numbers, breaks: LineBreaks) -> bool {
-    is_built(
+/// Fails unless a rope of many pieces is right.
+fn expect_built_at_random(
+    alloc: Global,
+    numbers: &mut Numbers,
+    breaks: LineBreaks,
+) -> Result<(), Failure> {
+    expect_built(
         alloc,
         breaks,
         |pair| appends_at_random(pair, alloc, numbers),
-        |_| true,
+        |_| Ok(()),
     )
 }
 
-#[test]
-fn many_random_pieces(rt: HostRuntime) {
-    let mut numbers = Numbers::new(0x9E37_79B9_7F4A_7C15);
-    for _ in 0..100 {
-        for breaks in SETS {
-            assert!(rt; is_built_at_random(rt.alloc(), &mut numbers, breaks));
-        }
+/// The number that the row of texts begins with.
+const SEED: u64 = 0x9E37_79B9_7F4A_7C15;
+
+/// Fails unless ropes of many pieces are right, by each set of line breaks.
+fn expect_built_at_random_by_each_set(alloc: Global, numbers: &mut Numbers) -> Result<(), Failure> {
+    for breaks in SETS {
+        within(
+            format_args!("line breaks {breaks:?}"),
+            expect_built_at_random(alloc, numbers, breaks),
+        )?;
     }
+    Ok(())
+}
+
+#[test]
+fn a_builder_makes_the_text_of_random_pieces(rt: HostRuntime) -> Result<(), Failure> {
+    let mut numbers = Numbers::new(SEED);
+    for round in 0..100usize {
+        within(
+            format_args!("seed {SEED:#x}, round {round}"),
+            expect_built_at_random_by_each_set(rt.alloc(), &mut numbers),
+        )?;
+    }
+    Ok(())
 }

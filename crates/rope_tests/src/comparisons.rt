@@ -1,21 +1,21 @@
 //! Equality and order, which go by the text however it is cut.
-use crate::ropes::{becomes, holds, holds_by, holds_of_padded};
+use crate::ropes::{asks, asks_by, asks_of_padded, becomes};
+use rope_plain::failure::{Failure, within};
 use rope_plain::numbers::Numbers;
 use rope_plain::texts::{padded, random_text, repeated};
+use rope_plain::{holds, same, some};
 use ropey::{LineBreaks, Rope, RopeSlice};
 use std::alloc::Global;
 use std::cmp::Ordering;
 use std::hash::{FoldHasher, Hash, Hasher};
 
 /// Adds each character of the text at the end, and answers whether there was memory for it.
-fn types(rope: &mut Rope, text: &str) -> bool {
+fn types(rope: &mut Rope, text: &str) -> Result<(), Failure> {
     for c in text.chars() {
         let end = rope.len_chars();
-        if rope.insert_char(end, c).is_err() {
-            return false;
-        }
+        rope.insert_char(end, c)?;
     }
-    true
+    Ok(())
 }
 
 fn hash_of<T: Hash>(value: &T) -> u64 {
@@ -24,8 +24,8 @@ fn hash_of<T: Hash>(value: &T) -> u64 {
     hasher.finish()
 }
 
-/// Whether the ropes are equal as the texts are, and so are slices of them and their hashes.
-fn are_equal_as_texts((a, b): (&Rope, &Rope), (s, t): (&str, &str)) -> bool {
+/// Fails unless the ropes are equal as the texts are, and so are slices of them and their hashes.
+fn expect_equal_as_texts((a, b): (&Rope, &Rope), (s, t): (&str, &str)) -> Result<(), Failure> {
     let slice = RopeSlice::from(s);
     let are_equal = [
         a == b,
@@ -34,11 +34,14 @@ fn are_equal_as_texts((a, b): (&Rope, &Rope), (s, t): (&str, &str)) -> bool {
         slice == b.slice(..),
         b.slice(..).eq_str(s),
     ];
-    are_equal == [s == t; 5] && hash_of(&slice) == hash_of(a)
+    same!(are_equal, [s == t; 5]);
+    same!(hash_of(&slice), hash_of(a));
+    Ok(())
 }
 
-/// Whether the ropes are ordered as the texts are, in both directions, and so are slices of them.
-fn are_ordered_as_texts((a, b): (&Rope, &Rope), (s, t): (&str, &str)) -> bool {
+/// Fails unless the ropes are ordered as the texts are, in both directions, and so are slices of
+/// them.
+fn expect_ordered_as_texts((a, b): (&Rope, &Rope), (s, t): (&str, &str)) -> Result<(), Failure> {
     let orders = [
         Some(a.cmp(b)),
         a.partial_cmp(b),
@@ -46,94 +49,100 @@ fn are_ordered_as_texts((a, b): (&Rope, &Rope), (s, t): (&str, &str)) -> bool {
         Some(b.cmp(a)),
     ];
     let order = Some(s.cmp(t));
-    orders == [order, order, order, Some(t.cmp(s))]
+    same!(orders, [order, order, order, Some(t.cmp(s))]);
+    Ok(())
 }
 
-/// Whether the ropes compare as the texts do.
-fn compare_as_texts(ropes: (&Rope, &Rope), texts: (&str, &str)) -> bool {
-    are_equal_as_texts(ropes, texts) && are_ordered_as_texts(ropes, texts)
+/// Fails unless the ropes compare as the texts do.
+fn compare_as_texts(ropes: (&Rope, &Rope), texts: (&str, &str)) -> Result<(), Failure> {
+    expect_equal_as_texts(ropes, texts)?;
+    expect_ordered_as_texts(ropes, texts)
 }
 
-/// Whether the ropes are ordered as their numbers are, and so are slices of all of them.
-fn are_ordered_as_numbers((left, i): (&Rope, usize), (right, k): (&Rope, usize)) -> bool {
+/// Fails unless the ropes are ordered as their numbers are, and so are slices of all of them.
+fn expect_ordered_as_numbers(
+    (left, i): (&Rope, usize),
+    (right, k): (&Rope, usize),
+) -> Result<(), Failure> {
     let (part, other) = (left.slice(..), right.slice(..));
     let orders = [
         Some(left.cmp(right)),
         left.partial_cmp(right),
         Some(part.cmp(&other)),
     ];
-    orders == [Some(i.cmp(&k)); 3] && [*left == *right, part == other] == [i == k; 2]
+    same!(orders, [Some(i.cmp(&k)); 3]);
+    same!([*left == *right, part == other], [i == k; 2]);
+    Ok(())
 }
 
 /// The texts by their bytes, the least first.
 const BY_BYTES: [&str; 4] = ["", "z", "é", "こ"];
 
-/// Whether a rope of the text with this number stands so among the ropes of all.
-fn has_its_place(alloc: Global, left: &Rope, i: usize) -> bool {
+/// Fails unless a rope of the text with this number stands so among the ropes of all.
+fn expect_its_place(alloc: Global, left: &Rope, i: usize) -> Result<(), Failure> {
     for (k, text) in BY_BYTES.iter().enumerate() {
-        if !holds(
+        asks(
             alloc,
             text,
-            |right| are_ordered_as_numbers((left, i), (right, k)),
-        ) {
-            return false;
-        }
+            |right| expect_ordered_as_numbers((left, i), (right, k)),
+        )?;
     }
-    true
+    Ok(())
 }
 
-fn have_their_places(alloc: Global) -> bool {
+fn expect_their_places(alloc: Global) -> Result<(), Failure> {
     for (i, text) in BY_BYTES.iter().enumerate() {
-        if !holds(alloc, text, |left| has_its_place(alloc, left, i)) {
-            return false;
-        }
+        asks(alloc, text, |left| expect_its_place(alloc, left, i))?;
     }
-    true
+    Ok(())
 }
 
 #[test]
-fn by_bytes(rt: HostRuntime) {
-    assert!(rt; have_their_places(rt.alloc()));
+fn ropes_are_ordered_by_bytes(rt: HostRuntime) -> Result<(), Failure> {
+    expect_their_places(rt.alloc())
 }
 
-/// Whether a slice of two chunks is equal to one chunk, `ab`.
-fn equals_one_chunk(two: &RopeSlice<'_>) -> bool {
+/// Fails unless a slice of two chunks is equal to one chunk, `ab`.
+fn equals_one_chunk(two: &RopeSlice<'_>) -> Result<(), Failure> {
     let one = RopeSlice::from("ab");
     let are_equal = [one == *two, *two == one, two.eq_str("ab"), one.eq_str("ab")];
-    are_equal == [true; 4] && two.as_str().is_none() && one.cmp(two) == Ordering::Equal
+    same!(are_equal, [true; 4]);
+    holds!(two.as_str().is_none());
+    same!(one.cmp(two), Ordering::Equal);
+    Ok(())
 }
 
-/// Whether a slice whose text is `ab` is unequal to other texts, and ordered as the texts are.
-fn differs(two: &RopeSlice<'_>) -> bool {
+/// Fails unless a slice whose text is `ab` is unequal to other texts, and ordered as the texts are.
+fn differs(two: &RopeSlice<'_>) -> Result<(), Failure> {
     for text in ["", "a", "aa", "ac", "abb", "bb"] {
         let other = RopeSlice::from(text);
         let order = "ab".cmp(text);
-        if [*two == other, two.eq_str(text)] != [false; 2]
-            || [two.cmp(&other), other.cmp(two).reverse()] != [order; 2]
-        {
-            return false;
-        }
+        same!([*two == other, two.eq_str(text)], [false; 2]);
+        same!([two.cmp(&other), other.cmp(two).reverse()], [order; 2]);
     }
-    true
+    Ok(())
 }
 
-fn has_two_chunks(rope: &Rope) -> bool {
-    match rope.get_slice(983..985) {
-        Some(two) => equals_one_chunk(&two) && differs(&two),
-        None => false,
-    }
+fn expect_two_chunks(rope: &Rope) -> Result<(), Failure> {
+    let two = some!(rope.get_slice(983..985));
+    equals_one_chunk(&two)?;
+    differs(&two)
 }
 
 #[test]
-fn of_one_chunk_and_of_two(rt: HostRuntime) {
-    assert!(rt; holds_of_padded(rt.alloc(), 985, "b", has_two_chunks));
+fn a_part_of_two_chunks_compares_as_its_text(rt: HostRuntime) -> Result<(), Failure> {
+    asks_of_padded(rt.alloc(), 985, "b", expect_two_chunks)
 }
 
 /// A rope, one that is less and one that is more.
 type Three<'a> = (&'a Rope, &'a Rope, &'a Rope);
 
-/// Whether the part is the rope's text, more than `less` and less than `more`.
-fn has_its_order(other: &RopeSlice<'_>, text: &str, (rope, less, more): Three<'_>) -> bool {
+/// Fails unless the part is the rope's text, more than `less` and less than `more`.
+fn expect_its_order(
+    other: &RopeSlice<'_>,
+    text: &str,
+    (rope, less, more): Three<'_>,
+) -> Result<(), Failure> {
     let (rope, less, more) = (rope.slice(..), less.slice(..), more.slice(..));
     let are_equal = [
         *other == rope,
@@ -147,47 +156,53 @@ fn has_its_order(other: &RopeSlice<'_>, text: &str, (rope, less, more): Three<'_
         less.cmp(other),
         other.cmp(&more),
     ];
-    are_equal == [true, true, false, false]
-        && orders
-            == [
-                Ordering::Equal,
-                Ordering::Greater,
-                Ordering::Less,
-                Ordering::Less,
-            ]
+    same!(are_equal, [true, true, false, false]);
+    same!(
+        orders,
+        [
+            Ordering::Equal,
+            Ordering::Greater,
+            Ordering::Less,
+            Ordering::Less,
+        ]
+    );
+    Ok(())
 }
 
-fn part_has_its_order(rope: &Rope, shift: usize, text: &str, ropes: Three<'_>) -> bool {
-    match rope.get_slice(shift..shift.saturating_add(2_500)) {
-        Some(part) => has_its_order(&part, text, ropes),
-        None => false,
-    }
+fn part_has_its_order(
+    rope: &Rope,
+    shift: usize,
+    text: &str,
+    ropes: Three<'_>,
+) -> Result<(), Failure> {
+    let part = some!(rope.get_slice(shift..shift.saturating_add(2_500)));
+    expect_its_order(&part, text, ropes)
 }
 
 /// The text behind so many more letters each time, and so with its seams elsewhere.
-fn keeps_its_order(longer: &mut Rope, text: &str, ropes: Three<'_>) -> bool {
+fn keeps_its_order(longer: &mut Rope, text: &str, ropes: Three<'_>) -> Result<(), Failure> {
     for shift in 1..=984 {
-        if longer.try_insert_char(0, 'a').is_err()
-            || longer.shrink_to_fit().is_err()
-            || !part_has_its_order(longer, shift, text, ropes)
-        {
-            return false;
-        }
+        longer.try_insert_char(0, 'a')?;
+        longer.shrink_to_fit()?;
+        within(
+            format_args!("shift {shift}"),
+            part_has_its_order(longer, shift, text, ropes),
+        )?;
     }
-    true
+    Ok(())
 }
 
-fn keep_their_order(alloc: Global, ropes: Three<'_>) -> bool {
-    match padded(alloc, "", 2_500, "b") {
-        Ok(text) => becomes(alloc, text.as_str(), |longer| {
-            keeps_its_order(longer, text.as_str(), ropes)
-        }),
-        Err(_) => false,
-    }
+fn keep_their_order(alloc: Global, ropes: Three<'_>) -> Result<(), Failure> {
+    let text = padded(alloc, "", 2_500, "b")?;
+    becomes(
+        alloc,
+        text.as_str(),
+        |longer| keeps_its_order(longer, text.as_str(), ropes),
+    )
 }
 
-fn is_less_with_seams(alloc: Global, rope: &Rope, less: &Rope) -> bool {
-    holds_of_padded(
+fn expect_less_with_seams(alloc: Global, rope: &Rope, less: &Rope) -> Result<(), Failure> {
+    asks_of_padded(
         alloc,
         2_501,
         "bc",
@@ -195,96 +210,103 @@ fn is_less_with_seams(alloc: Global, rope: &Rope, less: &Rope) -> bool {
     )
 }
 
-fn compares_with_seams(alloc: Global, rope: &Rope) -> bool {
-    holds_of_padded(
+fn compares_with_seams(alloc: Global, rope: &Rope) -> Result<(), Failure> {
+    asks_of_padded(
         alloc,
         2_500,
         "a",
-        |less| is_less_with_seams(alloc, rope, less),
+        |less| expect_less_with_seams(alloc, rope, less),
     )
 }
 
 #[test]
-fn with_seams_at_every_offset(rt: HostRuntime) {
+fn order_does_not_change_with_where_seams_lie(rt: HostRuntime) -> Result<(), Failure> {
     let alloc = rt.alloc();
-    assert!(rt; holds_of_padded(alloc, 2_500, "b", |rope| compares_with_seams(alloc, rope)));
+    asks_of_padded(alloc, 2_500, "b", |rope| compares_with_seams(alloc, rope))
 }
 
-fn are_equal_by_texts(lf: &Rope, unicode: &Rope) -> bool {
+fn expect_equal_by_texts(lf: &Rope, unicode: &Rope) -> Result<(), Failure> {
     let are_equal = [
         *lf == *unicode,
         lf.eq_str("a\r\nb"),
         lf.eq_str("a\r\n"),
         lf.eq_str("a\r\nbb"),
     ];
-    are_equal == [true, true, false, false] && lf.cmp(unicode) == Ordering::Equal
+    same!(are_equal, [true, true, false, false]);
+    same!(lf.cmp(unicode), Ordering::Equal);
+    Ok(())
 }
 
-fn equals_by_text(alloc: Global, lf: &Rope) -> bool {
-    holds(alloc, "a\r\nb", |unicode| are_equal_by_texts(lf, unicode))
+fn equals_by_text(alloc: Global, lf: &Rope) -> Result<(), Failure> {
+    asks(
+        alloc,
+        "a\r\nb",
+        |unicode| expect_equal_by_texts(lf, unicode),
+    )
 }
 
 #[test]
-fn by_texts_alone(rt: HostRuntime) {
+fn ropes_of_two_sets_are_equal_by_their_texts(rt: HostRuntime) -> Result<(), Failure> {
     let alloc = rt.alloc();
-    assert!(rt;
-        holds_by(
-            alloc,
-            "a\r\nb",
-            LineBreaks::Lf,
-            |lf| equals_by_text(alloc, lf)
-        )
-    );
+    asks_by(
+        alloc,
+        "a\r\nb",
+        LineBreaks::Lf,
+        |lf| equals_by_text(alloc, lf),
+    )
 }
 
-/// Whether the longer text alone is that of a rope of it.
-fn is_text_alone(alloc: Global, long: &str, short: &str) -> bool {
-    holds(alloc, long, |rope| rope.eq_str(long) && !rope.eq_str(short))
+/// Fails unless the longer text alone is that of a rope of it.
+fn expect_text_alone(alloc: Global, long: &str, short: &str) -> Result<(), Failure> {
+    asks(alloc, long, |rope| {
+        holds!(rope.eq_str(long));
+        holds!(!rope.eq_str(short));
+        Ok(())
+    })
 }
 
-fn is_not_a_shorter_text(alloc: Global, long: &str) -> bool {
-    match repeated(alloc, "こ", 999) {
-        Ok(short) => is_text_alone(alloc, long, short.as_str()),
-        Err(_) => false,
-    }
+fn expect_not_a_shorter_text(alloc: Global, long: &str) -> Result<(), Failure> {
+    let short = repeated(alloc, "こ", 999)?;
+    expect_text_alone(alloc, long, short.as_str())
 }
 
-fn is_text_of_thousand(alloc: Global) -> bool {
-    match repeated(alloc, "こ", 1_000) {
-        Ok(long) => is_not_a_shorter_text(alloc, long.as_str()),
-        Err(_) => false,
-    }
+fn expect_text_of_thousand(alloc: Global) -> Result<(), Failure> {
+    let long = repeated(alloc, "こ", 1_000)?;
+    expect_not_a_shorter_text(alloc, long.as_str())
 }
 
 #[test]
-fn with_a_shorter_text(rt: HostRuntime) {
-    assert!(rt; is_text_of_thousand(rt.alloc()));
+fn a_text_is_not_equal_to_its_front(rt: HostRuntime) -> Result<(), Failure> {
+    expect_text_of_thousand(rt.alloc())
 }
 
-/// Whether a rope compares with one that was changed as their texts do.
-fn compares_with_changed(alloc: Global, (rope, text): (&Rope, &str), other: &Rope) -> bool {
-    match other.try_to_string(alloc) {
-        Ok(changed) => compare_as_texts((rope, other), (text, changed.as_str())),
-        Err(_) => false,
-    }
+/// Fails unless a rope compares with one that was changed as their texts do.
+fn compares_with_changed(
+    alloc: Global,
+    (rope, text): (&Rope, &str),
+    other: &Rope,
+) -> Result<(), Failure> {
+    let changed = other.try_to_string(alloc)?;
+    compare_as_texts((rope, other), (text, changed.as_str()))
 }
 
-/// Whether another rope of the text, to which it comes character by character, compares so, before and after an insert.
+/// Fails unless another rope of the text, to which it comes character by character, compares so,
+/// before and after an insert.
 fn compares_with_typed(
     alloc: Global,
     other: &mut Rope,
     (rope, text): (&Rope, &str),
     numbers: &mut Numbers,
-) -> bool {
-    if !types(other, text) || !compare_as_texts((rope, other), (text, text)) {
-        return false;
-    }
+) -> Result<(), Failure> {
+    types(other, text)?;
+    compare_as_texts((rope, other), (text, text))?;
     let place = numbers.up_to(other.len_chars());
-    other.try_insert_char(place, 'é').is_ok() && compares_with_changed(alloc, (rope, text), other)
+    other.try_insert_char(place, 'é')?;
+    compares_with_changed(alloc, (rope, text), other)
 }
 
-/// Whether a rope of the text compares so with one that begins with none.
-fn compares(alloc: Global, rope: &Rope, text: &str, numbers: &mut Numbers) -> bool {
+/// Fails unless a rope of the text compares so with one that begins with none.
+fn compares(alloc: Global, rope: &Rope, text: &str, numbers: &mut Numbers) -> Result<(), Failure> {
     becomes(
         alloc,
         "",
@@ -292,19 +314,26 @@ fn compares(alloc: Global, rope: &Rope, text: &str, numbers: &mut Numbers) -> bo
     )
 }
 
-fn compares_of_text(alloc: Global, numbers: &mut Numbers) -> bool {
-    match random_text(alloc, numbers, 3_000) {
-        Ok(text) => holds(alloc, text.as_str(), |rope| {
-            compares(alloc, rope, text.as_str(), numbers)
-        }),
-        Err(_) => false,
-    }
+fn compares_of_text(alloc: Global, numbers: &mut Numbers) -> Result<(), Failure> {
+    let text = random_text(alloc, numbers, 3_000)?;
+    asks(
+        alloc,
+        text.as_str(),
+        |rope| compares(alloc, rope, text.as_str(), numbers),
+    )
 }
 
+/// The number that the row of texts begins with.
+const SEED: u64 = 0x9E37_79B9_7F4A_7C15;
+
 #[test]
-fn random_texts(rt: HostRuntime) {
-    let mut numbers = Numbers::new(0x9E37_79B9_7F4A_7C15);
-    for _ in 0..6 {
-        assert!(rt; compares_of_text(rt.alloc(), &mut numbers));
+fn random_ropes_compare_as_their_texts(rt: HostRuntime) -> Result<(), Failure> {
+    let mut numbers = Numbers::new(SEED);
+    for round in 0..6 {
+        within(
+            format_args!("seed {SEED:#x}, round {round}"),
+            compares_of_text(rt.alloc(), &mut numbers),
+        )?;
     }
+    Ok(())
 }

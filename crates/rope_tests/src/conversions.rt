@@ -1,5 +1,6 @@
 //! The counts and conversions of plain texts against their partners.
-use rope_plain::plain_text;
+use rope_plain::failure::{Failure, within};
+use rope_plain::{plain_text, same};
 use rope_text::{LineBreaks, str_utils};
 use std::alloc::Global;
 
@@ -19,35 +20,33 @@ struct Sample {
 
 impl Sample {
     /// Adds a character to both, and answers whether there was memory for it.
-    fn add(&mut self, c: char) -> bool {
-        self.text.push(c).is_ok() && self.chars.push(c).is_ok()
+    fn add(&mut self, c: char) -> Result<(), Failure> {
+        self.text.push(c)?;
+        self.chars.push(c)?;
+        Ok(())
     }
 
     /// Adds so many letters `a`.
-    fn add_padding(&mut self, padding: usize) -> bool {
-        for _ in 0..padding {
-            if !self.add('a') {
-                return false;
-            }
+    fn add_padding(&mut self, padding: usize) -> Result<(), Failure> {
+        for round in 0..padding {
+            within(format_args!("round {round}"), self.add('a'))?;
         }
-        true
+        Ok(())
     }
 
     /// Adds the text of some characters that the number names.
-    fn add_text(&mut self, len: usize, number: usize) -> bool {
+    fn add_text(&mut self, len: usize, number: usize) -> Result<(), Failure> {
         let mut rest = number;
-        for _ in 0..len {
-            if !self.add(LETTERS[rest % 9]) {
-                return false;
-            }
+        for round in 0..len {
+            within(format_args!("round {round}"), self.add(LETTERS[rest % 9]))?;
             rest /= 9;
         }
-        true
+        Ok(())
     }
 }
 
-/// Whether the whole text has its characters, code units and surrogate pairs.
-fn has_counts(text: &str, chars: &[char]) -> bool {
+/// Fails unless the whole text has its characters, code units and surrogate pairs.
+fn expect_counts(text: &str, chars: &[char]) -> Result<(), Failure> {
     let answers = [
         str_utils::count_chars(text),
         str_utils::count_utf16(text),
@@ -58,11 +57,12 @@ fn has_counts(text: &str, chars: &[char]) -> bool {
         plain_text::char_to_utf16(chars, chars.len()),
         plain_text::surrogates_before(chars, chars.len()),
     ];
-    answers == expected
+    same!(answers, expected);
+    Ok(())
 }
 
-/// Whether a byte and a code unit belong to their characters.
-fn belong(text: &str, chars: &[char], byte: usize, unit: usize) -> bool {
+/// Fails unless a byte and a code unit belong to their characters.
+fn belong(text: &str, chars: &[char], byte: usize, unit: usize) -> Result<(), Failure> {
     let place = plain_text::byte_to_char(chars, byte);
     let answers = [
         str_utils::byte_to_char_idx(text, byte),
@@ -74,131 +74,157 @@ fn belong(text: &str, chars: &[char], byte: usize, unit: usize) -> bool {
         plain_text::surrogates_before(chars, place),
         plain_text::utf16_to_char(chars, unit),
     ];
-    answers == expected
+    same!(answers, expected);
+    Ok(())
 }
 
-/// Whether a character starts at its byte and its code unit, and these and the next ones belong to their characters.
-fn is_place(text: &str, chars: &[char], i: usize) -> bool {
+/// Fails unless a character starts at its byte and its code unit, and these and the next ones
+/// belong to their characters.
+fn expect_place(text: &str, chars: &[char], i: usize) -> Result<(), Failure> {
     let byte = plain_text::char_to_byte(chars, i);
     let unit = plain_text::char_to_utf16(chars, i);
     let answers = [
         str_utils::char_to_byte_idx(text, i),
         str_utils::char_to_utf16_idx(text, i),
     ];
-    answers == [byte, unit]
-        && belong(text, chars, byte, unit)
-        && belong(text, chars, byte.saturating_add(1), unit.saturating_add(1))
+    same!(answers, [byte, unit]);
+    belong(text, chars, byte, unit)?;
+    belong(text, chars, byte.saturating_add(1), unit.saturating_add(1))
 }
 
-/// Whether what does not depend on the set of line breaks is right, from the character `from` on.
-fn has_places(text: &str, chars: &[char], from: usize) -> bool {
+/// Fails unless what does not depend on the set of line breaks is right, from the character `from`
+/// on.
+fn expect_places(text: &str, chars: &[char], from: usize) -> Result<(), Failure> {
     for i in from..=chars.len() {
-        if !is_place(text, chars, i) {
-            return false;
-        }
+        within(format_args!("i {i}"), expect_place(text, chars, i))?;
     }
-    has_counts(text, chars)
+    expect_counts(text, chars)
 }
 
-/// Whether a character and its byte lie on their line.
-fn lies_on_line(text: &str, chars: &[char], i: usize, breaks: LineBreaks) -> bool {
+/// Fails unless a character and its byte lie on their line.
+fn lies_on_line(text: &str, chars: &[char], i: usize, breaks: LineBreaks) -> Result<(), Failure> {
     let byte = plain_text::char_to_byte(chars, i);
     let line = plain_text::char_to_line(chars, i, breaks);
     let answers = [
         str_utils::char_to_line_with(text, i, breaks),
         str_utils::byte_to_line_with(text, byte, breaks),
     ];
-    answers == [line, line]
+    same!(answers, [line, line]);
+    Ok(())
 }
 
-/// Whether a line starts at its character and its byte.
-fn starts_there(text: &str, chars: &[char], line: usize, breaks: LineBreaks) -> bool {
+/// Fails unless a line starts at its character and its byte.
+fn starts_there(
+    text: &str,
+    chars: &[char],
+    line: usize,
+    breaks: LineBreaks,
+) -> Result<(), Failure> {
     let start = plain_text::line_to_char(chars, line, breaks);
     let answers = [
         str_utils::line_to_char_with(text, line, breaks),
         str_utils::line_to_byte_with(text, line, breaks),
     ];
-    answers == [start, plain_text::char_to_byte(chars, start)]
+    same!(answers, [start, plain_text::char_to_byte(chars, start)]);
+    Ok(())
 }
 
-/// Whether all characters from `from` on lie on their lines.
-fn lie_on_lines(text: &str, chars: &[char], from: usize, breaks: LineBreaks) -> bool {
+/// Fails unless all characters from `from` on lie on their lines.
+fn lie_on_lines(
+    text: &str,
+    chars: &[char],
+    from: usize,
+    breaks: LineBreaks,
+) -> Result<(), Failure> {
     for i in from..=chars.len() {
-        if !lies_on_line(text, chars, i, breaks) {
-            return false;
-        }
+        within(format_args!("i {i}"), lies_on_line(text, chars, i, breaks))?;
     }
-    true
+    Ok(())
 }
 
-/// Whether all lines start where they should, and two past the last.
-fn has_starts(text: &str, chars: &[char], breaks: LineBreaks) -> bool {
+/// Fails unless all lines start where they should, and two past the last.
+fn expect_starts(text: &str, chars: &[char], breaks: LineBreaks) -> Result<(), Failure> {
     let break_count = plain_text::char_to_line(chars, chars.len(), breaks);
     for line in 0..=break_count.saturating_add(2) {
-        if !starts_there(text, chars, line, breaks) {
-            return false;
-        }
+        within(
+            format_args!("line {line}"),
+            starts_there(text, chars, line, breaks),
+        )?;
     }
-    str_utils::count_breaks(text, breaks) == break_count
+    same!(str_utils::count_breaks(text, breaks), break_count);
+    Ok(())
 }
 
-/// Whether lines are right, by each set of line breaks.
-fn has_lines(text: &str, chars: &[char], from: usize) -> bool {
+/// Fails unless lines are right, by each set of line breaks.
+fn expect_lines(text: &str, chars: &[char], from: usize) -> Result<(), Failure> {
     for breaks in [LineBreaks::Lf, LineBreaks::CrLf, LineBreaks::Unicode] {
-        if !lie_on_lines(text, chars, from, breaks) || !has_starts(text, chars, breaks) {
-            return false;
-        }
+        lie_on_lines(text, chars, from, breaks)?;
+        expect_starts(text, chars, breaks)?;
     }
-    true
+    Ok(())
 }
 
-/// Whether the text that the number names is right behind so many letters `a`.
-fn is_right(alloc: Global, padding: usize, len: usize, number: usize) -> bool {
+/// Fails unless the text that the number names is right behind so many letters `a`.
+fn expect_right(alloc: Global, padding: usize, len: usize, number: usize) -> Result<(), Failure> {
     let mut sample = Sample {
         text: String::new(alloc),
         chars: Vec::new(alloc),
     };
-    let is_filled = sample.add_padding(padding) && sample.add_text(len, number);
+    sample.add_padding(padding)?;
+    sample.add_text(len, number)?;
     let text = sample.text.as_str();
     let from = padding.saturating_sub(1);
-    is_filled && has_places(text, &sample.chars, from) && has_lines(text, &sample.chars, from)
+    expect_places(text, &sample.chars, from)?;
+    expect_lines(text, &sample.chars, from)
 }
 
 /// Every text of so many of the nine characters, behind so many letters `a`.
-fn are_right(alloc: Global, padding: usize, len: usize, count: usize) -> bool {
+fn expect_right_of_length(
+    alloc: Global,
+    padding: usize,
+    len: usize,
+    count: usize,
+) -> Result<(), Failure> {
     for number in 0..count {
-        if !is_right(alloc, padding, len, number) {
-            return false;
-        }
+        within(
+            format_args!("number {number}"),
+            expect_right(alloc, padding, len, number),
+        )?;
     }
-    true
+    Ok(())
 }
 
 /// Every text of up to five of the nine characters, behind so many letters `a`.
-fn are_all_right(alloc: Global, padding: usize) -> bool {
+fn expect_all_right(alloc: Global, padding: usize) -> Result<(), Failure> {
     for (len, count) in TEXTS.iter().enumerate() {
-        if !are_right(alloc, padding, len, *count) {
-            return false;
-        }
+        expect_right_of_length(alloc, padding, len, *count)?;
     }
-    true
+    Ok(())
 }
 
 #[test]
-fn short_texts(rt: HostRuntime) {
-    assert!(rt; are_all_right(rt.alloc(), 0));
+fn every_text_of_up_to_five_characters_is_counted(rt: HostRuntime) -> Result<(), Failure> {
+    expect_all_right(rt.alloc(), 0)
 }
 
 #[test]
-fn texts_across_a_block(rt: HostRuntime) {
+fn every_text_across_a_block_is_counted(rt: HostRuntime) -> Result<(), Failure> {
     for padding in 28..31 {
-        assert!(rt; are_all_right(rt.alloc(), padding));
+        within(
+            format_args!("padding {padding}"),
+            expect_all_right(rt.alloc(), padding),
+        )?;
     }
+    Ok(())
 }
 
 #[test]
-fn texts_behind_a_block(rt: HostRuntime) {
+fn every_text_behind_a_block_is_counted(rt: HostRuntime) -> Result<(), Failure> {
     for padding in 31..34 {
-        assert!(rt; are_all_right(rt.alloc(), padding));
+        within(
+            format_args!("padding {padding}"),
+            expect_all_right(rt.alloc(), padding),
+        )?;
     }
+    Ok(())
 }

@@ -1,6 +1,8 @@
 //! What look-ups count in ropes of known depth.
-use crate::ropes::holds_of_many;
+use crate::ropes::asks_of_many;
 use rope_plain::compare::lens;
+use rope_plain::failure::{Failure, within};
+use rope_plain::{holds, same};
 use ropey::{Rope, Steps};
 
 /// A look-up that counts its steps.
@@ -70,7 +72,8 @@ impl LookUp {
         }
     }
 
-    /// What it compares at the most, over all places from 0 on before an end; none where one of them has no answer.
+    /// What it compares at the most, over all places from 0 on before an end; none where one of
+    /// them has no answer.
     fn most_compares(self, rope: &Rope, end: usize) -> Option<u64> {
         let mut most = 0;
         for place in 0..end {
@@ -82,36 +85,38 @@ impl LookUp {
     }
 }
 
-fn has_two_levels(rope: &Rope) -> bool {
+fn expect_two_levels(rope: &Rope) -> Result<(), Failure> {
     let counts = [
         rope.len_bytes(),
         rope.chunks().count(),
         rope.depth(),
         rope.capacity(),
     ];
-    counts == [20_000, 21, 1, 20_664]
+    same!(counts, [20_000, 21, 1, 20_664]);
+    Ok(())
 }
 
-/// Whether each byte is found through two nodes, and by five comparisons at the most.
-fn finds_bytes(rope: &Rope) -> bool {
+/// Fails unless each byte is found through two nodes, and by five comparisons at the most.
+fn finds_bytes(rope: &Rope) -> Result<(), Failure> {
     let mut most = 0;
     for place in 0..20_000 {
         let mut steps = Steps::new();
-        if LookUp::Byte.answer(rope, place, &mut steps) != Some(97) || steps.nodes != 2 {
-            return false;
-        }
+        same!(LookUp::Byte.answer(rope, place, &mut steps), Some(97));
+        same!(steps.nodes, 2);
         most = most.max(steps.compares);
     }
-    most == 5
+    same!(most, 5);
+    Ok(())
 }
 
-fn finds_bytes_in_two_levels(rope: &Rope) -> bool {
-    has_two_levels(rope) && finds_bytes(rope)
+fn finds_bytes_in_two_levels(rope: &Rope) -> Result<(), Failure> {
+    expect_two_levels(rope)?;
+    finds_bytes(rope)
 }
 
 #[test]
-fn a_byte_in_two_levels(rt: HostRuntime) {
-    assert!(rt; holds_of_many(rt.alloc(), "a", 20_000, finds_bytes_in_two_levels));
+fn a_byte_is_found_through_two_nodes(rt: HostRuntime) -> Result<(), Failure> {
+    asks_of_many(rt.alloc(), "a", 20_000, finds_bytes_in_two_levels)
 }
 
 /// Each look-up, and before which place it has an answer.
@@ -128,43 +133,49 @@ const ENDS: [(LookUp, usize); 10] = [
     (LookUp::LineToChar, 10_000),
 ];
 
-/// Whether each look-up compares five times at the most.
-fn finds_all(rope: &Rope) -> bool {
+/// Fails unless each look-up compares five times at the most.
+fn finds_all(rope: &Rope) -> Result<(), Failure> {
     for (look_up, end) in &ENDS {
-        if look_up.most_compares(rope, *end) != Some(5) {
-            return false;
-        }
+        same!(look_up.most_compares(rope, *end), Some(5));
     }
-    true
+    Ok(())
 }
 
-fn finds_all_in_two_levels(rope: &Rope) -> bool {
-    lens(rope) == [20_000, 20_000, 10_001, 20_000]
-        && [rope.chunks().count(), rope.depth()] == [21, 1]
-        && finds_all(rope)
+fn finds_all_in_two_levels(rope: &Rope) -> Result<(), Failure> {
+    same!(lens(rope), [20_000, 20_000, 10_001, 20_000]);
+    same!([rope.chunks().count(), rope.depth()], [21, 1]);
+    finds_all(rope)
 }
 
 #[test]
-fn look_ups_in_two_levels(rt: HostRuntime) {
-    assert!(rt; holds_of_many(rt.alloc(), "a\n", 10_000, finds_all_in_two_levels));
+fn each_look_up_compares_five_times_at_most_in_two_levels(rt: HostRuntime) -> Result<(), Failure> {
+    asks_of_many(rt.alloc(), "a\n", 10_000, finds_all_in_two_levels)
 }
 
-/// Whether a look-up in four levels answers this, through four nodes and by few comparisons.
-fn answers_in_four(rope: &Rope, look_up: LookUp, place: usize, expected: usize) -> bool {
+/// Fails unless a look-up in four levels answers this, through four nodes and by few comparisons.
+fn answers_in_four(
+    rope: &Rope,
+    look_up: LookUp,
+    place: usize,
+    expected: usize,
+) -> Result<(), Failure> {
     let mut steps = Steps::new();
     let answer = look_up.answer(rope, place, &mut steps);
-    answer == Some(expected) && steps.nodes == 4 && steps.compares <= 15
+    same!(answer, Some(expected));
+    same!(steps.nodes, 4);
+    holds!(steps.compares <= 15);
+    Ok(())
 }
 
-fn finds_a_char_in_four_levels(rope: &Rope) -> bool {
-    (1_017..=1_020).contains(&rope.chunks().count())
-        && rope.depth() == 3
-        && answers_in_four(rope, LookUp::CharToByte, 500_000, 500_000)
+fn finds_a_char_in_four_levels(rope: &Rope) -> Result<(), Failure> {
+    holds!((1_017..=1_020).contains(&rope.chunks().count()));
+    same!(rope.depth(), 3);
+    answers_in_four(rope, LookUp::CharToByte, 500_000, 500_000)
 }
 
 #[test]
-fn a_char_in_four_levels(rt: HostRuntime) {
-    assert!(rt; holds_of_many(rt.alloc(), "a", 1_000_000, finds_a_char_in_four_levels));
+fn a_character_is_found_through_four_nodes(rt: HostRuntime) -> Result<(), Failure> {
+    asks_of_many(rt.alloc(), "a", 1_000_000, finds_a_char_in_four_levels)
 }
 
 /// Each conversion, a place in the middle, and what it answers there.
@@ -179,16 +190,18 @@ const IN_THE_MIDDLE: [(LookUp, usize, usize); 8] = [
     (LookUp::LineToChar, 250_000, 500_000),
 ];
 
-fn converts_in_four_levels(rope: &Rope) -> bool {
-    for (look_up, place, expected) in &IN_THE_MIDDLE {
-        if !answers_in_four(rope, *look_up, *place, *expected) {
-            return false;
-        }
+fn converts_in_four_levels(rope: &Rope) -> Result<(), Failure> {
+    for (row, (look_up, place, expected)) in IN_THE_MIDDLE.iter().enumerate() {
+        within(
+            format_args!("row {row}"),
+            answers_in_four(rope, *look_up, *place, *expected),
+        )?;
     }
-    rope.depth() == 3
+    same!(rope.depth(), 3);
+    Ok(())
 }
 
 #[test]
-fn conversions_in_four_levels(rt: HostRuntime) {
-    assert!(rt; holds_of_many(rt.alloc(), "a\n", 500_000, converts_in_four_levels));
+fn each_conversion_goes_through_four_nodes(rt: HostRuntime) -> Result<(), Failure> {
+    asks_of_many(rt.alloc(), "a\n", 500_000, converts_in_four_levels)
 }

@@ -1,10 +1,12 @@
 //! Places where a text may be cut.
+use rope_plain::failure::Failure;
+use rope_plain::same;
 use rope_text::crlf::{
     find_good_split, is_break, nearest_internal_break, next_break, prev_break, seam_is_break,
 };
 
 #[test]
-fn seams_and_cuts(rt: HostRuntime) {
+fn a_cut_lies_beside_a_pair() -> Result<(), Failure> {
     let text = b"Hello world!\r\nHow's it going?";
     let breaks = [
         seam_is_break(b"\r\n\r\n\r", b"\n\r\n\r\n"),
@@ -15,12 +17,13 @@ fn seams_and_cuts(rt: HostRuntime) {
         is_break(14, text),
         is_break(19, text),
     ];
-    assert!(rt; breaks == [false, false, true, true, true, true, true]);
-    assert!(rt; [prev_break(14, text), next_break(12, text)] == [12, 14]);
+    same!(breaks, [false, false, true, true, true, true, true]);
+    same!([prev_break(14, text), next_break(12, text)], [12, 14]);
+    Ok(())
 }
 
 #[test]
-fn nearest_cuts(rt: HostRuntime) {
+fn the_nearest_cut_is_found() -> Result<(), Failure> {
     let text = b"\r\nHello world!\r\n";
     let pair = b"\r\n";
     let cuts = [
@@ -35,5 +38,6 @@ fn nearest_cuts(rt: HostRuntime) {
         nearest_internal_break(2, pair),
         find_good_split(1, "こ".as_bytes(), true),
     ];
-    assert!(rt; cuts == [2, 2, 2, 14, 14, 14, 2, 2, 2, 3]);
+    same!(cuts, [2, 2, 2, 14, 14, 14, 2, 2, 2, 3]);
+    Ok(())
 }

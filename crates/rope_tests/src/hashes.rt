@@ -2,13 +2,16 @@
 ghost use Rattle.std.specs.Prelude.{◌+◌, ◌*◌, ◌%◌, ◌^◌, length};
 ghost use Rattle.rope_tests.specs.Writes.{first_or};
 
-use crate::ropes::{becomes, holds_of_many, is_made};
+use crate::ropes::{asks_made, asks_of_many, becomes};
+use rope_plain::failure::Failure;
+use rope_plain::same;
 use ropey::{Rope, RopeSlice};
 use std::alloc::Global;
 use std::cmp::Ordering;
 use std::hash::{Hash, Hasher};
 
-/// A hasher that keeps the lengths of its writes, as the digits of a number by the base 1,000, and the first byte of the last.
+/// A hasher that keeps the lengths of its writes, as the digits of a number by the base 1,000, and
+/// the first byte of the last.
 #[derive(Drop)]
 struct Writes {
     lens: u64,
@@ -42,46 +45,54 @@ fn writes_of<T: Hash>(value: &T) -> (u64, u8) {
     (writes.lens, writes.last)
 }
 
-fn is_hashed_as_empty(rope: &Rope) -> bool {
-    [writes_of(rope), writes_of(&RopeSlice::from(""))] == [(1, 0xff); 2]
+fn expect_hashed_as_empty(rope: &Rope) -> Result<(), Failure> {
+    same!(
+        [writes_of(rope), writes_of(&RopeSlice::from(""))],
+        [(1, 0xff); 2]
+    );
+    Ok(())
 }
 
 #[test]
-fn of_the_empty_rope(rt: HostRuntime) {
-    assert!(rt; is_made(Rope::new(rt.alloc()), is_hashed_as_empty));
+fn the_empty_rope_writes_its_end_alone(rt: HostRuntime) -> Result<(), Failure> {
+    asks_made(Rope::new(rt.alloc()), expect_hashed_as_empty)
 }
 
-fn types_letters(rope: &mut Rope) -> bool {
+fn types_letters(rope: &mut Rope) -> Result<(), Failure> {
     for i in 0..257 {
-        if rope.try_insert_char(i, 'a').is_err() {
-            return false;
-        }
+        rope.try_insert_char(i, 'a')?;
     }
-    true
+    Ok(())
 }
 
-fn are_hashed_alike(made: &Rope, typed: &Rope) -> bool {
-    *made == *typed
-        && made.cmp(typed) == Ordering::Equal
-        && [writes_of(made), writes_of(typed)] == [(256_001_001, 0xff); 2]
+fn expect_all_hashed_alike(made: &Rope, typed: &Rope) -> Result<(), Failure> {
+    same!(*made, *typed);
+    same!(made.cmp(typed), Ordering::Equal);
+    same!(
+        [writes_of(made), writes_of(typed)],
+        [(256_001_001, 0xff); 2]
+    );
+    Ok(())
 }
 
-/// Whether what is typed is hashed as what was made, and without its first letter as one block.
-fn is_hashed_alike(made: &Rope, typed: &mut Rope) -> bool {
-    types_letters(typed)
-        && are_hashed_alike(made, typed)
-        && typed.try_remove(..1).is_ok()
-        && writes_of(typed) == (256_001, 0xff)
+/// Fails unless what is typed is hashed as what was made, and without its first letter as one
+/// block.
+fn expect_hashed_alike(made: &Rope, typed: &mut Rope) -> Result<(), Failure> {
+    types_letters(typed)?;
+    expect_all_hashed_alike(made, typed)?;
+    typed.try_remove(..1)?;
+    same!(writes_of(typed), (256_001, 0xff));
+    Ok(())
 }
 
-fn is_hashed_as_typed(alloc: Global, made: &Rope) -> bool {
-    becomes(alloc, "", |typed| is_hashed_alike(made, typed))
+fn expect_hashed_as_typed(alloc: Global, made: &Rope) -> Result<(), Failure> {
+    becomes(alloc, "", |typed| expect_hashed_alike(made, typed))
 }
 
 #[test]
-fn in_blocks_however_it_is_cut(rt: HostRuntime) {
+fn a_hash_is_written_in_blocks_however_the_rope_is_cut(rt: HostRuntime) -> Result<(), Failure> {
     let alloc = rt.alloc();
-    assert!(rt; holds_of_many(alloc, "a", 257, |made| is_hashed_as_typed(alloc, made)));
+    asks_of_many(alloc, "a", 257, |made| expect_hashed_as_typed(alloc, made))
 }
 
 /// The writes of a slice, where there is one.
@@ -92,17 +103,15 @@ fn writes_of_slice(slice: Option<RopeSlice<'_>>) -> Option<(u64, u8)> {
     }
 }
 
-fn hashes_slices(rope: &Rope) -> bool {
+fn hashes_slices(rope: &Rope) -> Result<(), Failure> {
     for start in 0..1_000usize {
         let slice = rope.get_slice(start..start.saturating_add(600));
-        if writes_of_slice(slice) != Some((256_256_088_001, 0xff)) {
-            return false;
-        }
+        same!(writes_of_slice(slice), Some((256_256_088_001, 0xff)));
     }
-    true
+    Ok(())
 }
 
 #[test]
-fn of_slices_with_seams_anywhere(rt: HostRuntime) {
-    assert!(rt; holds_of_many(rt.alloc(), "a", 2_600, hashes_slices));
+fn a_slice_is_hashed_alike_wherever_its_seams_lie(rt: HostRuntime) -> Result<(), Failure> {
+    asks_of_many(rt.alloc(), "a", 2_600, hashes_slices)
 }

@@ -1,7 +1,9 @@
 //! Conversions and look-ups of ropes, against rows that were worked by hand.
-use crate::ropes::{holds, is_made};
+use crate::ropes::{asks, asks_made};
 use rope_plain::compare::lens;
+use rope_plain::failure::{Failure, within};
 use rope_plain::texts::BREAKS;
+use rope_plain::{holds, same};
 use ropey::{Error, Rope};
 use std::alloc::Global;
 
@@ -9,26 +11,33 @@ use std::alloc::Global;
 const PAIRS: &str =
     "\r\nHello there!  How're you doing?  It's a fine day, isn't it?  Aren't you glad we're alive?\r\nこんにちは！元気ですか？日はいいですね。私たちが生きだって嬉しいではないか？\r\n";
 
-fn is_empty(rope: &Rope) -> bool {
-    lens(rope) == [0, 0, 1, 0]
-        && [rope.depth(), rope.capacity(), rope.chunks().count()] == [0, 0, 0]
-        && rope.get_chunk_at_byte(0) == Some(("", 0, 0, 0))
+fn expect_empty(rope: &Rope) -> Result<(), Failure> {
+    same!(lens(rope), [0, 0, 1, 0]);
+    same!(
+        [rope.depth(), rope.capacity(), rope.chunks().count()],
+        [0, 0, 0]
+    );
+    same!(rope.get_chunk_at_byte(0), Some(("", 0, 0, 0)));
+    Ok(())
 }
 
-fn has_nothing_past_the_end(rope: &Rope) -> bool {
+fn expect_nothing_past_the_end(rope: &Rope) -> Result<(), Failure> {
     let has_chunk = rope.get_chunk_at_byte(1).is_some();
     let has_item = [rope.get_byte(0).is_some(), rope.get_char(0).is_some()];
-    !has_chunk && has_item == [false, false]
+    holds!(!has_chunk);
+    same!(has_item, [false, false]);
+    Ok(())
 }
 
-fn is_empty_to_its_end(rope: &Rope) -> bool {
-    is_empty(rope) && has_nothing_past_the_end(rope)
+fn expect_empty_to_its_end(rope: &Rope) -> Result<(), Failure> {
+    expect_empty(rope)?;
+    expect_nothing_past_the_end(rope)
 }
 
 #[test]
-fn empty_ropes_and_past_their_end(rt: HostRuntime) {
-    assert!(rt; is_made(Rope::new(rt.alloc()), is_empty_to_its_end));
-    assert!(rt; holds(rt.alloc(), "", is_empty_to_its_end));
+fn an_empty_rope_has_nothing_past_its_end(rt: HostRuntime) -> Result<(), Failure> {
+    asks_made(Rope::new(rt.alloc()), expect_empty_to_its_end)?;
+    asks(rt.alloc(), "", expect_empty_to_its_end)
 }
 
 /// Texts, and their bytes, characters, lines and code units.
@@ -40,57 +49,55 @@ const LENGTHS: [(&str, [usize; 4]); 5] = [
     ("🐸", [4, 1, 1, 2]),
 ];
 
-fn have_lengths(alloc: Global) -> bool {
-    for (text, expected) in &LENGTHS {
-        if !holds(alloc, text, |rope| lens(rope) == *expected) {
-            return false;
-        }
+fn expect_lengths(alloc: Global) -> Result<(), Failure> {
+    for (row, (text, expected)) in LENGTHS.iter().enumerate() {
+        within(
+            format_args!("row {row}"),
+            asks(alloc, text, |rope| {
+                same!(lens(rope), *expected);
+                Ok(())
+            }),
+        )?;
     }
-    true
+    Ok(())
 }
 
 #[test]
-fn worked_lengths(rt: HostRuntime) {
-    assert!(rt; have_lengths(rt.alloc()));
+fn worked_texts_have_their_lengths(rt: HostRuntime) -> Result<(), Failure> {
+    expect_lengths(rt.alloc())
 }
 
-/// Whether characters lie on these lines.
-pub fn have_lines(rope: &Rope, places: &[(usize, usize)]) -> bool {
+/// Fails unless characters lie on these lines.
+pub fn expect_all_lines(rope: &Rope, places: &[(usize, usize)]) -> Result<(), Failure> {
     for (char_idx, line) in places {
-        if rope.try_char_to_line(*char_idx) != Ok(*line) {
-            return false;
-        }
+        same!(rope.try_char_to_line(*char_idx), Ok(*line));
     }
-    true
+    Ok(())
 }
 
-/// Whether the lines start at these characters.
-fn have_starts(rope: &Rope, starts: &[usize]) -> bool {
+/// Fails unless the lines start at these characters.
+fn expect_all_starts(rope: &Rope, starts: &[usize]) -> Result<(), Failure> {
     for (line, char_idx) in starts.iter().enumerate() {
-        if rope.try_line_to_char(line) != Ok(*char_idx) {
-            return false;
-        }
+        same!(rope.try_line_to_char(line), Ok(*char_idx));
     }
-    true
+    Ok(())
 }
 
-/// Whether the lines start at these bytes.
-fn have_byte_starts(rope: &Rope, starts: &[usize]) -> bool {
+/// Fails unless the lines start at these bytes.
+fn expect_byte_starts(rope: &Rope, starts: &[usize]) -> Result<(), Failure> {
     for (line, byte_idx) in starts.iter().enumerate() {
-        if rope.try_line_to_byte(line) != Ok(*byte_idx) {
-            return false;
-        }
+        same!(rope.try_line_to_byte(line), Ok(*byte_idx));
     }
-    true
+    Ok(())
 }
 
-fn has_lines_of_a_pair(rope: &Rope) -> bool {
-    have_lines(rope, &[(0, 0), (1, 0), (2, 0), (3, 1), (4, 1)])
+fn expect_lines_of_a_pair(rope: &Rope) -> Result<(), Failure> {
+    expect_all_lines(rope, &[(0, 0), (1, 0), (2, 0), (3, 1), (4, 1)])
 }
 
 #[test]
-fn lines_of_chars(rt: HostRuntime) {
-    assert!(rt; holds(rt.alloc(), "a\r\nb", has_lines_of_a_pair));
+fn a_pair_ends_one_line(rt: HostRuntime) -> Result<(), Failure> {
+    asks(rt.alloc(), "a\r\nb", expect_lines_of_a_pair)
 }
 
 const PLACES: [(usize, usize); 9] = [
@@ -105,27 +112,32 @@ const PLACES: [(usize, usize); 9] = [
     (37, 8),
 ];
 
-fn has_every_break(rope: &Rope) -> bool {
-    have_lines(rope, &PLACES) && have_starts(rope, &[0, 1, 8, 9, 11, 13, 15, 23, 37, 37])
+fn expect_every_break(rope: &Rope) -> Result<(), Failure> {
+    expect_all_lines(rope, &PLACES)?;
+    expect_all_starts(rope, &[0, 1, 8, 9, 11, 13, 15, 23, 37, 37])
 }
 
 #[test]
-fn lines_and_their_starts_by_every_break(rt: HostRuntime) {
-    assert!(rt; holds(rt.alloc(), BREAKS, has_every_break));
+fn each_break_ends_a_line(rt: HostRuntime) -> Result<(), Failure> {
+    asks(rt.alloc(), BREAKS, expect_every_break)
 }
 
-fn has_starts_after_pairs(rope: &Rope) -> bool {
-    have_byte_starts(rope, &[0, 2, 93, 209, 209])
-        && have_starts(rope, &[0, 2, 93, 133, 133])
-        && rope.try_line_to_byte(5) == Err(Error::LineIndexOutOfBounds(5, 4))
+fn expect_starts_after_pairs(rope: &Rope) -> Result<(), Failure> {
+    expect_byte_starts(rope, &[0, 2, 93, 209, 209])?;
+    expect_all_starts(rope, &[0, 2, 93, 133, 133])?;
+    same!(
+        rope.try_line_to_byte(5),
+        Err(Error::LineIndexOutOfBounds(5, 4))
+    );
+    Ok(())
 }
 
 #[test]
-fn starts_of_lines_after_pairs(rt: HostRuntime) {
-    assert!(rt; holds(rt.alloc(), PAIRS, has_starts_after_pairs));
+fn lines_start_behind_pairs(rt: HostRuntime) -> Result<(), Failure> {
+    asks(rt.alloc(), PAIRS, expect_starts_after_pairs)
 }
 
-fn has_units(rope: &Rope) -> bool {
+fn expect_units(rope: &Rope) -> Result<(), Failure> {
     let answers = [
         rope.try_utf16_cu_to_char(0),
         rope.try_utf16_cu_to_char(1),
@@ -133,10 +145,11 @@ fn has_units(rope: &Rope) -> bool {
         rope.try_utf16_cu_to_char(3),
     ];
     let past = Err(Error::Utf16IndexOutOfBounds(3, 2));
-    answers == [Ok(0), Ok(0), Ok(1), past]
+    same!(answers, [Ok(0), Ok(0), Ok(1), past]);
+    Ok(())
 }
 
 #[test]
-fn units_of_a_pair(rt: HostRuntime) {
-    assert!(rt; holds(rt.alloc(), "🐸", has_units));
+fn both_units_of_a_pair_are_its_character(rt: HostRuntime) -> Result<(), Failure> {
+    asks(rt.alloc(), "🐸", expect_units)
 }

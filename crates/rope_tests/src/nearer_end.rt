@@ -1,55 +1,54 @@
-//! Places of texts whose number of characters is known, which are counted from the nearer end: each against a count of
-//! one character after the other.
+//! Places of texts whose number of characters is known, which are counted from the nearer end: each
+//! against a count of one character after the other.
 ghost use Rattle.std.specs.Prelude.{◌≡◌, ◌≤◌, length};
 ghost use Rattle.std.specs.Str.{chars};
 
+use rope_plain::failure::{Failure, within};
+use rope_plain::{holds, same};
 use rope_text::str_utils::{byte_to_char_idx_of, char_to_byte_idx_of, count_chars};
 use rope_text::{LineBreaks, Steps};
 use rope_tree::build::build;
 use rope_tree::{Maker, Node, NodeText, Unit, convert};
 use std::alloc::{AllocError, Global};
 
-/// Whether these bytes belong to the character `idx`.
-fn belong(text: &str, count: usize, idx: usize, from: usize, to: usize) -> bool
+/// Fails unless these bytes belong to the character `idx`.
+fn belong(text: &str, count: usize, idx: usize, from: usize, to: usize) -> Result<(), Failure>
     requires { count ≡ length (chars text.now) }
 {
     for byte in from..to {
-        if byte_to_char_idx_of(text, count, byte) != idx {
-            return false;
-        }
+        same!(byte_to_char_idx_of(text, count, byte), idx);
     }
-    true
+    Ok(())
 }
 
-/// Whether a text ends at a byte, and so do the places past its end.
-fn ends_at(text: &str, count: usize, byte: usize) -> bool
+/// Fails unless a text ends at a byte, and so do the places past its end.
+fn ends_at(text: &str, count: usize, byte: usize) -> Result<(), Failure>
     requires { count ≡ length (chars text.now) }
 {
     for past in count..count.saturating_add(3) {
-        if char_to_byte_idx_of(text, count, past) != byte {
-            return false;
-        }
+        same!(char_to_byte_idx_of(text, count, past), byte);
     }
     belong(text, count, count, byte, byte.saturating_add(3))
 }
 
-/// Whether each place of a text is found.
-fn has_places(text: &str) -> bool {
+/// Fails unless each place of a text is found.
+fn expect_places(text: &str) -> Result<(), Failure> {
     let count = count_chars(text);
     let mut idx: usize = 0;
     let mut byte: usize = 0;
     for c in text.chars() {
         let next = byte.saturating_add(c.len_utf8());
-        if char_to_byte_idx_of(text, count, idx) != byte || !belong(text, count, idx, byte, next) {
-            return false;
-        }
+        same!(char_to_byte_idx_of(text, count, idx), byte);
+        belong(text, count, idx, byte, next)?;
         idx = idx.saturating_add(1);
         byte = next;
     }
-    idx == count && ends_at(text, count, byte)
+    same!(idx, count);
+    ends_at(text, count, byte)
 }
 
-/// The byte and the character of a place of a tree; the end of what can be asked, where it has none.
+/// The byte and the character of a place of a tree; the end of what can be asked, where it has
+/// none.
 fn places(node: &Node, char_idx: usize, byte_idx: usize) -> (usize, usize) {
     let _ = node.height();
     let info = node.info();
@@ -62,8 +61,8 @@ fn places(node: &Node, char_idx: usize, byte_idx: usize) -> (usize, usize) {
     )
 }
 
-/// Whether each place of a tree is found.
-fn has_places_of(node: &Node, text: &str) -> bool {
+/// Fails unless each place of a tree is found.
+fn expect_places_of(node: &Node, text: &str) -> Result<(), Failure> {
     let mut idx: usize = 0;
     let mut byte: usize = 0;
     for c in text.chars() {
@@ -72,20 +71,17 @@ fn has_places_of(node: &Node, text: &str) -> bool {
             places(node, idx, byte),
             places(node, idx, next.saturating_sub(1)),
         ];
-        if found != [(byte, idx); 2] {
-            return false;
-        }
+        same!(found, [(byte, idx); 2]);
         idx = idx.saturating_add(1);
         byte = next;
     }
-    places(node, idx, byte) == (byte, idx)
+    same!(places(node, idx, byte), (byte, idx));
+    Ok(())
 }
 
-fn is_right_in_a_tree(alloc: Global, text: &str) -> bool {
-    match build(&mut Maker::new(alloc), text, LineBreaks::Lf) {
-        Ok(node) => has_places_of(&node, text),
-        Err(_) => false,
-    }
+fn expect_right_in_a_tree(alloc: Global, text: &str) -> Result<(), Failure> {
+    let node = build(&mut Maker::new(alloc), text, LineBreaks::Lf)?;
+    expect_places_of(&node, text)
 }
 
 /// The bytes of the first characters.
@@ -97,28 +93,24 @@ fn front_len(text: &str, chars: usize) -> usize {
     byte
 }
 
-/// Whether so many characters of a leaf have their bytes, from each place on.
-fn has_ranges(leaf: &NodeText, text: &str, len: usize) -> bool {
+/// Fails unless so many characters of a leaf have their bytes, from each place on.
+fn expect_ranges(leaf: &NodeText, text: &str, len: usize) -> Result<(), Failure> {
     let count = count_chars(leaf.as_str());
     for start in 0..count.saturating_add(2) {
         let end = start.saturating_add(len);
         let (from, to) = leaf.byte_range(start, end, count);
-        if [from, to] != [front_len(text, start), front_len(text, end)] {
-            return false;
-        }
+        same!([from, to], [front_len(text, start), front_len(text, end)]);
     }
-    true
+    Ok(())
 }
 
-fn is_right_in_a_leaf(text: &str) -> bool {
-    if text.len() > 984 {
-        return false;
-    }
+fn expect_right_in_a_leaf(text: &str) -> Result<(), Failure> {
+    holds!(text.len() <= 984);
     let leaf = NodeText::from_str(text);
-    has_ranges(&leaf, text, 0)
-        && has_ranges(&leaf, text, 1)
-        && has_ranges(&leaf, text, 5)
-        && has_ranges(&leaf, text, 68)
+    expect_ranges(&leaf, text, 0)?;
+    expect_ranges(&leaf, text, 1)?;
+    expect_ranges(&leaf, text, 5)?;
+    expect_ranges(&leaf, text, 68)
 }
 
 /// A text with so many bytes before it and behind it.
@@ -131,30 +123,44 @@ fn between(alloc: Global, text: &str, before: usize, behind: usize) -> Result<St
     Ok(whole)
 }
 
-fn is_right_between(alloc: Global, text: &str, before: usize, behind: usize) -> bool {
-    match between(alloc, text, before, behind) {
-        Ok(whole) => has_places(whole.as_str()),
-        Err(_) => false,
-    }
+fn expect_right_between(
+    alloc: Global,
+    text: &str,
+    before: usize,
+    behind: usize,
+) -> Result<(), Failure> {
+    let whole = between(alloc, text, before, behind)?;
+    expect_places(whole.as_str())
 }
 
-/// Whether each place of a text is found, with letters before it and behind it.
-fn is_right_anywhere(alloc: Global, text: &str) -> bool {
+/// Fails unless each place of a text is found, with letters before it and behind it.
+fn expect_right_anywhere(alloc: Global, text: &str) -> Result<(), Failure> {
     for letters in 0..67 {
-        if !is_right_between(alloc, text, letters, 70)
-            || !is_right_between(alloc, text, 70, letters)
-        {
-            return false;
-        }
+        within(
+            format_args!("{letters} letters before it"),
+            expect_right_between(alloc, text, letters, 70),
+        )?;
+        within(
+            format_args!("{letters} letters behind it"),
+            expect_right_between(alloc, text, 70, letters),
+        )?;
     }
-    has_places(text)
+    expect_places(text)
 }
 
-fn is_right_repeated(alloc: Global, pattern: &str, times: usize) -> bool {
-    match pattern.repeat(alloc, times) {
-        Ok(text) => is_right_anywhere(alloc, text.as_str()),
-        Err(_) => false,
+fn expect_right_repeated(alloc: Global, pattern: &str, times: usize) -> Result<(), Failure> {
+    let text = pattern.repeat(alloc, times)?;
+    expect_right_anywhere(alloc, text.as_str())
+}
+
+fn expect_right_repeated_each(alloc: Global, pattern: &str) -> Result<(), Failure> {
+    for times in [1usize, 7, 17] {
+        within(
+            format_args!("{times} times"),
+            expect_right_repeated(alloc, pattern, times),
+        )?;
     }
+    Ok(())
 }
 
 /// No character, one of each of one to four bytes, and four of them.
@@ -168,23 +174,24 @@ const PATTERNS: [&str; 6] = [
 ];
 
 #[test]
-fn each_place_of_texts(rt: HostRuntime) {
+fn each_place_of_a_text_is_found_from_the_nearer_end(rt: HostRuntime) -> Result<(), Failure> {
     for pattern in PATTERNS {
-        for times in [1, 7, 17] {
-            assert!(rt; is_right_repeated(rt.alloc(), pattern, times));
-        }
+        within(
+            format_args!("{pattern:?}"),
+            expect_right_repeated_each(rt.alloc(), pattern),
+        )?;
     }
+    Ok(())
 }
 
-fn is_right_in_leaves(alloc: Global, pattern: &str) -> bool {
-    match pattern.repeat(alloc, 70) {
-        Ok(text) => is_right_in_a_tree(alloc, text.as_str()) && is_right_in_a_leaf(text.as_str()),
-        Err(_) => false,
-    }
+fn expect_right_in_leaves(alloc: Global, pattern: &str) -> Result<(), Failure> {
+    let text = pattern.repeat(alloc, 70)?;
+    expect_right_in_a_tree(alloc, text.as_str())?;
+    expect_right_in_a_leaf(text.as_str())
 }
 
 #[test]
-fn each_place_of_leaves(rt: HostRuntime) {
+fn each_place_of_a_leaf_is_found_from_the_nearer_end(rt: HostRuntime) -> Result<(), Failure> {
     for pattern in [
         "a",
         "\u{E9}",
@@ -192,6 +199,10 @@ fn each_place_of_leaves(rt: HostRuntime) {
         "\u{1F438}",
         "a\u{E9}\u{3053}\u{1F438}",
     ] {
-        assert!(rt; is_right_in_leaves(rt.alloc(), pattern));
+        within(
+            format_args!("{pattern:?}"),
+            expect_right_in_leaves(rt.alloc(), pattern),
+        )?;
     }
+    Ok(())
 }

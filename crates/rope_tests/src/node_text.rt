@@ -2,6 +2,8 @@
 ghost use Rattle.std.specs.Prelude.{◌≡◌};
 ghost use Rattle.rope_text.specs.Text.{byte_len};
 
+use rope_plain::failure::Failure;
+use rope_plain::same;
 use rope_text::str_utils::count_chars;
 use rope_tree::NodeText;
 
@@ -12,28 +14,31 @@ fn hello() -> NodeText
 }
 
 #[test]
-fn inserts(rt: HostRuntime) {
+fn a_leaf_takes_bytes_in_and_at_its_end() -> Result<(), Failure> {
     let mut inner = hello();
     let (place, _) = inner.byte_range(3, 3, count_chars(inner.as_str()));
     inner.insert_bytes(place, "oz");
     let mut last = hello();
     last.push_str("oz");
-    assert!(rt; [inner.as_str(), last.as_str()] == ["Helozlo!", "Hello!oz"]);
-    assert!(rt; NodeText::new().len() == 0);
+    same!([inner.as_str(), last.as_str()], ["Helozlo!", "Hello!oz"]);
+    same!(NodeText::new().len(), 0);
+    Ok(())
 }
 
 #[test]
-fn removals(rt: HostRuntime) {
+fn a_leaf_gives_bytes_away() -> Result<(), Failure> {
     let mut text = hello();
     let (from, to) = text.byte_range(2, 4, count_chars(text.as_str()));
     text.remove_bytes(from, to);
-    assert!(rt; text.as_str() == "Heo!");
+    same!(text.as_str(), "Heo!");
+    Ok(())
 }
 
 #[test]
-fn removals_of_a_wide_character(rt: HostRuntime) {
+fn a_leaf_gives_a_wide_character_away() -> Result<(), Failure> {
     let mut text = NodeText::from_str("H\u{e9}llo!");
     let (from, to) = text.byte_range(1, 3, count_chars(text.as_str()));
     text.remove_bytes(from, to);
-    assert!(rt; text.as_str() == "Hlo!");
+    same!(text.as_str(), "Hlo!");
+    Ok(())
 }

@@ -1,26 +1,28 @@
 //! Positions of ropes and of slices.
-use crate::ropes::{holds, holds_by, is_made};
+use crate::ropes::{asks, asks_by, asks_made};
+use rope_plain::failure::Failure;
+use rope_plain::{same, some};
 use rope_position::{Position, Positions};
-use ropey::{Error, LineBreaks, Result, Rope, RopeSlice};
+use ropey::{Error, LineBreaks, Rope, RopeSlice};
 
-/// Whether characters of a text stand on these lines and columns, and are found there.
-fn have_positions<P: Positions>(text: &P, places: &[(usize, usize, usize)]) -> bool {
+/// Fails unless characters of a text stand on these lines and columns, and are found there.
+fn expect_all_positions<P: Positions>(
+    text: &P,
+    places: &[(usize, usize, usize)],
+) -> Result<(), Failure> {
     for (char_idx, line, column) in places {
         let position = Position {
             line: *line,
             column: *column,
         };
-        if text.try_char_to_position(*char_idx) != Ok(position)
-            || text.try_position_to_char(position) != Ok(*char_idx)
-        {
-            return false;
-        }
+        same!(text.try_char_to_position(*char_idx), Ok(position));
+        same!(text.try_position_to_char(position), Ok(*char_idx));
     }
-    true
+    Ok(())
 }
 
 /// Lines and columns, and the characters that are found there, or why none are.
-const ANSWERS: [(usize, usize, Result<usize>); 6] = [
+const ANSWERS: [(usize, usize, ropey::Result<usize>); 6] = [
     (0, 2, Ok(1)),
     (0, 6, Ok(5)),
     (0, 7, Err(Error::Utf16IndexOutOfBounds(7, 6))),
@@ -29,17 +31,19 @@ const ANSWERS: [(usize, usize, Result<usize>); 6] = [
     (2, 99, Err(Error::LineIndexOutOfBounds(2, 2))),
 ];
 
-fn has_answers(rope: &Rope) -> bool {
+fn expect_answers(rope: &Rope) -> Result<(), Failure> {
     for (line, column, answer) in &ANSWERS {
         let position = Position {
             line: *line,
             column: *column,
         };
-        if rope.try_position_to_char(position) != *answer {
-            return false;
-        }
+        same!(rope.try_position_to_char(position), *answer);
     }
-    rope.try_char_to_position(7) == Err(Error::CharIndexOutOfBounds(7, 6))
+    same!(
+        rope.try_char_to_position(7),
+        Err(Error::CharIndexOutOfBounds(7, 6))
+    );
+    Ok(())
 }
 
 const PLACES: [(usize, usize, usize); 7] = [
@@ -52,38 +56,39 @@ const PLACES: [(usize, usize, usize); 7] = [
     (6, 1, 1),
 ];
 
-fn has_positions_of_a_part(slice: Option<RopeSlice<'_>>) -> bool {
-    match slice {
-        Some(slice) => have_positions(&slice, &[(0, 0, 0), (1, 0, 2), (2, 0, 3), (3, 1, 0)]),
-        None => false,
-    }
+fn expect_positions_of_a_part(slice: Option<RopeSlice<'_>>) -> Result<(), Failure> {
+    let slice = some!(slice);
+    expect_all_positions(&slice, &[(0, 0, 0), (1, 0, 2), (2, 0, 3), (3, 1, 0)])
 }
 
-fn has_positions(rope: &Rope) -> bool {
-    have_positions(rope, &PLACES)
-        && has_answers(rope)
-        && has_positions_of_a_part(rope.get_slice(1..4))
+fn expect_positions(rope: &Rope) -> Result<(), Failure> {
+    expect_all_positions(rope, &PLACES)?;
+    expect_answers(rope)?;
+    expect_positions_of_a_part(rope.get_slice(1..4))
 }
 
 #[test]
-fn of_a_rope(rt: HostRuntime) {
-    assert!(rt; holds(rt.alloc(), "a\u{1f438}b\r\n\u{3053}", has_positions));
+fn characters_of_a_rope_have_positions_and_are_found_by_them(
+    rt: HostRuntime,
+) -> Result<(), Failure> {
+    asks(rt.alloc(), "a\u{1f438}b\r\n\u{3053}", expect_positions)
 }
 
-fn has_positions_by_lf(rope: &Rope) -> bool {
-    have_positions(rope, &[(0, 0, 0), (2, 0, 2), (3, 0, 3)])
+fn expect_positions_by_lf(rope: &Rope) -> Result<(), Failure> {
+    expect_all_positions(rope, &[(0, 0, 0), (2, 0, 2), (3, 0, 3)])
 }
 
-fn has_one_position(empty: &Rope) -> bool {
+fn expect_one_position(empty: &Rope) -> Result<(), Failure> {
     let start = Position { line: 0, column: 0 };
-    have_positions(empty, &[(0, 0, 0)])
-        && empty.char_to_position(0) == start
-        && empty.position_to_char(start) == 0
+    expect_all_positions(empty, &[(0, 0, 0)])?;
+    same!(empty.char_to_position(0), start);
+    same!(empty.position_to_char(start), 0);
+    Ok(())
 }
 
 #[test]
-fn of_other_texts(rt: HostRuntime) {
-    assert!(rt; holds_by(rt.alloc(), "a\rb", LineBreaks::Lf, has_positions_by_lf));
-    assert!(rt; is_made(Rope::new(rt.alloc()), has_one_position));
-    assert!(rt; have_positions(&RopeSlice::from(""), &[(0, 0, 0)]));
+fn characters_of_other_texts_have_positions(rt: HostRuntime) -> Result<(), Failure> {
+    asks_by(rt.alloc(), "a\rb", LineBreaks::Lf, expect_positions_by_lf)?;
+    asks_made(Rope::new(rt.alloc()), expect_one_position)?;
+    expect_all_positions(&RopeSlice::from(""), &[(0, 0, 0)])
 }

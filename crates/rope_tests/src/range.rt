@@ -1,13 +1,16 @@
 //! Index ranges.
+use rope_plain::failure::Failure;
+use rope_plain::same;
 use rope_text::range::char_bounds;
 use rope_text::{Error, IndexRange};
+use std::alloc::AllocError;
 
 fn bounds<R: IndexRange>(range: &R) -> [Option<usize>; 2] {
     [range.start(), range.end()]
 }
 
 #[test]
-fn each_range(rt: HostRuntime) {
+fn each_kind_of_range_tells_its_bounds() -> Result<(), Failure> {
     let ranges = [
         bounds(&(1..3)),
         bounds(&(1..)),
@@ -28,29 +31,32 @@ fn each_range(rt: HostRuntime) {
         [Some(1), Some(usize::MAX)],
         [None, Some(usize::MAX)],
     ];
-    assert!(rt; ranges == expected);
+    same!(ranges, expected);
+    Ok(())
 }
 
-/// Whether this was shown.
-fn shows<E: Drop>(shown: Result<String, E>, text: &str) -> bool {
-    match shown {
-        Ok(shown) => shown.as_str() == text,
-        Err(_) => false,
-    }
+/// Fails unless this was shown.
+fn shows(shown: Result<String, AllocError>, text: &str) -> Result<(), Failure> {
+    let shown = shown?;
+    same!(shown.as_str(), text);
+    Ok(())
 }
 
 #[test]
-fn refused_ranges(rt: HostRuntime) {
+fn a_range_is_refused_by_why(rt: HostRuntime) -> Result<(), Failure> {
     let inside = char_bounds(&(2..=4), 5);
     let outside = char_bounds(&(9..7), 6);
     let turned = char_bounds(&(4..2), 6);
     let error = Error::CharRangeInvalid(4, 2);
-    assert!(rt; inside == Ok((2, 5)));
-    assert!(rt; outside == Err(Error::CharRangeOutOfBounds(Some(9), Some(7), 6)));
-    assert!(rt; turned == Err(error));
+    same!(inside, Ok((2, 5)));
+    same!(
+        outside,
+        Err(Error::CharRangeOutOfBounds(Some(9), Some(7), 6))
+    );
+    same!(turned, Err(error));
     let shown = format!(in rt.alloc(); "{error}");
-    assert!(rt; shows(shown, "Invalid char range 4..2: start must be <= end"));
+    shows(shown, "Invalid char range 4..2: start must be <= end")?;
     let shown = format!(in rt.alloc(); "{:?}", Error::ByteRangeOutOfBounds(None, Some(9), 5));
     let expected = "Byte range out of bounds: byte range ..9, Rope/RopeSlice byte length 5";
-    assert!(rt; shows(shown, expected));
+    shows(shown, expected)
 }

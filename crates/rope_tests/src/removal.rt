@@ -1,4 +1,6 @@
 //! Characters taken out of one leaf.
+use rope_plain::failure::Failure;
+use rope_plain::same;
 use rope_text::LineBreaks;
 use rope_tree::build::build;
 use rope_tree::{Made, Maker, Node, remove_at};
@@ -12,99 +14,97 @@ fn remove(maker: &mut Maker, root: &mut Node, start: usize, end: usize) -> Made<
     Ok(false)
 }
 
-/// Whether a tree of the text is made, and becomes what it should.
-fn becomes<F: FnOnce(&mut Node) -> bool>(
+/// Fails unless a tree of the text is made, and becomes what it should.
+fn becomes<F: FnOnce(&mut Node) -> Result<(), Failure>>(
     alloc: Global,
     text: &str,
     breaks: LineBreaks,
-    is_right: F,
-) -> bool
-    requires { F.IsAlwaysCallable is_right }
+    ask: F,
+) -> Result<(), Failure>
+    requires { F.IsAlwaysCallable ask }
 {
-    match build(&mut Maker::new(alloc), text, breaks) {
-        Ok(mut root) => is_right(&mut root),
-        Err(_) => false,
-    }
+    let mut root = build(&mut Maker::new(alloc), text, breaks)?;
+    ask(&mut root)
 }
 
 /// The same of a text of a thousand lines, in 8,000 characters.
-fn becomes_of_lines<F: FnOnce(&mut Node) -> bool>(
+fn becomes_of_lines<F: FnOnce(&mut Node) -> Result<(), Failure>>(
     alloc: Global,
     breaks: LineBreaks,
-    is_right: F,
-) -> bool
-    requires { F.IsAlwaysCallable is_right }
+    ask: F,
+) -> Result<(), Failure>
+    requires { F.IsAlwaysCallable ask }
 {
-    match "Hello!\r\n".repeat(alloc, 1000) {
-        Ok(text) => becomes(alloc, text.as_str(), breaks, is_right),
-        Err(_) => false,
-    }
+    let text = "Hello!\r\n".repeat(alloc, 1000)?;
+    becomes(alloc, text.as_str(), breaks, ask)
 }
 
-fn removes_in_place(alloc: Global, root: &mut Node) -> bool {
+fn removes_in_place(alloc: Global, root: &mut Node) -> Result<(), Failure> {
     let mut maker = Maker::new(alloc);
-    remove(&mut maker, root, 4000, 4008) == Ok(true)
-        && maker.made == 0
-        && [root.info().bytes, root.info().break_count] == [7992, 999]
+    same!(remove(&mut maker, root, 4000, 4008), Ok(true));
+    same!(maker.made, 0);
+    same!([root.info().bytes, root.info().break_count], [7992, 999]);
+    Ok(())
 }
 
-fn removes_by_copies(alloc: Global, root: &mut Node) -> bool {
+fn removes_by_copies(alloc: Global, root: &mut Node) -> Result<(), Failure> {
     let mut maker = Maker::new(alloc);
-    match root.share() {
-        Ok(other) => {
-            remove(&mut maker, root, 4003, 4005) == Ok(true)
-                && maker.made == 2
-                && [root.info().chars, other.info().chars] == [7990, 7992]
-        }
-        Err(_) => false,
-    }
+    let other = root.share()?;
+    same!(remove(&mut maker, root, 4003, 4005), Ok(true));
+    same!(maker.made, 2);
+    same!([root.info().chars, other.info().chars], [7990, 7992]);
+    Ok(())
 }
 
 #[test]
-fn removes_in_place_or_by_copies(rt: HostRuntime) {
+fn removes_in_place_or_by_copies(rt: HostRuntime) -> Result<(), Failure> {
     let alloc = rt.alloc();
-    assert!(rt;
-        becomes_of_lines(alloc, LineBreaks::CrLf, |root| {
-            removes_in_place(alloc, root) && removes_by_copies(alloc, root)
-        })
-    );
+    becomes_of_lines(alloc, LineBreaks::CrLf, |root| {
+        removes_in_place(alloc, root)?;
+        removes_by_copies(alloc, root)
+    })
 }
 
-fn removes_in_no_two_leaves(alloc: Global, root: &mut Node) -> bool {
+fn removes_in_no_two_leaves(alloc: Global, root: &mut Node) -> Result<(), Failure> {
     let mut maker = Maker::new(alloc);
-    remove(&mut maker, root, 0, 2000) == Ok(false) && root.info().chars == 8000
+    same!(remove(&mut maker, root, 0, 2000), Ok(false));
+    same!(root.info().chars, 8000);
+    Ok(())
 }
 
-fn removes_no_whole_leaf(alloc: Global, leaf: &mut Node) -> bool {
+fn removes_no_whole_leaf(alloc: Global, leaf: &mut Node) -> Result<(), Failure> {
     let mut maker = Maker::new(alloc);
-    remove(&mut maker, leaf, 0, 6) == Ok(false)
-        && remove(&mut maker, leaf, 1, 6) == Ok(true)
-        && leaf.info().bytes == 1
+    same!(remove(&mut maker, leaf, 0, 6), Ok(false));
+    same!(remove(&mut maker, leaf, 1, 6), Ok(true));
+    same!(leaf.info().bytes, 1);
+    Ok(())
 }
 
 // Leaves of 984 bytes: at a leaf's ends no LF may come first and no CR last; inside they may meet.
-fn bares_no_end(alloc: Global, root: &mut Node) -> bool {
+fn bares_no_end(alloc: Global, root: &mut Node) -> Result<(), Failure> {
     let mut maker = Maker::new(alloc);
-    remove(&mut maker, root, 983, 984) == Ok(false)
-        && remove(&mut maker, root, 984, 991) == Ok(false)
-        && remove(&mut maker, root, 982, 984) == Ok(true)
-        && root.info().break_count == 999
-        && remove(&mut maker, root, 7, 15) == Ok(true)
-        && [root.info().break_count, root.info().chars] == [998, 7990]
+    same!(remove(&mut maker, root, 983, 984), Ok(false));
+    same!(remove(&mut maker, root, 984, 991), Ok(false));
+    same!(remove(&mut maker, root, 982, 984), Ok(true));
+    same!(root.info().break_count, 999);
+    same!(remove(&mut maker, root, 7, 15), Ok(true));
+    same!([root.info().break_count, root.info().chars], [998, 7990]);
+    Ok(())
 }
 
 #[test]
-fn removes_in_one_leaf_alone_and_bares_no_end_of_it(rt: HostRuntime) {
+fn removes_in_one_leaf_alone_and_bares_no_end_of_it(rt: HostRuntime) -> Result<(), Failure> {
     let alloc = rt.alloc();
-    assert!(rt;
-        becomes_of_lines(alloc, LineBreaks::CrLf, |root| {
-            removes_in_no_two_leaves(alloc, root)
-        })
-    );
-    assert!(rt;
-        becomes(alloc, "Hello!", LineBreaks::Lf, |leaf| {
-            removes_no_whole_leaf(alloc, leaf)
-        })
-    );
-    assert!(rt; becomes_of_lines(alloc, LineBreaks::Unicode, |root| bares_no_end(alloc, root)));
+    becomes_of_lines(
+        alloc,
+        LineBreaks::CrLf,
+        |root| removes_in_no_two_leaves(alloc, root),
+    )?;
+    becomes(
+        alloc,
+        "Hello!",
+        LineBreaks::Lf,
+        |leaf| removes_no_whole_leaf(alloc, leaf),
+    )?;
+    becomes_of_lines(alloc, LineBreaks::Unicode, |root| bares_no_end(alloc, root))
 }

@@ -1,85 +1,90 @@
-//! Ropes that are made, asked, and dropped: here alone, since each place where a rope is dropped takes long to prove.
+//! Ropes that are made, asked, and dropped: here alone, since each place where a rope is dropped
+//! takes long to prove.
+use rope_plain::failure::Failure;
 use rope_plain::texts::{padded, repeated};
-use ropey::{LineBreaks, Result, Rope};
+use ropey::{LineBreaks, Rope};
 use std::alloc::Global;
 
-/// Whether a rope was made, and is right.
-pub fn is_made<F: FnOnce(&Rope) -> bool>(made: Result<Rope>, is_right: F) -> bool
-    requires { F.IsAlwaysCallable is_right }
+/// Fails unless a rope was made, and is right.
+pub fn asks_made<F: FnOnce(&Rope) -> Result<(), Failure>>(
+    made: ropey::Result<Rope>,
+    ask: F,
+) -> Result<(), Failure>
+    requires { F.IsAlwaysCallable ask }
 {
-    match made {
-        Ok(rope) => is_right(&rope),
-        Err(_) => false,
-    }
+    let rope = made?;
+    ask(&rope)
 }
 
-/// Whether a rope of the text, by a set of line breaks, is made, and is right.
-pub fn holds_by<F: FnOnce(&Rope) -> bool>(
+/// Fails unless a rope of the text, by a set of line breaks, is made, and is right.
+pub fn asks_by<F: FnOnce(&Rope) -> Result<(), Failure>>(
     alloc: Global,
     text: &str,
     breaks: LineBreaks,
-    is_right: F,
-) -> bool
-    requires { F.IsAlwaysCallable is_right }
+    ask: F,
+) -> Result<(), Failure>
+    requires { F.IsAlwaysCallable ask }
 {
-    is_made(Rope::from_str_with(alloc, text, breaks), is_right)
+    asks_made(Rope::from_str_with(alloc, text, breaks), ask)
 }
 
-/// Whether a rope of the text is made, and is right.
-pub fn holds<F: FnOnce(&Rope) -> bool>(alloc: Global, text: &str, is_right: F) -> bool
-    requires { F.IsAlwaysCallable is_right }
+/// Fails unless a rope of the text is made, and is right.
+pub fn asks<F: FnOnce(&Rope) -> Result<(), Failure>>(
+    alloc: Global,
+    text: &str,
+    ask: F,
+) -> Result<(), Failure>
+    requires { F.IsAlwaysCallable ask }
 {
-    holds_by(alloc, text, LineBreaks::Unicode, is_right)
+    asks_by(alloc, text, LineBreaks::Unicode, ask)
 }
 
-/// Whether a rope of so many times the text is made, and is right.
-pub fn holds_of_many<F: FnOnce(&Rope) -> bool>(
+/// Fails unless a rope of so many times the text is made, and is right.
+pub fn asks_of_many<F: FnOnce(&Rope) -> Result<(), Failure>>(
     alloc: Global,
     text: &str,
     count: usize,
-    is_right: F,
-) -> bool
-    requires { F.IsAlwaysCallable is_right }
+    ask: F,
+) -> Result<(), Failure>
+    requires { F.IsAlwaysCallable ask }
 {
-    match repeated(alloc, text, count) {
-        Ok(text) => holds(alloc, text.as_str(), is_right),
-        Err(_) => false,
-    }
+    let text = repeated(alloc, text, count)?;
+    asks(alloc, text.as_str(), ask)
 }
 
-/// Whether a rope of so many bytes, with such an end, is made, and is right.
-pub fn holds_of_padded<F: FnOnce(&Rope) -> bool>(
+/// Fails unless a rope of so many bytes, with such an end, is made, and is right.
+pub fn asks_of_padded<F: FnOnce(&Rope) -> Result<(), Failure>>(
     alloc: Global,
     bytes: usize,
     end: &str,
-    is_right: F,
-) -> bool
-    requires { F.IsAlwaysCallable is_right }
+    ask: F,
+) -> Result<(), Failure>
+    requires { F.IsAlwaysCallable ask }
 {
-    match padded(alloc, "", bytes, end) {
-        Ok(text) => holds(alloc, text.as_str(), is_right),
-        Err(_) => false,
-    }
+    let text = padded(alloc, "", bytes, end)?;
+    asks(alloc, text.as_str(), ask)
 }
 
-/// Whether a rope of the text, by a set of line breaks, is made, and becomes what it should.
-pub fn becomes_by<F: FnOnce(&mut Rope) -> bool>(
+/// Fails unless a rope of the text, by a set of line breaks, is made, and becomes what it should.
+pub fn becomes_by<F: FnOnce(&mut Rope) -> Result<(), Failure>>(
     alloc: Global,
     text: &str,
     breaks: LineBreaks,
-    is_right: F,
-) -> bool
-    requires { F.IsAlwaysCallable is_right }
+    ask: F,
+) -> Result<(), Failure>
+    requires { F.IsAlwaysCallable ask }
 {
-    match Rope::from_str_with(alloc, text, breaks) {
-        Ok(mut rope) => is_right(&mut rope),
-        Err(_) => false,
-    }
+    let mut rope = Rope::from_str_with(alloc, text, breaks)?;
+    ask(&mut rope)
 }
 
-/// Whether a rope of the text is made, and becomes what it should.
-pub fn becomes<F: FnOnce(&mut Rope) -> bool>(alloc: Global, text: &str, is_right: F) -> bool
-    requires { F.IsAlwaysCallable is_right }
+/// Fails unless a rope of the text is made, and becomes what it should.
+pub fn becomes<F: FnOnce(&mut Rope) -> Result<(), Failure>>(
+    alloc: Global,
+    text: &str,
+    ask: F,
+) -> Result<(), Failure>
+    requires { F.IsAlwaysCallable ask }
 {
-    becomes_by(alloc, text, LineBreaks::Unicode, is_right)
+    becomes_by(alloc, text, LineBreaks::Unicode, ask)
 }

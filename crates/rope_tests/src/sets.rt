@@ -1,15 +1,15 @@
-//! Ropes of each set of line breaks, against rows that were worked by hand and plain lists of characters.
-use crate::lookups::have_lines;
-use crate::ropes::{becomes_by, holds_by, is_made};
-use rope_plain::compare::{compare, has_few_chunks};
+//! Ropes of each set of line breaks, against rows that were worked by hand and plain lists of
+//! characters.
+use crate::lookups::expect_all_lines;
+use crate::ropes::{asks_by, asks_made, becomes_by};
+use rope_plain::compare::{SETS, compare, expect_few_chunks};
+use rope_plain::failure::{Failure, within};
 use rope_plain::numbers::Numbers;
 use rope_plain::places::compare_at;
+use rope_plain::same;
 use rope_plain::texts::{BREAKS, chars_of, random_text};
 use ropey::{Error, LineBreaks, Rope};
 use std::alloc::Global;
-
-/// Each set of line breaks.
-const SETS: [LineBreaks; 3] = [LineBreaks::Lf, LineBreaks::CrLf, LineBreaks::Unicode];
 
 /// By each set of line breaks how many lines there are, and the lines of five characters.
 const LINES: [(LineBreaks, usize, [(usize, usize); 5]); 3] = [
@@ -26,132 +26,165 @@ const LINES: [(LineBreaks, usize, [(usize, usize); 5]); 3] = [
     ),
 ];
 
-/// Whether a rope has this set of line breaks, so many lines, and characters on these.
-fn has_lines(rope: &Rope, breaks: LineBreaks, count: usize, places: &[(usize, usize)]) -> bool {
-    rope.line_breaks() == breaks && rope.len_lines() == count && have_lines(rope, places)
+/// Fails unless a rope has this set of line breaks, so many lines, and characters on these.
+fn expect_lines(
+    rope: &Rope,
+    breaks: LineBreaks,
+    count: usize,
+    places: &[(usize, usize)],
+) -> Result<(), Failure> {
+    same!(rope.line_breaks(), breaks);
+    same!(rope.len_lines(), count);
+    expect_all_lines(rope, places)
 }
 
-fn have_lines_by_set(alloc: Global) -> bool {
+fn expect_lines_by_set(alloc: Global) -> Result<(), Failure> {
     for (breaks, count, places) in &LINES {
-        if !holds_by(alloc, BREAKS, *breaks, |rope| {
-            has_lines(rope, *breaks, *count, places)
-        }) {
-            return false;
-        }
+        within(
+            format_args!("line breaks {breaks:?}"),
+            asks_by(
+                alloc,
+                BREAKS,
+                *breaks,
+                |rope| expect_lines(rope, *breaks, *count, places),
+            ),
+        )?;
     }
-    true
+    Ok(())
 }
 
 #[test]
-fn lines_of_chars_by_set(rt: HostRuntime) {
-    assert!(rt; have_lines_by_set(rt.alloc()));
+fn characters_lie_on_lines_by_each_set(rt: HostRuntime) -> Result<(), Failure> {
+    expect_lines_by_set(rt.alloc())
 }
 
-/// Whether the starts of all lines are these, and the end follows them.
-fn starts_are(rope: &Rope, starts: &[usize]) -> bool {
+/// Fails unless the starts of all lines are these, and the end follows them.
+fn starts_are(rope: &Rope, starts: &[usize]) -> Result<(), Failure> {
     for (line, start) in starts.iter().enumerate() {
-        if rope.try_line_to_char(line) != Ok(*start) {
-            return false;
-        }
+        same!(rope.try_line_to_char(line), Ok(*start));
     }
     let past = Error::LineIndexOutOfBounds(starts.len(), rope.len_lines());
-    rope.try_line_to_char(starts.len()) == Err(past)
+    same!(rope.try_line_to_char(starts.len()), Err(past));
+    Ok(())
 }
 
-/// Whether the starts of all lines by a set of line breaks are these.
-fn has_starts(alloc: Global, breaks: LineBreaks, starts: &[usize]) -> bool {
-    holds_by(alloc, BREAKS, breaks, |rope| starts_are(rope, starts))
+/// Fails unless the starts of all lines by a set of line breaks are these.
+fn expect_starts(alloc: Global, breaks: LineBreaks, starts: &[usize]) -> Result<(), Failure> {
+    asks_by(alloc, BREAKS, breaks, |rope| starts_are(rope, starts))
 }
 
 #[test]
-fn starts_of_lines_by_set(rt: HostRuntime) {
+fn lines_start_by_each_set(rt: HostRuntime) -> Result<(), Failure> {
     let every = [0, 1, 8, 9, 11, 13, 15, 23, 37, 37];
-    assert!(rt; has_starts(rt.alloc(), LineBreaks::Lf, &[0, 1, 8, 37]));
-    assert!(rt; has_starts(rt.alloc(), LineBreaks::CrLf, &[0, 1, 8, 9, 37]));
-    assert!(rt; has_starts(rt.alloc(), LineBreaks::Unicode, &every));
+    expect_starts(rt.alloc(), LineBreaks::Lf, &[0, 1, 8, 37])?;
+    expect_starts(rt.alloc(), LineBreaks::CrLf, &[0, 1, 8, 9, 37])?;
+    expect_starts(rt.alloc(), LineBreaks::Unicode, &every)
 }
 
-/// Whether a rope of another set is refused at the end of this one.
-fn refuses_another_set(alloc: Global, rope: &mut Rope, text: &str) -> bool {
-    match Rope::from_str(alloc, text) {
-        Ok(other) => rope.append(other) == Err(Error::LineBreaksDiffer),
-        Err(_) => false,
-    }
+/// Fails unless a rope of another set is refused at the end of this one.
+fn refuses_another_set(alloc: Global, rope: &mut Rope, text: &str) -> Result<(), Failure> {
+    let other = Rope::from_str(alloc, text)?;
+    same!(rope.append(other), Err(Error::LineBreaksDiffer));
+    Ok(())
 }
 
-fn has_text_by_lf(alloc: Global, rope: &Rope, text: &str) -> bool {
-    match chars_of(alloc, text) {
-        Ok(plain) => compare(rope, &plain, LineBreaks::Lf).is_ok(),
-        Err(_) => false,
-    }
+fn expect_text_by_lf(alloc: Global, rope: &Rope, text: &str) -> Result<(), Failure> {
+    let plain = chars_of(alloc, text)?;
+    compare(rope, &plain, LineBreaks::Lf)
 }
 
-/// Whether a rope of another set is refused, and this one stays.
-fn keeps_its_set(alloc: Global, text: &str) -> bool {
+/// Fails unless a rope of another set is refused, and this one stays.
+fn keeps_its_set(alloc: Global, text: &str) -> Result<(), Failure> {
     becomes_by(alloc, text, LineBreaks::Lf, |rope| {
-        refuses_another_set(alloc, rope, text) && has_text_by_lf(alloc, rope, text)
+        refuses_another_set(alloc, rope, text)?;
+        expect_text_by_lf(alloc, rope, text)
     })
 }
 
 #[test]
-fn ropes_of_two_sets(rt: HostRuntime) {
-    assert!(rt; keeps_its_set(rt.alloc(), ""));
-    assert!(rt; keeps_its_set(rt.alloc(), "a\r\n"));
+fn ropes_of_two_sets_are_not_joined(rt: HostRuntime) -> Result<(), Failure> {
+    keeps_its_set(rt.alloc(), "")?;
+    keeps_its_set(rt.alloc(), "a\r\n")
 }
 
-fn is_empty_by(alloc: Global, breaks: LineBreaks) -> bool {
-    is_made(Rope::new_with(alloc, breaks), |rope| {
-        compare(rope, &[], breaks).is_ok()
-    })
+fn expect_empty_by(alloc: Global, breaks: LineBreaks) -> Result<(), Failure> {
+    asks_made(
+        Rope::new_with(alloc, breaks),
+        |rope| compare(rope, &[], breaks),
+    )
 }
 
 #[test]
-fn empty_ropes_by_set(rt: HostRuntime) {
+fn an_empty_rope_keeps_its_set(rt: HostRuntime) -> Result<(), Failure> {
     for breaks in SETS {
-        assert!(rt; is_empty_by(rt.alloc(), breaks));
+        within(
+            format_args!("line breaks {breaks:?}"),
+            expect_empty_by(rt.alloc(), breaks),
+        )?;
     }
+    Ok(())
 }
 
-/// Whether look-ups at some places of a rope answer as a plain list does.
-fn has_places(rope: &Rope, plain: &[char], numbers: &mut Numbers) -> bool {
+/// Fails unless look-ups at some places of a rope answer as a plain list does.
+fn expect_places(rope: &Rope, plain: &[char], numbers: &mut Numbers) -> Result<(), Failure> {
     for _ in 0..20 {
-        if compare_at(rope, plain, numbers.up_to(plain.len())).is_err() {
-            return false;
-        }
+        compare_at(rope, plain, numbers.up_to(plain.len()))?;
     }
-    true
+    Ok(())
 }
 
-/// Whether a rope is a plain list, in whole and at some places.
-fn is_plain(rope: &Rope, plain: &[char], numbers: &mut Numbers) -> bool {
-    compare(rope, plain, rope.line_breaks()).is_ok()
-        && has_few_chunks(rope).is_ok()
-        && has_places(rope, plain, numbers)
+/// Fails unless a rope is a plain list, in whole and at some places.
+fn expect_plain(rope: &Rope, plain: &[char], numbers: &mut Numbers) -> Result<(), Failure> {
+    compare(rope, plain, rope.line_breaks())?;
+    expect_few_chunks(rope)?;
+    expect_places(rope, plain, numbers)
 }
 
-fn is_text_by(alloc: Global, text: &str, numbers: &mut Numbers, breaks: LineBreaks) -> bool {
-    match chars_of(alloc, text) {
-        Ok(plain) => holds_by(alloc, text, breaks, |rope| {
-            rope.line_breaks() == breaks && is_plain(rope, &plain, numbers)
-        }),
-        Err(_) => false,
-    }
+fn expect_text_by(
+    alloc: Global,
+    text: &str,
+    numbers: &mut Numbers,
+    breaks: LineBreaks,
+) -> Result<(), Failure> {
+    let plain = chars_of(alloc, text)?;
+    asks_by(alloc, text, breaks, |rope| {
+        same!(rope.line_breaks(), breaks);
+        expect_plain(rope, &plain, numbers)
+    })
 }
 
-/// Whether a rope of a text of up to 4,000 bytes is right.
-fn is_random_text(alloc: Global, numbers: &mut Numbers, breaks: LineBreaks) -> bool {
-    match random_text(alloc, numbers, 4_000) {
-        Ok(text) => is_text_by(alloc, text.as_str(), numbers, breaks),
-        Err(_) => false,
+/// Fails unless a rope of a text of up to 4,000 bytes is right.
+fn expect_random_text(
+    alloc: Global,
+    numbers: &mut Numbers,
+    breaks: LineBreaks,
+) -> Result<(), Failure> {
+    let text = random_text(alloc, numbers, 4_000)?;
+    expect_text_by(alloc, text.as_str(), numbers, breaks)
+}
+
+/// The number that the row of texts begins with.
+const SEED: u64 = 0x9E37_79B9_7F4A_7C15;
+
+/// Fails unless ropes of random texts are right, by each set of line breaks.
+fn expect_random_text_by_each_set(alloc: Global, numbers: &mut Numbers) -> Result<(), Failure> {
+    for breaks in SETS {
+        within(
+            format_args!("line breaks {breaks:?}"),
+            expect_random_text(alloc, numbers, breaks),
+        )?;
     }
+    Ok(())
 }
 
 #[test]
-fn random_texts_by_set(rt: HostRuntime) {
-    let mut numbers = Numbers::new(0x9E37_79B9_7F4A_7C15);
-    for _ in 0..50 {
-        for breaks in SETS {
-            assert!(rt; is_random_text(rt.alloc(), &mut numbers, breaks));
-        }
+fn ropes_of_random_texts_are_their_lists(rt: HostRuntime) -> Result<(), Failure> {
+    let mut numbers = Numbers::new(SEED);
+    for round in 0..50usize {
+        within(
+            format_args!("seed {SEED:#x}, round {round}"),
+            expect_random_text_by_each_set(rt.alloc(), &mut numbers),
+        )?;
     }
+    Ok(())
 }

@@ -1,4 +1,6 @@
 //! Counts at each place of a text.
+use rope_plain::failure::{Failure, within};
+use rope_plain::{holds, same};
 use rope_text::str_utils::{
     byte_to_char_idx, byte_to_surrogates, char_to_byte_idx, char_to_line_idx, char_to_utf16_idx,
     count_utf16, line_to_byte_idx, utf16_to_char_idx,
@@ -15,8 +17,8 @@ struct Counts {
 }
 
 impl Counts {
-    /// Whether a text counts so, of the pattern after k letters and before some more.
-    fn are_of(self, text: &str, k: u8, more: u8) -> bool {
+    /// Fails unless a text counts so, of the pattern after k letters and before some more.
+    fn expect_of(self, text: &str, k: u8, more: u8) -> Result<(), Failure> {
         let chars = usize::from(k) + usize::from(more) + usize::from(self.chars);
         let pairs = usize::from(self.pairs);
         let info = TextInfo {
@@ -25,11 +27,13 @@ impl Counts {
             utf16_surrogates: pairs,
             break_count: self.break_count,
         };
-        TextInfo::from_str(text, LineBreaks::Unicode) == info && count_utf16(text) == chars + pairs
+        same!(TextInfo::from_str(text, LineBreaks::Unicode), info);
+        same!(count_utf16(text), chars + pairs);
+        Ok(())
     }
 
-    /// Whether the letter after k letters and the pattern is found, by each of its indices.
-    fn place(self, text: &str, byte: usize, k: u8) -> bool {
+    /// Fails unless the letter after k letters and the pattern is found, by each of its indices.
+    fn place(self, text: &str, byte: usize, k: u8) -> Result<(), Failure> {
         let idx = usize::from(k) + usize::from(self.chars);
         let pairs = usize::from(self.pairs);
         let unit = idx + pairs;
@@ -41,8 +45,9 @@ impl Counts {
             byte_to_surrogates(text, byte),
             char_to_line_idx(text, idx),
         ];
-        found == [byte, idx, unit, idx, pairs, self.break_count]
-            && (self.break_count == 0 || line_to_byte_idx(text, self.break_count) == byte)
+        same!(found, [byte, idx, unit, idx, pairs, self.break_count]);
+        holds!(self.break_count == 0 || line_to_byte_idx(text, self.break_count) == byte);
+        Ok(())
     }
 }
 
@@ -57,31 +62,41 @@ fn text_of(alloc: Global, k: u8, pattern: &str, more: usize) -> Result<String, A
     Ok(text)
 }
 
-fn is_counted(alloc: Global, pattern: &str, k: u8, counts: Counts) -> bool {
-    match text_of(alloc, k, pattern, 0) {
-        Ok(text) => counts.are_of(text.as_str(), k, 1),
-        Err(_) => false,
-    }
+fn expect_counted(alloc: Global, pattern: &str, k: u8, counts: Counts) -> Result<(), Failure> {
+    let text = text_of(alloc, k, pattern, 0)?;
+    counts.expect_of(text.as_str(), k, 1)
 }
 
-fn is_counted_and_placed(alloc: Global, pattern: &str, k: u8, counts: Counts) -> bool {
+fn expect_counted_and_placed(
+    alloc: Global,
+    pattern: &str,
+    k: u8,
+    counts: Counts,
+) -> Result<(), Failure> {
     let byte = usize::from(k).saturating_add(pattern.len());
-    match text_of(alloc, k, pattern, 40) {
-        Ok(text) => { counts.are_of(text.as_str(), k, 41) && counts.place(text.as_str(), byte, k) }
-        Err(_) => false,
-    }
+    let text = text_of(alloc, k, pattern, 40)?;
+    counts.expect_of(text.as_str(), k, 41)?;
+    counts.place(text.as_str(), byte, k)
 }
 
-/// Whether the pattern is counted where it comes to stand at each place of a block and across two.
-fn is_counted_at_each_place(alloc: Global, pattern: &str, counts: Counts) -> bool {
+/// Fails unless the pattern is counted where it comes to stand at each place of a block and across
+/// two.
+fn expect_counted_at_each_place(
+    alloc: Global,
+    pattern: &str,
+    counts: Counts,
+) -> Result<(), Failure> {
     for k in 0..131u8 {
-        if !is_counted(alloc, pattern, k, counts)
-            || !is_counted_and_placed(alloc, pattern, k, counts)
-        {
-            return false;
-        }
+        within(
+            format_args!("k {k}"),
+            expect_counted(alloc, pattern, k, counts),
+        )?;
+        within(
+            format_args!("k {k}"),
+            expect_counted_and_placed(alloc, pattern, k, counts),
+        )?;
     }
-    true
+    Ok(())
 }
 
 /// Patterns, and their characters, line breaks and pairs of code units.
@@ -97,19 +112,20 @@ const PATTERNS: [(&str, u8, usize, u8); 8] = [
 ];
 
 #[test]
-fn patterns_at_each_place(rt: HostRuntime) {
+fn a_pattern_is_counted_at_each_place_of_a_block(rt: HostRuntime) -> Result<(), Failure> {
     for (pattern, chars, break_count, pairs) in PATTERNS {
         let counts = Counts {
             chars,
             break_count,
             pairs,
         };
-        assert!(rt; is_counted_at_each_place(rt.alloc(), pattern, counts));
+        expect_counted_at_each_place(rt.alloc(), pattern, counts)?;
     }
+    Ok(())
 }
 
 #[test]
-fn sums(rt: HostRuntime) {
+fn counts_of_parts_add_up() -> Result<(), Failure> {
     let front = TextInfo {
         bytes: 3,
         chars: 3,
@@ -122,8 +138,9 @@ fn sums(rt: HostRuntime) {
         TextInfo::from_str("a\r\n", LineBreaks::CrLf),
         front.plus(front).minus(front),
     ];
-    assert!(rt; infos == [front; 2]);
-    assert!(rt; [whole.bytes, whole.chars, whole.break_count] == [11, 6, 2]);
-    assert!(rt; [back.bytes, back.chars, back.utf16_surrogates] == [8, 3, 1]);
-    assert!(rt; TextInfo::new() == TextInfo::from_str("", LineBreaks::Lf));
+    same!(infos, [front; 2]);
+    same!([whole.bytes, whole.chars, whole.break_count], [11, 6, 2]);
+    same!([back.bytes, back.chars, back.utf16_surrogates], [8, 3, 1]);
+    same!(TextInfo::new(), TextInfo::from_str("", LineBreaks::Lf));
+    Ok(())
 }

@@ -1,6 +1,8 @@
-//! UTF-8 checked at every place of a block: byte strings of which Unicode's Table 3-7 says whether they are characters, and strings
-//! that look random, against the standard library.
+//! UTF-8 checked at every place of a block: byte strings of which Unicode's Table 3-7 says whether
+//! they are characters, and strings that look random, against the standard library.
+use rope_plain::failure::{Failure, within};
 use rope_plain::numbers::Numbers;
+use rope_plain::{holds, same};
 use rope_text::utf8::{front, text_of, valid_len};
 use std::alloc::{AllocFailed, Global};
 
@@ -26,8 +28,9 @@ const CHARACTERS: [([u8; 4], usize); 18] = [
     ([0xF4, 0x8F, 0xBF, 0xBF], 4),
 ];
 
-/// Bytes that no row has, nor any row begins with them and goes on in ASCII: single continuations, overlong forms, surrogates, what
-/// lies beyond the last character, bytes that begin nothing, and characters without their last bytes.
+/// Bytes that no row has, nor any row begins with them and goes on in ASCII: single continuations,
+/// overlong forms, surrogates, what lies beyond the last character, bytes that begin nothing, and
+/// characters without their last bytes.
 const WRONG: [([u8; 4], usize); 36] = [
     ([0x80, 0, 0, 0], 1),
     ([0xBF, 0, 0, 0], 1),
@@ -83,24 +86,32 @@ fn fill(bytes: &mut Vec<u8>, part: &[u8], least: usize) -> Result<(), AllocFaile
     Ok(())
 }
 
-/// Whether the longest text in front has so many bytes.
-fn has_front(bytes: &[u8], len: usize) -> bool {
+/// Fails unless the longest text in front has so many bytes.
+fn expect_front(bytes: &[u8], len: usize) -> Result<(), Failure> {
     let is_whole = len == bytes.len();
-    let has_text = match text_of(bytes) {
-        Some(text) => is_whole && text.as_bytes() == bytes,
-        None => !is_whole,
-    };
-    has_text && valid_len(bytes) == len && bytes.get(..len) == Some(front(bytes).as_bytes())
+    match text_of(bytes) {
+        Some(text) => {
+            holds!(is_whole);
+            same!(text.as_bytes(), bytes);
+        }
+        None => {
+            holds!(!is_whole);
+        }
+    }
+    same!(valid_len(bytes), len);
+    same!(bytes.get(..len), Some(front(bytes).as_bytes()));
+    Ok(())
 }
 
-/// Whether some bytes behind so many bytes of characters are a text or not, as they should be, at the end and before letters.
-fn is_right(
+/// Fails unless some bytes behind so many bytes of characters are a text or not, as they should be,
+/// at the end and before letters.
+fn expect_right(
     alloc: Global,
     filling: &str,
     least: usize,
     (given, len): ([u8; 4], usize),
     is_text: bool,
-) -> Result<bool, AllocFailed<u8>> {
+) -> Result<(), Failure> {
     let mut bytes = Vec::new(alloc);
     fill(&mut bytes, filling.as_bytes(), least)?;
     let before = bytes.len();
@@ -108,41 +119,47 @@ fn is_right(
         bytes.push(*byte)?;
     }
     let end = bytes.len();
-    let is_right_at_end = has_front(&bytes, if is_text { end } else { before });
+    expect_front(&bytes, if is_text { end } else { before })?;
     fill(&mut bytes, b"z", end.saturating_add(40))?;
     let all = bytes.len();
-    Ok(is_right_at_end && has_front(&bytes, if is_text { all } else { before }))
+    expect_front(&bytes, if is_text { all } else { before })
 }
 
-/// Whether all rows are right behind so many bytes.
-fn are_right(
+/// Fails unless all rows are right behind so many bytes.
+fn expect_all_right(
     alloc: Global,
     least: usize,
     rows: &[([u8; 4], usize)],
     is_text: bool,
-) -> Result<bool, AllocFailed<u8>> {
+) -> Result<(), Failure> {
     for filling in FILLINGS {
         for row in rows {
-            if !is_right(alloc, filling, least, *row, is_text)? {
-                return Ok(false);
-            }
+            expect_right(alloc, filling, least, *row, is_text)?;
         }
     }
-    Ok(true)
+    Ok(())
 }
 
 #[test]
-fn characters_at_each_place(rt: HostRuntime) {
+fn characters_are_taken_at_each_place_of_a_block(rt: HostRuntime) -> Result<(), Failure> {
     for least in 0..72 {
-        assert!(rt; are_right(rt.alloc(), least, &CHARACTERS, true).unwrap_or(false));
+        within(
+            format_args!("least {least}"),
+            expect_all_right(rt.alloc(), least, &CHARACTERS, true),
+        )?;
     }
+    Ok(())
 }
 
 #[test]
-fn wrong_bytes_at_each_place(rt: HostRuntime) {
+fn wrong_bytes_are_refused_at_each_place_of_a_block(rt: HostRuntime) -> Result<(), Failure> {
     for least in 0..72 {
-        assert!(rt; are_right(rt.alloc(), least, &WRONG, false).unwrap_or(false));
+        within(
+            format_args!("least {least}"),
+            expect_all_right(rt.alloc(), least, &WRONG, false),
+        )?;
     }
+    Ok(())
 }
 
 /// Bytes at which tests of UTF-8 change.
@@ -171,25 +188,30 @@ fn random_bytes(alloc: Global, numbers: &mut Numbers) -> Result<Vec<u8>, AllocFa
     Ok(bytes)
 }
 
-/// Whether the standard library says the same.
-fn is_as_in_std(bytes: &[u8]) -> bool {
+/// Fails unless the standard library says the same.
+fn expect_as_in_std(bytes: &[u8]) -> Result<(), Failure> {
     match str::from_utf8(bytes) {
-        Ok(text) => has_front(bytes, text.len()),
-        Err(error) => has_front(bytes, error.valid_up_to()),
+        Ok(text) => expect_front(bytes, text.len()),
+        Err(error) => expect_front(bytes, error.valid_up_to()),
     }
 }
 
-fn is_right_of_random(alloc: Global, numbers: &mut Numbers) -> bool {
-    match random_bytes(alloc, numbers) {
-        Ok(bytes) => is_as_in_std(&bytes),
-        Err(_) => false,
-    }
+fn expect_right_of_random(alloc: Global, numbers: &mut Numbers) -> Result<(), Failure> {
+    let bytes = random_bytes(alloc, numbers)?;
+    expect_as_in_std(&bytes)
 }
+
+/// The number that the row of texts begins with.
+const SEED: u64 = 0x9E37_79B9_7F4A_7C15;
 
 #[test]
-fn random_strings(rt: HostRuntime) {
-    let mut numbers = Numbers::new(0x9E37_79B9_7F4A_7C15);
-    for _ in 0..4_000 {
-        assert!(rt; is_right_of_random(rt.alloc(), &mut numbers));
+fn random_bytes_are_judged_as_the_standard_library_does(rt: HostRuntime) -> Result<(), Failure> {
+    let mut numbers = Numbers::new(SEED);
+    for round in 0..4_000 {
+        within(
+            format_args!("seed {SEED:#x}, round {round}"),
+            expect_right_of_random(rt.alloc(), &mut numbers),
+        )?;
     }
+    Ok(())
 }
