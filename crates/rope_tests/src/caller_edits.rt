@@ -2,6 +2,7 @@
 use crate::ropes::{asks, asks_made, becomes};
 use rope_callers::copies::copy_without;
 use rope_callers::edits::titled;
+use rope_callers::first_edit::with_flowers;
 use rope_callers::history::History;
 use rope_callers::places::{insert_at_byte, line_start_of, put_at_end, remove_line};
 use rope_callers::positions::insert_at_position;
@@ -17,6 +18,14 @@ fn a_title_stands_before_its_text(rt: HostRuntime) -> Result<(), Failure> {
     let made = titled(rt.alloc(), "one\ntwo\n", "list\n");
     asks_made(made, |rope| {
         holds!(rope.eq_str("list\none\ntwo\n"));
+        Ok(())
+    })
+}
+
+#[test]
+fn a_line_stands_in_anothers_place(rt: HostRuntime) -> Result<(), Failure> {
+    asks_made(with_flowers(rt.alloc()), |rope| {
+        holds!(rope.eq_str("one\nflowers\nthree\n"));
         Ok(())
     })
 }
