@@ -3,9 +3,9 @@
 #
 #     scripts/compare_c_header.sh
 #
-# It needs sed, awk and diff alone. Each exported function, with its parameters in order, each status and set of line breaks
-# with its number, and each struct with its fields in order becomes a line, once from the source and once from the header.
-# The status is 0 where the two lists are the same.
+# It needs sed, awk and diff alone. A line is made of each exported function with its parameters in order, of each status and
+# set of line breaks with its number, and of each struct with its fields in order: once from the source, once from the
+# header. The status is 0 where the two lists are the same.
 set -euo pipefail
 
 top=$(cd "$(dirname "$0")/.." && pwd)

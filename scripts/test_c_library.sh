@@ -18,6 +18,7 @@ cc=${CC:-cc}
 cxx=${CXX:-c++}
 
 "$top/scripts/compare_c_header.sh"
+"$top/scripts/look_ups_touch_no_count.sh"
 if ! command -v "$cc" > /dev/null; then
     echo "C: not tested, since there is no C compiler ($cc)"
     exit 0

@@ -11,7 +11,6 @@
 enum { HANDLES = 4, PIECES = 64, LONGEST = 6000 };
 
 static uint64_t state = 88172645463325252u;
-static long calls_of[128];
 static const char *now = "";
 
 static uint64_t draw(void) {
@@ -608,11 +607,38 @@ static void build(pair *p) {
     held_all(NULL);
 }
 
+static const char *const names[] = {"make", "make_clone", "release", "shrink", "put_text", "put_char", "cut", "split", "append", "convert", "place",
+    "item", "chunk", "pieces", "line", "range", "compare", "plain", "build"};
+static const int weights[] = {2, 3, 1, 1, 24, 8, 12, 3, 4, 10, 6, 6, 6, 6, 6, 8, 3, 3, 2};
+enum { STEPS = sizeof weights / sizeof *weights };
+
+static void step(int k, pair *p, pair *q) {
+    now = names[k];
+    switch (k) {
+    case 0: make(p); break;
+    case 1: make_clone(p, q); break;
+    case 2: release(p); break;
+    case 3: shrink(p); break;
+    case 4: put_text(p); break;
+    case 5: put_char(p); break;
+    case 6: cut(p); break;
+    case 7: split(p, q); break;
+    case 8: append(p, q); break;
+    case 9: convert(p); break;
+    case 10: place(p); break;
+    case 11: item(p); break;
+    case 12: chunk(p); break;
+    case 13: pieces(p); break;
+    case 14: line(p); break;
+    case 15: range(p); break;
+    case 16: compare(p, q); break;
+    case 17: plain(); break;
+    default: build(p); break;
+    }
+    held_all(NULL);
+}
+
 int main(int argc, char **argv) {
-    static const char *const names[] = {"make", "make_clone", "release", "shrink", "put_text", "put_char", "cut", "split", "append", "convert", "place",
-        "item", "chunk", "pieces", "line", "range", "compare", "plain", "build"};
-    static const int weights[] = {2, 3, 1, 1, 24, 8, 12, 3, 4, 10, 6, 6, 6, 6, 6, 8, 3, 3, 2};
-    enum { STEPS = sizeof weights / sizeof *weights };
     long calls = argc > 1 ? atol(argv[1]) : 20000;
     int all = 0;
     state += argc > 2 ? (uint64_t)atoll(argv[2]) * 0x9E3779B97F4A7C15u : 0;
@@ -627,31 +653,7 @@ int main(int argc, char **argv) {
         for (int left = (int)below((size_t)all); left >= weights[k]; k++) {
             left -= weights[k];
         }
-        pair *p = &pairs[below(HANDLES)], *q = &pairs[below(HANDLES)];
-        now = names[k];
-        calls_of[k]++;
-        switch (k) {
-        case 0: make(p); break;
-        case 1: make_clone(p, q); break;
-        case 2: release(p); break;
-        case 3: shrink(p); break;
-        case 4: put_text(p); break;
-        case 5: put_char(p); break;
-        case 6: cut(p); break;
-        case 7: split(p, q); break;
-        case 8: append(p, q); break;
-        case 9: convert(p); break;
-        case 10: place(p); break;
-        case 11: item(p); break;
-        case 12: chunk(p); break;
-        case 13: pieces(p); break;
-        case 14: line(p); break;
-        case 15: range(p); break;
-        case 16: compare(p, q); break;
-        case 17: plain(); break;
-        default: build(p); break;
-        }
-        held_all(NULL);
+        step(k, &pairs[below(HANDLES)], &pairs[below(HANDLES)]);
     }
     for (size_t i = 0; i < HANDLES; i++) {
         release(&pairs[i]);

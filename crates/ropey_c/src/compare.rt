@@ -2,6 +2,7 @@
 ghost use Rattle.std.specs.Prelude.{◌≡◌, IsTrue, ◌↔◌, Some, None};
 ghost use Rattle.std.specs.Str.{chars, IsUtf8};
 ghost use Rattle.rope_text.specs.Compare.{text_cmp};
+ghost use Rattle.ropey_c.specs.Handles.{HoldsRope};
 ghost use Rattle.ropey_c.specs.Answers.{sign_of, Compares, ComparesText};
 
 use crate::lent::Lent;
@@ -30,6 +31,7 @@ fn sign_of(order: Ordering) -> i32
 #[unsafe(no_mangle)]
 pub extern "C" fn ropey_compare(rope: &Lent, other: &Lent, order: &mut i32) -> u32
     ensures answer { Compares rope.now.rope other.now.rope result order.old order.new }
+    ensures kept { HoldsRope rope.now.rope }
 {
     let Some(left) = rope.held() else {
         return NO_ROPE_HELD;
@@ -59,6 +61,7 @@ fn equals(rope: &Rope, text: &[u8], equal: &mut bool) -> u32
 #[unsafe(no_mangle)]
 pub extern "C" fn ropey_equals_text(rope: &Lent, text: &[u8], equal: &mut bool) -> u32
     ensures answer { ComparesText rope.now.rope text.now result equal.old equal.new }
+    ensures kept { HoldsRope rope.now.rope }
 {
     let Some(held) = rope.held() else {
         return NO_ROPE_HELD;

@@ -8,6 +8,7 @@ ghost use Rattle.rope_text.specs.Lines.{line_count};
 ghost use Rattle.rope_text.specs.Conversions.{byte_to_char, byte_to_line, char_to_byte, char_to_line, char_to_utf16, line_to_byte, line_to_char, utf16_to_char};
 ghost use Rattle.rope_text.specs.Edit.{byte_index_error, char_index_error, line_index_error, utf16_index_error};
 ghost use Rattle.rope_text.specs.Answer.{checked};
+ghost use Rattle.ropey_c.specs.Handles.{HoldsRope};
 ghost use Rattle.ropey_c.specs.Answers.{AnswersAt};
 
 use crate::lent::Lent;
@@ -23,6 +24,7 @@ use crate::status::{NO_ROPE_HELD, answer};
 pub extern "C" fn ropey_byte_to_char(rope: &Lent, byte_idx: usize, char_idx: &mut usize) -> u32
     ensures answer { AnswersAt rope.now.rope (λ r. checked (byte_index_error byte_idx (byte_len r.text)) (byte_to_char r.text byte_idx))
         result char_idx.old char_idx.new }
+    ensures kept { HoldsRope rope.now.rope }
 {
     let Some(held) = rope.held() else {
         return NO_ROPE_HELD;
@@ -40,6 +42,7 @@ pub extern "C" fn ropey_byte_to_char(rope: &Lent, byte_idx: usize, char_idx: &mu
 pub extern "C" fn ropey_byte_to_line(rope: &Lent, byte_idx: usize, line_idx: &mut usize) -> u32
     ensures answer { AnswersAt rope.now.rope (λ r. checked (byte_index_error byte_idx (byte_len r.text)) (byte_to_line r.breaks r.text byte_idx))
         result line_idx.old line_idx.new }
+    ensures kept { HoldsRope rope.now.rope }
 {
     let Some(held) = rope.held() else {
         return NO_ROPE_HELD;
@@ -56,6 +59,7 @@ pub extern "C" fn ropey_byte_to_line(rope: &Lent, byte_idx: usize, line_idx: &mu
 pub extern "C" fn ropey_char_to_byte(rope: &Lent, char_idx: usize, byte_idx: &mut usize) -> u32
     ensures answer { AnswersAt rope.now.rope (λ r. checked (char_index_error char_idx (length r.text)) (char_to_byte r.text char_idx))
         result byte_idx.old byte_idx.new }
+    ensures kept { HoldsRope rope.now.rope }
 {
     let Some(held) = rope.held() else {
         return NO_ROPE_HELD;
@@ -73,6 +77,7 @@ pub extern "C" fn ropey_char_to_byte(rope: &Lent, char_idx: usize, byte_idx: &mu
 pub extern "C" fn ropey_char_to_line(rope: &Lent, char_idx: usize, line_idx: &mut usize) -> u32
     ensures answer { AnswersAt rope.now.rope (λ r. checked (char_index_error char_idx (length r.text)) (char_to_line r.breaks r.text char_idx))
         result line_idx.old line_idx.new }
+    ensures kept { HoldsRope rope.now.rope }
 {
     let Some(held) = rope.held() else {
         return NO_ROPE_HELD;
@@ -89,6 +94,7 @@ pub extern "C" fn ropey_char_to_line(rope: &Lent, char_idx: usize, line_idx: &mu
 pub extern "C" fn ropey_char_to_utf16(rope: &Lent, char_idx: usize, utf16_idx: &mut usize) -> u32
     ensures answer { AnswersAt rope.now.rope (λ r. checked (char_index_error char_idx (length r.text)) (char_to_utf16 r.text char_idx))
         result utf16_idx.old utf16_idx.new }
+    ensures kept { HoldsRope rope.now.rope }
 {
     let Some(held) = rope.held() else {
         return NO_ROPE_HELD;
@@ -106,6 +112,7 @@ pub extern "C" fn ropey_char_to_utf16(rope: &Lent, char_idx: usize, utf16_idx: &
 pub extern "C" fn ropey_utf16_to_char(rope: &Lent, utf16_idx: usize, char_idx: &mut usize) -> u32
     ensures answer { AnswersAt rope.now.rope (λ r. checked (utf16_index_error utf16_idx (utf16_len r.text)) (utf16_to_char r.text utf16_idx))
         result char_idx.old char_idx.new }
+    ensures kept { HoldsRope rope.now.rope }
 {
     let Some(held) = rope.held() else {
         return NO_ROPE_HELD;
@@ -122,6 +129,7 @@ pub extern "C" fn ropey_utf16_to_char(rope: &Lent, utf16_idx: usize, char_idx: &
 pub extern "C" fn ropey_line_to_byte(rope: &Lent, line_idx: usize, byte_idx: &mut usize) -> u32
     ensures answer { AnswersAt rope.now.rope (λ r. checked (line_index_error line_idx (line_count r.breaks r.text)) (line_to_byte r.breaks r.text line_idx))
         result byte_idx.old byte_idx.new }
+    ensures kept { HoldsRope rope.now.rope }
 {
     let Some(held) = rope.held() else {
         return NO_ROPE_HELD;
@@ -138,6 +146,7 @@ pub extern "C" fn ropey_line_to_byte(rope: &Lent, line_idx: usize, byte_idx: &mu
 pub extern "C" fn ropey_line_to_char(rope: &Lent, line_idx: usize, char_idx: &mut usize) -> u32
     ensures answer { AnswersAt rope.now.rope (λ r. checked (line_index_error line_idx (line_count r.breaks r.text)) (line_to_char r.breaks r.text line_idx))
         result char_idx.old char_idx.new }
+    ensures kept { HoldsRope rope.now.rope }
 {
     let Some(held) = rope.held() else {
         return NO_ROPE_HELD;

@@ -6,6 +6,7 @@ ghost use Rattle.rope_text.specs.Text.{byte_len};
 ghost use Rattle.rope_text.specs.Conversions.{byte_to_char};
 ghost use Rattle.rope_text.specs.Edit.{char_range_error, byte_range_error};
 ghost use Rattle.rope_slice.specs.Slice.{text_of};
+ghost use Rattle.ropey_c.specs.Handles.{HoldsRope};
 ghost use Rattle.ropey_c.specs.Answers.{Copies, CopiesOf, CopiesAt};
 
 use crate::lent::Lent;
@@ -75,6 +76,7 @@ pub extern "C" fn ropey_copy_chars(
 ) -> u32
     ensures answer { CopiesAt rope.now.rope (λ r. char_range_error (Some start) (Some end) (length r.text))
         (λ r. encode_utf8_all (slice_range r.text start end)) result buffer.old buffer.new len.old len.new }
+    ensures kept { HoldsRope rope.now.rope }
 {
     let Some(held) = rope.held() else {
         return NO_ROPE_HELD;
@@ -112,6 +114,7 @@ pub extern "C" fn ropey_copy_bytes(
     ensures answer { CopiesAt rope.now.rope (λ r. byte_range_error r.text (Some start) (Some end))
         (λ r. encode_utf8_all (slice_range r.text (byte_to_char r.text start) (byte_to_char r.text end)))
         result buffer.old buffer.new len.old len.new }
+    ensures kept { HoldsRope rope.now.rope }
 {
     let Some(held) = rope.held() else {
         return NO_ROPE_HELD;

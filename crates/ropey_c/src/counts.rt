@@ -4,6 +4,7 @@ ghost use Rattle.std.specs.List.{slice_range};
 ghost use Rattle.rope_text.specs.Conversions.{byte_to_char};
 ghost use Rattle.rope_text.specs.Edit.{char_range_error, byte_range_error};
 ghost use Rattle.rope_slice.specs.Slice.{text_of, breaks_of};
+ghost use Rattle.ropey_c.specs.Handles.{HoldsRope};
 ghost use Rattle.ropey_c.specs.Counts.{IsCounts, CountsOf, CountsAt};
 
 use crate::lent::Lent;
@@ -58,8 +59,9 @@ pub extern "C" fn ropey_counts_in_chars(
     end: usize,
     counts: &mut Counts,
 ) -> u32
-    ensures { CountsAt rope.now.rope (λ r. char_range_error (Some start) (Some end) (length r.text))
+    ensures answer { CountsAt rope.now.rope (λ r. char_range_error (Some start) (Some end) (length r.text))
         (λ r. slice_range r.text start end) result counts.old counts.new }
+    ensures kept { HoldsRope rope.now.rope }
 {
     match rope.held() {
         Some(held) => count_chars(held, start, end, counts),
@@ -93,8 +95,9 @@ pub extern "C" fn ropey_counts_in_bytes(
     end: usize,
     counts: &mut Counts,
 ) -> u32
-    ensures { CountsAt rope.now.rope (λ r. byte_range_error r.text (Some start) (Some end))
+    ensures answer { CountsAt rope.now.rope (λ r. byte_range_error r.text (Some start) (Some end))
         (λ r. slice_range r.text (byte_to_char r.text start) (byte_to_char r.text end)) result counts.old counts.new }
+    ensures kept { HoldsRope rope.now.rope }
 {
     match rope.held() {
         Some(held) => count_bytes(held, start, end, counts),

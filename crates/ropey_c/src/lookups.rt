@@ -4,6 +4,7 @@ ghost use Rattle.std.specs.Prelude.{◌≡◌, ◌+◌, ◌<◌, length, slice_g
 ghost use Rattle.std.specs.Str.{encode_utf8_all};
 ghost use Rattle.rope_text.specs.Conversions.{line_to_char};
 ghost use Rattle.rope_text.specs.Lines.{line_count};
+ghost use Rattle.ropey_c.specs.Handles.{HoldsRope};
 ghost use Rattle.ropey_c.specs.Answers.{FindsAt, FindsLine};
 ghost use Rattle.ropey_c.specs.Status.{number_of};
 
@@ -30,6 +31,7 @@ pub struct Span {
 #[unsafe(no_mangle)]
 pub extern "C" fn ropey_get_break_set(rope: &Lent, break_set: &mut u32) -> u32
     ensures answer { FindsAt rope.now.rope (λ r. Some (number_of r.breaks)) NO_ROPE_HELD result break_set.old break_set.new }
+    ensures kept { HoldsRope rope.now.rope }
 {
     let Some(held) = rope.held() else {
         return NO_ROPE_HELD;
@@ -47,6 +49,7 @@ pub extern "C" fn ropey_get_break_set(rope: &Lent, break_set: &mut u32) -> u32
 pub extern "C" fn ropey_byte(rope: &Lent, byte_idx: usize, byte: &mut u8) -> u32
     ensures answer { FindsAt rope.now.rope (λ r. slice_get (encode_utf8_all r.text) byte_idx)
         BYTE_INDEX_OUT_OF_BOUNDS result byte.old byte.new }
+    ensures kept { HoldsRope rope.now.rope }
 {
     let Some(held) = rope.held() else {
         return NO_ROPE_HELD;
@@ -69,6 +72,7 @@ pub extern "C" fn ropey_byte(rope: &Lent, byte_idx: usize, byte: &mut u8) -> u32
 pub extern "C" fn ropey_char(rope: &Lent, char_idx: usize, c: &mut u32) -> u32
     ensures answer { FindsAt rope.now.rope (λ r. slice_get r.text char_idx)
         CHAR_INDEX_OUT_OF_BOUNDS result c.old c.new }
+    ensures kept { HoldsRope rope.now.rope }
 {
     let Some(held) = rope.held() else {
         return NO_ROPE_HELD;
@@ -103,6 +107,7 @@ fn find_line(rope: &Rope, line_idx: usize, chars: &mut Span) -> u32
 #[unsafe(no_mangle)]
 pub extern "C" fn ropey_line(rope: &Lent, line_idx: usize, chars: &mut Span) -> u32
     ensures answer { FindsLine rope.now.rope line_idx result chars.old chars.new }
+    ensures kept { HoldsRope rope.now.rope }
 {
     let Some(held) = rope.held() else {
         return NO_ROPE_HELD;

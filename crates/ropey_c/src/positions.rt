@@ -5,6 +5,7 @@ ghost use Rattle.rope_text.specs.Edit.{char_index_error};
 ghost use Rattle.rope_text.specs.Position as of_text;
 ghost use Rattle.rope_text.specs.Answer.{checked};
 ghost use Rattle.rope_position.specs.Positions.{position_at};
+ghost use Rattle.ropey_c.specs.Handles.{HoldsRope};
 ghost use Rattle.ropey_c.specs.Answers.{AnswersAt};
 ghost use Rattle.ropey_c.specs.Places.{IsPlace, PlacesAt};
 
@@ -46,6 +47,7 @@ fn answer_place(found: Result<Position>, place: &mut Place) -> u32
 pub extern "C" fn ropey_char_to_position(rope: &Lent, char_idx: usize, place: &mut Place) -> u32
     ensures answer { PlacesAt rope.now.rope (λ r. checked (char_index_error char_idx (length r.text))
         (position_at r.breaks r.text char_idx)) result place.old place.new }
+    ensures kept { HoldsRope rope.now.rope }
 {
     let Some(held) = rope.held() else {
         return NO_ROPE_HELD;
@@ -69,6 +71,7 @@ pub extern "C" fn ropey_position_to_char(
 ) -> u32
     ensures answer { AnswersAt rope.now.rope (λ r. checked (of_text.position_error r.breaks r.text line column)
         (of_text.position_to_char r.breaks r.text line column)) result char_idx.old char_idx.new }
+    ensures kept { HoldsRope rope.now.rope }
 {
     let Some(held) = rope.held() else {
         return NO_ROPE_HELD;
