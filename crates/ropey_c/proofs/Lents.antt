@@ -1,5 +1,5 @@
 -- A `&` to a lent handle holds a `&` to the rope that lies behind it. Assumes `Logic`.
-use Rattle.std.proofs.Common.{◌≡◌, ℕ, List, [], ◌∷◌, ◌++◌, subst, refl, sym, ◌∙◌}
+use Rattle.std.proofs.Common.{◌≡◌, ℕ, List, [], ◌∷◌, ◌++◌, subst, refl, sym}
 use seplogic.Ra.Ura.{Ura}
 use mir.Val.{Val, vstruct, vcons, vnil, of_list}
 use base.Share
@@ -10,7 +10,7 @@ use base.Before.{before}
 use contract.BorrowLft.{meet_⊑_left}
 use ghost.Rules.{Halves}
 use types.Logic.{Logic, sem}
-use types.Kit.{Item, Goal, Seq, Step, step, ‵, raw, ◌⊛◌, some, given, learn, later, ◌$◌, ◌∵◌, !, qed, by, move, keep, drop, use0, use1, use2, use3, split, join, fsplit, fsplit3, fjoin, fpick, fpack, feq_i, feq_l, rewrite, await, suffices, updating, now, assume, frame, done}
+use types.Kit.{Item, Goal, Seq, Step, step, ‵, ◌⊛◌, given, learn, later, ◌$◌, ◌∵◌, !, qed, by, move, keep, drop, use0, use1, use2, use3, split, fsplit, fsplit3, fjoin, fpick, fpack, feq_i, feq_l, rewrite, await, suffices, updating, now, assume, done}
 use types.Tokens.{shr_bor-open, obor_alter, bor_fracture}
 use types.Na.{before-Incl, before_lent}
 use denote.RattleType.{RattleType, Valss}

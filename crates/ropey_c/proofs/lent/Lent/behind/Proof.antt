@@ -1,12 +1,10 @@
 -- `behind` tests the pointer of a lent handle, and reads through it.
-use Rattle.std.proofs.Common.{◌≡◌, ℕ, List, [], ◌∷◌, refl, sym, ap, ◌∙◌, subst, lit<}
+use Rattle.std.proofs.Common.{◌≡◌, List, [], ◌∷◌, refl, lit<}
 use mir.Syntax.{named}
 use mir.Val.{Val, vptr, vcons, vnil}
-use base.Share
-use base.Share.{halves as share_halves}
-use base.Logic.{id⊢, emp}
-use base.Fml.{Share, Fml, ftrue, feq, fsep, flft, fshr_bor}
-use types.Kit.{‵, raw, ◌⊛◌, later, at_ret, ◌$◌, ◌∵◌, !, qed, by, done, move, keep, drop, split, join, fsplit, fjoin, fpick, feq_i, feq_l, await, rewrite, use0, use1, use2}
+use base.Logic.{emp}
+use base.Fml.{ftrue, flft, fshr_bor}
+use types.Kit.{‵, raw, ◌⊛◌, later, at_ret, ◌$◌, ◌∵◌, !, qed, by, move, keep, drop, split, join, fsplit, fjoin, feq_i, await, rewrite, use0, use1, use2}
 use types.Run.{stop, fld, load, lit, addr, of_opd, bin, no_more, and_then, first, blocks, branches, skips, exec, returns, returns_within, enter}
 use types.ByLocal.{alloc_all, pass_all, free_all, look_at, get, through, sets, sets_last, env}
 use types.Part.{agg, look_in, sub, whole}
@@ -15,10 +13,9 @@ use types.Tokens.{shr_bor-open, shr_bor_dup, obor_close}
 use contract.Monad.{fact, fact_i}
 use contract.Running.{tables}
 use denote.Exit.{yes}
-use denote.Memory.{cell_at, cell_cut, cell_join, hidden_shr}
 use denote.Opens.{hide, unhide}
 use denote.RattleType.{RattleType}
-use denote.RawPtr.{Ptr, block_ptr, null_ptr, ptr_val, tests_null}
+use denote.RawPtr.{Ptr, block_ptr, null_ptr, tests_null}
 use denote.Ref.{ShrRef, shr_vals, shr_Tells}
 use denote.Signature.{plain, type_at}
 use denote.Steps.{nothing}
@@ -26,8 +23,8 @@ use denote.Triple.Walked.{Stays, stay_none_ref, walk_of, Goes-none_ref}
 use Rattle.std.proofs.VecSteps.Shapes.{after}
 use Rattle.std.proofs.raw_atomic.Walks.{proved, leaves}
 use Rattle.std.proofs.option.Made.{Some-of, none_of}
-use Rattle.std.specs.Prelude.{Option, None, Some}
-use Rattle.ropey_c.proofs.Lents.{R, Lent, word, shown, lent_cell, lent_tells, cell_halves, shows_as}
+use Rattle.std.specs.Prelude.{None, Some}
+use Rattle.ropey_c.proofs.Lents.{R, Lent, shown, lent_cell, lent_tells, cell_halves, shows_as}
 use Rattle.ropey_c.specs.contracts.lent.Lent.behind.{ended, clauses}
 use Rattle.ropey_c.specs.contracts.lent.Lent.behind.Key.{name as #self}
 use Rattle.ropey_c.proofs.lent.Lent.behind.Statement.{statement}
