@@ -1,44 +1,29 @@
 #!/usr/bin/env bash
-# Builds the library for C, and runs a program in C and one in Rust with it.
+# Builds the library for C: one archive, with nothing else to link.
 #
-#     scripts/build_c_library.sh
+#     scripts/build_c_library.sh [ARCHIVE]
 #
-# It needs `rt`, which proves the library first (and the crates below it, if their proofs aren't kept), a C compiler (`cc`,
-# or the one that CC names) and `cargo`. The library is crates/ropey_c/out/libropey_c.a, and its header c_library/ropey.h.
-# Each program is compared with what it must print. The program in C runs a second time under the address checker, where
-# the compiler has one. The status is 0 where all of them print what they must.
+# It needs `rt`, which proves the library first (and the crates below it; what was proved before in this checkout is not
+# proved again), and `ar`. The archive is crates/ropey_c/out/libropey.a, or the file that is named. What the kit's archive
+# has for memory, three functions over malloc, realloc and free, is merged into it. The script says what it does, and how
+# far the proofs are.
 set -euo pipefail
 
 top=$(cd "$(dirname "$0")/.." && pwd)
-here=$top/c_library
-library=$top/crates/ropey_c/out/libropey_c.a
-# The kit's archive with the three calls to the C library's allocator.
+archive=$(realpath -m "${1:-$top/crates/ropey_c/out/libropey.a}")
 heap=$(find "$(dirname "$(rt doc)")" -name liblibc_c.a | head -n 1)
 work=$(mktemp -d)
 trap 'rm -rf "$work"' EXIT
-compiler=${CC:-cc}
 
-(cd "$top/crates/ropey_c" && rt lib "$@" > "$work/proofs" || { tail -n 40 "$work/proofs"; exit 1; })
+echo "proving and compiling crates/ropey_c (minutes, where it isn't proved yet)"
+(cd "$top/crates/ropey_c" && rt lib 2>&1) | awk -v log_file="$work/proofs" '
+    { print > log_file }
+    /^checked .*[0-9]+ of [0-9]+$/ { if (++seen % 20 == 0) print "  " $(NF - 2) " of " $NF " functions of ropey_c proved" }
+    /^rt: (building|checking)/ { print "  " $0 }
+    { fflush() }' || { tail -n 40 "$work/proofs"; exit 1; }
 tail -n 1 "$work/proofs"
 
-"$compiler" -std=c11 -Wall -Wextra -Werror -O2 -I"$here" "$here/example.c" "$library" "$heap" -o "$work/example"
-"$work/example" > "$work/example.stdout"
-diff "$here/example.stdout" "$work/example.stdout"
-echo 'C: as it must be'
-
-if "$compiler" -std=c11 -g -fsanitize=address,undefined -I"$here" "$here/example.c" "$library" "$heap" -o "$work/checked" 2> "$work/no_checker"; then
-    "$work/checked" > "$work/checked.stdout"
-    diff "$here/example.stdout" "$work/checked.stdout"
-    echo 'C, under the address checker: as it must be'
-fi
-
-"$compiler" -std=c11 -Wall -Wextra -Werror -O2 -I"$here" "$here/checksums.c" "$library" "$heap" -o "$work/checksums"
-"$work/checksums" > "$work/checksums.stdout"
-test "$(wc -l < "$work/checksums.stdout")" -eq 38
-test -z "$(grep -vxFf "$top/crates/rope_bench/stdout" "$work/checksums.stdout")"
-echo 'C: the checksums of rope_bench'
-
-cp -r "$here/rust" "$work/rust"
-(cd "$work/rust" && RUSTFLAGS="-C link-arg=$library -C link-arg=$heap" cargo run --quiet --release --offline > "$work/rust.stdout")
-diff "$here/rust/stdout" "$work/rust.stdout"
-echo 'Rust: as it must be'
+cp "$top/crates/ropey_c/out/libropey_c.a" "$work/libropey.a"
+(cd "$work" && ar x "$heap" && ar rs libropey.a ./*.o)
+cp "$work/libropey.a" "$archive"
+echo "built $archive"

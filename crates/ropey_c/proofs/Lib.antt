@@ -1,4 +1,7 @@
+pub mod BuilderHandles
+pub mod Bytes
 pub mod Copying
 pub mod Filling
 pub mod Handles
+pub mod Lents
 pub mod Parts

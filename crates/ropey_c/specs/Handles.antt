@@ -1,14 +1,15 @@
--- What a handle owns, and what it shows.
-use Rattle.std.specs.Prelude.{ℕ, List, [], Option, None, Some}
+-- What a handle owns or lends, and what it shows.
+use Rattle.std.specs.Prelude.{ℕ, List, [], Option, None, Some, IfSome}
 use Rattle.std.specs.Coded.{Coded}
-use base.Fml.{Fml, feq}
-use denote.RawPtr.{Ptr, null_ptr}
+use base.Fml.{Fml, Lft, Share, ftrue, feq, fsep, fex, flft}
+use denote.RawPtr.{Ptr, null_ptr, Testable}
+use denote.Struct.Lending.{lent_at}
 use Rattle.std.specs.Box.Ownership.{box_owns}
 use Rattle.std.specs.declared.alloc.Global.{Global}
 use Rattle.std.specs.contracts.impls.GlobalAllocator.TheImpl.{ghosts}
 use Rattle.rope_text.specs.declared.line_breaks.LineBreaks.{LineBreaks}
 use Rattle.rope_text.specs.declared.line_breaks.LineBreaks.TheVariants.{Unicode}
-use Rattle.ropey.specs.View.{RopeView}
+use Rattle.ropey.specs.View.{RopeView, IsRope}
 use Rattle.ropey.specs.contracts.Rope.{the_row}
 
 -- how the logic stores what a rope shows
@@ -19,6 +20,23 @@ rope_code = the_row.coded
 abbrev pub rope_at : Global → Ptr → Option RopeView → Fml
 rope_at alloc p None = feq Ptr p null_ptr
 rope_at alloc p (Some rope) = box_owns (ghosts.dealloc_token alloc) the_row p rope
+
+-- some share of a lifetime's token: the lifetime lasts as long as this is held
+abbrev pub lasts : Lft → Fml
+lasts κ = fex Share (λ q. flft κ q)
+
+-- the rope at p is lent for κ, which lasts
+abbrev pub lent_for : Ptr → RopeView → Lft → Fml
+lent_for p rope κ = fsep (lent_at the_row p rope κ) (lasts κ)
+
+-- no rope at null, and else one that is lent
+abbrev pub rope_lent : Ptr → Option RopeView → Fml
+rope_lent p None = feq Ptr p null_ptr
+rope_lent p (Some rope) = fsep (fex (Testable p) (λ _. ftrue)) (fex Lft (lent_for p rope))
+
+-- a handle's rope, if there is one, is what every rope is: chunks of 1 to 984 bytes that join to its text, few of them
+abbrev pub HoldsRope : Option RopeView → Type 0
+HoldsRope rope = IfSome rope IsRope
 
 -- the text and the set of line breaks of a handle's rope; without a rope, those of an empty one
 abbrev pub text_at : Option RopeView → List ℕ

@@ -1,6 +1,9 @@
 pub mod Handles
-pub mod Lending
 pub mod Status
 pub mod Answers
+pub mod Builders
+pub mod Counts
+pub mod ByteEdits
+pub mod Intake
 pub mod Places
 pub mod Pieces

@@ -4,7 +4,7 @@ use Rattle.rope_text.specs.declared.error.Error.{Error}
 use Rattle.rope_position.specs.declared.Position.{Position}
 use Rattle.ropey.specs.View.{RopeView}
 use Rattle.ropey_c.specs.Status.{status_of}
-use Rattle.ropey_c.specs.declared.status.TheConstants.{OK, NO_ROPE}
+use Rattle.ropey_c.specs.declared.status.TheConstants.{OK, NO_ROPE_HELD}
 use Rattle.ropey_c.specs.declared.positions.Place.{Place}
 
 -- a position is written where there is one; a refusal writes nothing
@@ -13,5 +13,5 @@ IsPlace (Ok position) status old new = (status ≡ OK) × (new.line ≡ position
 IsPlace (Err e) status old new = (status ≡ status_of e) × (new ≡ old)
 
 abbrev pub PlacesAt : Option RopeView → (RopeView → Result Position Error) → ℕ → Place → Place → Type 0
-PlacesAt None found status old new = (status ≡ NO_ROPE) × (new ≡ old)
+PlacesAt None found status old new = (status ≡ NO_ROPE_HELD) × (new ≡ old)
 PlacesAt (Some rope) found status old new = IsPlace (found rope) status old new

@@ -2,13 +2,13 @@
 ghost use Rattle.std.specs.Prelude.{◌≡◌, IsTrue, ◌↔◌, Some, None};
 ghost use Rattle.std.specs.Str.{chars, IsUtf8};
 ghost use Rattle.rope_text.specs.Compare.{text_cmp};
+ghost use Rattle.ropey_c.specs.Handles.{HoldsRope};
 ghost use Rattle.ropey_c.specs.Answers.{sign_of, Compares, ComparesText};
 
-use crate::handle::Handle;
-use crate::status::{INVALID_UTF8, NO_ROPE, OK};
+use crate::lent::Lent;
+use crate::status::{INVALID_UTF8, NO_ROPE_HELD, OK};
 use rope_text::utf8;
 use ropey::Rope;
-use std::alloc::Global;
 use std::cmp::Ordering;
 
 // -1, 0 or 1.
@@ -27,33 +27,20 @@ fn sign_of(order: Ordering) -> i32
 ///
 /// # Errors
 ///
-/// `NO_ROPE`, where one of the handles holds none. Then nothing is written.
+/// `NO_ROPE_HELD`, where one of the handles holds none. Then nothing is written.
 #[unsafe(no_mangle)]
-pub extern "C" fn ropey_compare(
-    alloc: Global,
-    rope: &mut Handle,
-    other: &mut Handle,
-    order: &mut i32,
-) -> u32
-    ensures answer { Compares rope.old.rope other.old.rope result order.old order.new }
-    ensures kept { rope.new.rope ≡ rope.old.rope }
-    ensures other_kept { other.new.rope ≡ other.old.rope }
+pub extern "C" fn ropey_compare(rope: &Lent, other: &Lent, order: &mut i32) -> u32
+    ensures answer { Compares rope.now.rope other.now.rope result order.old order.new }
+    ensures kept { HoldsRope rope.now.rope }
 {
-    let Some(left) = rope.take(alloc) else {
-        return NO_ROPE;
+    let Some(left) = rope.held() else {
+        return NO_ROPE_HELD;
     };
-    let status = match other.take(alloc) {
-        Some(right) => {
-            let left: &Rope = &left;
-            let found: &Rope = &right;
-            *order = sign_of(left.cmp(found));
-            other.put(right);
-            OK
-        }
-        None => NO_ROPE,
+    let Some(right) = other.held() else {
+        return NO_ROPE_HELD;
     };
-    rope.put(left);
-    status
+    *order = sign_of(left.cmp(right));
+    OK
 }
 
 fn equals(rope: &Rope, text: &[u8], equal: &mut bool) -> u32
@@ -70,21 +57,14 @@ fn equals(rope: &Rope, text: &[u8], equal: &mut bool) -> u32
 ///
 /// # Errors
 ///
-/// `NO_ROPE`, then `INVALID_UTF8`. Then nothing is written.
+/// `NO_ROPE_HELD`, then `INVALID_UTF8`. Then nothing is written.
 #[unsafe(no_mangle)]
-pub extern "C" fn ropey_equals_text(
-    alloc: Global,
-    rope: &mut Handle,
-    text: &[u8],
-    equal: &mut bool,
-) -> u32
-    ensures answer { ComparesText rope.old.rope text.now result equal.old equal.new }
-    ensures kept { rope.new.rope ≡ rope.old.rope }
+pub extern "C" fn ropey_equals_text(rope: &Lent, text: &[u8], equal: &mut bool) -> u32
+    ensures answer { ComparesText rope.now.rope text.now result equal.old equal.new }
+    ensures kept { HoldsRope rope.now.rope }
 {
-    let Some(held) = rope.take(alloc) else {
-        return NO_ROPE;
+    let Some(held) = rope.held() else {
+        return NO_ROPE_HELD;
     };
-    let status = equals(&held, text, equal);
-    rope.put(held);
-    status
+    equals(held, text, equal)
 }

@@ -8,35 +8,28 @@ ghost use Rattle.rope_text.specs.Lines.{line_count};
 ghost use Rattle.rope_text.specs.Conversions.{byte_to_char, byte_to_line, char_to_byte, char_to_line, char_to_utf16, line_to_byte, line_to_char, utf16_to_char};
 ghost use Rattle.rope_text.specs.Edit.{byte_index_error, char_index_error, line_index_error, utf16_index_error};
 ghost use Rattle.rope_text.specs.Answer.{checked};
+ghost use Rattle.ropey_c.specs.Handles.{HoldsRope};
 ghost use Rattle.ropey_c.specs.Answers.{AnswersAt};
 
-use crate::handle::Handle;
-use crate::status::{NO_ROPE, answer};
-use std::alloc::Global;
+use crate::lent::Lent;
+use crate::status::{NO_ROPE_HELD, answer};
 
 /// The character that holds the byte `byte_idx`, also where the byte is inside the character; at the end of the
 /// text, the number of characters.
 ///
 /// # Errors
 ///
-/// `NO_ROPE`, then `BYTE_INDEX_OUT_OF_BOUNDS`.
+/// `NO_ROPE_HELD`, then `BYTE_INDEX_OUT_OF_BOUNDS`.
 #[unsafe(no_mangle)]
-pub extern "C" fn ropey_byte_to_char(
-    alloc: Global,
-    rope: &mut Handle,
-    byte_idx: usize,
-    char_idx: &mut usize,
-) -> u32
-    ensures answer { AnswersAt rope.old.rope (λ r. checked (byte_index_error byte_idx (byte_len r.text)) (byte_to_char r.text byte_idx))
+pub extern "C" fn ropey_byte_to_char(rope: &Lent, byte_idx: usize, char_idx: &mut usize) -> u32
+    ensures answer { AnswersAt rope.now.rope (λ r. checked (byte_index_error byte_idx (byte_len r.text)) (byte_to_char r.text byte_idx))
         result char_idx.old char_idx.new }
-    ensures kept { rope.new.rope ≡ rope.old.rope }
+    ensures kept { HoldsRope rope.now.rope }
 {
-    let Some(held) = rope.take(alloc) else {
-        return NO_ROPE;
+    let Some(held) = rope.held() else {
+        return NO_ROPE_HELD;
     };
-    let found = held.try_byte_to_char(byte_idx);
-    rope.put(held);
-    answer(found, char_idx)
+    answer(held.try_byte_to_char(byte_idx), char_idx)
 }
 
 /// The line on which the byte `byte_idx` lies. A byte inside a break of several bytes lies on the line that the
@@ -44,48 +37,34 @@ pub extern "C" fn ropey_byte_to_char(
 ///
 /// # Errors
 ///
-/// `NO_ROPE`, then `BYTE_INDEX_OUT_OF_BOUNDS`.
+/// `NO_ROPE_HELD`, then `BYTE_INDEX_OUT_OF_BOUNDS`.
 #[unsafe(no_mangle)]
-pub extern "C" fn ropey_byte_to_line(
-    alloc: Global,
-    rope: &mut Handle,
-    byte_idx: usize,
-    line_idx: &mut usize,
-) -> u32
-    ensures answer { AnswersAt rope.old.rope (λ r. checked (byte_index_error byte_idx (byte_len r.text)) (byte_to_line r.breaks r.text byte_idx))
+pub extern "C" fn ropey_byte_to_line(rope: &Lent, byte_idx: usize, line_idx: &mut usize) -> u32
+    ensures answer { AnswersAt rope.now.rope (λ r. checked (byte_index_error byte_idx (byte_len r.text)) (byte_to_line r.breaks r.text byte_idx))
         result line_idx.old line_idx.new }
-    ensures kept { rope.new.rope ≡ rope.old.rope }
+    ensures kept { HoldsRope rope.now.rope }
 {
-    let Some(held) = rope.take(alloc) else {
-        return NO_ROPE;
+    let Some(held) = rope.held() else {
+        return NO_ROPE_HELD;
     };
-    let found = held.try_byte_to_line(byte_idx);
-    rope.put(held);
-    answer(found, line_idx)
+    answer(held.try_byte_to_line(byte_idx), line_idx)
 }
 
 /// The byte at which the character `char_idx` starts; at the end of the text, the number of bytes.
 ///
 /// # Errors
 ///
-/// `NO_ROPE`, then `CHAR_INDEX_OUT_OF_BOUNDS`.
+/// `NO_ROPE_HELD`, then `CHAR_INDEX_OUT_OF_BOUNDS`.
 #[unsafe(no_mangle)]
-pub extern "C" fn ropey_char_to_byte(
-    alloc: Global,
-    rope: &mut Handle,
-    char_idx: usize,
-    byte_idx: &mut usize,
-) -> u32
-    ensures answer { AnswersAt rope.old.rope (λ r. checked (char_index_error char_idx (length r.text)) (char_to_byte r.text char_idx))
+pub extern "C" fn ropey_char_to_byte(rope: &Lent, char_idx: usize, byte_idx: &mut usize) -> u32
+    ensures answer { AnswersAt rope.now.rope (λ r. checked (char_index_error char_idx (length r.text)) (char_to_byte r.text char_idx))
         result byte_idx.old byte_idx.new }
-    ensures kept { rope.new.rope ≡ rope.old.rope }
+    ensures kept { HoldsRope rope.now.rope }
 {
-    let Some(held) = rope.take(alloc) else {
-        return NO_ROPE;
+    let Some(held) = rope.held() else {
+        return NO_ROPE_HELD;
     };
-    let found = held.try_char_to_byte(char_idx);
-    rope.put(held);
-    answer(found, byte_idx)
+    answer(held.try_char_to_byte(char_idx), byte_idx)
 }
 
 /// The line on which the character `char_idx` lies. The place between CR and LF lies on the line that the pair
@@ -93,48 +72,34 @@ pub extern "C" fn ropey_char_to_byte(
 ///
 /// # Errors
 ///
-/// `NO_ROPE`, then `CHAR_INDEX_OUT_OF_BOUNDS`.
+/// `NO_ROPE_HELD`, then `CHAR_INDEX_OUT_OF_BOUNDS`.
 #[unsafe(no_mangle)]
-pub extern "C" fn ropey_char_to_line(
-    alloc: Global,
-    rope: &mut Handle,
-    char_idx: usize,
-    line_idx: &mut usize,
-) -> u32
-    ensures answer { AnswersAt rope.old.rope (λ r. checked (char_index_error char_idx (length r.text)) (char_to_line r.breaks r.text char_idx))
+pub extern "C" fn ropey_char_to_line(rope: &Lent, char_idx: usize, line_idx: &mut usize) -> u32
+    ensures answer { AnswersAt rope.now.rope (λ r. checked (char_index_error char_idx (length r.text)) (char_to_line r.breaks r.text char_idx))
         result line_idx.old line_idx.new }
-    ensures kept { rope.new.rope ≡ rope.old.rope }
+    ensures kept { HoldsRope rope.now.rope }
 {
-    let Some(held) = rope.take(alloc) else {
-        return NO_ROPE;
+    let Some(held) = rope.held() else {
+        return NO_ROPE_HELD;
     };
-    let found = held.try_char_to_line(char_idx);
-    rope.put(held);
-    answer(found, line_idx)
+    answer(held.try_char_to_line(char_idx), line_idx)
 }
 
 /// The UTF-16 code unit at which the character `char_idx` starts; at the end of the text, the number of code units.
 ///
 /// # Errors
 ///
-/// `NO_ROPE`, then `CHAR_INDEX_OUT_OF_BOUNDS`.
+/// `NO_ROPE_HELD`, then `CHAR_INDEX_OUT_OF_BOUNDS`.
 #[unsafe(no_mangle)]
-pub extern "C" fn ropey_char_to_utf16(
-    alloc: Global,
-    rope: &mut Handle,
-    char_idx: usize,
-    utf16_idx: &mut usize,
-) -> u32
-    ensures answer { AnswersAt rope.old.rope (λ r. checked (char_index_error char_idx (length r.text)) (char_to_utf16 r.text char_idx))
+pub extern "C" fn ropey_char_to_utf16(rope: &Lent, char_idx: usize, utf16_idx: &mut usize) -> u32
+    ensures answer { AnswersAt rope.now.rope (λ r. checked (char_index_error char_idx (length r.text)) (char_to_utf16 r.text char_idx))
         result utf16_idx.old utf16_idx.new }
-    ensures kept { rope.new.rope ≡ rope.old.rope }
+    ensures kept { HoldsRope rope.now.rope }
 {
-    let Some(held) = rope.take(alloc) else {
-        return NO_ROPE;
+    let Some(held) = rope.held() else {
+        return NO_ROPE_HELD;
     };
-    let found = held.try_char_to_utf16_cu(char_idx);
-    rope.put(held);
-    answer(found, utf16_idx)
+    answer(held.try_char_to_utf16_cu(char_idx), utf16_idx)
 }
 
 /// The character that holds the UTF-16 code unit `utf16_idx`, also where that is the second half of a surrogate
@@ -142,70 +107,49 @@ pub extern "C" fn ropey_char_to_utf16(
 ///
 /// # Errors
 ///
-/// `NO_ROPE`, then `UTF16_INDEX_OUT_OF_BOUNDS`.
+/// `NO_ROPE_HELD`, then `UTF16_INDEX_OUT_OF_BOUNDS`.
 #[unsafe(no_mangle)]
-pub extern "C" fn ropey_utf16_to_char(
-    alloc: Global,
-    rope: &mut Handle,
-    utf16_idx: usize,
-    char_idx: &mut usize,
-) -> u32
-    ensures answer { AnswersAt rope.old.rope (λ r. checked (utf16_index_error utf16_idx (utf16_len r.text)) (utf16_to_char r.text utf16_idx))
+pub extern "C" fn ropey_utf16_to_char(rope: &Lent, utf16_idx: usize, char_idx: &mut usize) -> u32
+    ensures answer { AnswersAt rope.now.rope (λ r. checked (utf16_index_error utf16_idx (utf16_len r.text)) (utf16_to_char r.text utf16_idx))
         result char_idx.old char_idx.new }
-    ensures kept { rope.new.rope ≡ rope.old.rope }
+    ensures kept { HoldsRope rope.now.rope }
 {
-    let Some(held) = rope.take(alloc) else {
-        return NO_ROPE;
+    let Some(held) = rope.held() else {
+        return NO_ROPE_HELD;
     };
-    let found = held.try_utf16_cu_to_char(utf16_idx);
-    rope.put(held);
-    answer(found, char_idx)
+    answer(held.try_utf16_cu_to_char(utf16_idx), char_idx)
 }
 
 /// The byte at which the line `line_idx` starts; for the number of lines, the end of the text.
 ///
 /// # Errors
 ///
-/// `NO_ROPE`, then `LINE_INDEX_OUT_OF_BOUNDS`.
+/// `NO_ROPE_HELD`, then `LINE_INDEX_OUT_OF_BOUNDS`.
 #[unsafe(no_mangle)]
-pub extern "C" fn ropey_line_to_byte(
-    alloc: Global,
-    rope: &mut Handle,
-    line_idx: usize,
-    byte_idx: &mut usize,
-) -> u32
-    ensures answer { AnswersAt rope.old.rope (λ r. checked (line_index_error line_idx (line_count r.breaks r.text)) (line_to_byte r.breaks r.text line_idx))
+pub extern "C" fn ropey_line_to_byte(rope: &Lent, line_idx: usize, byte_idx: &mut usize) -> u32
+    ensures answer { AnswersAt rope.now.rope (λ r. checked (line_index_error line_idx (line_count r.breaks r.text)) (line_to_byte r.breaks r.text line_idx))
         result byte_idx.old byte_idx.new }
-    ensures kept { rope.new.rope ≡ rope.old.rope }
+    ensures kept { HoldsRope rope.now.rope }
 {
-    let Some(held) = rope.take(alloc) else {
-        return NO_ROPE;
+    let Some(held) = rope.held() else {
+        return NO_ROPE_HELD;
     };
-    let found = held.try_line_to_byte(line_idx);
-    rope.put(held);
-    answer(found, byte_idx)
+    answer(held.try_line_to_byte(line_idx), byte_idx)
 }
 
 /// The character at which the line `line_idx` starts; for the number of lines, the end of the text.
 ///
 /// # Errors
 ///
-/// `NO_ROPE`, then `LINE_INDEX_OUT_OF_BOUNDS`.
+/// `NO_ROPE_HELD`, then `LINE_INDEX_OUT_OF_BOUNDS`.
 #[unsafe(no_mangle)]
-pub extern "C" fn ropey_line_to_char(
-    alloc: Global,
-    rope: &mut Handle,
-    line_idx: usize,
-    char_idx: &mut usize,
-) -> u32
-    ensures answer { AnswersAt rope.old.rope (λ r. checked (line_index_error line_idx (line_count r.breaks r.text)) (line_to_char r.breaks r.text line_idx))
+pub extern "C" fn ropey_line_to_char(rope: &Lent, line_idx: usize, char_idx: &mut usize) -> u32
+    ensures answer { AnswersAt rope.now.rope (λ r. checked (line_index_error line_idx (line_count r.breaks r.text)) (line_to_char r.breaks r.text line_idx))
         result char_idx.old char_idx.new }
-    ensures kept { rope.new.rope ≡ rope.old.rope }
+    ensures kept { HoldsRope rope.now.rope }
 {
-    let Some(held) = rope.take(alloc) else {
-        return NO_ROPE;
+    let Some(held) = rope.held() else {
+        return NO_ROPE_HELD;
     };
-    let found = held.try_line_to_char(line_idx);
-    rope.put(held);
-    answer(found, char_idx)
+    answer(held.try_line_to_char(line_idx), char_idx)
 }

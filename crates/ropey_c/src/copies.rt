@@ -6,13 +6,13 @@ ghost use Rattle.rope_text.specs.Text.{byte_len};
 ghost use Rattle.rope_text.specs.Conversions.{byte_to_char};
 ghost use Rattle.rope_text.specs.Edit.{char_range_error, byte_range_error};
 ghost use Rattle.rope_slice.specs.Slice.{text_of};
+ghost use Rattle.ropey_c.specs.Handles.{HoldsRope};
 ghost use Rattle.ropey_c.specs.Answers.{Copies, CopiesOf, CopiesAt};
 
-use crate::handle::Handle;
-use crate::status::{BUFFER_TOO_SMALL, NO_ROPE, OK, status_of};
+use crate::lent::Lent;
+use crate::status::{BUFFER_TOO_SMALL, NO_ROPE_HELD, OK, status_of};
 use rope_text::range::char_bounds;
 use ropey::{Rope, RopeSlice};
-use std::alloc::Global;
 
 // Writes the bytes over those from a place on.
 fn write_at(buffer: &mut [u8], at: usize, bytes: &[u8])
@@ -64,27 +64,24 @@ fn copy_chars(rope: &Rope, start: usize, end: usize, buffer: &mut [u8], len: &mu
 ///
 /// # Errors
 ///
-/// `NO_ROPE`, then `CHAR_RANGE_OUT_OF_BOUNDS`, then `CHAR_RANGE_INVALID`, which write nothing; then `BUFFER_TOO_SMALL`,
+/// `NO_ROPE_HELD`, then `CHAR_RANGE_OUT_OF_BOUNDS`, then `CHAR_RANGE_INVALID`, which write nothing; then `BUFFER_TOO_SMALL`,
 /// which writes to `len` how many bytes the buffer has to have, and nothing else.
 #[unsafe(no_mangle)]
 pub extern "C" fn ropey_copy_chars(
-    alloc: Global,
-    rope: &mut Handle,
+    rope: &Lent,
     start: usize,
     end: usize,
     buffer: &mut [u8],
     len: &mut usize,
 ) -> u32
-    ensures answer { CopiesAt rope.old.rope (λ r. char_range_error (Some start) (Some end) (length r.text))
+    ensures answer { CopiesAt rope.now.rope (λ r. char_range_error (Some start) (Some end) (length r.text))
         (λ r. encode_utf8_all (slice_range r.text start end)) result buffer.old buffer.new len.old len.new }
-    ensures kept { rope.new.rope ≡ rope.old.rope }
+    ensures kept { HoldsRope rope.now.rope }
 {
-    let Some(held) = rope.take(alloc) else {
-        return NO_ROPE;
+    let Some(held) = rope.held() else {
+        return NO_ROPE_HELD;
     };
-    let status = copy_chars(&held, start, end, buffer, len);
-    rope.put(held);
-    status
+    copy_chars(held, start, end, buffer, len)
 }
 
 fn copy_bytes(rope: &Rope, start: usize, end: usize, buffer: &mut [u8], len: &mut usize) -> u32
@@ -103,27 +100,24 @@ fn copy_bytes(rope: &Rope, start: usize, end: usize, buffer: &mut [u8], len: &mu
 ///
 /// # Errors
 ///
-/// `NO_ROPE`, then `BYTE_RANGE_INVALID`, then `BYTE_RANGE_OUT_OF_BOUNDS`, then `BYTE_RANGE_NOT_CHAR_BOUNDARY`, which
+/// `NO_ROPE_HELD`, then `BYTE_RANGE_INVALID`, then `BYTE_RANGE_OUT_OF_BOUNDS`, then `BYTE_RANGE_NOT_CHAR_BOUNDARY`, which
 /// write nothing; then `BUFFER_TOO_SMALL`, which writes to `len` how many bytes the buffer has to have, and nothing
 /// else.
 #[unsafe(no_mangle)]
 pub extern "C" fn ropey_copy_bytes(
-    alloc: Global,
-    rope: &mut Handle,
+    rope: &Lent,
     start: usize,
     end: usize,
     buffer: &mut [u8],
     len: &mut usize,
 ) -> u32
-    ensures answer { CopiesAt rope.old.rope (λ r. byte_range_error r.text (Some start) (Some end))
+    ensures answer { CopiesAt rope.now.rope (λ r. byte_range_error r.text (Some start) (Some end))
         (λ r. encode_utf8_all (slice_range r.text (byte_to_char r.text start) (byte_to_char r.text end)))
         result buffer.old buffer.new len.old len.new }
-    ensures kept { rope.new.rope ≡ rope.old.rope }
+    ensures kept { HoldsRope rope.now.rope }
 {
-    let Some(held) = rope.take(alloc) else {
-        return NO_ROPE;
+    let Some(held) = rope.held() else {
+        return NO_ROPE_HELD;
     };
-    let status = copy_bytes(&held, start, end, buffer, len);
-    rope.put(held);
-    status
+    copy_bytes(held, start, end, buffer, len)
 }

@@ -1,17 +1,19 @@
 //! Ropes that are changed.
-ghost use Rattle.std.specs.Prelude.{◌≡◌, ◌≢◌, ◌<◌, ◌⊎◌, ◌++◌, [], ◌∷◌, length, take, drop, None, Some, IfSome, IsSomeAnd, MatchOption};
+ghost use Rattle.std.specs.Prelude.{◌≡◌, ◌≢◌, ◌<◌, ◌⊎◌, ◌++◌, [], ◌∷◌, length, take, drop, None, Some, IfSome, IfErr, OnOk, IsSomeAnd, MatchOption};
 ghost use Rattle.std.specs.Str.{chars};
 ghost use Rattle.rope_text.specs.Edit.{inserted, insert_error, removed, char_range_error, char_index_error, append_error};
-ghost use Rattle.ropey_c.specs.Handles.{text_at, breaks_at};
+ghost use Rattle.ropey_c.specs.Handles.{text_at, breaks_at, HoldsRope};
+ghost use Rattle.ropey.specs.View.{IsRope};
 ghost use Rattle.ropey_c.specs.Status.{IsStatus, IsTextStatus, IsCharStatus};
 ghost use Rattle.ropey_c.specs.Answers.{Changes, Keeps};
 
 use crate::handle::Handle;
 use crate::status::{
-    CHAR_INDEX_OUT_OF_BOUNDS, INVALID_UTF8, NO_ROPE, NOT_A_CHARACTER, OK, OUT_OF_MEMORY, status,
+    CHAR_INDEX_OUT_OF_BOUNDS, INVALID_UTF8, NO_ROPE_HELD, NOT_A_CHARACTER, OK, OUT_OF_MEMORY,
+    status, status_of,
 };
-use rope_text::utf8;
-use ropey::Rope;
+use rope_text::{MAX_TEXT_BYTES, utf8};
+use ropey::{Error, Result, Rope};
 use std::alloc::Global;
 
 fn insert(rope: &mut Rope, char_idx: usize, text: &[u8]) -> u32
@@ -20,6 +22,7 @@ fn insert(rope: &mut Rope, char_idx: usize, text: &[u8]) -> u32
     ensures err { 0 < result → rope.new ≡ rope.old }
     ensures empty { length text.now ≡ 0 → insert_error rope.old.text char_idx [] ≡ None → (result ≡ OK) × (rope.new ≡ rope.old) }
     ensures breaks { rope.new.breaks ≡ rope.old.breaks }
+    ensures kept { IsRope rope.old → IsRope rope.new }
 {
     match utf8::text_of(text) {
         Some(text) => status(rope.try_insert(char_idx, text)),
@@ -33,7 +36,7 @@ fn insert(rope: &mut Rope, char_idx: usize, text: &[u8]) -> u32
 ///
 /// # Errors
 ///
-/// `NO_ROPE`, then `INVALID_UTF8`, then `CHAR_INDEX_OUT_OF_BOUNDS`, then `TOO_LONG`, then `OUT_OF_MEMORY`. A refused
+/// `NO_ROPE_HELD`, then `INVALID_UTF8`, then `CHAR_INDEX_OUT_OF_BOUNDS`, then `TOO_LONG`, then `OUT_OF_MEMORY`. A refused
 /// call leaves the rope as it was.
 #[unsafe(no_mangle)]
 pub extern "C" fn ropey_insert(
@@ -46,9 +49,10 @@ pub extern "C" fn ropey_insert(
         (λ old. IsTextStatus text.now (insert_error old.text char_idx (chars text.now)) result)
         (λ old new. (new.text ≡ inserted old.text char_idx (chars text.now)) × (new.breaks ≡ old.breaks)) }
     ensures empty { length text.now ≡ 0 → Keeps rope.old.rope rope.new.rope result (λ old. insert_error old.text char_idx [] ≡ None) }
+    ensures kept { HoldsRope rope.new.rope }
 {
     let Some(mut held) = rope.take(alloc) else {
-        return NO_ROPE;
+        return NO_ROPE_HELD;
     };
     let status = insert(&mut held, char_idx, text);
     rope.put(held);
@@ -60,6 +64,7 @@ fn insert_char(rope: &mut Rope, char_idx: usize, c: u32) -> u32
     ensures ok { result ≡ OK → rope.new.text ≡ inserted rope.old.text char_idx (c ∷ []) }
     ensures err { 0 < result → rope.new ≡ rope.old }
     ensures breaks { rope.new.breaks ≡ rope.old.breaks }
+    ensures kept { IsRope rope.old → IsRope rope.new }
 {
     match char::from_u32(c) {
         Some(c) => status(rope.try_insert_char(char_idx, c)),
@@ -72,7 +77,7 @@ fn insert_char(rope: &mut Rope, char_idx: usize, c: u32) -> u32
 ///
 /// # Errors
 ///
-/// `NO_ROPE`, then `NOT_A_CHARACTER`, then `CHAR_INDEX_OUT_OF_BOUNDS`, then `TOO_LONG`, then `OUT_OF_MEMORY`. A refused
+/// `NO_ROPE_HELD`, then `NOT_A_CHARACTER`, then `CHAR_INDEX_OUT_OF_BOUNDS`, then `TOO_LONG`, then `OUT_OF_MEMORY`. A refused
 /// call leaves the rope as it was.
 #[unsafe(no_mangle)]
 pub extern "C" fn ropey_insert_char(
@@ -81,12 +86,13 @@ pub extern "C" fn ropey_insert_char(
     char_idx: usize,
     c: u32,
 ) -> u32
-    ensures { Changes rope.old.rope rope.new.rope result
+    ensures changes { Changes rope.old.rope rope.new.rope result
         (λ old. IsCharStatus c (insert_error old.text char_idx (c ∷ [])) result)
         (λ old new. (new.text ≡ inserted old.text char_idx (c ∷ [])) × (new.breaks ≡ old.breaks)) }
+    ensures kept { HoldsRope rope.new.rope }
 {
     let Some(mut held) = rope.take(alloc) else {
-        return NO_ROPE;
+        return NO_ROPE_HELD;
     };
     let status = insert_char(&mut held, char_idx, c);
     rope.put(held);
@@ -98,7 +104,7 @@ pub extern "C" fn ropey_insert_char(
 ///
 /// # Errors
 ///
-/// `NO_ROPE`, then `CHAR_RANGE_OUT_OF_BOUNDS`, then `CHAR_RANGE_INVALID`, then `OUT_OF_MEMORY`. A refused call leaves
+/// `NO_ROPE_HELD`, then `CHAR_RANGE_OUT_OF_BOUNDS`, then `CHAR_RANGE_INVALID`, then `OUT_OF_MEMORY`. A refused call leaves
 /// the rope as it was.
 #[unsafe(no_mangle)]
 pub extern "C" fn ropey_remove(alloc: Global, rope: &mut Handle, start: usize, end: usize) -> u32
@@ -106,9 +112,10 @@ pub extern "C" fn ropey_remove(alloc: Global, rope: &mut Handle, start: usize, e
         (λ old. IsStatus (char_range_error (Some start) (Some end) (length old.text)) result)
         (λ old new. (new.text ≡ removed old.text start end) × (new.breaks ≡ old.breaks)) }
     ensures empty { start ≡ end → Keeps rope.old.rope rope.new.rope result (λ old. char_range_error (Some start) (Some end) (length old.text) ≡ None) }
+    ensures kept { HoldsRope rope.new.rope }
 {
     let Some(mut held) = rope.take(alloc) else {
-        return NO_ROPE;
+        return NO_ROPE_HELD;
     };
     let status = status(held.try_remove(start..end));
     rope.put(held);
@@ -120,9 +127,10 @@ fn split_off(alloc: Global, rope: &mut Rope, char_idx: usize, tail: &mut Handle)
     ensures status { IsStatus (char_index_error char_idx (length rope.old.text)) result }
     ensures front { result ≡ OK → rope.new.text ≡ take char_idx rope.old.text }
     ensures back { result ≡ OK → IsSomeAnd tail.new.rope
-        (λ back. (back.text ≡ drop char_idx rope.old.text) × (back.breaks ≡ rope.old.breaks)) }
+        (λ back. (back.text ≡ drop char_idx rope.old.text) × (back.breaks ≡ rope.old.breaks) × IsRope back) }
     ensures err { 0 < result → (rope.new ≡ rope.old) × (tail.new.rope ≡ tail.old.rope) }
     ensures breaks { rope.new.breaks ≡ rope.old.breaks }
+    ensures kept { IsRope rope.new }
 {
     if char_idx > rope.len_chars() {
         return CHAR_INDEX_OUT_OF_BOUNDS;
@@ -146,7 +154,7 @@ fn split_off(alloc: Global, rope: &mut Rope, char_idx: usize, tail: &mut Handle)
 ///
 /// # Errors
 ///
-/// `NO_ROPE`, then `CHAR_INDEX_OUT_OF_BOUNDS`, then `OUT_OF_MEMORY`. A refused call leaves both handles as they were.
+/// `NO_ROPE_HELD`, then `CHAR_INDEX_OUT_OF_BOUNDS`, then `OUT_OF_MEMORY`. A refused call leaves both handles as they were.
 #[unsafe(no_mangle)]
 pub extern "C" fn ropey_split_off(
     alloc: Global,
@@ -158,29 +166,44 @@ pub extern "C" fn ropey_split_off(
         (λ old. IsStatus (char_index_error char_idx (length old.text)) result)
         (λ old new. (new.text ≡ take char_idx old.text) × (new.breaks ≡ old.breaks)) }
     ensures back { result ≡ OK → IsSomeAnd tail.new.rope
-        (λ back. (back.text ≡ drop char_idx (text_at rope.old.rope)) × (back.breaks ≡ breaks_at rope.old.rope)) }
+        (λ back. (back.text ≡ drop char_idx (text_at rope.old.rope)) × (back.breaks ≡ breaks_at rope.old.rope) × IsRope back) }
     ensures err { 0 < result → tail.new.rope ≡ tail.old.rope }
+    ensures kept { HoldsRope rope.new.rope }
 {
     let Some(mut held) = rope.take(alloc) else {
-        return NO_ROPE;
+        return NO_ROPE_HELD;
     };
     let status = split_off(alloc, &mut held, char_idx, tail);
     rope.put(held);
     status
 }
 
+// Whether another rope may be put behind one, but for memory.
+fn may_append(rope: &Rope, other: &Rope) -> Result<()>
+    ensures ok { OnOk result (append_error rope.now.breaks other.now.breaks rope.now.text other.now.text ≡ None) }
+    ensures err { IfErr result (λ e. append_error rope.now.breaks other.now.breaks rope.now.text other.now.text ≡ Some e) }
+{
+    if rope.line_breaks() != other.line_breaks() {
+        return Err(Error::LineBreaksDiffer);
+    }
+    if other.len_bytes() > MAX_TEXT_BYTES - rope.len_bytes() {
+        return Err(Error::TooLong);
+    }
+    Ok(())
+}
+
 /// Puts the text of `other` behind the rope's. The rope shares what it can of the other's tree, and `other` holds no
-/// rope afterwards, refused or not; where one of the two handles holds none, both stay. No text is walked.
+/// rope afterwards, also where memory was refused; every other refusal leaves it as it was. No text is walked.
 ///
 /// # Errors
 ///
-/// `NO_ROPE`, then `LINE_BREAKS_DIFFER`, then `TOO_LONG`, then `OUT_OF_MEMORY`. A refused call leaves the rope as it
-/// was. A caller who needs the other rope after a refusal appends a clone of it. Where one of two ropes with one set of
-/// line breaks is empty, no memory is taken.
+/// `NO_ROPE_HELD`, then `BREAK_SETS_DIFFER`, then `TOO_LONG`, then `OUT_OF_MEMORY`. A refused call leaves the rope as it
+/// was. A caller who needs the other rope where memory is refused appends a clone of it. Where one of two ropes with one
+/// set of line breaks is empty, no memory is taken.
 #[unsafe(no_mangle)]
 pub extern "C" fn ropey_append(alloc: Global, rope: &mut Handle, other: &mut Handle) -> u32
-    ensures none { rope.old.rope ≡ None → (result ≡ NO_ROPE) × (rope.new.rope ≡ None) × (other.new.rope ≡ other.old.rope) }
-    ensures lone { other.old.rope ≡ None → (result ≡ NO_ROPE) × (other.new.rope ≡ None) × (rope.new.rope ≡ rope.old.rope) }
+    ensures none { rope.old.rope ≡ None → (result ≡ NO_ROPE_HELD) × (rope.new.rope ≡ None) × (other.new.rope ≡ other.old.rope) }
+    ensures lone { other.old.rope ≡ None → (result ≡ NO_ROPE_HELD) × (other.new.rope ≡ None) × (rope.new.rope ≡ rope.old.rope) }
     ensures changes { IfSome other.old.rope (λ o. Changes rope.old.rope rope.new.rope result
         (λ old. IsStatus (append_error old.breaks o.breaks old.text o.text) result)
         (λ old new. (new.text ≡ old.text ++ o.text) × (new.breaks ≡ old.breaks))) }
@@ -188,14 +211,25 @@ pub extern "C" fn ropey_append(alloc: Global, rope: &mut Handle, other: &mut Han
         (λ old. append_error old.breaks o.breaks old.text o.text ≡ None)) }
     ensures taken { IfSome other.old.rope (λ o. IfSome rope.old.rope (λ old. append_error old.breaks o.breaks old.text o.text ≡ None
         → length old.text ≡ 0 → 0 < length o.text → (result ≡ OK) × (rope.new.rope ≡ Some o))) }
-    ensures spent { rope.old.rope ≢ None → other.new.rope ≡ None }
+    ensures spent { IfSome rope.old.rope (λ old. IfSome other.old.rope (λ o. append_error old.breaks o.breaks old.text o.text ≡ None
+        → other.new.rope ≡ None)) }
+    ensures left { IfSome rope.old.rope (λ old. IfSome other.old.rope (λ o. append_error old.breaks o.breaks old.text o.text ≢ None
+        → other.new.rope ≡ other.old.rope)) }
+    ensures kept { HoldsRope rope.new.rope }
 {
     let Some(mut held) = rope.take(alloc) else {
-        return NO_ROPE;
+        return NO_ROPE_HELD;
     };
-    let status = match other.take(alloc) {
-        Some(end) => status(held.append(Box::into_inner(end))),
-        None => NO_ROPE,
+    let Some(end) = other.take(alloc) else {
+        rope.put(held);
+        return NO_ROPE_HELD;
+    };
+    let status = match may_append(&held, &end) {
+        Ok(()) => status(held.append(Box::into_inner(end))),
+        Err(error) => {
+            other.put(end);
+            status_of(error)
+        }
     };
     rope.put(held);
     status

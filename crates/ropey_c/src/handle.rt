@@ -1,9 +1,8 @@
 //! What a program in C holds of a rope.
-ghost use Rattle.std.specs.Prelude.{◌≡◌, Option, None, Some, IsSome, MatchOption};
-ghost use Rattle.std.specs.Borrow.{sem};
+ghost use Rattle.std.specs.Prelude.{◌≡◌, Option, None, Some, MatchOption};
 ghost use Rattle.std.specs.Coded.{coded_option};
 ghost use Rattle.ropey.specs.View.{RopeView};
-ghost use Rattle.ropey_c.specs.Handles.{rope_code};
+ghost use Rattle.ropey_c.specs.Handles.{rope_code, HoldsRope};
 
 use crate::unboxed::Unboxed;
 use ropey::Rope;
@@ -28,8 +27,6 @@ impl Model for Handle {
 }
 
 impl Handle {
-    ghost use Rattle.ropey_c.specs.Lending.{LendsRope, KeepsRope};
-
     // No rope.
     fn none(alloc: Global) -> Handle
         ensures { result.rope ≡ None }
@@ -64,8 +61,12 @@ impl Handle {
     pub(crate) fn take(&mut self, alloc: Global) -> Option<Box<Rope>>
         ensures taken { MatchOption result (self.old.rope ≡ None) (λ rope. self.old.rope ≡ Some rope.value) }
         ensures left { self.new.rope ≡ None }
+        ensures kept { HoldsRope self.old.rope }
     {
-        replace(self, Handle::none(alloc)).into_box()
+        let rope = replace(self, Handle::none(alloc)).into_box()?;
+        // For the proof: a length opens what every rope keeps.
+        let _ = rope.len_bytes();
+        Some(rope)
     }
 
     // Puts a rope in, and drops the one before.
@@ -73,24 +74,5 @@ impl Handle {
         ensures { self.new.rope ≡ Some rope.value }
     {
         drop(replace(self, Handle::of(Unboxed::of(rope))).into_box());
-    }
-
-    // Lends the rope out of a handle that has one.
-    fn lend<'a>(&'a mut self) -> &'a mut Rope
-        requires { IsSome self.old.rope }
-        ensures* lends { sem 𝓛 (LendsRope self.entry result) }
-        ensures value { self.old.rope ≡ Some result.now }
-    {
-        unsafe { &mut *self.ptr.cast() }
-    }
-
-    // The rope, if there is one, to be read for as long as the handle is lent.
-    pub(crate) fn held<'a>(&'a mut self, alloc: Global) -> Option<&'a Rope>
-        ensures* kept { sem 𝓛 (KeepsRope self.entry) }
-        ensures found { MatchOption result (self.old.rope ≡ None) (λ rope. self.old.rope ≡ Some rope.now) }
-    {
-        let rope = self.take(alloc)?;
-        self.put(rope);
-        Some(self.lend())
     }
 }

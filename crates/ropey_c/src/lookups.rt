@@ -4,22 +4,21 @@ ghost use Rattle.std.specs.Prelude.{◌≡◌, ◌+◌, ◌<◌, length, slice_g
 ghost use Rattle.std.specs.Str.{encode_utf8_all};
 ghost use Rattle.rope_text.specs.Conversions.{line_to_char};
 ghost use Rattle.rope_text.specs.Lines.{line_count};
+ghost use Rattle.ropey_c.specs.Handles.{HoldsRope};
 ghost use Rattle.ropey_c.specs.Answers.{FindsAt, FindsLine};
 ghost use Rattle.ropey_c.specs.Status.{number_of};
 
-use crate::handle::Handle;
+use crate::lent::Lent;
 use crate::status::{
-    BYTE_INDEX_OUT_OF_BOUNDS, CHAR_INDEX_OUT_OF_BOUNDS, LINE_INDEX_OUT_OF_BOUNDS, NO_ROPE, OK,
+    BYTE_INDEX_OUT_OF_BOUNDS, CHAR_INDEX_OUT_OF_BOUNDS, LINE_INDEX_OUT_OF_BOUNDS, NO_ROPE_HELD, OK,
     number_of,
 };
 use ropey::Rope;
-use std::alloc::Global;
 
-/// Where a line lies: its first character, and the one past its last, its line break among them. Both are counted
-/// from 0.
+/// A part of a text, from `start` up to `end`, which is the first that is not in it. Both are counted from 0.
 #[repr(C)]
 #[derive(Clone, Copy)]
-pub struct Line {
+pub struct Span {
     pub start: usize,
     pub end: usize,
 }
@@ -28,17 +27,16 @@ pub struct Line {
 ///
 /// # Errors
 ///
-/// `NO_ROPE`.
+/// `NO_ROPE_HELD`.
 #[unsafe(no_mangle)]
-pub extern "C" fn ropey_line_breaks(alloc: Global, rope: &mut Handle, breaks: &mut u32) -> u32
-    ensures answer { FindsAt rope.old.rope (λ r. Some (number_of r.breaks)) NO_ROPE result breaks.old breaks.new }
-    ensures kept { rope.new.rope ≡ rope.old.rope }
+pub extern "C" fn ropey_get_break_set(rope: &Lent, break_set: &mut u32) -> u32
+    ensures answer { FindsAt rope.now.rope (λ r. Some (number_of r.breaks)) NO_ROPE_HELD result break_set.old break_set.new }
+    ensures kept { HoldsRope rope.now.rope }
 {
-    let Some(held) = rope.take(alloc) else {
-        return NO_ROPE;
+    let Some(held) = rope.held() else {
+        return NO_ROPE_HELD;
     };
-    *breaks = number_of(held.line_breaks());
-    rope.put(held);
+    *break_set = number_of(held.line_breaks());
     OK
 }
 
@@ -46,24 +44,17 @@ pub extern "C" fn ropey_line_breaks(alloc: Global, rope: &mut Handle, breaks: &m
 ///
 /// # Errors
 ///
-/// `NO_ROPE`, then `BYTE_INDEX_OUT_OF_BOUNDS`, also for the number of bytes.
+/// `NO_ROPE_HELD`, then `BYTE_INDEX_OUT_OF_BOUNDS`, also for the number of bytes.
 #[unsafe(no_mangle)]
-pub extern "C" fn ropey_byte(
-    alloc: Global,
-    rope: &mut Handle,
-    byte_idx: usize,
-    byte: &mut u8,
-) -> u32
-    ensures answer { FindsAt rope.old.rope (λ r. slice_get (encode_utf8_all r.text) byte_idx)
+pub extern "C" fn ropey_byte(rope: &Lent, byte_idx: usize, byte: &mut u8) -> u32
+    ensures answer { FindsAt rope.now.rope (λ r. slice_get (encode_utf8_all r.text) byte_idx)
         BYTE_INDEX_OUT_OF_BOUNDS result byte.old byte.new }
-    ensures kept { rope.new.rope ≡ rope.old.rope }
+    ensures kept { HoldsRope rope.now.rope }
 {
-    let Some(held) = rope.take(alloc) else {
-        return NO_ROPE;
+    let Some(held) = rope.held() else {
+        return NO_ROPE_HELD;
     };
-    let found = held.get_byte(byte_idx);
-    rope.put(held);
-    match found {
+    match held.get_byte(byte_idx) {
         Some(value) => {
             *byte = value;
             OK
@@ -76,19 +67,17 @@ pub extern "C" fn ropey_byte(
 ///
 /// # Errors
 ///
-/// `NO_ROPE`, then `CHAR_INDEX_OUT_OF_BOUNDS`, also for the number of characters.
+/// `NO_ROPE_HELD`, then `CHAR_INDEX_OUT_OF_BOUNDS`, also for the number of characters.
 #[unsafe(no_mangle)]
-pub extern "C" fn ropey_char(alloc: Global, rope: &mut Handle, char_idx: usize, c: &mut u32) -> u32
-    ensures answer { FindsAt rope.old.rope (λ r. slice_get r.text char_idx)
+pub extern "C" fn ropey_char(rope: &Lent, char_idx: usize, c: &mut u32) -> u32
+    ensures answer { FindsAt rope.now.rope (λ r. slice_get r.text char_idx)
         CHAR_INDEX_OUT_OF_BOUNDS result c.old c.new }
-    ensures kept { rope.new.rope ≡ rope.old.rope }
+    ensures kept { HoldsRope rope.now.rope }
 {
-    let Some(held) = rope.take(alloc) else {
-        return NO_ROPE;
+    let Some(held) = rope.held() else {
+        return NO_ROPE_HELD;
     };
-    let found = held.get_char(char_idx);
-    rope.put(held);
-    match found {
+    match held.get_char(char_idx) {
         Some(value) => {
             *c = u32::from(value);
             OK
@@ -97,38 +86,31 @@ pub extern "C" fn ropey_char(alloc: Global, rope: &mut Handle, char_idx: usize, 
     }
 }
 
-fn find_line(rope: &Rope, line_idx: usize, line: &mut Line) -> u32
-    ensures { FindsLine (Some rope.now) line_idx result line.old line.new }
+fn find_line(rope: &Rope, line_idx: usize, chars: &mut Span) -> u32
+    ensures { FindsLine (Some rope.now) line_idx result chars.old chars.new }
 {
     if line_idx >= rope.len_lines() {
         return LINE_INDEX_OUT_OF_BOUNDS;
     }
-    *line = Line {
+    *chars = Span {
         start: rope.line_to_char(line_idx),
         end: rope.line_to_char(line_idx + 1),
     };
     OK
 }
 
-/// Where the line `line_idx` lies, counted from 0.
+/// The characters of the line `line_idx`, counted from 0, its line break among them.
 ///
 /// # Errors
 ///
-/// `NO_ROPE`, then `LINE_INDEX_OUT_OF_BOUNDS`, also for the number of lines.
+/// `NO_ROPE_HELD`, then `LINE_INDEX_OUT_OF_BOUNDS`, also for the number of lines.
 #[unsafe(no_mangle)]
-pub extern "C" fn ropey_line(
-    alloc: Global,
-    rope: &mut Handle,
-    line_idx: usize,
-    line: &mut Line,
-) -> u32
-    ensures answer { FindsLine rope.old.rope line_idx result line.old line.new }
-    ensures kept { rope.new.rope ≡ rope.old.rope }
+pub extern "C" fn ropey_line(rope: &Lent, line_idx: usize, chars: &mut Span) -> u32
+    ensures answer { FindsLine rope.now.rope line_idx result chars.old chars.new }
+    ensures kept { HoldsRope rope.now.rope }
 {
-    let Some(held) = rope.take(alloc) else {
-        return NO_ROPE;
+    let Some(held) = rope.held() else {
+        return NO_ROPE_HELD;
     };
-    let status = find_line(&held, line_idx, line);
-    rope.put(held);
-    status
+    find_line(held, line_idx, chars)
 }

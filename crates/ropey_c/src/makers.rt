@@ -2,20 +2,22 @@
 ghost use Rattle.std.specs.Prelude.{◌≡◌, ◌<◌, ◌⊎◌, [], None, Some, IfSome, IsSomeAnd, MatchOption, MatchResult};
 ghost use Rattle.std.specs.Str.{chars};
 ghost use Rattle.rope_text.specs.declared.error.Error.TheVariants.{OutOfMemory};
-ghost use Rattle.ropey.specs.View.{HasFewChunks};
+ghost use Rattle.ropey.specs.View.{HasFewChunks, IsBuilt};
+ghost use Rattle.ropey_c.specs.Handles.{HoldsRope};
 ghost use Rattle.ropey_c.specs.Status.{given_breaks, IsStatus, IsTextStatus, IsMakerStatus};
-ghost use Rattle.ropey_c.specs.Answers.{Changes};
+ghost use Rattle.ropey_c.specs.Answers.{Changes, IsBuiltWith};
 
 use crate::handle::Handle;
+use crate::lent::Lent;
 use crate::status::{
-    INVALID_UTF8, NO_ROPE, OK, OUT_OF_MEMORY, UNKNOWN_LINE_BREAKS, given_breaks, status,
+    INVALID_UTF8, NO_ROPE_HELD, OK, OUT_OF_MEMORY, UNKNOWN_BREAK_SET, given_breaks, status,
 };
 use rope_text::utf8;
 use ropey::{LineBreaks, Rope};
 use std::alloc::Global;
 
 // Puts a rope that was just made into a handle.
-fn keep(alloc: Global, made: Rope, rope: &mut Handle) -> u32
+pub(crate) fn keep(alloc: Global, made: Rope, rope: &mut Handle) -> u32
     ensures status { IsStatus None result }
     ensures ok { result ≡ OK → rope.new.rope ≡ Some made }
     ensures err { 0 < result → rope.new.rope ≡ rope.old.rope }
@@ -31,7 +33,7 @@ fn keep(alloc: Global, made: Rope, rope: &mut Handle) -> u32
 
 fn make(alloc: Global, text: &[u8], breaks: LineBreaks, rope: &mut Handle) -> u32
     ensures status { IsTextStatus text.now None result }
-    ensures ok { result ≡ OK → IsSomeAnd rope.new.rope (λ r. (r.text ≡ chars text.now) × (r.breaks ≡ breaks) × HasFewChunks r) }
+    ensures ok { result ≡ OK → IsSomeAnd rope.new.rope (λ r. (r.text ≡ chars text.now) × IsBuilt breaks r) }
     ensures err { 0 < result → rope.new.rope ≡ rope.old.rope }
 {
     let Some(text) = utf8::text_of(text) else {
@@ -49,17 +51,21 @@ fn make(alloc: Global, text: &[u8], breaks: LineBreaks, rope: &mut Handle) -> u3
 ///
 /// # Errors
 ///
-/// `UNKNOWN_LINE_BREAKS`, then `INVALID_UTF8`, then `OUT_OF_MEMORY`. A refused call leaves the handle as it was.
+/// `UNKNOWN_BREAK_SET`, then `INVALID_UTF8`, then `OUT_OF_MEMORY`. A refused call leaves the handle as it was.
 #[unsafe(no_mangle)]
-pub extern "C" fn ropey_from_text(alloc: Global, text: &[u8], breaks: u32, rope: &mut Handle) -> u32
-    ensures status { IsMakerStatus (given_breaks breaks) text.now result }
-    ensures ok { result ≡ OK → IsSomeAnd rope.new.rope (λ r. (r.text ≡ chars text.now)
-        × (Some r.breaks ≡ given_breaks breaks) × HasFewChunks r) }
+pub extern "C" fn ropey_from_text(
+    alloc: Global,
+    text: &[u8],
+    break_set: u32,
+    rope: &mut Handle,
+) -> u32
+    ensures status { IsMakerStatus (given_breaks break_set) text.now result }
+    ensures ok { result ≡ OK → IsSomeAnd rope.new.rope (λ r. (r.text ≡ chars text.now) × IsBuiltWith (given_breaks break_set) r) }
     ensures err { 0 < result → rope.new.rope ≡ rope.old.rope }
 {
-    match given_breaks(breaks) {
+    match given_breaks(break_set) {
         Some(breaks) => make(alloc, text, breaks, rope),
-        None => UNKNOWN_LINE_BREAKS,
+        None => UNKNOWN_BREAK_SET,
     }
 }
 
@@ -92,34 +98,33 @@ fn clone_into(alloc: Global, rope: &Rope, copy: &mut Handle) -> u32
 ///
 /// # Errors
 ///
-/// `NO_ROPE`, then `OUT_OF_MEMORY`. A refused call leaves `copy` as it was.
+/// `NO_ROPE_HELD`, then `OUT_OF_MEMORY`. A refused call leaves `copy` as it was.
 #[unsafe(no_mangle)]
-pub extern "C" fn ropey_clone(alloc: Global, rope: &mut Handle, copy: &mut Handle) -> u32
-    ensures status { MatchOption rope.old.rope (result ≡ NO_ROPE) (λ _. IsStatus None result) }
-    ensures ok { result ≡ OK → copy.new.rope ≡ rope.old.rope }
+pub extern "C" fn ropey_clone(alloc: Global, rope: &Lent, copy: &mut Handle) -> u32
+    ensures status { MatchOption rope.now.rope (result ≡ NO_ROPE_HELD) (λ _. IsStatus None result) }
+    ensures ok { result ≡ OK → copy.new.rope ≡ rope.now.rope }
     ensures err { 0 < result → copy.new.rope ≡ copy.old.rope }
-    ensures kept { rope.new.rope ≡ rope.old.rope }
+    ensures kept { HoldsRope rope.now.rope }
 {
-    let Some(held) = rope.take(alloc) else {
-        return NO_ROPE;
-    };
-    let status = clone_into(alloc, &held, copy);
-    rope.put(held);
-    status
+    match rope.held() {
+        Some(held) => clone_into(alloc, held, copy),
+        None => NO_ROPE_HELD,
+    }
 }
 
 /// Cuts the text into as few chunks as `ropey_from_text` does. Takes time and memory in proportion to the text.
 ///
 /// # Errors
 ///
-/// `NO_ROPE`, then `OUT_OF_MEMORY`. A refused call leaves the rope as it was.
+/// `NO_ROPE_HELD`, then `OUT_OF_MEMORY`. A refused call leaves the rope as it was.
 #[unsafe(no_mangle)]
 pub extern "C" fn ropey_shrink_to_fit(alloc: Global, rope: &mut Handle) -> u32
-    ensures { Changes rope.old.rope rope.new.rope result (λ _. IsStatus None result)
+    ensures changes { Changes rope.old.rope rope.new.rope result (λ _. IsStatus None result)
         (λ old new. (new.text ≡ old.text) × (new.breaks ≡ old.breaks) × HasFewChunks new) }
+    ensures kept { HoldsRope rope.new.rope }
 {
     let Some(mut held) = rope.take(alloc) else {
-        return NO_ROPE;
+        return NO_ROPE_HELD;
     };
     let status = status(held.shrink_to_fit());
     rope.put(held);

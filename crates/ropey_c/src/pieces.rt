@@ -1,19 +1,17 @@
 //! The chunks of a rope in bulk: one look-up, and then a step a chunk.
 //!
-//! A program reads a text with it from a place on, some chunks at a time. The bytes stay where they are until the rope
-//! is edited or freed, and belong to the rope. No call takes memory.
+//! A program reads a text with it from a place on, some chunks at a time. The bytes belong to the rope, and are lent for
+//! as long as its handle is: until it is edited or freed. No call takes memory.
 ghost use Rattle.std.specs.Prelude.{◌≡◌, Some};
 ghost use Rattle.std.specs.Iterator.{IsFinite};
-ghost use Rattle.std.specs.Borrow.{sem};
 ghost use Rattle.std.specs.Str.{chars, encode_utf8_all};
-ghost use Rattle.ropey_c.specs.Lending.{KeepsRope};
-ghost use Rattle.ropey_c.specs.Pieces.{FillsBy, FillsFrom};
+ghost use Rattle.ropey_c.specs.Handles.{HoldsRope};
+ghost use Rattle.ropey_c.specs.Pieces.{FillsBy, FillsFrom, FillsBefore, FillsLine};
 
-use crate::chunks::Looked;
-use crate::handle::Handle;
-use crate::status::{BYTE_INDEX_OUT_OF_BOUNDS, NO_ROPE, OK};
+use crate::lent::Lent;
+use crate::lookups::Span;
+use crate::status::{BYTE_INDEX_OUT_OF_BOUNDS, LINE_INDEX_OUT_OF_BOUNDS, NO_ROPE_HELD, OK};
 use ropey::Rope;
-use std::alloc::Global;
 
 /// A piece of a text: its bytes, which are lent. C sees a pointer, which is never null, and their number.
 #[repr(C)]
@@ -64,47 +62,112 @@ fn find_pieces<'a>(
     OK
 }
 
-fn look_from_byte<'a>(
-    rope: &'a mut Handle,
-    alloc: Global,
-    byte_idx: usize,
-    pieces: &mut [Piece<'a>],
-    count: &mut usize,
-    bytes_before: &mut usize,
-) -> Looked<'a>
-    ensures* kept { sem 𝓛 (KeepsRope rope.entry) }
-    ensures answer { FillsFrom rope.old.rope byte_idx result.status pieces.old pieces.new count.old count.new bytes_before.old bytes_before.new }
-{
-    let Some(held) = rope.held(alloc) else {
-        return Looked {
-            status: NO_ROPE,
-            lent: b"",
-        };
-    };
-    Looked {
-        status: find_pieces(held, byte_idx, pieces, count, bytes_before),
-        lent: b"",
-    }
-}
-
 /// The chunks from the one that holds the byte `byte_idx` on, written to `pieces` as far as there is room. Their
 /// number is written to `count`, and how many bytes lie before the first of them to `bytes_before`. At the end of the
 /// text there are none. To go on, a program asks for the byte past the last piece.
 ///
 /// # Errors
 ///
-/// `NO_ROPE`, then `BYTE_INDEX_OUT_OF_BOUNDS`. Then nothing is written.
+/// `NO_ROPE_HELD`, then `BYTE_INDEX_OUT_OF_BOUNDS`. Then nothing is written.
 #[unsafe(no_mangle)]
 pub extern "C" fn ropey_chunks_from_byte<'a>(
-    rope: &'a mut Handle,
-    alloc: Global,
+    rope: &'a Lent,
     byte_idx: usize,
     pieces: &mut [Piece<'a>],
     count: &mut usize,
     bytes_before: &mut usize,
 ) -> u32
-    ensures* kept { sem 𝓛 (KeepsRope rope.entry) }
-    ensures answer { FillsFrom rope.old.rope byte_idx result pieces.old pieces.new count.old count.new bytes_before.old bytes_before.new }
+    ensures answer { FillsFrom rope.now.rope byte_idx result pieces.old pieces.new count.old count.new bytes_before.old bytes_before.new }
+    ensures kept { HoldsRope rope.now.rope }
 {
-    look_from_byte(rope, alloc, byte_idx, pieces, count, bytes_before).status
+    let Some(held) = rope.held() else {
+        return NO_ROPE_HELD;
+    };
+    find_pieces(held, byte_idx, pieces, count, bytes_before)
+}
+
+fn find_pieces_before<'a>(
+    rope: &'a Rope,
+    byte_idx: usize,
+    pieces: &mut [Piece<'a>],
+    count: &mut usize,
+    bytes_before: &mut usize,
+) -> u32
+    ensures { FillsBefore (Some rope.now) byte_idx result pieces.old pieces.new count.old count.new bytes_before.old bytes_before.new }
+{
+    if byte_idx > rope.len_bytes() {
+        return BYTE_INDEX_OUT_OF_BOUNDS;
+    }
+    let (cursor, before, _, _) = rope.chunks_at_byte(byte_idx);
+    *bytes_before = before;
+    *count = fill(cursor.reversed(), pieces);
+    OK
+}
+
+/// The chunks before the one that holds the byte `byte_idx`, the nearest first, written to `pieces` as far as there is
+/// room. Their number is written to `count`, and how many bytes lie before the chunk that holds the byte to
+/// `bytes_before`. At the end of the text the last chunk comes first. To go on, a program asks for the first byte of the
+/// last piece.
+///
+/// # Errors
+///
+/// `NO_ROPE_HELD`, then `BYTE_INDEX_OUT_OF_BOUNDS`. Then nothing is written.
+#[unsafe(no_mangle)]
+pub extern "C" fn ropey_chunks_before_byte<'a>(
+    rope: &'a Lent,
+    byte_idx: usize,
+    pieces: &mut [Piece<'a>],
+    count: &mut usize,
+    bytes_before: &mut usize,
+) -> u32
+    ensures answer { FillsBefore rope.now.rope byte_idx result pieces.old pieces.new count.old count.new bytes_before.old bytes_before.new }
+    ensures kept { HoldsRope rope.now.rope }
+{
+    let Some(held) = rope.held() else {
+        return NO_ROPE_HELD;
+    };
+    find_pieces_before(held, byte_idx, pieces, count, bytes_before)
+}
+
+fn find_line_pieces<'a>(
+    rope: &'a Rope,
+    line_idx: usize,
+    bytes: &mut Span,
+    pieces: &mut [Piece<'a>],
+    count: &mut usize,
+) -> u32
+    ensures { FillsLine (Some rope.now) line_idx result pieces.old pieces.new count.old count.new bytes.old bytes.new }
+{
+    if line_idx >= rope.len_lines() {
+        return LINE_INDEX_OUT_OF_BOUNDS;
+    }
+    *bytes = Span {
+        start: rope.line_to_byte(line_idx),
+        end: rope.line_to_byte(line_idx + 1),
+    };
+    *count = fill(rope.line(line_idx).chunks(), pieces);
+    OK
+}
+
+/// The bytes of the line `line_idx`, counted from 0, its line break among them, and its pieces from its start on, written
+/// to `pieces` as far as there is room. Their number is written to `count`. Costs a few look-ups, and then a step a piece.
+///
+/// # Errors
+///
+/// `NO_ROPE_HELD`, then `LINE_INDEX_OUT_OF_BOUNDS`, also for the number of lines. Then nothing is written.
+#[unsafe(no_mangle)]
+pub extern "C" fn ropey_line_pieces<'a>(
+    rope: &'a Lent,
+    line_idx: usize,
+    bytes: &mut Span,
+    pieces: &mut [Piece<'a>],
+    count: &mut usize,
+) -> u32
+    ensures answer { FillsLine rope.now.rope line_idx result pieces.old pieces.new count.old count.new bytes.old bytes.new }
+    ensures kept { HoldsRope rope.now.rope }
+{
+    let Some(held) = rope.held() else {
+        return NO_ROPE_HELD;
+    };
+    find_line_pieces(held, line_idx, bytes, pieces, count)
 }

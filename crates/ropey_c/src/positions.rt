@@ -5,14 +5,14 @@ ghost use Rattle.rope_text.specs.Edit.{char_index_error};
 ghost use Rattle.rope_text.specs.Position as of_text;
 ghost use Rattle.rope_text.specs.Answer.{checked};
 ghost use Rattle.rope_position.specs.Positions.{position_at};
+ghost use Rattle.ropey_c.specs.Handles.{HoldsRope};
 ghost use Rattle.ropey_c.specs.Answers.{AnswersAt};
 ghost use Rattle.ropey_c.specs.Places.{IsPlace, PlacesAt};
 
-use crate::handle::Handle;
-use crate::status::{NO_ROPE, OK, answer, status_of};
+use crate::lent::Lent;
+use crate::status::{NO_ROPE_HELD, OK, answer, status_of};
 use rope_position::{Position, Positions};
 use ropey::Result;
-use std::alloc::Global;
 
 /// A line, and a column in UTF-16 code units from the start of the line.
 #[repr(C)]
@@ -42,24 +42,17 @@ fn answer_place(found: Result<Position>, place: &mut Place) -> u32
 ///
 /// # Errors
 ///
-/// `NO_ROPE`, then `CHAR_INDEX_OUT_OF_BOUNDS`.
+/// `NO_ROPE_HELD`, then `CHAR_INDEX_OUT_OF_BOUNDS`.
 #[unsafe(no_mangle)]
-pub extern "C" fn ropey_char_to_position(
-    alloc: Global,
-    rope: &mut Handle,
-    char_idx: usize,
-    place: &mut Place,
-) -> u32
-    ensures answer { PlacesAt rope.old.rope (λ r. checked (char_index_error char_idx (length r.text))
+pub extern "C" fn ropey_char_to_position(rope: &Lent, char_idx: usize, place: &mut Place) -> u32
+    ensures answer { PlacesAt rope.now.rope (λ r. checked (char_index_error char_idx (length r.text))
         (position_at r.breaks r.text char_idx)) result place.old place.new }
-    ensures kept { rope.new.rope ≡ rope.old.rope }
+    ensures kept { HoldsRope rope.now.rope }
 {
-    let Some(held) = rope.take(alloc) else {
-        return NO_ROPE;
+    let Some(held) = rope.held() else {
+        return NO_ROPE_HELD;
     };
-    let found = held.try_char_to_position(char_idx);
-    rope.put(held);
-    answer_place(found, place)
+    answer_place(held.try_char_to_position(char_idx), place)
 }
 
 /// The last character of the line that begins at the column or before it; at the line's end, where the next line
@@ -67,24 +60,24 @@ pub extern "C" fn ropey_char_to_position(
 ///
 /// # Errors
 ///
-/// `NO_ROPE`, then `LINE_INDEX_OUT_OF_BOUNDS`, where there is no such line, then `UTF16_INDEX_OUT_OF_BOUNDS`, where the
+/// `NO_ROPE_HELD`, then `LINE_INDEX_OUT_OF_BOUNDS`, where there is no such line, then `UTF16_INDEX_OUT_OF_BOUNDS`, where the
 /// column is past the line's code units.
 #[unsafe(no_mangle)]
 pub extern "C" fn ropey_position_to_char(
-    alloc: Global,
-    rope: &mut Handle,
+    rope: &Lent,
     line: usize,
     column: usize,
     char_idx: &mut usize,
 ) -> u32
-    ensures answer { AnswersAt rope.old.rope (λ r. checked (of_text.position_error r.breaks r.text line column)
+    ensures answer { AnswersAt rope.now.rope (λ r. checked (of_text.position_error r.breaks r.text line column)
         (of_text.position_to_char r.breaks r.text line column)) result char_idx.old char_idx.new }
-    ensures kept { rope.new.rope ≡ rope.old.rope }
+    ensures kept { HoldsRope rope.now.rope }
 {
-    let Some(held) = rope.take(alloc) else {
-        return NO_ROPE;
+    let Some(held) = rope.held() else {
+        return NO_ROPE_HELD;
     };
-    let found = held.try_position_to_char(Position { line, column });
-    rope.put(held);
-    answer(found, char_idx)
+    answer(
+        held.try_position_to_char(Position { line, column }),
+        char_idx,
+    )
 }

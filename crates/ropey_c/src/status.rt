@@ -1,5 +1,5 @@
 //! What a call answers: 0, or the number that stands for the first reason for which it was refused.
-ghost use Rattle.std.specs.Prelude.{◌≡◌, IsOk, MatchResult};
+ghost use Rattle.std.specs.Prelude.{◌≡◌, ◌<◌, IsOk, MatchResult};
 ghost use Rattle.ropey_c.specs.Status.{status_of, given_breaks, number_of};
 ghost use Rattle.ropey_c.specs.Answers.{Answers};
 
@@ -10,13 +10,13 @@ pub const OK: u32 = 0;
 /// Memory was refused.
 pub const OUT_OF_MEMORY: u32 = 1;
 /// A handle holds no rope.
-pub const NO_ROPE: u32 = 2;
+pub const NO_ROPE_HELD: u32 = 2;
 /// The bytes that were given aren't UTF-8.
 pub const INVALID_UTF8: u32 = 3;
 /// The number that was given is no Unicode scalar value.
 pub const NOT_A_CHARACTER: u32 = 4;
 /// The number that was given stands for no set of line breaks.
-pub const UNKNOWN_LINE_BREAKS: u32 = 5;
+pub const UNKNOWN_BREAK_SET: u32 = 5;
 /// A byte index lies past the end.
 pub const BYTE_INDEX_OUT_OF_BOUNDS: u32 = 6;
 /// A character index lies past the end.
@@ -38,20 +38,25 @@ pub const BYTE_RANGE_NOT_CHAR_BOUNDARY: u32 = 14;
 /// The text would have more than `isize::MAX` bytes.
 pub const TOO_LONG: u32 = 15;
 /// Two ropes that were to be joined have different sets of line breaks.
-pub const LINE_BREAKS_DIFFER: u32 = 16;
+pub const BREAK_SETS_DIFFER: u32 = 16;
 /// The caller's buffer has no room for the text.
 pub const BUFFER_TOO_SMALL: u32 = 17;
+/// A byte index lies inside a character.
+pub const BYTE_INDEX_NOT_CHAR_BOUNDARY: u32 = 18;
+/// A handle holds no builder.
+pub const NO_BUILDER_HELD: u32 = 19;
 
 /// The set of line breaks of LF alone.
 pub const LF: u32 = 0;
 /// The set of line breaks of LF, CR, and CR LF as one break.
-pub const CRLF: u32 = 1;
+pub const LF_CR: u32 = 1;
 /// Unicode's set of line breaks.
 pub const UNICODE: u32 = 2;
 
 // The status of an error.
 pub(crate) fn status_of(error: Error) -> u32
-    ensures { result ≡ status_of error }
+    ensures value { result ≡ status_of error }
+    ensures refused { 0 < result }
 {
     match error {
         Error::ByteIndexOutOfBounds(_, _) => BYTE_INDEX_OUT_OF_BOUNDS,
@@ -64,7 +69,8 @@ pub(crate) fn status_of(error: Error) -> u32
         Error::ByteRangeOutOfBounds(_, _, _) => BYTE_RANGE_OUT_OF_BOUNDS,
         Error::TooLong => TOO_LONG,
         Error::OutOfMemory => OUT_OF_MEMORY,
-        Error::LineBreaksDiffer => LINE_BREAKS_DIFFER,
+        Error::LineBreaksDiffer => BREAK_SETS_DIFFER,
+        Error::ByteIndexNotCharBoundary(_) => BYTE_INDEX_NOT_CHAR_BOUNDARY,
         _ => BYTE_RANGE_NOT_CHAR_BOUNDARY,
     }
 }
@@ -99,7 +105,7 @@ pub(crate) fn given_breaks(number: u32) -> Option<LineBreaks>
 {
     match number {
         LF => Some(LineBreaks::Lf),
-        CRLF => Some(LineBreaks::CrLf),
+        LF_CR => Some(LineBreaks::CrLf),
         UNICODE => Some(LineBreaks::Unicode),
         _ => None,
     }
@@ -111,7 +117,7 @@ pub(crate) fn number_of(breaks: LineBreaks) -> u32
 {
     match breaks {
         LineBreaks::Lf => LF,
-        LineBreaks::CrLf => CRLF,
+        LineBreaks::CrLf => LF_CR,
         LineBreaks::Unicode => UNICODE,
     }
 }

@@ -1,0 +1,664 @@
+/* Random calls of the library, each compared with a plain text that does the same (model.h).
+ *
+ *     differential [CALLS [SEED]]
+ *
+ * Some allocations are refused: the program is linked with --wrap=malloc and --wrap=realloc. A refused edit has to leave
+ * the text, and, unless it was refused for memory, every pointer into the rope. Pointers into a clone are held through the
+ * edits of the others, and read again. */
+#include "model.h"
+#include <stdio.h>
+
+enum { HANDLES = 4, PIECES = 64, LONGEST = 6000 };
+
+static uint64_t state = 88172645463325252u;
+static const char *now = "";
+
+static uint64_t draw(void) {
+    state ^= state << 13;
+    state ^= state >> 7;
+    state ^= state << 17;
+    return state;
+}
+
+static size_t below(size_t n) { return (size_t)(draw() % n); }
+
+static void fail(int line, const char *what) {
+    fprintf(stderr, "%s, line %d: %s\n", now, line, what);
+    abort();
+}
+
+#define CHECK(fact) ((fact) ? (void)0 : fail(__LINE__, #fact))
+
+/* Allocations, of which one can be refused. */
+static long refuse_at = -1;
+static bool refused = false;
+
+void *__real_malloc(size_t size);
+void *__real_realloc(void *block, size_t size);
+
+static bool is_refused(void) {
+    if (refuse_at < 0 || refuse_at-- != 0) {
+        return false;
+    }
+    refused = true;
+    return true;
+}
+
+void *__wrap_malloc(size_t size) { return is_refused() ? NULL : __real_malloc(size); }
+
+void *__wrap_realloc(void *block, size_t size) { return is_refused() ? NULL : __real_realloc(block, size); }
+
+/* Before a call, decides whether an allocation of it is refused; behind it, allows all of them again. */
+static void arm(void) {
+    refused = false;
+    refuse_at = below(8) == 0 ? (long)below(6) : -1;
+}
+
+static ropey_status disarm(ropey_status status) {
+    refuse_at = -1;
+    CHECK(status != ROPEY_OUT_OF_MEMORY || refused);
+    return status;
+}
+
+#define CALL(call) (arm(), disarm(call))
+
+/* A rope beside its model, and its first pieces as they were seen last. */
+typedef struct {
+    ropey_rope rope;
+    model text;
+    bool held;
+    ropey_piece seen[PIECES];
+    size_t seen_count;
+    uint8_t *bytes;
+} pair;
+
+static pair pairs[HANDLES];
+
+static const uint32_t letters[] = {'a', 'b', ' ', '\n', '\n', '\r', '\r', 0x0B, 0x85, 0xE9, 0x2028, 0x2029, 0x4E2D, 0xFEFF, 0x1F600, 0x10FFFF};
+
+static model drawn_text(size_t longest) {
+    size_t len = below(longest + 1);
+    model m = model_of(letters, 0, ROPEY_LF);
+    free(m.chars);
+    m.chars = malloc((len + 1) * sizeof *m.chars);
+    m.len = len;
+    for (size_t i = 0; i < len; i++) {
+        m.chars[i] = letters[below(sizeof letters / sizeof *letters)];
+    }
+    return m;
+}
+
+/* Reads a rope through its pieces, from the front, and compares it with its model. */
+static void see(pair *p) {
+    size_t len = 0, count = 0, before = 0, at = 0;
+    free(p->bytes);
+    p->bytes = bytes_of(&p->text, &len);
+    CHECK(ropey_len_bytes(&p->rope) == len);
+    p->seen_count = 0;
+    do {
+        ropey_piece pieces[PIECES];
+        memset(pieces, 0, sizeof pieces);
+        CHECK(ropey_chunks_from_byte(&p->rope, at, pieces, PIECES, &count, &before) == ROPEY_OK && before == at);
+        for (size_t i = 0; i < count; i++) {
+            CHECK(1 <= pieces[i].len && pieces[i].len <= 984 && memcmp(pieces[i].text, p->bytes + at, pieces[i].len) == 0);
+            at += pieces[i].len;
+        }
+        if (p->seen_count == 0) {
+            memcpy(p->seen, pieces, count * sizeof *pieces);
+            p->seen_count = count;
+        }
+    } while (count == PIECES);
+    CHECK(at == len);
+}
+
+/* The bytes that were seen lie where they lay. */
+static void held(const pair *p) {
+    for (size_t i = 0, at = 0; p->held && i < p->seen_count; at += p->seen[i++].len) {
+        CHECK(memcmp(p->seen[i].text, p->bytes + at, p->seen[i].len) == 0);
+    }
+}
+
+static void held_all(const pair *but) {
+    for (size_t i = 0; i < HANDLES; i++) {
+        if (&pairs[i] != but) {
+            held(&pairs[i]);
+        }
+    }
+}
+
+static void forget(pair *p) {
+    free(p->text.chars);
+    free(p->bytes);
+    p->text = model_of(letters, 0, ROPEY_LF);
+    p->bytes = NULL;
+    p->seen_count = 0;
+    p->held = false;
+}
+
+static void take(pair *p, model text) {
+    forget(p);
+    free(p->text.chars);
+    p->text = text;
+    p->held = true;
+    see(p);
+}
+
+/* Behind an edit that was done or refused. */
+static void settle(pair *p, ropey_status status, ropey_status wanted) {
+    held_all(p);
+    if (status == ROPEY_OUT_OF_MEMORY) {
+        CHECK(wanted == ROPEY_OK);
+        see(p);
+        return;
+    }
+    CHECK(status == wanted);
+    if (status != ROPEY_OK) {
+        held(p);
+    }
+    if (p->held) {
+        see(p);
+    }
+}
+
+/* Edits. Each draws its arguments, some of them wrong, says what has to come, and tries. */
+static void make(pair *p) {
+    size_t len = 0;
+    model text = drawn_text(below(4) == 0 ? LONGEST : 40);
+    uint32_t set = (uint32_t)below(4);
+    uint8_t *bytes = bytes_of(&text, &len);
+    bool broken = len > 0 && below(8) == 0;
+    if (broken) {
+        bytes[below(len)] = 0xFF;
+    }
+    text.break_set = set;
+    ropey_status status = CALL(ropey_from_text(len == 0 && below(2) ? NULL : bytes, len, set, &p->rope));
+    ropey_status wanted = set > ROPEY_UNICODE ? ROPEY_UNKNOWN_BREAK_SET : broken ? ROPEY_INVALID_UTF8 : ROPEY_OK;
+    free(bytes);
+    if (status == ROPEY_OK && wanted == ROPEY_OK) {
+        take(p, text);
+        held_all(p);
+        return;
+    }
+    free(text.chars);
+    CHECK(status == (wanted == ROPEY_OK ? ROPEY_OUT_OF_MEMORY : wanted));
+    held_all(NULL);
+}
+
+static void make_clone(pair *p, pair *q) {
+    if (p == q) {
+        return;
+    }
+    ropey_status status = CALL(ropey_clone(&p->rope, &q->rope));
+    held_all(q);
+    if (status == ROPEY_OK) {
+        CHECK(p->held);
+        take(q, part_of(&p->text, 0, p->text.len));
+        return;
+    }
+    CHECK(status == (p->held ? ROPEY_OUT_OF_MEMORY : ROPEY_NO_ROPE_HELD));
+    held(q);
+}
+
+static void release(pair *p) {
+    ropey_free(&p->rope);
+    forget(p);
+    CHECK(ropey_len_bytes(&p->rope) == 0);
+    held_all(p);
+}
+
+static void shrink(pair *p) { settle(p, CALL(ropey_shrink_to_fit(&p->rope)), p->held ? ROPEY_OK : ROPEY_NO_ROPE_HELD); }
+
+/* A range in the units of len, sometimes past it or the wrong way round. */
+static ropey_range drawn_range(size_t len) {
+    ropey_range r = {below(len + 2), below(len + 2)};
+    if (r.end < r.start && below(8) != 0) {
+        r = (ropey_range){r.end, r.start};
+    }
+    if (below(2) == 0 && r.start <= r.end) {
+        r.end = r.start + below(r.end - r.start + 1) / 8;
+    }
+    return r;
+}
+
+static ropey_status char_range_fault(const model *m, ropey_range r) {
+    if (r.start > m->len || r.end > m->len) {
+        return ROPEY_CHAR_RANGE_OUT_OF_BOUNDS;
+    }
+    return r.end < r.start ? ROPEY_CHAR_RANGE_INVALID : ROPEY_OK;
+}
+
+static ropey_status byte_range_fault(const model *m, ropey_range r) {
+    size_t len = counts_of(m).bytes;
+    if (r.end < r.start) {
+        return ROPEY_BYTE_RANGE_INVALID;
+    }
+    if (r.start > len || r.end > len) {
+        return ROPEY_BYTE_RANGE_OUT_OF_BOUNDS;
+    }
+    return is_boundary(m, r.start) && is_boundary(m, r.end) ? ROPEY_OK : ROPEY_BYTE_RANGE_NOT_CHAR_BOUNDARY;
+}
+
+static ropey_status byte_place_fault(const model *m, size_t byte) {
+    if (byte > counts_of(m).bytes) {
+        return ROPEY_BYTE_INDEX_OUT_OF_BOUNDS;
+    }
+    return is_boundary(m, byte) ? ROPEY_OK : ROPEY_BYTE_INDEX_NOT_CHAR_BOUNDARY;
+}
+
+/* Inserts and replacements, by character or by byte. */
+static void put_text(pair *p) {
+    size_t len = 0;
+    model text = drawn_text(below(16) == 0 ? 2500 : 12);
+    uint8_t *bytes = bytes_of(&text, &len);
+    bool by_byte = below(2), replaces = below(2), broken = len > 0 && below(16) == 0;
+    ropey_range r = drawn_range(by_byte ? counts_of(&p->text).bytes : p->text.len);
+    if (p->text.len > LONGEST) {
+        r.start = 0;
+    }
+    if (broken) {
+        bytes[below(len)] = 0xFF;
+    }
+    ropey_status status, wanted;
+    if (replaces) {
+        status = by_byte ? CALL(ropey_replace_bytes(&p->rope, r.start, r.end, bytes, len)) : CALL(ropey_replace(&p->rope, r.start, r.end, bytes, len));
+        wanted = by_byte ? byte_range_fault(&p->text, r) : char_range_fault(&p->text, r);
+    } else {
+        r.end = r.start;
+        status = by_byte ? CALL(ropey_insert_at_byte(&p->rope, r.start, bytes, len)) : CALL(ropey_insert(&p->rope, r.start, bytes, len));
+        wanted = by_byte ? byte_place_fault(&p->text, r.start) : r.start > p->text.len ? ROPEY_CHAR_INDEX_OUT_OF_BOUNDS : ROPEY_OK;
+    }
+    wanted = !p->held ? ROPEY_NO_ROPE_HELD : broken ? ROPEY_INVALID_UTF8 : wanted;
+    if (status == ROPEY_OK && wanted == ROPEY_OK) {
+        ropey_range chars = by_byte ? (ropey_range){char_at_byte(&p->text, r.start), char_at_byte(&p->text, r.end)} : r;
+        model_replace(&p->text, chars.start, chars.end, text.chars, text.len);
+    }
+    settle(p, status, wanted);
+    free(bytes);
+    free(text.chars);
+}
+
+static void put_char(pair *p) {
+    uint32_t c = below(8) == 0 ? (uint32_t)draw() : letters[below(sizeof letters / sizeof *letters)];
+    size_t i = below(p->text.len + 2);
+    bool scalar = c < 0xD800 || (0xE000 <= c && c < 0x110000);
+    ropey_status status = CALL(ropey_insert_char(&p->rope, i, c));
+    ropey_status wanted = !p->held ? ROPEY_NO_ROPE_HELD : !scalar ? ROPEY_NOT_A_CHARACTER : i > p->text.len ? ROPEY_CHAR_INDEX_OUT_OF_BOUNDS : ROPEY_OK;
+    if (status == ROPEY_OK && wanted == ROPEY_OK) {
+        model_replace(&p->text, i, i, &c, 1);
+    }
+    settle(p, status, wanted);
+}
+
+static void cut(pair *p) {
+    bool by_byte = below(2);
+    ropey_range r = drawn_range(by_byte ? counts_of(&p->text).bytes : p->text.len);
+    ropey_status status = by_byte ? CALL(ropey_remove_bytes(&p->rope, r.start, r.end)) : CALL(ropey_remove(&p->rope, r.start, r.end));
+    ropey_status wanted = !p->held ? ROPEY_NO_ROPE_HELD : by_byte ? byte_range_fault(&p->text, r) : char_range_fault(&p->text, r);
+    if (status == ROPEY_OK && wanted == ROPEY_OK) {
+        ropey_range chars = by_byte ? (ropey_range){char_at_byte(&p->text, r.start), char_at_byte(&p->text, r.end)} : r;
+        model_replace(&p->text, chars.start, chars.end, NULL, 0);
+    }
+    settle(p, status, wanted);
+}
+
+static void split(pair *p, pair *q) {
+    size_t i = below(p->text.len + 2);
+    if (p == q) {
+        return;
+    }
+    ropey_status status = CALL(ropey_split_off(&p->rope, i, &q->rope));
+    ropey_status wanted = !p->held ? ROPEY_NO_ROPE_HELD : i > p->text.len ? ROPEY_CHAR_INDEX_OUT_OF_BOUNDS : ROPEY_OK;
+    if (status == ROPEY_OK && wanted == ROPEY_OK) {
+        take(q, part_of(&p->text, i, p->text.len));
+        model_replace(&p->text, i, p->text.len, NULL, 0);
+    }
+    settle(p, status, wanted);
+}
+
+static void append(pair *p, pair *q) {
+    if (p == q || p->text.len + q->text.len > 2 * LONGEST) {
+        return;
+    }
+    ropey_status status = CALL(ropey_append(&p->rope, &q->rope));
+    ropey_status wanted = !p->held || !q->held ? ROPEY_NO_ROPE_HELD : p->text.break_set != q->text.break_set ? ROPEY_BREAK_SETS_DIFFER : ROPEY_OK;
+    if (status == ROPEY_OK && wanted == ROPEY_OK) {
+        model_replace(&p->text, p->text.len, p->text.len, q->text.chars, q->text.len);
+    }
+    if (status == ROPEY_OK || status == ROPEY_OUT_OF_MEMORY) {
+        forget(q);
+    }
+    CHECK(ropey_len_chars(&q->rope) == q->text.len);
+    settle(p, status, wanted);
+}
+
+/* Look-ups. Each is asked at an index that may be past the end, and compared with the model. */
+#define ASKS(call, fault, out, value)                      \
+    do {                                                   \
+        size_t out = 77;                                   \
+        ropey_status status_ = (call);                     \
+        ropey_status wanted_ = held_ ? (fault) : ROPEY_NO_ROPE_HELD; \
+        CHECK(status_ == wanted_);                         \
+        CHECK(out == (wanted_ == ROPEY_OK ? (value) : 77)); \
+    } while (0)
+
+static void convert(pair *p) {
+    const model *m = &p->text;
+    const ropey_rope *rope = &p->rope;
+    bool held_ = p->held;
+    ropey_counts all = counts_of(m);
+    size_t b = below(all.bytes + 2), i = below(m->len + 2), u = below(all.utf16 + 2), l = below(all.line_breaks + 3);
+    ropey_status past_b = b > all.bytes ? ROPEY_BYTE_INDEX_OUT_OF_BOUNDS : ROPEY_OK;
+    ropey_status past_i = i > m->len ? ROPEY_CHAR_INDEX_OUT_OF_BOUNDS : ROPEY_OK;
+    ropey_status past_u = u > all.utf16 ? ROPEY_UTF16_INDEX_OUT_OF_BOUNDS : ROPEY_OK;
+    ropey_status past_l = l > all.line_breaks + 1 ? ROPEY_LINE_INDEX_OUT_OF_BOUNDS : ROPEY_OK;
+    ropey_counts before = counts_before(m, past_i == ROPEY_OK ? i : 0);
+    ASKS(ropey_byte_to_char(rope, b, &x), past_b, x, char_at_byte(m, b));
+    ASKS(ropey_byte_to_line(rope, b, &x), past_b, x, counts_before(m, char_at_byte(m, b)).line_breaks);
+    ASKS(ropey_char_to_byte(rope, i, &x), past_i, x, before.bytes);
+    ASKS(ropey_char_to_line(rope, i, &x), past_i, x, before.line_breaks);
+    ASKS(ropey_char_to_utf16(rope, i, &x), past_i, x, before.utf16);
+    ASKS(ropey_utf16_to_char(rope, u, &x), past_u, x, char_at_utf16(m, u));
+    ASKS(ropey_line_to_byte(rope, l, &x), past_l, x, counts_before(m, start_of_line(m, l)).bytes);
+    ASKS(ropey_line_to_char(rope, l, &x), past_l, x, start_of_line(m, l));
+    CHECK(ropey_len_bytes(rope) == all.bytes && ropey_len_chars(rope) == m->len && ropey_len_utf16(rope) == all.utf16);
+    CHECK(ropey_len_lines(rope) == (held_ ? all.line_breaks + 1 : 0));
+    uint32_t set = 77;
+    CHECK(ropey_get_break_set(rope, &set) == (held_ ? ROPEY_OK : ROPEY_NO_ROPE_HELD) && set == (held_ ? m->break_set : 77));
+}
+
+static void place(pair *p) {
+    const model *m = &p->text;
+    bool held_ = p->held;
+    size_t i = below(m->len + 2), lines = counts_of(m).line_breaks + 1, line = below(lines + 2);
+    ropey_place at = {77, 77};
+    ropey_status status = ropey_char_to_position(&p->rope, i, &at);
+    CHECK(status == (!p->held ? ROPEY_NO_ROPE_HELD : i > m->len ? ROPEY_CHAR_INDEX_OUT_OF_BOUNDS : ROPEY_OK));
+    if (status == ROPEY_OK) {
+        ropey_counts before = counts_before(m, i);
+        CHECK(at.line == before.line_breaks && at.column == before.utf16 - counts_before(m, start_of_line(m, at.line)).utf16);
+    }
+    size_t start = line < lines ? start_of_line(m, line) : 0, end = line < lines ? start_of_line(m, line + 1) : 0;
+    size_t units = counts_before(m, start).utf16, column = below(counts_before(m, end).utf16 - units + 2);
+    ropey_status wanted = line >= lines ? ROPEY_LINE_INDEX_OUT_OF_BOUNDS
+        : units + column > counts_before(m, end).utf16 ? ROPEY_UTF16_INDEX_OUT_OF_BOUNDS : ROPEY_OK;
+    ASKS(ropey_position_to_char(&p->rope, line, column, &x), wanted, x, char_at_utf16(m, units + column));
+}
+
+static void item(pair *p) {
+    const model *m = &p->text;
+    size_t b = below(counts_of(m).bytes + 1), i = below(m->len + 1), lines = counts_of(m).line_breaks + 1, l = below(lines + 1);
+    uint8_t byte = 77, wide[4];
+    uint32_t c = 77;
+    ropey_range chars = {77, 77};
+    ropey_status status = ropey_byte(&p->rope, b, &byte);
+    CHECK(status == (!p->held ? ROPEY_NO_ROPE_HELD : b == counts_of(m).bytes ? ROPEY_BYTE_INDEX_OUT_OF_BOUNDS : ROPEY_OK));
+    if (status == ROPEY_OK) {
+        size_t k = char_at_byte(m, b);
+        encode(m->chars[k], wide);
+        CHECK(byte == wide[b - counts_before(m, k).bytes]);
+    }
+    status = ropey_char(&p->rope, i, &c);
+    CHECK(status == (!p->held ? ROPEY_NO_ROPE_HELD : i == m->len ? ROPEY_CHAR_INDEX_OUT_OF_BOUNDS : ROPEY_OK));
+    CHECK(c == (status == ROPEY_OK ? m->chars[i] : 77));
+    status = ropey_line(&p->rope, l, &chars);
+    CHECK(status == (!p->held ? ROPEY_NO_ROPE_HELD : l == lines ? ROPEY_LINE_INDEX_OUT_OF_BOUNDS : ROPEY_OK));
+    CHECK(chars.start == (status == ROPEY_OK ? start_of_line(m, l) : 77) && chars.end == (status == ROPEY_OK ? start_of_line(m, l + 1) : 77));
+}
+
+/* A chunk is a part of the text with what lies before it, and holds the place that was asked for. */
+static void see_chunk(const pair *p, const ropey_chunk *chunk) {
+    size_t end = chunk->bytes_before + chunk->len;
+    CHECK(chunk->text != NULL && chunk->len <= 984 && (chunk->len > 0 || p->text.len == 0));
+    CHECK(memcmp(chunk->text, p->bytes + chunk->bytes_before, chunk->len) == 0 && is_boundary(&p->text, end));
+    ropey_counts before = counts_before(&p->text, char_at_byte(&p->text, chunk->bytes_before));
+    CHECK(before.bytes == chunk->bytes_before && before.chars == chunk->chars_before && before.line_breaks == chunk->line_breaks_before);
+}
+
+static void chunk(pair *p) {
+    const model *m = &p->text;
+    ropey_counts all = counts_of(m);
+    size_t b = below(all.bytes + 2), i = below(m->len + 2), l = below(all.line_breaks + 3);
+    ropey_chunk at = ROPEY_NO_CHUNK;
+    ropey_status status = ropey_chunk_at_byte(&p->rope, b, &at);
+    CHECK(status == (!p->held ? ROPEY_NO_ROPE_HELD : b > all.bytes ? ROPEY_BYTE_INDEX_OUT_OF_BOUNDS : ROPEY_OK));
+    if (status == ROPEY_OK) {
+        see_chunk(p, &at);
+        CHECK(at.bytes_before <= b && (b < at.bytes_before + at.len || (b == all.bytes && b == at.bytes_before + at.len)));
+    }
+    status = ropey_chunk_at_char(&p->rope, i, &at);
+    CHECK(status == (!p->held ? ROPEY_NO_ROPE_HELD : i > m->len ? ROPEY_CHAR_INDEX_OUT_OF_BOUNDS : ROPEY_OK));
+    if (status == ROPEY_OK) {
+        size_t end = char_at_byte(m, at.bytes_before + at.len);
+        see_chunk(p, &at);
+        CHECK(at.chars_before <= i && (i < end || (i == m->len && i == end)));
+    }
+    status = ropey_chunk_at_line_break(&p->rope, l, &at);
+    CHECK(status == (!p->held ? ROPEY_NO_ROPE_HELD : l > all.line_breaks + 1 ? ROPEY_LINE_INDEX_OUT_OF_BOUNDS : ROPEY_OK));
+    if (status == ROPEY_OK) {
+        size_t ended = counts_before(m, char_at_byte(m, at.bytes_before + at.len)).line_breaks;
+        see_chunk(p, &at);
+        CHECK(l == 0 ? at.bytes_before == 0 : at.line_breaks_before < l || l > all.line_breaks);
+        CHECK(ended >= l || at.bytes_before + at.len == all.bytes);
+    }
+}
+
+/* Chunks on both sides of a byte: they meet, and lie where the text has them. */
+static void pieces(pair *p) {
+    size_t len = counts_of(&p->text).bytes, b = below(len + 2), room = below(PIECES), count = 77, before = 77, at;
+    ropey_piece found[PIECES];
+    memset(found, 0, sizeof found);
+    ropey_status wanted = !p->held ? ROPEY_NO_ROPE_HELD : b > len ? ROPEY_BYTE_INDEX_OUT_OF_BOUNDS : ROPEY_OK;
+    CHECK(ropey_chunks_before_byte(&p->rope, b, room == 0 ? NULL : found, room, &count, &before) == wanted);
+    CHECK(wanted == ROPEY_OK || (count == 77 && before == 77));
+    if (wanted != ROPEY_OK) {
+        return;
+    }
+    size_t joint = before;
+    at = before;
+    for (size_t k = 0; k < count; k++) {
+        at -= found[k].len;
+        CHECK(found[k].len > 0 && memcmp(found[k].text, p->bytes + at, found[k].len) == 0);
+    }
+    CHECK(count <= room && (count == room || at == 0));
+    CHECK(ropey_chunks_from_byte(&p->rope, b, room == 0 ? NULL : found, room, &count, &before) == ROPEY_OK && before == joint);
+    at = before;
+    for (size_t k = 0; k < count; k++) {
+        CHECK(found[k].len > 0 && memcmp(found[k].text, p->bytes + at, found[k].len) == 0);
+        at += found[k].len;
+    }
+    CHECK(count <= room && (count == room || at == len));
+}
+
+static void line(pair *p) {
+    const model *m = &p->text;
+    size_t lines = counts_of(m).line_breaks + 1, l = below(lines + 1), room = below(PIECES), count = 77;
+    ropey_range bytes = {77, 77};
+    ropey_piece found[PIECES];
+    memset(found, 0, sizeof found);
+    ropey_status wanted = !p->held ? ROPEY_NO_ROPE_HELD : l == lines ? ROPEY_LINE_INDEX_OUT_OF_BOUNDS : ROPEY_OK;
+    CHECK(ropey_line_pieces(&p->rope, l, &bytes, found, room, &count) == wanted);
+    if (wanted != ROPEY_OK) {
+        CHECK(bytes.start == 77 && bytes.end == 77 && count == 77);
+        return;
+    }
+    CHECK(bytes.start == counts_before(m, start_of_line(m, l)).bytes && bytes.end == counts_before(m, start_of_line(m, l + 1)).bytes);
+    size_t at = bytes.start;
+    for (size_t k = 0; k < count; k++) {
+        CHECK(memcmp(found[k].text, p->bytes + at, found[k].len) == 0);
+        at += found[k].len;
+    }
+    CHECK(count <= room && (count == room || at == bytes.end));
+}
+
+/* Copies and counts of a range. */
+static void range(pair *p) {
+    static uint8_t buffer[16 * LONGEST];
+    const model *m = &p->text;
+    bool by_byte = below(2);
+    ropey_range r = drawn_range(by_byte ? counts_of(m).bytes : m->len);
+    ropey_status fault = !p->held ? ROPEY_NO_ROPE_HELD : by_byte ? byte_range_fault(m, r) : char_range_fault(m, r);
+    ropey_counts counts = {77, 77, 77, 77};
+    size_t room = below(16) == 0 ? below(64) : sizeof buffer, len = 77;
+    ropey_status counted = by_byte ? ropey_counts_in_bytes(&p->rope, r.start, r.end, &counts) : ropey_counts_in_chars(&p->rope, r.start, r.end, &counts);
+    ropey_status copied = by_byte ? ropey_copy_bytes(&p->rope, r.start, r.end, buffer, room, &len) : ropey_copy_chars(&p->rope, r.start, r.end, buffer, room, &len);
+    CHECK(counted == fault);
+    if (fault != ROPEY_OK) {
+        CHECK(copied == fault && len == 77 && counts.bytes == 77);
+        return;
+    }
+    model part = by_byte ? part_of(m, char_at_byte(m, r.start), char_at_byte(m, r.end)) : part_of(m, r.start, r.end);
+    ropey_counts wanted = counts_of(&part);
+    size_t size = 0;
+    uint8_t *bytes = bytes_of(&part, &size);
+    CHECK(memcmp(&counts, &wanted, sizeof counts) == 0);
+    CHECK(copied == (size <= room ? ROPEY_OK : ROPEY_BUFFER_TOO_SMALL) && len == size);
+    CHECK(copied != ROPEY_OK || memcmp(buffer, bytes, size) == 0);
+    free(bytes);
+    free(part.chars);
+}
+
+static void compare(pair *p, pair *q) {
+    int32_t order = 77;
+    bool equal = false;
+    ropey_status status = ropey_compare(&p->rope, &q->rope, &order);
+    CHECK(status == (p->held && q->held ? ROPEY_OK : ROPEY_NO_ROPE_HELD));
+    if (status != ROPEY_OK) {
+        CHECK(order == 77);
+        return;
+    }
+    size_t n = counts_of(&p->text).bytes, k = counts_of(&q->text).bytes;
+    int sign = memcmp(p->bytes, q->bytes, n < k ? n : k);
+    CHECK(order == (sign != 0 ? (sign > 0) - (sign < 0) : (n > k) - (n < k)));
+    CHECK(ropey_equals_text(&p->rope, q->bytes, k, &equal) == ROPEY_OK && equal == (order == 0));
+}
+
+/* Counts and conversions of a plain text, some of them not UTF-8. */
+static void plain(void) {
+    size_t len = 0;
+    model m = drawn_text(200);
+    uint32_t set = (uint32_t)below(4);
+    uint8_t *bytes = bytes_of(&m, &len);
+    m.break_set = set;
+    ropey_counts all = counts_of(&m), counts = {77, 77, 77, 77};
+    size_t bad = len > 0 && below(8) == 0 ? below(len) : len;
+    size_t valid = bad == len ? len : counts_before(&m, char_at_byte(&m, bad)).bytes;
+    if (bad < len) {
+        bytes[bad] = 0xFF;
+    }
+    bool held_ = true;
+    ropey_status fault = bad < len ? ROPEY_INVALID_UTF8 : ROPEY_OK, by_set = set > ROPEY_UNICODE ? ROPEY_UNKNOWN_BREAK_SET : fault;
+    size_t b = below(all.bytes + 3), i = below(m.len + 3), u = below(all.utf16 + 3), l = below(all.line_breaks + 3);
+    size_t at = i < m.len ? i : m.len;
+    CHECK(ropey_text_valid_len(bytes, len) == valid);
+    CHECK(ropey_text_counts(bytes, len, set, &counts) == by_set);
+    CHECK(by_set != ROPEY_OK ? counts.bytes == 77 : memcmp(&counts, &all, sizeof all) == 0);
+    ASKS(ropey_text_byte_to_char(bytes, len, b, &x), fault, x, char_at_byte(&m, b));
+    ASKS(ropey_text_byte_to_line(bytes, len, set, b, &x), by_set, x, counts_before(&m, char_at_byte(&m, b)).line_breaks);
+    ASKS(ropey_text_char_to_byte(bytes, len, i, &x), fault, x, counts_before(&m, at).bytes);
+    ASKS(ropey_text_char_to_line(bytes, len, set, i, &x), by_set, x, counts_before(&m, at).line_breaks);
+    ASKS(ropey_text_char_to_utf16(bytes, len, i, &x), fault, x, counts_before(&m, at).utf16);
+    ASKS(ropey_text_utf16_to_char(bytes, len, u, &x), fault, x, char_at_utf16(&m, u));
+    ASKS(ropey_text_line_to_byte(bytes, len, set, l, &x), by_set, x, counts_before(&m, start_of_line(&m, l)).bytes);
+    ASKS(ropey_text_line_to_char(bytes, len, set, l, &x), by_set, x, start_of_line(&m, l));
+    free(bytes);
+    free(m.chars);
+}
+
+/* A rope of bytes in parts, which are cut anywhere, and some of which are no text. */
+static void build(pair *p) {
+    size_t len = 0, at = 0, valid = 77;
+    model text = drawn_text(below(4) == 0 ? LONGEST : 40);
+    uint8_t *bytes = bytes_of(&text, &len);
+    size_t bad = len > 0 && below(4) == 0 ? below(len) : len;
+    size_t whole = bad == len ? len : counts_before(&text, char_at_byte(&text, bad)).bytes;
+    ropey_builder builder = ROPEY_NO_BUILDER;
+    if (bad < len) {
+        bytes[bad] = 0xFF;
+    }
+    CHECK(ropey_builder_append(&builder, bytes, len, &valid) == ROPEY_NO_BUILDER_HELD);
+    CHECK(ropey_builder_finish(&builder, &p->rope, &valid) == ROPEY_NO_BUILDER_HELD && valid == 77);
+    text.break_set = (uint32_t)below(4);
+    ropey_status status = CALL(ropey_builder_new(text.break_set, &builder)), wanted = ROPEY_OK;
+    CHECK(status == (text.break_set > ROPEY_UNICODE ? ROPEY_UNKNOWN_BREAK_SET : refused ? ROPEY_OUT_OF_MEMORY : ROPEY_OK));
+    while (status == ROPEY_OK && at < len) {
+        size_t part = 1 + below(below(2) ? 5 : len - at);
+        part = part < len - at ? part : len - at;
+        status = CALL(ropey_builder_append(&builder, below(2) ? bytes + at : NULL, 0, &valid));
+        status = status == ROPEY_OK ? CALL(ropey_builder_append(&builder, bytes + at, part, &valid)) : status;
+        at += part;
+        wanted = at >= whole + 4 && bad < len ? ROPEY_INVALID_UTF8 : ROPEY_OK;
+        CHECK(status == wanted || status == ROPEY_OUT_OF_MEMORY);
+    }
+    if (builder.ptr != NULL) {
+        ropey_status said = status;
+        status = said == ROPEY_OK ? CALL(ropey_builder_finish(&builder, &p->rope, &valid)) : ropey_builder_finish(&builder, &p->rope, &valid);
+        CHECK(said == ROPEY_OK || status == said);
+        CHECK(status == ROPEY_OUT_OF_MEMORY || status == (whole < len ? ROPEY_INVALID_UTF8 : ROPEY_OK));
+    }
+    CHECK(valid == (status == ROPEY_INVALID_UTF8 ? whole : 77));
+    ropey_builder_free(&builder);
+    free(bytes);
+    if (status == ROPEY_OK) {
+        take(p, text);
+        held_all(p);
+        return;
+    }
+    free(text.chars);
+    held_all(NULL);
+}
+
+static const char *const names[] = {"make", "make_clone", "release", "shrink", "put_text", "put_char", "cut", "split", "append", "convert", "place",
+    "item", "chunk", "pieces", "line", "range", "compare", "plain", "build"};
+static const int weights[] = {2, 3, 1, 1, 24, 8, 12, 3, 4, 10, 6, 6, 6, 6, 6, 8, 3, 3, 2};
+enum { STEPS = sizeof weights / sizeof *weights };
+
+static void step(int k, pair *p, pair *q) {
+    now = names[k];
+    switch (k) {
+    case 0: make(p); break;
+    case 1: make_clone(p, q); break;
+    case 2: release(p); break;
+    case 3: shrink(p); break;
+    case 4: put_text(p); break;
+    case 5: put_char(p); break;
+    case 6: cut(p); break;
+    case 7: split(p, q); break;
+    case 8: append(p, q); break;
+    case 9: convert(p); break;
+    case 10: place(p); break;
+    case 11: item(p); break;
+    case 12: chunk(p); break;
+    case 13: pieces(p); break;
+    case 14: line(p); break;
+    case 15: range(p); break;
+    case 16: compare(p, q); break;
+    case 17: plain(); break;
+    default: build(p); break;
+    }
+    held_all(NULL);
+}
+
+int main(int argc, char **argv) {
+    long calls = argc > 1 ? atol(argv[1]) : 20000;
+    int all = 0;
+    state += argc > 2 ? (uint64_t)atoll(argv[2]) * 0x9E3779B97F4A7C15u : 0;
+    for (size_t i = 0; i < HANDLES; i++) {
+        pairs[i] = (pair){.rope = ROPEY_NO_ROPE, .text = model_of(letters, 0, ROPEY_LF)};
+    }
+    for (int k = 0; k < STEPS; k++) {
+        all += weights[k];
+    }
+    for (long n = 0; n < calls; n++) {
+        int k = 0;
+        for (int left = (int)below((size_t)all); left >= weights[k]; k++) {
+            left -= weights[k];
+        }
+        step(k, &pairs[below(HANDLES)], &pairs[below(HANDLES)]);
+    }
+    for (size_t i = 0; i < HANDLES; i++) {
+        release(&pairs[i]);
+        free(pairs[i].text.chars);
+    }
+    printf("%ld random calls agree with a plain text\n", calls);
+    return 0;
+}

@@ -1,0 +1,371 @@
+/* Ropey 1.0.0: a text buffer for editors, the rope of this repository, for programs in C and C++.
+ *
+ *     ropey_rope rope = ROPEY_NO_ROPE;
+ *     if (ropey_from_text((const uint8_t *)"hello world", 11, ROPEY_UNICODE, &rope) != ROPEY_OK) return 1;
+ *     ropey_insert(&rope, 5, (const uint8_t *)", you", 5);      // "hello, you world"
+ *     ropey_free(&rope);
+ *
+ * System. The library libropey.a is for Linux on x86-64 with the instructions of x86-64-v2 (SSE 4.2, POPCNT). Memory comes
+ * from the program's malloc, realloc and free.
+ *
+ * Handles. A program holds a rope by a `ropey_rope`, which begins as ROPEY_NO_ROPE and is changed by these calls alone. It
+ * may be moved (the old one is not used again), and is never copied: `ropey_clone` makes a second rope. Where a call takes
+ * two handles, or a handle and a place to write to, they are different objects, but for two that are `const`. A call that
+ * makes a rope frees the one that the handle held. `ropey_free` frees the last one; a handle that holds no rope may be freed
+ * again. All this holds of a `ropey_builder` too.
+ *
+ * Texts and places to write to. A text is bytes of UTF-8 and their number, and nothing ends it but its length. A text, a
+ * buffer or a list of 0 items may be a null pointer; no other pointer is null. A text is read and a place is written during
+ * the call alone. No text or buffer has more than PTRDIFF_MAX bytes.
+ *
+ * Indices count from 0, in bytes, characters (Unicode scalar values), UTF-16 code units or lines. A line ends after a line
+ * break of the rope's set. A text has one line more than it has line breaks, and its last line may be empty.
+ *
+ * Refusals. A call answers ROPEY_OK, or the first reason for which it was refused, in the order in which its comment gives
+ * them. No index, text or number can make a call do anything else. A refused call leaves every rope as it was and writes
+ * nothing, but where its comment says so. A call on a handle that holds no rope answers ROPEY_NO_ROPE_HELD.
+ *
+ * Edits are the calls that take a `ropey_rope *` which holds a rope; look-ups are those that take a `const ropey_rope *`.
+ * A look-up changes nothing, and gives pointers into the rope's memory. They are good until the handle is passed to an
+ * edit or overwritten, whatever happens to its clones. An edit that was refused has moved nothing, unless it was refused
+ * for ROPEY_OUT_OF_MEMORY: that leaves the text, but not the pointers.
+ *
+ * Threads. A rope and its clones, the tails that were split off and the ropes that were appended among them, share memory
+ * whose owners are counted without locks. Look-ups but `ropey_clone` neither read nor write these counts. So
+ *   - look-ups of one handle may run at once on any threads, as long as no edit of that handle runs;
+ *   - edits and `ropey_clone` of ropes that share memory run one at a time: one lock around them is enough, which look-ups
+ *     need not take, also of ropes that share memory with the one that is edited.
+ * A handle may be handed to another thread as any object may. No call may come from a signal handler, or from the child of
+ * a fork where the program has threads.
+ */
+#ifndef ROPEY_H
+#define ROPEY_H
+
+#include <stdbool.h>
+#include <stddef.h>
+#include <stdint.h>
+
+#ifdef __cplusplus
+extern "C" {
+#endif
+
+#define ROPEY_VERSION "1.0.0"
+#define ROPEY_VERSION_MAJOR 1
+#define ROPEY_VERSION_MINOR 0
+#define ROPEY_VERSION_PATCH 0
+
+/* The library's version: major * 1000000 + minor * 1000 + patch. */
+uint32_t ropey_version(void);
+
+#ifdef __cplusplus
+#define ROPEY_ENUM(name) enum name : uint32_t
+#else
+#define ROPEY_ENUM(name) enum name
+#endif
+
+/* What a call answers. */
+typedef ROPEY_ENUM(ropey_status) {
+    ROPEY_OK = 0,
+    ROPEY_OUT_OF_MEMORY = 1,
+    ROPEY_NO_ROPE_HELD = 2,
+    ROPEY_INVALID_UTF8 = 3,
+    ROPEY_NOT_A_CHARACTER = 4,
+    ROPEY_UNKNOWN_BREAK_SET = 5,
+    ROPEY_BYTE_INDEX_OUT_OF_BOUNDS = 6,
+    ROPEY_CHAR_INDEX_OUT_OF_BOUNDS = 7,
+    ROPEY_LINE_INDEX_OUT_OF_BOUNDS = 8,
+    ROPEY_UTF16_INDEX_OUT_OF_BOUNDS = 9,
+    ROPEY_CHAR_RANGE_INVALID = 10, /* the range starts past its end */
+    ROPEY_CHAR_RANGE_OUT_OF_BOUNDS = 11,
+    ROPEY_BYTE_RANGE_INVALID = 12,
+    ROPEY_BYTE_RANGE_OUT_OF_BOUNDS = 13,
+    ROPEY_BYTE_RANGE_NOT_CHAR_BOUNDARY = 14, /* the range starts or ends inside a character */
+    ROPEY_TOO_LONG = 15,                     /* the text would have more than PTRDIFF_MAX bytes */
+    ROPEY_BREAK_SETS_DIFFER = 16,
+    ROPEY_BUFFER_TOO_SMALL = 17,
+    ROPEY_BYTE_INDEX_NOT_CHAR_BOUNDARY = 18,
+    ROPEY_NO_BUILDER_HELD = 19
+} ropey_status;
+
+/* Which characters end a line. */
+typedef ROPEY_ENUM(ropey_break_set) {
+    ROPEY_LF = 0,      /* LF alone */
+    ROPEY_LF_CR = 1,   /* LF, CR, and CR LF as one */
+    ROPEY_UNICODE = 2  /* all of Unicode's line breaks, with CR LF as one */
+} ropey_break_set;
+
+/* A rope, or none. The pointer is the library's: it is neither read nor written. */
+typedef struct {
+    void *ptr;
+} ropey_rope;
+
+/* A builder, or none. */
+typedef struct {
+    void *ptr;
+} ropey_builder;
+
+/* What handles begin as: to be written behind `=` where one is declared, as in `static ropey_rope rope = ROPEY_NO_ROPE;`. */
+#define ROPEY_NO_ROPE {NULL}
+#define ROPEY_NO_BUILDER {NULL}
+
+/* A chunk of a rope's text, 1 to 984 bytes of whole characters, and how much of the text lies before it. The bytes belong
+ * to the rope. Where the rope is empty all numbers are 0, and the pointer, which is never null, leads to nothing. A chunk
+ * begins as ROPEY_NO_CHUNK, and is written by these calls alone. */
+typedef struct {
+    const uint8_t *text;
+    size_t len; /* in bytes */
+    size_t bytes_before;
+    size_t chars_before;
+    size_t line_breaks_before;
+} ropey_chunk;
+
+#define ROPEY_NO_CHUNK {(const uint8_t *)"", 0, 0, 0, 0}
+
+/* A piece of a rope's text: a chunk, or a part of one. The bytes belong to the rope. A piece begins as ROPEY_NO_PIECE, and
+ * is written by these calls alone; a list of them may begin as all zeros. */
+typedef struct {
+    const uint8_t *text;
+    size_t len; /* in bytes */
+} ropey_piece;
+
+#define ROPEY_NO_PIECE {(const uint8_t *)"", 0}
+
+/* From start up to end, which is the first that is not in the range. */
+typedef struct {
+    size_t start;
+    size_t end;
+} ropey_range;
+
+/* A line, and a column in UTF-16 code units from the start of the line. */
+typedef struct {
+    size_t line;
+    size_t column;
+} ropey_place;
+
+/* How much text there is, in each of the units. */
+typedef struct {
+    size_t bytes;
+    size_t chars;
+    size_t utf16;
+    size_t line_breaks;
+} ropey_counts;
+
+/* Making and freeing. */
+
+/* Makes a rope of a copy of the text, with a set of line breaks.
+ * Refused: UNKNOWN_BREAK_SET, INVALID_UTF8, OUT_OF_MEMORY. */
+ropey_status ropey_from_text(const uint8_t *text, size_t len, uint32_t break_set, ropey_rope *rope);
+
+/* Frees the rope, if there is one. Afterwards the handle holds none. */
+void ropey_free(ropey_rope *rope);
+
+/* Makes a clone, in constant time. The two share memory, and an edit of one leaves the other as it was.
+ * Refused: NO_ROPE_HELD, OUT_OF_MEMORY. */
+ropey_status ropey_clone(const ropey_rope *rope, ropey_rope *copy);
+
+/* Cuts the text into as few chunks as ropey_from_text does. Refused: NO_ROPE_HELD, OUT_OF_MEMORY. */
+ropey_status ropey_shrink_to_fit(ropey_rope *rope);
+
+/* Edits by character. */
+
+/* Inserts the text before the character char_idx; for the number of characters, at the end.
+ * Refused: NO_ROPE_HELD, INVALID_UTF8, CHAR_INDEX_OUT_OF_BOUNDS, TOO_LONG, OUT_OF_MEMORY. */
+ropey_status ropey_insert(ropey_rope *rope, size_t char_idx, const uint8_t *text, size_t len);
+
+/* Inserts a Unicode scalar value.
+ * Refused: NO_ROPE_HELD, NOT_A_CHARACTER, CHAR_INDEX_OUT_OF_BOUNDS, TOO_LONG, OUT_OF_MEMORY. */
+ropey_status ropey_insert_char(ropey_rope *rope, size_t char_idx, uint32_t c);
+
+/* Takes the characters from start up to end out.
+ * Refused: NO_ROPE_HELD, CHAR_RANGE_OUT_OF_BOUNDS, CHAR_RANGE_INVALID, OUT_OF_MEMORY. */
+ropey_status ropey_remove(ropey_rope *rope, size_t start, size_t end);
+
+/* Puts the text in the place of the characters from start up to end, or does nothing at all.
+ * Refused: NO_ROPE_HELD, INVALID_UTF8, CHAR_RANGE_OUT_OF_BOUNDS, CHAR_RANGE_INVALID, TOO_LONG, OUT_OF_MEMORY. */
+ropey_status ropey_replace(ropey_rope *rope, size_t start, size_t end, const uint8_t *text, size_t len);
+
+/* Keeps the first char_idx characters, and makes a rope of the others in tail.
+ * Refused: NO_ROPE_HELD, CHAR_INDEX_OUT_OF_BOUNDS, OUT_OF_MEMORY. */
+ropey_status ropey_split_off(ropey_rope *rope, size_t char_idx, ropey_rope *tail);
+
+/* Puts the text of other behind the rope's. Afterwards other holds no rope, also where memory was refused; every other
+ * refusal leaves it as it was. Refused: NO_ROPE_HELD, where one of the two holds none, BREAK_SETS_DIFFER, TOO_LONG,
+ * OUT_OF_MEMORY. */
+ropey_status ropey_append(ropey_rope *rope, ropey_rope *other);
+
+/* Edits by byte. */
+
+/* Inserts the text before the byte byte_idx; for the number of bytes, at the end.
+ * Refused: NO_ROPE_HELD, INVALID_UTF8, BYTE_INDEX_OUT_OF_BOUNDS, BYTE_INDEX_NOT_CHAR_BOUNDARY where the byte is not the
+ * first of a character, TOO_LONG, OUT_OF_MEMORY. */
+ropey_status ropey_insert_at_byte(ropey_rope *rope, size_t byte_idx, const uint8_t *text, size_t len);
+
+/* Takes the bytes from start up to end out.
+ * Refused: NO_ROPE_HELD, BYTE_RANGE_INVALID, BYTE_RANGE_OUT_OF_BOUNDS, BYTE_RANGE_NOT_CHAR_BOUNDARY, OUT_OF_MEMORY. */
+ropey_status ropey_remove_bytes(ropey_rope *rope, size_t start, size_t end);
+
+/* Puts the text in the place of the bytes from start up to end, or does nothing at all.
+ * Refused: NO_ROPE_HELD, INVALID_UTF8, BYTE_RANGE_INVALID, BYTE_RANGE_OUT_OF_BOUNDS, BYTE_RANGE_NOT_CHAR_BOUNDARY,
+ * TOO_LONG, OUT_OF_MEMORY. */
+ropey_status ropey_replace_bytes(ropey_rope *rope, size_t start, size_t end, const uint8_t *text, size_t len);
+
+/* Lengths and counts. */
+
+/* Lengths, in constant time: 0 where the handle holds no rope. */
+size_t ropey_len_bytes(const ropey_rope *rope);
+size_t ropey_len_chars(const ropey_rope *rope);
+size_t ropey_len_lines(const ropey_rope *rope);
+size_t ropey_len_utf16(const ropey_rope *rope);
+
+/* The rope's set of line breaks, a ropey_break_set. Refused: NO_ROPE_HELD. */
+ropey_status ropey_get_break_set(const ropey_rope *rope, uint32_t *break_set);
+
+/* How much text lies from start up to end, as a text of its own: a CR whose LF lies outside is a line break by itself.
+ * Refused: NO_ROPE_HELD, the range's refusals (CHAR_RANGE_OUT_OF_BOUNDS, CHAR_RANGE_INVALID; BYTE_RANGE_INVALID,
+ * BYTE_RANGE_OUT_OF_BOUNDS, BYTE_RANGE_NOT_CHAR_BOUNDARY). */
+ropey_status ropey_counts_in_chars(const ropey_rope *rope, size_t start, size_t end, ropey_counts *counts);
+ropey_status ropey_counts_in_bytes(const ropey_rope *rope, size_t start, size_t end, ropey_counts *counts);
+
+/* Conversions. An index may be the length itself, which stands for the end of the text. A byte or a code unit inside a
+ * character stands for that character.
+ * Refused: NO_ROPE_HELD, and the given index's OUT_OF_BOUNDS where it is past the length. */
+ropey_status ropey_byte_to_char(const ropey_rope *rope, size_t byte_idx, size_t *char_idx);
+ropey_status ropey_byte_to_line(const ropey_rope *rope, size_t byte_idx, size_t *line_idx);
+ropey_status ropey_char_to_byte(const ropey_rope *rope, size_t char_idx, size_t *byte_idx);
+ropey_status ropey_char_to_line(const ropey_rope *rope, size_t char_idx, size_t *line_idx);
+ropey_status ropey_char_to_utf16(const ropey_rope *rope, size_t char_idx, size_t *utf16_idx);
+ropey_status ropey_utf16_to_char(const ropey_rope *rope, size_t utf16_idx, size_t *char_idx);
+ropey_status ropey_line_to_byte(const ropey_rope *rope, size_t line_idx, size_t *byte_idx);
+ropey_status ropey_line_to_char(const ropey_rope *rope, size_t line_idx, size_t *char_idx);
+
+/* The place of a character, or of the end of the text. Refused: NO_ROPE_HELD, CHAR_INDEX_OUT_OF_BOUNDS. */
+ropey_status ropey_char_to_position(const ropey_rope *rope, size_t char_idx, ropey_place *place);
+
+/* The last character of the line that begins at the column or before it.
+ * Refused: NO_ROPE_HELD, LINE_INDEX_OUT_OF_BOUNDS, UTF16_INDEX_OUT_OF_BOUNDS where the column is past the line. */
+ropey_status ropey_position_to_char(const ropey_rope *rope, size_t line, size_t column, size_t *char_idx);
+
+/* Bytes, characters and lines. */
+
+/* A byte; a character; the characters of a line, its line break among them. The index is below the length.
+ * Refused: NO_ROPE_HELD, and the index's OUT_OF_BOUNDS. */
+ropey_status ropey_byte(const ropey_rope *rope, size_t byte_idx, uint8_t *byte);
+ropey_status ropey_char(const ropey_rope *rope, size_t char_idx, uint32_t *c);
+ropey_status ropey_line(const ropey_rope *rope, size_t line_idx, ropey_range *chars);
+
+/* The bytes of a line, its line break among them, and its pieces from its start on, as far as there is room: their number
+ * is written to count. Where they don't reach the line's end, ropey_chunks_from_byte goes on.
+ * Refused: NO_ROPE_HELD, LINE_INDEX_OUT_OF_BOUNDS. */
+ropey_status ropey_line_pieces(const ropey_rope *rope, size_t line_idx, ropey_range *bytes, ropey_piece *pieces,
+    size_t room, size_t *count);
+
+/* Chunks. */
+
+/* The chunk that holds a byte or a character, and for the length the last chunk. The chunk that holds the line break before
+ * a line: for the first line the first chunk, and for the number of lines the last.
+ * Refused: NO_ROPE_HELD, and the index's OUT_OF_BOUNDS where it is past the length. */
+ropey_status ropey_chunk_at_byte(const ropey_rope *rope, size_t byte_idx, ropey_chunk *chunk);
+ropey_status ropey_chunk_at_char(const ropey_rope *rope, size_t char_idx, ropey_chunk *chunk);
+ropey_status ropey_chunk_at_line_break(const ropey_rope *rope, size_t line_idx, ropey_chunk *chunk);
+
+/* The chunks from the one that holds a byte on, as far as there is room: their number is written to count, and how many
+ * bytes lie before the first of them to bytes_before. At the end of the text there are none. To go on, ask for the byte past
+ * the last piece. One look-up, and then a step a chunk. Refused: NO_ROPE_HELD, BYTE_INDEX_OUT_OF_BOUNDS. */
+ropey_status ropey_chunks_from_byte(const ropey_rope *rope, size_t byte_idx, ropey_piece *pieces, size_t room,
+    size_t *count, size_t *bytes_before);
+
+/* The chunks before the one that holds a byte, the nearest first, as far as there is room: their number is written to
+ * count, and how many bytes lie before the chunk that holds the byte to bytes_before. At the end of the text the last chunk
+ * comes first. To go on, ask for the first byte of the last piece. Refused: NO_ROPE_HELD, BYTE_INDEX_OUT_OF_BOUNDS. */
+ropey_status ropey_chunks_before_byte(const ropey_rope *rope, size_t byte_idx, ropey_piece *pieces, size_t room,
+    size_t *count, size_t *bytes_before);
+
+/* Copies and comparisons. */
+
+/* Copies the text from start up to end to the front of the buffer, and writes its number of bytes to len.
+ * Refused: NO_ROPE_HELD, the range's refusals (CHAR_RANGE_OUT_OF_BOUNDS, CHAR_RANGE_INVALID; BYTE_RANGE_INVALID,
+ * BYTE_RANGE_OUT_OF_BOUNDS, BYTE_RANGE_NOT_CHAR_BOUNDARY), BUFFER_TOO_SMALL, which writes to len how many bytes the buffer
+ * has to have. */
+ropey_status ropey_copy_chars(const ropey_rope *rope, size_t start, size_t end, uint8_t *buffer, size_t room, size_t *len);
+ropey_status ropey_copy_bytes(const ropey_rope *rope, size_t start, size_t end, uint8_t *buffer, size_t room, size_t *len);
+
+/* The order of two texts by their bytes: -1, 0 or 1. Refused: NO_ROPE_HELD, where one of the handles holds none. */
+ropey_status ropey_compare(const ropey_rope *rope, const ropey_rope *other, int32_t *order);
+
+/* Whether the rope's text is this one. Refused: NO_ROPE_HELD, INVALID_UTF8. */
+ropey_status ropey_equals_text(const ropey_rope *rope, const uint8_t *text, size_t len, bool *equal);
+
+/* Builders: a rope of bytes that come in parts, as a file does. */
+
+/* Makes a builder that was given nothing. Refused: UNKNOWN_BREAK_SET, OUT_OF_MEMORY. */
+ropey_status ropey_builder_new(uint32_t break_set, ropey_builder *builder);
+
+/* Gives the builder the bytes that follow. They may end inside a character, which the next bytes go on with.
+ * Refused: NO_BUILDER_HELD, INVALID_UTF8 once four bytes follow that are no text, which writes to valid how many bytes of all
+ * that was given are text, TOO_LONG, OUT_OF_MEMORY, which may come before the two others. After a refusal every later call is
+ * refused for the same reason. */
+ropey_status ropey_builder_append(ropey_builder *builder, const uint8_t *bytes, size_t len, size_t *valid);
+
+/* Makes the rope, with as few chunks as ropey_from_text. Afterwards the handle holds no builder, refused or not.
+ * Refused: NO_BUILDER_HELD, what an append was refused for, INVALID_UTF8 where bytes are left that are no text, which writes
+ * to valid how many are, OUT_OF_MEMORY. */
+ropey_status ropey_builder_finish(ropey_builder *builder, ropey_rope *rope, size_t *valid);
+
+/* Frees the builder, if there is one. Afterwards the handle holds none. */
+void ropey_builder_free(ropey_builder *builder);
+
+/* Plain texts. Each call reads the text. */
+
+/* How many bytes at the text's front are whole characters of UTF-8: all of them, or up to the first that is wrong. */
+size_t ropey_text_valid_len(const uint8_t *text, size_t len);
+
+/* How much text there is. Refused: UNKNOWN_BREAK_SET, INVALID_UTF8. */
+ropey_status ropey_text_counts(const uint8_t *text, size_t len, uint32_t break_set, ropey_counts *counts);
+
+/* Conversions in a text. An index past the end stands for the end. A byte or a code unit inside a character stands for that
+ * character. Refused: UNKNOWN_BREAK_SET where a set is given, INVALID_UTF8. */
+ropey_status ropey_text_byte_to_char(const uint8_t *text, size_t len, size_t byte_idx, size_t *char_idx);
+ropey_status ropey_text_byte_to_line(const uint8_t *text, size_t len, uint32_t break_set, size_t byte_idx,
+    size_t *line_idx);
+ropey_status ropey_text_char_to_byte(const uint8_t *text, size_t len, size_t char_idx, size_t *byte_idx);
+ropey_status ropey_text_char_to_line(const uint8_t *text, size_t len, uint32_t break_set, size_t char_idx,
+    size_t *line_idx);
+ropey_status ropey_text_char_to_utf16(const uint8_t *text, size_t len, size_t char_idx, size_t *utf16_idx);
+ropey_status ropey_text_utf16_to_char(const uint8_t *text, size_t len, size_t utf16_idx, size_t *char_idx);
+ropey_status ropey_text_line_to_byte(const uint8_t *text, size_t len, uint32_t break_set, size_t line_idx,
+    size_t *byte_idx);
+ropey_status ropey_text_line_to_char(const uint8_t *text, size_t len, uint32_t break_set, size_t line_idx,
+    size_t *char_idx);
+
+#ifdef __cplusplus
+}
+#endif
+
+/* A status in words, for a message: a sentence without its stop. */
+static inline const char *ropey_status_text(uint32_t status) {
+    switch (status) {
+    case ROPEY_OK: return "done";
+    case ROPEY_OUT_OF_MEMORY: return "memory was refused";
+    case ROPEY_NO_ROPE_HELD: return "the handle holds no rope";
+    case ROPEY_INVALID_UTF8: return "the bytes are not UTF-8";
+    case ROPEY_NOT_A_CHARACTER: return "the number is no Unicode scalar value";
+    case ROPEY_UNKNOWN_BREAK_SET: return "the number stands for no set of line breaks";
+    case ROPEY_BYTE_INDEX_OUT_OF_BOUNDS: return "the byte index is past the end";
+    case ROPEY_CHAR_INDEX_OUT_OF_BOUNDS: return "the character index is past the end";
+    case ROPEY_LINE_INDEX_OUT_OF_BOUNDS: return "the line index is past the end";
+    case ROPEY_UTF16_INDEX_OUT_OF_BOUNDS: return "the UTF-16 index is past the end";
+    case ROPEY_CHAR_RANGE_INVALID: return "the range of characters starts past its end";
+    case ROPEY_CHAR_RANGE_OUT_OF_BOUNDS: return "the range of characters reaches past the end";
+    case ROPEY_BYTE_RANGE_INVALID: return "the range of bytes starts past its end";
+    case ROPEY_BYTE_RANGE_OUT_OF_BOUNDS: return "the range of bytes reaches past the end";
+    case ROPEY_BYTE_RANGE_NOT_CHAR_BOUNDARY: return "the range of bytes starts or ends inside a character";
+    case ROPEY_TOO_LONG: return "the text would be too long";
+    case ROPEY_BREAK_SETS_DIFFER: return "the ropes have different sets of line breaks";
+    case ROPEY_BUFFER_TOO_SMALL: return "the buffer has no room for the text";
+    case ROPEY_BYTE_INDEX_NOT_CHAR_BOUNDARY: return "the byte index is inside a character";
+    case ROPEY_NO_BUILDER_HELD: return "the handle holds no builder";
+    default: return "no status of this library";
+    }
+}
+
+#endif

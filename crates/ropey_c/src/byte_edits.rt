@@ -1,0 +1,126 @@
+//! Ropes that are changed at places counted in bytes. Each call finds its characters first, and takes no memory for it.
+ghost use Rattle.std.specs.Prelude.{◌≡◌, ◌<◌, ◌≤◌, length, Some, None, IfErr, IfOk};
+ghost use Rattle.std.specs.Str.{chars};
+ghost use Rattle.rope_text.specs.Conversions.{byte_to_char};
+ghost use Rattle.rope_text.specs.Edit.{inserted, removed, byte_range_error};
+ghost use Rattle.ropey.specs.View.{IsRope};
+ghost use Rattle.ropey_c.specs.Answers.{Changes};
+ghost use Rattle.ropey_c.specs.ByteEdits.{byte_place_error, byte_insert_error};
+ghost use Rattle.ropey_c.specs.Handles.{HoldsRope};
+ghost use Rattle.ropey_c.specs.Status.{IsStatus, IsTextStatus};
+
+use crate::handle::Handle;
+use crate::status::{INVALID_UTF8, NO_ROPE_HELD, OK, status, status_of};
+use rope_text::utf8;
+use ropey::{Error, Result, Rope};
+use std::alloc::Global;
+
+// The character that begins at a byte, or the end.
+fn char_at_byte(rope: &Rope, byte_idx: usize) -> Result<usize>
+    ensures ok { IfOk result (λ char_idx. (byte_place_error rope.now.text byte_idx ≡ None)
+        × (char_idx ≡ byte_to_char rope.now.text byte_idx) × (char_idx ≤ length rope.now.text)) }
+    ensures err { IfErr result (λ e. byte_place_error rope.now.text byte_idx ≡ Some e) }
+{
+    let len = rope.len_bytes();
+    if byte_idx > len {
+        return Err(Error::ByteIndexOutOfBounds(byte_idx, len));
+    }
+    let char_idx = rope.byte_to_char(byte_idx);
+    if rope.char_to_byte(char_idx) != byte_idx {
+        return Err(Error::ByteIndexNotCharBoundary(byte_idx));
+    }
+    Ok(char_idx)
+}
+
+// The characters that a range of bytes has, from a start up to an end.
+pub(crate) fn chars_of_bytes(rope: &Rope, start: usize, end: usize) -> Result<(usize, usize)>
+    ensures ok { IfOk result (λ bounds. (byte_range_error rope.now.text (Some start) (Some end) ≡ None)
+        × (bounds.0 ≡ byte_to_char rope.now.text start) × (bounds.1 ≡ byte_to_char rope.now.text end)
+        × (bounds.0 ≤ bounds.1) × (bounds.1 ≤ length rope.now.text)) }
+    ensures err { IfErr result (λ e. byte_range_error rope.now.text (Some start) (Some end) ≡ Some e) }
+{
+    let _ = rope.try_byte_slice(start..end)?;
+    Ok((rope.byte_to_char(start), rope.byte_to_char(end)))
+}
+
+fn insert_at_byte(rope: &mut Rope, byte_idx: usize, text: &[u8]) -> u32
+    ensures status { IsTextStatus text.now (byte_insert_error rope.old.text byte_idx (chars text.now)) result }
+    ensures ok { result ≡ OK → rope.new.text ≡ inserted rope.old.text (byte_to_char rope.old.text byte_idx) (chars text.now) }
+    ensures err { 0 < result → rope.new ≡ rope.old }
+    ensures breaks { rope.new.breaks ≡ rope.old.breaks }
+    ensures kept { IsRope rope.old → IsRope rope.new }
+{
+    let Some(text) = utf8::text_of(text) else {
+        return INVALID_UTF8;
+    };
+    match char_at_byte(rope, byte_idx) {
+        Ok(char_idx) => status(rope.insert(char_idx, text)),
+        Err(error) => status_of(error),
+    }
+}
+
+/// Inserts the text before the byte `byte_idx`, counted from 0; for the number of bytes, at the end. No text of the rope
+/// is walked.
+///
+/// # Errors
+///
+/// `NO_ROPE_HELD`, then `INVALID_UTF8`, then `BYTE_INDEX_OUT_OF_BOUNDS`, then `BYTE_INDEX_NOT_CHAR_BOUNDARY`, then
+/// `TOO_LONG`, then `OUT_OF_MEMORY`. A refused call leaves the rope as it was.
+#[unsafe(no_mangle)]
+pub extern "C" fn ropey_insert_at_byte(
+    alloc: Global,
+    rope: &mut Handle,
+    byte_idx: usize,
+    text: &[u8],
+) -> u32
+    ensures changes { Changes rope.old.rope rope.new.rope result
+        (λ old. IsTextStatus text.now (byte_insert_error old.text byte_idx (chars text.now)) result)
+        (λ old new. (new.text ≡ inserted old.text (byte_to_char old.text byte_idx) (chars text.now)) × (new.breaks ≡ old.breaks)) }
+    ensures kept { HoldsRope rope.new.rope }
+{
+    let Some(mut held) = rope.take(alloc) else {
+        return NO_ROPE_HELD;
+    };
+    let status = insert_at_byte(&mut held, byte_idx, text);
+    rope.put(held);
+    status
+}
+
+fn remove_bytes(rope: &mut Rope, start: usize, end: usize) -> u32
+    ensures status { IsStatus (byte_range_error rope.old.text (Some start) (Some end)) result }
+    ensures ok { result ≡ OK → rope.new.text ≡ removed rope.old.text (byte_to_char rope.old.text start) (byte_to_char rope.old.text end) }
+    ensures err { 0 < result → rope.new ≡ rope.old }
+    ensures breaks { rope.new.breaks ≡ rope.old.breaks }
+    ensures kept { IsRope rope.old → IsRope rope.new }
+{
+    match chars_of_bytes(rope, start, end) {
+        Ok((first, last)) => status(rope.remove(first..last)),
+        Err(error) => status_of(error),
+    }
+}
+
+/// Takes the bytes from `start` up to `end` out, counted from 0. No text is walked.
+///
+/// # Errors
+///
+/// `NO_ROPE_HELD`, then `BYTE_RANGE_INVALID`, then `BYTE_RANGE_OUT_OF_BOUNDS`, then `BYTE_RANGE_NOT_CHAR_BOUNDARY`, then
+/// `OUT_OF_MEMORY`. A refused call leaves the rope as it was.
+#[unsafe(no_mangle)]
+pub extern "C" fn ropey_remove_bytes(
+    alloc: Global,
+    rope: &mut Handle,
+    start: usize,
+    end: usize,
+) -> u32
+    ensures changes { Changes rope.old.rope rope.new.rope result
+        (λ old. IsStatus (byte_range_error old.text (Some start) (Some end)) result)
+        (λ old new. (new.text ≡ removed old.text (byte_to_char old.text start) (byte_to_char old.text end)) × (new.breaks ≡ old.breaks)) }
+    ensures kept { HoldsRope rope.new.rope }
+{
+    let Some(mut held) = rope.take(alloc) else {
+        return NO_ROPE_HELD;
+    };
+    let status = remove_bytes(&mut held, start, end);
+    rope.put(held);
+    status
+}

@@ -1,0 +1,106 @@
+//! How much text there is in a part of a rope. Each call costs two look-ups, and takes no memory.
+ghost use Rattle.std.specs.Prelude.{◌≡◌, length, Some};
+ghost use Rattle.std.specs.List.{slice_range};
+ghost use Rattle.rope_text.specs.Conversions.{byte_to_char};
+ghost use Rattle.rope_text.specs.Edit.{char_range_error, byte_range_error};
+ghost use Rattle.rope_slice.specs.Slice.{text_of, breaks_of};
+ghost use Rattle.ropey_c.specs.Handles.{HoldsRope};
+ghost use Rattle.ropey_c.specs.Counts.{IsCounts, CountsOf, CountsAt};
+
+use crate::lent::Lent;
+use crate::status::{NO_ROPE_HELD, OK, status_of};
+use rope_text::range::char_bounds;
+use ropey::{Rope, RopeSlice};
+
+/// How much text there is, in each of the units.
+#[repr(C)]
+#[derive(Clone, Copy)]
+pub struct Counts {
+    pub bytes: usize,
+    pub chars: usize,
+    pub utf16: usize,
+    pub line_breaks: usize,
+}
+
+fn counts_of(slice: &RopeSlice<'_>) -> Counts
+    ensures { IsCounts (breaks_of slice.now) (text_of slice.now) result }
+{
+    Counts {
+        bytes: slice.len_bytes(),
+        chars: slice.len_chars(),
+        utf16: slice.len_utf16_cu(),
+        line_breaks: slice.len_lines() - 1,
+    }
+}
+
+fn count_chars(rope: &Rope, start: usize, end: usize, counts: &mut Counts) -> u32
+    ensures { CountsOf (char_range_error (Some start) (Some end) (length rope.now.text)) rope.now.breaks
+        (slice_range rope.now.text start end) result counts.old counts.new }
+{
+    match char_bounds(&(start..end), rope.len_chars()) {
+        Ok((start, end)) => {
+            *counts = counts_of(&rope.slice(start..end));
+            OK
+        }
+        Err(error) => status_of(error),
+    }
+}
+
+/// How much text the characters from `start` up to `end` are, counted from 0, as a text of their own: a CR whose LF lies
+/// outside is a line break by itself.
+///
+/// # Errors
+///
+/// `NO_ROPE_HELD`, then `CHAR_RANGE_OUT_OF_BOUNDS`, then `CHAR_RANGE_INVALID`. Then nothing is written.
+#[unsafe(no_mangle)]
+pub extern "C" fn ropey_counts_in_chars(
+    rope: &Lent,
+    start: usize,
+    end: usize,
+    counts: &mut Counts,
+) -> u32
+    ensures answer { CountsAt rope.now.rope (λ r. char_range_error (Some start) (Some end) (length r.text))
+        (λ r. slice_range r.text start end) result counts.old counts.new }
+    ensures kept { HoldsRope rope.now.rope }
+{
+    match rope.held() {
+        Some(held) => count_chars(held, start, end, counts),
+        None => NO_ROPE_HELD,
+    }
+}
+
+fn count_bytes(rope: &Rope, start: usize, end: usize, counts: &mut Counts) -> u32
+    ensures { CountsOf (byte_range_error rope.now.text (Some start) (Some end)) rope.now.breaks
+        (slice_range rope.now.text (byte_to_char rope.now.text start) (byte_to_char rope.now.text end)) result counts.old counts.new }
+{
+    match rope.try_byte_slice(start..end) {
+        Ok(slice) => {
+            *counts = counts_of(&slice);
+            OK
+        }
+        Err(error) => status_of(error),
+    }
+}
+
+/// How much text the bytes from `start` up to `end` are, counted from 0, as a text of their own.
+///
+/// # Errors
+///
+/// `NO_ROPE_HELD`, then `BYTE_RANGE_INVALID`, then `BYTE_RANGE_OUT_OF_BOUNDS`, then `BYTE_RANGE_NOT_CHAR_BOUNDARY`. Then
+/// nothing is written.
+#[unsafe(no_mangle)]
+pub extern "C" fn ropey_counts_in_bytes(
+    rope: &Lent,
+    start: usize,
+    end: usize,
+    counts: &mut Counts,
+) -> u32
+    ensures answer { CountsAt rope.now.rope (λ r. byte_range_error r.text (Some start) (Some end))
+        (λ r. slice_range r.text (byte_to_char r.text start) (byte_to_char r.text end)) result counts.old counts.new }
+    ensures kept { HoldsRope rope.now.rope }
+{
+    match rope.held() {
+        Some(held) => count_bytes(held, start, end, counts),
+        None => NO_ROPE_HELD,
+    }
+}

@@ -1,0 +1,170 @@
+//! Parts of a rope's text that are replaced by another: the whole of it is done, or nothing.
+ghost use Rattle.std.specs.Prelude.{◌≡◌, ◌<◌, ◌≤◌, ◌^◌, length, Some, None, IfErr, IfOk};
+ghost use Rattle.std.specs.Bool.{MatchBool};
+ghost use Rattle.std.specs.Str.{chars};
+ghost use Rattle.rope_text.specs.declared.error.Error.TheVariants.{TooLong};
+ghost use Rattle.rope_text.specs.Conversions.{byte_to_char};
+ghost use Rattle.rope_text.specs.Edit.{IsRefusal, removed};
+ghost use Rattle.rope_text.specs.Text.{byte_len};
+ghost use Rattle.ropey.specs.View.{IsRope};
+ghost use Rattle.ropey_c.specs.Answers.{Changes};
+ghost use Rattle.ropey_c.specs.ByteEdits.{replaced, replaced_size_error, replace_error, byte_replace_error};
+ghost use Rattle.ropey_c.specs.Handles.{HoldsRope};
+ghost use Rattle.ropey_c.specs.Status.{IsStatus, IsTextStatus};
+
+use crate::byte_edits::chars_of_bytes;
+use crate::handle::Handle;
+use crate::status::{INVALID_UTF8, NO_ROPE_HELD, OK, status_of};
+use rope_text::range::char_bounds;
+use rope_text::{MAX_TEXT_BYTES, utf8};
+use ropey::{Error, Result, Rope};
+use std::alloc::Global;
+
+// The bytes that stay without the characters of a range.
+fn len_without(rope: &Rope, start: usize, end: usize) -> usize
+    requires ordered { start ≤ end }
+    requires within { end ≤ length rope.now.text }
+    ensures value { result ≡ byte_len (removed rope.now.text start end) }
+    ensures fits { result < 2 ^ 63 }
+{
+    let cut = rope.char_to_byte(end) - rope.char_to_byte(start);
+    rope.len_bytes() - cut
+}
+
+// Whether the text that takes the place of a range leaves the whole short enough.
+fn has_room(rope: &Rope, start: usize, end: usize, text: &str) -> bool
+    requires ordered { start ≤ end }
+    requires within { end ≤ length rope.now.text }
+    ensures { MatchBool result (replaced_size_error rope.now.text start end (chars text.now) ≡ None)
+        (replaced_size_error rope.now.text start end (chars text.now) ≡ Some TooLong) }
+{
+    text.len() <= MAX_TEXT_BYTES - len_without(rope, start, end)
+}
+
+// The rope with another text in the place of a range. It is made beside the old one, which shares what stays.
+fn replaced(rope: &Rope, start: usize, end: usize, text: &str) -> Result<Rope>
+    requires ordered { start ≤ end }
+    requires within { end ≤ length rope.now.text }
+    ensures ok { IfOk result (λ made. (replaced_size_error rope.now.text start end (chars text.now) ≡ None)
+        × (made.text ≡ replaced rope.now.text start end (chars text.now)) × (made.breaks ≡ rope.now.breaks) × IsRope made) }
+    ensures err { IfErr result (IsRefusal (replaced_size_error rope.now.text start end (chars text.now))) }
+{
+    if !has_room(rope, start, end, text) {
+        return Err(Error::TooLong);
+    }
+    let Ok(mut made) = rope.clone() else {
+        return Err(Error::OutOfMemory);
+    };
+    if made.remove(start..end).is_err() || made.insert(start, text).is_err() {
+        return Err(Error::OutOfMemory);
+    }
+    Ok(made)
+}
+
+// Puts the made rope in the place of the old one.
+fn exchange(rope: &mut Rope, start: usize, end: usize, text: &str) -> u32
+    requires ordered { start ≤ end }
+    requires within { end ≤ length rope.old.text }
+    ensures status { IsStatus (replaced_size_error rope.old.text start end (chars text.now)) result }
+    ensures ok { result ≡ OK → rope.new.text ≡ replaced rope.old.text start end (chars text.now) }
+    ensures err { 0 < result → rope.new ≡ rope.old }
+    ensures breaks { rope.new.breaks ≡ rope.old.breaks }
+    ensures kept { IsRope rope.old → IsRope rope.new }
+{
+    match replaced(rope, start, end, text) {
+        Ok(made) => {
+            *rope = made;
+            OK
+        }
+        Err(error) => status_of(error),
+    }
+}
+
+fn replace_chars(rope: &mut Rope, start: usize, end: usize, text: &[u8]) -> u32
+    ensures status { IsTextStatus text.now (replace_error rope.old.text start end (chars text.now)) result }
+    ensures ok { result ≡ OK → rope.new.text ≡ replaced rope.old.text start end (chars text.now) }
+    ensures err { 0 < result → rope.new ≡ rope.old }
+    ensures breaks { rope.new.breaks ≡ rope.old.breaks }
+    ensures kept { IsRope rope.old → IsRope rope.new }
+{
+    let Some(text) = utf8::text_of(text) else {
+        return INVALID_UTF8;
+    };
+    match char_bounds(&(start..end), rope.len_chars()) {
+        Ok((start, end)) => exchange(rope, start, end, text),
+        Err(error) => status_of(error),
+    }
+}
+
+/// Puts the text in the place of the characters from `start` up to `end`, counted from 0. No text of the rope is walked.
+///
+/// # Errors
+///
+/// `NO_ROPE_HELD`, then `INVALID_UTF8`, then `CHAR_RANGE_OUT_OF_BOUNDS`, then `CHAR_RANGE_INVALID`, then `TOO_LONG`, then
+/// `OUT_OF_MEMORY`. A refused call leaves the rope as it was: nothing is removed where the text can't be inserted.
+#[unsafe(no_mangle)]
+pub extern "C" fn ropey_replace(
+    alloc: Global,
+    rope: &mut Handle,
+    start: usize,
+    end: usize,
+    text: &[u8],
+) -> u32
+    ensures changes { Changes rope.old.rope rope.new.rope result
+        (λ old. IsTextStatus text.now (replace_error old.text start end (chars text.now)) result)
+        (λ old new. (new.text ≡ replaced old.text start end (chars text.now)) × (new.breaks ≡ old.breaks)) }
+    ensures kept { HoldsRope rope.new.rope }
+{
+    let Some(mut held) = rope.take(alloc) else {
+        return NO_ROPE_HELD;
+    };
+    let status = replace_chars(&mut held, start, end, text);
+    rope.put(held);
+    status
+}
+
+fn replace_bytes(rope: &mut Rope, start: usize, end: usize, text: &[u8]) -> u32
+    ensures status { IsTextStatus text.now (byte_replace_error rope.old.text start end (chars text.now)) result }
+    ensures ok { result ≡ OK → rope.new.text
+        ≡ replaced rope.old.text (byte_to_char rope.old.text start) (byte_to_char rope.old.text end) (chars text.now) }
+    ensures err { 0 < result → rope.new ≡ rope.old }
+    ensures breaks { rope.new.breaks ≡ rope.old.breaks }
+    ensures kept { IsRope rope.old → IsRope rope.new }
+{
+    let Some(text) = utf8::text_of(text) else {
+        return INVALID_UTF8;
+    };
+    match chars_of_bytes(rope, start, end) {
+        Ok((first, last)) => exchange(rope, first, last, text),
+        Err(error) => status_of(error),
+    }
+}
+
+/// Puts the text in the place of the bytes from `start` up to `end`, counted from 0. No text of the rope is walked.
+///
+/// # Errors
+///
+/// `NO_ROPE_HELD`, then `INVALID_UTF8`, then `BYTE_RANGE_INVALID`, then `BYTE_RANGE_OUT_OF_BOUNDS`, then
+/// `BYTE_RANGE_NOT_CHAR_BOUNDARY`, then `TOO_LONG`, then `OUT_OF_MEMORY`. A refused call leaves the rope as it was:
+/// nothing is removed where the text can't be inserted.
+#[unsafe(no_mangle)]
+pub extern "C" fn ropey_replace_bytes(
+    alloc: Global,
+    rope: &mut Handle,
+    start: usize,
+    end: usize,
+    text: &[u8],
+) -> u32
+    ensures changes { Changes rope.old.rope rope.new.rope result
+        (λ old. IsTextStatus text.now (byte_replace_error old.text start end (chars text.now)) result)
+        (λ old new. (new.text ≡ replaced old.text (byte_to_char old.text start) (byte_to_char old.text end) (chars text.now))
+        × (new.breaks ≡ old.breaks)) }
+    ensures kept { HoldsRope rope.new.rope }
+{
+    let Some(mut held) = rope.take(alloc) else {
+        return NO_ROPE_HELD;
+    };
+    let status = replace_bytes(&mut held, start, end, text);
+    rope.put(held);
+    status
+}

@@ -1,0 +1,219 @@
+//! Counts of plain texts, and conversions between their indices. An index past the end counts as the end. Each call reads
+//! the text once to see that it is UTF-8, and takes no memory; one that is refused writes nothing.
+ghost use Rattle.std.specs.Prelude.{◌≡◌, length};
+ghost use Rattle.std.specs.Str.{chars};
+ghost use Rattle.std.specs.Str.Lossy.{utf8_valid_len};
+ghost use Rattle.rope_text.specs.Conversions.{byte_to_char, byte_to_line, char_to_byte, char_to_line, char_to_utf16, line_to_byte, line_to_char, utf16_to_char};
+ghost use Rattle.ropey_c.specs.Counts.{IsCounts, CountsText, AnswersText, AnswersTextWith};
+ghost use Rattle.ropey_c.specs.Status.{given_breaks};
+
+use crate::counts::Counts;
+use crate::status::{INVALID_UTF8, OK, UNKNOWN_BREAK_SET, given_breaks};
+use rope_text::{LineBreaks, TextInfo, str_utils, utf8};
+
+/// How many bytes at the front of the text are whole characters of UTF-8.
+#[unsafe(no_mangle)]
+pub extern "C" fn ropey_text_valid_len(text: &[u8]) -> usize
+    ensures { result ≡ utf8_valid_len text.now }
+{
+    utf8::valid_len(text)
+}
+
+fn counts_of(text: &str, breaks: LineBreaks) -> Counts
+    ensures { IsCounts breaks (chars text.now) result }
+{
+    let info = TextInfo::from_str(text, breaks);
+    Counts {
+        bytes: info.bytes,
+        chars: info.chars,
+        utf16: str_utils::count_utf16(text),
+        line_breaks: info.break_count,
+    }
+}
+
+/// How much text there is, with a set of line breaks.
+///
+/// # Errors
+///
+/// `UNKNOWN_BREAK_SET`, then `INVALID_UTF8`.
+#[unsafe(no_mangle)]
+pub extern "C" fn ropey_text_counts(text: &[u8], break_set: u32, counts: &mut Counts) -> u32
+    ensures { CountsText (given_breaks break_set) text.now result counts.old counts.new }
+{
+    let Some(breaks) = given_breaks(break_set) else {
+        return UNKNOWN_BREAK_SET;
+    };
+    let Some(text) = utf8::text_of(text) else {
+        return INVALID_UTF8;
+    };
+    *counts = counts_of(text, breaks);
+    OK
+}
+
+/// The character that holds the byte `byte_idx`.
+///
+/// # Errors
+///
+/// `INVALID_UTF8`.
+#[unsafe(no_mangle)]
+pub extern "C" fn ropey_text_byte_to_char(text: &[u8], byte_idx: usize, char_idx: &mut usize) -> u32
+    ensures { AnswersText text.now (λ t. byte_to_char t byte_idx) result char_idx.old char_idx.new }
+{
+    let Some(text) = utf8::text_of(text) else {
+        return INVALID_UTF8;
+    };
+    *char_idx = str_utils::byte_to_char_idx(text, byte_idx);
+    OK
+}
+
+/// The line on which the byte `byte_idx` lies.
+///
+/// # Errors
+///
+/// `UNKNOWN_BREAK_SET`, then `INVALID_UTF8`.
+#[unsafe(no_mangle)]
+pub extern "C" fn ropey_text_byte_to_line(
+    text: &[u8],
+    break_set: u32,
+    byte_idx: usize,
+    line_idx: &mut usize,
+) -> u32
+    ensures { AnswersTextWith (given_breaks break_set) text.now (λ breaks t. byte_to_line breaks t byte_idx) result line_idx.old line_idx.new }
+{
+    let Some(breaks) = given_breaks(break_set) else {
+        return UNKNOWN_BREAK_SET;
+    };
+    let Some(text) = utf8::text_of(text) else {
+        return INVALID_UTF8;
+    };
+    *line_idx = str_utils::byte_to_line_with(text, byte_idx, breaks);
+    OK
+}
+
+/// The byte at which the character `char_idx` starts.
+///
+/// # Errors
+///
+/// `INVALID_UTF8`.
+#[unsafe(no_mangle)]
+pub extern "C" fn ropey_text_char_to_byte(text: &[u8], char_idx: usize, byte_idx: &mut usize) -> u32
+    ensures { AnswersText text.now (λ t. char_to_byte t char_idx) result byte_idx.old byte_idx.new }
+{
+    let Some(text) = utf8::text_of(text) else {
+        return INVALID_UTF8;
+    };
+    *byte_idx = str_utils::char_to_byte_idx(text, char_idx);
+    OK
+}
+
+/// The line on which the character `char_idx` lies.
+///
+/// # Errors
+///
+/// `UNKNOWN_BREAK_SET`, then `INVALID_UTF8`.
+#[unsafe(no_mangle)]
+pub extern "C" fn ropey_text_char_to_line(
+    text: &[u8],
+    break_set: u32,
+    char_idx: usize,
+    line_idx: &mut usize,
+) -> u32
+    ensures { AnswersTextWith (given_breaks break_set) text.now (λ breaks t. char_to_line breaks t char_idx) result line_idx.old line_idx.new }
+{
+    let Some(breaks) = given_breaks(break_set) else {
+        return UNKNOWN_BREAK_SET;
+    };
+    let Some(text) = utf8::text_of(text) else {
+        return INVALID_UTF8;
+    };
+    *line_idx = str_utils::char_to_line_with(text, char_idx, breaks);
+    OK
+}
+
+/// The UTF-16 code unit at which the character `char_idx` starts.
+///
+/// # Errors
+///
+/// `INVALID_UTF8`.
+#[unsafe(no_mangle)]
+pub extern "C" fn ropey_text_char_to_utf16(
+    text: &[u8],
+    char_idx: usize,
+    utf16_idx: &mut usize,
+) -> u32
+    ensures { AnswersText text.now (λ t. char_to_utf16 t char_idx) result utf16_idx.old utf16_idx.new }
+{
+    let Some(text) = utf8::text_of(text) else {
+        return INVALID_UTF8;
+    };
+    *utf16_idx = str_utils::char_to_utf16_idx(text, char_idx);
+    OK
+}
+
+/// The character that holds the UTF-16 code unit `utf16_idx`.
+///
+/// # Errors
+///
+/// `INVALID_UTF8`.
+#[unsafe(no_mangle)]
+pub extern "C" fn ropey_text_utf16_to_char(
+    text: &[u8],
+    utf16_idx: usize,
+    char_idx: &mut usize,
+) -> u32
+    ensures { AnswersText text.now (λ t. utf16_to_char t utf16_idx) result char_idx.old char_idx.new }
+{
+    let Some(text) = utf8::text_of(text) else {
+        return INVALID_UTF8;
+    };
+    *char_idx = str_utils::utf16_to_char_idx(text, utf16_idx);
+    OK
+}
+
+/// The byte at which the line `line_idx` starts.
+///
+/// # Errors
+///
+/// `UNKNOWN_BREAK_SET`, then `INVALID_UTF8`.
+#[unsafe(no_mangle)]
+pub extern "C" fn ropey_text_line_to_byte(
+    text: &[u8],
+    break_set: u32,
+    line_idx: usize,
+    byte_idx: &mut usize,
+) -> u32
+    ensures { AnswersTextWith (given_breaks break_set) text.now (λ breaks t. line_to_byte breaks t line_idx) result byte_idx.old byte_idx.new }
+{
+    let Some(breaks) = given_breaks(break_set) else {
+        return UNKNOWN_BREAK_SET;
+    };
+    let Some(text) = utf8::text_of(text) else {
+        return INVALID_UTF8;
+    };
+    *byte_idx = str_utils::line_to_byte_with(text, line_idx, breaks);
+    OK
+}
+
+/// The character at which the line `line_idx` starts.
+///
+/// # Errors
+///
+/// `UNKNOWN_BREAK_SET`, then `INVALID_UTF8`.
+#[unsafe(no_mangle)]
+pub extern "C" fn ropey_text_line_to_char(
+    text: &[u8],
+    break_set: u32,
+    line_idx: usize,
+    char_idx: &mut usize,
+) -> u32
+    ensures { AnswersTextWith (given_breaks break_set) text.now (λ breaks t. line_to_char breaks t line_idx) result char_idx.old char_idx.new }
+{
+    let Some(breaks) = given_breaks(break_set) else {
+        return UNKNOWN_BREAK_SET;
+    };
+    let Some(text) = utf8::text_of(text) else {
+        return INVALID_UTF8;
+    };
+    *char_idx = str_utils::line_to_char_with(text, line_idx, breaks);
+    OK
+}

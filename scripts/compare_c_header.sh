@@ -1,0 +1,60 @@
+#!/usr/bin/env bash
+# Compares bindings/c/ropey.h with the functions, numbers and structs of crates/ropey_c that it declares.
+#
+#     scripts/compare_c_header.sh
+#
+# It needs sed, awk and diff alone. Each exported function, with its parameters in order, each status and set of line breaks
+# with its number, and each struct with its fields in order becomes a line, once from the source and once from the header.
+# The status is 0 where the two lists are the same.
+set -euo pipefail
+
+top=$(cd "$(dirname "$0")/.." && pwd)
+header=$top/bindings/c/ropey.h
+source=$top/crates/ropey_c/src
+work=$(mktemp -d)
+trap 'rm -rf "$work"' EXIT
+
+# A Rust type as C writes it. Slices are a pointer and a number, `Global` takes no bytes, and C's pieces have both parts of
+# their slice as fields.
+types='s/alloc: Global(, )?//; s/&'"'"'a /\&/g; s/<'"'"'(a|_)>//g; s/(pieces): &mut \[Piece\]/ropey_piece *\1, size_t room/; s/(buffer): &mut \[u8\]/uint8_t *\1, size_t room/
+s/(\w+): &\[u8\]/const uint8_t *\1, size_t len/g; s/(\w+): &Lent/const ropey_rope *\1/g; s/(\w+): &mut Handle/ropey_rope *\1/g; s/(\w+): &mut BuilderHandle/ropey_builder *\1/g
+s/(\w+): &mut Span/ropey_range *\1/g; s/(\w+): &mut Place/ropey_place *\1/g; s/(\w+): &mut Chunk/ropey_chunk *\1/g; s/(\w+): &mut Counts/ropey_counts *\1/g
+s/(\w+): &mut usize/size_t *\1/g; s/(\w+): &mut u32/uint32_t *\1/g; s/(\w+): &mut u8/uint8_t *\1/g; s/(\w+): &mut i32/int32_t *\1/g; s/(\w+): &mut bool/bool *\1/g
+s/(\w+): usize/size_t \1/g; s/(\w+): u32/uint32_t \1/g; s/(\w+): u8/uint8_t \1/g; s/(\w+): i32/int32_t \1/g; s/(\w+): bool/bool \1/g'
+
+from_source() {
+    cat "$source"/*.rt | awk '/^pub extern "C" fn / { on = 1; text = "" }
+        on { sub(/^ +/, ""); text = text (text ~ /[(,]$/ || text == "" ? "" : " ") $0 }
+        on && /\)( -> .*)?$/ { print text; on = 0 }' |
+        sed -E "s/^pub extern \"C\" fn (\w+)(<'a>)?\(/\1(/; s/,\)/)/; s/,([^ ])/, \1/g" | sed -E "$types" | sed -E 's/\) -> u32$/) status/; s/\) -> usize$/) size_t/; s/\)$/) void/; s/\(\)/(void)/' |
+        sed -E 's/^ropey_version\(void\) status/ropey_version(void) uint32_t/'
+    sed -nE 's/^pub const (\w+): u32 = ([0-9]+);$/ROPEY_\1 = \2/p' "$source/status.rt"
+    cat "$source"/*.rt | awk '/^pub struct (Span|Place|Counts|Chunk|Piece)/ { match($0, /(Span|Place|Counts|Chunk|Piece)/); name = substr($0, RSTART, RLENGTH); on = 1; text = name ":"; next }
+        on && /^}/ { print text; on = 0 }
+        on { sub(/^ +pub /, ""); sub(/,$/, ""); text = text " " $0 ";" }' |
+        sed -E "s/^Span/ropey_range/; s/^Place/ropey_place/; s/^Counts/ropey_counts/; s/^Chunk/ropey_chunk/; s/^Piece/ropey_piece/; s/text: &'a \[u8\];/const uint8_t *text; size_t len;/; s/(\w+): usize;/size_t \1;/g"
+}
+
+from_header() {
+    awk '{ text = ""; rest = $0
+        while (rest != "") {
+            at = index(rest, inside ? "*/" : "/*")
+            if (!inside) { text = text (at ? substr(rest, 1, at - 1) : rest) }
+            rest = at ? substr(rest, at + 2) : ""
+            if (at) { inside = !inside }
+        }
+        print text }' "$header" > "$work/plain"
+    awk '/^(ropey_status|uint32_t|size_t|void) ropey_[a-z0-9_]*\(/ { on = 1; text = "" }
+        on { sub(/^ +/, ""); text = text (text == "" ? "" : " ") $0 }
+        on && /;$/ { print text; on = 0 }' "$work/plain" |
+        sed -E 's/^(\w+) (\w+\(.*\));$/\2 \1/; s/\) ropey_status$/) status/'
+    sed -nE 's/^ +(ROPEY_\w+) = ([0-9]+),? *$/\1 = \2/p' "$work/plain"
+    awk '/^typedef struct \{/ { on = 1; text = ""; next }
+        on && /^}/ { sub(/^} /, ""); sub(/;$/, ""); print $0 ":" text; on = 0 }
+        on { sub(/^ +/, ""); sub(/ +$/, ""); text = text " " $0 }' "$work/plain" | grep -v '^ropey_\(rope\|builder\):'
+}
+
+from_source | sort > "$work/source"
+from_header | sort > "$work/header"
+diff "$work/source" "$work/header"
+echo "C: $(grep -c '(' "$work/header") functions, $(grep -c ' = ' "$work/header") numbers and $(grep -c ':' "$work/header") structs of the header are those of the source"

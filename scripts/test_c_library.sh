@@ -1,0 +1,60 @@
+#!/usr/bin/env bash
+# Builds the library for C, and runs its programs and tests.
+#
+#     scripts/test_c_library.sh [CALLS]
+#
+# It needs `rt`, `ar` and a C compiler (`cc`, or the one that CC names); the C++ test needs `c++` (or CXX). CALLS is how many
+# random calls are compared with a plain text, 20,000 if it isn't given. Where a compiler is missing the script says so in
+# one line, and ends well. The status is 0 where everything that could be run was as it must be.
+set -euo pipefail
+
+top=$(cd "$(dirname "$0")/.." && pwd)
+here=$top/bindings/c
+library=$top/crates/ropey_c/out/libropey.a
+calls=${1:-20000}
+work=$(mktemp -d)
+trap 'rm -rf "$work"' EXIT
+cc=${CC:-cc}
+cxx=${CXX:-c++}
+
+"$top/scripts/compare_c_header.sh"
+if ! command -v "$cc" > /dev/null; then
+    echo "C: not tested, since there is no C compiler ($cc)"
+    exit 0
+fi
+"$top/scripts/build_c_library.sh" "$library"
+
+# Strict C11 from here on, warnings are errors; `checked` is the same under the address checker.
+strict="-std=c11 -pedantic -Wall -Wextra -Werror -I$here"
+refusals="-Wl,--wrap=malloc -Wl,--wrap=realloc"
+"$cc" $strict -O2 "$here/constants.c" "$library" -o "$work/constants"
+"$work/constants"
+
+"$cc" $strict -O2 "$here/example.c" "$library" -o "$work/example"
+"$work/example" > "$work/example.stdout"
+diff "$here/example.stdout" "$work/example.stdout"
+echo 'C: the example prints what it must'
+
+"$cc" $strict -O2 "$here/checksums.c" "$library" -o "$work/checksums"
+"$work/checksums" > "$work/checksums.stdout"
+test "$(wc -l < "$work/checksums.stdout")" -eq 38
+test -z "$(grep -vxFf "$top/crates/rope_bench/stdout" "$work/checksums.stdout")"
+echo 'C: the checksums of rope_bench'
+
+"$cc" $strict -O2 "$here/differential.c" "$library" $refusals -o "$work/differential"
+"$work/differential" "$calls" 1
+"$cc" $strict -O2 "$here/look_ups_write_nothing.c" "$library" $refusals -Wl,--wrap=free -o "$work/look_ups"
+"$work/look_ups"
+if "$cc" $strict -g -O1 -fsanitize=address,undefined "$here/differential.c" "$library" $refusals -o "$work/checked" 2> "$work/no_checker"; then
+    "$work/checked" "$calls" 2
+    echo 'C: the same under the address checker'
+else
+    echo "C: not run under the address checker, which $cc has not"
+fi
+
+if ! command -v "$cxx" > /dev/null; then
+    echo "C++: not tested, since there is no C++ compiler ($cxx)"
+    exit 0
+fi
+"$cxx" -std=c++17 -pedantic-errors -Wall -Wextra -Werror -O2 -I"$here" "$here/wrapper.cpp" "$library" -o "$work/wrapper"
+"$work/wrapper"
