@@ -58,8 +58,8 @@
 //! - A range of bytes that ends between a CR and its LF counts the CR as a line break, as one of characters does.
 //! - Ropes and slices are ordered by their bytes, however they are cut.
 //! - At its end, a slice's look-up of a chunk answers the last chunk, never an empty one.
-//! - A cursor over lines that stands at the end of a slice of one chunk goes back from there, also in an empty text; and a line
-//!   that it answers counts its own line break alone.
+//! - `lines_at(1)` of an empty rope stands behind its one line; ropey's stands before it.
+//! - A line that a cursor answers going back counts the line break that it has; in a rope of one chunk ropey's counts one.
 //! - `chunks_at_line_break` stands at the end for the number of lines, also in a slice of one chunk.
 //! - An inclusive bound of `usize::MAX` is out of bounds; ropey's overflows.
 //! - A text past `isize::MAX` bytes panics, and a refusal of memory ends as that of a `Vec` does.
