@@ -102,15 +102,17 @@ impl<'a> RopeSlice<'a> {
         is_whole.then(|| RopeSlice::of_chars(root, first, past))
     }
 
-    /// The line of a rope that the slice's line is, where it is no less; else none. Those at the slice's ends may be cut, at
-    /// the end also the one before the last, where the LF of a CR LF is cut off.
+    /// Whether the slice is all of a rope.
+    pub(crate) fn is_whole(&self) -> bool {
+        matches!(self.part, Part::Range { root, .. } if root.len_bytes() == self.counts.bytes)
+    }
+
+    /// The line of a rope that the slice's line is, where it is no less; else none. In a slice that isn't whole, those at its
+    /// ends may be cut; at the end also the one before the last, where the LF of a CR LF is cut off.
     #[inline]
-    pub(crate) fn whole_line(&self, line_idx: usize) -> Option<(&'a Root, usize)> {
+    pub(crate) fn line_of_rope(&self, line_idx: usize, is_whole: bool) -> Option<(&'a Root, usize)> {
         match self.part {
-            Part::Range { root, start }
-                if self.counts.bytes == root.len_bytes()
-                    || (line_idx > 0 && line_idx + 1 < self.counts.line_breaks) =>
-            {
+            Part::Range { root, start } if is_whole || (line_idx > 0 && line_idx + 1 < self.counts.line_breaks) => {
                 Some((root, start.line_breaks + line_idx))
             }
             _ => None,
@@ -249,7 +251,7 @@ impl<'a> RopeSlice<'a> {
         if line_idx > self.counts.line_breaks {
             return None;
         }
-        if let Some((root, line)) = self.whole_line(line_idx) {
+        if let Some((root, line)) = self.line_of_rope(line_idx, self.is_whole()) {
             let (text, counts) = known(root.line_slice(line));
             return Some(match text {
                 Some(text) => RopeSlice::of_text(text, counts),

@@ -20,6 +20,7 @@ use crate::str_utils::{first_line, last_line};
 #[derive(Clone)]
 pub struct Lines<'a> {
     slice: RopeSlice<'a>,
+    is_whole: bool,
     // Of a rope, some lines around the cursor; of a text in one piece, the byte at which it stands.
     window: Window<'a>,
     idx: usize,
@@ -41,7 +42,8 @@ impl<'a> Lines<'a> {
     pub(crate) fn of(slice: RopeSlice<'a>, line_idx: usize) -> Lines<'a> {
         let idx = slice.as_str().filter(|_| line_idx > 0).map_or(0, |text| line_to_byte(text, line_idx));
         let total = slice.len_lines();
-        Lines { slice, window: Window::new(), idx, passed: line_idx, total, is_reversed: false }
+        let is_whole = slice.is_whole();
+        Lines { slice, is_whole, window: Window::new(), idx, passed: line_idx, total, is_reversed: false }
     }
 
     fn forward(&mut self) -> Option<RopeSlice<'a>> {
@@ -72,7 +74,7 @@ impl<'a> Lines<'a> {
     /// A line of a rope's range: by the window, where it is whole and lies in one chunk.
     #[inline]
     fn line(&mut self, line_idx: usize, is_back: bool) -> Option<RopeSlice<'a>> {
-        if let Some((root, line)) = self.slice.whole_line(line_idx) {
+        if let Some((root, line)) = self.slice.line_of_rope(line_idx, self.is_whole) {
             if let (Some(text), counts) = self.window.line(root, line, is_back) {
                 return Some(RopeSlice::of_text(text, counts));
             }
