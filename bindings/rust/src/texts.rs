@@ -14,7 +14,6 @@ macro_rules! rope_of_texts {
     ($($text:ty;)*) => {
         $(
             impl<'a> From<$text> for Rope {
-                #[inline]
                 fn from(text: $text) -> Rope {
                     Rope::from_str(&text)
                 }
@@ -39,7 +38,6 @@ rope_of_texts! {
 }
 
 impl From<String> for Rope {
-    #[inline]
     fn from(text: String) -> Rope {
         Rope::from_str(&text)
     }
@@ -70,7 +68,6 @@ impl<'a> From<RopeSlice<'a>> for Rope {
 }
 
 impl Default for Rope {
-    #[inline]
     fn default() -> Rope {
         Rope::new()
     }
@@ -157,7 +154,6 @@ fn is_text(slice: RopeSlice<'_>, text: &str) -> bool {
 }
 
 impl PartialEq for Rope {
-    #[inline]
     fn eq(&self, other: &Rope) -> bool {
         self.len_bytes() == other.len_bytes() && self.cmp(other).is_eq()
     }
@@ -176,14 +172,12 @@ impl Ord for Rope {
 }
 
 impl PartialOrd for Rope {
-    #[inline]
     fn partial_cmp(&self, other: &Rope) -> Option<Ordering> {
         Some(self.cmp(other))
     }
 }
 
 impl<'b> PartialEq<RopeSlice<'b>> for RopeSlice<'_> {
-    #[inline]
     fn eq(&self, other: &RopeSlice<'b>) -> bool {
         self.len_bytes() == other.len_bytes() && order(*self, *other).is_eq()
     }
@@ -199,7 +193,6 @@ impl Ord for RopeSlice<'_> {
 }
 
 impl<'b> PartialOrd<RopeSlice<'b>> for RopeSlice<'_> {
-    #[inline]
     fn partial_cmp(&self, other: &RopeSlice<'b>) -> Option<Ordering> {
         Some(order(*self, *other))
     }
