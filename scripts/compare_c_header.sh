@@ -16,7 +16,7 @@ trap 'rm -rf "$work"' EXIT
 
 # A Rust type as C writes it. Slices are a pointer and a number, `Global` takes no bytes, and C's pieces have both parts of
 # their slice as fields.
-types='s/alloc: Global(, )?//; s/&'"'"'a /\&/g; s/<'"'"'(a|_)>//g; s/(pieces): &mut \[Piece\]/ropey_piece *\1, size_t room/; s/(buffer): &mut \[u8\]/uint8_t *\1, size_t room/
+types='s/alloc: Global(, )?//; s/&'"'"'a /\&/g; s/<'"'"'(a|_)>//g; s/(pieces): &mut \[Piece\]/ropey_piece *\1, size_t room/; s/(lines): &mut \[Slice\]/ropey_slice *\1, size_t room/; s/(\w+): &mut Slice/ropey_slice *\1/g; s/(buffer): &mut \[u8\]/uint8_t *\1, size_t room/
 s/(\w+): &\[u8\]/const uint8_t *\1, size_t len/g; s/(\w+): &Lent/const ropey_rope *\1/g; s/(\w+): &mut Handle/ropey_rope *\1/g; s/(\w+): &mut BuilderHandle/ropey_builder *\1/g
 s/(\w+): &mut Span/ropey_range *\1/g; s/(\w+): &mut Place/ropey_place *\1/g; s/(\w+): &mut Chunk/ropey_chunk *\1/g; s/(\w+): &mut Counts/ropey_counts *\1/g
 s/(\w+): &mut usize/size_t *\1/g; s/(\w+): &mut u32/uint32_t *\1/g; s/(\w+): &mut u8/uint8_t *\1/g; s/(\w+): &mut i32/int32_t *\1/g; s/(\w+): &mut bool/bool *\1/g
@@ -29,10 +29,10 @@ from_source() {
         sed -E "s/^pub extern \"C\" fn (\w+)(<'a>)?\(/\1(/; s/,\)/)/; s/,([^ ])/, \1/g" | sed -E "$types" | sed -E 's/\) -> u32$/) status/; s/\) -> usize$/) size_t/; s/\)$/) void/; s/\(\)/(void)/' |
         sed -E 's/^ropey_version\(void\) status/ropey_version(void) uint32_t/'
     sed -nE 's/^pub const (\w+): u32 = ([0-9]+);$/ROPEY_\1 = \2/p' "$source/status.rt"
-    cat "$source"/*.rt | awk '/^pub struct (Span|Place|Counts|Chunk|Piece)/ { match($0, /(Span|Place|Counts|Chunk|Piece)/); name = substr($0, RSTART, RLENGTH); on = 1; text = name ":"; next }
+    cat "$source"/*.rt | awk '/^pub struct (Span|Place|Counts|Chunk|Piece|Slice)/ { match($0, /(Span|Place|Counts|Chunk|Piece|Slice)/); name = substr($0, RSTART, RLENGTH); on = 1; text = name ":"; next }
         on && /^}/ { print text; on = 0 }
         on { sub(/^ +pub /, ""); sub(/,$/, ""); text = text " " $0 ";" }' |
-        sed -E "s/^Span/ropey_range/; s/^Place/ropey_place/; s/^Counts/ropey_counts/; s/^Chunk/ropey_chunk/; s/^Piece/ropey_piece/; s/text: &'a \[u8\];/const uint8_t *text; size_t len;/; s/(\w+): usize;/size_t \1;/g"
+        sed -E "s/^Span/ropey_range/; s/^Place/ropey_place/; s/^Counts/ropey_counts/; s/^Chunk/ropey_chunk/; s/^Piece/ropey_piece/; s/^Slice/ropey_slice/; s/counts: Counts;/ropey_counts counts;/; s/text: &'a \[u8\];/const uint8_t *text; size_t len;/; s/(\w+): usize;/size_t \1;/g"
 }
 
 from_header() {

@@ -490,6 +490,49 @@ static void line(pair *p) {
     CHECK(count <= room && (count == room || at == bytes.end));
 }
 
+/* A slice of the characters from start up to end: how much they are, and their bytes, where it has any. */
+static void see_slice(const pair *p, const ropey_slice *slice, size_t start, size_t end) {
+    model part = part_of(&p->text, start, end);
+    ropey_counts wanted = counts_of(&part);
+    CHECK(memcmp(&slice->counts, &wanted, sizeof wanted) == 0);
+    CHECK(slice->len == wanted.bytes || slice->len == 0);
+    CHECK(memcmp(slice->text, p->bytes + counts_before(&p->text, start).bytes, slice->len) == 0);
+    free(part.chars);
+}
+
+/* Lines on both sides of one, a line, and a range, as slices. */
+static void slices(pair *p) {
+    enum { SLICES = 8 };
+    const model *m = &p->text;
+    size_t lines = counts_of(m).line_breaks + 1, l = below(lines + 2), room = below(SLICES), count = 77;
+    ropey_slice found[SLICES], slice = ROPEY_NO_SLICE;
+    memset(found, 0, sizeof found);
+    ropey_range r = drawn_range(m->len);
+    ropey_status wanted = !p->held ? ROPEY_NO_ROPE_HELD : l > lines ? ROPEY_LINE_INDEX_OUT_OF_BOUNDS : ROPEY_OK;
+    ropey_status fault = !p->held ? ROPEY_NO_ROPE_HELD : char_range_fault(m, r);
+    CHECK(ropey_char_slice(&p->rope, r.start, r.end, &slice) == fault && (fault == ROPEY_OK || slice.counts.bytes == 0));
+    if (fault == ROPEY_OK) {
+        see_slice(p, &slice, r.start, r.end);
+    }
+    CHECK(ropey_line_slice(&p->rope, l, &slice) == (p->held && l == lines ? ROPEY_LINE_INDEX_OUT_OF_BOUNDS : wanted));
+    if (wanted == ROPEY_OK && l < lines) {
+        see_slice(p, &slice, start_of_line(m, l), start_of_line(m, l + 1));
+    }
+    CHECK(ropey_lines_from(&p->rope, l, room == 0 ? NULL : found, room, &count) == wanted);
+    if (wanted != ROPEY_OK) {
+        CHECK(count == 77 && ropey_lines_before(&p->rope, l, found, room, &count) == wanted && count == 77);
+        return;
+    }
+    CHECK(count == (room < lines - l ? room : lines - l));
+    for (size_t k = 0; k < count; k++) {
+        see_slice(p, &found[k], start_of_line(m, l + k), start_of_line(m, l + k + 1));
+    }
+    CHECK(ropey_lines_before(&p->rope, l, found, room, &count) == ROPEY_OK && count == (room < l ? room : l));
+    for (size_t k = 0; k < count; k++) {
+        see_slice(p, &found[k], start_of_line(m, l - k - 1), start_of_line(m, l - k));
+    }
+}
+
 /* Copies and counts of a range. */
 static void range(pair *p) {
     static uint8_t buffer[16 * LONGEST];
@@ -608,8 +651,8 @@ static void build(pair *p) {
 }
 
 static const char *const names[] = {"make", "make_clone", "release", "shrink", "put_text", "put_char", "cut", "split", "append", "convert", "place",
-    "item", "chunk", "pieces", "line", "range", "compare", "plain", "build"};
-static const int weights[] = {2, 3, 1, 1, 24, 8, 12, 3, 4, 10, 6, 6, 6, 6, 6, 8, 3, 3, 2};
+    "item", "chunk", "pieces", "line", "range", "compare", "plain", "slices", "build"};
+static const int weights[] = {2, 3, 1, 1, 24, 8, 12, 3, 4, 10, 6, 6, 6, 6, 6, 8, 3, 3, 6, 2};
 enum { STEPS = sizeof weights / sizeof *weights };
 
 static void step(int k, pair *p, pair *q) {
@@ -633,6 +676,7 @@ static void step(int k, pair *p, pair *q) {
     case 15: range(p); break;
     case 16: compare(p, q); break;
     case 17: plain(); break;
+    case 18: slices(p); break;
     default: build(p); break;
     }
     held_all(NULL);

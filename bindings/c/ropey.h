@@ -150,6 +150,17 @@ typedef struct {
     size_t line_breaks;
 } ropey_counts;
 
+/* A part of a rope's text, and how much it is. Where it lies in one chunk, the bytes are that part of the chunk; else there
+ * are none, and len is less than counts.bytes. The bytes belong to the rope. A slice begins as ROPEY_NO_SLICE, and is written
+ * by these calls alone; a list of them may begin as all zeros. */
+typedef struct {
+    const uint8_t *text;
+    size_t len; /* in bytes */
+    ropey_counts counts;
+} ropey_slice;
+
+#define ROPEY_NO_SLICE {(const uint8_t *)"", 0, {0, 0, 0, 0}}
+
 /* Making and freeing. */
 
 /* Makes a rope of a copy of the text, with a set of line breaks.
@@ -279,6 +290,20 @@ ropey_status ropey_chunks_from_byte(const ropey_rope *rope, size_t byte_idx, rop
  * comes first. To go on, ask for the first byte of the last piece. Refused: NO_ROPE_HELD, BYTE_INDEX_OUT_OF_BOUNDS. */
 ropey_status ropey_chunks_before_byte(const ropey_rope *rope, size_t byte_idx, ropey_piece *pieces, size_t room,
     size_t *count, size_t *bytes_before);
+
+/* Slices. */
+
+/* A line, its line break among it. Refused: NO_ROPE_HELD, LINE_INDEX_OUT_OF_BOUNDS, also for the number of lines. */
+ropey_status ropey_line_slice(const ropey_rope *rope, size_t line_idx, ropey_slice *slice);
+
+/* The characters from start up to end. A CR whose LF lies outside is a line break by itself.
+ * Refused: NO_ROPE_HELD, CHAR_RANGE_OUT_OF_BOUNDS, CHAR_RANGE_INVALID. */
+ropey_status ropey_char_slice(const ropey_rope *rope, size_t start, size_t end, ropey_slice *slice);
+
+/* The lines from line_idx on, or those before it, the nearest first, each with its line break, as far as there is room: their
+ * number is written to count. One look-up, and then a step a line. Refused: NO_ROPE_HELD, LINE_INDEX_OUT_OF_BOUNDS. */
+ropey_status ropey_lines_from(const ropey_rope *rope, size_t line_idx, ropey_slice *lines, size_t room, size_t *count);
+ropey_status ropey_lines_before(const ropey_rope *rope, size_t line_idx, ropey_slice *lines, size_t room, size_t *count);
 
 /* Copies and comparisons. */
 

@@ -48,13 +48,6 @@ struct Piece {
 
 const NO_PIECE: Piece = Piece { text: "".as_ptr(), len: 0 };
 
-/// `ropey_range`.
-#[repr(C)]
-struct Range {
-    start: usize,
-    end: usize,
-}
-
 /// `ropey_counts`: how much a text holds.
 #[repr(C)]
 #[derive(Clone, Copy, Debug)]
@@ -63,6 +56,28 @@ pub(crate) struct Counts {
     pub chars: usize,
     pub utf16: usize,
     pub line_breaks: usize,
+}
+
+/// `ropey_slice`.
+#[repr(C)]
+#[derive(Clone, Copy)]
+struct RawSlice {
+    text: Piece,
+    counts: Counts,
+}
+
+const NO_SLICE: RawSlice = RawSlice { text: NO_PIECE, counts: Counts::NONE };
+
+/// A part of a rope's text: itself, where it lies in one chunk, and how much it holds.
+pub(crate) type Lent<'a> = (Option<&'a str>, Counts);
+
+impl RawSlice {
+    /// Safety: the rope is neither edited nor freed for `'a`.
+    #[inline(always)]
+    unsafe fn lent<'a>(self) -> Lent<'a> {
+        let is_one = self.text.len == self.counts.bytes;
+        (is_one.then(|| text_at(self.text.text, self.text.len)), self.counts)
+    }
 }
 
 const OK: u32 = 0;
@@ -105,13 +120,19 @@ extern "C" {
         count: *mut usize,
         bytes_before: *mut usize,
     ) -> u32;
-    fn ropey_counts_in_chars(rope: *const Handle, start: usize, end: usize, counts: *mut Counts) -> u32;
-    fn ropey_counts_in_bytes(rope: *const Handle, start: usize, end: usize, counts: *mut Counts) -> u32;
-    fn ropey_line_pieces(
+    fn ropey_line_slice(rope: *const Handle, line_idx: usize, slice: *mut RawSlice) -> u32;
+    fn ropey_char_slice(rope: *const Handle, start: usize, end: usize, slice: *mut RawSlice) -> u32;
+    fn ropey_lines_from(
         rope: *const Handle,
         line_idx: usize,
-        bytes: *mut Range,
-        pieces: *mut Piece,
+        lines: *mut RawSlice,
+        room: usize,
+        count: *mut usize,
+    ) -> u32;
+    fn ropey_lines_before(
+        rope: *const Handle,
+        line_idx: usize,
+        lines: *mut RawSlice,
         room: usize,
         count: *mut usize,
     ) -> u32;
@@ -142,7 +163,7 @@ mod owners {
     unsafe impl Send for super::Root {}
     unsafe impl Sync for super::Root {}
 
-    // Safety: a piece is a `&str`.
+    // Safety: a piece is a `&str`, and a slice has one.
     unsafe impl Send for super::Piece {}
     unsafe impl Sync for super::Piece {}
 }
@@ -350,23 +371,18 @@ impl RawChunk {
 }
 
 impl Root {
-    /// How much the characters from `start` up to `end` hold, as a text of its own.
-    pub(crate) fn counts_in_chars(&self, start: usize, end: usize) -> Option<Counts> {
-        let mut counts = Counts::NONE;
-        done(unsafe { ropey_counts_in_chars(&self.0, start, end, &mut counts) }).then_some(counts)
+    /// A line, its line break among it.
+    #[inline]
+    pub(crate) fn line_slice(&self, line_idx: usize) -> Option<Lent<'_>> {
+        let mut slice = NO_SLICE;
+        done(unsafe { ropey_line_slice(&self.0, line_idx, &mut slice) }).then(|| unsafe { slice.lent() })
     }
 
-    /// How much the bytes from `start` up to `end` hold; none also where one of them lies inside a character.
-    pub(crate) fn counts_in_bytes(&self, start: usize, end: usize) -> Option<Counts> {
-        let mut counts = Counts::NONE;
-        done(unsafe { ropey_counts_in_bytes(&self.0, start, end, &mut counts) }).then_some(counts)
-    }
-
-    /// The bytes of a line, from start to end, and as much of its text as lies in the chunk in which it starts.
-    pub(crate) fn line(&self, line_idx: usize) -> Option<(usize, usize, &str)> {
-        let (mut bytes, mut piece, mut count) = (Range { start: 0, end: 0 }, NO_PIECE, 0);
-        let status = unsafe { ropey_line_pieces(&self.0, line_idx, &mut bytes, &mut piece, 1, &mut count) };
-        done(status).then(|| (bytes.start, bytes.end, unsafe { text_at(piece.text, piece.len) }))
+    /// The characters from `start` up to `end`.
+    #[inline]
+    pub(crate) fn char_slice(&self, start: usize, end: usize) -> Option<Lent<'_>> {
+        let mut slice = NO_SLICE;
+        done(unsafe { ropey_char_slice(&self.0, start, end, &mut slice) }).then(|| unsafe { slice.lent() })
     }
 
     pub(crate) fn order(&self, other: &Root) -> Ordering {
@@ -460,6 +476,71 @@ impl<'a> Pieces<'a> {
     }
 }
 
+/// How many lines are fetched at once, at most.
+const LINES: usize = 8;
+
+/// Some lines of a rope, one after another.
+#[derive(Clone)]
+pub(crate) struct Window<'a> {
+    // The first `begun` were written; the first `count` are the lines from `first` on, or from `first` back.
+    array: [MaybeUninit<RawSlice>; LINES],
+    begun: usize,
+    count: usize,
+    first: usize,
+    is_back: bool,
+    room: usize,
+    text: PhantomData<&'a str>,
+}
+
+impl<'a> Window<'a> {
+    #[inline]
+    pub(crate) fn new() -> Window<'a> {
+        let array = [MaybeUninit::uninit(); LINES];
+        Window { array, begun: 0, count: 0, first: 0, is_back: false, room: 2, text: PhantomData }
+    }
+
+    /// A line of the rope, which has one of this number; it is fetched with those that a cursor will pass next.
+    #[inline]
+    pub(crate) fn line(&mut self, root: &'a Root, line_idx: usize, is_back: bool) -> Lent<'a> {
+        let mut at = self.place(line_idx);
+        if at >= self.count {
+            self.fetch(root, line_idx, is_back);
+            at = 0;
+        }
+        // Safety: the library wrote the first `count`, as parts of a rope that is borrowed for `'a`.
+        assert!(at < self.count);
+        unsafe { self.array[at].assume_init().lent() }
+    }
+
+    #[inline]
+    fn place(&self, line_idx: usize) -> usize {
+        if self.is_back {
+            self.first.wrapping_sub(line_idx)
+        } else {
+            line_idx.wrapping_sub(self.first)
+        }
+    }
+
+    #[inline(never)]
+    fn fetch(&mut self, root: &'a Root, line_idx: usize, is_back: bool) {
+        while self.begun < self.room {
+            self.array[self.begun].write(NO_SLICE);
+            self.begun += 1;
+        }
+        let lines = self.array.as_mut_ptr().cast::<RawSlice>();
+        let count = &mut self.count;
+        must(unsafe {
+            if is_back {
+                ropey_lines_before(&root.0, line_idx + 1, lines, self.room, count)
+            } else {
+                ropey_lines_from(&root.0, line_idx, lines, self.room, count)
+            }
+        });
+        (self.first, self.is_back) = (line_idx, is_back);
+        self.room = LINES.min(2 * self.room);
+    }
+}
+
 /// A rope in the making, of bytes that come in parts.
 pub(crate) struct Builder(Handle);
 
@@ -527,27 +608,5 @@ impl Counts {
         let mut counts = Counts::NONE;
         must(unsafe { ropey_text_counts(text.as_ptr(), text.len(), BREAK_SET, &mut counts) });
         counts
-    }
-
-    /// Both together. A cursor over a plain text counts from where it began, so that it may go below 0.
-    #[inline]
-    pub(crate) fn plus(self, other: Counts) -> Counts {
-        Counts {
-            bytes: self.bytes.wrapping_add(other.bytes),
-            chars: self.chars.wrapping_add(other.chars),
-            utf16: self.utf16.wrapping_add(other.utf16),
-            line_breaks: self.line_breaks.wrapping_add(other.line_breaks),
-        }
-    }
-
-    /// This without the other.
-    #[inline]
-    pub(crate) fn minus(self, other: Counts) -> Counts {
-        Counts {
-            bytes: self.bytes.wrapping_sub(other.bytes),
-            chars: self.chars.wrapping_sub(other.chars),
-            utf16: self.utf16.wrapping_sub(other.utf16),
-            line_breaks: self.line_breaks.wrapping_sub(other.line_breaks),
-        }
     }
 }

@@ -49,9 +49,10 @@ fn known<T>(answer: Option<T>) -> T {
 impl<'a> Chunk<'a> {
     /// The chunk's text as far as it lies in a range, and the byte of the rope at which that begins.
     #[inline]
-    pub(crate) fn cut(self, start: Counts, end: Counts) -> (&'a str, usize) {
+    pub(crate) fn cut(self, start: Counts, counts: Counts) -> (&'a str, usize) {
         let skipped = start.bytes.saturating_sub(self.bytes);
-        (&self.text[skipped..self.text.len().min(end.bytes - self.bytes)], self.bytes + skipped)
+        let end = start.bytes + counts.bytes - self.bytes;
+        (&self.text[skipped..self.text.len().min(end)], self.bytes + skipped)
     }
 }
 
@@ -75,27 +76,47 @@ impl<'a> RopeSlice<'a> {
     }
 
     /// The characters of a rope from `start` up to `end`, which are in range.
+    #[inline]
     pub(crate) fn of_chars(root: &'a Root, start: usize, end: usize) -> RopeSlice<'a> {
-        let first = known(root.chunk_at_char(start));
-        let at = known(root.char_to_byte(start));
-        RopeSlice::of_counted(root, first, at, known(root.counts_in_chars(start, end)))
+        let (text, counts) = known(root.char_slice(start, end));
+        match text {
+            Some(text) => RopeSlice::of_text(text, counts),
+            None => RopeSlice::of_range(root, RopeSlice::before(root, start), counts),
+        }
+    }
+
+    /// How much lies before a character of a rope. A CR whose LF follows is no line break before it.
+    fn before(root: &'a Root, chars: usize) -> Counts {
+        Counts {
+            bytes: known(root.char_to_byte(chars)),
+            chars,
+            utf16: known(root.char_to_utf16(chars)),
+            line_breaks: known(root.char_to_line(chars)),
+        }
     }
 
     /// The bytes of a rope from `start` up to `end`, which are in range; none where one of them lies inside a character.
     pub(crate) fn of_bytes(root: &'a Root, start: usize, end: usize) -> Option<RopeSlice<'a>> {
-        let counts = root.counts_in_bytes(start, end)?;
-        Some(RopeSlice::of_counted(root, known(root.chunk_at_byte(start)), start, counts))
+        let (first, past) = (known(root.byte_to_char(start)), known(root.byte_to_char(end)));
+        let is_whole = root.char_to_byte(first) == Some(start) && root.char_to_byte(past) == Some(end);
+        is_whole.then(|| RopeSlice::of_chars(root, first, past))
     }
 
-    /// So much text from the byte `at` on, which the chunk holds: one text, where all of it lies in the chunk.
-    fn of_counted(root: &'a Root, first: Chunk<'a>, at: usize, counts: Counts) -> RopeSlice<'a> {
-        let from = at - first.bytes;
-        if let Some(text) = first.text.get(from..from + counts.bytes) {
-            return RopeSlice::of_text(text, counts);
+    /// Whether the slice is all of a rope.
+    pub(crate) fn is_whole(&self) -> bool {
+        matches!(self.part, Part::Range { root, .. } if root.len_bytes() == self.counts.bytes)
+    }
+
+    /// The line of a rope that the slice's line is, where it is no less; else none. In a slice that isn't whole, those at its
+    /// ends may be cut; at the end also the one before the last, where the LF of a CR LF is cut off.
+    #[inline]
+    pub(crate) fn line_of_rope(&self, line_idx: usize, is_whole: bool) -> Option<(&'a Root, usize)> {
+        match self.part {
+            Part::Range { root, start } if is_whole || (line_idx > 0 && line_idx + 1 < self.counts.line_breaks) => {
+                Some((root, start.line_breaks + line_idx))
+            }
+            _ => None,
         }
-        // A CR whose LF follows the start is no line break before it.
-        let line_breaks = known(root.byte_to_line(at));
-        RopeSlice::of_range(root, Counts { line_breaks, ..known(root.counts_in_bytes(0, at)) }, counts)
     }
 
     /// The rope and the characters that a slice is of, where it isn't a text in one piece.
@@ -227,21 +248,18 @@ impl<'a> RopeSlice<'a> {
 
     /// A line, its line break among it; none where the index is past the last one.
     pub fn get_line(&self, line_idx: usize) -> Option<RopeSlice<'a>> {
-        match self.part {
-            _ if line_idx > self.counts.line_breaks => None,
-            Part::Range { root, start } => {
-                let (first, last, text) = known(root.line(start.line_breaks + line_idx));
-                let (from, to) = (first.max(start.bytes), last.min(start.bytes + self.counts.bytes));
-                match text.get(from - first..to.max(from) - first) {
-                    Some(text) => Some(RopeSlice::from(text)),
-                    None => RopeSlice::of_bytes(root, from, to),
-                }
-            }
-            Part::Text(text) => {
-                let rest = &text[ffi::line_to_byte(text, line_idx)..];
-                Some(RopeSlice::from(&rest[..ffi::line_to_byte(rest, 1)]))
-            }
+        if line_idx > self.counts.line_breaks {
+            return None;
         }
+        if let Some((root, line)) = self.line_of_rope(line_idx, self.is_whole()) {
+            let (text, counts) = known(root.line_slice(line));
+            return Some(match text {
+                Some(text) => RopeSlice::of_text(text, counts),
+                None => RopeSlice::of_range(root, RopeSlice::before(root, known(root.line_to_char(line))), counts),
+            });
+        }
+        let (from, to) = (self.try_line_to_char(line_idx).ok()?, self.try_line_to_char(line_idx + 1).ok()?);
+        self.get_slice(from..to)
     }
 
     /// What [`chunk_at_byte`](Self::chunk_at_byte) answers, refused where the index is past the end.
@@ -254,14 +272,14 @@ impl<'a> RopeSlice<'a> {
     pub(crate) fn get_chunk_at_byte(&self, byte_idx: usize) -> Option<ChunkAt<'a>> {
         let is_inside = byte_idx <= self.counts.bytes;
         is_inside
-            .then(|| self.chunk_by(|root, start, end| root.chunk_at_byte((start.bytes + byte_idx).min(end.bytes - 1))))
+            .then(|| self.chunk_by(|root, start| root.chunk_at_byte(start.bytes + byte_idx.min(self.counts.bytes - 1))))
     }
 
     /// The chunk that holds a character, or the last chunk for the length; none where the index is past that.
     pub fn get_chunk_at_char(&self, char_idx: usize) -> Option<ChunkAt<'a>> {
         let is_inside = char_idx <= self.counts.chars;
         is_inside
-            .then(|| self.chunk_by(|root, start, end| root.chunk_at_char((start.chars + char_idx).min(end.chars - 1))))
+            .then(|| self.chunk_by(|root, start| root.chunk_at_char(start.chars + char_idx.min(self.counts.chars - 1))))
     }
 
     /// The chunk that holds the line break before a line: the first chunk for the first line, the last chunk for the
@@ -270,9 +288,9 @@ impl<'a> RopeSlice<'a> {
         let lines = self.len_lines();
         let is_inside = line_break_idx <= lines;
         is_inside.then(|| {
-            self.chunk_by(|root, start, end| match line_break_idx {
+            self.chunk_by(|root, start| match line_break_idx {
                 0 => root.chunk_at_byte(start.bytes),
-                _ if line_break_idx == lines => root.chunk_at_byte(end.bytes - 1),
+                _ if line_break_idx == lines => root.chunk_at_byte(start.bytes + self.counts.bytes - 1),
                 _ => root.chunk_at_line_break(start.line_breaks + line_break_idx),
             })
         })
@@ -280,12 +298,11 @@ impl<'a> RopeSlice<'a> {
 
     /// A chunk of the range that a look-up finds, cut to the range and counted from its start.
     #[inline]
-    fn chunk_by(&self, find: impl FnOnce(&'a Root, Counts, Counts) -> Option<Chunk<'a>>) -> ChunkAt<'a> {
+    fn chunk_by(&self, find: impl FnOnce(&'a Root, Counts) -> Option<Chunk<'a>>) -> ChunkAt<'a> {
         match self.part {
             Part::Range { root, start } => {
-                let end = start.plus(self.counts);
-                let chunk = known(find(root, start, end));
-                let (text, first) = chunk.cut(start, end);
+                let chunk = known(find(root, start));
+                let (text, first) = chunk.cut(start, self.counts);
                 let chars = chunk.chars.saturating_sub(start.chars);
                 (text, first - start.bytes, chars, chunk.line_breaks.saturating_sub(start.line_breaks))
             }
@@ -363,10 +380,7 @@ impl<'a> RopeSlice<'a> {
     #[inline]
     pub fn get_lines_at(&self, line_idx: usize) -> Option<Lines<'a>> {
         let is_inside = line_idx <= self.len_lines();
-        is_inside.then(|| match self.part {
-            Part::Range { root, start } => Lines::of_range(root, start, self.counts, line_idx),
-            Part::Text(text) => Lines::of_text(text, self.counts, line_idx),
-        })
+        is_inside.then(|| Lines::of(*self, line_idx))
     }
 
     /// What [`chunks_at_byte`](Self::chunks_at_byte) answers; none where the index is past the end.

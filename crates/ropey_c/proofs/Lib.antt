@@ -5,3 +5,4 @@ pub mod Filling
 pub mod Handles
 pub mod Lents
 pub mod Parts
+pub mod Showing

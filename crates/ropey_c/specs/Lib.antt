@@ -7,3 +7,4 @@ pub mod ByteEdits
 pub mod Intake
 pub mod Places
 pub mod Pieces
+pub mod Slices

@@ -22,7 +22,7 @@ pub struct Counts {
     pub line_breaks: usize,
 }
 
-fn counts_of(slice: &RopeSlice<'_>) -> Counts
+pub(crate) fn counts_of(slice: &RopeSlice<'_>) -> Counts
     ensures { IsCounts (breaks_of slice.now) (text_of slice.now) result }
 {
     Counts {

@@ -44,6 +44,7 @@ pub mod makers;
 pub mod pieces;
 pub mod positions;
 pub mod replace;
+pub mod slices;
 pub mod status;
 pub mod texts;
 mod unboxed;

@@ -63,9 +63,8 @@ impl<'a> Chunks<'a> {
     /// it lies in the range, and how many of its bytes lie before `at`.
     #[inline]
     pub(crate) fn behind(root: &'a Root, start: Counts, counts: Counts, at: usize) -> (Chunks<'a>, &'a str, usize) {
-        let end = start.plus(counts);
-        let chunk = root.chunk_at_byte((start.bytes + at).min(end.bytes - 1));
-        let (text, first) = chunk.map_or(("", start.bytes), |chunk| chunk.cut(start, end));
+        let chunk = root.chunk_at_byte(start.bytes + at.min(counts.bytes - 1));
+        let (text, first) = chunk.map_or(("", start.bytes), |chunk| chunk.cut(start, counts));
         let mut chunks = Chunks::of_range(root, start, counts, first + text.len() - start.bytes);
         chunks.pieces.hold(text);
         chunks.passed = 1;
@@ -117,12 +116,6 @@ impl<'a> Chunks<'a> {
         let before = self.backward();
         self.forward();
         before
-    }
-
-    /// The rope, where it isn't a text in one piece.
-    #[inline]
-    pub(crate) fn root(&self) -> Option<&'a Root> {
-        self.root
     }
 
     /// Fetches the chunks ahead; the first may begin before the cursor, where the range does.

@@ -1,0 +1,188 @@
+//! Parts of a rope's text: how much they hold, and their text where it lies in one chunk.
+//!
+//! A program that draws lines or counts in a range gets with one look-up what else takes three. The bytes belong to the
+//! rope, and are lent for as long as its handle is. No call takes memory.
+#![tactic(auto)]
+ghost use Rattle.std.specs.Prelude.{◌≡◌, ◌<◌, ◌≤◌, [], length, Some};
+ghost use Rattle.std.specs.Iterator.{IsFinite};
+ghost use Rattle.std.specs.Str.{chars, encode_utf8_all};
+ghost use Rattle.rope_slice.specs.Slice.{content_of, text_of, chunks_of};
+ghost use Rattle.ropey_c.specs.Handles.{HoldsRope};
+ghost use Rattle.ropey_c.specs.Slices.{shown, shown_as, SliceOfChars, SliceOfLine, ShowsBy, ShowsLinesFrom, ShowsLinesBefore};
+
+use crate::counts::{Counts, counts_of};
+use crate::lent::Lent;
+use crate::status::{LINE_INDEX_OUT_OF_BOUNDS, NO_ROPE_HELD, OK, status_of};
+use rope_text::range::char_bounds;
+use ropey::{Rope, RopeSlice};
+
+/// A part of a rope's text: its bytes, where one chunk has them all, and else none; and how much it holds.
+#[repr(C)]
+#[derive(Drop)]
+pub struct Slice<'a> {
+    pub text: &'a [u8],
+    pub counts: Counts,
+}
+
+fn bytes_of(text: &str) -> &[u8]
+    ensures { result.now ≡ encode_utf8_all (chars text.now) }
+{
+    text.as_bytes()
+}
+
+// The bytes of a slice that lies in one chunk, and else none.
+fn lent_of<'a>(slice: &RopeSlice<'a>) -> &'a [u8]
+    ensures one { length (chunks_of slice.now) ≤ 1 → result.now ≡ encode_utf8_all (text_of slice.now) }
+    ensures more { 1 < length (chunks_of slice.now) → result.now ≡ [] }
+{
+    match slice.as_str() {
+        Some(text) => bytes_of(text),
+        None => b"",
+    }
+}
+
+fn slice_of<'a>(slice: &RopeSlice<'a>) -> Slice<'a>
+    ensures { shown result ≡ shown_as (content_of slice.now) }
+{
+    Slice {
+        text: lent_of(slice),
+        counts: counts_of(slice),
+    }
+}
+
+fn find_line<'a>(rope: &'a Rope, line_idx: usize, slice: &mut Slice<'a>) -> u32
+    ensures { SliceOfLine (Some rope.now) line_idx result slice.old slice.new }
+{
+    if line_idx >= rope.len_lines() {
+        return LINE_INDEX_OUT_OF_BOUNDS;
+    }
+    *slice = slice_of(&rope.line(line_idx));
+    OK
+}
+
+fn find_chars<'a>(rope: &'a Rope, start: usize, end: usize, slice: &mut Slice<'a>) -> u32
+    ensures { SliceOfChars (Some rope.now) start end result slice.old slice.new }
+{
+    match char_bounds(&(start..end), rope.len_chars()) {
+        Ok((start, end)) => {
+            *slice = slice_of(&rope.slice(start..end));
+            OK
+        }
+        Err(error) => status_of(error),
+    }
+}
+
+/// The characters from `start` up to `end`, counted from 0.
+///
+/// # Errors
+///
+/// `NO_ROPE_HELD`, then `CHAR_RANGE_OUT_OF_BOUNDS`, then `CHAR_RANGE_INVALID`. Then nothing is written.
+#[unsafe(no_mangle)]
+pub extern "C" fn ropey_char_slice<'a>(rope: &'a Lent, start: usize, end: usize, slice: &mut Slice<'a>) -> u32
+    ensures answer { SliceOfChars rope.now.rope start end result slice.old slice.new }
+    ensures kept { HoldsRope rope.now.rope }
+{
+    let Some(held) = rope.held() else {
+        return NO_ROPE_HELD;
+    };
+    find_chars(held, start, end, slice)
+}
+
+/// The line `line_idx`, counted from 0, its line break among it.
+///
+/// # Errors
+///
+/// `NO_ROPE_HELD`, then `LINE_INDEX_OUT_OF_BOUNDS`, also for the number of lines. Then nothing is written.
+#[unsafe(no_mangle)]
+pub extern "C" fn ropey_line_slice<'a>(rope: &'a Lent, line_idx: usize, slice: &mut Slice<'a>) -> u32
+    ensures answer { SliceOfLine rope.now.rope line_idx result slice.old slice.new }
+    ensures kept { HoldsRope rope.now.rope }
+{
+    let Some(held) = rope.held() else {
+        return NO_ROPE_HELD;
+    };
+    find_line(held, line_idx, slice)
+}
+
+// Asks for slices as far as there is room, writes them, and returns how many they are.
+fn fill_slices<'a, I: Iterator<Item = RopeSlice<'a>>>(
+    mut parts: I,
+    slices: &mut [Slice<'a>],
+) -> usize
+    requires { I.can_next parts × IsFinite (I.remaining parts) }
+    ensures { ShowsBy I.next_gives parts slices.old slices.new result }
+{
+    let mut count = 0;
+    while count < slices.len() {
+        let Some(part) = parts.next() else {
+            return count;
+        };
+        slices[count] = slice_of(&part);
+        count += 1;
+    }
+    count
+}
+
+fn find_lines<'a>(rope: &'a Rope, line_idx: usize, lines: &mut [Slice<'a>], count: &mut usize) -> u32
+    ensures { ShowsLinesFrom (Some rope.now) line_idx result lines.old lines.new count.old count.new }
+{
+    if line_idx > rope.len_lines() {
+        return LINE_INDEX_OUT_OF_BOUNDS;
+    }
+    *count = fill_slices(rope.lines_at(line_idx), lines);
+    OK
+}
+
+/// The lines from the line `line_idx` on, each with its line break, written to `lines` as far as there is room. Their
+/// number is written to `count`. Costs one look-up, and then a step a line.
+///
+/// # Errors
+///
+/// `NO_ROPE_HELD`, then `LINE_INDEX_OUT_OF_BOUNDS`. Then nothing is written.
+#[unsafe(no_mangle)]
+pub extern "C" fn ropey_lines_from<'a>(
+    rope: &'a Lent,
+    line_idx: usize,
+    lines: &mut [Slice<'a>],
+    count: &mut usize,
+) -> u32
+    ensures answer { ShowsLinesFrom rope.now.rope line_idx result lines.old lines.new count.old count.new }
+    ensures kept { HoldsRope rope.now.rope }
+{
+    let Some(held) = rope.held() else {
+        return NO_ROPE_HELD;
+    };
+    find_lines(held, line_idx, lines, count)
+}
+
+fn find_lines_before<'a>(rope: &'a Rope, line_idx: usize, lines: &mut [Slice<'a>], count: &mut usize) -> u32
+    ensures { ShowsLinesBefore (Some rope.now) line_idx result lines.old lines.new count.old count.new }
+{
+    if line_idx > rope.len_lines() {
+        return LINE_INDEX_OUT_OF_BOUNDS;
+    }
+    *count = fill_slices(rope.lines_at(line_idx).reversed(), lines);
+    OK
+}
+
+/// The lines before the line `line_idx`, the nearest first, each with its line break, written to `lines` as far as there
+/// is room. Their number is written to `count`. Costs one look-up, and then a step a line.
+///
+/// # Errors
+///
+/// `NO_ROPE_HELD`, then `LINE_INDEX_OUT_OF_BOUNDS`. Then nothing is written.
+#[unsafe(no_mangle)]
+pub extern "C" fn ropey_lines_before<'a>(
+    rope: &'a Lent,
+    line_idx: usize,
+    lines: &mut [Slice<'a>],
+    count: &mut usize,
+) -> u32
+    ensures answer { ShowsLinesBefore rope.now.rope line_idx result lines.old lines.new count.old count.new }
+    ensures kept { HoldsRope rope.now.rope }
+{
+    let Some(held) = rope.held() else {
+        return NO_ROPE_HELD;
+    };
+    find_lines_before(held, line_idx, lines, count)
+}
