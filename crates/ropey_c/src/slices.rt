@@ -3,6 +3,7 @@
 //! A program that draws lines or counts in a range gets with one look-up what else takes three. The bytes belong to the
 //! rope, and are lent for as long as its handle is. No call takes memory.
 #![tactic(auto)]
+
 ghost use Rattle.std.specs.Prelude.{◌≡◌, ◌<◌, ◌≤◌, [], length, Some};
 ghost use Rattle.std.specs.Iterator.{IsFinite};
 ghost use Rattle.std.specs.Str.{chars, encode_utf8_all};
@@ -78,7 +79,12 @@ fn find_chars<'a>(rope: &'a Rope, start: usize, end: usize, slice: &mut Slice<'a
 ///
 /// `NO_ROPE_HELD`, then `CHAR_RANGE_OUT_OF_BOUNDS`, then `CHAR_RANGE_INVALID`. Then nothing is written.
 #[unsafe(no_mangle)]
-pub extern "C" fn ropey_char_slice<'a>(rope: &'a Lent, start: usize, end: usize, slice: &mut Slice<'a>) -> u32
+pub extern "C" fn ropey_char_slice<'a>(
+    rope: &'a Lent,
+    start: usize,
+    end: usize,
+    slice: &mut Slice<'a>,
+) -> u32
     ensures answer { SliceOfChars rope.now.rope start end result slice.old slice.new }
     ensures kept { HoldsRope rope.now.rope }
 {
@@ -94,7 +100,11 @@ pub extern "C" fn ropey_char_slice<'a>(rope: &'a Lent, start: usize, end: usize,
 ///
 /// `NO_ROPE_HELD`, then `LINE_INDEX_OUT_OF_BOUNDS`, also for the number of lines. Then nothing is written.
 #[unsafe(no_mangle)]
-pub extern "C" fn ropey_line_slice<'a>(rope: &'a Lent, line_idx: usize, slice: &mut Slice<'a>) -> u32
+pub extern "C" fn ropey_line_slice<'a>(
+    rope: &'a Lent,
+    line_idx: usize,
+    slice: &mut Slice<'a>,
+) -> u32
     ensures answer { SliceOfLine rope.now.rope line_idx result slice.old slice.new }
     ensures kept { HoldsRope rope.now.rope }
 {
@@ -123,7 +133,12 @@ fn fill_slices<'a, I: Iterator<Item = RopeSlice<'a>>>(
     count
 }
 
-fn find_lines<'a>(rope: &'a Rope, line_idx: usize, lines: &mut [Slice<'a>], count: &mut usize) -> u32
+fn find_lines<'a>(
+    rope: &'a Rope,
+    line_idx: usize,
+    lines: &mut [Slice<'a>],
+    count: &mut usize,
+) -> u32
     ensures { ShowsLinesFrom (Some rope.now) line_idx result lines.old lines.new count.old count.new }
 {
     if line_idx > rope.len_lines() {
@@ -155,7 +170,12 @@ pub extern "C" fn ropey_lines_from<'a>(
     find_lines(held, line_idx, lines, count)
 }
 
-fn find_lines_before<'a>(rope: &'a Rope, line_idx: usize, lines: &mut [Slice<'a>], count: &mut usize) -> u32
+fn find_lines_before<'a>(
+    rope: &'a Rope,
+    line_idx: usize,
+    lines: &mut [Slice<'a>],
+    count: &mut usize,
+) -> u32
     ensures { ShowsLinesBefore (Some rope.now) line_idx result lines.old lines.new count.old count.new }
 {
     if line_idx > rope.len_lines() {
