@@ -19,7 +19,7 @@ import textwrap
 TOP = pathlib.Path(__file__).resolve().parent.parent
 SIZES = {
     "README.md": 7000, "CONTRIBUTING.md": 4500, "CHANGELOG.md": 3000,
-    "docs/BENCHMARKS.md": 9000, "docs/CALLING.md": 16500, "docs/COMMANDS.md": 3500, "docs/DECISIONS.md": 12500,
+    "docs/BENCHMARKS.md": 9000, "docs/CALLING.md": 16600, "docs/COMMANDS.md": 3500, "docs/DECISIONS.md": 12500,
     "docs/DEFINITIONS.md": 6500, "docs/DIFFERENCES.md": 7000, "docs/GATE.md": 4500, "docs/MAP.md": 9500, "docs/PROVED.md": 10000,
 }
 GONE = ("machine of four cores,", "the tree before", "fifth machine", "thirteenth machine", "the one before that", "last session")
