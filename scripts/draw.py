@@ -25,6 +25,8 @@ STYLE = """<style>
 text { font: 15px system-ui, sans-serif; fill: #24292f }
 .small { font-size: 13px }
 .title { font-size: 18px; font-weight: 600 }
+.inside { font-size: 13px; fill: #ffffff }
+text.ours, text.theirs { stroke: none }
 .ours { fill: #0969da; stroke: #0969da }
 .theirs { fill: #cf222e; stroke: #cf222e }
 .line { fill: none; stroke-width: 2.5 }
@@ -37,6 +39,7 @@ text { font: 15px system-ui, sans-serif; fill: #24292f }
 .new { stroke: #bc4c00; stroke-width: 2 }
 @media (prefers-color-scheme: dark) {
   text { fill: #e6edf3 }
+  .inside { fill: #0d1117 }
   .ours { fill: #58a6ff; stroke: #58a6ff }
   .theirs { fill: #ff7b72; stroke: #ff7b72 }
   .axis { stroke: #6e7681 }
@@ -165,13 +168,13 @@ def speed():
     bars = [(group, mean([m for m in means if m is not None])) for group, means in group_means(known)]
     bars.append(("all workloads", mean([least for least, _ in known.values()])))
     left, scale, top = 190, 320, 78
-    parts = [text(16, 30, "Time of each call over that of the Rust crate ropey 1.6.1", "title"),
+    parts = [text(16, 30, "Time over that of the Rust crate ropey 1.6.1", "title"),
              text(16, 54, "shorter is faster; the dashed line is ropey", "small")]
     for at, (group, ratio) in enumerate(bars):
         y = top + at * 30
         parts.append(text(left - 10, y + 15, group, anchor="end"))
         parts.append(f'<rect x="{left}" y="{y}" width="{ratio * scale:.0f}" height="20" rx="3" class="ours"/>')
-        parts.append(text(left + ratio * scale + 8, y + 15, f"{ratio:.2f}", "small"))
+        parts.append(text(round(left + ratio * scale) - 8, y + 15, f"{ratio:.2f}", "inside", "end"))
     bottom = top + len(bars) * 30
     parts.append(line(left + scale, top - 8, left + scale, bottom, "even"))
     return picture(left + scale + 70, bottom + 16, parts, "Speed by groups of calls")
@@ -192,8 +195,8 @@ def growth_picture():
     parts = [text(16, 30, "Nanoseconds an operation, by the length of the text", "title"),
              text(16, 54, "this library", "small ours"), text(120, 54, "the Rust crate", "small theirs")]
     for at, (name, of_lengths) in enumerate(panels):
-        base = top + at * (tall + 50) + tall + 22
-        parts.append(text(16, base - tall - 6, name))
+        base = top + at * (tall + 60) + tall + 34
+        parts.append(text(16, base - tall - 16, name))
         for power in range(low, high + 1):
             y = base - (power - low) * tall / (high - low)
             parts.append(line(70, round(y), width - 20, round(y), "axis"))
@@ -205,7 +208,7 @@ def growth_picture():
             parts.append(curve(points, style))
         for x, length in zip(places, LENGTHS):
             parts.append(text(x, base + 18, length.replace("MB", " MB").replace("GB", " GB"), "small", "middle"))
-    return picture(width, top + len(panels) * (tall + 50) + 10, parts, "Time by the length of the text")
+    return picture(width, top + len(panels) * (tall + 60) + 20, parts, "Time by the length of the text")
 
 
 def box(x, y, wide, words, name):
