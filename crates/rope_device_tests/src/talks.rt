@@ -29,14 +29,9 @@ impl Read for Dripping<'_> {
 /// Fails unless the bytes that were written are a text.
 fn expect_same_text(written: &[u8], text: &str) -> Result<(), Failure> {
     let Ok(found) = str::from_utf8(written) else {
-        return Err(Failure::new("bytes were written that are no UTF-8"));
+        return Err(Failure::new("no UTF-8 was written"));
     };
-    for (i, (line, wanted)) in found.lines().zip(text.lines()).enumerate() {
-        if line != wanted {
-            return Err(Failure::new(format_args!("line {i} is {line:?}, not {wanted:?}")));
-        }
-    }
-    same!(written, text.as_bytes());
+    same!(found, text);
     Ok(())
 }
 
