@@ -19,8 +19,7 @@ use Rattle.rope_text.proofs.ConversionLaws.{char_to_line-line_start, char_to_lin
 use Rattle.rope_text.proofs.InfoLaws.{info_of-append_apart}
 use Rattle.rope_text.proofs.CuttingLaws.{concat-append}
 use Rattle.rope_text.proofs.LineLaws.{line_start-le-length}
-use Rattle.rope_text.proofs.SliceLaws.{char_to_line_early}
-use Rattle.rope_text.proofs.LineSeams.{never, break_count-apart, last_start-left, last_start-right}
+use Rattle.rope_text.proofs.LineSeams.{never, break_count-apart, last_start-left, last_start-right, last_start_none}
 use Rattle.rope_text.proofs.InfoLaws.{same_info}
 use Rattle.rope_cursor.specs.Path.{Place, IsNext}
 use Rattle.rope_part.proofs.PartsBetween.{char_at_byte}
@@ -47,12 +46,6 @@ apart_chunks : (p q : List (List ℕ)) → KeepsCrlf (p ++ q) → parts_crlf (co
 apart_chunks [] q kept = refl
 apart_chunks (x ∷ p) q kept = apart_joined x (concat p) (concat q) (ap (parts_crlf x) (sym (concat-append p q)) ∙ kept.0) (apart_chunks p q kept.1)
 
-line_start_zero : (breaks : LineBreaks) (text : List ℕ) → line_start breaks text 0 ≡ 0
-line_start_zero breaks text = elim (cases_lt 0 (line_start breaks text 0)) [
-  | inl some ↦ absurd (let early = char_to_line_early breaks text 0 0 some in omega arith)
-  | inr none ↦ omega arith
-]
-
 line_start_some : (breaks : LineBreaks) (text : List ℕ) (l : ℕ) → 0 < l → l ≤ break_count breaks text → 0 < line_start breaks text l
 line_start_some breaks text l some within = elim (cases_lt 0 (line_start breaks text l)) [
   | inl more ↦ more
@@ -61,10 +54,6 @@ line_start_some breaks text l some within = elim (cases_lt 0 (line_start breaks 
       let here = ap (char_to_line breaks text) zero in
       absurd (omega (arith, char_to_line-line_start breaks text l (omega arith), char_to_line_start breaks text))
 ]
-
--- too many breaks to pass: the start
-pub last_start_none : (breaks : LineBreaks) (text : List ℕ) (k : ℕ) → break_count breaks text ≤ k → last_start breaks text k ≡ 0
-last_start_none breaks text k few = ap (line_start breaks text) (let e : break_count breaks text - k ≡ 0 = omega arith in e) ∙ line_start_zero breaks text
 
 pub chunks_prev : (p q : Place) → IsNext q p → AreChunks p → AreChunks q
 chunks_prev p q n h = record {

@@ -14,10 +14,9 @@ use Rattle.rope_text.proofs.Greatest.{greatest-le, greatest_passes, greatest_abo
 use Rattle.rope_text.proofs.Measures.{IsMeasure-byte_len, IsMeasure-length}
 use Rattle.rope_text.proofs.ConversionLaws.{char_to_line_start, char_to_line-line_start}
 use Rattle.rope_text.proofs.SliceLaws.{char_to_line-drop, char_to_line_early}
-use Rattle.rope_text.proofs.LineLaws.{line_start-le-length}
+use Rattle.rope_text.proofs.LineLaws.{line_start-le-length, line_start_past}
 use Rattle.rope_text.proofs.ChunkLaws.{before, before_more}
 use Rattle.rope_text.proofs.LookupLaws.{least_is, size-front_chunks, chunk_index_at_char_is}
-use Rattle.rope_tree.proofs.FoundLaws.{line_start_past}
 use Rattle.rope_part.specs.Found.{IsFoundChunk}
 use Rattle.rope_part.proofs.ClippedChunks.{front_less}
 

@@ -20,15 +20,11 @@ use Rattle.rope_text.proofs.ConversionLaws.{byte_to_char-le-length}
 use Rattle.rope_text.proofs.Fronts.{begins_before, pairs_before, line_place}
 use Rattle.rope_text.proofs.InfoLaws.{same_info, info_of-append_apart}
 use Rattle.rope_text.proofs.LineLaws.{line_start_before, line_start_mono, line_start-le-length}
-use Rattle.rope_text.proofs.LineSeams.{line_start_apart}
+use Rattle.rope_text.proofs.LineSeams.{line_start_apart, last_start_none}
 use Rattle.rope_text.proofs.Measures.{IsMeasure-byte_len, size_le}
 use Rattle.rope_text.proofs.Scans.{line_front}
 use Rattle.rope_text.proofs.SliceLaws.{breaks_apart, line_start-take}
 use Rattle.rope_text.proofs.Walks.{byte_len-chars}
-
-line_start_zero : (breaks : LineBreaks) (text : List ℕ) → line_start breaks text 0 ≡ 0
-unfolding line_start
-line_start_zero breaks text = refl
 
 breaks_behind : (breaks : LineBreaks) (bytes : List ℕ) (n : ℕ) → byte_break_count breaks (drop n bytes) ≤ byte_break_count breaks bytes
 breaks_behind breaks [] zero = omega arith
@@ -154,11 +150,8 @@ module _ (breaks : LineBreaks) (bs : List ℕ) (end skip : ℕ) (u : IsUtf8 bs) 
     few : break_count breaks front ≤ skip
     few = omega (arith, goes.passed, front_breaks, ap (λ k. byte_break_count breaks (drop k bs)) at_start)
 
-    first_line_start : last_start breaks front skip ≡ 0
-    first_line_start = ap (line_start breaks front) (let e : break_count breaks front - skip ≡ 0 = omega (arith, few) in e) ∙ line_start_zero breaks front
-
     pub first_start : 0 ≡ byte_len (take (last_start breaks front skip) front)
-    first_start = ap (λ k. byte_len (take k front)) (sym first_line_start)
+    first_start = ap (λ k. byte_len (take k front)) (sym (last_start_none breaks front skip few))
 
     pub first_info : (info : TextInfo) → info.bytes ≡ end → info.chars ≡ back.chars → info.utf16_surrogates ≡ back.pairs → info.break_count + back.left ≡ skip
         → info ≡ info_of breaks (drop (last_start breaks front skip) front)
@@ -168,4 +161,4 @@ module _ (breaks : LineBreaks) (bs : List ℕ) (end skip : ℕ) (u : IsUtf8 bs) 
         (omega (arith, in_chars, goes.chars, front_chars, ap (λ k. count_by begins_char (drop k bs)) at_start, length-take-le place text within))
         (omega (arith, pairs, goes.pairs, front_pairs, ap (λ k. count_by begins_pair (drop k bs)) at_start))
         (omega (arith, count, goes.passed, front_breaks, ap (λ k. byte_break_count breaks (drop k bs)) at_start))
-        ∙ ap (λ k. info_of breaks (drop k front)) (sym first_line_start)
+        ∙ ap (λ k. info_of breaks (drop k front)) (sym (last_start_none breaks front skip few))

@@ -10,7 +10,7 @@ use Rattle.rope_text.specs.Lines.{line_start, line_count}
 use Rattle.rope_text.specs.Conversions.{char_to_line}
 use Rattle.rope_text.specs.Cutting.{parts_crlf}
 use Rattle.rope_text.specs.LineParts.{first_line, last_start}
-use Rattle.rope_text.proofs.LineLaws.{line_start-le-length, line_start_mono, char_to_line_late}
+use Rattle.rope_text.proofs.LineLaws.{line_start-le-length, line_start_first, line_start_mono, char_to_line_late}
 use Rattle.rope_text.proofs.LinesJoin.{line_start_end}
 use Rattle.rope_text.proofs.ConversionLaws.{char_to_line_more, char_to_line_end, char_to_line-line_start}
 use Rattle.rope_text.proofs.CuttingLaws.{ends_in_cr-append}
@@ -137,3 +137,7 @@ last_start-left breaks s t k apart past =
     let count = break_count-apart breaks s t apart in
     let index : break_count breaks (s ++ t) - k ≡ break_count breaks s - (k - break_count breaks t) = omega arith in
     line_start-append_left breaks s t (break_count breaks (s ++ t) - k) apart (omega arith) ∙ ap (line_start breaks s) index
+
+-- with no more breaks than are left out, the last line starts the text
+pub last_start_none : (breaks : LineBreaks) (text : List ℕ) (k : ℕ) → break_count breaks text ≤ k → last_start breaks text k ≡ 0
+last_start_none breaks text k few = ap (line_start breaks text) (let e : break_count breaks text - k ≡ 0 = omega arith in e) ∙ line_start_first breaks text

@@ -72,8 +72,12 @@ pub const MAX_CHILDREN: usize = 24;
 /// The fewest children that an inner node has, unless it is the root.
 pub const MIN_CHILDREN: usize = 12;
 
-/// The children of a node that is made with others of its level: fewer than it can have, so that it has room for the other half
-/// when a leaf below it is cut in two, and no node on the way has to be made anew.
+/// The leaves under a node that is made with others of its level: fewer than it can have, so that it has room for the other half
+/// when a leaf is cut in two, and no node on the way has to be made anew. All leaves are full then, so the first insert into each of
+/// them cuts it.
+pub const FRESH_LEAVES: usize = 20;
+
+/// The same of the children of a node over nodes, which part more seldom.
 pub const FRESH_CHILDREN: usize = 22;
 
 /// The most levels that a tree has above its leaves.

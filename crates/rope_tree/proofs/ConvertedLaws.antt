@@ -9,7 +9,7 @@ use Rattle.rope_text.specs.Lines.{line_start}
 use Rattle.rope_text.specs.Conversions.{char_to_byte}
 use Rattle.rope_text.proofs.Measures.{IsMeasure-byte_len, IsMeasure-utf16_len, size_le_all}
 use Rattle.rope_text.proofs.ConversionLaws.{byte_to_char-le-length, char_to_line_end, utf16_len-le}
-use Rattle.rope_text.proofs.LineLaws.{line_start-le-length}
+use Rattle.rope_text.proofs.LineLaws.{line_start-le-length, line_start_first, line_start_past}
 use Rattle.rope_text.proofs.NarrowTexts.{narrow_front, narrow_units, narrow_byte_to_char, narrow_utf16_to_char}
 use Rattle.rope_tree.specs.declared.search.Unit.{Unit}
 use Rattle.rope_tree.specs.declared.search.Unit.TheVariants.{Byte, Char, CodeUnit, LineBreak}
@@ -17,7 +17,7 @@ use Rattle.rope_tree.specs.Search.{count_of}
 use Rattle.rope_tree.specs.Conversions.{first_sought, are_converted, converted}
 use Rattle.rope_tree.specs.Tree.{Tree, text, IsTree}
 use Rattle.rope_tree.specs.Found.{IsFound}
-use Rattle.rope_tree.proofs.FoundLaws.{byte_to_char_end, utf16_to_char_end, char_to_byte_end, char_to_utf16_end, byte_to_line_end, line_start_first, line_start_past, found_byte_to_char, found_utf16_to_char, found_char_to_line, found_byte_to_line, found_char_to_byte, found_char_to_utf16, found_line_start, found_line_to_byte, utf16_to_char-le, char_to_line-le, byte_to_line-le}
+use Rattle.rope_tree.proofs.FoundLaws.{byte_to_char_end, utf16_to_char_end, char_to_byte_end, char_to_utf16_end, byte_to_line_end, found_byte_to_char, found_utf16_to_char, found_char_to_line, found_byte_to_line, found_char_to_byte, found_char_to_utf16, found_line_start, found_line_to_byte, utf16_to_char-le, char_to_line-le, byte_to_line-le}
 
 -- it is that of the leaf, behind what lies before it
 pub found_converted : (from to : Unit) (idx at : ℕ) (t : Tree) (leaf : List ℕ) (front : TextInfo) → are_converted from to ≡ true → idx ≡ at + first_sought from → IsTree t → IsFound from at t leaf front

@@ -43,20 +43,6 @@ char_to_utf16_end text = ap utf16_len (take_all (length text) text (omega arith)
 pub byte_to_line_end : (breaks : LineBreaks) (text : List ℕ) → byte_to_line breaks text (byte_len text) ≡ break_count breaks text
 byte_to_line_end breaks text = byte_to_line-byte_to_char breaks text (byte_len text) ∙ ap (char_to_line breaks text) (byte_to_char_end text) ∙ char_to_line_end breaks text
 
--- the first line starts the text, and past the last line is its end
-pub line_start_first : (breaks : LineBreaks) (text : List ℕ) → line_start breaks text 0 ≡ 0
-unfolding line_start
-line_start_first breaks text = refl
-
-get_or_past : (xs : List ℕ) (i d : ℕ) → length xs ≤ i → get_or xs i d ≡ d
-get_or_past [] i d h = refl
-get_or_past (x ∷ xs) zero d h = absurd (omega arith)
-get_or_past (x ∷ xs) (suc i) d h = get_or_past xs i d (omega arith)
-
-pub line_start_past : (breaks : LineBreaks) (text : List ℕ) (l : ℕ) → break_count breaks text < l → line_start breaks text l ≡ length text
-unfolding line_start
-line_start_past breaks text l h = get_or_past (0 ∷ break_ends breaks text) l (length text) (omega arith)
-
 -- the breaks up to the end of a leaf
 break_count_apart : (t : Tree) (leaf : List ℕ) (k : ℕ) → IsTree t → k < length t.leaves → get_or t.leaves k [] ≡ leaf → break_count t.breaks (before t.leaves k ++ leaf) ≡ break_count t.breaks (before t.leaves k) + break_count t.breaks leaf
 break_count_apart t leaf k i lt is =

@@ -1,28 +1,40 @@
 //! Trees of whole texts, built from the bottom up.
 ghost use Rattle.std.specs.Prelude.{◌≡◌, ◌+◌, ◌-◌, ◌*◌, ◌/◌, ◌<◌, ◌≤◌, length, IfOk};
 ghost use Rattle.std.specs.Str.{chars};
-ghost use Rattle.rope_text.specs.declared.TheConstants.{FRESH_CHILDREN, MAX_CHILDREN, MIN_CUT_BYTES};
+ghost use Rattle.rope_text.specs.declared.TheConstants.{MAX_CHILDREN, MIN_CHILDREN, MIN_CUT_BYTES};
 ghost use Rattle.rope_tree.specs.Tree.{text, leaves_of, height_of, breaks_of, IsTree};
 ghost use Rattle.rope_tree.specs.Siblings.{AreSiblings};
 
 use crate::node_text::first_leaf_len;
 use crate::{Made, Maker, Node, leaf_of, node_over};
-use rope_text::{FRESH_CHILDREN, LineBreaks, MAX_BYTES, MAX_CHILDREN};
+use rope_text::{FRESH_CHILDREN, FRESH_LEAVES, LineBreaks, MAX_BYTES, MAX_CHILDREN};
 
-/// The nodes one level up, of 12 to 22 children each: the nodes that are left are shared evenly among those to come.
-fn level_over(maker: &mut Maker, nodes: &[Node]) -> Made<Vec<Node>>
+/// How many nodes stand over so many.
+fn count_over(nodes: &[Node]) -> usize
+    requires { MAX_CHILDREN < length nodes.now }
+    ensures least { MIN_CHILDREN * result ≤ length nodes.now }
+    ensures most { length nodes.now ≤ MAX_CHILDREN * result }
+{
+    if nodes[0].height() == 0 {
+        return nodes.len().div_ceil(FRESH_LEAVES);
+    }
+    nodes.len().div_ceil(FRESH_CHILDREN)
+}
+
+/// So many nodes one level up: the nodes that are left are shared evenly among those to come.
+fn level_over(maker: &mut Maker, nodes: &[Node], count: usize) -> Made<Vec<Node>>
     requires siblings { AreSiblings (breaks_of nodes.now) (height_of nodes.now) nodes.now }
-    requires many { MAX_CHILDREN < length nodes.now }
+    requires least { MIN_CHILDREN * count ≤ length nodes.now }
+    requires most { length nodes.now ≤ MAX_CHILDREN * count }
     ensures siblings { IfOk result (λ level.
         AreSiblings (breaks_of nodes.now) (height_of nodes.now + 1) level.items) }
     ensures leaves { IfOk result (λ level. leaves_of level.items ≡ leaves_of nodes.now) }
-    ensures few { IfOk result (λ level. length level.items
-        ≡ (length nodes.now + (FRESH_CHILDREN - 1)) / FRESH_CHILDREN) }
+    ensures count { IfOk result (λ level. length level.items ≡ count) }
     ensures made { IfOk result (λ level. maker.new.made ≤ maker.old.made + length level.items) }
 {
-    let mut groups = nodes.len().div_ceil(FRESH_CHILDREN);
-    let mut level = Vec::with_capacity(maker.alloc, groups)?;
+    let mut level = Vec::with_capacity(maker.alloc, count)?;
     let mut rest = nodes;
+    let mut groups = count;
     while groups > 0 {
         let len = rest.len() / groups;
         level.push(node_over(maker, &rest[..len])?)?;
@@ -43,7 +55,8 @@ pub(crate) fn root_over(maker: &mut Maker, nodes: Vec<Node>) -> Made<Node>
 {
     let mut level = nodes;
     while level.len() > MAX_CHILDREN {
-        level = level_over(maker, &level)?;
+        let count = count_over(&level);
+        level = level_over(maker, &level, count)?;
     }
     if level.len() == 1 {
         return level[0].share();

@@ -1,4 +1,4 @@
--- What look-ups that count leave in their counts.
+-- What look-ups and edits that count leave in their counts.
 use Rattle.std.specs.Prelude.{◌≡◌, ℕ, ◌+◌, ◌*◌, ◌<◌, ◌≤◌}
 use Rattle.rope_text.specs.declared.steps.Steps.{Steps}
 
@@ -30,3 +30,23 @@ pub record IsLineLookUp (line lines depth : ℕ) (steps : Steps) : Type 0 where
   pub inside : 0 < line → line < lines → WentDown depth steps
   pub at_start : line ≡ 0 → StayedOut steps
   pub at_end : line ≡ lines → StayedOut steps
+
+-- the nodes that an edit makes at the most, in a rope of this depth; for an append, the greater depth of the two
+abbrev pub insert_nodes : ℕ → ℕ
+insert_nodes depth = 3 * depth + 5
+
+abbrev pub removal_nodes : ℕ → ℕ
+removal_nodes depth = 17 * depth + 12
+
+abbrev pub split_nodes : ℕ → ℕ
+split_nodes depth = 12 * depth + 2
+
+abbrev pub append_nodes : ℕ → ℕ
+append_nodes depth = 16 * depth + 11
+
+-- an edit made no more nodes than these, and no count is left over from an earlier call: an edit that counts its
+-- searches enters and compares no more than so many, and one that doesn't leaves 0
+pub record IsEditCount (most depth : ℕ) (steps : Steps) : Type 0 where
+  pub made : steps.made ≤ most
+  pub nodes : steps.nodes ≤ 24 * (depth + 1)
+  pub compares : steps.compares ≤ 40 * (depth + 1)

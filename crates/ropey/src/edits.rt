@@ -7,6 +7,7 @@ ghost use Rattle.std.specs.Str.{chars};
 ghost use Rattle.rope_text.specs.declared.TheConstants.{MAX_SHORT_BYTES};
 ghost use Rattle.rope_text.specs.Edit.{IsRefusal, char_index_error};
 ghost use Rattle.rope_slice.specs.Sliced.{HasCharRange, IsEmptyRange};
+ghost use Rattle.ropey.specs.Counted.{IsEditCount, insert_nodes, removal_nodes, split_nodes, append_nodes};
 ghost use Rattle.ropey.specs.Edited.{IsEdit, IsIdle, CanInsert, IsInsert, IsInsertRefusal, IsRemoval, IsRemovalRefusal, CanAppend, IsAppend, IsAppendRefusal, IsCutAt};
 ghost use Rattle.rope_text.specs.declared.error.Error.TheVariants.{OutOfMemory};
 
@@ -19,21 +20,27 @@ use rope_tree::{Maker, insert_at};
 use std::mem;
 
 impl Rope {
+    // What makes the nodes of an edit, where the counts begin with 0.
+    fn begin_edit(&self, steps: &mut Steps) -> Maker
+        ensures zero { steps.new ≡ record { nodes = 0; compares = 0; made = 0 } }
+        ensures none { result.made ≡ 0 }
+    {
+        *steps = Steps::new();
+        Maker::new(self.alloc)
+    }
+
     // Puts a text before a character, and counts the nodes that are made.
     fn insert_made(&mut self, char_idx: usize, text: &str, maker: &mut Maker) -> Result<()>
+        requires { char_idx ≤ length self.old.text }
         ensures ok { OnOk result (IsInsert self.old.text char_idx (chars text.now) self.new.text) }
         ensures refused { IfErr result (IsInsertRefusal self.old.text char_idx (chars text.now)) }
         ensures empty { length (chars text.now) ≡ 0
             → CanInsert self.old.text char_idx (chars text.now) → IsIdle result self.old self.new }
         ensures kept { IsEdit result self.old self.new }
         ensures made { length text.now ≤ MAX_SHORT_BYTES
-            → maker.new.made ≤ maker.old.made + 3 * self.old.depth + 5 }
+            → maker.new.made ≤ maker.old.made + insert_nodes self.old.depth }
     {
         let bytes = self.len_bytes();
-        let chars = self.len_chars();
-        if char_idx > chars {
-            return Err(Error::CharIndexOutOfBounds(char_idx, chars));
-        }
         if text.len() > MAX_TEXT_BYTES - bytes {
             return Err(Error::TooLong);
         }
@@ -61,7 +68,8 @@ impl Rope {
             → CanInsert self.old.text char_idx (chars text.now) → IsIdle result self.old self.new }
         ensures kept { IsEdit result self.old self.new }
     {
-        self.insert_made(char_idx, text, &mut Maker::new(self.alloc))
+        let char_idx = self.within_chars(char_idx)?;
+        self.insert(char_idx, text)
     }
 
     /// Inserts `text` before the character `char_idx`; for `len_chars()`, at the end.
@@ -83,7 +91,7 @@ impl Rope {
             → CanInsert self.old.text char_idx (chars text.now) → IsIdle result self.old self.new }
         ensures kept { IsEdit result self.old self.new }
     {
-        self.try_insert(char_idx, text)
+        self.insert_made(char_idx, text, &mut Maker::new(self.alloc))
     }
 
     /// As `insert_char`, for any index.
@@ -98,14 +106,15 @@ impl Rope {
         ensures refused { IfErr result (IsInsertRefusal self.old.text char_idx (c ∷ [])) }
         ensures kept { IsEdit result self.old self.new }
     {
-        self.try_insert(char_idx, c.encode_utf8(&mut [0; 4]))
+        let char_idx = self.within_chars(char_idx)?;
+        self.insert_char(char_idx, c)
     }
 
     /// Inserts the character `c` before the character `char_idx`; for `len_chars()`, at the end.
     ///
     /// The index is at most `len_chars()`. The character goes into the chunk around that place, and takes no memory
     /// where the chunk has room and nothing on the way down to it is shared with a clone; else it takes memory for at
-    /// most 8 d + 16 nodes, where d is the rope's depth. No text is walked.
+    /// most 3 d + 5 nodes, where d is the rope's depth. No text is walked.
     ///
     /// # Errors
     ///
@@ -117,12 +126,12 @@ impl Rope {
         ensures refused { IfErr result (IsInsertRefusal self.old.text char_idx (c ∷ [])) }
         ensures kept { IsEdit result self.old self.new }
     {
-        self.try_insert_char(char_idx, c)
+        self.insert_char_counted(char_idx, c, &mut Steps::new())
     }
 
-    /// As `insert_char`, and sets `steps` to what it did: `made` counts the nodes that were made, at most 8 d + 16
-    /// for a rope of depth d, refused or not.
-    /// Nothing is promised of the other two counts.
+    /// As `insert_char`, and sets `steps` to what it did, refused or not: `made` counts the nodes that were made, at
+    /// most 3 d + 5 in a rope of depth d. Its searches need not be counted: `nodes` is at most 24 (d + 1), and
+    /// `compares` at most 40 (d + 1).
     ///
     /// The index is at most `len_chars()`.
     ///
@@ -134,10 +143,9 @@ impl Rope {
         ensures ok { OnOk result (IsInsert self.old.text char_idx (c ∷ []) self.new.text) }
         ensures refused { IfErr result (IsInsertRefusal self.old.text char_idx (c ∷ [])) }
         ensures kept { IsEdit result self.old self.new }
-        ensures made { steps.new.made ≤ 8 * self.old.depth + 16 }
+        ensures steps { IsEditCount (insert_nodes self.old.depth) self.old.depth steps.new }
     {
-        *steps = Steps::new();
-        let mut maker = Maker::new(self.alloc);
+        let mut maker = self.begin_edit(steps);
         let inserted = self.insert_made(char_idx, c.encode_utf8(&mut [0; 4]), &mut maker);
         steps.made = maker.made;
         inserted
@@ -156,17 +164,14 @@ impl Rope {
             (IsRefusal (char_index_error char_idx (length self.old.text))) }
         ensures kept { IsEdit result self.old self.new }
     {
-        let len = self.len_chars();
-        if char_idx > len {
-            return Err(Error::CharIndexOutOfBounds(char_idx, len));
-        }
+        let char_idx = self.within_chars(char_idx)?;
         self.split_off(char_idx)
     }
 
     /// Keeps the first `char_idx` characters, and returns the others as a rope with the same set of line breaks.
     /// The two share what they can of the tree.
     ///
-    /// The index is at most `len_chars()`. Takes memory for at most 12 h + 2 nodes, where h is the rope's depth,
+    /// The index is at most `len_chars()`. Takes memory for at most 12 d + 2 nodes, where d is the rope's depth,
     /// and walks no text.
     ///
     /// # Errors
@@ -181,9 +186,8 @@ impl Rope {
         self.split_off_counted(char_idx, &mut Steps::new())
     }
 
-    /// As `split_off`, and sets `steps` to what it did: `made` counts the nodes that were made, at most 16 d + 32
-    /// for a rope of depth d, refused or not.
-    /// Nothing is promised of the other two counts.
+    /// As `split_off`, and sets `steps` to what it did, refused or not: `made` counts the nodes that were made, at
+    /// most 12 d + 2 in a rope of depth d. Of the other two counts what `insert_char_counted` says.
     ///
     /// The index is at most `len_chars()`.
     ///
@@ -195,10 +199,9 @@ impl Rope {
         ensures ok { IfOk result (λ back. IsCutAt char_idx self.old self.new back) }
         ensures refused { IfErr result (λ e. e ≡ OutOfMemory) }
         ensures kept { IsEdit result self.old self.new }
-        ensures made { steps.new.made ≤ 16 * self.old.depth + 32 }
+        ensures steps { IsEditCount (split_nodes self.old.depth) self.old.depth steps.new }
     {
-        *steps = Steps::new();
-        let mut maker = Maker::new(self.alloc);
+        let mut maker = self.begin_edit(steps);
         let front = front(&mut maker, &self.root, char_idx);
         steps.made = maker.made;
         let front = front?;
@@ -236,7 +239,7 @@ impl Rope {
     /// Takes the characters of a range out of the text.
     ///
     /// The range's bounds are at most `len_chars()`, and its start is at most its end. An empty range takes no
-    /// memory and changes nothing; any other takes memory for at most 17 h + 12 nodes, where h is the rope's depth.
+    /// memory and changes nothing; any other takes memory for at most 17 d + 12 nodes, where d is the rope's depth.
     /// Where the characters lie in one chunk that keeps enough bytes, memory is taken only for copies of those nodes
     /// on the way down that are shared with clones, and for none where nothing is shared. No text is walked.
     ///
@@ -255,9 +258,8 @@ impl Rope {
         self.remove_counted(range, &mut Steps::new())
     }
 
-    /// As `remove`, and sets `steps` to what it did: `made` counts the nodes that were made, at most 16 d + 32 for
-    /// a rope of depth d, refused or not.
-    /// Nothing is promised of the other two counts.
+    /// As `remove`, and sets `steps` to what it did, refused or not: `made` counts the nodes that were made, at most
+    /// 17 d + 12 in a rope of depth d. Of the other two counts what `insert_char_counted` says.
     ///
     /// The range's bounds are at most `len_chars()`, and its start is at most its end.
     ///
@@ -272,14 +274,13 @@ impl Rope {
         ensures empty { IsEmptyRange self.old.text (R.given_start range) (R.given_end range)
             → IsIdle result self.old self.new }
         ensures kept { IsEdit result self.old self.new }
-        ensures made { steps.new.made ≤ 16 * self.old.depth + 32 }
+        ensures steps { IsEditCount (removal_nodes self.old.depth) self.old.depth steps.new }
     {
-        *steps = Steps::new();
+        let mut maker = self.begin_edit(steps);
         let (start, end) = char_bounds(&range, self.len_chars()).unwrap();
         if start == end {
             return Ok(());
         }
-        let mut maker = Maker::new(self.alloc);
         let removed = remove(&mut maker, &mut self.root, start, end);
         steps.made = maker.made;
         Ok(removed?)
@@ -288,7 +289,7 @@ impl Rope {
     /// Puts the text of another rope behind this one's. The rope shares what it can of the other's tree.
     ///
     /// Where one of the two is empty, it takes no memory, and the rope has the chunks of the other; else it takes
-    /// memory for at most 16 h + 11 nodes, where h is the greater depth of the two. No text is walked.
+    /// memory for at most 16 d + 11 nodes, where d is the greater depth of the two. No text is walked.
     ///
     /// # Errors
     ///
@@ -307,9 +308,8 @@ impl Rope {
         self.append_counted(other, &mut Steps::new())
     }
 
-    /// As `append`, and sets `steps` to what it did: `made` counts the nodes that were made, at most 16 d + 32
-    /// where d is the greater depth of the two, refused or not.
-    /// Nothing is promised of the other two counts.
+    /// As `append`, and sets `steps` to what it did, refused or not: `made` counts the nodes that were made, at most
+    /// 16 d + 11 where d is the greater depth of the two. Of the other two counts what `insert_char_counted` says.
     ///
     /// # Errors
     ///
@@ -323,9 +323,10 @@ impl Rope {
         ensures empty_self { CanAppend self.old other → length self.old.text ≡ 0
             → 0 < length other.text → IsOk result × (self.new ≡ other) }
         ensures kept { IsEdit result self.old self.new }
-        ensures made { steps.new.made ≤ 16 * max self.old.depth other.depth + 32 }
+        ensures steps { IsEditCount (append_nodes (max self.old.depth other.depth))
+            (max self.old.depth other.depth) steps.new }
     {
-        *steps = Steps::new();
+        let mut maker = self.begin_edit(steps);
         let bytes = self.len_bytes();
         let more = other.len_bytes();
         if self.root.line_breaks() != other.root.line_breaks() {
@@ -341,7 +342,6 @@ impl Rope {
             mem::swap(&mut self.root, &mut other.root);
             return Ok(());
         }
-        let mut maker = Maker::new(self.alloc);
         let joined = append(&mut maker, &self.root, &other.root);
         steps.made = maker.made;
         self.root = joined?;

@@ -12,7 +12,7 @@
 //! The calls that count their steps stand last: the nodes that they enter, and the running totals that they compare an
 //! index with. Each sets the counts to 0 first. In a rope of one chunk, `byte_counted(0, &mut steps)` leaves
 //! `steps.nodes` at 1 and `steps.compares` at 0.
-ghost use Rattle.std.specs.Prelude.{◌≡◌, ◌<◌, ◌≤◌, length, slice_get, Some, ℕ};
+ghost use Rattle.std.specs.Prelude.{◌≡◌, ◌<◌, ◌≤◌, length, slice_get, Some, ℕ, IfOk};
 ghost use Rattle.std.specs.Str.{encode_utf8_all};
 ghost use Rattle.rope_text.specs.Text.{byte_len, utf16_len};
 ghost use Rattle.rope_text.specs.Lines.{line_count};
@@ -28,7 +28,7 @@ ghost use Rattle.ropey.specs.Counted.{IsLookUp, WentDown, IsLookUpAt, IsLineLook
 
 use crate::rope::Rope;
 use rope_slice::ChunkAt;
-use rope_text::{Result, Steps};
+use rope_text::{Error, Result, Steps};
 use rope_tree::Unit::{Byte, Char, CodeUnit, LineBreak};
 use rope_tree::{Node, byte_at, char_at, convert};
 
@@ -96,7 +96,10 @@ impl Rope {
     pub fn get_byte(&self, byte_idx: usize) -> Option<u8>
         ensures { result ≡ slice_get (encode_utf8_all self.now.text) byte_idx }
     {
-        self.whole().get_byte(byte_idx)
+        if byte_idx < self.len_bytes() {
+            return Some(self.byte(byte_idx));
+        }
+        None
     }
 
     /// The character `char_idx`, counted from 0, or `None` exactly where the index is `len_chars()` or past it.
@@ -104,7 +107,10 @@ impl Rope {
     pub fn get_char(&self, char_idx: usize) -> Option<char>
         ensures { result ≡ slice_get self.now.text char_idx }
     {
-        self.whole().get_char(char_idx)
+        if char_idx < self.len_chars() {
+            return Some(self.char(char_idx));
+        }
+        None
     }
 
     /// As `chunk_at_byte`, or `None` exactly where the index is past `len_bytes()`. Costs one look-up; takes no
@@ -157,7 +163,7 @@ impl Rope {
         ensures { result ≡ checked (byte_index_error byte_idx (byte_len self.now.text))
             (byte_to_char self.now.text byte_idx) }
     {
-        self.whole().try_byte_to_char(byte_idx)
+        Ok(self.byte_to_char(self.within_bytes(byte_idx)?))
     }
 
     /// The line, counted from 0, on which the byte `byte_idx` lies: how many line breaks end at or before it. A
@@ -181,7 +187,7 @@ impl Rope {
         ensures { result ≡ checked (byte_index_error byte_idx (byte_len self.now.text))
             (byte_to_line self.now.breaks self.now.text byte_idx) }
     {
-        self.whole().try_byte_to_line(byte_idx)
+        Ok(self.byte_to_line(self.within_bytes(byte_idx)?))
     }
 
     /// The byte, counted from 0, at which the character `char_idx` starts; at the end of the text, the number of
@@ -205,7 +211,7 @@ impl Rope {
         ensures { result ≡ checked (char_index_error char_idx (length self.now.text))
             (char_to_byte self.now.text char_idx) }
     {
-        self.whole().try_char_to_byte(char_idx)
+        Ok(self.char_to_byte(self.within_chars(char_idx)?))
     }
 
     /// The line, counted from 0, on which the character `char_idx` lies: how many line breaks end at or before it.
@@ -230,7 +236,7 @@ impl Rope {
         ensures { result ≡ checked (char_index_error char_idx (length self.now.text))
             (char_to_line self.now.breaks self.now.text char_idx) }
     {
-        self.whole().try_char_to_line(char_idx)
+        Ok(self.char_to_line(self.within_chars(char_idx)?))
     }
 
     /// The UTF-16 code unit, counted from 0, at which the character `char_idx` starts; at the end of the text, the
@@ -254,7 +260,7 @@ impl Rope {
         ensures { result ≡ checked (char_index_error char_idx (length self.now.text))
             (char_to_utf16 self.now.text char_idx) }
     {
-        self.whole().try_char_to_utf16_cu(char_idx)
+        Ok(self.char_to_utf16_cu(self.within_chars(char_idx)?))
     }
 
     /// The character, counted from 0, that holds the UTF-16 code unit `utf16_cu_idx`, also where that is the second
@@ -278,7 +284,7 @@ impl Rope {
         ensures { result ≡ checked (utf16_index_error utf16_cu_idx (utf16_len self.now.text))
             (utf16_to_char self.now.text utf16_cu_idx) }
     {
-        self.whole().try_utf16_cu_to_char(utf16_cu_idx)
+        Ok(self.utf16_cu_to_char(self.within_code_units(utf16_cu_idx)?))
     }
 
     /// The byte, counted from 0, at which the line `line_idx` starts; for `len_lines()`, the end of the text.
@@ -302,7 +308,7 @@ impl Rope {
             (line_index_error line_idx (line_count self.now.breaks self.now.text))
             (line_to_byte self.now.breaks self.now.text line_idx) }
     {
-        self.whole().try_line_to_byte(line_idx)
+        Ok(self.line_to_byte(self.within_lines(line_idx)?))
     }
 
     /// The character, counted from 0, at which the line `line_idx` starts; for `len_lines()`, the end of the text.
@@ -329,7 +335,57 @@ impl Rope {
             (line_index_error line_idx (line_count self.now.breaks self.now.text))
             (line_to_char self.now.breaks self.now.text line_idx) }
     {
-        self.whole().try_line_to_char(line_idx)
+        Ok(self.line_to_char(self.within_lines(line_idx)?))
+    }
+
+    // The byte's index, or its refusal.
+    fn within_bytes(&self, byte_idx: usize) -> Result<usize>
+        ensures value { result ≡ checked (byte_index_error byte_idx (byte_len self.now.text)) byte_idx }
+        ensures within { IfOk result (λ idx. idx ≤ byte_len self.now.text) }
+    {
+        let bytes = self.len_bytes();
+        if byte_idx > bytes {
+            return Err(Error::ByteIndexOutOfBounds(byte_idx, bytes));
+        }
+        Ok(byte_idx)
+    }
+
+    // The character's index, or its refusal.
+    pub(crate) fn within_chars(&self, char_idx: usize) -> Result<usize>
+        ensures value { result ≡ checked (char_index_error char_idx (length self.now.text)) char_idx }
+        ensures within { IfOk result (λ idx. idx ≤ length self.now.text) }
+    {
+        let chars = self.len_chars();
+        if char_idx > chars {
+            return Err(Error::CharIndexOutOfBounds(char_idx, chars));
+        }
+        Ok(char_idx)
+    }
+
+    // The code unit's index, or its refusal.
+    fn within_code_units(&self, utf16_cu_idx: usize) -> Result<usize>
+        ensures value { result
+            ≡ checked (utf16_index_error utf16_cu_idx (utf16_len self.now.text)) utf16_cu_idx }
+        ensures within { IfOk result (λ idx. idx ≤ utf16_len self.now.text) }
+    {
+        let code_units = self.len_utf16_cu();
+        if utf16_cu_idx > code_units {
+            return Err(Error::Utf16IndexOutOfBounds(utf16_cu_idx, code_units));
+        }
+        Ok(utf16_cu_idx)
+    }
+
+    // The line's index, or its refusal.
+    fn within_lines(&self, line_idx: usize) -> Result<usize>
+        ensures value { result ≡ checked
+            (line_index_error line_idx (line_count self.now.breaks self.now.text)) line_idx }
+        ensures within { IfOk result (λ idx. idx ≤ line_count self.now.breaks self.now.text) }
+    {
+        let lines = self.len_lines();
+        if line_idx > lines {
+            return Err(Error::LineIndexOutOfBounds(line_idx, lines));
+        }
+        Ok(line_idx)
     }
 
     // The root of the tree, where the counts begin with 0.

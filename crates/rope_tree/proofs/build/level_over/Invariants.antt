@@ -9,7 +9,7 @@ invariant-loop-groups l = record {
   over : AreOver (breaks_of l.fn.nodes) (height_of l.fn.nodes) l.fn.nodes l.level.items l.rest;
   least : 12 * l.groups ≤ length l.rest;
   most : length l.rest ≤ 24 * l.groups;
-  counted : length l.level.items + l.groups ≡ l.initial.groups;
+  counted : length l.level.items + l.groups ≡ l.fn.count;
   made : l.maker.made ≤ l.fn.maker.made + length l.level.items;
 }
 

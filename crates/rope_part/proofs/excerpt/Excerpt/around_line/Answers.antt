@@ -12,7 +12,6 @@ use Rattle.rope_text.proofs.Measures.{IsMeasure-byte_len, size_le_all}
 use Rattle.rope_tree.specs.Tree.{text}
 use Rattle.rope_tree.specs.Search.{IsSmall}
 use Rattle.rope_tree.proofs.Infos.{small_info}
-use Rattle.rope_tree.proofs.FoundLaws.{line_start_first}
 use Rattle.rope_part.specs.Excerpt.{text_of, breaks_of}
 use Rattle.rope_part.proofs.LeafLines.{line_in_leaf}
 use Rattle.rope_part.proofs.Measured.{measured}
@@ -21,7 +20,7 @@ use Rattle.rope_part.specs.InChunk.{IsInChunk}
 use Rattle.rope_part.specs.Excerpt.{chunks_of}
 use Rattle.std.proofs.lemmas.Bool.{cases_lt}
 use Rattle.std.proofs.lemmas.List.{length-take, length-take-le}
-use Rattle.rope_text.proofs.LineLaws.{line_start-le-length}
+use Rattle.rope_text.proofs.LineLaws.{line_start-le-length, line_start_first}
 use Rattle.rope_part.proofs.ExcerptLines.{line_later, line_place_within, line_counts, own_line}
 use Rattle.rope_part.proofs.excerpt.Excerpt.around_line.Goals.{After-line_start_at, After-counts_to-before, Else-line-eq0}
 use Rattle.rope_part.proofs.excerpt.Excerpt.around_line.Goals as goal

@@ -3,7 +3,7 @@ use Rattle.std.proofs.lemmas.List.{take_all}
 use Rattle.rope_text.specs.TextInfo.{info_of}
 use Rattle.rope_text.specs.Lines.{line_start}
 use Rattle.rope_tree.specs.Tree.{text}
-use Rattle.rope_tree.proofs.FoundLaws.{line_start_first, line_start_past}
+use Rattle.rope_text.proofs.LineLaws.{line_start_first, line_start_past}
 use Rattle.rope_part.specs.Excerpt.{text_of, breaks_of}
 use Rattle.rope_part.proofs.Measured.{measured}
 use Rattle.rope_part.proofs.ExcerptLines.{line_later, line_place_within, line_counts, own_line}

@@ -1,7 +1,7 @@
 use Rattle.std.proofs.Common.{◌≡◌, ◌-◌, ◌∙◌, length, ap, arith}
 use Rattle.rope_text.specs.Lines.{line_start}
 use Rattle.rope_text.specs.Lookup.{chunk_index_at_char}
-use Rattle.rope_tree.proofs.FoundLaws.{line_start_first, line_start_past}
+use Rattle.rope_text.proofs.LineLaws.{line_start_first, line_start_past}
 use Rattle.rope_part.specs.Part.{text_of, chunks_of, breaks_of}
 use Rattle.rope_part.proofs.Lookups.{line_break_index}
 use Rattle.rope_part.proofs.part.Part.chunk_at_line_break.Goals as goal

@@ -3,7 +3,7 @@ use Rattle.std.proofs.lemmas.List.{take_all}
 use Rattle.rope_text.specs.TextInfo.{info_of}
 use Rattle.rope_text.specs.Breaks.{break_count}
 use Rattle.rope_text.specs.Lines.{line_start}
-use Rattle.rope_tree.proofs.FoundLaws.{line_start_first, line_start_past}
+use Rattle.rope_text.proofs.LineLaws.{line_start_first, line_start_past}
 use Rattle.rope_part.specs.Plain.{text_of}
 use Rattle.rope_part.proofs.plain.Plain.before_line.Goals as goal
 
