@@ -18,7 +18,7 @@ ghost use Rattle.rope_text.specs.Text.{byte_len, utf16_len};
 ghost use Rattle.rope_text.specs.Lines.{line_count};
 ghost use Rattle.rope_text.specs.Lookup.{chunk_index_at_byte, chunk_index_at_char, chunk_index_at_line_break};
 ghost use Rattle.rope_slice.specs.Found.{GivesWithin, ShowsChunk};
-ghost use Rattle.ropey.specs.View.{content};
+ghost use Rattle.ropey.specs.View.{content, IsRope};
 ghost use Rattle.rope_text.specs.Conversions.{byte_to_char, byte_to_line, char_to_byte, char_to_line, char_to_utf16, line_to_byte, line_to_char, utf16_to_char};
 ghost use Rattle.rope_text.specs.Edit.{byte_index_error, char_index_error, line_index_error, utf16_index_error};
 ghost use Rattle.rope_text.specs.Answer.{checked};
@@ -354,6 +354,7 @@ impl Rope {
     pub(crate) fn within_chars(&self, char_idx: usize) -> Result<usize>
         ensures value { result ≡ checked (char_index_error char_idx (length self.now.text)) char_idx }
         ensures within { IfOk result (λ idx. idx ≤ length self.now.text) }
+        ensures kept { IsRope self.now }
     {
         let chars = self.len_chars();
         if char_idx > chars {
