@@ -71,7 +71,9 @@ pub(crate) fn status_of(error: Error) -> u32
         Error::OutOfMemory => OUT_OF_MEMORY,
         Error::LineBreaksDiffer => BREAK_SETS_DIFFER,
         Error::ByteIndexNotCharBoundary(_) => BYTE_INDEX_NOT_CHAR_BOUNDARY,
-        _ => BYTE_RANGE_NOT_CHAR_BOUNDARY,
+        Error::ByteRangeNotCharBoundary(_, _) => BYTE_RANGE_NOT_CHAR_BOUNDARY,
+        // Every error has its number; a new one fails here.
+        _ => unreachable!(),
     }
 }
 
