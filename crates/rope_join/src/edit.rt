@@ -1,8 +1,9 @@
 //! Trees with a part taken out or put in, and put one behind the other. Where a CR and an LF would
 //! meet at a seam, the two become a leaf of their own between what stands before and what follows,
 //! so that no CR LF lies across two leaves.
-ghost use Rattle.std.specs.Prelude.{◌≡◌, ◌+◌, ◌*◌, ◌<◌, ◌≤◌, ◌^◌, ◌++◌, true, length, take, drop, max, IfOk, OnOk, OnErr};
+ghost use Rattle.std.specs.Prelude.{◌≡◌, ◌+◌, ◌*◌, ◌/◌, ◌<◌, ◌≤◌, ◌^◌, ◌++◌, true, length, take, drop, max, IfOk, OnOk, OnErr};
 ghost use Rattle.std.specs.Str.{chars};
+ghost use Rattle.rope_text.specs.declared.TheConstants.{MIN_CUT_BYTES};
 ghost use Rattle.rope_text.specs.Text.{byte_len};
 ghost use Rattle.rope_text.specs.Cutting.{parts_crlf};
 ghost use Rattle.rope_text.specs.Edit.{inserted, removed};
@@ -114,6 +115,8 @@ fn insert_apart(maker: &mut Maker, node: &Node, at: usize, added: &str) -> Made<
     ensures text { IfOk result (λ new. text new ≡ inserted (text node.now) at (chars added.now)) }
     ensures breaks { IfOk result (λ new. new.breaks ≡ node.now.breaks) }
     ensures tree { IfOk result (λ new. IsTree new) }
+    ensures made { IfOk result (λ _. maker.new.made
+        ≤ maker.old.made + 2 * (length added.now / MIN_CUT_BYTES) + 12 * node.now.height + 603) }
 {
     let front = front(maker, node, at)?;
     let back = back(maker, node, at)?;
@@ -135,6 +138,8 @@ fn insert_into_leaf(
     ensures text { IfOk result (λ new. text new ≡ inserted (text node.now) at (chars added.now)) }
     ensures breaks { IfOk result (λ new. new.breaks ≡ node.now.breaks) }
     ensures tree { IfOk result (λ new. IsTree new) }
+    ensures made { IfOk result (λ _. maker.new.made
+        ≤ maker.old.made + 2 * (length added.now / MIN_CUT_BYTES) + 7) }
 {
     let text = leaf.as_str();
     let place = leaf.char_to_byte_idx(at);
@@ -160,6 +165,7 @@ fn join_around(maker: &mut Maker, node: &Node, start: usize, part: &Node, end: u
         ≡ take start (text node.now) ++ (text part.now ++ drop end (text node.now))) }
     ensures breaks { IfOk result (λ new. new.breaks ≡ node.now.breaks) }
     ensures tree { IfOk result (λ new. IsTree new) }
+    ensures made { IfOk result (λ _. maker.new.made ≤ maker.old.made + 12 * node.now.height + 80) }
 {
     let front = front(maker, node, start)?;
     let first = join(maker, &front, part)?;
@@ -181,6 +187,8 @@ pub fn insert(maker: &mut Maker, node: &Node, at: usize, added: &str) -> Made<No
     ensures text { IfOk result (λ new. text new ≡ inserted (text node.now) at (chars added.now)) }
     ensures breaks { IfOk result (λ new. new.breaks ≡ node.now.breaks) }
     ensures tree { IfOk result (λ new. IsTree new) }
+    ensures made { IfOk result (λ _. maker.new.made
+        ≤ maker.old.made + 2 * (length added.now / MIN_CUT_BYTES) + 296 * node.now.height + 603) }
 {
     if added.len() > MAX_AMONG_BYTES || at >= node.info().chars {
         return insert_apart(maker, node, at, added);

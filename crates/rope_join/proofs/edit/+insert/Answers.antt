@@ -121,3 +121,16 @@ returns-else-place-gt0-clause-text t c =
     let e = (goal.at.returns-else-place-gt0-clause-text t c).After-total_before in
     IfOk-weaker c.join_around.result _ _ (λ r is. around_inserted c.args.node.now c.in-Inner.children.now c.place_of-place.result (c.args.at - c.total_before.result.chars) c.args.at c.index-children-place.result (chars c.args.added.now) c.in_ok-part-in-Inner.part
     (cut t e) (place t e) (omega (arith, c.if-inside-eq0.false)) (inside t e) (fits t e) c.in-Inner.ensures.children c.in-Inner.ensures.is c.in_ok-part-in-Inner.ensures.text c.in_ok-part-in-Inner.ensures.breaks c.in_ok-part-in-Inner.ensures.tree c.get.result.chars r (end_is t (goal.at.returns-else-place-gt0-clause-text t c).After-get) is) c.join_around.ensures.text
+
+-- an insert below a node, and what is made at the node itself, at most 296 nodes
+pub returns-then-stands-clause-made : goal.returns-then-stands-clause-made
+returns-then-stands-clause-made t c =
+    let e = (goal.at.returns-then-stands-clause-made t c).After-total_before in
+    IfOk-weaker c.put.result _ _ (λ node _.
+    omega (arith, c.in_ok-part-in-Inner.ensures.made, c.put.ensures.made, (cut t e).above, ap (λ n. n.height) c.in-Inner.ensures.is)) c.put.ensures.tree
+
+pub returns-else-place-gt0-clause-made : goal.returns-else-place-gt0-clause-made
+returns-else-place-gt0-clause-made t c =
+    let e = (goal.at.returns-else-place-gt0-clause-made t c).After-total_before in
+    IfOk-weaker c.join_around.result _ _ (λ node made.
+    omega (arith, c.in_ok-part-in-Inner.ensures.made, made, (cut t e).above, c.info.ensures.low)) c.join_around.ensures.made
