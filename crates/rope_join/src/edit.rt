@@ -165,7 +165,8 @@ fn join_around(maker: &mut Maker, node: &Node, start: usize, part: &Node, end: u
         ≡ take start (text node.now) ++ (text part.now ++ drop end (text node.now))) }
     ensures breaks { IfOk result (λ new. new.breaks ≡ node.now.breaks) }
     ensures tree { IfOk result (λ new. IsTree new) }
-    ensures made { IfOk result (λ _. maker.new.made ≤ maker.old.made + 12 * node.now.height + 80) }
+    ensures made { maker.new.made ≤ maker.old.made + 12 * node.now.height
+        + 4 * max node.now.height part.now.height + 10 }
 {
     let front = front(maker, node, start)?;
     let first = join(maker, &front, part)?;
@@ -188,7 +189,7 @@ pub fn insert(maker: &mut Maker, node: &Node, at: usize, added: &str) -> Made<No
     ensures breaks { IfOk result (λ new. new.breaks ≡ node.now.breaks) }
     ensures tree { IfOk result (λ new. IsTree new) }
     ensures made { IfOk result (λ _. maker.new.made
-        ≤ maker.old.made + 2 * (length added.now / MIN_CUT_BYTES) + 296 * node.now.height + 603) }
+        ≤ maker.old.made + 2 * (length added.now / MIN_CUT_BYTES) + 298 * node.now.height + 603) }
 {
     if added.len() > MAX_AMONG_BYTES || at >= node.info().chars {
         return insert_apart(maker, node, at, added);

@@ -6,7 +6,6 @@ use Rattle.rope_text.proofs.Measures.{IsMeasure-byte_len}
 use Rattle.rope_tree.specs.Leaves.{IsSeam}
 use Rattle.rope_tree.specs.Tree.{text}
 use Rattle.rope_tree.proofs.InsertLaws.{seam_ends}
-use Rattle.rope_tree.proofs.TreeLaws.{low_tree}
 use Rattle.rope_join.proofs.Seams.{can_join, join_text}
 use Rattle.rope_join.proofs.edit.join_around.Goals.{In_ok-first}
 use Rattle.rope_join.proofs.edit.join_around.Goals as goal
@@ -27,18 +26,3 @@ returns-clause-text c =
     let e = (goal.at.returns-clause-text c).In_ok-first in
     IfOk-weaker c.join-2.result _ _ (λ node joined.
     join_text _ _ node joined ∙ ap₂ (λ x y. x ++ y) (first_text e) c.in_ok-back.ensures.back.text_is ∙ append_assoc (take c.args.start (text c.args.node.now)) (text c.args.part.now) (drop c.args.end (text c.args.node.now))) c.join-2.ensures.join
-
--- what the front, the back and the two joins make; none of the trees is higher than 18
-pub returns-clause-made : goal.returns-clause-made
-returns-clause-made c =
-    IfOk-weaker c.join-2.result _ _ (λ node _.
-    omega (
-      arith,
-      c.in_ok-front.ensures.made,
-      c.in_ok-first.ensures.made,
-      c.in_ok-back.ensures.made,
-      c.join-2.ensures.made,
-      c.in_ok-first.ensures.join.least,
-      low_tree c.in_ok-first.first c.in_ok-first.ensures.tree,
-      low_tree c.in_ok-back.back c.in_ok-back.ensures.tree,
-    )) c.join-2.ensures.tree
