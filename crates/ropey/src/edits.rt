@@ -2,9 +2,9 @@
 //!
 //! With the text `"held"`, `insert(3, "lo worl")` makes `"hello world"`. From there `remove(5..)` leaves `"hello"`;
 //! `split_off(6)` leaves `"hello "` and returns a rope of `"world"`, and an `append` of that puts it back.
-ghost use Rattle.std.specs.Prelude.{◌≡◌, ◌+◌, ◌*◌, ◌<◌, ◌≤◌, [], ◌∷◌, length, None, IsOk, IfErr, OnOk, max, IfOk};
+ghost use Rattle.std.specs.Prelude.{◌≡◌, ◌+◌, ◌*◌, ◌/◌, ◌<◌, ◌≤◌, [], ◌∷◌, length, None, IsOk, IfErr, OnOk, max, IfOk};
 ghost use Rattle.std.specs.Str.{chars};
-ghost use Rattle.rope_text.specs.declared.TheConstants.{MAX_SHORT_BYTES};
+ghost use Rattle.rope_text.specs.declared.TheConstants.{MAX_SHORT_BYTES, MIN_CUT_BYTES};
 ghost use Rattle.rope_text.specs.Edit.{IsRefusal, char_index_error};
 ghost use Rattle.rope_slice.specs.Sliced.{HasCharRange, IsEmptyRange};
 ghost use Rattle.ropey.specs.Edited.{IsEdit, IsIdle, CanInsert, IsInsert, IsInsertRefusal, IsRemoval, IsRemovalRefusal, CanAppend, IsAppend, IsAppendRefusal, IsCutAt};
@@ -28,6 +28,8 @@ impl Rope {
         ensures kept { IsEdit result self.old self.new }
         ensures made { length text.now ≤ MAX_SHORT_BYTES
             → maker.new.made ≤ maker.old.made + 3 * self.old.depth + 5 }
+        ensures made_long { OnOk result (maker.new.made ≤ maker.old.made
+            + 2 * (length text.now / MIN_CUT_BYTES) + 298 * self.old.depth + 603) }
     {
         let bytes = self.len_bytes();
         let chars = self.len_chars();
