@@ -108,7 +108,7 @@ pub fn remove(maker: &mut Maker, root: &mut Node, start: usize, end: usize) -> M
 
 /// The tree with a text of any length before its character `at`: it is split, and the text goes
 /// between as a tree of its own. What is made of the old tree are its parts, so it costs what the
-/// new text and the height do.
+/// new text and the height do. An append makes at most 299 nodes, since no tree is higher than 18.
 fn insert_apart(maker: &mut Maker, node: &Node, at: usize, added: &str) -> Made<Node>
     requires within { at ≤ length (text node.now) }
     requires fits { byte_len (text node.now) + length added.now < 2 ^ 63 }
@@ -181,7 +181,8 @@ const MAX_AMONG_BYTES: usize = 20 * MAX_BYTES;
 /// The tree with a text of any length before its character `at`. A text of some leaves is built
 /// into the leaf that holds the character, and the leaves that this gives are put in its place, on
 /// one way down; where they can't be, at the ends of a node or for a longer text, the tree is
-/// split. It costs what the new text and the height do.
+/// split. It costs what the new text and the height do: at most two nodes for each 981 bytes of the
+/// text, 298 for each level and 603 more.
 pub fn insert(maker: &mut Maker, node: &Node, at: usize, added: &str) -> Made<Node>
     requires within { at ≤ length (text node.now) }
     requires fits { byte_len (text node.now) + length added.now < 2 ^ 63 }
