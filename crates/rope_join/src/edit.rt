@@ -1,8 +1,9 @@
 //! Trees with a part taken out or put in, and put one behind the other. Where a CR and an LF would
 //! meet at a seam, the two become a leaf of their own between what stands before and what follows,
 //! so that no CR LF lies across two leaves.
-ghost use Rattle.std.specs.Prelude.{◌≡◌, ◌+◌, ◌*◌, ◌<◌, ◌≤◌, ◌^◌, ◌++◌, true, length, take, drop, max, IfOk, OnOk, OnErr};
+ghost use Rattle.std.specs.Prelude.{◌≡◌, ◌+◌, ◌*◌, ◌/◌, ◌<◌, ◌≤◌, ◌^◌, ◌++◌, true, length, take, drop, max, IfOk, OnOk, OnErr};
 ghost use Rattle.std.specs.Str.{chars};
+ghost use Rattle.rope_text.specs.declared.TheConstants.{MIN_CUT_BYTES};
 ghost use Rattle.rope_text.specs.Text.{byte_len};
 ghost use Rattle.rope_text.specs.Cutting.{parts_crlf};
 ghost use Rattle.rope_text.specs.Edit.{inserted, removed};
@@ -107,13 +108,15 @@ pub fn remove(maker: &mut Maker, root: &mut Node, start: usize, end: usize) -> M
 
 /// The tree with a text of any length before its character `at`: it is split, and the text goes
 /// between as a tree of its own. What is made of the old tree are its parts, so it costs what the
-/// new text and the height do.
+/// new text and the height do. An append makes at most 299 nodes, since no tree is higher than 18.
 fn insert_apart(maker: &mut Maker, node: &Node, at: usize, added: &str) -> Made<Node>
     requires within { at ≤ length (text node.now) }
     requires fits { byte_len (text node.now) + length added.now < 2 ^ 63 }
     ensures text { IfOk result (λ new. text new ≡ inserted (text node.now) at (chars added.now)) }
     ensures breaks { IfOk result (λ new. new.breaks ≡ node.now.breaks) }
     ensures tree { IfOk result (λ new. IsTree new) }
+    ensures made { IfOk result (λ _. maker.new.made
+        ≤ maker.old.made + 2 * (length added.now / MIN_CUT_BYTES) + 12 * node.now.height + 603) }
 {
     let front = front(maker, node, at)?;
     let back = back(maker, node, at)?;
@@ -135,6 +138,8 @@ fn insert_into_leaf(
     ensures text { IfOk result (λ new. text new ≡ inserted (text node.now) at (chars added.now)) }
     ensures breaks { IfOk result (λ new. new.breaks ≡ node.now.breaks) }
     ensures tree { IfOk result (λ new. IsTree new) }
+    ensures made { IfOk result (λ _. maker.new.made
+        ≤ maker.old.made + 2 * (length added.now / MIN_CUT_BYTES) + 7) }
 {
     let text = leaf.as_str();
     let place = leaf.char_to_byte_idx(at);
@@ -160,6 +165,8 @@ fn join_around(maker: &mut Maker, node: &Node, start: usize, part: &Node, end: u
         ≡ take start (text node.now) ++ (text part.now ++ drop end (text node.now))) }
     ensures breaks { IfOk result (λ new. new.breaks ≡ node.now.breaks) }
     ensures tree { IfOk result (λ new. IsTree new) }
+    ensures made { maker.new.made ≤ maker.old.made + 12 * node.now.height
+        + 4 * max node.now.height part.now.height + 10 }
 {
     let front = front(maker, node, start)?;
     let first = join(maker, &front, part)?;
@@ -174,13 +181,16 @@ const MAX_AMONG_BYTES: usize = 20 * MAX_BYTES;
 /// The tree with a text of any length before its character `at`. A text of some leaves is built
 /// into the leaf that holds the character, and the leaves that this gives are put in its place, on
 /// one way down; where they can't be, at the ends of a node or for a longer text, the tree is
-/// split. It costs what the new text and the height do.
+/// split. It costs what the new text and the height do: at most two nodes for each 981 bytes of the
+/// text, 298 for each level and 603 more.
 pub fn insert(maker: &mut Maker, node: &Node, at: usize, added: &str) -> Made<Node>
     requires within { at ≤ length (text node.now) }
     requires fits { byte_len (text node.now) + length added.now < 2 ^ 63 }
     ensures text { IfOk result (λ new. text new ≡ inserted (text node.now) at (chars added.now)) }
     ensures breaks { IfOk result (λ new. new.breaks ≡ node.now.breaks) }
     ensures tree { IfOk result (λ new. IsTree new) }
+    ensures made { IfOk result (λ _. maker.new.made
+        ≤ maker.old.made + 2 * (length added.now / MIN_CUT_BYTES) + 298 * node.now.height + 603) }
 {
     if added.len() > MAX_AMONG_BYTES || at >= node.info().chars {
         return insert_apart(maker, node, at, added);

@@ -176,8 +176,8 @@ impl Builder {
         Ok(())
     }
 
-    /// The tree of what was passed in, with at most one leaf for each 981 bytes and one for the rest. The nodes that it
-    /// makes are counted, and those that were made before are not.
+    /// The tree of what was passed in, with at most one leaf for each 981 bytes and one for the rest. All its nodes are
+    /// counted here, also the leaves that were made before.
     pub fn finish(self, maker: &mut Maker) -> Made<Node>
         ensures text { IfOk result (λ node. text node ≡ self.text) }
         ensures breaks { IfOk result (λ node. node.breaks ≡ self.breaks) }
@@ -185,8 +185,9 @@ impl Builder {
         ensures few { IfOk result (λ node. length node.leaves
             ≤ (byte_len self.text + (MIN_CUT_BYTES - 1)) / MIN_CUT_BYTES) }
         ensures made { IfOk result (λ node.
-            maker.new.made ≤ maker.old.made + length node.leaves + 1) }
+            maker.new.made ≤ maker.old.made + 2 * length node.leaves + 1) }
     {
+        maker.add_all_made(self.leaves.len());
         let rest = leaf_of(maker, self.breaks, self.rest.as_str())?;
         if self.leaves.is_empty() {
             return Ok(rest);

@@ -1,5 +1,5 @@
 //! What makes nodes.
-ghost use Rattle.std.specs.Prelude.{◌≡◌, ◌+◌, ◌<◌, ◌≤◌};
+ghost use Rattle.std.specs.Prelude.{◌≡◌, ◌+◌, ◌<◌, ◌≤◌, ◌^◌};
 
 use std::alloc::{AllocError, Global};
 
@@ -28,5 +28,14 @@ impl Maker {
         ensures rises { self.old.made ≤ self.new.made }
     {
         self.made = self.made.saturating_add(1);
+    }
+
+    /// Counts so many nodes that were made before.
+    pub(crate) fn add_all_made(&mut self, nodes: usize)
+        ensures most { self.new.made ≤ self.old.made + nodes }
+        ensures added { self.old.made + nodes < 2 ^ 64 → self.new.made ≡ self.old.made + nodes }
+        ensures rises { self.old.made ≤ self.new.made }
+    {
+        self.made = self.made.saturating_add(nodes as u64);
     }
 }

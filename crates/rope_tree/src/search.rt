@@ -85,8 +85,7 @@ fn widened(alloc: Global, totals: &CountRows) -> Made<Box<WideTotals>>
 }
 
 /// Puts other counts for those of one part of a text, in all totals from a place on.
-// Never inlined: beside its sums of whole words the counts would be loaded as vectors, right behind the stores of their single words,
-// which can't be forwarded to such a load.
+// Cold: only totals of 4 GiB and more come to it.
 #[inline(never)]
 fn shift_wide(totals: &mut [TextInfo], from: usize, old: TextInfo, new: TextInfo)
     requires part { HavePart from totals.old old }

@@ -1,5 +1,5 @@
 -- What look-ups and edits that count leave in their counts.
-use Rattle.std.specs.Prelude.{◌≡◌, ℕ, ◌+◌, ◌*◌, ◌<◌, ◌≤◌}
+use Rattle.std.specs.Prelude.{◌≡◌, ℕ, ◌+◌, ◌*◌, ◌/◌, ◌<◌, ◌≤◌}
 use Rattle.rope_text.specs.declared.steps.Steps.{Steps}
 
 -- at most one node a level was entered, at most five totals were compared in each inner one, and no node was made
@@ -34,6 +34,10 @@ pub record IsLineLookUp (line lines depth : ℕ) (steps : Steps) : Type 0 where
 -- the nodes that an edit makes at the most, in a rope of this depth; for an append, the greater depth of the two
 abbrev pub insert_nodes : ℕ → ℕ
 insert_nodes depth = 3 * depth + 5
+
+-- of a text of any length: two for each 981 of its bytes, and those of the way down
+abbrev pub long_insert_nodes : ℕ → ℕ → ℕ
+long_insert_nodes bytes depth = 2 * (bytes / 981) + 298 * depth + 603
 
 abbrev pub removal_nodes : ℕ → ℕ
 removal_nodes depth = 17 * depth + 12

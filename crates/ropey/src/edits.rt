@@ -7,7 +7,7 @@ ghost use Rattle.std.specs.Str.{chars};
 ghost use Rattle.rope_text.specs.declared.TheConstants.{MAX_SHORT_BYTES};
 ghost use Rattle.rope_text.specs.Edit.{IsRefusal, char_index_error};
 ghost use Rattle.rope_slice.specs.Sliced.{HasCharRange, IsEmptyRange};
-ghost use Rattle.ropey.specs.Counted.{IsEditCount, insert_nodes, removal_nodes, split_nodes, append_nodes};
+ghost use Rattle.ropey.specs.Counted.{IsEditCount, insert_nodes, long_insert_nodes, removal_nodes, split_nodes, append_nodes};
 ghost use Rattle.ropey.specs.Edited.{IsEdit, IsIdle, CanInsert, IsInsert, IsInsertRefusal, IsRemoval, IsRemovalRefusal, CanAppend, IsAppend, IsAppendRefusal, IsCutAt};
 ghost use Rattle.rope_text.specs.declared.error.Error.TheVariants.{OutOfMemory};
 
@@ -39,6 +39,8 @@ impl Rope {
         ensures kept { IsEdit result self.old self.new }
         ensures made { length text.now ≤ MAX_SHORT_BYTES
             → maker.new.made ≤ maker.old.made + insert_nodes self.old.depth }
+        ensures made_long { OnOk result (maker.new.made
+            ≤ maker.old.made + long_insert_nodes (length text.now) self.old.depth) }
     {
         let bytes = self.len_bytes();
         if text.len() > MAX_TEXT_BYTES - bytes {
@@ -91,7 +93,35 @@ impl Rope {
             → CanInsert self.old.text char_idx (chars text.now) → IsIdle result self.old self.new }
         ensures kept { IsEdit result self.old self.new }
     {
-        self.insert_made(char_idx, text, &mut Maker::new(self.alloc))
+        self.insert_counted(char_idx, text, &mut Steps::new())
+    }
+
+    /// As `insert`, and sets `steps` to what it did: `made` counts the nodes that were made. In a rope of depth d a
+    /// text of at most 981 bytes makes at most 3 d + 5, refused or not; a longer one, where it isn't refused, at most
+    /// two for each 981 bytes, and 298 d + 603 more. Its searches need not be counted: `nodes` is at most 24 (d + 1),
+    /// and `compares` at most 40 (d + 1).
+    ///
+    /// The index is at most `len_chars()`.
+    ///
+    /// # Errors
+    ///
+    /// First `TooLong`, then `OutOfMemory`, as for `insert`. A refused call leaves the rope as it was.
+    pub fn insert_counted(&mut self, char_idx: usize, text: &str, steps: &mut Steps) -> Result<()>
+        requires { char_idx ≤ length self.old.text }
+        ensures ok { OnOk result (IsInsert self.old.text char_idx (chars text.now) self.new.text) }
+        ensures refused { IfErr result (IsInsertRefusal self.old.text char_idx (chars text.now)) }
+        ensures empty { length (chars text.now) ≡ 0
+            → CanInsert self.old.text char_idx (chars text.now) → IsIdle result self.old self.new }
+        ensures kept { IsEdit result self.old self.new }
+        ensures steps { length text.now ≤ MAX_SHORT_BYTES
+            → IsEditCount (insert_nodes self.old.depth) self.old.depth steps.new }
+        ensures steps_long { OnOk result
+            (IsEditCount (long_insert_nodes (length text.now) self.old.depth) self.old.depth steps.new) }
+    {
+        let mut maker = self.begin_edit(steps);
+        let inserted = self.insert_made(char_idx, text, &mut maker);
+        steps.made = maker.made;
+        inserted
     }
 
     /// As `insert_char`, for any index.
@@ -130,8 +160,7 @@ impl Rope {
     }
 
     /// As `insert_char`, and sets `steps` to what it did, refused or not: `made` counts the nodes that were made, at
-    /// most 3 d + 5 in a rope of depth d. Its searches need not be counted: `nodes` is at most 24 (d + 1), and
-    /// `compares` at most 40 (d + 1).
+    /// most 3 d + 5 in a rope of depth d. Of the other two counts what `insert_counted` says.
     ///
     /// The index is at most `len_chars()`.
     ///
@@ -145,10 +174,7 @@ impl Rope {
         ensures kept { IsEdit result self.old self.new }
         ensures steps { IsEditCount (insert_nodes self.old.depth) self.old.depth steps.new }
     {
-        let mut maker = self.begin_edit(steps);
-        let inserted = self.insert_made(char_idx, c.encode_utf8(&mut [0; 4]), &mut maker);
-        steps.made = maker.made;
-        inserted
+        self.insert_counted(char_idx, c.encode_utf8(&mut [0; 4]), steps)
     }
 
     /// As `split_off`, for any index.
@@ -187,7 +213,7 @@ impl Rope {
     }
 
     /// As `split_off`, and sets `steps` to what it did, refused or not: `made` counts the nodes that were made, at
-    /// most 12 d + 2 in a rope of depth d. Of the other two counts what `insert_char_counted` says.
+    /// most 12 d + 2 in a rope of depth d. Of the other two counts what `insert_counted` says.
     ///
     /// The index is at most `len_chars()`.
     ///
@@ -259,7 +285,7 @@ impl Rope {
     }
 
     /// As `remove`, and sets `steps` to what it did, refused or not: `made` counts the nodes that were made, at most
-    /// 17 d + 12 in a rope of depth d. Of the other two counts what `insert_char_counted` says.
+    /// 17 d + 12 in a rope of depth d. Of the other two counts what `insert_counted` says.
     ///
     /// The range's bounds are at most `len_chars()`, and its start is at most its end.
     ///
@@ -309,7 +335,7 @@ impl Rope {
     }
 
     /// As `append`, and sets `steps` to what it did, refused or not: `made` counts the nodes that were made, at most
-    /// 16 d + 11 where d is the greater depth of the two. Of the other two counts what `insert_char_counted` says.
+    /// 16 d + 11 where d is the greater depth of the two. Of the other two counts what `insert_counted` says.
     ///
     /// # Errors
     ///

@@ -9,6 +9,7 @@ use Rattle.rope_tree.specs.declared.search.Unit.TheVariants.{Char}
 use Rattle.rope_tree.specs.Tree.{text, joined, height_of, breaks_of}
 use Rattle.rope_tree.proofs.NodeLaws.{small_totals, joined_more}
 use Rattle.rope_tree.proofs.Descents.{Descends, descends}
+use Rattle.rope_tree.proofs.TreeLaws.{low_tree}
 use Rattle.rope_join.proofs.Cuts.{CutsAt, cuts_at}
 use Rattle.rope_join.proofs.OneWay.{inserted_some, inserted_chars, end_within, before_inserted, behind_inserted, inserted_fits, around_inserted, can_put_inserted, put_inserted}
 use Rattle.rope_join.proofs.edit.+insert.Goals.{After-total_before, After-get}
@@ -121,3 +122,17 @@ returns-else-place-gt0-clause-text t c =
     let e = (goal.at.returns-else-place-gt0-clause-text t c).After-total_before in
     IfOk-weaker c.join_around.result _ _ (λ r is. around_inserted c.args.node.now c.in-Inner.children.now c.place_of-place.result (c.args.at - c.total_before.result.chars) c.args.at c.index-children-place.result (chars c.args.added.now) c.in_ok-part-in-Inner.part
     (cut t e) (place t e) (omega (arith, c.if-inside-eq0.false)) (inside t e) (fits t e) c.in-Inner.ensures.children c.in-Inner.ensures.is c.in_ok-part-in-Inner.ensures.text c.in_ok-part-in-Inner.ensures.breaks c.in_ok-part-in-Inner.ensures.tree c.get.result.chars r (end_is t (goal.at.returns-else-place-gt0-clause-text t c).After-get) is) c.join_around.ensures.text
+
+-- an insert below a node, and what is made at the node itself, at most 298 nodes
+pub returns-then-stands-clause-made : goal.returns-then-stands-clause-made
+returns-then-stands-clause-made t c =
+    let e = (goal.at.returns-then-stands-clause-made t c).After-total_before in
+    IfOk-weaker c.put.result _ _ (λ node _.
+    omega (arith, c.in_ok-part-in-Inner.ensures.made, c.put.ensures.made, (cut t e).above, ap (λ n. n.height) c.in-Inner.ensures.is)) c.put.ensures.tree
+
+pub returns-else-place-gt0-clause-made : goal.returns-else-place-gt0-clause-made
+returns-else-place-gt0-clause-made t c =
+    let e = (goal.at.returns-else-place-gt0-clause-made t c).After-total_before in
+    let part = low_tree c.in_ok-part-in-Inner.part c.in_ok-part-in-Inner.ensures.tree in
+    IfOk-weaker c.join_around.result _ _ (λ node _.
+    omega (arith, c.in_ok-part-in-Inner.ensures.made, c.join_around.ensures.made, (cut t e).above, c.info.ensures.low, part)) c.join_around.ensures.tree

@@ -1,8 +1,10 @@
 use Rattle.std.proofs.Common.{ap, arith}
+use Rattle.std.proofs.lemmas.Result.{IfOk-weaker}
 use Rattle.rope_text.specs.Text.{byte_len}
 use Rattle.rope_text.proofs.Measures.{IsMeasure-byte_len}
 use Rattle.rope_text.proofs.Walks.{byte_len-chars}
 use Rattle.rope_tree.specs.Tree.{text}
+use Rattle.rope_tree.proofs.TreeLaws.{low_tree}
 use Rattle.rope_join.proofs.Cuts.{byte_len-parts}
 use Rattle.rope_join.proofs.edit.insert_apart.Goals as goal
 
@@ -24,3 +26,21 @@ append-requires-2-clause-fits c =
       ap byte_len c.in_ok-first.ensures.text,
       IsMeasure-byte_len.joined (text c.in_ok-front.front) (text c.in_ok-middle.middle),
     )
+
+-- what the front, the back, the new tree and the two appends make; none of the trees is higher than 18
+pub returns-clause-made : goal.returns-clause-made
+returns-clause-made c =
+    IfOk-weaker c.append-2.result _ _ (λ node _.
+    omega (
+      arith,
+      c.in_ok-front.ensures.made,
+      c.in_ok-back.ensures.made,
+      c.in_ok-middle.ensures.few,
+      c.in_ok-middle.ensures.made,
+      c.in_ok-first.ensures.made,
+      c.append-2.ensures.made,
+      low_tree c.in_ok-front.front c.in_ok-front.ensures.tree,
+      low_tree c.in_ok-back.back c.in_ok-back.ensures.tree,
+      low_tree c.in_ok-middle.middle c.in_ok-middle.ensures.tree,
+      low_tree c.in_ok-first.first c.in_ok-first.ensures.tree,
+    )) c.append-2.ensures.tree

@@ -7,11 +7,12 @@ use Rattle.rope_text.specs.Edit.{inserted}
 use Rattle.rope_text.proofs.Measures.{IsMeasure-byte_len}
 use Rattle.rope_text.proofs.TextParts.{chars_front, chars_back}
 use Rattle.rope_text.proofs.Walks.{byte_len-chars}
-use Rattle.rope_tree.specs.Tree.{text}
+use Rattle.rope_tree.specs.Tree.{Tree, text}
 use Rattle.rope_tree.proofs.InsertLeaves.{text_of_leaf}
 use Rattle.rope_tree.proofs.InsertTrees.{inserted_is}
+use Rattle.rope_tree.proofs.LastCalls.{both_ok}
 use Rattle.rope_join.proofs.Cuts.{byte_len-parts}
-use Rattle.rope_join.proofs.edit.insert_into_leaf.Goals.{After-range, After-range_from}
+use Rattle.rope_join.proofs.edit.insert_into_leaf.Goals.{After-range, After-range_from, In_ok-append-3}
 use Rattle.rope_join.proofs.edit.insert_into_leaf.Goals as goal
 
 front : (c : After-range) → chars c.range.result.now ≡ take c.args.at c.args.leaf.now
@@ -53,11 +54,36 @@ append-requires-3 c =
       byte_len-parts c.args.at c.args.leaf.now,
     )
 
+-- the text that is built
+built : (c : In_ok-append-3) → c.append-3.new.self.text ≡ take c.args.at c.args.leaf.now ++ (chars c.args.added.now ++ drop c.args.at c.args.leaf.now)
+built c =
+    let e = (goal.at.In_ok-append-3 c).After-range in
+    let f = (goal.at.In_ok-append-3 c).After-range_from in
+    let first = c.in_ok-append.ensures.ok ∙ ap (λ z. z ++ chars c.range.result.now) c.new-builder.ensures.text ∙ front e in
+    let second = c.in_ok-append-2.ensures.ok ∙ ap (λ z. z ++ chars c.args.added.now) first in
+    c.in_ok-append-3.ensures.ok ∙ ap₂ (λ y z. y ++ z) second (back f) ∙ append_assoc (take c.args.at c.args.leaf.now) (chars c.args.added.now) (drop c.args.at c.args.leaf.now)
+
 pub returns-clause-text : goal.returns-clause-text
 returns-clause-text c =
     let e = (goal.at.returns-clause-text c).After-range in
-    let f = (goal.at.returns-clause-text c).After-range_from in
-    let first = c.in_ok-append.ensures.ok ∙ ap (λ z. z ++ chars c.range.result.now) c.new-builder.ensures.text ∙ front e in
-    let second = c.in_ok-append-2.ensures.ok ∙ ap (λ z. z ++ chars c.args.added.now) first in
-    let third = c.in_ok-append-3.ensures.ok ∙ ap₂ (λ y z. y ++ z) second (back f) ∙ append_assoc (take c.args.at c.args.leaf.now) (chars c.args.added.now) (drop c.args.at c.args.leaf.now) in
-    IfOk-weaker c.finish.result _ _ (λ node is. is ∙ third ∙ sym (inserted_is c.args.leaf.now c.args.at (chars c.args.added.now)) ∙ ap (λ z. inserted z c.args.at (chars c.args.added.now)) (sym (leaf_text e))) c.finish.ensures.text
+    let b = (goal.at.returns-clause-text c).In_ok-append-3 in
+    IfOk-weaker c.finish.result _ _ (λ node is. is ∙ built b ∙ sym (inserted_is c.args.leaf.now c.args.at (chars c.args.added.now)) ∙ ap (λ z. inserted z c.args.at (chars c.args.added.now)) (sym (leaf_text e))) c.finish.ensures.text
+
+-- two nodes for each leaf, of which a leaf's bytes more make two more
+pub returns-clause-made : goal.returns-clause-made
+returns-clause-made c =
+    let b = (goal.at.returns-clause-made c).In_ok-append-3 in
+    let added = chars c.args.added.now in
+    let behind = drop c.args.at c.args.leaf.now in
+    both_ok c.finish.result _ _ _ (λ (node : Tree) few made.
+    omega (
+      arith,
+      few,
+      made,
+      ap byte_len (built b),
+      IsMeasure-byte_len.joined (take c.args.at c.args.leaf.now) (added ++ behind),
+      IsMeasure-byte_len.joined added behind,
+      byte_len-chars c.args.added.now c.utf8.added,
+      byte_len-parts c.args.at c.args.leaf.now,
+      c.as_str-text.ensures.fits,
+    )) c.finish.ensures.few c.finish.ensures.made
