@@ -6,6 +6,7 @@ use rope_plain::texts::{padded, rope_of};
 use rope_plain::{holds, same};
 use ropey::{Rope, Steps};
 use std::alloc::{AllocError, Global};
+use std::str;
 
 fn leaves_the_ends(rope: &mut Rope) -> Result<(), Failure> {
     holds!(rope.len_chars() == 2_000);
@@ -35,12 +36,13 @@ enum Step {
     /// Split at a character, with so much behind it, and joined again.
     Split(usize, usize),
     CountInsert,
+    CountLongInsert,
     CountRemoval,
     CountSplit,
     CountAppend,
 }
 
-const STEPS: [Step; 12] = [
+const STEPS: [Step; 13] = [
     Step::LeaveOne,
     Step::LeaveTwenty,
     Step::Split(1, 999_999),
@@ -50,6 +52,7 @@ const STEPS: [Step; 12] = [
     Step::Split(500_000, 500_000),
     Step::Split(999_999, 1),
     Step::CountInsert,
+    Step::CountLongInsert,
     Step::CountRemoval,
     Step::CountSplit,
     Step::CountAppend,
@@ -90,6 +93,22 @@ fn counts_an_insert(rope: &mut Rope) -> Result<(), Failure> {
     Ok(())
 }
 
+/// A text of three leaves.
+const LONG_TEXT: [u8; 2_000] = [b'y'; 2_000];
+
+fn counts_a_long_insert(rope: &mut Rope) -> Result<(), Failure> {
+    let mut steps = Steps::new();
+    holds!(rope.len_chars() == 1_000_000);
+    let Ok(text) = str::from_utf8(&LONG_TEXT) else {
+        return Err(Failure::new("letters are no text"));
+    };
+    rope.insert_counted(500_000, text, &mut steps)?;
+    holds!((3..=1_501).contains(&steps.made));
+    same!(rope.len_bytes(), 1_002_000);
+    same!(rope.get_char(501_999), Some('y'));
+    Ok(())
+}
+
 fn counts_a_removal(rope: &mut Rope) -> Result<(), Failure> {
     let mut steps = Steps::new();
     holds!(rope.len_chars() == 1_000_000);
@@ -123,6 +142,7 @@ fn does(rope: &mut Rope, step: Step) -> Result<(), Failure> {
         Step::LeaveTwenty => leaves_twenty(rope),
         Step::Split(char_idx, rest) => expect_split(rope, char_idx, rest),
         Step::CountInsert => counts_an_insert(rope),
+        Step::CountLongInsert => counts_a_long_insert(rope),
         Step::CountRemoval => counts_a_removal(rope),
         Step::CountSplit => counts_a_split(rope),
         Step::CountAppend => counts_an_append(rope),
