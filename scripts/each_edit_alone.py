@@ -1,12 +1,13 @@
 #!/usr/bin/env python3
 """Tries each wrong body by itself, and keeps in docs/refusals.tsv which goal refused it.
 
-    scripts/each_edit_alone.py CRATE [EDIT]..   # tries the bodies of a crate, or of these edits of it
+    scripts/each_edit_alone.py CRATE[/EDIT]..   # tries the bodies of these crates, or of these edits of them
     scripts/each_edit_alone.py --stale          # proves nothing: lists what has changed since its line was written
 
 An edit may hold several bodies, and `rt ci` sees only that one of them is refused. This writes each to an edit of its own, in
-a scratch folder whose crates are links to the repository's, and runs `rt must-fail` there, which tries four bodies at a time, or
-as many as RT_JOBS says, over what `rt check` of the crate proved before. The status is 0 where each body is refused.
+a scratch folder whose crates are links to the repository's, and runs `rt must-fail` there once, which tries four bodies at a
+time, or as many as RT_JOBS says, over what `rt check` in the crates' folders has proved: run that before. `rt` keeps what came
+out, so that a later run tries only what has changed. The status is 0 where each body is refused.
 
 A line of docs/refusals.tsv has the body, as the name of its edit and its number there; its crate; its function; the goal that the
 prover could not show, as its function and its name; whether it is the body's `value` that was refused, or a `name` that a written
@@ -32,7 +33,8 @@ HEADS = ["body", "crate", "function", "goal", "refused by", "checksum"]
 FUNCTION = re.compile(r'( *)(?:pub(?:\([^)]*\))? )?(?:(?:const|final|unsafe|extern "C") )*fn (\w+)')
 OWNER = re.compile(r"( *)(?:pub(?:\([^)]*\))? )?(?:unsafe )?(?:impl|trait)\b(.*)")
 ITEM = re.compile(r"(?:pub(?:\([^)]*\))? )?(\S+ \w+|.*)")
-REFUSED = re.compile(r"rt: must-fail \S+?/(\S+)\.(\d+)\.edit: refused, as it must be(?: \(only (because|by)[^)]*\))?(?:: (.*))?")
+REFUSED = re.compile(r"rt: must-fail (?P<crate>\w+)/(?P<edit>\S+)\.(?P<number>\d+)\.edit: refused, as it must be"
+                     r"(?: \(only (?P<only>because|by)[^)]*\))?(?:: (?P<said>.*))?")
 KINDS = {None: "value", "because": "name", "by": "limit"}
 
 
@@ -100,14 +102,20 @@ def described(crate, file, pairs):
     return path_at(crate, file, lines, places[0]), hashlib.sha256("\n".join(texts).encode()).hexdigest()[:12]
 
 
-def edits_of(crate, names=()):
-    return [edit for edit in sorted((CRATES / crate / "must-fail").glob("*.edit")) if not names or edit.stem in names]
+def edits_of(words):
+    """The edits of these crates, or of these alone."""
+    found = sorted(CRATES.glob("*/must-fail/*.edit"))
+    return [edit for edit in found if crate_of(edit) in words or f"{crate_of(edit)}/{edit.stem}" in words]
 
 
-def bodies_of(crate, names=()):
-    """The function and the checksum of each body of these edits, by the edit's name, the number and the crate."""
-    every = ((edit.stem, number, change) for edit in edits_of(crate, names) for number, change in enumerate(changes(edit), 1))
-    return {(f"{name} {number}", crate): described(crate, *change) for name, number, change in every}
+def crate_of(edit):
+    return edit.parent.parent.name
+
+
+def bodies_of(edits):
+    """The function and the checksum of each body, by its name and number and its crate."""
+    every = ((edit, number, change) for edit in edits for number, change in enumerate(changes(edit), 1))
+    return {(f"{edit.stem} {number}", crate_of(edit)): described(crate_of(edit), *change) for edit, number, change in every}
 
 
 def table():
@@ -117,12 +125,12 @@ def table():
 
 
 def write(rows):
-    order = sorted(rows.values(), key=lambda row: (row[1], row[0].split()[0], int(row[0].split()[1])))
+    order = sorted(rows, key=lambda row: (row[1], row[0].split()[0], int(row[0].split()[1])))
     TABLE.write_text("\n".join("\t".join(row) for row in [HEADS, *order]) + "\n", encoding="utf-8")
 
 
-def scratch(crate, edit, room):
-    """Makes a folder in which the crate has each body of the edit as an edit of its own; all else are links."""
+def scratch(edits, room):
+    """Makes a folder in which each body of these edits is an edit of its own, and all else are links."""
     for name in ("crates.txt", "HANDLES"):
         (room / name).symlink_to(TOP / name)
     for part in CRATES.glob("*/*"):
@@ -130,11 +138,13 @@ def scratch(crate, edit, room):
         folder.mkdir(parents=True, exist_ok=True)
         if part.name != "must-fail":
             (folder / part.name).symlink_to(part)
-    alone = room / "crates" / crate / "must-fail"
-    alone.mkdir()
-    for number, (file, pairs) in enumerate(changes(edit), 1):
-        body = "".join(f"old: {old}\nnew: {new}\n" for old, new in pairs)
-        (alone / f"{edit.stem}.{number}.edit").write_text(f"file: {file.relative_to(CRATES / crate)}\n{body}", encoding="utf-8")
+    for edit in edits:
+        crate = CRATES / crate_of(edit)
+        alone = room / edit.parent.relative_to(TOP)
+        alone.mkdir(exist_ok=True)
+        for number, (file, pairs) in enumerate(changes(edit), 1):
+            body = "".join(f"old: {old}\nnew: {new}\n" for old, new in pairs)
+            (alone / f"{edit.stem}.{number}.edit").write_text(f"file: {file.relative_to(crate)}\n{body}", encoding="utf-8")
 
 
 def goal_of(crate, said):
@@ -153,47 +163,45 @@ def goal_of(crate, said):
     return f"{path} {name[1] if name else rest}"
 
 
-def tried(crate, edit):
-    """Tries the bodies of an edit: what `rt must-fail` says of each by its number, and what it says of none."""
+def tried(edits):
+    """Tries the bodies of these edits: what `rt must-fail` says of each that was refused, and what else it says."""
     with tempfile.TemporaryDirectory(prefix="each-edit-alone-") as room:
-        scratch(crate, edit, pathlib.Path(room))
-        ran = subprocess.run(["rt", "must-fail", crate], cwd=room, env={"RT_JOBS": "4", **os.environ}, text=True, errors="replace",
-                             stdin=subprocess.DEVNULL, stdout=subprocess.PIPE, stderr=subprocess.STDOUT, check=False)
-    found = {int(told[2]): told for told in map(REFUSED.match, ran.stdout.splitlines()) if told}
-    return found, [line for line in ran.stdout.splitlines() if not REFUSED.match(line)]
+        scratch(edits, pathlib.Path(room))
+        words = ["rt", "must-fail", *sorted({crate_of(edit) for edit in edits})]
+        ran = subprocess.run(words, cwd=room, env={"RT_JOBS": "4", **os.environ}, text=True, errors="replace", check=False,
+                             stdin=subprocess.DEVNULL, stdout=subprocess.PIPE, stderr=subprocess.STDOUT)
+    told = list(map(REFUSED.match, ran.stdout.splitlines()))
+    found = {(f"{it['edit']} {it['number']}", it["crate"]): it for it in told if it}
+    return found, [line for line, it in zip(ran.stdout.splitlines(), told) if not it]
 
 
-def try_edit(crate, edit):
-    """Tries the bodies of an edit, writes the lines of those that were refused, and answers how many were not."""
-    begun = time.monotonic()
-    bodies = bodies_of(crate, [edit.stem])
-    found, others = tried(crate, edit)
-    lost = len(bodies) - len(found)
-    if lost:
-        print("\n".join(others[-20:]))
-    if found:
-        kept = {key: row for key, row in table().items() if key[1] != crate or key[0].split()[0] != edit.stem}
-        write({**kept, **rows_of(crate, bodies, found)})
-    seconds = (time.monotonic() - begun) / len(bodies)
-    print(f"{crate}/{edit.stem}: {len(bodies)} bodies, {len(found)} refused, {lost} not; {seconds:.1f} seconds a body", flush=True)
-    return lost
-
-
-def rows_of(crate, bodies, found):
+def rows_of(bodies, found):
     """The lines of the bodies that were refused."""
-    rows = {}
     for key, (function, checksum) in bodies.items():
-        told = found.get(int(key[0].split()[1]))
-        if told:
-            rows[key] = [*key, function, goal_of(crate, told[4]), KINDS[told[3]], checksum]
-    return rows
+        if key in found:
+            yield [*key, function, goal_of(key[1], found[key]["said"]), KINDS[found[key]["only"]], checksum]
+
+
+def try_all(edits):
+    """Tries the bodies of these edits, writes the lines of those that were refused, and answers whether each was."""
+    bodies, begun = bodies_of(edits), time.monotonic()
+    print(f"{len(bodies)} bodies of {len(edits)} edits", flush=True)
+    found, others = tried(edits)
+    lost = [key for key in bodies if key not in found]
+    if lost:
+        print("\n".join(others))
+    if found:
+        named = {(edit.stem, crate_of(edit)) for edit in edits}
+        kept = [row for row in table().values() if (row[0].split()[0], row[1]) not in named]
+        write([*kept, *rows_of(bodies, found)])
+    each = (time.monotonic() - begun) / len(bodies)
+    print(f"{len(bodies) - len(lost)} were refused, {len(lost)} not; {each:.1f} seconds a body")
+    return not lost
 
 
 def stale():
-    """What the table lacks, has in another state, or has too many."""
-    rows = table()
-    bodies = {key: body for crate in sorted({edit.parent.parent.name for edit in CRATES.glob("*/must-fail/*.edit")})
-              for key, body in bodies_of(crate).items()}
+    """The bodies that have no line or one of another state, and the lines that have no body."""
+    rows, bodies = table(), bodies_of(CRATES.glob("*/must-fail/*.edit"))
     for key, (function, checksum) in bodies.items():
         if key not in rows:
             yield f"no line: {key[1]}/{key[0]}, {function}"
@@ -207,10 +215,11 @@ def main(words):
         found = list(stale())
         print("\n".join(found) if found else f"{len(table())} bodies have the line of their refusal")
         return 1 if found else 0
-    if not words or not edits_of(words[0], words[1:]):
-        print(__doc__ if not words else "no such edit", file=sys.stderr)
+    edits = edits_of(words)
+    if not edits:
+        print("no such edit" if words else __doc__, file=sys.stderr)
         return 2
-    return 1 if sum(try_edit(words[0], edit) for edit in edits_of(words[0], words[1:])) else 0
+    return 0 if try_all(edits) else 1
 
 
 if __name__ == "__main__":
