@@ -11,26 +11,29 @@ CRATES = pathlib.Path(__file__).resolve().parent.parent / "crates"
 
 
 def changes(edit):
-    """The changes of an edit: a file, what stands there, and what is put in its place."""
-    file = old = None
+    """The changes of an edit, each a wrong body: a file, and the pairs of what stands there and what is put in its place."""
+    found = []
     for line in edit.read_text(encoding="utf-8").splitlines():
-        word, _, rest = line.partition(": ")
+        word, _, rest = line.partition(":")
+        rest = rest.removeprefix(" ")
         if word == "file":
-            file = edit.parent.parent / rest.strip()
+            found.append((edit.parent.parent / rest.strip(), []))
         elif word == "old":
             old = rest
         elif word == "new":
-            yield file, old, rest
+            found[-1][1].append((old, rest))
+    return found
 
 
 def faults(edit):
     """The changes whose old text doesn't stand once where it is looked for. Later changes apply to what earlier ones made."""
     texts = {}
-    for file, old, new in changes(edit):
-        text = texts.setdefault(file, file.read_text(encoding="utf-8"))
-        if text.count(old) != 1:
-            yield f"{edit.name}: {text.count(old)} times in {file.name}: {old}"
-        texts[file] = text.replace(old, new, 1)
+    for file, pairs in changes(edit):
+        for old, new in pairs:
+            text = texts.setdefault(file, file.read_text(encoding="utf-8"))
+            if text.count(old) != 1:
+                yield f"{edit.name}: {text.count(old)} times in {file.name}: {old}"
+            texts[file] = text.replace(old, new, 1)
 
 
 def rows():
@@ -48,8 +51,8 @@ def main(calls):
     named = {f"{edit.parent.parent.name}/{edit.stem}": edit for edit in edits}
     wrong = [fault for edit in edits for fault in faults(edit)]
     for name, edit in named.items():
-        print(f"{sum(1 for _ in changes(edit)):4} {name}")
-    print(f"{sum(sum(1 for _ in changes(edit)) for edit in edits):4} wrong bodies in {len(edits)} edits")
+        print(f"{len(changes(edit)):4} {name}")
+    print(f"{sum(len(changes(edit)) for edit in edits):4} wrong bodies in {len(edits)} edits")
     for _, _, stand in rows():
         wrong += [f"no edit: {part}" for part in stand.split("; ") if part.split(":")[0] not in named]
     print("\n".join(wrong), end="\n" if wrong else "")

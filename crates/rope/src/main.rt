@@ -10,13 +10,10 @@ use std::process::ExitCode;
 
 /// Says on standard error how the run ended, where that wasn't well.
 fn tell(rt: &impl Eprint, ended: Ended) {
-    // What cannot be told here is still told by the status.
-    let _ = match ended {
-        Ended::Done => Ok(()),
-        Ended::BadLine(number) => eprintln!(rt; "bad line {number}"),
-        Ended::OutOfMemory => eprintln!(rt; "out of memory"),
-        Ended::Failed => eprintln!(rt; "input or output failed"),
-    };
+    if ended != Ended::Done {
+        // What cannot be told here is still told by the status.
+        let _ = eprintln!(rt; "{ended}");
+    }
 }
 
 fn main(rt: HostRuntime) -> ExitCode {

@@ -20,6 +20,8 @@ mod devices;
 #[cfg(test)]
 mod draw;
 #[cfg(test)]
+mod ends;
+#[cfg(test)]
 mod example;
 #[cfg(test)]
 mod reading;

@@ -1,2 +1,3 @@
+pub mod EndedText
 pub mod ReplyLine
 pub mod Serving

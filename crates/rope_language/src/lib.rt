@@ -6,9 +6,11 @@
 //! - `escapes`: texts as lines write them
 //! - `replies`: replies as lines
 //! - `output`: replies gathered before they are written
+//! - `ended`: how a run ended, as a status and a text
 //! - `service`: lines in, replies out
 #![tactic(auto)]
 
+mod ended;
 mod escapes;
 mod language;
 mod output;
@@ -16,4 +18,5 @@ mod replies;
 mod service;
 mod words;
 
-pub use service::{Ended, serve};
+pub use ended::Ended;
+pub use service::serve;

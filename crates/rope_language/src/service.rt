@@ -1,9 +1,10 @@
 //! Lines in, replies out.
-ghost use Rattle.std.specs.Prelude.{◌≡◌, ◌≢◌, ◌≤◌, ℕ, List, [], false, IfOk, IfErr, OnOk};
+ghost use Rattle.std.specs.Prelude.{◌≡◌, ◌≢◌, ◌≤◌, List, [], false, IfOk, IfErr, OnOk};
 ghost use Rattle.std.specs.Io.KnownBytes.{IsAtEnd};
 ghost use Rattle.rope_text.specs.Content.{Content};
 ghost use Rattle.rope_language.specs.Serving.{Puts, PutsRun, WritesReplies};
 
+use crate::ended::Ended;
 use crate::language::parse;
 use crate::output::Output;
 use crate::replies::lines_of;
@@ -11,36 +12,6 @@ use rope_script::Session;
 use rope_text::utf8;
 use std::alloc::{AllocError, Global};
 use std::io::{self, Read, Write};
-
-/// How a run over lines ended.
-#[derive(Clone, Copy, Debug, PartialEq, Eq)]
-pub enum Ended {
-    /// The input ended.
-    Done,
-    /// This line, counted from 1, is not of the language.
-    BadLine(u64),
-    /// Memory was refused for a line, a command or a reply.
-    OutOfMemory,
-    /// A read or a write failed.
-    Failed,
-}
-
-impl Ended {
-    /// The status of a program whose run ended so.
-    pub fn status(self) -> u8
-        ensures done { self ≡ Ended.Done → result ≡ 0 }
-        ensures bad_line { (number : ℕ) → self ≡ Ended.BadLine number → result ≡ 2 }
-        ensures out_of_memory { self ≡ Ended.OutOfMemory → result ≡ 3 }
-        ensures failed { self ≡ Ended.Failed → result ≡ 4 }
-    {
-        match self {
-            Ended::Done => 0,
-            Ended::BadLine(_) => 2,
-            Ended::OutOfMemory => 3,
-            Ended::Failed => 4,
-        }
-    }
-}
 
 /// Why a line was not answered.
 #[derive(Clone, Copy)]

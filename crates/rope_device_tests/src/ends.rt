@@ -1,0 +1,34 @@
+//! How a run ended, as its program tells it.
+use rope_language::Ended;
+use rope_plain::failure::{Failure, within};
+use rope_plain::same;
+use std::alloc::Global;
+
+/// How a run ends, the program's status then, and its line on standard error.
+const TOLD: [(Ended, u8, &str); 6] = [
+    (Ended::Done, 0, ""),
+    (Ended::BadLine(1), 2, "bad line 1"),
+    (Ended::BadLine(20), 2, "bad line 20"),
+    (Ended::BadLine(u64::MAX), 2, "bad line 18446744073709551615"),
+    (Ended::OutOfMemory, 3, "out of memory"),
+    (Ended::Failed, 4, "input or output failed"),
+];
+
+/// Fails unless an end has this status, and this text.
+fn expect_told(alloc: Global, ended: Ended, status: u8, wanted: &str) -> Result<(), Failure> {
+    let told = format!(in alloc; "{ended}")?;
+    same!(told.as_str(), wanted);
+    same!(ended.status(), status);
+    Ok(())
+}
+
+#[test]
+fn each_end_has_a_status_and_a_text(rt: HostRuntime) -> Result<(), Failure> {
+    for (ended, status, text) in TOLD {
+        within(
+            format_args!("{ended:?}"),
+            expect_told(rt.alloc(), ended, status, text),
+        )?;
+    }
+    Ok(())
+}

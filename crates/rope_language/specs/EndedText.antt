@@ -1,0 +1,12 @@
+-- The texts of how runs ended.
+use Rattle.std.specs.Prelude.{ℕ, List, [], ◌++◌, codes}
+use Rattle.std.specs.Fmt.{decimal}
+use Rattle.rope_language.specs.declared.ended.Ended.{Ended}
+use Rattle.rope_language.specs.declared.ended.Ended.TheVariants.{Done, BadLine, OutOfMemory, Failed}
+
+-- what is said of how a run ended: nothing where its input did
+abbrev pub ended_text : Ended → List ℕ
+ended_text Done = []
+ended_text (BadLine number) = codes "bad line " ++ decimal number
+ended_text OutOfMemory = codes "out of memory"
+ended_text Failed = codes "input or output failed"

@@ -1,0 +1,226 @@
+#!/usr/bin/env python3
+"""Tries each wrong body by itself, and keeps in docs/refusals.tsv which goal refused it.
+
+    scripts/each_edit_alone.py CRATE[/EDIT]..   # tries the bodies of these crates, or of these edits of them
+    scripts/each_edit_alone.py --stale          # proves nothing: lists what has changed since its line was written
+
+An edit may hold several bodies, and `rt ci` sees only that one of them is refused. This writes each to an edit of its own, in
+a scratch folder whose crates are links to the repository's, and runs `rt must-fail` there once, which tries four bodies at a
+time, or as many as RT_JOBS says, over what `rt check` in the crates' folders has proved: run that before. `rt` keeps what came
+out, so that a later run tries only what has changed. The status is 0 where each body is refused.
+
+A line of docs/refusals.tsv has the body, as the name of its edit and its number there; its crate; its function; the goal that the
+prover could not show, as its function and its name; whether it is the body's `value` that was refused, or a `name` that a written
+proof cites and the body lacks, or a `limit` of the prover was met; and a checksum of the body and of its function with its
+contract, but for what stands elsewhere: a trait's clauses, and the definitions that a contract cites. With --stale the status is
+0 where each body has a line with its checksum, and each line a body.
+"""
+import hashlib
+import os
+import pathlib
+import re
+import subprocess
+import sys
+import tempfile
+import time
+
+sys.dont_write_bytecode = True
+from wrong_bodies import CRATES, changes  # noqa: E402
+
+TOP = CRATES.parent
+TABLE = TOP / "docs" / "refusals.tsv"
+HEADS = ["body", "crate", "function", "goal", "refused by", "checksum"]
+FUNCTION = re.compile(r'( *)(?:pub(?:\([^)]*\))? )?(?:(?:const|final|unsafe|extern "C") )*fn (\w+)')
+OWNER = re.compile(r"( *)(?:pub(?:\([^)]*\))? )?(?:unsafe )?(?:impl|trait)\b(.*)")
+ITEM = re.compile(r"(?:pub(?:\([^)]*\))? )?(\S+ \w+|.*)")
+REFUSED = re.compile(r"rt: must-fail (?P<crate>\w+)/(?P<edit>\S+)\.(?P<number>\d+)\.edit: refused, as it must be"
+                     r"(?: \(only (?P<only>because|by)[^)]*\))?(?:: (?P<said>.*))?")
+KINDS = {None: "value", "because": "name", "by": "limit"}
+
+
+def end_of(lines, first):
+    """The last line of a function, by the layout of `rt fmt`: its brace stands below its head, unless it has no body or a short one."""
+    indent = FUNCTION.match(lines[first])[1]
+    has_body = False
+    for number in range(first, len(lines)):
+        line = lines[number]
+        has_body = has_body or line.endswith("{")
+        if line == indent + "}" or not has_body and line.endswith((";", "{}")):
+            return number
+    return first
+
+
+def function_at(lines, place):
+    """The first and the last line of the function around a line; of the constant, macro or import where it stands in none."""
+    for first in range(place, -1, -1):
+        if FUNCTION.match(lines[first]) and end_of(lines, first) >= place:
+            return first, end_of(lines, first)
+    first = next((number for number in range(place, -1, -1) if lines[number][:1].isalpha()), place)
+    return first, next((number for number in range(place, len(lines)) if not lines[number].startswith(" ")), place)
+
+
+def owner_of(lines, first):
+    """The line where the impl or trait begins that a function stands in."""
+    indent = len(lines[first]) - len(lines[first].lstrip())
+    heads = ((number, OWNER.match(lines[number])) for number in range(first, -1, -1))
+    return next((number for number, head in heads if head and len(head[1]) < indent), None)
+
+
+def owner_name(head):
+    """A type's name, with a trait's behind it in an impl of one."""
+    while head != (shorter := re.sub(r"<[^<>]*>", "", head)):
+        head = shorter
+    trait, _, kind = head.partition(" where ")[0].partition(" for ")
+    return "".join(re.findall(r"\w+", part)[-1] for part in (kind, trait) if re.search(r"\w", part))
+
+
+def path_at(crate, file, lines, place):
+    """The path of the function around a line: its module, its type and its name."""
+    first, _ = function_at(lines, place)
+    owner, head = owner_of(lines, first), FUNCTION.match(lines[first])
+    names = [*file.relative_to(CRATES / crate / "src").with_suffix("").parts]
+    names += [owner_name(OWNER.match(lines[owner])[2])] if owner is not None else []
+    return "::".join([*names, head[2] if head else ITEM.match(lines[first])[1]])
+
+
+def contract_at(lines, place):
+    """The function around a line with its contract, and with the ghost members that its impl begins with."""
+    first, last = function_at(lines, place)
+    owner = owner_of(lines, first)
+    if owner is None:
+        return lines[first : last + 1]
+    members = next(number for number in range(owner, len(lines)) if FUNCTION.match(lines[number]))
+    ghosts = [line for line in lines[owner:members] if not line.lstrip().startswith(("//", "#["))]
+    return ghosts + lines[first : last + 1]
+
+
+def described(crate, file, pairs):
+    """The function that a body changes, and the body's checksum."""
+    lines = file.read_text(encoding="utf-8").splitlines()
+    places = [next((at for at, line in enumerate(lines) if old in line), 0) for old, _ in pairs]
+    texts = [text for pair in pairs for text in pair] + [line for place in places for line in contract_at(lines, place)]
+    return path_at(crate, file, lines, places[0]), hashlib.sha256("\n".join(texts).encode()).hexdigest()[:12]
+
+
+def edits_of(words):
+    """The edits of these crates, or of these alone."""
+    found = sorted(CRATES.glob("*/must-fail/*.edit"))
+    return [edit for edit in found if crate_of(edit) in words or f"{crate_of(edit)}/{edit.stem}" in words]
+
+
+def crate_of(edit):
+    return edit.parent.parent.name
+
+
+def bodies_of(edits):
+    """The function and the checksum of each body, by its name and number and its crate."""
+    every = ((edit, number, change) for edit in edits for number, change in enumerate(changes(edit), 1))
+    return {(f"{edit.stem} {number}", crate_of(edit)): described(crate_of(edit), *change) for edit, number, change in every}
+
+
+def table():
+    """The lines of docs/refusals.tsv by body and crate."""
+    lines = TABLE.read_text(encoding="utf-8").splitlines()[1:] if TABLE.exists() else []
+    return {tuple(line.split("\t")[:2]): line.split("\t") for line in lines}
+
+
+def write(rows):
+    order = sorted(rows, key=lambda row: (row[1], row[0].split()[0], int(row[0].split()[1])))
+    TABLE.write_text("\n".join("\t".join(row) for row in [HEADS, *order]) + "\n", encoding="utf-8")
+
+
+def scratch(edits, room):
+    """Makes a folder in which each body of these edits is an edit of its own, and all else are links."""
+    for name in ("crates.txt", "HANDLES"):
+        (room / name).symlink_to(TOP / name)
+    for part in CRATES.glob("*/*"):
+        folder = room / "crates" / part.parent.name
+        folder.mkdir(parents=True, exist_ok=True)
+        if part.name != "must-fail":
+            (folder / part.name).symlink_to(part)
+    for edit in edits:
+        crate = CRATES / crate_of(edit)
+        alone = room / edit.parent.relative_to(TOP)
+        alone.mkdir(exist_ok=True)
+        for number, (file, pairs) in enumerate(changes(edit), 1):
+            body = "".join(f"old: {old}\nnew: {new}\n" for old, new in pairs)
+            (alone / f"{edit.stem}.{number}.edit").write_text(f"file: {file.relative_to(crate)}\n{body}", encoding="utf-8")
+
+
+def goal_of(crate, said):
+    """The goal that a line of the prover names: its function, by the folder of its proof or its place in the source, and its name."""
+    at = re.match(r"(?:note: )?(?:\./)?(src|proofs)/(\S+?):(\d+):\d+: (.*)", said or "")
+    if not at:
+        return (said or "none told").replace("\t", " ")
+    part, file, line, rest = at.groups()
+    name = re.search(r"\(`([^`]+)`" if part == "src" else r"`([^`]+)`", rest)
+    if part == "proofs":
+        path = "::".join(pathlib.Path(file).parts[:-1]) or file
+    else:
+        source = CRATES / crate / "src" / file
+        lines = source.read_text(encoding="utf-8").splitlines()
+        path = path_at(crate, source, lines, min(int(line), len(lines)) - 1)
+    return f"{path} {name[1] if name else rest}"
+
+
+def tried(edits):
+    """Tries the bodies of these edits: what `rt must-fail` says of each that was refused, and what else it says."""
+    with tempfile.TemporaryDirectory(prefix="each-edit-alone-") as room:
+        scratch(edits, pathlib.Path(room))
+        words = ["rt", "must-fail", *sorted({crate_of(edit) for edit in edits})]
+        ran = subprocess.run(words, cwd=room, env={"RT_JOBS": "4", **os.environ}, text=True, errors="replace", check=False,
+                             stdin=subprocess.DEVNULL, stdout=subprocess.PIPE, stderr=subprocess.STDOUT)
+    told = list(map(REFUSED.match, ran.stdout.splitlines()))
+    found = {(f"{it['edit']} {it['number']}", it["crate"]): it for it in told if it}
+    return found, [line for line, it in zip(ran.stdout.splitlines(), told) if not it]
+
+
+def rows_of(bodies, found):
+    """The lines of the bodies that were refused."""
+    for key, (function, checksum) in bodies.items():
+        if key in found:
+            yield [*key, function, goal_of(key[1], found[key]["said"]), KINDS[found[key]["only"]], checksum]
+
+
+def try_all(edits):
+    """Tries the bodies of these edits, writes the lines of those that were refused, and answers whether each was."""
+    bodies, begun = bodies_of(edits), time.monotonic()
+    print(f"{len(bodies)} bodies of {len(edits)} edits", flush=True)
+    found, others = tried(edits)
+    lost = [key for key in bodies if key not in found]
+    if lost:
+        print("\n".join(others))
+    if found:
+        named = {(edit.stem, crate_of(edit)) for edit in edits}
+        kept = [row for row in table().values() if (row[0].split()[0], row[1]) not in named]
+        write([*kept, *rows_of(bodies, found)])
+    each = (time.monotonic() - begun) / len(bodies)
+    print(f"{len(bodies) - len(lost)} were refused, {len(lost)} not; {each:.1f} seconds a body")
+    return not lost
+
+
+def stale():
+    """The bodies that have no line or one of another state, and the lines that have no body."""
+    rows, bodies = table(), bodies_of(CRATES.glob("*/must-fail/*.edit"))
+    for key, (function, checksum) in bodies.items():
+        if key not in rows:
+            yield f"no line: {key[1]}/{key[0]}, {function}"
+        elif rows[key][5] != checksum:
+            yield f"changed: {key[1]}/{key[0]}, {function}"
+    yield from (f"no body: {key[1]}/{key[0]}, {rows[key][2]}" for key in rows if key not in bodies)
+
+
+def main(words):
+    if words == ["--stale"]:
+        found = list(stale())
+        print("\n".join(found) if found else f"{len(table())} bodies have the line of their refusal")
+        return 1 if found else 0
+    edits = edits_of(words)
+    if not edits:
+        print("no such edit" if words else __doc__, file=sys.stderr)
+        return 2
+    return 0 if try_all(edits) else 1
+
+
+if __name__ == "__main__":
+    sys.exit(main(sys.argv[1:]))

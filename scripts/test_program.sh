@@ -1,0 +1,44 @@
+#!/usr/bin/env bash
+# Runs the program rope to each of its ends, and compares its status and its line on standard error with what they must be.
+#
+#     scripts/test_program.sh
+#
+# It needs `rt`, which proves and builds the program where that isn't done yet. Memory is refused by a limit on the program's
+# addresses, below what its input needs; a write fails at /dev/full, and a read at a folder. The status is 0 where each run
+# ended as it must.
+set -euo pipefail
+
+top=$(cd "$(dirname "$0")/.." && pwd)
+crate=$top/crates/rope
+program=$crate/out/rope
+work=$(mktemp -d)
+trap 'rm -rf "$work"' EXIT
+wrong=0
+
+(cd "$crate" && rt run < stdin > "$work/printed" 2> "$work/said") || { cat "$work/said" >&2; exit 1; }
+cmp "$work/printed" "$crate/stdout"
+
+# Runs a command, and compares its status, and what it says on standard error, with those that are wanted.
+expect() {
+    local case=$1 status=$2 line=$3 found=0 said
+    shift 3
+    said=$("$@" 2>&1 > "$work/printed") || found=$?
+    if [ "$found $said" = "$status $line" ]; then
+        echo "$case: status $found, '$said'"
+    else
+        echo "$case: status $found, '$said', and not $status, '$line'" >&2
+        wrong=1
+    fi
+}
+
+# A line that is longer than all that `in_little_memory` leaves a program.
+long_line() { printf 'text '; head -c 64M /dev/zero | tr '\0' a; echo; }
+in_little_memory() { (ulimit -v 65536; exec "$@"); }
+to_a_full_device() { "$@" > /dev/full; }
+
+expect 'the input ends' 0 '' "$program" <<< 'text a'
+expect 'a bad line' 2 'bad line 2' "$program" <<< $'text a\nfrob\nlen 0'
+expect 'memory is refused' 3 'out of memory' in_little_memory "$program" < <(long_line)
+expect 'a write fails' 4 'input or output failed' to_a_full_device "$program" <<< 'text a'
+expect 'a read fails' 4 'input or output failed' "$program" < "$work"
+exit "$wrong"
