@@ -4,7 +4,7 @@
 It reads README.md, CONTRIBUTING.md, CHANGELOG.md, docs/*.md, the README files below bindings and benchmarks, and the heads of
 modules (`//!`). In them
 
-- each word between backticks stands somewhere in a file of the tree that is no document,
+- each word between backticks stands somewhere in a file of the tree that is no document, and each file's name there is one's,
 - each link leads to a file,
 - each block of Rust, C or C++ stands in a file, line by line, perhaps further in,
 - no sentence tells of machines, days or trees that are gone,
@@ -26,6 +26,8 @@ GONE = ("machine of four cores,", "the tree before", "fifth machine", "thirteent
 # Words of the system, of Rust and of the Rust crate that no file of this tree has.
 KNOWN = set("""std rustc usize isize u64 u32 malloc realloc free no_std gcc clang callgrind fnv
     Arc FromIterator RangeBounds is_instance smallvec str_indices cr_lines unicode_lines simd axioms lasting""".split())
+# A file's name, at least the end of its path.
+FILE = re.compile(r"(?<![\w*/.])[\w./-]+\.(?:antt|cpp|c|edit|hpp|h|py|rs|rt|sh|svg|toml|tsv|txt)\b")
 # What begins with one of these is a command line.
 COMMANDS = ("rt ", "perf ", "cargo ", "git ", "rattle-kit")
 
@@ -73,6 +75,9 @@ def unknown_names(text, words, paths):
     for name in names(text):
         if name.strip("/") in paths or name.startswith(COMMANDS):
             continue
+        for file in FILE.findall(name):
+            if not any(path == file or path.endswith(f"/{file}") for path in paths) and "NAME" not in file:
+                yield f"no file {file}"
         missing = [word for word in re.findall(r"(?<![\w])[A-Za-z_]\w+", name) if not is_known(word, words)]
         if missing:
             yield f"nothing in the tree is called {' '.join(missing)}: `{name}`"

@@ -8,7 +8,7 @@ ghost use Rattle.rope_tree.specs.Tree.{text, joined, leaves_of, IsTree};
 ghost use Rattle.rope_tree.specs.Fronts.{AreFrontNodes};
 
 use crate::build::root_over;
-use crate::node_text::{first_leaf_len, join_parts};
+use crate::node_text::{first_leaf_len, text_of_parts};
 use crate::{Made, Maker, Node, NodeText, leaf_of};
 use rope_text::crlf::prev_break;
 use rope_text::{LineBreaks, MAX_BYTES, MIN_CUT_BYTES};
@@ -17,6 +17,9 @@ use std::marker::Model;
 
 // More bytes than a leaf can have, even where the last of them begin a character or are a CR.
 const MAX_AHEAD_BYTES: usize = MAX_BYTES + 4;
+
+// A leaf's bytes, and so many ahead.
+const MAX_SEAM_BYTES: usize = MAX_BYTES + MAX_AHEAD_BYTES;
 
 // Cuts the first leaf off a text that begins with `rest` and goes on with `text`, wherever it ends. Answers it, what of `rest` is
 // behind it, and how many bytes of the text are in it.
@@ -37,7 +40,7 @@ fn cut_at_seam(rest: &NodeText, text: &str) -> (NodeText, NodeText, usize)
     } else {
         prev_break(MAX_AHEAD_BYTES + 1, text.as_bytes())
     };
-    let ahead = join_parts::<1972>(first, &text[..ahead_len], "");
+    let ahead = text_of_parts::<MAX_SEAM_BYTES>(first, &text[..ahead_len], "");
     let ahead = ahead.as_str();
     let len = first_leaf_len(ahead);
     let leaf = NodeText::from_str(&ahead[..len]);

@@ -11,7 +11,7 @@ ghost use Rattle.rope_tree.specs.Insert.{TakesShort, MayInsert, IsInserted};
 ghost use Rattle.rope_tree.specs.Tries.{IsTried};
 
 use crate::beside::Least;
-use crate::counts::{ends_in_cr, leaf_with};
+use crate::leaf_edits::{ends_in_cr, leaf_with};
 use crate::node_text::halves_of;
 use crate::search::char_to_hold;
 use crate::{

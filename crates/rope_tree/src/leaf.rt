@@ -12,7 +12,7 @@ ghost use Rattle.rope_tree.specs.Insert.{IsInserted};
 ghost use Rattle.rope_tree.specs.Removal.{IsRemoved};
 
 use crate::beside::Least;
-use crate::counts::{leaf_with, put_in, take_out};
+use crate::leaf_edits::{leaf_with, put_in, take_out};
 use crate::node_text::halves_of;
 use crate::{Made, Maker, Node, NodeText, ShortText, make_leaf};
 use rope_text::{LineBreaks, MAX_BYTES, TextInfo};

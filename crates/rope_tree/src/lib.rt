@@ -13,7 +13,7 @@
 //! Modules, lowest first:
 //! - `node_text`: the text of a leaf, and where a longer one is cut
 //! - `short_text`: a text on its way into a leaf
-//! - `counts`: the counts of an edited leaf, by sums and differences
+//! - `leaf_edits`: the text of a leaf edited, and its counts by sums and differences
 //! - `leaf`: a text with its counts
 //! - `maker`: where nodes' memory comes from
 //! - `search`: running totals, and the child that holds a place
@@ -28,9 +28,9 @@ mod beside;
 pub mod build;
 mod builder;
 mod conversions;
-mod counts;
 mod edit;
 mod leaf;
+mod leaf_edits;
 mod lookup;
 mod maker;
 mod node;
@@ -40,8 +40,8 @@ mod short_text;
 
 pub use builder::Builder;
 pub use conversions::{convert, convert_in, first_sought};
-pub use counts::shared_breaks;
 pub use edit::{insert_at, is_lf, remove_at};
+pub use leaf_edits::shared_breaks;
 pub use lookup::{Found, byte_at, char_at, leaf_at, leaf_count};
 pub use maker::{Made, Maker};
 pub use node::row::{Row, node_over, pack, pack_over, root_of};

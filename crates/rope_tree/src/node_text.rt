@@ -15,7 +15,11 @@ use std::marker::Model;
 use std::str;
 
 // One text of three.
-pub(crate) fn join_parts<const N: usize>(first: &str, second: &str, third: &str) -> ArrayString<N>
+pub(crate) fn text_of_parts<const N: usize>(
+    first: &str,
+    second: &str,
+    third: &str,
+) -> ArrayString<N>
     requires { (length first.now + length second.now) + length third.now ≤ N }
     ensures { result.bytes ≡ first.now ++ (second.now ++ third.now) }
 {

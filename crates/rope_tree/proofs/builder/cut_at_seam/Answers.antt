@@ -23,13 +23,13 @@ ahead c = elim c.if-text-le-MAX_AHEAD_BYTES.branch [
 pub first_leaf_len-len-requires : goal.first_leaf_len-len-requires
 first_leaf_len-len-requires c =
     let p = ahead (goal.at.first_leaf_len-len-requires c).After-range in
-    omega (arith, p.0, c.requires, ap length c.as_str-first.ensures.bytes, c.range.ensures.len, ap length (c.as_str-ahead.ensures.value ∙ c.join_parts-ahead.ensures), length-append c.as_str-first.result.now (c.range.result.now ++ []), length-append c.range.result.now [])
+    omega (arith, p.0, c.requires, ap length c.as_str-first.ensures.bytes, c.range.ensures.len, ap length (c.as_str-ahead.ensures.value ∙ c.text_of_parts-ahead.ensures), length-append c.as_str-first.result.now (c.range.result.now ++ []), length-append c.range.result.now [])
 
 off : (c : After-from_str-leaf) → (min 985 (length c.args.text.now) ≤ c.if-text-le-MAX_AHEAD_BYTES.ahead_len) × (c.if-text-le-MAX_AHEAD_BYTES.ahead_len ≤ length c.args.text.now) → IsCutOff (c.as_str-first.result.now ++ c.args.text.now) c.first_leaf_len-len.result
 off c p =
     let r = c.first_leaf_len-len in
     two_parts c.as_str-first.result.now c.args.text.now c.range.result.now c.as_str-ahead.result.now c.if-text-le-MAX_AHEAD_BYTES.ahead_len r.result c.as_str-first.utf8 c.utf8.text p.1 c.range.ensures.value
-    (c.as_str-ahead.ensures.value ∙ c.join_parts-ahead.ensures) (omega (arith, r.ensures.long)) (omega (arith, r.ensures.short, ap length c.as_str-first.ensures.bytes, p.0, c.requires)) r.ensures.cut
+    (c.as_str-ahead.ensures.value ∙ c.text_of_parts-ahead.ensures) (omega (arith, r.ensures.long)) (omega (arith, r.ensures.short, ap length c.as_str-first.ensures.bytes, p.0, c.requires)) r.ensures.cut
 
 leaf_is : (c : After-from_str-leaf) → (min 985 (length c.args.text.now) ≤ c.if-text-le-MAX_AHEAD_BYTES.ahead_len) × (c.if-text-le-MAX_AHEAD_BYTES.ahead_len ≤ length c.args.text.now) → c.from_str-leaf.result ≡ chars (take c.first_leaf_len-len.result (c.as_str-first.result.now ++ c.args.text.now))
 leaf_is c p =
@@ -38,7 +38,7 @@ leaf_is c p =
     ∙ ap chars
     (c.range-2.ensures.value
     ∙ leaf_part c.as_str-first.result.now c.args.text.now c.range.result.now c.as_str-ahead.result.now c.if-text-le-MAX_AHEAD_BYTES.ahead_len r.result c.as_str-first.utf8 c.utf8.text p.1 c.range.ensures.value
-    (c.as_str-ahead.ensures.value ∙ c.join_parts-ahead.ensures) (omega (arith, r.ensures.long)) (omega (arith, r.ensures.short, ap length c.as_str-first.ensures.bytes, p.0, c.requires)) r.ensures.cut)
+    (c.as_str-ahead.ensures.value ∙ c.text_of_parts-ahead.ensures) (omega (arith, r.ensures.long)) (omega (arith, r.ensures.short, ap length c.as_str-first.ensures.bytes, p.0, c.requires)) r.ensures.cut)
 
 whole_is : (c : After-from_str-leaf) → chars (c.as_str-first.result.now ++ c.args.text.now) ≡ c.args.rest.now ++ chars c.args.text.now
 whole_is c = chars-append c.as_str-first.result.now c.args.text.now c.as_str-first.utf8 ∙ ap (λ x. x ++ chars c.args.text.now) c.as_str-first.ensures.chars

@@ -8,7 +8,7 @@ use Rattle.rope_text.specs.Breaks.{ends_in_cr}
 use Rattle.rope_text.proofs.Walks.{byte_len-chars}
 use Rattle.rope_text.proofs.LastBreakLaws.{last_cr}
 use Rattle.rope_tree.proofs.BuildLaws.{no_chars}
-use Rattle.rope_tree.proofs.counts.ends_in_cr.Goals as goal
+use Rattle.rope_tree.proofs.leaf_edits.ends_in_cr.Goals as goal
 
 pub returns-then-not-is_empty : goal.returns-then-not-is_empty
 returns-then-not-is_empty c =

@@ -6,8 +6,8 @@ use Rattle.rope_text.specs.TextInfo.{info_of}
 use Rattle.rope_text.specs.Edit.{inserted}
 use Rattle.rope_text.proofs.TextParts.{chars_front, chars_back}
 use Rattle.rope_tree.proofs.InsertTrees.{inserted_is}
-use Rattle.rope_tree.proofs.counts.leaf_with.Goals.{After-range_from-back, After-as_str-added}
-use Rattle.rope_tree.proofs.counts.leaf_with.Goals as goal
+use Rattle.rope_tree.proofs.leaf_edits.leaf_with.Goals.{After-range_from-back, After-as_str-added}
+use Rattle.rope_tree.proofs.leaf_edits.leaf_with.Goals as goal
 
 place_is : (c : After-range_from-back) → c.char_to_byte_idx-place.result ≡ byte_len (take c.args.at (chars c.as_str-text.result.now))
 place_is c = c.char_to_byte_idx-place.ensures.value ∙ ap (λ s. byte_len (take c.args.at s)) (sym c.as_str-text.ensures.chars)
@@ -37,7 +37,7 @@ pub returns-clause-text : goal.returns-clause-text
 returns-clause-text c =
     let e = (goal.at.returns-clause-text c).After-range_from-back in
     let text = c.as_str-added.result.now in
-    ap chars c.join_parts.ensures
+    ap chars c.text_of_parts.ensures
     ∙ chars-append c.range-front.result.now (text ++ c.range_from-back.result.now) c.range-front.utf8
     ∙ ap (λ r. chars c.range-front.result.now ++ r) (chars-append text c.range_from-back.result.now c.as_str-added.utf8)
     ∙ whole e (chars text) c.as_str-added.ensures.chars

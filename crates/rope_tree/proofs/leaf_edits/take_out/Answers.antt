@@ -15,11 +15,11 @@ use Rattle.rope_tree.proofs.BuildLaws.{no_chars}
 use Rattle.rope_tree.proofs.RemovalEnds.{ends_of_both, ends_of_back, ends_of_front}
 use Rattle.rope_text.proofs.TextParts.{chars_front, chars_back}
 use Rattle.rope_text.proofs.Walks.{byte_len-chars}
-use Rattle.rope_tree.proofs.counts.take_out.Goals.{After-as_str-text, After-range_from-back, After-shared_breaks-meeting, After-remove_bytes, then-is_empty, else-is_empty, then-is_empty-2, else-is_empty-2}
+use Rattle.rope_tree.proofs.leaf_edits.take_out.Goals.{After-as_str-text, After-range_from-back, After-shared_breaks-meeting, After-remove_bytes, then-is_empty, else-is_empty, then-is_empty-2, else-is_empty-2}
 use Rattle.rope_tree.proofs.Infos.{small_info}
 use Rattle.rope_tree.proofs.CountLaws.{Uncounts, uncounts}
 use Rattle.rope_tree.proofs.RemovalLaws.{byte_len-removed}
-use Rattle.rope_tree.proofs.counts.take_out.Goals as goal
+use Rattle.rope_tree.proofs.leaf_edits.take_out.Goals as goal
 
 -- the three parts of a text, cut at the bytes of two characters
 record IsParted (cs front part back : List ℕ) (start end : ℕ) : Type 0 where

@@ -7,8 +7,8 @@ use Rattle.rope_text.proofs.NarrowTexts.{narrow_front}
 use Rattle.rope_text.specs.Edit.{inserted}
 use Rattle.rope_tree.proofs.InsertTrees.{inserted_is}
 use Rattle.rope_tree.proofs.NodeTexts.{inserted_chars}
-use Rattle.rope_tree.proofs.counts.put_in.Goals.{After-range_from, Joined-info, then-info, else-info}
-use Rattle.rope_tree.proofs.counts.put_in.Goals as goal
+use Rattle.rope_tree.proofs.leaf_edits.put_in.Goals.{After-range_from, Joined-info, then-info, else-info}
+use Rattle.rope_tree.proofs.leaf_edits.put_in.Goals as goal
 
 -- where there are as many bytes as characters, a character's number is its byte's
 place_is : (c : Joined-info) → c.if-info.place ≡ byte_len (take c.args.at (chars c.as_str-text.result.now))

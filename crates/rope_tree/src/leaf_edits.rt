@@ -1,4 +1,4 @@
-//! Counts of a text after an edit, by sums and differences.
+//! The text of a leaf edited, and its counts by sums and differences.
 ghost use Rattle.std.specs.Prelude.{◌≡◌, ◌+◌, ◌<◌, ◌≤◌, ◌++◌, true, length, IfSome, IfNone};
 ghost use Rattle.std.specs.Str.{chars, all_scalars};
 ghost use Rattle.rope_text.specs.declared.TheConstants.{MAX_BYTES, MAX_SHORT_BYTES};
@@ -8,7 +8,7 @@ ghost use Rattle.rope_text.specs.Edit.{inserted, removed};
 ghost use Rattle.rope_text.specs.Breaks.{begins_with_lf, ends_in_cr};
 ghost use Rattle.rope_tree.specs.Removal.{KeepsEnds};
 
-use crate::node_text::join_parts;
+use crate::node_text::text_of_parts;
 use crate::{NodeText, ShortText};
 use arrayvec::ArrayString;
 use rope_text::str_utils::char_to_byte_idx_of;
@@ -87,7 +87,7 @@ pub(crate) fn leaf_with(
     let back = &text[place..];
     let added = added.as_str();
     let info = info_between(info, front, added, back, breaks);
-    (join_parts(front, added, back), info)
+    (text_of_parts(front, added, back), info)
 }
 
 /// Puts a text before the character `at` of a leaf that has room for it, and gives the counts of the whole, by those of what

@@ -8,8 +8,8 @@ use Rattle.rope_tree.specs.Search.{IsSmall}
 use Rattle.rope_tree.proofs.Infos.{small_info}
 use Rattle.rope_tree.proofs.InsertTrees.{inserted_is}
 use Rattle.rope_tree.proofs.CountLaws.{Corrects, corrects, info_apart}
-use Rattle.rope_tree.proofs.counts.info_between.Goals.{After-of_short, After-shared_breaks-2}
-use Rattle.rope_tree.proofs.counts.info_between.Goals as goal
+use Rattle.rope_tree.proofs.leaf_edits.info_between.Goals.{After-of_short, After-shared_breaks-2}
+use Rattle.rope_tree.proofs.leaf_edits.info_between.Goals as goal
 
 old : (c : After-of_short) → IsSmall c.args.info
 old c = rw c.requires.info (small_info c.args.breaks (chars c.args.front.now ++ chars c.args.back.now) (omega (arith, ap (λ i. i.bytes) c.requires.info, c.requires.fits)))
