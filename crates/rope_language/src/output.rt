@@ -2,6 +2,7 @@
 ghost use Rattle.std.specs.Prelude.{◌≡◌, ◌+◌, ◌≤◌, ◌++◌, [], length, OnOk};
 ghost use Rattle.std.specs.Io.KnownBytes.{Appends};
 ghost use Rattle.rope_language.specs.Serving.{Puts};
+ghost use Rattle.rope_language.specs.declared.output.TheConstants.{OUTPUT_BYTES};
 
 use std::io::{self, Write};
 use std::marker::Model;
@@ -20,12 +21,13 @@ pub(crate) struct Output {
 
 impl Model for Output {
     ghost use Rattle.std.specs.Prelude.{ℕ, List, take, ◌≤◌};
+    ghost use Rattle.rope_language.specs.declared.output.TheConstants.{OUTPUT_BYTES};
 
     ghost Value = { List ℕ };
 
     ghost view = { λ o. take o.filled o.buffer };
 
-    ghost invariant = { λ o. o.filled ≤ 8192 };
+    ghost invariant = { λ o. o.filled ≤ OUTPUT_BYTES };
 }
 
 impl Output {
@@ -58,7 +60,7 @@ impl Output {
 
     /// Adds a reply for which there is room.
     fn gather(&mut self, reply: &[u8])
-        requires { length self.old + length reply.now ≤ 8192 }
+        requires { length self.old + length reply.now ≤ OUTPUT_BYTES }
         ensures { self.new ≡ self.old ++ reply.now }
     {
         let end = self.filled + reply.len();

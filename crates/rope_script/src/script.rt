@@ -4,7 +4,7 @@ use std::cmp::Ordering;
 
 /// The number of a rope, and a range of its characters by start and excluded end, or `None` for the
 /// whole rope.
-pub type Part = (usize, Option<(usize, usize)>);
+pub type Passage = (usize, Option<(usize, usize)>);
 
 /// What a session may be asked to do.
 ///
@@ -22,7 +22,7 @@ pub enum Command {
     /// Makes a clone of a rope, in the same chunks.
     Clone(usize),
     /// Makes a rope of a part of a rope, with its line breaks.
-    Copy(Part),
+    Copy(Passage),
     /// In a rope, before the character of this index, inserts a text.
     Insert(usize, usize, String),
     /// In a rope, before the character of this index, inserts a character.
@@ -74,7 +74,7 @@ pub enum At {
 
 /// What a cursor steps through.
 #[derive(Clone, Copy, PartialEq, Eq, Debug)]
-pub enum Unit {
+pub enum Items {
     /// Bytes, from the one of an index on.
     Bytes,
     /// Characters, from the one of an index on.
@@ -118,9 +118,9 @@ pub enum Query {
     /// The chunk that an index looks up.
     ChunkAt(At, usize),
     /// What a cursor gives that starts at an index and does these moves.
-    Walk(Unit, usize, Vec<Move>),
+    Walk(Items, usize, Vec<Move>),
     /// How it is ordered against another part.
-    Compare(Part),
+    Compare(Passage),
     /// The position of a character: its line, and its column in code units of UTF-16.
     ToPosition(usize),
     /// The character at a line and a column.

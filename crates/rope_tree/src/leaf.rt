@@ -1,5 +1,5 @@
 //! Leaves: a text with its counts and its set of line breaks.
-ghost use Rattle.std.specs.Prelude.{◌≡◌, ◌+◌, ◌<◌, ◌≤◌, [], ◌∷◌, true, false, length, IfOk, OnErr, IfSome, IfNone};
+ghost use Rattle.std.specs.Prelude.{◌≡◌, ◌+◌, ◌/◌, ◌<◌, ◌≤◌, [], ◌∷◌, true, false, length, IfOk, OnErr, IfSome, IfNone};
 ghost use Rattle.std.specs.Str.{chars};
 ghost use Rattle.rope_text.specs.Text.{byte_len};
 ghost use Rattle.rope_text.specs.TextInfo.{info_of};
@@ -59,7 +59,7 @@ impl Summary {
     /// These counts, by this set.
     fn new(breaks: LineBreaks, info: TextInfo) -> Summary
         requires chars { info.chars ≤ MAX_BYTES }
-        requires surrogates { info.utf16_surrogates ≤ 246 }
+        requires surrogates { info.utf16_surrogates ≤ MAX_BYTES / 4 }
         requires break_count { info.break_count ≤ MAX_BYTES }
         requires bytes { info.bytes ≤ MAX_BYTES }
         ensures breaks { result.breaks ≡ breaks }
