@@ -35,7 +35,7 @@ fn insert_into_leaf(
     ensures ok { IfOk result (λ nodes.
         IsInserted node.now (trees_in nodes) (inserted leaf.now at added.now)) }
     ensures made { maker.new.made ≤ maker.old.made + 2 }
-    ensures some_made { maker.old.made < 18446744073709551615 → maker.old.made < maker.new.made }
+    ensures some_made { maker.old.made + 1 < 2 ^ 64 → maker.old.made < maker.new.made }
     ensures rises { maker.old.made ≤ maker.new.made }
 {
     let breaks = node.line_breaks();
@@ -67,7 +67,7 @@ fn insert(
     ensures ok { IfOk result (λ nodes.
         IsInserted node.now (trees_in nodes) (inserted (text node.now) at added.now)) }
     ensures made { maker.new.made ≤ maker.old.made + 2 * node.now.height + 2 }
-    ensures some_made { maker.old.made < 18446744073709551615 → maker.old.made < maker.new.made }
+    ensures some_made { maker.old.made + 1 < 2 ^ 64 → maker.old.made < maker.new.made }
     ensures rises { maker.old.made ≤ maker.new.made }
 {
     match node.view() {

@@ -24,7 +24,7 @@ impl Maker {
     /// Counts a node that is made.
     pub(crate) fn add_made(&mut self)
         ensures most { self.new.made ≤ self.old.made + 1 }
-        ensures added { self.old.made < 18446744073709551615 → self.new.made ≡ self.old.made + 1 }
+        ensures added { self.old.made + 1 < 2 ^ 64 → self.new.made ≡ self.old.made + 1 }
         ensures rises { self.old.made ≤ self.new.made }
     {
         self.made = self.made.saturating_add(1);

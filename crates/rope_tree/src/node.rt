@@ -1,5 +1,5 @@
 //! Nodes: an empty text, or a pointer to a leaf or to a list of children. No other module sees their fields.
-ghost use Rattle.std.specs.Prelude.{◌≡◌, ◌+◌, ◌<◌, ◌≤◌, List, length, IfOk};
+ghost use Rattle.std.specs.Prelude.{◌≡◌, ◌+◌, ◌^◌, ◌<◌, ◌≤◌, List, length, IfOk};
 ghost use Rattle.std.specs.Str.{chars};
 ghost use Rattle.rope_text.specs.declared.TheConstants.{MAX_BYTES, MAX_CHILDREN, MAX_HEIGHT};
 ghost use Rattle.rope_text.specs.TextInfo.{info_of};
@@ -207,7 +207,7 @@ pub fn make_leaf(maker: &mut Maker, breaks: LineBreaks, text: &str, info: TextIn
     ensures ok { IfOk result (λ node. node ≡ leaf_tree breaks (chars text.now)) }
     ensures tree { IfOk result (λ node. IsTree node) }
     ensures made { maker.new.made ≤ maker.old.made + 1 }
-    ensures added { maker.old.made < 18446744073709551615 → maker.new.made ≡ maker.old.made + 1 }
+    ensures added { maker.old.made + 1 < 2 ^ 64 → maker.new.made ≡ maker.old.made + 1 }
     ensures rises { maker.old.made ≤ maker.new.made }
 {
     maker.add_made();
@@ -225,7 +225,7 @@ pub fn leaf_of(maker: &mut Maker, breaks: LineBreaks, text: &str) -> Made<Node>
     ensures ok { IfOk result (λ node. node ≡ leaf_tree breaks (chars text.now)) }
     ensures tree { IfOk result (λ node. IsTree node) }
     ensures made { maker.new.made ≤ maker.old.made + 1 }
-    ensures added { maker.old.made < 18446744073709551615 → maker.new.made ≡ maker.old.made + 1 }
+    ensures added { maker.old.made + 1 < 2 ^ 64 → maker.new.made ≡ maker.old.made + 1 }
 {
     let info = TextInfo::from_str(text, breaks);
     make_leaf(maker, breaks, text, info)

@@ -1,6 +1,6 @@
 //! Edits where the nodes stand: inserts of short texts, for which a leaf without room is cut into two, and removals of characters from
 //! one leaf. Each is one way down, on which a node that is shared is copied.
-ghost use Rattle.std.specs.Prelude.{◌≡◌, ◌+◌, ◌<◌, ◌≤◌, ◌-◌, [], ◌∷◌, true, false, length, take, slice_index_or, Ok, IfOk, OnErr, IfSome, IfNone};
+ghost use Rattle.std.specs.Prelude.{◌≡◌, ◌+◌, ◌<◌, ◌≤◌, ◌-◌, ◌^◌, [], ◌∷◌, true, false, length, take, slice_index_or, Ok, IfOk, OnErr, IfSome, IfNone};
 ghost use Rattle.std.specs.List.{insert};
 ghost use Rattle.rope_text.specs.declared.TheConstants.{MAX_SHORT_BYTES};
 ghost use Rattle.rope_text.specs.Text.{byte_len};
@@ -26,6 +26,7 @@ use std::rc::Rc;
 fn copy_leaf(leaf: &mut Rc<Leaf>, maker: &mut Maker) -> Made<()>
     ensures same { leaf.new.value ≡ leaf.old.value }
     ensures made { maker.new.made ≤ maker.old.made + 1 }
+    ensures added { maker.old.made + 1 < 2 ^ 64 → maker.new.made ≡ maker.old.made + 1 }
 {
     maker.add_made();
     *leaf = Leaf::of_text(
@@ -43,6 +44,7 @@ fn copy_children(children: &mut Rc<Children>, maker: &mut Maker) -> Made<()>
     requires { AreFamily children.old.value }
     ensures same { children.new.value ≡ children.old.value }
     ensures made { maker.new.made ≤ maker.old.made + 1 }
+    ensures added { maker.old.made + 1 < 2 ^ 64 → maker.new.made ≡ maker.old.made + 1 }
 {
     let (nodes, totals) = children.parts();
     *children = list_of(maker, (Row::of(nodes, totals), &[], Row::none()))?;

@@ -1,5 +1,5 @@
 //! Nodes put side by side, and the nodes over them.
-ghost use Rattle.std.specs.Prelude.{◌≡◌, ◌+◌, ◌*◌, ◌<◌, ◌≤◌, ◌++◌, [], length, take, drop, IfOk, OnOk};
+ghost use Rattle.std.specs.Prelude.{◌≡◌, ◌+◌, ◌*◌, ◌^◌, ◌<◌, ◌≤◌, ◌++◌, [], length, take, drop, IfOk, OnOk};
 ghost use Rattle.rope_text.specs.declared.TheConstants.{MAX_CHILDREN};
 ghost use Rattle.rope_tree.specs.Tree.{breaks_of, leaves_of, tree_over, AreFamily};
 ghost use Rattle.rope_tree.specs.Totals.{HasTotals, IsTotalOf};
@@ -114,7 +114,7 @@ pub(super) fn list_of(maker: &mut Maker, rows: Rows<'_>) -> Made<Rc<Children>>
     ensures ok { IfOk result (λ list. list.value
         ≡ rows.entry.0.nodes.now ++ (rows.entry.1.now ++ rows.entry.2.nodes.now)) }
     ensures made { maker.new.made ≤ maker.old.made + 1 }
-    ensures added { maker.old.made < 18446744073709551615 → maker.new.made ≡ maker.old.made + 1 }
+    ensures added { maker.old.made + 1 < 2 ^ 64 → maker.new.made ≡ maker.old.made + 1 }
     ensures rises { maker.old.made ≤ maker.new.made }
 {
     maker.add_made();
@@ -161,7 +161,7 @@ fn make_over(maker: &mut Maker, rows: Rows<'_>) -> Made<Node>
     ensures ok { IfOk result (λ node. node
         ≡ tree_over (rows.entry.0.nodes.now ++ (rows.entry.1.now ++ rows.entry.2.nodes.now))) }
     ensures made { maker.new.made ≤ maker.old.made + 1 }
-    ensures added { maker.old.made < 18446744073709551615 → maker.new.made ≡ maker.old.made + 1 }
+    ensures added { maker.old.made + 1 < 2 ^ 64 → maker.new.made ≡ maker.old.made + 1 }
     ensures rises { maker.old.made ≤ maker.new.made }
 {
     let form = Form::Inner(list_of(maker, rows)?);
@@ -173,7 +173,7 @@ pub fn node_over(maker: &mut Maker, nodes: &[Node]) -> Made<Node>
     requires { AreFamily nodes.now }
     ensures ok { IfOk result (λ node. node ≡ tree_over nodes.now) }
     ensures made { maker.new.made ≤ maker.old.made + 1 }
-    ensures added { maker.old.made < 18446744073709551615 → maker.new.made ≡ maker.old.made + 1 }
+    ensures added { maker.old.made + 1 < 2 ^ 64 → maker.new.made ≡ maker.old.made + 1 }
     ensures rises { maker.old.made ≤ maker.new.made }
 {
     make_over(maker, (Row::none(), nodes, Row::none()))
