@@ -5,8 +5,8 @@
 #
 # It needs `rt`, which proves the library first (and the crates below it; what was proved before in this checkout is not
 # proved again), and `ar`. The archive is crates/ropey_c/out/libropey.a, or the file that is named. What the kit's archive
-# has for memory, three functions over malloc, realloc and free, is merged into it. The script says what it does, and how
-# far the proofs are.
+# has for memory, three functions over malloc, realloc and free, is merged into it. Beside it libropey.sources says of which
+# sources it was built. The script says what it does, and how far the proofs are.
 set -euo pipefail
 
 top=$(cd "$(dirname "$0")/.." && pwd)
@@ -26,4 +26,5 @@ tail -n 1 "$work/proofs"
 cp "$top/crates/ropey_c/out/libropey_c.a" "$work/libropey.a"
 (cd "$work" && ar x "$heap" && ar rs libropey.a ./*.o)
 cp "$work/libropey.a" "$archive"
+"$top/scripts/find_c_library.sh" --sources > "${archive%.a}.sources"
 echo "built $archive"

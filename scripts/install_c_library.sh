@@ -6,7 +6,7 @@
 # It builds the archive first (scripts/build_c_library.sh; `rt` and `ar` are needed), and leaves
 #
 #     PREFIX/include/ropey.h, ropey.hpp
-#     PREFIX/lib/libropey.a
+#     PREFIX/lib/libropey.a, libropey.sources
 #     PREFIX/lib/pkgconfig/ropey.pc              cc editor.c $(pkg-config --cflags --libs ropey)
 #     PREFIX/lib/cmake/ropey/ropey-config.cmake  find_package(ropey), target_link_libraries(editor ropey::ropey)
 set -euo pipefail
@@ -22,12 +22,13 @@ cp "$header" "$top/bindings/c/ropey.hpp" "$prefix/include"
 
 cat > "$prefix/lib/pkgconfig/ropey.pc" <<EOF
 prefix=\${pcfiledir}/../..
+libdir=\${prefix}/lib
 
 Name: ropey
 Description: A text buffer for editors, proved correct
 Version: $version
 Cflags: -I\${prefix}/include
-Libs: -L\${prefix}/lib -lropey
+Libs: -L\${libdir} -lropey
 EOF
 
 cat > "$prefix/lib/cmake/ropey/ropey-config.cmake" <<'EOF'

@@ -1,8 +1,10 @@
 #!/usr/bin/env bash
 # Builds the library for C, and runs its programs and tests.
 #
-#     scripts/test_c_library.sh [CALLS]
+#     scripts/test_c_library.sh [--built] [CALLS]
 #
+# With --built it builds nothing: it takes the archive that scripts/find_c_library.sh finds, and says so in one line where there
+# is none of these sources.
 # It needs `rt`, `ar` and a C compiler (`cc`, or the one that CC names); the C++ test needs `c++` (or CXX). CALLS is how many
 # random calls are compared with a plain text, 20,000 if it isn't given. Where a compiler is missing the script says so in
 # one line, and ends well. The status is 0 where everything that could be run was as it must be.
@@ -11,6 +13,14 @@ set -euo pipefail
 top=$(cd "$(dirname "$0")/.." && pwd)
 here=$top/bindings/c
 library=$top/crates/ropey_c/out/libropey.a
+if [ "${1:-}" = --built ]; then
+    shift
+    if ! library=$("$top/scripts/find_c_library.sh"); then
+        echo 'C and C++: not tested, since no archive is built of these sources (scripts/build_c_library.sh)'
+        exit 0
+    fi
+    is_built=yes
+fi
 calls=${1:-20000}
 work=$(mktemp -d)
 trap 'rm -rf "$work"' EXIT
@@ -23,7 +33,7 @@ if ! command -v "$cc" > /dev/null; then
     echo "C: not tested, since there is no C compiler ($cc)"
     exit 0
 fi
-"$top/scripts/build_c_library.sh" "$library"
+[ -n "${is_built:-}" ] || "$top/scripts/build_c_library.sh" "$library"
 
 # Strict C11 from here on, warnings are errors; `checked` is the same under the address checker.
 strict="-std=c11 -pedantic -Wall -Wextra -Werror -I$here"

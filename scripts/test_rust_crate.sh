@@ -1,8 +1,10 @@
 #!/usr/bin/env bash
 # Builds and tests the Rust crate in bindings/rust over the library for C.
 #
-#     scripts/test_rust_crate.sh
+#     scripts/test_rust_crate.sh [--built]
 #
+# With --built it takes the archive that scripts/find_c_library.sh finds, and says so in one line where there is none of these
+# sources.
 # It needs `cargo`, and the archive libropey.a: in the folder that ROPEY_LIB_DIR names, or as `pkg-config` finds it, or where
 # scripts/build_c_library.sh leaves it. Nothing is fetched, and nothing is left in the checkout. The tests run for each set of
 # line breaks, and with ropes that are shared between threads. Where there is no cargo, one line says so. The status is 0
@@ -15,6 +17,15 @@ crate=$top/bindings/rust
 if ! command -v cargo > /dev/null; then
     echo 'Rust crate: not tried, as there is no cargo'
     exit 0
+fi
+
+if [ "${1:-}" = --built ]; then
+    if ! library=$("$top/scripts/find_c_library.sh"); then
+        echo 'Rust crate: not tested, since no archive is built of these sources (scripts/build_c_library.sh)'
+        exit 0
+    fi
+    ROPEY_LIB_DIR=$(dirname "$library")
+    export ROPEY_LIB_DIR
 fi
 
 # The crate is to stay thin: code alone, without comments and blank lines.

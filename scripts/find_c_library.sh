@@ -1,0 +1,41 @@
+#!/usr/bin/env bash
+# Prints where an archive libropey.a lies that was built of the sources as they stand, or fails.
+#
+#     scripts/find_c_library.sh            # the archive's path
+#     scripts/find_c_library.sh --sources  # the checksum of the sources that an archive is made of
+#
+# An archive is looked for in the folder that ROPEY_LIB_DIR names, where scripts/build_c_library.sh leaves it, and where
+# pkg-config finds it. Beside it lies libropey.sources, with the checksum of the sources that it was built of.
+set -euo pipefail
+cd "$(dirname "$0")/.."
+
+# The code of ropey_c and of all crates that it stands on.
+sources() {
+    awk -F: '
+        { split($1, name, " "); below[name[1]] = $2 }
+        END {
+            list[1] = "ropey_c"
+            for (last = 1; at < last;) {
+                crate = list[++at]
+                if (crate in below && !seen[crate]++) print crate
+                for (count = split(below[crate], names, " "); count > 0; count--)
+                    if (!seen[names[count]]) list[++last] = names[count]
+            }
+        }' crates.txt | sort | while read -r crate; do
+        if [ -d "crates/$crate" ]; then find "crates/$crate/src" -name '*.rt' | sort; fi
+    done
+}
+
+sum=$(sources | xargs cat | sha256sum | cut -c1-16)
+if [ "${1:-}" = --sources ]; then
+    echo "$sum"
+    exit
+fi
+installed=$(pkg-config --variable=libdir ropey 2> /dev/null || true)
+for folder in "${ROPEY_LIB_DIR:-}" crates/ropey_c/out "$installed"; do
+    if [ -f "$folder/libropey.a" ] && [ "$(cat "$folder/libropey.sources" 2> /dev/null)" = "$sum" ]; then
+        realpath "$folder/libropey.a"
+        exit
+    fi
+done
+exit 1
