@@ -1,5 +1,5 @@
 -- The counts at the two ends of a part of a part.
-use Rattle.std.proofs.Common.{◌≡◌, ℕ, ◌+◌, ◌-◌, ◌^◌, ◌<◌, ◌≤◌, Bool, false, ◌&&◌, cond, List, length, take, drop, refl, sym, ap, ◌∙◌, arith}
+use Rattle.std.proofs.Common.{◌≡◌, ℕ, ◌+◌, ◌-◌, ◌^◌, ◌<◌, ◌≤◌, false, List, length, take, drop, refl, sym, ap, ◌∙◌, arith}
 use Rattle.std.specs.List.{slice_range}
 use Rattle.std.proofs.lemmas.List.{length-take-le}
 use Rattle.rope_text.specs.declared.line_breaks.LineBreaks.{LineBreaks}
@@ -7,12 +7,11 @@ use Rattle.rope_text.specs.declared.text_info.TextInfo.{TextInfo}
 use Rattle.rope_text.specs.Content.{Content}
 use Rattle.rope_text.specs.Text.{byte_len, surrogate_count}
 use Rattle.rope_text.specs.TextInfo.{info_of, info_sum}
-use Rattle.rope_text.specs.Breaks.{is_break_char, break_count}
-use Rattle.rope_text.specs.Conversions.{byte_to_char, char_to_line}
+use Rattle.rope_text.specs.Breaks.{break_count}
+use Rattle.rope_text.specs.Conversions.{byte_to_char}
 use Rattle.rope_text.specs.Cutting.{parts_crlf}
 use Rattle.rope_text.proofs.ConversionLaws.{byte_to_char-char_to_byte}
 use Rattle.rope_text.proofs.Measures.{IsMeasure-byte_len}
-use Rattle.rope_text.proofs.BreakLaws.{joins_break}
 use Rattle.rope_text.proofs.InfoLaws.{surrogate_count-append, info_of-append_apart}
 use Rattle.rope_text.proofs.LineSeams.{parts_crlf-take}
 use Rattle.rope_text.proofs.SliceLaws.{breaks_apart}

@@ -8,7 +8,7 @@ use Rattle.rope_text.specs.Bits.{ones_below}
 use Rattle.rope_text.specs.Bytes.{begins_char, begins_pair}
 use Rattle.rope_text.specs.ByteBreaks.{breaks_at, byte_break_count}
 use Rattle.rope_text.specs.Marks.{IsBlockMask, marks}
-use Rattle.rope_text.specs.Scan.{IsBreakBack, GoesBack}
+use Rattle.rope_text.specs.Scan.{GoesBack}
 use Rattle.rope_text.proofs.BitLaws.{found_mark, no_marks, one_at_most}
 use Rattle.rope_text.proofs.Blocks.{count_by-drop, byte_break_count-drop}
 

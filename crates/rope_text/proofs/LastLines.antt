@@ -19,7 +19,7 @@ use Rattle.rope_text.proofs.Blocks.{count_by-front}
 use Rattle.rope_text.proofs.ConversionLaws.{byte_to_char-le-length}
 use Rattle.rope_text.proofs.Fronts.{begins_before, pairs_before, line_place}
 use Rattle.rope_text.proofs.InfoLaws.{same_info, info_of-append_apart}
-use Rattle.rope_text.proofs.LineLaws.{line_start_before, line_start_mono, line_start-le-length}
+use Rattle.rope_text.proofs.LineLaws.{line_start_before, line_start_mono}
 use Rattle.rope_text.proofs.LineSeams.{line_start_apart, last_start_none}
 use Rattle.rope_text.proofs.Measures.{IsMeasure-byte_len, size_le}
 use Rattle.rope_text.proofs.Scans.{line_front}

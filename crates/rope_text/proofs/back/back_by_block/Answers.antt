@@ -1,8 +1,6 @@
-use Rattle.std.proofs.Common.{◌≡◌, ◌+◌, ◌≤◌, ◌<◌, ◌-◌, ◌/◌, ◌^◌, ℕ, true, false, length, drop, refl, ap, ◌∙◌, arith}
+use Rattle.std.proofs.Common.{◌≡◌, ◌+◌, ◌≤◌, ◌-◌, ◌/◌, ◌^◌, ℕ, refl, arith}
 use Rattle.rope_text.specs.declared.lanes.Mark.TheVariants.{Char, Pair, Break}
 use Rattle.rope_text.specs.Bits.{ones_below}
-use Rattle.rope_text.specs.Marks.{marks}
-use Rattle.rope_text.specs.Scan.{GoesBack}
 use Rattle.rope_text.proofs.Backs.{never, in_block, block_break}
 use Rattle.rope_text.proofs.BitLaws.{ones_le, ones_more}
 use Rattle.rope_text.proofs.back.back_by_block.Goals as goal

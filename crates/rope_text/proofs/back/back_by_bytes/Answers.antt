@@ -1,9 +1,8 @@
-use Rattle.std.proofs.Common.{◌≡◌, ◌+◌, ◌≤◌, ◌<◌, ◌-◌, ℕ, Bool, true, false, cond, length, get_or, ap, refl, sym, ◌∙◌, arith}
+use Rattle.std.proofs.Common.{◌≡◌, ◌+◌, ◌≤◌, ◌-◌, ℕ, Bool, true, false, cond, length, ap, refl, sym, ◌∙◌, arith}
 use mir.Val.{bool_byte}
 use Rattle.rope_text.specs.ByteBreaks.{breaks_at}
 use Rattle.rope_text.specs.Scan.{GoesBack}
 use Rattle.rope_text.proofs.Backs.{never, stays, goes_on, by_byte}
-use Rattle.rope_text.proofs.BitLaws.{one_at_most}
 use Rattle.rope_text.proofs.Blocks.{one_where}
 use Rattle.rope_text.proofs.back.back_by_bytes.Goals.{After-is_mark-in-loop-back-2}
 use Rattle.rope_text.proofs.back.back_by_bytes.Goals as goal

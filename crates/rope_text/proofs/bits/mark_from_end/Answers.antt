@@ -1,6 +1,5 @@
-use Rattle.std.proofs.Common.{◌≤◌, ◌+◌, ◌-◌, ◌<◌, ℕ, arith, ap}
+use Rattle.std.proofs.Common.{◌-◌, arith}
 use Rattle.rope_text.proofs.BitLaws.{mark_back, ones_more}
-use Rattle.rope_text.specs.Bits.{ones_below, marks_below}
 use Rattle.rope_text.proofs.bits.mark_from_end.Goals as goal
 
 pub place_of_mark-requires : goal.place_of_mark-requires

@@ -1,4 +1,4 @@
-use Rattle.std.proofs.Common.{◌≡◌, ◌+◌, ℕ, get_or, count_by, eqb, bit_and, ◌∙◌, arith}
+use Rattle.std.proofs.Common.{◌≡◌, get_or, count_by, eqb, bit_and, ◌∙◌, arith}
 use Rattle.std.specs.List.{range_with_len}
 use Rattle.std.proofs.lemmas.List.FromFn.{length-range_with_len}
 use Rattle.rope_text.specs.Marks.{ahead}

@@ -1,12 +1,11 @@
-use Rattle.std.proofs.Common.{◌≡◌, ◌+◌, ◌≤◌, ℕ, Bool, false, leb, eqb, bit_and, get_or, count_by, ap, sym, ◌∙◌, arith}
+use Rattle.std.proofs.Common.{◌≡◌, ◌≤◌, ℕ, false, leb, eqb, bit_and, get_or, count_by, ap, sym, ◌∙◌, arith}
 use Rattle.std.proofs.lemmas.Bool.Decides.{nat_tests}
 use Rattle.std.proofs.lemmas.List.FromFn.{length-range_with_len}
 use Rattle.std.proofs.lemmas.Nat.{and_le_l}
 use Rattle.std.specs.Int.Count.{ones-ones}
 use Rattle.std.specs.List.{range_with_len}
 use Rattle.rope_text.specs.Bits.{ones_below}
-use Rattle.rope_text.specs.Bytes.{begins_char, begins_pair}
-use Rattle.rope_text.specs.Runs.{high_of, places}
+use Rattle.rope_text.specs.Runs.{high_of}
 use Rattle.rope_text.proofs.BitLaws.{all_ones, no_marks}
 use Rattle.rope_text.proofs.LaneSums.{places_are, none_in_front, none_of_others, ascii_chars, ascii_pairs, chars_block, pairs_block}
 use Rattle.rope_text.proofs.Marks.{compared_left, none_set, loaded}

@@ -1,6 +1,5 @@
-use Rattle.std.proofs.Common.{◌≡◌, ◌≤◌, ◌+◌, ◌-◌, ℕ, Bool, true, false, length, get_or, take, drop, refl, ap, sym, ◌∙◌, arith}
-use Rattle.std.specs.Str.{chars, IsUtf8}
-use Rattle.rope_text.specs.ByteBreaks.{char_width}
+use Rattle.std.proofs.Common.{◌≡◌, ◌≤◌, ◌+◌, true, false, length, refl, ap, ◌∙◌, arith}
+use Rattle.std.specs.Str.{chars}
 use Rattle.rope_text.specs.Cutting.{parts_crlf}
 use Rattle.rope_text.specs.LineParts.{before_byte, after_byte, IsBetween, last_line_byte, last_line_info}
 use Rattle.rope_text.specs.Scan.{GoesBack, back_from}
