@@ -10,15 +10,16 @@ time, or as many as RT_JOBS says, over what `rt check` in the crates' folders ha
 out, so that a later run tries only what has changed. The status is 0 where each body is refused.
 
 A line of docs/refusals.tsv has the body, as the name of its edit and its number there; its crate; its function; the goal that the
-prover could not show, as its function and its name; whether it is the body's `value` that was refused, or a `name` that a written
-proof cites and the body lacks, or a `limit` of the prover was met; and a checksum of the body and of its function with its
-contract, but for what stands elsewhere: a trait's clauses, and the definitions that a contract cites. With --stale the status is
-0 where each body has a line with its checksum, and each line a body.
+prover could not show, as its function and its name; why it could not; and a checksum of the body and of its function with its
+contract, but for what stands elsewhere: a trait's clauses, and the definitions that a contract cites. The reason is `name` where
+all that `rt` shows are names that a written proof cites and the body took away, `limit` where the prover gave no verdict, and
+`value` for any other body. With --stale the status is 0 where each body has a line with its checksum, and each line a body.
 """
 import hashlib
 import os
 import pathlib
 import re
+import signal
 import subprocess
 import sys
 import tempfile
@@ -131,6 +132,7 @@ def write(rows):
 
 def scratch(edits, room):
     """Makes a folder in which each body of these edits is an edit of its own, and all else are links."""
+    room.mkdir()
     for name in ("crates.txt", "HANDLES"):
         (room / name).symlink_to(TOP / name)
     for part in CRATES.glob("*/*"):
@@ -163,16 +165,28 @@ def goal_of(crate, said):
     return f"{path} {name[1] if name else rest}"
 
 
+def said_by(words, room):
+    """What a command says in the scratch folder. Where this is ended, the command is too, and what it made goes with the folder."""
+    (room / "made").mkdir()
+    surroundings = {"RT_JOBS": "4", **os.environ, "TMPDIR": str(room / "made")}
+    with subprocess.Popen(words, cwd=room / "tree", env=surroundings, text=True, errors="replace", stdin=subprocess.DEVNULL,
+                          stdout=subprocess.PIPE, stderr=subprocess.STDOUT) as command:
+        try:
+            return command.communicate()[0].splitlines()
+        except BaseException:
+            command.terminate()
+            raise
+
+
 def tried(edits):
     """Tries the bodies of these edits: what `rt must-fail` says of each that was refused, and what else it says."""
-    with tempfile.TemporaryDirectory(prefix="each-edit-alone-") as room:
-        scratch(edits, pathlib.Path(room))
-        words = ["rt", "must-fail", *sorted({crate_of(edit) for edit in edits})]
-        ran = subprocess.run(words, cwd=room, env={"RT_JOBS": "4", **os.environ}, text=True, errors="replace", check=False,
-                             stdin=subprocess.DEVNULL, stdout=subprocess.PIPE, stderr=subprocess.STDOUT)
-    told = list(map(REFUSED.match, ran.stdout.splitlines()))
+    with tempfile.TemporaryDirectory(prefix="each-edit-alone-") as name:
+        room = pathlib.Path(name)
+        scratch(edits, room / "tree")
+        lines = said_by(["rt", "must-fail", *sorted({crate_of(edit) for edit in edits})], room)
+    told = list(map(REFUSED.match, lines))
     found = {(f"{it['edit']} {it['number']}", it["crate"]): it for it in told if it}
-    return found, [line for line, it in zip(ran.stdout.splitlines(), told) if not it]
+    return found, [line for line, it in zip(lines, told) if not it]
 
 
 def rows_of(bodies, found):
@@ -223,4 +237,5 @@ def main(words):
 
 
 if __name__ == "__main__":
+    signal.signal(signal.SIGTERM, lambda number, _: sys.exit(128 + number))
     sys.exit(main(sys.argv[1:]))
