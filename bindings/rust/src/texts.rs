@@ -50,11 +50,14 @@ impl FromIterator<String> for Rope {
     }
 }
 
+/// Up to so many bytes a copy costs less than to cut a tree twice.
+const COPIED: usize = 1 << 13;
+
 impl<'a> From<RopeSlice<'a>> for Rope {
-    /// A rope of the slice's text, of which it shares what it can with the slice's rope.
+    /// A rope of the slice's text. Of a long text it shares what it can with the slice's rope.
     fn from(slice: RopeSlice<'a>) -> Rope {
-        let Some((root, start, end)) = slice.range() else {
-            return Rope::from_str(slice.as_str().unwrap_or_default());
+        let Some((root, start, end)) = slice.range().filter(|_| slice.len_bytes() > COPIED) else {
+            return Rope::from_str(&Cow::from(slice));
         };
         let mut rope = Rope::of(root.clone());
         if end < rope.len_chars() {
@@ -167,7 +170,7 @@ impl Ord for Rope {
         if self.is_instance(other) {
             return Ordering::Equal;
         }
-        self.root().order(other.root())
+        order(self.slice(..), other.slice(..))
     }
 }
 
@@ -222,7 +225,7 @@ macro_rules! equal {
 }
 
 equal! {
-    <> Rope, str: |rope, text| rope.len_bytes() == text.len() && rope.root().is_text(text);
+    <> Rope, str: |rope, text| is_text(rope.slice(..), text);
     <'b> Rope, &'b str: |rope, text| *rope == **text;
     <> Rope, String: |rope, text| *rope == **text;
     <'b> Rope, Cow<'b, str>: |rope, text| *rope == **text;
