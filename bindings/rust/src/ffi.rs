@@ -109,6 +109,14 @@ extern "C" {
     fn ropey_remove(rope: *mut Handle, start: usize, end: usize) -> u32;
     fn ropey_split_off(rope: *mut Handle, char_idx: usize, tail: *mut Handle) -> u32;
     fn ropey_append(rope: *mut Handle, other: *mut Handle) -> u32;
+    fn ropey_copy_bytes(
+        rope: *const Handle,
+        start: usize,
+        end: usize,
+        buffer: *mut u8,
+        room: usize,
+        len: *mut usize,
+    ) -> u32;
     fn ropey_text_counts(text: *const u8, len: usize, break_set: u32, counts: *mut Counts) -> u32;
 }
 
@@ -326,6 +334,16 @@ look_ups! {
 }
 
 impl Root {
+    /// A copy of the bytes from `start` up to `end`.
+    pub(crate) fn copied(&self, start: usize, end: usize) -> String {
+        let (mut bytes, mut len) = (Vec::with_capacity(end - start), 0);
+        must(unsafe { ropey_copy_bytes(&self.0, start, end, bytes.as_mut_ptr(), end - start, &mut len) });
+        unsafe {
+            bytes.set_len(len);
+            String::from_utf8_unchecked(bytes)
+        }
+    }
+
     /// How much the rope holds.
     #[inline]
     pub(crate) fn counts(&self) -> Counts {
@@ -363,7 +381,6 @@ fn fill<T: Copy>(list: &mut Vec<T>, none: T, room: usize, call: impl FnOnce(*mut
 }
 
 /// Some pieces of a rope that lie one after another.
-#[derive(Clone)]
 pub(crate) struct Pieces<'a> {
     list: Vec<Piece>,
     text: PhantomData<&'a str>,
@@ -390,12 +407,6 @@ impl<'a> Pieces<'a> {
     #[inline]
     pub(crate) fn set(&mut self, i: usize, text: &'a str) {
         self.list[i] = Piece { text: text.as_ptr(), len: text.len() };
-    }
-
-    /// The text alone.
-    pub(crate) fn hold(&mut self, text: &'a str) {
-        self.list.resize(1, NO_PIECE);
-        self.set(0, text);
     }
 
     /// The chunks from the one that holds a byte on, at most `room` of them, and where the first of them begins. The index
@@ -473,13 +484,13 @@ impl<'a> Window<'a> {
             }
         });
         (self.first, self.is_back) = (line_idx, is_back);
-        // Four, and then as many as a screen has.
-        self.room = MOST_LINES.min(2 * self.room.max(8));
+        self.room = if room <= FEW_LINES { SCREEN_LINES } else { MOST_LINES };
     }
 }
 
-/// How many lines are fetched at once, at first and at most.
+/// How many lines are fetched at once: at first, then as many as a screen has, and at most.
 const FEW_LINES: usize = 4;
+const SCREEN_LINES: usize = 48;
 const MOST_LINES: usize = 64;
 
 /// Conversions in a text, by the set of line breaks where it is given. An index past the end stands for the end.

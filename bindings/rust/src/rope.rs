@@ -32,7 +32,7 @@ use crate::{Error, Result, BLOCK, MAX_BYTES};
 /// ```
 #[derive(Clone)]
 pub struct Rope {
-    root: Root,
+    pub(crate) root: Root,
     instance: Instance,
 }
 
@@ -309,7 +309,6 @@ impl Rope {
         RopeSlice::of_range(&self.root, Counts::NONE, self.root.counts())
     }
 
-    #[inline]
     fn slice_chars(&self, bounds: Bounds) -> Result<RopeSlice<'_>> {
         let len = self.len_chars();
         let (start, end) = bounds.of_chars(len)?;
@@ -319,7 +318,6 @@ impl Rope {
         Ok(RopeSlice::of_chars(&self.root, start, end))
     }
 
-    #[inline]
     fn slice_bytes(&self, bounds: Bounds) -> Result<RopeSlice<'_>> {
         let len = self.len_bytes();
         let (start, end) = bounds.of_bytes(len)?;

@@ -2,7 +2,7 @@
 use std::ops::RangeBounds;
 
 use crate::calls::panicking_calls;
-use crate::ffi::{self, ChunkAt, Counts, Root};
+use crate::ffi::{self, ChunkAt, Counts, Lent, Root};
 use crate::iter::{Bytes, Chars, Chunks, Lines};
 use crate::range::Bounds;
 use crate::str_utils::first_line;
@@ -26,11 +26,11 @@ use crate::{Error, Result, MAX_BYTES};
 #[derive(Clone, Copy)]
 pub struct RopeSlice<'a> {
     counts: Counts,
-    part: Part<'a>,
+    pub(crate) part: Part<'a>,
 }
 
 #[derive(Clone, Copy)]
-enum Part<'a> {
+pub(crate) enum Part<'a> {
     /// A range of a rope, which begins behind so much of its text.
     Range { root: &'a Root, start: Counts },
     /// A text in one piece.
@@ -54,11 +54,7 @@ pub(crate) fn cut(text: &str, bytes: usize, start: Counts, counts: Counts) -> (&
 impl Root {
     /// A line, its line break among it; none where the index is past the last one.
     pub(crate) fn line(&self, line_idx: usize) -> Option<RopeSlice<'_>> {
-        let (text, counts) = self.line_slice(line_idx)?;
-        Some(match text {
-            Some(text) => RopeSlice::of_text(text, counts),
-            None => RopeSlice::of_range(self, RopeSlice::before_line(self, line_idx), counts),
-        })
+        Some(RopeSlice::of_lent(self, self.line_slice(line_idx)?, || RopeSlice::before_line(self, line_idx)))
     }
 }
 
@@ -81,16 +77,21 @@ impl<'a> RopeSlice<'a> {
         RopeSlice { counts, part: Part::Text(text) }
     }
 
+    /// What a rope lends: the text, where it lies in one chunk, and else a range.
+    #[inline]
+    pub(crate) fn of_lent(root: &'a Root, lent: Lent<'a>, before: impl FnOnce() -> Counts) -> RopeSlice<'a> {
+        match lent {
+            (Some(text), counts) => RopeSlice::of_text(text, counts),
+            (None, counts) => RopeSlice::of_range(root, before(), counts),
+        }
+    }
+
     /// The characters of a rope from `start` up to `end`, which are in range.
     #[inline]
     pub(crate) fn of_chars(root: &'a Root, start: usize, end: usize) -> RopeSlice<'a> {
         // One chunk may have so few of them.
         if end - start <= MAX_BYTES {
-            let (text, counts) = known(root.char_slice(start, end));
-            return match text {
-                Some(text) => RopeSlice::of_text(text, counts),
-                None => RopeSlice::of_range(root, RopeSlice::before(root, start), counts),
-            };
+            return RopeSlice::of_lent(root, known(root.char_slice(start, end)), || RopeSlice::before(root, start));
         }
         let before = RopeSlice::before(root, start);
         RopeSlice::of_range(root, before, known(root.counts_in_chars(0, end)).minus(before))
@@ -149,14 +150,6 @@ impl<'a> RopeSlice<'a> {
                 Some((root, start.line_breaks + line_idx))
             }
             _ => None,
-        }
-    }
-
-    /// The rope and the characters that a slice is of, where it isn't a text in one piece.
-    pub(crate) fn range(&self) -> Option<(&'a Root, usize, usize)> {
-        match self.part {
-            Part::Range { root, start } => Some((root, start.chars, start.chars + self.counts.chars)),
-            Part::Text(_) => None,
         }
     }
 }
@@ -330,7 +323,6 @@ impl<'a> RopeSlice<'a> {
     }
 
     /// A chunk of the range that a look-up finds, cut to the range and counted from its start.
-    #[inline]
     fn chunk_by(&self, find: impl FnOnce(&'a Root, Counts) -> Option<ChunkAt<'a>>) -> ChunkAt<'a> {
         match self.part {
             Part::Range { root, start } => {
@@ -349,7 +341,6 @@ impl<'a> RopeSlice<'a> {
         self.slice_chars(Bounds::of(&char_range)).ok()
     }
 
-    #[inline]
     pub(crate) fn slice_chars(&self, bounds: Bounds) -> Result<RopeSlice<'a>> {
         let len = self.counts.chars;
         let (from, to) = bounds.of_chars(len)?;
@@ -371,7 +362,6 @@ impl<'a> RopeSlice<'a> {
         self.slice_bytes(Bounds::of(&byte_range)).ok()
     }
 
-    #[inline]
     pub(crate) fn slice_bytes(&self, bounds: Bounds) -> Result<RopeSlice<'a>> {
         let len = self.counts.bytes;
         let (from, to) = bounds.of_bytes(len)?;

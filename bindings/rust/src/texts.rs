@@ -6,7 +6,7 @@ use std::hash::{Hash, Hasher};
 
 use crate::builder::RopeBuilder;
 use crate::rope::Rope;
-use crate::slice::RopeSlice;
+use crate::slice::{Part, RopeSlice};
 
 // Ropes of texts.
 
@@ -56,10 +56,12 @@ const COPIED: usize = 1 << 13;
 impl<'a> From<RopeSlice<'a>> for Rope {
     /// A rope of the slice's text. Of a long text it shares what it can with the slice's rope.
     fn from(slice: RopeSlice<'a>) -> Rope {
-        let Some((root, start, end)) = slice.range().filter(|_| slice.len_bytes() > COPIED) else {
-            return Rope::from_str(&Cow::from(slice));
+        let (root, start) = match slice.part {
+            Part::Range { root, start } if slice.len_bytes() > COPIED => (root, start.chars),
+            _ => return Rope::from_str(&Cow::from(slice)),
         };
         let mut rope = Rope::of(root.clone());
+        let end = start + slice.len_chars();
         if end < rope.len_chars() {
             drop(rope.split_off(end));
         }
@@ -98,7 +100,7 @@ impl<'a> From<RopeSlice<'a>> for Cow<'a, str> {
 
 impl<'a> From<&'a Rope> for String {
     fn from(rope: &'a Rope) -> String {
-        rope.slice(..).into()
+        rope.root.copied(0, rope.len_bytes())
     }
 }
 

@@ -155,7 +155,8 @@ impl<'a> Chunks<'a> {
         let end = self.pieces.fetch_before(root, self.at, self.room);
         self.room = MOST.min(2 * self.room);
         if end < self.at {
-            self.pieces.hold(&known(root.chunk_at_byte(end)).0[..self.at - end]);
+            self.pieces.fetch(root, end, 1);
+            self.pieces.set(0, &known(self.pieces.get(0))[..self.at - end]);
         }
         self.passed = self.pieces.len();
     }

@@ -134,11 +134,8 @@ impl<'a> Lines<'a> {
         let Some((root, line)) = self.slice.line_of_rope(line_idx, true).filter(|_| left.bytes > 0) else {
             return RopeSlice::EMPTY;
         };
-        match self.window.line(root, line, false, 1) {
-            (Some(text), counts) if counts.bytes <= left.bytes => RopeSlice::of_text(text, counts),
-            (Some(text), _) => RopeSlice::of_text(&text[..left.bytes], left),
-            (None, counts) if counts.bytes <= left.bytes => RopeSlice::of_range(root, before, counts),
-            (None, _) => RopeSlice::of_range(root, before, left),
-        }
+        let (text, counts) = self.window.line(root, line, false, 1);
+        let counts = if counts.bytes > left.bytes { left } else { counts };
+        RopeSlice::of_lent(root, (text.map(|text| &text[..counts.bytes]), counts), || before)
     }
 }
