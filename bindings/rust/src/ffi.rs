@@ -375,7 +375,7 @@ lists! {
 /// Has the library write as much of a list as there is room for.
 fn fill<T: Copy>(list: &mut Vec<T>, none: T, room: usize, call: impl FnOnce(*mut T, *mut usize) -> u32) {
     let mut count = 0;
-    list.resize(room, none);
+    *list = vec![none; room];
     must(call(list.as_mut_ptr(), &mut count));
     list.truncate(count);
 }
@@ -489,7 +489,7 @@ impl<'a> Window<'a> {
 }
 
 /// How many lines are fetched at once: at first, then as many as a screen has, and at most.
-const FEW_LINES: usize = 4;
+const FEW_LINES: usize = 2;
 const SCREEN_LINES: usize = 48;
 const MOST_LINES: usize = 64;
 
