@@ -460,7 +460,6 @@ impl<'a> Window<'a> {
         unsafe { self.list[at].lent() }
     }
 
-    #[inline(always)]
     fn place(&self, line_idx: usize) -> usize {
         let (low, high) = if self.is_back { (line_idx, self.first) } else { (self.first, line_idx) };
         high.wrapping_sub(low)
@@ -474,8 +473,9 @@ impl<'a> Window<'a> {
 
     #[inline(never)]
     fn fetch(&mut self, root: &'a Root, line_idx: usize, is_back: bool, left: usize) {
-        // No few lines are left for another time.
-        let room = if left <= 2 * self.room { left } else { self.room };
+        // Few for a cursor that has turned, as it may turn again; and no few are left for another time.
+        let room = if is_back == self.is_back { self.room } else { FEW_LINES };
+        let room = if left <= 2 * room { left } else { room };
         fill(&mut self.list, NO_SLICE, room, |lines, count| unsafe {
             if is_back {
                 ropey_lines_before(&root.0, line_idx + 1, lines, room, count)
