@@ -11,13 +11,11 @@
 #![allow(unsafe_code)]
 
 use std::alloc::{handle_alloc_error, Layout};
-use std::cmp::Ordering;
 use std::ffi::c_void;
 use std::marker::PhantomData;
-use std::mem::MaybeUninit;
 use std::ptr;
 
-/// `ropey_rope` and `ropey_builder`.
+/// `ropey_rope`.
 #[repr(C)]
 struct Handle {
     ptr: *mut c_void,
@@ -28,15 +26,24 @@ const NONE: Handle = Handle { ptr: ptr::null_mut() };
 /// `ropey_chunk`.
 #[repr(C)]
 struct RawChunk {
-    text: *const u8,
-    len: usize,
+    text: Piece,
     bytes_before: usize,
     chars_before: usize,
     line_breaks_before: usize,
 }
 
-const NO_CHUNK: RawChunk =
-    RawChunk { text: NO_PIECE.text, len: 0, bytes_before: 0, chars_before: 0, line_breaks_before: 0 };
+const NO_CHUNK: RawChunk = RawChunk { text: NO_PIECE, bytes_before: 0, chars_before: 0, line_breaks_before: 0 };
+
+/// A chunk, and the bytes, characters and line breaks before it.
+pub(crate) type ChunkAt<'a> = (&'a str, usize, usize, usize);
+
+impl RawChunk {
+    /// Safety: the rope is neither edited nor freed for `'a`.
+    #[inline(always)]
+    unsafe fn lent<'a>(self) -> ChunkAt<'a> {
+        (text_at(self.text), self.bytes_before, self.chars_before, self.line_breaks_before)
+    }
+}
 
 /// `ropey_piece`.
 #[repr(C)]
@@ -76,7 +83,7 @@ impl RawSlice {
     #[inline(always)]
     unsafe fn lent<'a>(self) -> Lent<'a> {
         let is_one = self.text.len == self.counts.bytes;
-        (is_one.then(|| text_at(self.text.text, self.text.len)), self.counts)
+        (is_one.then(|| text_at(self.text)), self.counts)
     }
 }
 
@@ -91,8 +98,6 @@ const BREAK_SET: u32 = match (cfg!(feature = "cr_lines"), cfg!(feature = "unicod
     (_, true) => 2,
 };
 
-type Fetch = unsafe extern "C" fn(*const Handle, usize, *mut Piece, usize, *mut usize, *mut usize) -> u32;
-
 // Those that are alike are declared where they are called.
 extern "C" {
     fn ropey_from_text(text: *const u8, len: usize, break_set: u32, rope: *mut Handle) -> u32;
@@ -104,44 +109,14 @@ extern "C" {
     fn ropey_remove(rope: *mut Handle, start: usize, end: usize) -> u32;
     fn ropey_split_off(rope: *mut Handle, char_idx: usize, tail: *mut Handle) -> u32;
     fn ropey_append(rope: *mut Handle, other: *mut Handle) -> u32;
-    fn ropey_chunks_from_byte(
+    fn ropey_copy_bytes(
         rope: *const Handle,
-        byte_idx: usize,
-        pieces: *mut Piece,
+        start: usize,
+        end: usize,
+        buffer: *mut u8,
         room: usize,
-        count: *mut usize,
-        bytes_before: *mut usize,
+        len: *mut usize,
     ) -> u32;
-    fn ropey_chunks_before_byte(
-        rope: *const Handle,
-        byte_idx: usize,
-        pieces: *mut Piece,
-        room: usize,
-        count: *mut usize,
-        bytes_before: *mut usize,
-    ) -> u32;
-    fn ropey_line_slice(rope: *const Handle, line_idx: usize, slice: *mut RawSlice) -> u32;
-    fn ropey_char_slice(rope: *const Handle, start: usize, end: usize, slice: *mut RawSlice) -> u32;
-    fn ropey_lines_from(
-        rope: *const Handle,
-        line_idx: usize,
-        lines: *mut RawSlice,
-        room: usize,
-        count: *mut usize,
-    ) -> u32;
-    fn ropey_lines_before(
-        rope: *const Handle,
-        line_idx: usize,
-        lines: *mut RawSlice,
-        room: usize,
-        count: *mut usize,
-    ) -> u32;
-    fn ropey_compare(rope: *const Handle, other: *const Handle, order: *mut i32) -> u32;
-    fn ropey_equals_text(rope: *const Handle, text: *const u8, len: usize, equal: *mut bool) -> u32;
-    fn ropey_builder_new(break_set: u32, builder: *mut Handle) -> u32;
-    fn ropey_builder_append(builder: *mut Handle, bytes: *const u8, len: usize, valid: *mut usize) -> u32;
-    fn ropey_builder_finish(builder: *mut Handle, rope: *mut Handle, valid: *mut usize) -> u32;
-    fn ropey_builder_free(builder: *mut Handle);
     fn ropey_text_counts(text: *const u8, len: usize, break_set: u32, counts: *mut Counts) -> u32;
 }
 
@@ -170,8 +145,7 @@ mod owners {
 
 #[cfg(not(feature = "threads"))]
 mod owners {
-    #[inline(always)]
-    pub(super) fn lock() {}
+    pub(super) fn lock() -> impl Sized {}
 }
 
 use owners::lock;
@@ -200,17 +174,16 @@ fn cannot_grow(status: u32) -> ! {
     handle_alloc_error(Layout::new::<Handle>())
 }
 
-/// Safety: `text` leads to `len` bytes of UTF-8 that nothing writes for `'a`.
+/// Safety: the piece leads to bytes of UTF-8 that nothing writes for `'a`.
 #[inline(always)]
-unsafe fn text_at<'a>(text: *const u8, len: usize) -> &'a str {
-    std::str::from_utf8_unchecked(std::slice::from_raw_parts(text, len))
+unsafe fn text_at<'a>(piece: Piece) -> &'a str {
+    std::str::from_utf8_unchecked(std::slice::from_raw_parts(piece.text, piece.len))
 }
 
 /// A rope of the library.
 pub(crate) struct Root(Handle);
 
 impl Drop for Root {
-    #[inline]
     fn drop(&mut self) {
         let _lock = lock();
         unsafe { ropey_free(&mut self.0) }
@@ -218,7 +191,6 @@ impl Drop for Root {
 }
 
 impl Clone for Root {
-    #[inline]
     fn clone(&self) -> Root {
         let mut copy = Root(NONE);
         let _lock = lock();
@@ -230,9 +202,13 @@ impl Clone for Root {
 /// Edits answer whether the index or range was in range. Out of memory, they end as those of a `Vec` do.
 impl Root {
     pub(crate) fn of_text(text: &str) -> Root {
+        Root::of_bytes(text.as_bytes()).expect("a text is UTF-8")
+    }
+
+    /// A rope of the bytes; none where they are not UTF-8.
+    pub(crate) fn of_bytes(bytes: &[u8]) -> Option<Root> {
         let mut root = Root(NONE);
-        must(unsafe { ropey_from_text(text.as_ptr(), text.len(), BREAK_SET, &mut root.0) });
-        root
+        done(unsafe { ropey_from_text(bytes.as_ptr(), bytes.len(), BREAK_SET, &mut root.0) }).then_some(root)
     }
 
     pub(crate) fn shrink_to_fit(&mut self) {
@@ -240,19 +216,16 @@ impl Root {
         must(unsafe { ropey_shrink_to_fit(&mut self.0) });
     }
 
-    #[inline]
     pub(crate) fn insert(&mut self, char_idx: usize, text: &str) -> bool {
         let _lock = lock();
         done(unsafe { ropey_insert(&mut self.0, char_idx, text.as_ptr(), text.len()) })
     }
 
-    #[inline]
     pub(crate) fn insert_char(&mut self, char_idx: usize, c: char) -> bool {
         let _lock = lock();
         done(unsafe { ropey_insert_char(&mut self.0, char_idx, c.into()) })
     }
 
-    #[inline]
     pub(crate) fn remove(&mut self, start: usize, end: usize) -> bool {
         let _lock = lock();
         done(unsafe { ropey_remove(&mut self.0, start, end) })
@@ -302,17 +275,17 @@ lengths! {
 /// Look-ups of one kind: what is written, what it begins as, and what is made of it. They answer none where the index is out
 /// of bounds.
 macro_rules! look_ups {
-    (($raw:ty = $none:expr) -> $answer:ty, $answered:expr; $($name:ident: $call:ident;)*) => {
+    (($raw:ty = $none:expr) -> $answer:ty, $answered:expr; $($name:ident($($index:ident),+): $call:ident;)*) => {
         extern "C" {
-            $(fn $call(rope: *const Handle, index: usize, answer: *mut $raw) -> u32;)*
+            $(fn $call(rope: *const Handle, $($index: usize,)+ answer: *mut $raw) -> u32;)*
         }
 
         impl Root {
             $(
                 #[inline]
-                pub(crate) fn $name(&self, index: usize) -> Option<$answer> {
+                pub(crate) fn $name(&self, $($index: usize),+) -> Option<$answer> {
                     let mut answer: $raw = $none;
-                    done(unsafe { $call(&self.0, index, &mut answer) }).then(|| $answered(answer))
+                    done(unsafe { $call(&self.0, $($index,)+ &mut answer) }).then(|| $answered(answer))
                 }
             )*
         }
@@ -321,171 +294,147 @@ macro_rules! look_ups {
 
 look_ups! {
     (usize = 0) -> usize, |number| number;
-    byte_to_char: ropey_byte_to_char;
-    byte_to_line: ropey_byte_to_line;
-    char_to_byte: ropey_char_to_byte;
-    char_to_line: ropey_char_to_line;
-    char_to_utf16: ropey_char_to_utf16;
-    utf16_to_char: ropey_utf16_to_char;
-    line_to_byte: ropey_line_to_byte;
-    line_to_char: ropey_line_to_char;
+    byte_to_char(byte_idx): ropey_byte_to_char;
+    byte_to_line(byte_idx): ropey_byte_to_line;
+    char_to_byte(char_idx): ropey_char_to_byte;
+    char_to_line(char_idx): ropey_char_to_line;
+    char_to_utf16(char_idx): ropey_char_to_utf16;
+    utf16_to_char(utf16_idx): ropey_utf16_to_char;
+    line_to_byte(line_idx): ropey_line_to_byte;
+    line_to_char(line_idx): ropey_line_to_char;
 }
 
 look_ups! {
     (u8 = 0) -> u8, |byte| byte;
-    byte: ropey_byte;
+    byte(byte_idx): ropey_byte;
 }
 
 look_ups! {
     (u32 = 0) -> char, |c| unsafe { char::from_u32_unchecked(c) };
-    char: ropey_char;
+    char(char_idx): ropey_char;
 }
 
 look_ups! {
-    (RawChunk = NO_CHUNK) -> Chunk<'_>, |chunk: RawChunk| unsafe { chunk.lent() };
-    chunk_at_byte: ropey_chunk_at_byte;
-    chunk_at_char: ropey_chunk_at_char;
-    chunk_at_line_break: ropey_chunk_at_line_break;
+    (RawChunk = NO_CHUNK) -> ChunkAt<'_>, |chunk: RawChunk| unsafe { chunk.lent() };
+    chunk_at_byte(byte_idx): ropey_chunk_at_byte;
+    chunk_at_char(char_idx): ropey_chunk_at_char;
+    chunk_at_line_break(line_idx): ropey_chunk_at_line_break;
 }
 
-/// A chunk of a rope, and how much of the text lies before it.
-#[derive(Clone, Copy)]
-pub(crate) struct Chunk<'a> {
-    pub text: &'a str,
-    pub bytes: usize,
-    pub chars: usize,
-    pub line_breaks: usize,
+look_ups! {
+    (RawSlice = NO_SLICE) -> Lent<'_>, |slice: RawSlice| unsafe { slice.lent() };
+    line_slice(line_idx): ropey_line_slice;
+    char_slice(start, end): ropey_char_slice;
 }
 
-impl RawChunk {
-    /// Safety: the rope is neither edited nor freed for `'a`.
-    #[inline(always)]
-    unsafe fn lent<'a>(self) -> Chunk<'a> {
-        Chunk {
-            text: text_at(self.text, self.len),
-            bytes: self.bytes_before,
-            chars: self.chars_before,
-            line_breaks: self.line_breaks_before,
+look_ups! {
+    (Counts = Counts::NONE) -> Counts, |counts| counts;
+    counts_in_chars(start, end): ropey_counts_in_chars;
+    counts_in_bytes(start, end): ropey_counts_in_bytes;
+}
+
+impl Root {
+    /// A copy of the bytes from `start` up to `end`.
+    pub(crate) fn copied(&self, start: usize, end: usize) -> String {
+        let (mut bytes, mut len) = (Vec::with_capacity(end - start), 0);
+        must(unsafe { ropey_copy_bytes(&self.0, start, end, bytes.as_mut_ptr(), end - start, &mut len) });
+        unsafe {
+            bytes.set_len(len);
+            String::from_utf8_unchecked(bytes)
+        }
+    }
+
+    /// How much the rope holds.
+    #[inline]
+    pub(crate) fn counts(&self) -> Counts {
+        Counts {
+            bytes: self.len_bytes(),
+            chars: self.len_chars(),
+            utf16: self.len_utf16(),
+            line_breaks: self.len_lines() - 1,
         }
     }
 }
 
-impl Root {
-    /// A line, its line break among it.
-    #[inline]
-    pub(crate) fn line_slice(&self, line_idx: usize) -> Option<Lent<'_>> {
-        let mut slice = NO_SLICE;
-        done(unsafe { ropey_line_slice(&self.0, line_idx, &mut slice) }).then(|| unsafe { slice.lent() })
-    }
-
-    /// The characters from `start` up to `end`.
-    #[inline]
-    pub(crate) fn char_slice(&self, start: usize, end: usize) -> Option<Lent<'_>> {
-        let mut slice = NO_SLICE;
-        done(unsafe { ropey_char_slice(&self.0, start, end, &mut slice) }).then(|| unsafe { slice.lent() })
-    }
-
-    pub(crate) fn order(&self, other: &Root) -> Ordering {
-        let mut order = 0;
-        must(unsafe { ropey_compare(&self.0, &other.0, &mut order) });
-        order.cmp(&0)
-    }
-
-    pub(crate) fn is_text(&self, text: &str) -> bool {
-        let mut equal = false;
-        must(unsafe { ropey_equals_text(&self.0, text.as_ptr(), text.len(), &mut equal) });
-        equal
-    }
+/// Calls that write a list from an index on.
+macro_rules! lists {
+    ($($call:ident: $item:ty $(, $last:ident)?;)*) => {
+        extern "C" {
+            $(fn $call(rope: *const Handle, i: usize, list: *mut $item, room: usize, count: *mut usize $(, $last: *mut usize)?) -> u32;)*
+        }
+    };
 }
 
-/// How many pieces are fetched at once, at most: 256 bytes of a cursor.
-pub(crate) const ROOM: usize = 16;
+lists! {
+    ropey_chunks_from_byte: Piece, bytes_before;
+    ropey_chunks_before_byte: Piece, bytes_before;
+    ropey_lines_from: RawSlice;
+    ropey_lines_before: RawSlice;
+}
 
-/// Some pieces of a text that lie one after another.
-#[derive(Clone)]
+/// Has the library write as much of a list as there is room for.
+fn fill<T: Copy>(list: &mut Vec<T>, none: T, room: usize, call: impl FnOnce(*mut T, *mut usize) -> u32) {
+    let mut count = 0;
+    *list = vec![none; room];
+    must(call(list.as_mut_ptr(), &mut count));
+    list.truncate(count);
+}
+
+/// Some pieces of a rope that lie one after another.
 pub(crate) struct Pieces<'a> {
-    // The first `begun` were written, and the first `count` are these pieces.
-    array: [MaybeUninit<Piece>; ROOM],
-    begun: usize,
-    count: usize,
+    list: Vec<Piece>,
     text: PhantomData<&'a str>,
 }
 
 impl<'a> Pieces<'a> {
     #[inline]
     pub(crate) fn new() -> Pieces<'a> {
-        Pieces { array: [MaybeUninit::uninit(); ROOM], begun: 0, count: 0, text: PhantomData }
+        Pieces { list: Vec::new(), text: PhantomData }
     }
 
     #[inline]
     pub(crate) fn len(&self) -> usize {
-        self.count
+        self.list.len()
     }
 
     #[inline]
     pub(crate) fn get(&self, i: usize) -> Option<&'a str> {
-        if i >= self.count {
-            return None;
-        }
-        // Safety: the piece was written, by `set`, or by the library as a part of a rope that is borrowed for `'a`.
-        unsafe {
-            let piece = self.array[i].assume_init();
-            Some(text_at(piece.text, piece.len))
-        }
-    }
-
-    /// The text alone.
-    #[inline]
-    pub(crate) fn hold(&mut self, text: &'a str) {
-        (self.begun, self.count) = (self.begun.max(1), 1);
-        self.set(0, text);
+        // Safety: the piece was written by `set`, or by the library as a part of a rope that is borrowed for `'a`.
+        self.list.get(i).map(|piece| unsafe { text_at(*piece) })
     }
 
     /// Puts a text in the place of the piece `i`.
     #[inline]
     pub(crate) fn set(&mut self, i: usize, text: &'a str) {
-        self.array[..self.count][i].write(Piece { text: text.as_ptr(), len: text.len() });
+        self.list[i] = Piece { text: text.as_ptr(), len: text.len() };
     }
 
     /// The chunks from the one that holds a byte on, at most `room` of them, and where the first of them begins. The index
     /// is at most the length.
     pub(crate) fn fetch(&mut self, root: &'a Root, byte_idx: usize, room: usize) -> usize {
-        self.fetch_by(ropey_chunks_from_byte, root, byte_idx, room)
+        let mut before = 0;
+        fill(&mut self.list, NO_PIECE, room, |pieces, count| unsafe {
+            ropey_chunks_from_byte(&root.0, byte_idx, pieces, room, count, &mut before)
+        });
+        before
     }
 
     /// The chunks before the one that holds a byte, at most `room` of them, and where the last of them ends. The index is
     /// at most the length.
     pub(crate) fn fetch_before(&mut self, root: &'a Root, byte_idx: usize, room: usize) -> usize {
-        let end = self.fetch_by(ropey_chunks_before_byte, root, byte_idx, room);
+        let mut end = 0;
+        fill(&mut self.list, NO_PIECE, room, |pieces, count| unsafe {
+            ropey_chunks_before_byte(&root.0, byte_idx, pieces, room, count, &mut end)
+        });
         // The nearest comes first.
-        self.array[..self.count].reverse();
+        self.list.reverse();
         end
-    }
-
-    fn fetch_by(&mut self, call: Fetch, root: &'a Root, byte_idx: usize, room: usize) -> usize {
-        let room = room.min(ROOM);
-        while self.begun < room {
-            self.array[self.begun].write(NO_PIECE);
-            self.begun += 1;
-        }
-        let (mut count, mut bytes_before) = (0, 0);
-        let pieces = self.array.as_mut_ptr().cast::<Piece>();
-        must(unsafe { call(&root.0, byte_idx, pieces, room, &mut count, &mut bytes_before) });
-        self.count = count;
-        bytes_before
     }
 }
 
-/// How many lines are fetched at once, at most.
-const LINES: usize = 8;
-
-/// Some lines of a rope, one after another.
-#[derive(Clone)]
+/// Some lines of a rope, from the line `first` on, or from it back.
 pub(crate) struct Window<'a> {
-    // The first `begun` were written; the first `count` are the lines from `first` on, or from `first` back.
-    array: [MaybeUninit<RawSlice>; LINES],
-    begun: usize,
-    count: usize,
+    list: Vec<RawSlice>,
     first: usize,
     is_back: bool,
     room: usize,
@@ -495,80 +444,54 @@ pub(crate) struct Window<'a> {
 impl<'a> Window<'a> {
     #[inline]
     pub(crate) fn new() -> Window<'a> {
-        let array = [MaybeUninit::uninit(); LINES];
-        Window { array, begun: 0, count: 0, first: 0, is_back: false, room: 2, text: PhantomData }
+        Window { list: Vec::new(), first: 0, is_back: false, room: FEW_LINES, text: PhantomData }
     }
 
-    /// A line of the rope, which has one of this number; it is fetched with those that a cursor will pass next.
-    #[inline]
-    pub(crate) fn line(&mut self, root: &'a Root, line_idx: usize, is_back: bool) -> Lent<'a> {
+    /// A line of the rope, which has one of this number; it is fetched with those that a cursor will pass next, at most
+    /// `left`.
+    #[inline(always)]
+    pub(crate) fn line(&mut self, root: &'a Root, line_idx: usize, is_back: bool, left: usize) -> Lent<'a> {
         let mut at = self.place(line_idx);
-        if at >= self.count {
-            self.fetch(root, line_idx, is_back);
+        if at >= self.list.len() {
+            self.fetch(root, line_idx, is_back, left);
             at = 0;
         }
-        // Safety: the library wrote the first `count`, as parts of a rope that is borrowed for `'a`.
-        assert!(at < self.count);
-        unsafe { self.array[at].assume_init().lent() }
+        // Safety: the library wrote it, as a part of a rope that is borrowed for `'a`.
+        unsafe { self.list[at].lent() }
     }
 
-    #[inline]
     fn place(&self, line_idx: usize) -> usize {
-        if self.is_back {
-            self.first.wrapping_sub(line_idx)
-        } else {
-            line_idx.wrapping_sub(self.first)
-        }
+        let (low, high) = if self.is_back { (line_idx, self.first) } else { (self.first, line_idx) };
+        high.wrapping_sub(low)
+    }
+
+    /// The same lines from one on, but not many, for a cursor that may soon be dropped.
+    pub(crate) fn few(&self, line_idx: usize) -> Window<'a> {
+        let list = self.list.iter().skip(self.place(line_idx)).take(FEW_LINES).copied().collect();
+        Window { list, first: line_idx, room: FEW_LINES, ..*self }
     }
 
     #[inline(never)]
-    fn fetch(&mut self, root: &'a Root, line_idx: usize, is_back: bool) {
-        while self.begun < self.room {
-            self.array[self.begun].write(NO_SLICE);
-            self.begun += 1;
-        }
-        let lines = self.array.as_mut_ptr().cast::<RawSlice>();
-        let count = &mut self.count;
-        must(unsafe {
+    fn fetch(&mut self, root: &'a Root, line_idx: usize, is_back: bool, left: usize) {
+        // Few for a cursor that has turned, as it may turn again; and no few are left for another time.
+        let room = if is_back == self.is_back { self.room } else { FEW_LINES };
+        let room = if left <= 2 * room { left } else { room };
+        fill(&mut self.list, NO_SLICE, room, |lines, count| unsafe {
             if is_back {
-                ropey_lines_before(&root.0, line_idx + 1, lines, self.room, count)
+                ropey_lines_before(&root.0, line_idx + 1, lines, room, count)
             } else {
-                ropey_lines_from(&root.0, line_idx, lines, self.room, count)
+                ropey_lines_from(&root.0, line_idx, lines, room, count)
             }
         });
         (self.first, self.is_back) = (line_idx, is_back);
-        self.room = LINES.min(2 * self.room);
+        self.room = if room <= FEW_LINES { SCREEN_LINES } else { MOST_LINES };
     }
 }
 
-/// A rope in the making, of bytes that come in parts.
-pub(crate) struct Builder(Handle);
-
-impl Drop for Builder {
-    fn drop(&mut self) {
-        unsafe { ropey_builder_free(&mut self.0) }
-    }
-}
-
-/// Both answer none where the bytes are not UTF-8.
-impl Builder {
-    pub(crate) fn new() -> Builder {
-        let mut builder = Builder(NONE);
-        must(unsafe { ropey_builder_new(BREAK_SET, &mut builder.0) });
-        builder
-    }
-
-    /// Takes the bytes that follow, which may end inside a character.
-    pub(crate) fn append(&mut self, bytes: &[u8]) -> Option<()> {
-        let mut valid = 0;
-        done(unsafe { ropey_builder_append(&mut self.0, bytes.as_ptr(), bytes.len(), &mut valid) }).then_some(())
-    }
-
-    pub(crate) fn finish(mut self) -> Option<Root> {
-        let (mut root, mut valid) = (Root(NONE), 0);
-        done(unsafe { ropey_builder_finish(&mut self.0, &mut root.0, &mut valid) }).then_some(root)
-    }
-}
+/// How many lines are fetched at once: at first, then as many as a screen has, and at most.
+const FEW_LINES: usize = 2;
+const SCREEN_LINES: usize = 48;
+const MOST_LINES: usize = 64;
 
 /// Conversions in a text, by the set of line breaks where it is given. An index past the end stands for the end.
 macro_rules! text_conversions {
@@ -603,10 +526,31 @@ impl Counts {
     pub(crate) const NONE: Counts = Counts { bytes: 0, chars: 0, utf16: 0, line_breaks: 0 };
 
     /// How much a text holds.
-    #[inline]
     pub(crate) fn of(text: &str) -> Counts {
         let mut counts = Counts::NONE;
         must(unsafe { ropey_text_counts(text.as_ptr(), text.len(), BREAK_SET, &mut counts) });
         counts
+    }
+
+    #[inline(always)]
+    fn with(self, other: Counts, each: impl Fn(usize, usize) -> usize) -> Counts {
+        Counts {
+            bytes: each(self.bytes, other.bytes),
+            chars: each(self.chars, other.chars),
+            utf16: each(self.utf16, other.utf16),
+            line_breaks: each(self.line_breaks, other.line_breaks),
+        }
+    }
+
+    /// With what a text behind this one holds.
+    #[inline(always)]
+    pub(crate) fn plus(self, behind: Counts) -> Counts {
+        self.with(behind, |a, b| a + b)
+    }
+
+    /// Without what a part of the text holds.
+    #[inline(always)]
+    pub(crate) fn minus(self, part: Counts) -> Counts {
+        self.with(part, |a, b| a - b)
     }
 }

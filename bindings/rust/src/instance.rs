@@ -10,7 +10,6 @@ pub(crate) struct Instance(AtomicU64);
 
 impl Instance {
     /// The rope is edited: from here on it is no clone.
-    #[inline]
     pub(crate) fn forget(&mut self) {
         *self.0.get_mut() = 0;
     }

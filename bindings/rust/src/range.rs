@@ -12,7 +12,6 @@ pub(crate) struct Bounds {
 }
 
 impl Bounds {
-    #[inline]
     pub(crate) fn of(range: &impl RangeBounds<usize>) -> Bounds {
         Bounds {
             start: match range.start_bound() {
@@ -29,13 +28,11 @@ impl Bounds {
     }
 
     /// Start and end within a text of `len` units, whatever they are.
-    #[inline]
     pub(crate) fn within(self, len: usize) -> (usize, usize) {
         (self.start.unwrap_or(0), self.end.unwrap_or(len))
     }
 
     /// Start and end of a range of bytes.
-    #[inline]
     pub(crate) fn of_bytes(self, len: usize) -> Result<(usize, usize)> {
         match (self.start, self.end) {
             (Some(start), Some(end)) if start > end => Err(Error::ByteRangeInvalid(start, end)),
@@ -45,7 +42,6 @@ impl Bounds {
     }
 
     /// Start and end of a range of characters.
-    #[inline]
     pub(crate) fn of_chars(self, len: usize) -> Result<(usize, usize)> {
         match self.within(len) {
             _ if self.is_past(len) => Err(Error::CharRangeOutOfBounds(self.start, self.end, len)),

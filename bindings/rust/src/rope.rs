@@ -2,13 +2,15 @@
 use std::io;
 use std::ops::RangeBounds;
 
+use crate::builder::RopeBuilder;
 use crate::calls::{panicking_calls, refuse};
-use crate::ffi::{Builder, Counts, Root};
+use crate::ffi::{ChunkAt, Counts, Root};
 use crate::instance::Instance;
 use crate::iter::{Bytes, Chars, Chunks, Lines};
 use crate::range::Bounds;
-use crate::slice::{ChunkAt, ChunksAt, RopeSlice};
-use crate::{Error, Result, MAX_BYTES};
+use crate::slice::{ChunksAt, RopeSlice};
+use crate::str_utils::front;
+use crate::{Error, Result, BLOCK, MAX_BYTES};
 
 /// A long text that is edited anywhere.
 ///
@@ -28,8 +30,9 @@ use crate::{Error, Result, MAX_BYTES};
 /// assert_eq!(rope, "one\nflowers\nthree\n");
 /// assert_eq!(before, "one\ntwo\nthree\n");
 /// ```
+#[derive(Clone)]
 pub struct Rope {
-    root: Root,
+    pub(crate) root: Root,
     instance: Instance,
 }
 
@@ -45,14 +48,14 @@ macro_rules! conversions {
     };
 }
 
-/// The calls that a rope has as the slice of all of it.
-macro_rules! as_slice {
-    ($($(#[$doc:meta])* $name:ident($index:ident) -> $answer:ty;)*) => {
+/// The calls that answer none where an index is past the end: of the root, or of the slice of all of the rope.
+macro_rules! asked {
+    ($($(#[$doc:meta])* $name:ident($index:ident) -> $answer:ty [$($call:tt)+];)*) => {
         $(
             $(#[$doc])*
             #[inline]
             pub fn $name(&self, $index: usize) -> Option<$answer> {
-                self.part().$name($index)
+                self.$($call)+($index)
             }
         )*
     };
@@ -61,16 +64,19 @@ macro_rules! as_slice {
 /// Making, reading and writing.
 impl Rope {
     /// An empty rope.
-    #[inline]
     pub fn new() -> Rope {
-        Rope::of(Root::of_text(""))
+        Rope::from_str("")
     }
 
     /// A rope of a copy of the text.
-    #[inline]
     #[allow(clippy::should_implement_trait)]
     pub fn from_str(text: &str) -> Rope {
-        Rope::of(Root::of_text(text))
+        let mut rope = Rope::of(Root::of_text(front(text, BLOCK)));
+        while rope.len_bytes() < text.len() {
+            let rest = &text[rope.len_bytes()..];
+            rope.append(Rope::of(Root::of_text(front(rest, BLOCK))));
+        }
+        rope
     }
 
     pub(crate) fn of(root: Root) -> Rope {
@@ -83,16 +89,9 @@ impl Rope {
     ///
     /// The reader's first error, an interruption among them, and `InvalidData` where the bytes are not UTF-8.
     pub fn from_reader<T: io::Read>(mut reader: T) -> io::Result<Rope> {
-        let invalid = || io::Error::new(io::ErrorKind::InvalidData, "the bytes that were read are not UTF-8");
-        let mut buffer = vec![0; 1 << 16];
-        let mut builder = Builder::new();
-        loop {
-            let count = reader.read(&mut buffer)?;
-            if count == 0 {
-                return builder.finish().map(Rope::of).ok_or_else(invalid);
-            }
-            builder.append(&buffer[..count]).ok_or_else(invalid)?;
-        }
+        let mut builder = RopeBuilder::new();
+        while builder.read(&mut reader)? {}
+        builder.made()
     }
 
     /// Writes the text, chunk by chunk.
@@ -136,7 +135,7 @@ impl Rope {
         self.chunks().count() * MAX_BYTES
     }
 
-    /// Cuts the text into as few chunks as a rope just made has. It shares none of them with its clones then.
+    /// Cuts the text into as few chunks as it can be. It shares none of them with its clones then.
     pub fn shrink_to_fit(&mut self) {
         self.instance.forget();
         self.root.shrink_to_fit();
@@ -156,7 +155,6 @@ impl Rope {
     /// # Panics
     ///
     /// Where the index is past the end.
-    #[inline]
     #[track_caller]
     pub fn insert(&mut self, char_idx: usize, text: &str) {
         self.try_insert(char_idx, text).unwrap_or_else(|error| refuse(error))
@@ -167,7 +165,6 @@ impl Rope {
     /// # Panics
     ///
     /// Where the index is past the end.
-    #[inline]
     #[track_caller]
     pub fn insert_char(&mut self, char_idx: usize, ch: char) {
         self.try_insert_char(char_idx, ch).unwrap_or_else(|error| refuse(error))
@@ -178,7 +175,6 @@ impl Rope {
     /// # Panics
     ///
     /// Where the range starts past its end, or reaches past the text's.
-    #[inline]
     #[track_caller]
     pub fn remove<R: RangeBounds<usize>>(&mut self, char_range: R) {
         self.try_remove(char_range).unwrap_or_else(|error| refuse(error))
@@ -205,7 +201,6 @@ impl Rope {
     }
 
     /// What [`insert`](Self::insert) does, refused where the index is past the end. Then the rope is as it was.
-    #[inline]
     pub fn try_insert(&mut self, char_idx: usize, text: &str) -> Result<()> {
         if !self.root.insert(char_idx, text) {
             return Err(Error::CharIndexOutOfBounds(char_idx, self.len_chars()));
@@ -217,7 +212,6 @@ impl Rope {
     }
 
     /// What [`insert_char`](Self::insert_char) does, refused where the index is past the end. Then the rope is as it was.
-    #[inline]
     pub fn try_insert_char(&mut self, char_idx: usize, ch: char) -> Result<()> {
         if !self.root.insert_char(char_idx, ch) {
             return Err(Error::CharIndexOutOfBounds(char_idx, self.len_chars()));
@@ -264,39 +258,31 @@ impl Rope {
         try_line_to_char(line_idx) else LineIndexOutOfBounds of len_lines by line_to_char for "line_to_char";
     }
 
-    as_slice! {
+    asked! {
+        /// A byte; none where the index is past the last one.
+        get_byte(byte_idx) -> u8 [root.byte];
+        /// A character; none where the index is past the last one.
+        get_char(char_idx) -> char [root.char];
         /// A line, its line break among it; none where the index is past the last one.
-        get_line(line_idx) -> RopeSlice<'_>;
+        get_line(line_idx) -> RopeSlice<'_> [root.line];
         /// What [`chunk_at_byte`](Self::chunk_at_byte) answers; none where the index is past the end.
-        get_chunk_at_byte(byte_idx) -> ChunkAt<'_>;
+        get_chunk_at_byte(byte_idx) -> ChunkAt<'_> [root.chunk_at_byte];
         /// What [`chunk_at_char`](Self::chunk_at_char) answers; none where the index is past the end.
-        get_chunk_at_char(char_idx) -> ChunkAt<'_>;
+        get_chunk_at_char(char_idx) -> ChunkAt<'_> [root.chunk_at_char];
         /// What [`chunk_at_line_break`](Self::chunk_at_line_break) answers; none where the index is past the number of lines.
-        get_chunk_at_line_break(line_break_idx) -> ChunkAt<'_>;
+        get_chunk_at_line_break(line_break_idx) -> ChunkAt<'_> [root.chunk_at_line_break];
         /// A cursor over the bytes that stands before a byte; none where the index is past the end.
-        get_bytes_at(byte_idx) -> Bytes<'_>;
+        get_bytes_at(byte_idx) -> Bytes<'_> [part().get_bytes_at];
         /// A cursor over the characters that stands before a character; none where the index is past the end.
-        get_chars_at(char_idx) -> Chars<'_>;
+        get_chars_at(char_idx) -> Chars<'_> [part().get_chars_at];
         /// A cursor over the lines that stands before a line; none where the index is past the number of lines.
-        get_lines_at(line_idx) -> Lines<'_>;
+        get_lines_at(line_idx) -> Lines<'_> [part().get_lines_at];
         /// What [`chunks_at_byte`](Self::chunks_at_byte) answers; none where the index is past the end.
-        get_chunks_at_byte(byte_idx) -> ChunksAt<'_>;
+        get_chunks_at_byte(byte_idx) -> ChunksAt<'_> [part().get_chunks_at_byte];
         /// What [`chunks_at_char`](Self::chunks_at_char) answers; none where the index is past the end.
-        get_chunks_at_char(char_idx) -> ChunksAt<'_>;
+        get_chunks_at_char(char_idx) -> ChunksAt<'_> [part().get_chunks_at_char];
         /// What [`chunks_at_line_break`](Self::chunks_at_line_break) answers; none where the index is past the number of lines.
-        get_chunks_at_line_break(line_break_idx) -> ChunksAt<'_>;
-    }
-
-    /// A byte; none where the index is past the last one.
-    #[inline]
-    pub fn get_byte(&self, byte_idx: usize) -> Option<u8> {
-        self.root.byte(byte_idx)
-    }
-
-    /// A character; none where the index is past the last one.
-    #[inline]
-    pub fn get_char(&self, char_idx: usize) -> Option<char> {
-        self.root.char(char_idx)
+        get_chunks_at_line_break(line_break_idx) -> ChunksAt<'_> [part().get_chunks_at_line_break];
     }
 
     /// A slice of a range of characters; none where it is not in range.
@@ -320,16 +306,9 @@ impl Rope {
     /// The slice of all of the text, as a range, though it may lie in one chunk.
     #[inline]
     fn part(&self) -> RopeSlice<'_> {
-        let counts = Counts {
-            bytes: self.len_bytes(),
-            chars: self.len_chars(),
-            utf16: self.len_utf16_cu(),
-            line_breaks: self.len_lines() - 1,
-        };
-        RopeSlice::of_range(&self.root, Counts::NONE, counts)
+        RopeSlice::of_range(&self.root, Counts::NONE, self.root.counts())
     }
 
-    #[inline]
     fn slice_chars(&self, bounds: Bounds) -> Result<RopeSlice<'_>> {
         let len = self.len_chars();
         let (start, end) = bounds.of_chars(len)?;
@@ -339,7 +318,6 @@ impl Rope {
         Ok(RopeSlice::of_chars(&self.root, start, end))
     }
 
-    #[inline]
     fn slice_bytes(&self, bounds: Bounds) -> Result<RopeSlice<'_>> {
         let len = self.len_bytes();
         let (start, end) = bounds.of_bytes(len)?;
@@ -347,18 +325,5 @@ impl Rope {
             return Ok(self.part());
         }
         RopeSlice::of_bytes(&self.root, start, end).ok_or(bounds.inside_character())
-    }
-
-    #[inline]
-    pub(crate) fn root(&self) -> &Root {
-        &self.root
-    }
-}
-
-impl Clone for Rope {
-    /// A rope that shares all of its text with this one, in constant time.
-    #[inline]
-    fn clone(&self) -> Rope {
-        Rope { root: self.root.clone(), instance: self.instance.clone() }
     }
 }

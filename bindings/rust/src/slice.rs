@@ -2,10 +2,11 @@
 use std::ops::RangeBounds;
 
 use crate::calls::panicking_calls;
-use crate::ffi::{self, Chunk, Counts, Root};
+use crate::ffi::{self, ChunkAt, Counts, Lent, Root};
 use crate::iter::{Bytes, Chars, Chunks, Lines};
 use crate::range::Bounds;
-use crate::{Error, Result};
+use crate::str_utils::first_line;
+use crate::{Error, Result, MAX_BYTES};
 
 /// A part of a text: of a rope's, which stays where it is, or of a plain `&str`.
 ///
@@ -25,34 +26,35 @@ use crate::{Error, Result};
 #[derive(Clone, Copy)]
 pub struct RopeSlice<'a> {
     counts: Counts,
-    part: Part<'a>,
+    pub(crate) part: Part<'a>,
 }
 
 #[derive(Clone, Copy)]
-enum Part<'a> {
+pub(crate) enum Part<'a> {
     /// A range of a rope, which begins behind so much of its text.
     Range { root: &'a Root, start: Counts },
     /// A text in one piece.
     Text(&'a str),
 }
 
-/// A chunk, and the first of its bytes, characters and line breaks, counted from the start of the text.
-pub(crate) type ChunkAt<'a> = (&'a str, usize, usize, usize);
 /// A cursor over chunks, and the byte, character and line break at which it stands.
 pub(crate) type ChunksAt<'a> = (Chunks<'a>, usize, usize, usize);
 
 /// What the library answers for an index that was compared with the length.
-fn known<T>(answer: Option<T>) -> T {
+pub(crate) fn known<T>(answer: Option<T>) -> T {
     answer.expect("an index in range has an answer")
 }
 
-impl<'a> Chunk<'a> {
-    /// The chunk's text as far as it lies in a range, and the byte of the rope at which that begins.
-    #[inline]
-    pub(crate) fn cut(self, start: Counts, counts: Counts) -> (&'a str, usize) {
-        let skipped = start.bytes.saturating_sub(self.bytes);
-        let end = start.bytes + counts.bytes - self.bytes;
-        (&self.text[skipped..self.text.len().min(end)], self.bytes + skipped)
+/// A chunk's text as far as it lies in a range, and the byte of the rope at which that begins.
+pub(crate) fn cut(text: &str, bytes: usize, start: Counts, counts: Counts) -> (&str, usize) {
+    let skipped = start.bytes.saturating_sub(bytes);
+    (&text[skipped..text.len().min(start.bytes + counts.bytes - bytes)], bytes + skipped)
+}
+
+impl Root {
+    /// A line, its line break among it; none where the index is past the last one.
+    pub(crate) fn line(&self, line_idx: usize) -> Option<RopeSlice<'_>> {
+        Some(RopeSlice::of_lent(self, self.line_slice(line_idx)?, || RopeSlice::before_line(self, line_idx)))
     }
 }
 
@@ -75,31 +77,63 @@ impl<'a> RopeSlice<'a> {
         RopeSlice { counts, part: Part::Text(text) }
     }
 
-    /// The characters of a rope from `start` up to `end`, which are in range.
+    /// What a rope lends: the text, where it lies in one chunk, and else a range.
     #[inline]
-    pub(crate) fn of_chars(root: &'a Root, start: usize, end: usize) -> RopeSlice<'a> {
-        let (text, counts) = known(root.char_slice(start, end));
-        match text {
-            Some(text) => RopeSlice::of_text(text, counts),
-            None => RopeSlice::of_range(root, RopeSlice::before(root, start), counts),
+    pub(crate) fn of_lent(root: &'a Root, lent: Lent<'a>, before: impl FnOnce() -> Counts) -> RopeSlice<'a> {
+        match lent {
+            (Some(text), counts) => RopeSlice::of_text(text, counts),
+            (None, counts) => RopeSlice::of_range(root, before(), counts),
         }
     }
 
-    /// How much lies before a character of a rope. A CR whose LF follows is no line break before it.
-    fn before(root: &'a Root, chars: usize) -> Counts {
-        Counts {
-            bytes: known(root.char_to_byte(chars)),
-            chars,
-            utf16: known(root.char_to_utf16(chars)),
-            line_breaks: known(root.char_to_line(chars)),
+    /// The characters of a rope from `start` up to `end`, which are in range.
+    #[inline]
+    pub(crate) fn of_chars(root: &'a Root, start: usize, end: usize) -> RopeSlice<'a> {
+        // One chunk may have so few of them.
+        if end - start <= MAX_BYTES {
+            return RopeSlice::of_lent(root, known(root.char_slice(start, end)), || RopeSlice::before(root, start));
         }
+        let before = RopeSlice::before(root, start);
+        RopeSlice::of_range(root, before, known(root.counts_in_chars(0, end)).minus(before))
     }
 
     /// The bytes of a rope from `start` up to `end`, which are in range; none where one of them lies inside a character.
     pub(crate) fn of_bytes(root: &'a Root, start: usize, end: usize) -> Option<RopeSlice<'a>> {
-        let (first, past) = (known(root.byte_to_char(start)), known(root.byte_to_char(end)));
-        let is_whole = root.char_to_byte(first) == Some(start) && root.char_to_byte(past) == Some(end);
-        is_whole.then(|| RopeSlice::of_chars(root, first, past))
+        if end - start <= MAX_BYTES {
+            let (text, before, ..) = known(root.chunk_at_byte(start));
+            if end - before <= text.len() {
+                return text.get(start - before..end - before).map(RopeSlice::from);
+            }
+        }
+        let before = root.counts().minus(root.counts_in_bytes(start, root.len_bytes())?);
+        Some(RopeSlice::of_range(root, before, root.counts_in_bytes(0, end)?.minus(before)))
+    }
+
+    /// How much lies before a line of a rope.
+    pub(crate) fn before_line(root: &'a Root, line_idx: usize) -> Counts {
+        RopeSlice::before(root, known(root.line_to_char(line_idx)))
+    }
+
+    /// How much lies before a character of a rope: what the rest leaves over, as a CR whose LF follows is no line break
+    /// before it.
+    fn before(root: &'a Root, chars: usize) -> Counts {
+        match chars {
+            0 => Counts::NONE,
+            _ => root.counts().minus(known(root.counts_in_chars(chars, root.len_chars()))),
+        }
+    }
+
+    /// How much the slice holds.
+    pub(crate) fn counts(&self) -> Counts {
+        self.counts
+    }
+
+    /// How much of the rope lies before the slice.
+    pub(crate) fn start(&self) -> Counts {
+        match self.part {
+            Part::Range { start, .. } => start,
+            Part::Text(_) => Counts::NONE,
+        }
     }
 
     /// Whether the slice is all of a rope.
@@ -116,14 +150,6 @@ impl<'a> RopeSlice<'a> {
                 Some((root, start.line_breaks + line_idx))
             }
             _ => None,
-        }
-    }
-
-    /// The rope and the characters that a slice is of, where it isn't a text in one piece.
-    pub(crate) fn range(&self) -> Option<(&'a Root, usize, usize)> {
-        match self.part {
-            Part::Range { root, start } => Some((root, start.chars, start.chars + self.counts.chars)),
-            Part::Text(_) => None,
         }
     }
 }
@@ -252,11 +278,11 @@ impl<'a> RopeSlice<'a> {
             return None;
         }
         if let Some((root, line)) = self.line_of_rope(line_idx, self.is_whole()) {
-            let (text, counts) = known(root.line_slice(line));
-            return Some(match text {
-                Some(text) => RopeSlice::of_text(text, counts),
-                None => RopeSlice::of_range(root, RopeSlice::before(root, known(root.line_to_char(line))), counts),
-            });
+            return root.line(line);
+        }
+        if let Part::Text(text) = self.part {
+            let (line, counts) = first_line(&text[ffi::line_to_byte(text, line_idx)..]);
+            return Some(RopeSlice::of_text(line, counts));
         }
         let (from, to) = (self.try_line_to_char(line_idx).ok()?, self.try_line_to_char(line_idx + 1).ok()?);
         self.get_slice(from..to)
@@ -297,14 +323,13 @@ impl<'a> RopeSlice<'a> {
     }
 
     /// A chunk of the range that a look-up finds, cut to the range and counted from its start.
-    #[inline]
-    fn chunk_by(&self, find: impl FnOnce(&'a Root, Counts) -> Option<Chunk<'a>>) -> ChunkAt<'a> {
+    fn chunk_by(&self, find: impl FnOnce(&'a Root, Counts) -> Option<ChunkAt<'a>>) -> ChunkAt<'a> {
         match self.part {
             Part::Range { root, start } => {
-                let chunk = known(find(root, start));
-                let (text, first) = chunk.cut(start, self.counts);
-                let chars = chunk.chars.saturating_sub(start.chars);
-                (text, first - start.bytes, chars, chunk.line_breaks.saturating_sub(start.line_breaks))
+                let (text, bytes, chars, line_breaks) = known(find(root, start));
+                let (text, first) = cut(text, bytes, start, self.counts);
+                let chars = chars.saturating_sub(start.chars);
+                (text, first - start.bytes, chars, line_breaks.saturating_sub(start.line_breaks))
             }
             Part::Text(text) => (text, 0, 0, 0),
         }
@@ -316,7 +341,6 @@ impl<'a> RopeSlice<'a> {
         self.slice_chars(Bounds::of(&char_range)).ok()
     }
 
-    #[inline]
     pub(crate) fn slice_chars(&self, bounds: Bounds) -> Result<RopeSlice<'a>> {
         let len = self.counts.chars;
         let (from, to) = bounds.of_chars(len)?;
@@ -338,7 +362,6 @@ impl<'a> RopeSlice<'a> {
         self.slice_bytes(Bounds::of(&byte_range)).ok()
     }
 
-    #[inline]
     pub(crate) fn slice_bytes(&self, bounds: Bounds) -> Result<RopeSlice<'a>> {
         let len = self.counts.bytes;
         let (from, to) = bounds.of_bytes(len)?;
@@ -402,14 +425,17 @@ impl<'a> RopeSlice<'a> {
     }
 
     /// A cursor before a chunk, or at the end.
-    fn chunks_from(&self, (_, first, chars, line_breaks): ChunkAt<'a>, is_at_end: bool) -> ChunksAt<'a> {
-        let Counts { bytes, chars, line_breaks, .. } =
-            if is_at_end { self.counts } else { Counts { bytes: first, chars, line_breaks, utf16: 0 } };
-        let chunks = match self.part {
-            Part::Range { root, start } => Chunks::of_range(root, start, self.counts, bytes),
-            Part::Text(text) => Chunks::of_text(text, is_at_end),
-        };
-        (chunks, bytes, chars, line_breaks)
+    #[inline]
+    fn chunks_from(&self, (chunk, bytes, chars, line_breaks): ChunkAt<'a>, is_at_end: bool) -> ChunksAt<'a> {
+        let all = self.counts;
+        match self.part {
+            Part::Range { root, start } if is_at_end => {
+                (Chunks::of_range(root, start, all, all.bytes), all.bytes, all.chars, all.line_breaks)
+            }
+            Part::Range { root, start } => (Chunks::before(root, start, all, chunk, bytes), bytes, chars, line_breaks),
+            Part::Text(text) if is_at_end => (Chunks::of_text(text, true), all.bytes, all.chars, all.line_breaks),
+            Part::Text(text) => (Chunks::of_text(text, false), 0, 0, 0),
+        }
     }
 
     /// A cursor over the chunks.

@@ -14,37 +14,31 @@
 use crate::ffi::{self, Counts};
 
 /// The character that holds a byte.
-#[inline]
 pub fn byte_to_char_idx(text: &str, byte_idx: usize) -> usize {
     ffi::byte_to_char(text, byte_idx)
 }
 
 /// The line on which a byte lies.
-#[inline]
 pub fn byte_to_line_idx(text: &str, byte_idx: usize) -> usize {
     ffi::byte_to_line(text, byte_idx)
 }
 
 /// The byte at which a character starts.
-#[inline]
 pub fn char_to_byte_idx(text: &str, char_idx: usize) -> usize {
     ffi::char_to_byte(text, char_idx)
 }
 
 /// The line on which a character lies.
-#[inline]
 pub fn char_to_line_idx(text: &str, char_idx: usize) -> usize {
     ffi::char_to_line(text, char_idx)
 }
 
 /// The byte at which a line starts.
-#[inline]
 pub fn line_to_byte_idx(text: &str, line_idx: usize) -> usize {
     ffi::line_to_byte(text, line_idx)
 }
 
 /// The character at which a line starts.
-#[inline]
 pub fn line_to_char_idx(text: &str, line_idx: usize) -> usize {
     ffi::line_to_char(text, line_idx)
 }
@@ -53,7 +47,7 @@ pub fn line_to_char_idx(text: &str, line_idx: usize) -> usize {
 const WINDOW: usize = 128;
 
 /// The first bytes of a text, at least some, as far as whole characters go.
-fn front(text: &str, len: usize) -> &str {
+pub(crate) fn front(text: &str, len: usize) -> &str {
     let end = (len..text.len()).find(|&i| text.is_char_boundary(i));
     &text[..end.unwrap_or(text.len())]
 }
@@ -82,14 +76,8 @@ pub(crate) fn first_line(text: &str) -> (&str, Counts) {
     }
 }
 
-/// How the last line of a text lies in it.
-pub(crate) struct LastLine {
-    /// Its first byte. A line break at the end of the text is this line's own.
-    pub start: usize,
-    pub is_ended: bool,
-}
-
-pub(crate) fn last_line(text: &str) -> LastLine {
+/// The first byte of the last line of a text, and whether a line break ends it: one at the end of the text is this line's own.
+pub(crate) fn last_line(text: &str) -> (usize, bool) {
     let mut len = WINDOW;
     loop {
         let window = back(text, len);
@@ -98,7 +86,7 @@ pub(crate) fn last_line(text: &str) -> LastLine {
         let before = breaks - usize::from(is_ended);
         if before > 0 || window.len() == text.len() {
             let start = text.len() - window.len() + ffi::line_to_byte(window, before);
-            return LastLine { start, is_ended };
+            return (start, is_ended);
         }
         len *= 4;
     }

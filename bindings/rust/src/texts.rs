@@ -6,7 +6,7 @@ use std::hash::{Hash, Hasher};
 
 use crate::builder::RopeBuilder;
 use crate::rope::Rope;
-use crate::slice::RopeSlice;
+use crate::slice::{Part, RopeSlice};
 
 // Ropes of texts.
 
@@ -50,13 +50,18 @@ impl FromIterator<String> for Rope {
     }
 }
 
+/// Up to so many bytes a copy costs less than to cut a tree twice.
+const COPIED: usize = 1 << 13;
+
 impl<'a> From<RopeSlice<'a>> for Rope {
-    /// A rope of the slice's text, of which it shares what it can with the slice's rope.
+    /// A rope of the slice's text. Of a long text it shares what it can with the slice's rope.
     fn from(slice: RopeSlice<'a>) -> Rope {
-        let Some((root, start, end)) = slice.range() else {
-            return Rope::from_str(slice.as_str().unwrap_or_default());
+        let (root, start) = match slice.part {
+            Part::Range { root, start } if slice.len_bytes() > COPIED => (root, start.chars),
+            _ => return Rope::from_str(&Cow::from(slice)),
         };
         let mut rope = Rope::of(root.clone());
+        let end = start + slice.len_chars();
         if end < rope.len_chars() {
             drop(rope.split_off(end));
         }
@@ -95,7 +100,7 @@ impl<'a> From<RopeSlice<'a>> for Cow<'a, str> {
 
 impl<'a> From<&'a Rope> for String {
     fn from(rope: &'a Rope) -> String {
-        rope.slice(..).into()
+        rope.root.copied(0, rope.len_bytes())
     }
 }
 
@@ -167,7 +172,7 @@ impl Ord for Rope {
         if self.is_instance(other) {
             return Ordering::Equal;
         }
-        self.root().order(other.root())
+        order(self.slice(..), other.slice(..))
     }
 }
 
@@ -222,7 +227,7 @@ macro_rules! equal {
 }
 
 equal! {
-    <> Rope, str: |rope, text| rope.len_bytes() == text.len() && rope.root().is_text(text);
+    <> Rope, str: |rope, text| is_text(rope.slice(..), text);
     <'b> Rope, &'b str: |rope, text| *rope == **text;
     <> Rope, String: |rope, text| *rope == **text;
     <'b> Rope, Cow<'b, str>: |rope, text| *rope == **text;

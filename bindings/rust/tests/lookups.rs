@@ -198,6 +198,30 @@ fn cursors_walk_both_ways() {
     }
 }
 
+/// What a cursor answers knows its place in the rope, on whichever way the cursor came there.
+#[test]
+fn passed_lines_are_texts_of_their_own() {
+    for seed in 0..12 {
+        let mut random = Random::new(seed);
+        let text = random.lines(80);
+        let rope = Rope::from_str(&text);
+        let starts = char_starts(&text);
+        let (start, end) = if seed % 3 == 0 { (0, starts.len() - 1) } else { random.range(starts.len() - 1) };
+        let (part, slice) = (&text[starts[start]..starts[end]], rope.slice(start..end));
+        let lines = lines(part);
+        let mut at = random.below(lines.len() + 1);
+        let mut cursor = slice.lines_at(at);
+        for _ in 0..200 {
+            let is_forward = at == 0 || (at < lines.len() && random.below(5) < 3);
+            at -= usize::from(!is_forward);
+            let line = if is_forward { cursor.next() } else { cursor.prev() };
+            let mut draw = |len: usize| vec![random.below(len + 1), len];
+            compare!(lines[at], line.unwrap(), &mut draw);
+            at += usize::from(is_forward);
+        }
+    }
+}
+
 #[test]
 fn cursors_know_what_is_left() {
     let rope = Rope::from_str("one\ntwo é\n");

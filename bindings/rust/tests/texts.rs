@@ -150,7 +150,7 @@ fn read(bytes: &[u8], fails_at: Option<usize>) -> io::Result<Rope> {
 #[test]
 fn readers_are_read_to_their_end() {
     let mut random = Random::new(9);
-    for chars in [0, 1, 5, 700, 3000, 60_000] {
+    for chars in [0, 1, 5, 700, 3000, 60_000, 400_000] {
         let text = random.text(chars);
         assert_eq!(read(text.as_bytes(), None).unwrap(), text);
         assert_eq!(Rope::from_reader(text.as_bytes()).unwrap(), text);

@@ -13,7 +13,7 @@ use crate::iter::{counted_cursor, Chunks};
 /// assert_eq!(bytes.next(), Some(b'a'));
 /// assert!(bytes.eq(*b"bc"));
 /// ```
-#[derive(Clone, Debug)]
+#[derive(Clone)]
 pub struct Bytes<'a> {
     // Behind the chunk, in which the cursor stands at the byte `idx`.
     chunks: Chunks<'a>,

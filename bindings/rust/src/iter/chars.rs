@@ -15,7 +15,7 @@ use crate::iter::{counted_cursor, Chunks};
 /// assert_eq!(chars.len(), 3);
 /// assert!(chars.eq("ïve".chars()));
 /// ```
-#[derive(Clone, Debug)]
+#[derive(Clone)]
 pub struct Chars<'a> {
     // Behind the chunk. Of its characters, those on the side to which the cursor went last: a step the same way takes the
     // next of them, and tests no boundary.

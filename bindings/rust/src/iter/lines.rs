@@ -1,7 +1,5 @@
 //! Lines, chunk by chunk. A line that lies in one chunk is a slice of that chunk; any other is a range of the rope.
-use std::fmt;
-
-use crate::ffi::{line_to_byte, Window};
+use crate::ffi::{line_to_byte, Counts, Root, Window};
 use crate::iter::counted_cursor;
 use crate::slice::RopeSlice;
 use crate::str_utils::{first_line, last_line};
@@ -17,12 +15,13 @@ use crate::str_utils::{first_line, last_line};
 /// let lines: Vec<String> = rope.lines().map(String::from).collect();
 /// assert_eq!(lines, ["one\r\n", "two\n", ""]);
 /// ```
-#[derive(Clone)]
 pub struct Lines<'a> {
     slice: RopeSlice<'a>,
     is_whole: bool,
-    // Of a rope, some lines around the cursor; of a text in one piece, the byte at which it stands.
+    // Of a rope: some lines around the cursor, and how much of the rope lies before it, where that is known.
     window: Window<'a>,
+    before: Option<Counts>,
+    // Of a text in one piece: the byte at which it stands.
     idx: usize,
     passed: usize,
     total: usize,
@@ -31,54 +30,112 @@ pub struct Lines<'a> {
 
 counted_cursor!(Lines, RopeSlice<'a>);
 
-impl fmt::Debug for Lines<'_> {
-    fn fmt(&self, f: &mut fmt::Formatter<'_>) -> fmt::Result {
-        f.debug_struct("Lines").field("passed", &self.passed).field("total", &self.total).finish_non_exhaustive()
+impl Clone for Lines<'_> {
+    fn clone(&self) -> Self {
+        let line_idx = self.slice.start().line_breaks + self.passed;
+        Lines { window: self.window.few(line_idx), ..*self }
     }
 }
 
 impl<'a> Lines<'a> {
-    #[inline]
     pub(crate) fn of(slice: RopeSlice<'a>, line_idx: usize) -> Lines<'a> {
         let idx = slice.as_str().filter(|_| line_idx > 0).map_or(0, |text| line_to_byte(text, line_idx));
-        let total = slice.len_lines();
-        let is_whole = slice.is_whole();
-        Lines { slice, is_whole, window: Window::new(), idx, passed: line_idx, total, is_reversed: false }
+        let before = (line_idx == 0).then(|| slice.start());
+        let (is_whole, total) = (slice.is_whole(), slice.len_lines());
+        Lines { slice, is_whole, window: Window::new(), before, idx, passed: line_idx, total, is_reversed: false }
     }
 
+    #[inline(always)]
     fn forward(&mut self) -> Option<RopeSlice<'a>> {
         if self.passed == self.total {
             return None;
         }
+        let line = match self.slice.as_str() {
+            Some(text) => self.first_of(text),
+            None => self.of_range(self.passed, false),
+        };
         self.passed += 1;
-        let Some(text) = self.slice.as_str() else { return self.line(self.passed - 1, false) };
-        let (line, counts) = first_line(&text[self.idx..]);
-        self.idx += line.len();
-        Some(RopeSlice::of_text(line, counts))
+        Some(line)
     }
 
+    #[inline(always)]
     fn backward(&mut self) -> Option<RopeSlice<'a>> {
         if self.passed == 0 {
             return None;
         }
         self.passed -= 1;
-        let Some(text) = self.slice.as_str() else { return self.line(self.passed, true) };
-        let line = last_line(&text[..self.idx]);
-        if line.is_ended && self.passed + 1 == self.total {
-            return Some(RopeSlice::EMPTY);
-        }
-        let end = std::mem::replace(&mut self.idx, line.start);
-        Some(RopeSlice::from(&text[line.start..end]))
+        Some(match self.slice.as_str() {
+            Some(text) => self.last_of(text),
+            None => self.of_range(self.passed, true),
+        })
     }
 
-    /// A line of a rope's range: by the window, where it is whole and lies in one chunk.
-    #[inline]
-    fn line(&mut self, line_idx: usize, is_back: bool) -> Option<RopeSlice<'a>> {
-        if let Some((root, line)) = self.slice.line_of_rope(line_idx, self.is_whole) {
-            if let (Some(text), counts) = self.window.line(root, line, is_back) {
-                return Some(RopeSlice::of_text(text, counts));
-            }
+    fn first_of(&mut self, text: &'a str) -> RopeSlice<'a> {
+        let (line, counts) = first_line(&text[self.idx..]);
+        self.idx += line.len();
+        RopeSlice::of_text(line, counts)
+    }
+
+    fn last_of(&mut self, text: &'a str) -> RopeSlice<'a> {
+        let (start, is_ended) = last_line(&text[..self.idx]);
+        if is_ended && self.passed + 1 == self.total {
+            return RopeSlice::EMPTY;
         }
-        self.slice.get_line(line_idx)
+        let end = std::mem::replace(&mut self.idx, start);
+        RopeSlice::from(&text[start..end])
+    }
+
+    /// A line of a rope's range: by the window, where it is the rope's.
+    #[inline(always)]
+    fn of_range(&mut self, line_idx: usize, is_back: bool) -> RopeSlice<'a> {
+        let Some((root, line)) = self.slice.line_of_rope(line_idx, self.is_whole) else {
+            return self.cut_line(line_idx, is_back);
+        };
+        let left = if is_back { line_idx + 1 } else { self.total - line_idx };
+        let (text, counts) = self.window.line(root, line, is_back, left);
+        let Some(text) = text else { return self.long_line(root, line, counts, is_back) };
+        self.pass(counts, is_back);
+        RopeSlice::of_text(text, counts)
+    }
+
+    #[inline(always)]
+    fn pass(&mut self, line: Counts, is_back: bool) {
+        if let Some(before) = self.before {
+            self.before = Some(if is_back { before.minus(line) } else { before.plus(line) });
+        }
+    }
+
+    /// A line that lies in several chunks.
+    #[inline(never)]
+    fn long_line(&mut self, root: &'a Root, line: usize, counts: Counts, is_back: bool) -> RopeSlice<'a> {
+        let start = match self.before {
+            Some(before) if is_back => before.minus(counts),
+            Some(before) => before,
+            None => RopeSlice::before_line(root, line),
+        };
+        self.before = Some(if is_back { start } else { start.plus(counts) });
+        RopeSlice::of_range(root, start, counts)
+    }
+
+    /// A line at an end of a slice, which may be less than the rope's.
+    #[inline(never)]
+    fn cut_line(&mut self, line_idx: usize, is_back: bool) -> RopeSlice<'a> {
+        let line = match self.before {
+            Some(before) if !is_back && line_idx > 0 => self.clipped(line_idx, before),
+            _ => self.slice.get_line(line_idx).unwrap_or(RopeSlice::EMPTY),
+        };
+        self.pass(line.counts(), is_back);
+        line
+    }
+
+    /// The line that the cursor stands before, as far as it lies in the slice.
+    fn clipped(&mut self, line_idx: usize, before: Counts) -> RopeSlice<'a> {
+        let left = self.slice.start().plus(self.slice.counts()).minus(before);
+        let Some((root, line)) = self.slice.line_of_rope(line_idx, true).filter(|_| left.bytes > 0) else {
+            return RopeSlice::EMPTY;
+        };
+        let (text, counts) = self.window.line(root, line, false, 1);
+        let counts = if counts.bytes > left.bytes { left } else { counts };
+        RopeSlice::of_lent(root, (text.map(|text| &text[..counts.bytes]), counts), || before)
     }
 }

@@ -2,7 +2,8 @@
 //!
 //! A cursor stands between two items, or at an end of the text. `next` passes the item ahead of it, and `prev` the one
 //! behind it, so that either takes back what the other did; at an end both answer none, and may be called again. Turned
-//! round by `reverse`, a cursor goes back on `next`, from where it stands. Cursors take no memory.
+//! round by `reverse`, a cursor goes back on `next`, from where it stands. It fetches chunks or lines some at a time, for
+//! which it takes at most 6 KB of memory.
 //!
 //! ```
 //! use ropey::Rope;
@@ -52,6 +53,12 @@ macro_rules! cursor {
                 } else {
                     self.backward()
                 }
+            }
+        }
+
+        impl std::fmt::Debug for $name<'_> {
+            fn fmt(&self, f: &mut std::fmt::Formatter<'_>) -> std::fmt::Result {
+                f.debug_struct(stringify!($name)).field("is_reversed", &self.is_reversed).finish_non_exhaustive()
             }
         }
 
