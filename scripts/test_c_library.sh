@@ -29,7 +29,7 @@ cxx=${CXX:-c++}
 
 "$top/scripts/compare_c_header.sh"
 "$top/scripts/look_ups_touch_no_count.sh"
-if ! command -v "$cc" > /dev/null; then
+if ! "$cc" --version > /dev/null 2>&1; then
     echo "C: not tested, since there is no C compiler ($cc)"
     exit 0
 fi
@@ -56,14 +56,18 @@ echo 'C: the checksums of rope_bench'
 "$work/differential" "$calls" 1
 "$cc" $strict -O2 "$here/look_ups_write_nothing.c" "$library" $refusals -Wl,--wrap=free -o "$work/look_ups"
 "$work/look_ups"
-if "$cc" $strict -g -O1 -fsanitize=address,undefined "$here/differential.c" "$library" $refusals -o "$work/checked" 2> "$work/no_checker"; then
+# A program that does nothing shows whether the address checker, and its leak finder, work here.
+checker="-g -O1 -fsanitize=address,undefined"
+echo 'int main(void) { return 0; }' > "$work/nothing.c"
+if "$cc" $checker "$work/nothing.c" -o "$work/nothing" 2> /dev/null && "$work/nothing" 2> /dev/null; then
+    "$cc" $strict $checker "$here/differential.c" "$library" $refusals -o "$work/checked"
     "$work/checked" "$calls" 2
     echo 'C: the same under the address checker'
 else
-    echo "C: not run under the address checker, which $cc has not"
+    echo 'C: not run under the address checker, which does not work here'
 fi
 
-if ! command -v "$cxx" > /dev/null; then
+if ! "$cxx" --version > /dev/null 2>&1; then
     echo "C++: not tested, since there is no C++ compiler ($cxx)"
     exit 0
 fi

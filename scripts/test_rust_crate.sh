@@ -14,8 +14,8 @@ set -euo pipefail
 top=$(cd "$(dirname "$0")/.." && pwd)
 crate=$top/bindings/rust
 
-if ! command -v cargo > /dev/null; then
-    echo 'Rust crate: not tried, as there is no cargo'
+if ! cargo --version > /dev/null 2>&1; then
+    echo 'Rust crate: not tried, as there is no cargo that runs'
     exit 0
 fi
 
