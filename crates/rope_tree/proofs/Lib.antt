@@ -1,5 +1,6 @@
 pub mod LastCalls
 pub mod LeafCounts
+mod HalfLaws
 pub mod LeafLaws
 pub mod StandLaws
 pub mod TreeLaws

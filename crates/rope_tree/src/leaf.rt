@@ -1,19 +1,20 @@
 //! Leaves: a text with its counts and its set of line breaks.
-ghost use Rattle.std.specs.Prelude.{◌≡◌, ◌+◌, ◌/◌, ◌<◌, ◌≤◌, [], ◌∷◌, true, false, length, IfOk, OnErr, IfSome, IfNone};
+ghost use Rattle.std.specs.Prelude.{◌≡◌, ◌+◌, ◌/◌, ◌<◌, ◌≤◌, [], ◌∷◌, true, false, length, take, IfOk, OnErr, IfSome, IfNone};
 ghost use Rattle.std.specs.Str.{chars};
 ghost use Rattle.rope_text.specs.Text.{byte_len};
 ghost use Rattle.rope_text.specs.TextInfo.{info_of};
 ghost use Rattle.rope_text.specs.declared.TheConstants.{MAX_BYTES, MAX_SHORT_BYTES};
 ghost use Rattle.rope_text.specs.Edit.{inserted};
-ghost use Rattle.rope_tree.specs.Tree.{text, leaf_tree};
+ghost use Rattle.rope_tree.specs.Tree.{text, leaf_tree, IsTree};
 ghost use Rattle.rope_tree.specs.LeafTree.{IsLeafOf};
+ghost use Rattle.rope_tree.specs.Shape.{IsLeafNode};
 ghost use Rattle.rope_tree.specs.Change.{GrowsBy, FallsBy};
 ghost use Rattle.rope_tree.specs.Insert.{IsInserted};
 ghost use Rattle.rope_tree.specs.Removal.{IsRemoved};
 
 use crate::beside::Least;
 use crate::leaf_edits::{leaf_with, put_in, take_out};
-use crate::node_text::halves_of;
+use crate::node_text::{even_halves, halves_of};
 use crate::{Made, Maker, Node, NodeText, ShortText, make_leaf};
 use rope_text::{LineBreaks, MAX_BYTES, TextInfo};
 use std::alloc::{AllocError, Global};
@@ -195,8 +196,13 @@ impl Leaf {
         requires some { 1 ≤ length added.now }
         ensures done { result ≡ true
             → IsInserted self.old (self.new ∷ []) (inserted (text self.old) at added.now) }
+        ensures leaf { result ≡ true
+            → self.new ≡ leaf_tree self.old.breaks (inserted (text self.old) at added.now) }
+        ensures tree { result ≡ true → IsTree self.new }
         ensures change { result ≡ true → GrowsBy more.new self.old self.new }
         ensures kept { result ≡ false → self.new ≡ self.old }
+        ensures full { result ≡ false
+            → MAX_BYTES < byte_len (text self.old) + byte_len added.now }
     {
         if self.text.len() + added.len() > MAX_BYTES {
             return false;
@@ -210,9 +216,88 @@ impl Leaf {
         true
     }
 
+    /// Keeps the first characters alone, which take so many bytes, and whose counts the caller knows.
+    fn keep(&mut self, len: usize, info: TextInfo)
+        requires len { len ≡ byte_len (take info.chars (text self.old)) }
+        requires info { info ≡ info_of self.old.breaks (take info.chars (text self.old)) }
+        ensures { self.new ≡ leaf_tree self.old.breaks (take info.chars (text self.old)) }
+    {
+        let breaks = self.line_breaks();
+        self.text.keep_first(info.chars, len);
+        self.summary = Summary::new(breaks, info);
+    }
+
+    /// Puts a text before the character `at`, where there is no room for it, if it is short and goes inside of a half of the leaf:
+    /// leaves the first half here, and answers a leaf with the second. So no byte moves but those of the second half, and those
+    /// behind the place in its half. None, and nothing changed, where it isn't so.
+    fn cut_in_place(
+        &mut self,
+        maker: &mut Maker,
+        at: usize,
+        added: &ShortText<'_>,
+    ) -> Made<Option<Rc<Leaf>>>
+        requires some { 1 ≤ length added.now }
+        requires within { at ≤ length (text self.old) }
+        ensures cut { IfOk result (λ found. IfSome found (λ back. IsInserted self.old
+            (self.new ∷ back.value ∷ []) (inserted (text self.old) at added.now))) }
+        ensures leaf { IfOk result (λ found. IfSome found (λ back. IsLeafNode back.value)) }
+        ensures kept { IfOk result (λ found. IfNone found (self.new ≡ self.old)) }
+        ensures err { OnErr result (self.new ≡ self.old) }
+        ensures unmade { IfOk result (λ found. IfNone found (maker.new.made ≡ maker.old.made)) }
+        ensures made { maker.new.made ≤ maker.old.made + 1 }
+    {
+        let (breaks, info) = (self.line_breaks(), self.info());
+        let text = self.known_text(info).as_str();
+        let Some((front, back)) = even_halves(text, added.len()) else {
+            return Ok(None);
+        };
+        let front_info = TextInfo::from_str(front, breaks);
+        let (len, chars) = (front.len(), front_info.chars);
+        if at == chars {
+            return Ok(None);
+        }
+        maker.add_made();
+        let mut leaf = Leaf::of_text(maker.alloc, breaks, back, info.minus(front_info))?;
+        // A leaf that was just made has no other owner, so that it can always be changed.
+        let Some(behind) = Rc::get_mut(&mut leaf) else {
+            return Err(AllocError);
+        };
+        if at > chars {
+            behind.insert_in_place(at - chars, added, &mut TextInfo::new());
+            self.keep(len, front_info);
+        } else {
+            self.keep(len, front_info);
+            self.insert_in_place(at, added, &mut TextInfo::new());
+        }
+        Ok(Some(leaf))
+    }
+
+    /// Puts a text before the character `at`, where there is no room for it: leaves the first part of the two together here, and
+    /// answers a leaf with the second. Where memory is refused, nothing is changed.
+    fn cut_anew(&mut self, maker: &mut Maker, at: usize, added: &ShortText<'_>) -> Made<Node>
+        requires full { MAX_BYTES < byte_len (text self.old) + byte_len added.now }
+        requires some { 1 ≤ length added.now }
+        requires short { byte_len added.now ≤ MAX_SHORT_BYTES }
+        ensures cut { IfOk result (λ back.
+            IsInserted self.old (self.new ∷ back ∷ []) (inserted (text self.old) at added.now)) }
+        ensures err { OnErr result (self.new ≡ self.old) }
+        ensures made { maker.new.made ≤ maker.old.made + 1 }
+    {
+        let old = self.known_text(self.info());
+        let breaks = self.line_breaks();
+        let (grown, info) = leaf_with(self.info(), &old, at, added, breaks);
+        let (front, back) = halves_of(grown.as_str());
+        let front_info = TextInfo::from_str(front, breaks);
+        let back_info = info.minus(front_info);
+        let behind = make_leaf(maker, breaks, back, back_info)?;
+        self.fill(breaks, front, front_info);
+        Ok(behind)
+    }
+
     /// Puts a text before the character `at`, where there is no room for it: leaves the first part here, and answers a leaf
     /// with the second. None, and nothing changed, where there is room. Where memory is refused, nothing is changed.
     pub fn cut(&mut self, maker: &mut Maker, at: usize, added: &ShortText<'_>) -> Made<Option<Node>>
+        requires within { at ≤ length (text self.old) }
         requires some { 1 ≤ length added.now }
         requires short { byte_len added.now ≤ MAX_SHORT_BYTES }
         ensures cut { IfOk result (λ found. IfSome found (λ back.
@@ -222,17 +307,13 @@ impl Leaf {
         ensures unmade { IfOk result (λ found. IfNone found (maker.new.made ≡ maker.old.made)) }
         ensures made { maker.new.made ≤ maker.old.made + 1 }
     {
-        let old = self.known_text(self.info());
-        if old.len() + added.len() <= MAX_BYTES {
+        if self.text.len() + added.len() <= MAX_BYTES {
             return Ok(None);
         }
-        let breaks = self.line_breaks();
-        let (grown, info) = leaf_with(self.info(), &old, at, added, breaks);
-        let (front, back) = halves_of(grown.as_str());
-        let front_info = TextInfo::from_str(front, breaks);
-        let back_info = info.minus(front_info);
-        let behind = make_leaf(maker, breaks, back, back_info)?;
-        self.fill(breaks, front, front_info);
+        if let Some(half) = self.cut_in_place(maker, at, added)? {
+            return Ok(Some(Node::of_leaf(half)));
+        }
+        let behind = self.cut_anew(maker, at, added)?;
         Ok(Some(behind))
     }
 

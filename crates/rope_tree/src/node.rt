@@ -6,6 +6,7 @@ ghost use Rattle.rope_text.specs.TextInfo.{info_of};
 ghost use Rattle.rope_tree.specs.Tree.{Tree, text, joined, breaks_of, leaf_tree, IsTree};
 ghost use Rattle.rope_tree.specs.Totals.{HasTotals};
 ghost use Rattle.rope_tree.specs.Flat.{IsFlat};
+ghost use Rattle.rope_tree.specs.Shape.{IsLeafNode};
 ghost use Rattle.rope_tree.specs.View.{IsViewOf};
 
 use crate::leaf::Leaf;
@@ -170,6 +171,15 @@ impl Node {
                 View::Inner(nodes, totals)
             }
         }
+    }
+
+    /// The node that is a leaf.
+    pub(crate) fn of_leaf(leaf: Rc<Leaf>) -> Node
+        requires { IsLeafNode leaf.value }
+        ensures { result ≡ leaf.value }
+    {
+        let form = Form::Leaf(leaf);
+        Node { form }
     }
 
     /// The same node once more.

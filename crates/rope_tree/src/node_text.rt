@@ -1,5 +1,5 @@
 //! The text of a leaf.
-ghost use Rattle.std.specs.Prelude.{◌≡◌, ℕ, ◌+◌, ◌<◌, ◌≤◌, ◌++◌, [], true, false, length, take, IsTrue};
+ghost use Rattle.std.specs.Prelude.{◌≡◌, ℕ, ◌+◌, ◌<◌, ◌≤◌, ◌++◌, [], true, false, length, take, IsTrue, IfSome};
 ghost use Rattle.std.specs.List.{insert_slice, remove_range};
 ghost use Rattle.std.specs.Str.{chars, all_scalars, IsUtf8, IsCharBoundary, encode_utf8_all};
 ghost use Rattle.rope_text.specs.declared.TheConstants.{MAX_BYTES, MAX_JOINED_BYTES, MIN_CUT_BYTES, MIN_HALF_BYTES};
@@ -10,7 +10,7 @@ ghost use Rattle.rope_text.specs.Cuts.{is_cut};
 use arrayvec::{ArrayString, ArrayVec};
 use rope_text::crlf::{next_break, prev_break};
 use rope_text::str_utils::char_to_byte_idx_of;
-use rope_text::{MAX_BYTES, MAX_JOINED_BYTES};
+use rope_text::{MAX_BYTES, MAX_JOINED_BYTES, MIN_HALF_BYTES};
 use std::marker::Model;
 use std::str;
 
@@ -86,6 +86,28 @@ pub(crate) fn halves_of(text: &str) -> (&str, &str)
 {
     let cut = next_break(text.len() / 2 - 2, text.as_bytes());
     (&text[..cut], &text[cut..])
+}
+
+/// Cuts the text of a leaf into two, of which each has half a leaf, but for a byte, and room for so many bytes more; the cut parts
+/// no CR from an LF. None where no cut next to the middle is such.
+pub(crate) fn even_halves(text: &str, room: usize) -> Option<(&str, &str)>
+    ensures utf8 { IfSome result (λ halves. IsUtf8 halves.0.now × IsUtf8 halves.1.now) }
+    ensures joined { IfSome result (λ halves.
+        chars halves.0.now ++ chars halves.1.now ≡ chars text.now) }
+    ensures apart { IfSome result (λ halves.
+        parts_crlf (chars halves.0.now) (chars halves.1.now) ≡ false) }
+    ensures least { IfSome result (λ halves. (MIN_HALF_BYTES ≤ length halves.0.now)
+        × (MIN_HALF_BYTES ≤ length halves.1.now)) }
+    ensures room { IfSome result (λ halves. (length halves.0.now + room ≤ MAX_BYTES)
+        × (length halves.1.now + room ≤ MAX_BYTES)) }
+{
+    let cut = next_break(text.len() / 2, text.as_bytes());
+    let back = &text[cut..];
+    let most = MAX_BYTES.saturating_sub(room);
+    if cut < MIN_HALF_BYTES || back.len() < MIN_HALF_BYTES || cut.max(back.len()) > most {
+        return None;
+    }
+    Some((&text[..cut], back))
 }
 
 /// A text of at most `MAX_BYTES` bytes, seen as the list of its characters. Its calls count in
@@ -209,6 +231,15 @@ impl NodeText {
         let len = self.bytes.len();
         self.bytes.as_mut_slice().copy_within(to..len, from);
         self.bytes.truncate(len - (to - from));
+    }
+
+    /// Keeps the first `count` characters alone, which take `len` bytes. Nothing moves.
+    pub fn keep_first(&mut self, count: usize, len: usize)
+        requires { len ≡ byte_len (take count self.old) }
+        ensures value { self.new ≡ take count self.old }
+        ensures scalars { all_scalars self.new ≡ true }
+    {
+        self.bytes.truncate(len);
     }
 }
 

@@ -327,6 +327,7 @@ impl Node {
     /// Puts a text before the character `at` of a leaf that has no room for it: leaves the first part here, and answers a leaf
     /// with the second. None, and nothing changed, where it has room or is no leaf.
     fn cut(&mut self, maker: &mut Maker, at: usize, added: &ShortText<'_>) -> Made<Option<Node>>
+        requires within { at ≤ length (text self.old) }
         requires some { 1 ≤ length added.now }
         requires short { byte_len added.now ≤ MAX_SHORT_BYTES }
         ensures cut { IfOk result (λ found. IfSome found (λ back.

@@ -9,8 +9,8 @@ use Rattle.rope_text.proofs.Walks.{byte_len-chars}
 use Rattle.rope_tree.specs.Tree.{text, leaf_tree}
 use Rattle.rope_tree.specs.Insert.{IsInserted}
 use Rattle.rope_tree.proofs.GrownLaws.{leaf_parted}
-use Rattle.rope_tree.proofs.leaf.Leaf.cut.Goals.{After-from_str-front_info}
-use Rattle.rope_tree.proofs.leaf.Leaf.cut.Goals as goal
+use Rattle.rope_tree.proofs.leaf.Leaf.cut_anew.Goals.{After-from_str-front_info}
+use Rattle.rope_tree.proofs.leaf.Leaf.cut_anew.Goals as goal
 
 -- the two parts are the leaf with the text
 whole : (c : After-from_str-front_info) → chars c.halves_of.result.0.now ++ chars c.halves_of.result.1.now ≡ inserted c.known_text-old.result c.args.at c.args.added.now
