@@ -1,5 +1,5 @@
 -- A child that takes a text, as the code finds and leaves it among its siblings.
-use Rattle.std.proofs.Common.{◌≡◌, ℕ, ◌+◌, ◌-◌, ◌<◌, ◌≤◌, ◌^◌, Bool, List, [], ◌∷◌, ◌++◌, length, get_or, set, take, drop, OnErr, Result, Ok, Err, refl, sym, ap, ◌∙◌, arith}
+use Rattle.std.proofs.Common.{◌≡◌, ℕ, ◌+◌, ◌-◌, ◌<◌, ◌≤◌, ◌^◌, Bool, false, List, [], ◌∷◌, ◌++◌, length, get_or, set, take, drop, IfOk, OnErr, Result, Ok, Err, refl, sym, ap, ◌∙◌, arith}
 use Rattle.rope_text.specs.declared.text_info.TextInfo.{TextInfo}
 use Rattle.rope_text.specs.Text.{byte_len}
 use Rattle.rope_text.specs.Edit.{inserted}
@@ -27,6 +27,11 @@ use Rattle.rope_tree.proofs.GrownLaws.{totals_seen, grown, children_grown, child
 pub on_err : {T E P : Type 0} (r : Result T E) → P → OnErr r P
 on_err (Ok x) p = tt
 on_err (Err e) p = p
+
+-- and what holds where it was not done
+pub if_idle : {E P : Type 0} (r : Result Bool E) → P → IfOk r (λ did. did ≡ false → P)
+if_idle (Ok x) p = λ no. p
+if_idle (Err e) p = tt
 
 -- the fields of a list of children that is seen as the trees, and the one of them that takes the text
 pub record Finds (a : Inside) (ts : List Tree) (k : ℕ) (child : Tree) (at i : ℕ) (to_right : Bool) : Type 0 where

@@ -15,6 +15,7 @@ use rope_text::{LineBreaks, MAX_CHILDREN, TextInfo};
 use std::marker::Model;
 use std::rc::Rc;
 
+pub(crate) mod anew;
 mod in_place;
 pub mod row;
 

@@ -1,19 +1,21 @@
 //! Edits where the nodes stand: inserts of short texts, for which a leaf without room is cut into two, and removals of characters from
 //! one leaf. Each is one way down, on which a node that is shared is copied.
-ghost use Rattle.std.specs.Prelude.{◌≡◌, ◌+◌, ◌<◌, ◌≤◌, ◌-◌, ◌^◌, [], ◌∷◌, true, false, length, take, slice_index_or, Ok, IfOk, OnErr, IfSome, IfNone};
+ghost use Rattle.std.specs.Prelude.{◌≡◌, ◌+◌, ◌*◌, ◌<◌, ◌≤◌, ◌-◌, ◌^◌, [], ◌∷◌, true, false, length, take, slice_index_or, Ok, IfOk, OnErr, IfSome, IfNone};
 ghost use Rattle.std.specs.List.{insert};
 ghost use Rattle.rope_text.specs.declared.TheConstants.{MAX_SHORT_BYTES};
 ghost use Rattle.rope_text.specs.Text.{byte_len};
 ghost use Rattle.rope_text.specs.Edit.{inserted};
 ghost use Rattle.rope_tree.specs.Tree.{Tree, text, joined, height_of, tree_over, IsTree, AreFamily};
 ghost use Rattle.rope_tree.specs.Shape.{form_tree, IsForm};
+ghost use Rattle.rope_tree.specs.declared.node.in_place.Cut.TheVariants.{Kept, Grown, Parted};
 ghost use Rattle.rope_tree.specs.Change.{GrowsBy, FallsBy, GrowBy, FallBy};
 ghost use Rattle.rope_tree.specs.Insert.{TakesShort, MayInsert, GoesIn, IsInserted, AreGrown};
 ghost use Rattle.rope_tree.specs.Removal.{IsRemoved, AreRemoved};
 ghost use Rattle.rope_tree.specs.Tries.{IsTried};
 
+use super::anew::insert;
 use super::row::{Row, list_of};
-use super::{Children, Form, Node};
+use super::{Children, Form, Node, Nodes};
 use crate::beside::{Least, least_at};
 use crate::leaf::Leaf;
 use crate::search::{char_to_hold, try_place};
@@ -98,6 +100,17 @@ fn unchanged() -> Made<bool>
     Ok(false)
 }
 
+/// What became of a node that had no room.
+#[derive(Drop)]
+enum Cut {
+    /// Nothing: it had room after all.
+    Kept,
+    /// It took the text.
+    Grown,
+    /// It has the first part, and this node has the second.
+    Parted(Node),
+}
+
 /// Puts a node behind the one at a place. The last node, an empty one, goes.
 fn put_behind(nodes: &mut [Node], place: usize, node: Node)
     requires { place + 1 < length nodes.old }
@@ -167,7 +180,9 @@ impl Children {
         requires takes { TakesShort (tree_over self.old) at added.now }
         requires side { MayInsert (tree_over self.old) at added.now to_right }
         ensures change { IfOk result (λ did. did ≡ true → GrowBy more.new self.old self.new) }
-        ensures made { maker.new.made ≤ maker.old.made + height_of self.old + 2 }
+        ensures made { maker.new.made ≤ maker.old.made + 3 * height_of self.old + 3 }
+        ensures idle { IfOk result (λ did.
+            did ≡ false → maker.new.made ≤ maker.old.made + height_of self.old + 1) }
         ensures tried { IsTried result self.old self.new
             (AreGrown self.old self.new (inserted (joined self.old) at added.now)) }
     {
@@ -179,27 +194,76 @@ impl Children {
         };
         let most = MAX_BYTES.saturating_sub(added.len());
         if matches!(self.nodes[place].leaf(), Some(leaf) if leaf.info().bytes > most) {
-            let before = self.total();
-            if !self.cut_leaf(maker, at, added, to_right)? {
-                return unchanged();
-            }
-            *more = self.total().minus(before);
-            return Ok(true);
+            return self.cut_child(maker, at, added, to_right, more);
         }
         let node = &mut self.nodes[place];
         if !node.insert_in_place(maker, inside, added, to_right, follows, more)? {
-            return unchanged();
+            return self.cut_full_child(maker, at, added, to_right, more);
         }
         self.totals.retotal(place, TextInfo::new(), *more);
         self.last = place as u8;
         Ok(true)
     }
 
-    /// Puts a text before the character `at` of leaves, of which the one that takes it is cut into two, where one more fits in beside
-    /// it; returns whether it did. Where memory is refused, nothing is changed.
+    /// Puts a text before the character `at`, where the child that takes it has no room: it is cut into two, where one more fits in
+    /// beside it; returns whether it did, and in `more` by how much the counts grew. Where memory is refused, nothing is changed.
     #[cold]
     #[inline(never)]
-    fn cut_leaf(
+    fn cut_child(
+        &mut self,
+        maker: &mut Maker,
+        at: usize,
+        added: &ShortText<'_>,
+        to_right: bool,
+        more: &mut TextInfo,
+    ) -> Made<bool>
+        requires children { AreFamily self.old }
+        requires takes { TakesShort (tree_over self.old) at added.now }
+        requires side { MayInsert (tree_over self.old) at added.now to_right }
+        ensures change { IfOk result (λ did. did ≡ true → GrowBy more.new self.old self.new) }
+        ensures made { maker.new.made ≤ maker.old.made + 2 * height_of self.old + 2 }
+        ensures idle { IfOk result (λ did. did ≡ false → maker.new.made ≤ maker.old.made + 1) }
+        ensures idle_above { IfOk result (λ did.
+            did ≡ false → 1 ≤ height_of self.old → maker.new.made ≡ maker.old.made) }
+        ensures tried { IsTried result self.old self.new
+            (AreGrown self.old self.new (inserted (joined self.old) at added.now)) }
+    {
+        let before = self.total();
+        if !self.part_child(maker, at, added, to_right)? {
+            return Ok(false);
+        }
+        *more = self.total().minus(before);
+        Ok(true)
+    }
+
+    /// The same where the child has children of its own, of which it has no room for one more; a leaf is left as it is.
+    #[cold]
+    #[inline(never)]
+    fn cut_full_child(
+        &mut self,
+        maker: &mut Maker,
+        at: usize,
+        added: &ShortText<'_>,
+        to_right: bool,
+        more: &mut TextInfo,
+    ) -> Made<bool>
+        requires children { AreFamily self.old }
+        requires takes { TakesShort (tree_over self.old) at added.now }
+        requires side { MayInsert (tree_over self.old) at added.now to_right }
+        ensures change { IfOk result (λ did. did ≡ true → GrowBy more.new self.old self.new) }
+        ensures made { maker.new.made ≤ maker.old.made + 2 * height_of self.old + 2 }
+        ensures idle { IfOk result (λ did. did ≡ false → maker.new.made ≡ maker.old.made) }
+        ensures tried { IsTried result self.old self.new
+            (AreGrown self.old self.new (inserted (joined self.old) at added.now)) }
+    {
+        if self.height == 1 {
+            return Ok(false);
+        }
+        self.cut_child(maker, at, added, to_right, more)
+    }
+
+    /// The same, without by how much the counts grew.
+    fn part_child(
         &mut self,
         maker: &mut Maker,
         at: usize,
@@ -209,7 +273,10 @@ impl Children {
         requires children { AreFamily self.old }
         requires takes { TakesShort (tree_over self.old) at added.now }
         requires side { MayInsert (tree_over self.old) at added.now to_right }
-        ensures made { maker.new.made ≤ maker.old.made + 2 }
+        ensures made { maker.new.made ≤ maker.old.made + 2 * height_of self.old + 2 }
+        ensures idle { IfOk result (λ did. did ≡ false → maker.new.made ≤ maker.old.made + 1) }
+        ensures idle_above { IfOk result (λ did.
+            did ≡ false → 1 ≤ height_of self.old → maker.new.made ≡ maker.old.made) }
         ensures tried { IsTried result self.old self.new
             (AreGrown self.old self.new (inserted (joined self.old) at added.now)) }
     {
@@ -220,8 +287,14 @@ impl Children {
         let (place, inside, _) = self.way_in(at, to_right, false);
         let node = &mut self.nodes[place];
         let old = node.info();
-        let Some(back) = node.cut(maker, inside, added)? else {
-            return Ok(false);
+        let back = match node.cut(maker, inside, added, to_right)? {
+            Cut::Kept => return Ok(false),
+            Cut::Grown => {
+                let new = node.info();
+                self.totals.retotal(place, old, new);
+                return Ok(true);
+            }
+            Cut::Parted(back) => back,
         };
         let front = node.info();
         let total = total_before(&self.totals, place).plus(front);
@@ -303,7 +376,9 @@ impl Node {
         requires takes { TakesShort self.old at added.now }
         requires side { MayInsert self.old at added.now to_right }
         ensures change { IfOk result (λ did. did ≡ true → GrowsBy more.new self.old self.new) }
-        ensures made { maker.new.made ≤ maker.old.made + self.old.height + 2 }
+        ensures made { maker.new.made ≤ maker.old.made + 3 * self.old.height + 2 }
+        ensures idle { IfOk result (λ did.
+            did ≡ false → maker.new.made ≤ maker.old.made + self.old.height + 1) }
         ensures tree { IsTree self.new }
         ensures tried { IsTried result self.old self.new
             (IsInserted self.old (self.new ∷ []) (inserted (text self.old) at added.now)) }
@@ -324,25 +399,70 @@ impl Node {
         }
     }
 
-    /// Puts a text before the character `at` of a leaf that has no room for it: leaves the first part here, and answers a leaf
-    /// with the second. None, and nothing changed, where it has room or is no leaf.
-    fn cut(&mut self, maker: &mut Maker, at: usize, added: &ShortText<'_>) -> Made<Option<Node>>
-        requires within { at ≤ length (text self.old) }
-        requires some { 1 ≤ length added.now }
-        requires short { byte_len added.now ≤ MAX_SHORT_BYTES }
-        ensures cut { IfOk result (λ found. IfSome found (λ back.
-            IsInserted self.old (self.new ∷ back ∷ []) (inserted (text self.old) at added.now))) }
-        ensures kept { IfOk result (λ found. IfNone found (self.new ≡ self.old)) }
+    /// Puts a text before the character `at` of a node that has no room for it: leaves the first part here, and answers the second.
+    /// Where memory is refused, nothing is changed.
+    fn cut(
+        &mut self,
+        maker: &mut Maker,
+        at: usize,
+        added: &ShortText<'_>,
+        to_right: bool,
+    ) -> Made<Cut>
+        requires takes { TakesShort self.old at added.now }
+        requires side { MayInsert self.old at added.now to_right }
+        ensures grown { IfOk result (λ cut. cut ≡ Grown
+            → IsInserted self.old (self.new ∷ []) (inserted (text self.old) at added.now)) }
+        ensures parted { IfOk result (λ cut. (back : Tree) → cut ≡ Parted back
+            → IsInserted self.old (self.new ∷ back ∷ []) (inserted (text self.old) at added.now)) }
+        ensures kept { IfOk result (λ cut. cut ≡ Kept → self.new ≡ self.old) }
         ensures err { OnErr result (self.new ≡ self.old) }
-        ensures made { maker.new.made ≤ maker.old.made + 2 }
+        ensures made { maker.new.made ≤ maker.old.made + 2 * self.old.height + 2 }
+        ensures idle { IfOk result (λ cut. cut ≡ Kept → maker.new.made ≤ maker.old.made + 1) }
+        ensures inner { IfOk result (λ cut. cut ≡ Kept → self.old.height ≡ 0) }
     {
+        if let Form::Inner(_) = self.form {
+            return self.cut_anew(maker, at, added, to_right);
+        }
         own(&mut self.form, maker)?;
         let Form::Leaf(leaf) = &mut self.form else {
-            return Ok(None);
+            return Ok(Cut::Kept);
         };
-        match Rc::get_mut(leaf) {
-            Some(leaf) => leaf.cut(maker, at, added),
-            None => Ok(None),
+        let Some(leaf) = Rc::get_mut(leaf) else {
+            return Ok(Cut::Kept);
+        };
+        match leaf.cut(maker, at, added)? {
+            Some(back) => Ok(Cut::Parted(back)),
+            None => Ok(Cut::Kept),
+        }
+    }
+
+    /// The same by copies of the nodes on the way, which take this one's place last of all.
+    fn cut_anew(
+        &mut self,
+        maker: &mut Maker,
+        at: usize,
+        added: &ShortText<'_>,
+        to_right: bool,
+    ) -> Made<Cut>
+        requires takes { TakesShort self.old at added.now }
+        requires side { MayInsert self.old at added.now to_right }
+        ensures grown { IfOk result (λ cut. cut ≡ Grown
+            → IsInserted self.old (self.new ∷ []) (inserted (text self.old) at added.now)) }
+        ensures parted { IfOk result (λ cut. (back : Tree) → cut ≡ Parted back
+            → IsInserted self.old (self.new ∷ back ∷ []) (inserted (text self.old) at added.now)) }
+        ensures done { IfOk result (λ cut. cut ≡ Kept → ⊥) }
+        ensures err { OnErr result (self.new ≡ self.old) }
+        ensures made { maker.new.made ≤ maker.old.made + 2 * self.old.height + 2 }
+    {
+        match insert(maker, self, at, added, to_right)? {
+            Nodes::One(node) => {
+                *self = node;
+                Ok(Cut::Grown)
+            }
+            Nodes::Two(front, back) => {
+                *self = front;
+                Ok(Cut::Parted(back))
+            }
         }
     }
 

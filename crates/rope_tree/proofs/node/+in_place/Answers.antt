@@ -1,14 +1,16 @@
-use Rattle.std.proofs.Common.{◌≡◌, ℕ, true, [], ◌∷◌, get_or, ap, sym, subst, refl, ◌∙◌, arith}
+use Rattle.std.proofs.Common.{◌≡◌, ℕ, ◌+◌, ◌*◌, ◌≤◌, List, true, [], ◌∷◌, length, take, get_or, set, ap, sym, subst, refl, ◌∙◌, arith}
+use Rattle.std.proofs.lemmas.List.{set-get_or}
 use Rattle.std.proofs.lemmas.Result.{IfOk-weaker}
 use Rattle.rope_text.specs.Edit.{inserted}
 use Rattle.rope_tree.specs.declared.node.Form.{Form}
 use Rattle.rope_tree.specs.declared.node.Node.TheInside.{Inside}
+use Rattle.rope_tree.specs.declared.node.Children.TheInside.{Inside as Fields}
+use Rattle.rope_tree.specs.Listed.{listed}
 use Rattle.rope_tree.specs.Shape.{IsLeafNode, IsForm, IsNode}
 use Rattle.rope_tree.specs.Falls.{tallest_below}
-use Rattle.rope_tree.specs.Tree.{text, joined, breaks_of, height_of, tree_over}
+use Rattle.rope_tree.specs.Tree.{Tree, text, joined, breaks_of, height_of, tree_over}
 use Rattle.rope_text.specs.TextInfo.{info_of}
 use Rattle.rope_tree.specs.Change.{IsChange, no_counts}
-use Rattle.rope_tree.specs.Search.{HasPart}
 use Rattle.rope_tree.specs.Insert.{TakesShort, MayInsert, IsInserted}
 use Rattle.rope_tree.proofs.NodeLaws.{small_totals}
 use Rattle.rope_tree.proofs.InsertDescents.{takes}
@@ -16,15 +18,9 @@ use Rattle.rope_tree.proofs.GrownLaws.{tallest_above}
 use Rattle.rope_tree.proofs.FormLaws.{inner_of, inner_seen, leaf_seen, node_tree, grown_leaf, by_answer, by_outcome, not_tried, tried_in, still_children, grown_children, grown_node}
 use Rattle.rope_tree.proofs.ListedLaws.{seen_at}
 use Rattle.rope_tree.proofs.ChangeLaws.{change_from, change_seen}
-use Rattle.rope_tree.proofs.ChildLaws.{Finds, read, child_fits, may, change_part, change_narrow, fields_changed, all_changed, list_changed, list_has, list_grown}
-use Rattle.rope_tree.proofs.node.+in_place.Goals.{Children::insert_in_place-After-total, Children::insert_in_place-After-index-self-place-2, Node::insert_in_place-Joined-self, Node::insert_in_place-in-Empty, Node::insert_in_place-in-Leaf+in-Some, Node::insert_in_place-in-Leaf+in-None, Node::insert_in_place-in-Inner+in-Some-get_mut, Node::insert_in_place-in-Inner+in-None-get_mut}
+use Rattle.rope_tree.proofs.ChildLaws.{Finds, read, child_fits, may, change_part, change_narrow, fields_changed, all_changed, list_changed}
+use Rattle.rope_tree.proofs.node.+in_place.Goals.{Children::insert_in_place-After-index-self-place-2, Node::insert_in_place-Joined-self, Node::insert_in_place-in-Empty, Node::insert_in_place-in-Leaf+in-Some, Node::insert_in_place-in-Leaf+in-None, Node::insert_in_place-in-Inner+in-Some-get_mut, Node::insert_in_place-in-Inner+in-None-get_mut}
 use Rattle.rope_tree.proofs.node.+in_place.Goals as goal
-
--- the counts where a leaf was cut
-cut_has : (t : ℕ) (c : Children::insert_in_place-After-total t) → HasPart c.total.result c.total-before.result
-cut_has t c =
-    list_has c.args.self.now c.cut_leaf.new.self c.args.added.now c.args.at c.requires.children (c.in_ok-cut_leaf.ensures.tried.done c.if-not-branch.false) c.requires.takes.some
-    c.total-before.result c.total.result c.total-before.ensures c.total.ensures
 
 -- the child that takes the text
 found : (t : ℕ) (c : Children::insert_in_place-After-index-self-place-2 t) → Finds c.self.inside c.args.self.now c.in-Some.place (get_or c.self.inside.nodes c.in-Some.place c.index-self-place-2.result)
@@ -56,24 +52,24 @@ pub Children::insert_in_place-retotal-requires-clause-part :
     goal.Children::insert_in_place-retotal-requires-clause-part
 Children::insert_in_place-retotal-requires-clause-part t c =
     change_part _ _ _ _ _ _ _ (found t (goal.at.Children::insert_in_place-retotal-requires-clause-part t c).After-index-self-place-2) c.args.added.now c.requires.takes.some c.requires.side c.requires.takes.fits
-    c.insert_in_place.new.self (c.in_ok-insert_in_place.ensures.tried.done c.if-not-branch-2.false) c.new.result c.insert_in_place.new.more (change_from c.new.result c.insert_in_place.new.more _ _ c.new.ensures (c.in_ok-insert_in_place.ensures.change c.if-not-branch-2.false)) c.self.inside.totals refl
+    c.insert_in_place.new.self (c.in_ok-insert_in_place.ensures.tried.done c.if-not-branch.false) c.new.result c.insert_in_place.new.more (change_from c.new.result c.insert_in_place.new.more _ _ c.new.ensures (c.in_ok-insert_in_place.ensures.change c.if-not-branch.false)) c.self.inside.totals refl
 
 pub Children::insert_in_place-retotal-requires-clause-new :
     goal.Children::insert_in_place-retotal-requires-clause-new
-Children::insert_in_place-retotal-requires-clause-new t c = (c.in_ok-insert_in_place.ensures.change c.if-not-branch-2.false).low
+Children::insert_in_place-retotal-requires-clause-new t c = (c.in_ok-insert_in_place.ensures.change c.if-not-branch.false).low
 
 pub Children::insert_in_place-retotal-requires-clause-fits :
     goal.Children::insert_in_place-retotal-requires-clause-fits
 Children::insert_in_place-retotal-requires-clause-fits t c =
     change_narrow _ _ _ _ _ _ _ (found t (goal.at.Children::insert_in_place-retotal-requires-clause-fits t c).After-index-self-place-2) c.args.added.now c.requires.takes.some c.requires.side c.requires.takes.fits
-    c.insert_in_place.new.self (c.in_ok-insert_in_place.ensures.tried.done c.if-not-branch-2.false) c.new.result c.insert_in_place.new.more (change_from c.new.result c.insert_in_place.new.more _ _ c.new.ensures (c.in_ok-insert_in_place.ensures.change c.if-not-branch-2.false)) c.self.inside.totals refl
+    c.insert_in_place.new.self (c.in_ok-insert_in_place.ensures.tried.done c.if-not-branch.false) c.new.result c.insert_in_place.new.more (change_from c.new.result c.insert_in_place.new.more _ _ c.new.ensures (c.in_ok-insert_in_place.ensures.change c.if-not-branch.false)) c.self.inside.totals refl
     (rw c.len.ensures.value at c.has_room_for.ensures c.if-not-has_room_for.false)
 
 pub Children::insert_in_place-invariant_of-self-2 :
     goal.Children::insert_in_place-invariant_of-self-2
 Children::insert_in_place-invariant_of-self-2 t c =
     fields_changed _ _ _ _ _ _ _ (found t (goal.at.Children::insert_in_place-invariant_of-self-2 t c).After-index-self-place-2) c.args.added.now c.requires.takes.some c.requires.side c.requires.takes.fits
-    c.insert_in_place.new.self (c.in_ok-insert_in_place.ensures.tried.done c.if-not-branch-2.false) c.new.result c.insert_in_place.new.more (change_from c.new.result c.insert_in_place.new.more _ _ c.new.ensures (c.in_ok-insert_in_place.ensures.change c.if-not-branch-2.false)) _ refl refl refl
+    c.insert_in_place.new.self (c.in_ok-insert_in_place.ensures.tried.done c.if-not-branch.false) c.new.result c.insert_in_place.new.more (change_from c.new.result c.insert_in_place.new.more _ _ c.new.ensures (c.in_ok-insert_in_place.ensures.change c.if-not-branch.false)) _ refl refl refl
     c.self.inside.totals c.retotal.new.self refl c.retotal.ensures.len c.retotal.ensures.before c.retotal.ensures.after refl
 
 pub Children::insert_in_place-returns-clause-tried :
@@ -81,7 +77,7 @@ pub Children::insert_in_place-returns-clause-tried :
 Children::insert_in_place-returns-clause-tried t c = record {
   done = λ yes.
       all_changed _ _ _ _ _ _ _ (found t (goal.at.Children::insert_in_place-returns-clause-tried t c).After-index-self-place-2) c.args.added.now c.requires.takes.some c.requires.side c.requires.takes.fits
-      c.insert_in_place.new.self (c.in_ok-insert_in_place.ensures.tried.done c.if-not-branch-2.false) c.new.result c.insert_in_place.new.more (change_from c.new.result c.insert_in_place.new.more _ _ c.new.ensures (c.in_ok-insert_in_place.ensures.change c.if-not-branch-2.false)) (record { height = _; breaks = _; last = c.self.inside.last; totals = _; nodes = _ }) refl refl refl
+      c.insert_in_place.new.self (c.in_ok-insert_in_place.ensures.tried.done c.if-not-branch.false) c.new.result c.insert_in_place.new.more (change_from c.new.result c.insert_in_place.new.more _ _ c.new.ensures (c.in_ok-insert_in_place.ensures.change c.if-not-branch.false)) (record { height = _; breaks = _; last = c.self.inside.last; totals = _; nodes = _ }) refl refl refl
       c.self.inside.totals c.retotal.new.self refl c.retotal.ensures.len c.retotal.ensures.before c.retotal.ensures.after refl;
   kept = λ no. cc;
   err = tt;
@@ -91,36 +87,13 @@ pub Children::insert_in_place-returns-clause-change :
     goal.Children::insert_in_place-returns-clause-change
 Children::insert_in_place-returns-clause-change t c = λ yes. change_seen c.new.result c.insert_in_place.new.more _ _ c.new.ensures
     (list_changed _ _ _ _ _ _ _ (found t (goal.at.Children::insert_in_place-returns-clause-change t c).After-index-self-place-2) c.args.added.now c.requires.takes.some c.requires.side c.requires.takes.fits
-    c.insert_in_place.new.self (c.in_ok-insert_in_place.ensures.tried.done c.if-not-branch-2.false) c.new.result c.insert_in_place.new.more (change_from c.new.result c.insert_in_place.new.more _ _ c.new.ensures (c.in_ok-insert_in_place.ensures.change c.if-not-branch-2.false)) (record { height = _; breaks = _; last = c.self.inside.last; totals = _; nodes = _ }) refl refl refl
+    c.insert_in_place.new.self (c.in_ok-insert_in_place.ensures.tried.done c.if-not-branch.false) c.new.result c.insert_in_place.new.more (change_from c.new.result c.insert_in_place.new.more _ _ c.new.ensures (c.in_ok-insert_in_place.ensures.change c.if-not-branch.false)) (record { height = _; breaks = _; last = c.self.inside.last; totals = _; nodes = _ }) refl refl refl
     c.self.inside.totals c.retotal.new.self refl c.retotal.ensures.len c.retotal.ensures.before c.retotal.ensures.after refl)
-
-pub Children::insert_in_place-minus-requires-clause-bytes : goal.Children::insert_in_place-minus-requires-clause-bytes
-Children::insert_in_place-minus-requires-clause-bytes t c = (cut_has t (goal.at.Children::insert_in_place-minus-requires-clause-bytes t c).After-total).bytes
-
-pub Children::insert_in_place-minus-requires-clause-chars : goal.Children::insert_in_place-minus-requires-clause-chars
-Children::insert_in_place-minus-requires-clause-chars t c = (cut_has t (goal.at.Children::insert_in_place-minus-requires-clause-chars t c).After-total).chars
-
-pub Children::insert_in_place-minus-requires-clause-utf16_surrogates : goal.Children::insert_in_place-minus-requires-clause-utf16_surrogates
-Children::insert_in_place-minus-requires-clause-utf16_surrogates t c = (cut_has t (goal.at.Children::insert_in_place-minus-requires-clause-utf16_surrogates t c).After-total).surrogates
-
-pub Children::insert_in_place-minus-requires-clause-break_count : goal.Children::insert_in_place-minus-requires-clause-break_count
-Children::insert_in_place-minus-requires-clause-break_count t c = (cut_has t (goal.at.Children::insert_in_place-minus-requires-clause-break_count t c).After-total).count
-
-pub Children::insert_in_place-returns-then-matches-clause-change :
-    goal.Children::insert_in_place-returns-then-matches-clause-change
-Children::insert_in_place-returns-then-matches-clause-change t c = λ yes.
-    list_grown c.args.self.now c.cut_leaf.new.self c.args.added.now c.args.at c.requires.children (c.in_ok-cut_leaf.ensures.tried.done c.if-not-branch.false) c.requires.takes.some
-    c.total-before.result c.total.result c.total-before.ensures c.total.ensures c.minus.result c.minus.ensures.sum
 
 pub Children::insert_in_place-returns-in_err-insert_in_place-clause-made :
     goal.Children::insert_in_place-returns-in_err-insert_in_place-clause-made
 Children::insert_in_place-returns-in_err-insert_in_place-clause-made t c =
     omega (arith, c.insert_in_place.ensures.made, (found t (goal.at.Children::insert_in_place-returns-in_err-insert_in_place-clause-made t c).After-index-self-place-2).taken.own.at_height)
-
-pub Children::insert_in_place-returns-then-not-branch-2-clause-made :
-    goal.Children::insert_in_place-returns-then-not-branch-2-clause-made
-Children::insert_in_place-returns-then-not-branch-2-clause-made t c =
-    omega (arith, c.insert_in_place.ensures.made, (found t (goal.at.Children::insert_in_place-returns-then-not-branch-2-clause-made t c).After-index-self-place-2).taken.own.at_height)
 
 pub Children::insert_in_place-returns-clause-made :
     goal.Children::insert_in_place-returns-clause-made
@@ -227,3 +200,18 @@ Node::insert_in_place-returns-clause-change t c =
           (λ did. did ≡ true → IsChange no_counts now (info_of c.args.self.now.breaks (text c.args.self.now)) (info_of c.args.self.now.breaks (text (tree_over us)))) (λ did g yes. rw i.is (g yes)) did.ensures.change)
       | Node::insert_in_place-in-Inner+in-None-get_mut w ↦ rw w.result-is (λ no. cc)
     ]
+
+-- the bound by the height of the children, where the one that was tried is as it was
+bound_from : (a : Fields) (ts : List Tree) (k : ℕ) (d u : Tree) (after before : ℕ) → after ≤ before + 2 * height_of (listed (record { height = a.height; breaks = a.breaks; last = a.last; totals = a.totals; nodes = set a.nodes k u })) + 2
+    → u ≡ get_or a.nodes k d → listed a ≡ ts → after ≤ before + 2 * height_of ts + 2
+bound_from a ts k d u after before le is view =
+    let same : set a.nodes k u ≡ a.nodes = ap (λ x. set a.nodes k x) is ∙ set-get_or a.nodes k d in
+    rw (sym view, sym (ap (take (length a.totals)) same)) le
+
+pub Children::insert_in_place-returns-then-not-branch-clause-made :
+    goal.Children::insert_in_place-returns-then-not-branch-clause-made
+Children::insert_in_place-returns-then-not-branch-clause-made t c =
+    let f = found t (goal.at.Children::insert_in_place-returns-then-not-branch-clause-made t c).After-index-self-place-2 in
+    let made = bound_from c.self.inside c.args.self.now c.in-Some.place c.index-self-place-2.result c.insert_in_place.new.self c.cut_full_child.new.maker.made c.insert_in_place.new.maker.made c.cut_full_child.ensures.made
+        (c.in_ok-insert_in_place.ensures.tried.kept c.if-not-branch.true) c.self.view_is in
+    omega (arith, c.in_ok-insert_in_place.ensures.idle c.if-not-branch.true, f.taken.own.at_height, made)

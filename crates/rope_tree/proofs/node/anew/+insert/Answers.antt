@@ -10,8 +10,8 @@ use Rattle.rope_tree.proofs.NodeLaws.{small_totals}
 use Rattle.rope_tree.proofs.Descents.{Descends, descends}
 use Rattle.rope_tree.proofs.InsertDescents.{last_total, inner_some, held_within, goes_in}
 use Rattle.rope_tree.proofs.InsertTrees.{siblings_of_first, text_around, child_may, new_siblings, new_length, new_node}
-use Rattle.rope_tree.proofs.edit.+insert.Goals.{After-index-children-place, In_ok-middle-in-Inner}
-use Rattle.rope_tree.proofs.edit.+insert.Goals as goal
+use Rattle.rope_tree.proofs.node.anew.+insert.Goals.{After-index-children-place, In_ok-middle-in-Inner}
+use Rattle.rope_tree.proofs.node.anew.+insert.Goals as goal
 
 down : (t : ℕ) (c : After-index-children-place t) → Descends (breaks_of c.in-Inner.children.now) Char c.char_to_hold-held.result c.in-Inner.children.now c.place_of-place.result c.index-children-place.result c.total_before-front.result
 down t c =

@@ -9,8 +9,8 @@ use Rattle.rope_tree.specs.Tree.{leaf_tree}
 use Rattle.rope_tree.specs.Insert.{IsInserted}
 use Rattle.rope_tree.proofs.InsertTrees.{length-inserted, byte_len-inserted}
 use Rattle.rope_tree.proofs.InsertLeaves.{one_inserted, two_inserted}
-use Rattle.rope_tree.proofs.edit.insert_into_leaf.Goals.{After-from_str-front_info}
-use Rattle.rope_tree.proofs.edit.insert_into_leaf.Goals as goal
+use Rattle.rope_tree.proofs.node.anew.insert_into_leaf.Goals.{After-from_str-front_info}
+use Rattle.rope_tree.proofs.node.anew.insert_into_leaf.Goals as goal
 
 -- the two parts are the leaf with the text
 whole : (c : After-from_str-front_info) → chars c.halves_of.result.0.now ++ chars c.halves_of.result.1.now ≡ inserted c.args.leaf.now c.args.at c.args.added.now

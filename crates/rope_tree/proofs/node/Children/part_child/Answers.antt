@@ -1,4 +1,4 @@
-use Rattle.std.proofs.Common.{◌≡◌, ℕ, ◌+◌, ◌-◌, ◌<◌, ◌≤◌, ◌^◌, List, [], ◌∷◌, length, get_or, set, take, IfSome, ap, subst, refl, ◌∙◌, arith}
+use Rattle.std.proofs.Common.{◌≡◌, ℕ, ◌+◌, ◌-◌, ◌<◌, ◌≤◌, ◌^◌, List, [], ◌∷◌, length, get_or, set, take, ap, refl, ◌∙◌, arith}
 use Rattle.std.specs.List.{insert}
 use Rattle.std.proofs.lemmas.List.{length-set}
 use Rattle.std.proofs.lemmas.List.Edits.{length-insert}
@@ -19,10 +19,10 @@ use Rattle.rope_tree.proofs.InsertDescents.{takes, last_total}
 use Rattle.rope_tree.proofs.InsertTrees.{byte_len-inserted}
 use Rattle.rope_tree.proofs.GrownLaws.{children_grown, grown_by_one}
 use Rattle.rope_tree.proofs.ListedLaws.{seen_at, put_in_place, more_seen, more_listed}
-use Rattle.rope_tree.proofs.ChildLaws.{Finds, read, part}
+use Rattle.rope_tree.proofs.ChildLaws.{Finds, read, part, child_fits, may, small, still_narrow, fields_after, all_grown}
 use Rattle.rope_tree.proofs.CutLaws.{Cuts, own_first, own_second, small_both, cut_fits, few_bytes, first_narrow, totals_cut}
-use Rattle.rope_tree.proofs.node.Children.cut_leaf.Goals.{After-info-front, After-put_behind}
-use Rattle.rope_tree.proofs.node.Children.cut_leaf.Goals as goal
+use Rattle.rope_tree.proofs.node.Children.part_child.Goals.{After-info-old, After-info-front, After-put_behind}
+use Rattle.rope_tree.proofs.node.Children.part_child.Goals as goal
 
 -- the child that takes the text
 abbrev child : After-info-front → Tree
@@ -37,9 +37,77 @@ found c = record {
       c.way_in-place.ensures.place c.way_in-place.ensures.goes;
 }
 
+-- the same before it is cut
+abbrev held : After-info-old → Tree
+held c = get_or c.self.inside.nodes c.way_in-place.result.0 c.index-self-place.result
+
+holds : (c : After-info-old) → Finds c.self.inside c.args.self.now c.way_in-place.result.0 (held c) c.args.at c.way_in-place.result.1 c.args.to_right
+holds c = record {
+  view = c.self.view_is;
+  fields = c.self.invariant;
+  taken = takes c.args.self.now c.way_in-place.result.0 (held c) c.args.at c.way_in-place.result.1 c.args.to_right
+      c.requires.children c.way_in-place.ensures.child (seen_at c.self.inside c.args.self.now c.way_in-place.result.0 c.index-self-place.result c.self.view_is c.way_in-place.ensures.child)
+      c.way_in-place.ensures.place c.way_in-place.ensures.goes;
+}
+
+pub cut-requires-clause-takes : goal.cut-requires-clause-takes
+cut-requires-clause-takes c =
+    let f = holds (goal.at.cut-requires-clause-takes c).After-info-old in
+    record { within = f.taken.goes.within; some = c.requires.takes.some; short = c.requires.takes.short; fits = child_fits _ _ _ _ _ _ _ f c.args.added.now c.requires.takes.some c.requires.side c.requires.takes.fits }
+
+pub cut-requires-clause-side : goal.cut-requires-clause-side
+cut-requires-clause-side c =
+    may _ _ _ _ _ _ _ (holds (goal.at.cut-requires-clause-side c).After-info-old) c.args.added.now c.requires.takes.some c.requires.side c.requires.takes.fits
+
+pub returns-in_err-cut-clause-made : goal.returns-in_err-cut-clause-made
+returns-in_err-cut-clause-made c = omega (arith, c.cut.ensures.made, (holds (goal.at.returns-in_err-cut-clause-made c).After-info-old).taken.own.at_height)
+
+pub returns-in-Kept-clause-idle_above : goal.returns-in-Kept-clause-idle_above
+returns-in-Kept-clause-idle_above c = λ no above. absurd (omega (arith, above, c.in_ok-cut.ensures.inner c.in-Kept.is, (holds (goal.at.returns-in-Kept-clause-idle_above c).After-info-old).taken.own.at_height))
+
+pub returns-clause-made : goal.returns-clause-made
+returns-clause-made c = omega (arith, c.cut.ensures.made, (holds (goal.at.returns-clause-made c).After-info-old).taken.own.at_height)
+
+-- a child that took the text
+pub retotal-requires-clause-small : goal.retotal-requires-clause-small
+retotal-requires-clause-small c =
+    let f = holds (goal.at.retotal-requires-clause-small c).After-info-old in
+    small_totals (breaks_of c.args.self.now) c.self.inside.totals c.args.self.now (read _ _ _ _ _ _ _ f c.self.inside.totals refl) c.requires.children.fits
+
+pub retotal-requires-clause-part : goal.retotal-requires-clause-part
+retotal-requires-clause-part c =
+    part _ _ _ _ _ _ _ (holds (goal.at.retotal-requires-clause-part c).After-info-old) c.self.inside.totals refl c.info-old.result c.info-old.ensures.value
+
+pub retotal-requires-clause-new : goal.retotal-requires-clause-new
+retotal-requires-clause-new c =
+    small_below c.info-new.result
+    (small _ _ _ _ _ _ _ (holds (goal.at.retotal-requires-clause-new c).After-info-old) c.args.added.now c.requires.takes.some c.requires.side c.requires.takes.fits c.cut.new.self (c.in_ok-cut.ensures.grown c.in-Grown.is) c.info-new.result c.info-new.ensures.value)
+
+pub retotal-requires-clause-fits : goal.retotal-requires-clause-fits
+retotal-requires-clause-fits c =
+    still_narrow _ _ _ _ _ _ _ (holds (goal.at.retotal-requires-clause-fits c).After-info-old) c.args.added.now c.requires.takes.some c.requires.side c.requires.takes.fits c.cut.new.self (c.in_ok-cut.ensures.grown c.in-Grown.is)
+    c.self.inside.totals refl (rw c.len.ensures.value at c.has_room_for.ensures c.if-not-has_room_for.false) c.info-old.result c.info-new.result c.info-old.ensures.value c.info-new.ensures.value
+
+pub invariant_of-self-in-Grown : goal.invariant_of-self-in-Grown
+invariant_of-self-in-Grown c =
+    fields_after _ _ _ _ _ _ _ (holds (goal.at.invariant_of-self-in-Grown c).After-info-old) c.args.added.now c.requires.takes.some c.requires.side c.requires.takes.fits c.cut.new.self (c.in_ok-cut.ensures.grown c.in-Grown.is)
+    _ refl refl refl c.self.inside.totals c.retotal.new.self c.info-old.result c.info-new.result refl c.info-old.ensures.value c.info-new.ensures.value c.retotal.ensures.len c.retotal.ensures.before c.retotal.ensures.after refl
+
+pub returns-in-Grown-clause-made : goal.returns-in-Grown-clause-made
+returns-in-Grown-clause-made c = omega (arith, c.cut.ensures.made, (holds (goal.at.returns-in-Grown-clause-made c).After-info-old).taken.own.at_height)
+
+pub returns-in-Grown-clause-tried : goal.returns-in-Grown-clause-tried
+returns-in-Grown-clause-tried c = record {
+  done = λ yes.
+      all_grown _ _ _ _ _ _ _ (holds (goal.at.returns-in-Grown-clause-tried c).After-info-old) c.args.added.now c.requires.takes.some c.requires.side c.requires.takes.fits c.cut.new.self (c.in_ok-cut.ensures.grown c.in-Grown.is)
+      (record { height = _; breaks = _; last = c.self.inside.last; totals = _; nodes = _ }) refl refl refl c.self.inside.totals c.retotal.new.self c.info-old.result c.info-new.result refl c.info-old.ensures.value c.info-new.ensures.value c.retotal.ensures.len c.retotal.ensures.before c.retotal.ensures.after refl;
+  kept = λ no. cc;
+  err = tt;
+}
+
 -- the children with both parts of the leaf
 abbrev parts : After-info-front → List Tree
-parts c = insert (set c.args.self.now c.way_in-place.result.0 c.cut.new.self) (c.way_in-place.result.0 + 1) c.in-Some.back
+parts c = insert (set c.args.self.now c.way_in-place.result.0 c.cut.new.self) (c.way_in-place.result.0 + 1) c.in-Parted.back
 
 parted : (c : After-info-front) → AreGrown c.args.self.now (parts c) (inserted (joined c.args.self.now) c.args.at c.args.added.now)
 parted c =
@@ -49,15 +117,15 @@ parted c =
     let d = (found c).taken in
     let g = d.goes in
     let new = inserted (text (child c)) c.way_in-place.result.1 c.args.added.now in
-    let done = subst (λ o. IfSome o (λ back. IsInserted (child c) (u ∷ back ∷ []) new)) c.in-Some.is c.in_ok-back.ensures.cut in
+    let done : IsInserted (child c) (u ∷ c.in-Parted.back ∷ []) new = c.in_ok-cut.ensures.parted c.in-Parted.back c.in-Parted.is in
     let few : length ts < 24 = omega (arith, c.if-count-ge-MAX_CHILDREN.false, c.len-count.ensures, c.self.invariant.totals_right.as_many, ap length c.self.view_is) in
-    grown_by_one (breaks_of ts) (height_of ts) ts k (child c) u c.in-Some.back d.children d.within d.child_is c.args.at c.way_in-place.result.1 c.args.added.now c.requires.takes.some
+    grown_by_one (breaks_of ts) (height_of ts) ts k (child c) u c.in-Parted.back d.children d.within d.child_is c.args.at c.way_in-place.result.1 c.args.added.now c.requires.takes.some
     d.place g.within c.args.to_right g.inside g.outside c.requires.side done c.requires.takes.fits refl refl few
 
 children : (c : After-info-front) → AreChildren (breaks_of c.args.self.now) (height_of c.args.self.now) (parts c)
 children c = children_grown c.args.self.now (parts c) _ c.requires.children (parted c)
 
-cut : (c : After-info-front) → Cuts c.args.self.now (parts c) c.way_in-place.result.0 (child c) c.cut.new.self c.in-Some.back
+cut : (c : After-info-front) → Cuts c.args.self.now (parts c) c.way_in-place.result.0 (child c) c.cut.new.self c.in-Parted.back
 cut c = record { children = c.requires.children; within = c.way_in-place.ensures.child; child_is = (found c).taken.child_is; after = children c; is = refl }
 
 totals : (c : After-info-front) → HasTotals (breaks_of c.args.self.now) c.self.inside.totals c.args.self.now
@@ -92,12 +160,12 @@ module _ (c : After-info-front) where
   small_front : IsSmall c.info-front.result
   small_front = rw (front_counts c) (small_info br (text u) (own_first _ _ _ _ _ _ (cut c)).tree.fits)
 
-  small_back : (back : TextInfo) → back ≡ info_of c.in-Some.back.breaks (text c.in-Some.back) → IsSmall back
-  small_back back is = rw is (small_info c.in-Some.back.breaks (text c.in-Some.back) (own_second _ _ _ _ _ _ (cut c)).tree.fits)
+  small_back : (back : TextInfo) → back ≡ info_of c.in-Parted.back.breaks (text c.in-Parted.back) → IsSmall back
+  small_back back is = rw is (small_info c.in-Parted.back.breaks (text c.in-Parted.back) (own_second _ _ _ _ _ _ (cut c)).tree.fits)
 
-  both_are : (back both : TextInfo) → back ≡ info_of c.in-Some.back.breaks (text c.in-Some.back) → both ≡ info_sum c.info-front.result back → both ≡ info_sum (info_of br (text u)) (info_of br (text c.in-Some.back))
+  both_are : (back both : TextInfo) → back ≡ info_of c.in-Parted.back.breaks (text c.in-Parted.back) → both ≡ info_sum c.info-front.result back → both ≡ info_sum (info_of br (text u)) (info_of br (text c.in-Parted.back))
   both_are back both is sum =
-      let own = is ∙ ap (λ b. info_of b (text c.in-Some.back)) (own_second _ _ _ _ _ _ (cut c)).same_breaks in
+      let own = is ∙ ap (λ b. info_of b (text c.in-Parted.back)) (own_second _ _ _ _ _ _ (cut c)).same_breaks in
       sum ∙ ap (λ x. info_sum x back) (front_counts c) ∙ ap (λ x. info_sum (info_of br (text u)) x) own
 
   first_is : (before first : TextInfo) → before ≡ info_of br (joined front) → first ≡ info_sum before c.info-front.result → first ≡ info_sum (info_of br (joined front)) (info_of br (text u))
@@ -159,22 +227,22 @@ plus-requires-clause-break_count c =
     let n = small_front f in
     omega (arith, b.bytes, b.chars, b.surrogates, b.count, n.bytes, n.chars, n.surrogates, n.count)
 
-pub retotal-requires-clause-small : goal.retotal-requires-clause-small
-retotal-requires-clause-small c =
-    small_totals (breaks_of c.args.self.now) c.self.inside.totals c.args.self.now (totals (goal.at.retotal-requires-clause-small c).After-info-front) c.requires.children.fits
+pub retotal-requires-2-clause-small : goal.retotal-requires-2-clause-small
+retotal-requires-2-clause-small c =
+    small_totals (breaks_of c.args.self.now) c.self.inside.totals c.args.self.now (totals (goal.at.retotal-requires-2-clause-small c).After-info-front) c.requires.children.fits
 
-pub retotal-requires-clause-part : goal.retotal-requires-clause-part
-retotal-requires-clause-part c =
-    part _ _ _ _ _ _ _ (found (goal.at.retotal-requires-clause-part c).After-info-front) c.self.inside.totals refl c.info-old.result c.info-old.ensures.value
+pub retotal-requires-2-clause-part : goal.retotal-requires-2-clause-part
+retotal-requires-2-clause-part c =
+    part _ _ _ _ _ _ _ (found (goal.at.retotal-requires-2-clause-part c).After-info-front) c.self.inside.totals refl c.info-old.result c.info-old.ensures.value
 
-pub retotal-requires-clause-new : goal.retotal-requires-clause-new
-retotal-requires-clause-new c =
-    let f = (goal.at.retotal-requires-clause-new c).After-info-front in
+pub retotal-requires-2-clause-new : goal.retotal-requires-2-clause-new
+retotal-requires-2-clause-new c =
+    let f = (goal.at.retotal-requires-2-clause-new c).After-info-front in
     small_below c.plus.result (rw (both_are f c.info.result c.plus.result c.info.ensures.value c.plus.ensures.sum) (small_both _ _ _ _ _ _ (cut f)))
 
-pub retotal-requires-clause-fits : goal.retotal-requires-clause-fits
-retotal-requires-clause-fits c = λ narrow j d from within.
-    let f = (goal.at.retotal-requires-clause-fits c).After-info-front in
+pub retotal-requires-2-clause-fits : goal.retotal-requires-2-clause-fits
+retotal-requires-2-clause-fits c = λ narrow j d from within.
+    let f = (goal.at.retotal-requires-2-clause-fits c).After-info-front in
     let ts = c.args.self.now in
     let t = totals f in
     let inside : j < length ts = omega (arith, t.as_many, within) in
@@ -187,14 +255,14 @@ pub insert-requires-clause-narrow : goal.insert-requires-clause-narrow
 insert-requires-clause-narrow c = λ narrow.
     let f = (goal.at.insert-requires-clause-narrow c).After-info-front in
     let both = both_are f c.info.result c.plus.result c.info.ensures.value c.plus.ensures.sum in
-    let few = few_bytes _ _ _ _ _ _ (cut f) c.self.inside.totals c.retotal.new.self (totals f) c.retotal.ensures.len (rw (old_is f, both) at c.retotal.ensures.after) narrow in
+    let few = few_bytes _ _ _ _ _ _ (cut f) c.self.inside.totals c.retotal-2.new.self (totals f) c.retotal-2.ensures.len (rw (old_is f, both) at c.retotal-2.ensures.after) narrow in
     let before = before_is f c.total_before.result c.total_before.ensures.first c.total_before.ensures.later in
     rw (first_is f c.total_before.result c.plus-total.result before c.plus-total.ensures.sum) (first_narrow _ _ _ _ _ _ (cut f) few)
 
 -- the nodes in use, with the second part of the leaf behind the first
-placed : (c : After-put_behind) → c.put_behind.new.nodes ≡ insert (set c.args.self.now c.way_in-place.result.0 c.cut.new.self) (c.way_in-place.result.0 + 1) c.in-Some.back
+placed : (c : After-put_behind) → c.put_behind.new.nodes ≡ insert (set c.args.self.now c.way_in-place.result.0 c.cut.new.self) (c.way_in-place.result.0 + 1) c.in-Parted.back
 placed c =
-    put_in_place c.self.inside c.args.self.now c.way_in-place.result.0 c.cut.new.self c.in-Some.back c.len-count.result c.put_behind.new.nodes c.self.invariant c.self.view_is c.way_in-place.ensures.child
+    put_in_place c.self.inside c.args.self.now c.way_in-place.result.0 c.cut.new.self c.in-Parted.back c.len-count.result c.put_behind.new.nodes c.self.invariant c.self.view_is c.way_in-place.ensures.child
     c.len-count.ensures (omega (arith, c.if-count-ge-MAX_CHILDREN.false)) c.put_behind.ensures
 
 -- as many as there are places for
@@ -204,10 +272,10 @@ as_many c =
     let k = c.way_in-place.result.0 in
     let u = c.cut.new.self in
     let within = c.way_in-place.ensures.child in
-    omega (arith, ap length (placed c), length-insert (set ts k u) (k + 1) c.in-Some.back (omega (arith, length-set ts k u, within)), length-set ts k u, c.len-count.ensures, c.self.invariant.totals_right.as_many, ap length c.self.view_is)
+    omega (arith, ap length (placed c), length-insert (set ts k u) (k + 1) c.in-Parted.back (omega (arith, length-set ts k u, within)), length-set ts k u, c.len-count.ensures, c.self.invariant.totals_right.as_many, ap length c.self.view_is)
 
 module _ (c : After-info-front) (total back both : TextInfo) (mid after : List TextInfo) (first : total ≡ info_sum (info_of (breaks_of c.args.self.now) (joined (take c.way_in-place.result.0 c.args.self.now))) (info_of (breaks_of c.args.self.now) (text c.cut.new.self)))
-    (parts_are : both ≡ info_sum (info_of (breaks_of c.args.self.now) (text c.cut.new.self)) (info_of (breaks_of c.args.self.now) (text c.in-Some.back)))
+    (parts_are : both ≡ info_sum (info_of (breaks_of c.args.self.now) (text c.cut.new.self)) (info_of (breaks_of c.args.self.now) (text c.in-Parted.back)))
     (len : length mid ≡ length c.self.inside.totals) (before : (j : ℕ) (d : TextInfo) → j < c.way_in-place.result.0 → get_or mid j d ≡ get_or c.self.inside.totals j d)
     (past : (j : ℕ) (d : TextInfo) → c.way_in-place.result.0 ≤ j → j < length c.self.inside.totals → info_sum (get_or mid j d) c.info-old.result ≡ info_sum (get_or c.self.inside.totals j d) both)
     (more : length after ≡ length mid + 1) (early : (j : ℕ) (d : TextInfo) → j < c.way_in-place.result.0 → get_or after j d ≡ get_or mid j d) (own : (d : TextInfo) → get_or after c.way_in-place.result.0 d ≡ total)
@@ -226,7 +294,7 @@ invariant_of-self-2 c =
     let f = (goal.at.invariant_of-self-2 c).After-info-front in
     let first = first_is f c.total_before.result c.plus-total.result (before_is f c.total_before.result c.total_before.ensures.first c.total_before.ensures.later) c.plus-total.ensures.sum in
     let both = both_are f c.info.result c.plus.result c.info.ensures.value c.plus.ensures.sum in
-    let right = retotaled f c.plus-total.result c.info.result c.plus.result c.retotal.new.self c.insert.new.self first both c.retotal.ensures.len c.retotal.ensures.before c.retotal.ensures.after
+    let right = retotaled f c.plus-total.result c.info.result c.plus.result c.retotal-2.new.self c.insert.new.self first both c.retotal-2.ensures.len c.retotal-2.ensures.before c.retotal-2.ensures.after
     c.insert.ensures.len c.insert.ensures.before c.insert.ensures.here c.insert.ensures.behind in
     more_listed c.self.inside _ c.args.self.now c.put_behind.new.nodes c.way_in-place.result.0 c.cut.new.self c.len-count.result c.self.invariant c.self.view_is c.way_in-place.ensures.child (rw (placed e) (children f)) refl refl
     (as_many e) c.len-count.ensures refl (rw (placed e) right)
@@ -238,7 +306,7 @@ returns-clause-tried c = record {
       let f = (goal.at.returns-clause-tried c).After-info-front in
       let first = first_is f c.total_before.result c.plus-total.result (before_is f c.total_before.result c.total_before.ensures.first c.total_before.ensures.later) c.plus-total.ensures.sum in
       let both = both_are f c.info.result c.plus.result c.info.ensures.value c.plus.ensures.sum in
-      let right = retotaled f c.plus-total.result c.info.result c.plus.result c.retotal.new.self c.insert.new.self first both c.retotal.ensures.len c.retotal.ensures.before c.retotal.ensures.after
+      let right = retotaled f c.plus-total.result c.info.result c.plus.result c.retotal-2.new.self c.insert.new.self first both c.retotal-2.ensures.len c.retotal-2.ensures.before c.retotal-2.ensures.after
       c.insert.ensures.len c.insert.ensures.before c.insert.ensures.here c.insert.ensures.behind in
       let now : HasTotals (breaks_of c.put_behind.new.nodes) c.insert.new.self c.put_behind.new.nodes = rw (placed e) right in
       let seen = more_seen c.self.inside (record { height = _; breaks = _; last = c.self.inside.last; totals = _; nodes = _ }) c.args.self.now c.put_behind.new.nodes c.way_in-place.result.0 c.cut.new.self c.len-count.result c.self.invariant c.self.view_is c.way_in-place.ensures.child (rw (placed e) (children f)) refl refl

@@ -1,0 +1,80 @@
+//! Short texts put into trees beside the old ones, which stay as they are.
+ghost use Rattle.std.specs.Prelude.{◌≡◌, ◌+◌, ◌*◌, ◌<◌, ◌≤◌, ◌^◌, length, IfOk};
+ghost use Rattle.rope_text.specs.declared.TheConstants.{MAX_SHORT_BYTES};
+ghost use Rattle.rope_text.specs.Text.{byte_len};
+ghost use Rattle.rope_text.specs.Edit.{inserted};
+ghost use Rattle.rope_tree.specs.Tree.{text, leaf_tree};
+ghost use Rattle.rope_tree.specs.View.{trees_in};
+ghost use Rattle.rope_tree.specs.Insert.{TakesShort, MayInsert, IsInserted};
+
+use super::row::{Row, pack};
+use super::{Node, Nodes, View, make_leaf};
+use crate::leaf_edits::leaf_with;
+use crate::node_text::halves_of;
+use crate::search::char_to_hold;
+use crate::{Made, Maker, ShortText, Unit, place_of, total_before};
+use rope_text::{MAX_BYTES, Steps, TextInfo};
+
+/// The leaf with another text before its character `at`, or two leaves where one can't hold both. The counts of the leaf
+/// that was are not taken again: only the new text is counted, and of two leaves the first.
+fn insert_into_leaf(
+    maker: &mut Maker,
+    node: &Node,
+    leaf: &ShortText<'_>,
+    at: usize,
+    added: &ShortText<'_>,
+) -> Made<Nodes>
+    requires leaf { node.now ≡ leaf_tree node.now.breaks leaf.now }
+    requires some { 1 ≤ length added.now }
+    requires short { byte_len added.now ≤ MAX_SHORT_BYTES }
+    ensures ok { IfOk result (λ nodes.
+        IsInserted node.now (trees_in nodes) (inserted leaf.now at added.now)) }
+    ensures made { maker.new.made ≤ maker.old.made + 2 }
+    ensures some_made { maker.old.made + 1 < 2 ^ 64 → maker.old.made < maker.new.made }
+    ensures rises { maker.old.made ≤ maker.new.made }
+{
+    let breaks = node.line_breaks();
+    let (grown, info) = leaf_with(node.info(), leaf, at, added, breaks);
+    let text = grown.as_str();
+    if text.len() <= MAX_BYTES {
+        let node = make_leaf(maker, breaks, text, info)?;
+        return Ok(Nodes::One(node));
+    }
+    let (front, back) = halves_of(text);
+    let front_info = TextInfo::from_str(front, breaks);
+    let back_info = info.minus(front_info);
+    let first = make_leaf(maker, breaks, front, front_info)?;
+    let second = make_leaf(maker, breaks, back, back_info)?;
+    Ok(Nodes::Two(first, second))
+}
+
+/// The tree with a text of at most 981 bytes before its character `at`, as one tree or two of the same height. The old
+/// tree stays as it is; what both have in common is shared.
+pub(crate) fn insert(
+    maker: &mut Maker,
+    node: &Node,
+    at: usize,
+    added: &ShortText<'_>,
+    to_right: bool,
+) -> Made<Nodes>
+    requires takes { TakesShort node.now at added.now }
+    requires side { MayInsert node.now at added.now to_right }
+    ensures ok { IfOk result (λ nodes.
+        IsInserted node.now (trees_in nodes) (inserted (text node.now) at added.now)) }
+    ensures made { maker.new.made ≤ maker.old.made + 2 * node.now.height + 2 }
+    ensures some_made { maker.old.made + 1 < 2 ^ 64 → maker.old.made < maker.new.made }
+    ensures rises { maker.old.made ≤ maker.new.made }
+{
+    match node.view() {
+        View::Leaf(leaf) => insert_into_leaf(maker, node, &leaf, at, added),
+        View::Inner(children, totals) => {
+            let held = char_to_hold(at, to_right);
+            let place = place_of(totals, Unit::Char, held, &mut Steps::new());
+            let front = total_before(totals, place).chars;
+            let middle = insert(maker, &children[place], at - front, added, to_right)?;
+            let row = Row::of(children, totals);
+            let (before, after) = (row.first(place), row.rest(place + 1));
+            pack(maker, before, middle, after)
+        }
+    }
+}
