@@ -6,9 +6,8 @@ use Rattle.rope_tree.specs.declared.node.Node.TheInside.{Inside}
 use Rattle.rope_tree.specs.Shape.{IsLeafNode, IsForm, IsNode}
 use Rattle.rope_tree.specs.Falls.{tallest_below}
 use Rattle.rope_tree.specs.Tree.{text, joined, breaks_of, height_of, tree_over}
-use Rattle.rope_text.specs.TextInfo.{info_of}
+use Rattle.rope_text.specs.TextInfo.{info_of, HasPart}
 use Rattle.rope_tree.specs.Change.{IsChange, no_counts}
-use Rattle.rope_tree.specs.Search.{HasPart}
 use Rattle.rope_tree.specs.Insert.{TakesShort, MayInsert, IsInserted}
 use Rattle.rope_tree.proofs.NodeLaws.{small_totals}
 use Rattle.rope_tree.proofs.InsertDescents.{takes}
@@ -94,17 +93,8 @@ Children::insert_in_place-returns-clause-change t c = λ yes. change_seen c.new.
     c.insert_in_place.new.self (c.in_ok-insert_in_place.ensures.tried.done c.if-not-branch-2.false) c.new.result c.insert_in_place.new.more (change_from c.new.result c.insert_in_place.new.more _ _ c.new.ensures (c.in_ok-insert_in_place.ensures.change c.if-not-branch-2.false)) (record { height = _; breaks = _; last = c.self.inside.last; totals = _; nodes = _ }) refl refl refl
     c.self.inside.totals c.retotal.new.self refl c.retotal.ensures.len c.retotal.ensures.before c.retotal.ensures.after refl)
 
-pub Children::insert_in_place-minus-requires-clause-bytes : goal.Children::insert_in_place-minus-requires-clause-bytes
-Children::insert_in_place-minus-requires-clause-bytes t c = (cut_has t (goal.at.Children::insert_in_place-minus-requires-clause-bytes t c).After-total).bytes
-
-pub Children::insert_in_place-minus-requires-clause-chars : goal.Children::insert_in_place-minus-requires-clause-chars
-Children::insert_in_place-minus-requires-clause-chars t c = (cut_has t (goal.at.Children::insert_in_place-minus-requires-clause-chars t c).After-total).chars
-
-pub Children::insert_in_place-minus-requires-clause-utf16_surrogates : goal.Children::insert_in_place-minus-requires-clause-utf16_surrogates
-Children::insert_in_place-minus-requires-clause-utf16_surrogates t c = (cut_has t (goal.at.Children::insert_in_place-minus-requires-clause-utf16_surrogates t c).After-total).surrogates
-
-pub Children::insert_in_place-minus-requires-clause-break_count : goal.Children::insert_in_place-minus-requires-clause-break_count
-Children::insert_in_place-minus-requires-clause-break_count t c = (cut_has t (goal.at.Children::insert_in_place-minus-requires-clause-break_count t c).After-total).count
+pub Children::insert_in_place-minus-requires : goal.Children::insert_in_place-minus-requires
+Children::insert_in_place-minus-requires t c = cut_has t (goal.at.Children::insert_in_place-minus-requires t c).After-total
 
 pub Children::insert_in_place-returns-then-matches-clause-change :
     goal.Children::insert_in_place-returns-then-matches-clause-change

@@ -11,7 +11,7 @@ use Rattle.rope_text.proofs.LineSeams.{break_count-front}
 use Rattle.rope_text.proofs.Measures.{IsMeasure-byte_len, size_le_all}
 use Rattle.rope_tree.specs.Tree.{text}
 use Rattle.rope_tree.specs.Search.{IsSmall}
-use Rattle.rope_tree.proofs.Infos.{small_info}
+use Rattle.rope_tree.proofs.Infos.{small_info, small_sum}
 use Rattle.rope_part.specs.Excerpt.{text_of, breaks_of}
 use Rattle.rope_part.proofs.LeafLines.{line_in_leaf}
 use Rattle.rope_part.proofs.Measured.{measured}
@@ -69,29 +69,8 @@ returns-then-line_idx-eq0-clause-end c =
 pub line_start_at-requires-clause-within : goal.line_start_at-requires-clause-within
 line_start_at-requires-clause-within c = let m = measured _ _ _ _ c.args.self.now.is_excerpt in omega (arith, c.place.ensures.value)
 
-pub plus-requires-clause-bytes : goal.plus-requires-clause-bytes
-plus-requires-clause-bytes c =
-    let here = (goal.at.plus-requires-clause-bytes c).Else-line-eq0 in
-    let s = small here in
-    omega (arith, ap (λ x. x.bytes) (sum_is here))
-
-pub plus-requires-clause-chars : goal.plus-requires-clause-chars
-plus-requires-clause-chars c =
-    let here = (goal.at.plus-requires-clause-chars c).Else-line-eq0 in
-    let s = small here in
-    omega (arith, ap (λ x. x.chars) (sum_is here))
-
-pub plus-requires-clause-utf16_surrogates : goal.plus-requires-clause-utf16_surrogates
-plus-requires-clause-utf16_surrogates c =
-    let here = (goal.at.plus-requires-clause-utf16_surrogates c).Else-line-eq0 in
-    let s = small here in
-    omega (arith, ap (λ x. x.utf16_surrogates) (sum_is here))
-
-pub plus-requires-clause-break_count : goal.plus-requires-clause-break_count
-plus-requires-clause-break_count c =
-    let here = (goal.at.plus-requires-clause-break_count c).Else-line-eq0 in
-    let s = small here in
-    omega (arith, ap (λ x. x.break_count) (sum_is here))
+pub plus-requires : goal.plus-requires
+plus-requires c = let here = (goal.at.plus-requires c).Else-line-eq0 in small_sum _ _ (rw (sum_is here) (small here))
 
 pub counts_to-before-requires-clause-later : goal.counts_to-before-requires-clause-later
 counts_to-before-requires-clause-later c = line_later _ _ _ _ _ c.args.self.now.is_excerpt c.args.line_idx (omega arith) (start_is (goal.at.counts_to-before-requires-clause-later c).After-line_start_at)
