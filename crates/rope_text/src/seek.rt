@@ -2,8 +2,7 @@
 //! the place, and that one is halved. What is left behind the last block is gone through byte by byte.
 //! A place that isn't there is the end.
 //!
-//! The first line break of a text is found with what the text before it counts, in one pass. The three numbers stand as characters,
-//! bytes and pairs: with the two counts side by side, the compiler would add them up in one vector register, which takes longer.
+//! The first line break of a text is found with what the text before it counts, in one pass.
 #![tactic(auto, using(crate::proofs::Blocks::begins_le, crate::proofs::Blocks::pairs_le, crate::proofs::Blocks::byte_break_count_le))]
 
 ghost use Rattle.std.specs.Prelude.{◌≡◌, ◌+◌, ◌<◌, ◌≤◌, length, count_by, drop, take, IsTrue};
@@ -243,58 +242,63 @@ pub(crate) fn front_of_line(text: &str, line_idx: usize, breaks: LineBreaks) -> 
     counts
 }
 
+/// The bytes before a place, with no line break among them, and what they count.
+// In this order: with the two counts side by side, the compiler would add them up in one vector register, which takes longer.
+#[derive(Clone, Copy)]
+pub(crate) struct Front {
+    pub chars: usize,
+    pub at: usize,
+    pub pairs: usize,
+}
+
 // Goes on from a place near the end to the next break, or to the end of the last block that can be read; a place behind that end
 // stays.
-fn go_in_last_block(
-    bytes: &[u8],
-    from: (usize, usize, usize),
-    breaks: LineBreaks,
-) -> (usize, usize, usize)
-    requires near { length bytes.now ≤ from.1 + 34 }
-    requires front { IsFront breaks bytes.now from.0 from.1 from.2 }
-    ensures { IsFront breaks bytes.now result.0 result.1 result.2 }
+fn go_in_last_block(bytes: &[u8], from: Front, breaks: LineBreaks) -> Front
+    requires near { length bytes.now ≤ from.at + 34 }
+    requires front { IsFront breaks bytes.now from.chars from.at from.pairs }
+    ensures { IsFront breaks bytes.now result.chars result.at result.pairs }
 {
-    let (chars, start, pairs) = from;
-    if bytes.len() < 34 || start > bytes.len() - 2 {
+    if bytes.len() < 34 || from.at > bytes.len() - 2 {
         return from;
     }
     let at = bytes.len() - 34;
-    let skip = start - at;
+    let skip = from.at - at;
     let begins = known_mask(bytes, at, Mark::Char);
     let doubles = known_mask(bytes, at, Mark::Pair);
     let marks = mask(bytes, at, Mark::Break(breaks)) >> skip;
     let to = skip + first_mark(marks).min(32 - skip);
-    (
-        chars + ones_between(begins, skip, to),
-        at + to,
-        pairs + ones_between(doubles, skip, to),
-    )
+    Front {
+        chars: from.chars + ones_between(begins, skip, to),
+        at: at + to,
+        pairs: from.pairs + ones_between(doubles, skip, to),
+    }
 }
 
 // The same to the next break or to the end of the bytes. Never inlined: it is needed once a chunk, and would only make its
 // callers longer.
 #[inline(never)]
-fn go_to_end(bytes: &[u8], from: (usize, usize, usize), breaks: LineBreaks) -> (usize, usize, usize)
-    requires near { length bytes.now ≤ from.1 + 34 }
-    requires front { IsFront breaks bytes.now from.0 from.1 from.2 }
-    ensures front { IsFront breaks bytes.now result.0 result.1 result.2 }
-    ensures inside { result.1 < length bytes.now → IsTrue (breaks_at breaks bytes.now result.1) }
+fn go_to_end(bytes: &[u8], from: Front, breaks: LineBreaks) -> Front
+    requires near { length bytes.now ≤ from.at + 34 }
+    requires front { IsFront breaks bytes.now from.chars from.at from.pairs }
+    ensures front { IsFront breaks bytes.now result.chars result.at result.pairs }
+    ensures inside { result.at < length bytes.now → IsTrue (breaks_at breaks bytes.now result.at) }
 {
-    let (mut chars, mut at, mut pairs) = go_in_last_block(bytes, from, breaks);
+    let front = go_in_last_block(bytes, from, breaks);
+    let (mut chars, mut at, mut pairs) = (front.chars, front.at, front.pairs);
     while at < bytes.len() && !is_mark(bytes, at, Mark::Break(breaks)) {
         chars += is_mark(bytes, at, Mark::Char) as usize;
         pairs += is_mark(bytes, at, Mark::Pair) as usize;
         at += 1;
     }
-    (chars, at, pairs)
+    Front { chars, at, pairs }
 }
 
 /// The bytes before the one at which the last character of the first line break begins, or all, and what they count: a block at a
 /// time. A set that is known where this is called leaves no test for it in the loop.
 #[inline(always)]
-pub(crate) fn to_first_break(bytes: &[u8], breaks: LineBreaks) -> (usize, usize, usize)
-    ensures front { IsFront breaks bytes.now result.0 result.1 result.2 }
-    ensures inside { result.1 < length bytes.now → IsTrue (breaks_at breaks bytes.now result.1) }
+pub(crate) fn to_first_break(bytes: &[u8], breaks: LineBreaks) -> Front
+    ensures front { IsFront breaks bytes.now result.chars result.at result.pairs }
+    ensures inside { result.at < length bytes.now → IsTrue (breaks_at breaks bytes.now result.at) }
 {
     let (mut chars, mut at, mut pairs) = (0, 0, 0);
     while bytes.len() - at >= 34 {
@@ -302,11 +306,13 @@ pub(crate) fn to_first_break(bytes: &[u8], breaks: LineBreaks) -> (usize, usize,
         if ones_before(masks.breaks, 32) > 0 {
             let skip = first_mark(masks.breaks);
             chars += ones_before(masks.chars, skip);
-            return (chars, at + skip, pairs + ones_before(masks.pairs, skip));
+            pairs += ones_before(masks.pairs, skip);
+            at += skip;
+            return Front { chars, at, pairs };
         }
         at += 32;
         chars += ones_before(masks.chars, 32);
         pairs += ones_before(masks.pairs, 32);
     }
-    go_to_end(bytes, (chars, at, pairs), breaks)
+    go_to_end(bytes, Front { chars, at, pairs }, breaks)
 }

@@ -62,9 +62,13 @@ impl TextInfo {
     {
         let bytes = text.as_bytes();
         // Each set has a loop of its own, since marks that come from one of three places are slow to put together.
-        let mut line = TextInfo::new();
-        (line.chars, line.bytes, line.utf16_surrogates) =
-            known_set!(breaks => to_first_break(bytes, breaks));
+        let front = known_set!(breaks => to_first_break(bytes, breaks));
+        let mut line = TextInfo {
+            bytes: front.at,
+            chars: front.chars,
+            utf16_surrogates: front.pairs,
+            break_count: 0,
+        };
         if line.bytes < bytes.len() {
             line.bytes += width_of(bytes[line.bytes]);
             line.chars += 1;

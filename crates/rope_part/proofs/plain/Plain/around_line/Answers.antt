@@ -33,7 +33,7 @@ sum_is c =
     ∙ sym (next_counts breaks t c.args.line_idx c.requires.within)
 
 pub returns-clause-end : goal.returns-clause-end
-returns-clause-end c = c.plus.ensures.sum ∙ sum_is (goal.at.returns-clause-end c).After-of_first_line-line
+returns-clause-end c = c.plus-end.ensures.sum ∙ sum_is (goal.at.returns-clause-end c).After-of_first_line-line
 
 pub returns-clause-held : goal.returns-clause-held
 returns-clause-held c =
@@ -55,5 +55,5 @@ small c =
     let next = line_start c.args.self.now.breaks t (c.args.line_idx + 1) in
     small_info c.args.self.now.breaks (take next t) (omega (arith, size_le_all byte_len IsMeasure-byte_len t next, c.requires.fits))
 
-pub plus-requires : goal.plus-requires
-plus-requires c = let here = (goal.at.plus-requires c).After-of_first_line-line in small_sum _ _ (rw (sum_is here) (small here))
+pub plus-end-requires : goal.plus-end-requires
+plus-end-requires c = let here = (goal.at.plus-end-requires c).After-of_first_line-line in small_sum _ _ (rw (sum_is here) (small here))
