@@ -167,12 +167,12 @@ impl<'a> Excerpt<'a> {
         } = place;
         let leaf = found.leaf.as_str();
         let lines = found.leaf.char_to_line_with(chars, self.node.line_breaks());
-        // a front with as many bytes as characters has no pairs
-        let wide = if chars == bytes { "" } else { &leaf[..bytes] };
+        // ASCII has no pairs.
+        let counted = if chars == bytes { "" } else { &leaf[..bytes] };
         TextInfo {
             bytes: found.before.bytes + bytes,
             chars: found.before.chars + chars,
-            utf16_surrogates: found.before.utf16_surrogates + count_surrogates(wide),
+            utf16_surrogates: found.before.utf16_surrogates + count_surrogates(counted),
             break_count: found.before.break_count + lines,
         }
     }

@@ -378,7 +378,7 @@ impl<'a> Part<'a> {
     /// end, which of lines is the one past the last.
     #[inline(always)]
     pub fn convert(&self, from: Unit, to: Unit, idx: usize) -> usize
-        requires pair { are_converted from to ≡ true }
+        requires units { are_converted from to ≡ true }
         requires within { idx ≤ end_index from (breaks_of self.now) (text_of self.now) }
         ensures { result ≡ converted from to (breaks_of self.now) (text_of self.now) idx }
     {

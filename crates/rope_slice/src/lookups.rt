@@ -243,7 +243,7 @@ impl<'a> RopeSlice<'a> {
     }
 
     /// The line, counted from 0, on which the character `char_idx` lies: how many line breaks end at or before it.
-    /// The place between CR and LF lies on the line that the pair ends.
+    /// The place between CR and LF lies on the line that they end.
     ///
     /// The index is at most `len_chars()`. Costs one or two look-ups; takes no memory.
     pub fn char_to_line(&self, char_idx: usize) -> usize

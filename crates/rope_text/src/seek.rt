@@ -56,7 +56,7 @@ pub(crate) fn find_from(bytes: &[u8], from: usize, n: usize, mark: Mark) -> usiz
     find(bytes, at, left, mark)
 }
 
-/// The pairs of blocks before the character `n`: their end, and which character it is from there on.
+/// The blocks before the character `n`, two at a time: their end, and which character it is from there on.
 pub(crate) fn skip_chars(bytes: &[u8], n: usize) -> (usize, usize)
     ensures { IsPassed Mark.Char bytes.now n result.0 result.1 }
 {
@@ -72,7 +72,7 @@ pub(crate) fn skip_chars(bytes: &[u8], n: usize) -> (usize, usize)
     (at, left)
 }
 
-/// The same from the end, where it is known how many characters there are: the last pair of blocks that begins at or before the
+/// The same from the end, where it is known how many characters there are: the last two blocks that begin at or before the
 /// character `n`, or the start, and which character it is from there on.
 pub(crate) fn skip_chars_back(bytes: &[u8], n: usize, chars: usize) -> (usize, usize)
     requires within { n ≤ chars }
@@ -97,20 +97,20 @@ pub(crate) fn skip_chars_back(bytes: &[u8], n: usize, chars: usize) -> (usize, u
 pub(crate) fn skip_breaks_back(
     bytes: &[u8],
     n: usize,
-    count: usize,
+    break_count: usize,
     breaks: LineBreaks,
 ) -> (usize, usize)
-    requires within { n ≤ count }
-    requires count { count ≡ byte_break_count breaks bytes.now }
+    requires within { n ≤ break_count }
+    requires break_count { break_count ≡ byte_break_count breaks bytes.now }
     ensures { IsPassed (Mark.Break breaks) bytes.now n result.0 result.1 }
 {
     let mut at = bytes.len().saturating_sub(ahead(Mark::Break(breaks)));
     let behind = marks_between(bytes, at, bytes.len(), Mark::Break(breaks));
-    if count - n <= behind {
-        return (at, behind - (count - n));
+    if break_count - n <= behind {
+        return (at, behind - (break_count - n));
     }
     // What is left are the breaks from `n` on that begin before `at`.
-    let mut left = count - n - behind;
+    let mut left = break_count - n - behind;
     while at >= 32 {
         let passed = marks_in(bytes, at - 32, Mark::Break(breaks));
         if left <= passed {
@@ -188,16 +188,16 @@ fn skip_known(bytes: &[u8], n: usize, breaks: LineBreaks) -> (usize, TextInfo)
 /// The byte with which the break `n` begins, where it is known how many breaks there are: from the
 /// side that has fewer of them. Inlined, since each caller's set is a constant.
 #[inline(always)]
-pub(crate) fn find_break(bytes: &[u8], n: usize, count: usize, breaks: LineBreaks) -> usize
-    requires within { n ≤ count }
-    requires count { count ≡ byte_break_count breaks bytes.now }
+pub(crate) fn find_break(bytes: &[u8], n: usize, break_count: usize, breaks: LineBreaks) -> usize
+    requires within { n ≤ break_count }
+    requires break_count { break_count ≡ byte_break_count breaks bytes.now }
     ensures { IsPlaceOf (Mark.Break breaks) bytes.now 0 n result }
 {
-    let (from, left) = if n < count / 2 {
+    let (from, left) = if n < break_count / 2 {
         let (left, counts) = skip_known(bytes, n, breaks);
         (counts.bytes, left)
     } else {
-        skip_breaks_back(bytes, n, count, breaks)
+        skip_breaks_back(bytes, n, break_count, breaks)
     };
     find_from(bytes, from, left, Mark::Break(breaks))
 }
@@ -264,13 +264,13 @@ fn go_in_last_block(bytes: &[u8], from: Front, breaks: LineBreaks) -> Front
     let at = bytes.len() - 34;
     let skip = from.at - at;
     let begins = known_mask(bytes, at, Mark::Char);
-    let doubles = known_mask(bytes, at, Mark::Pair);
+    let pairs = known_mask(bytes, at, Mark::Pair);
     let marks = mask(bytes, at, Mark::Break(breaks)) >> skip;
     let to = skip + first_mark(marks).min(32 - skip);
     Front {
         chars: from.chars + ones_between(begins, skip, to),
         at: at + to,
-        pairs: from.pairs + ones_between(doubles, skip, to),
+        pairs: from.pairs + ones_between(pairs, skip, to),
     }
 }
 

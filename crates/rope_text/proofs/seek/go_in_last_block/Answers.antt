@@ -40,8 +40,8 @@ returns c =
       pairs = omega (
         arith,
         c.requires.front.pairs,
-        c.known_mask-doubles.ensures skip few,
-        c.known_mask-doubles.ensures (skip + more) all,
+        c.known_mask-pairs.ensures skip few,
+        c.known_mask-pairs.ensures (skip + more) all,
         c.ones_between-2.ensures,
         ap (λ k. count_by begins_pair (drop k s)) start,
       );

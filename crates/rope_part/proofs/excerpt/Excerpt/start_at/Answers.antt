@@ -3,7 +3,7 @@ use Rattle.std.specs.Str.{chars, IsCharBoundary, IsUtf8}
 use Rattle.std.proofs.lemmas.List.{length-take}
 use Rattle.std.proofs.lemmas.List.Sums.{count_by-le-length}
 use Rattle.std.proofs.lemmas.Str.{length-le-encodes, chars-nil}
-use Rattle.rope_text.proofs.NarrowTexts.{utf16_len-le-bytes}
+use Rattle.rope_text.proofs.AsciiTexts.{utf16_len-le-bytes}
 use Rattle.rope_text.specs.Text.{byte_len, surrogate_count}
 use Rattle.rope_text.specs.Conversions.{char_to_line, char_to_byte}
 use Rattle.rope_text.proofs.Measures.{IsMeasure-byte_len, size_le_all}
@@ -29,17 +29,17 @@ pairs_are c =
     ∙ elim c.if-chars-bytes.branch [
       | then-chars-bytes w ↦
           let none : surrogate_count (take k leaf) ≡ 0 = omega (arith, utf16_len-le-bytes (take k leaf), w.if-chars-bytes.true, c.requires.bytes_are, length-take k leaf, within.0) in
-          ap (λ w. surrogate_count (chars w.now)) w.wide-is ∙ ap surrogate_count chars-nil ∙ sym none
+          ap (λ w. surrogate_count (chars w.now)) w.counted-is ∙ ap surrogate_count chars-nil ∙ sym none
       | else-chars-bytes w ↦
-          ap (λ w. surrogate_count (chars w.now)) w.wide-is
-          ∙ ap surrogate_count (front _ _ _ _ _ c.as_str-leaf.utf8 c.as_str-leaf.ensures.chars c.requires.bytes_are w.range-wide.ensures.value)
+          ap (λ w. surrogate_count (chars w.now)) w.counted-is
+          ∙ ap surrogate_count (front _ _ _ _ _ c.as_str-leaf.utf8 c.as_str-leaf.ensures.chars c.requires.bytes_are w.range-counted.ensures.value)
     ]
 
 lines_are : (c : After-char_to_line_with-lines) → c.char_to_line_with-lines.result ≡ char_to_line c.args.self.now.node.now.breaks c.args.place.found.leaf c.args.place.chars
 lines_are c = c.char_to_line_with-lines.ensures ∙ ap (λ b. char_to_line b c.args.place.found.leaf c.args.place.chars) c.line_breaks.ensures
 
-pub range-wide-requires-clause-end_boundary : goal.range-wide-requires-clause-end_boundary
-range-wide-requires-clause-end_boundary c = bytes_boundary c.as_str-leaf.result.now c.args.place.found.leaf c.args.place.chars c.args.place.bytes c.as_str-leaf.utf8 c.as_str-leaf.ensures.chars c.requires.bytes_are
+pub range-counted-requires-clause-end_boundary : goal.range-counted-requires-clause-end_boundary
+range-counted-requires-clause-end_boundary c = bytes_boundary c.as_str-leaf.result.now c.args.place.found.leaf c.args.place.chars c.args.place.bytes c.as_str-leaf.utf8 c.as_str-leaf.ensures.chars c.requires.bytes_are
 
 pub overflow_add-result : goal.overflow_add-result
 overflow_add-result c =
