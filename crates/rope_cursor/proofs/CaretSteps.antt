@@ -23,7 +23,8 @@ use Rattle.rope_cursor.specs.Path.{Place, leaves}
 use Rattle.rope_part.proofs.InChunks.{in_chunk}
 use Rattle.rope_text.specs.LineParts.{after_byte}
 use Rattle.rope_cursor.specs.Caret.{halves_at, HoldsAhead, IsCaret, PassesLine}
-use Rattle.rope_cursor.proofs.Carets.{some_break, here_apart, whole_text, size_two, size_front, front_place, half_of, AreHalf}
+use Rattle.rope_tree.specs.Search.{IsSmall}
+use Rattle.rope_cursor.proofs.Carets.{some_break, here_apart, whole_text, size_two, size_front, front_place, small_of}
 
 -- chunks of no text
 nothing_kept : (chunks : List (List ℕ)) → concat chunks ≡ [] → KeepsCrlf chunks
@@ -90,10 +91,10 @@ module _ (breaks : LineBreaks) (p : Place) (b : ℕ) (g : IsCaret p b) (info : T
         size_two (take j p.here) (drop j p.here),
       )
 
-  pub info_half : AreHalf info
-  info_half =
+  pub info_small : IsSmall info
+  info_small =
       let j : ℕ = byte_to_char p.here b in
-      half_of breaks (first_line breaks (drop j p.here)) info e (omega (arith, parts_fit, size_front (line_start breaks (drop j p.here) 1) (drop j p.here)))
+      small_of breaks (first_line breaks (drop j p.here)) info e (omega (arith, parts_fit, size_front (line_start breaks (drop j p.here) 1) (drop j p.here)))
 
   pub place_fits : b + info.bytes < 2 ^ 63
   place_fits =
@@ -126,8 +127,8 @@ module _ (breaks : LineBreaks) (p : Place) (b : ℕ) (g : IsCaret p b) (info : T
       }
 
   module _ (q : Place) (d : ℕ) (more : TextInfo) (few : info.break_count ≤ 0) (h : PassesLine breaks (concat p.before ++ p.here) (concat p.after) q d more) where
-    pub more_half : AreHalf more
-    more_half = half_of breaks (first_line breaks (concat p.after)) more h.counts (omega (arith, parts_fit, size_front (line_start breaks (concat p.after) 1) (concat p.after)))
+    pub more_small : IsSmall more
+    more_small = small_of breaks (first_line breaks (concat p.after)) more h.counts (omega (arith, parts_fit, size_front (line_start breaks (concat p.after) 1) (concat p.after)))
 
     pub pass_over : (sum : TextInfo) → sum ≡ info_sum info more → PassesLine breaks (halves_at p b).front (halves_at p b).back q d sum
     pass_over sum sum_is =

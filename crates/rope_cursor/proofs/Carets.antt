@@ -1,11 +1,9 @@
 -- Lines that lie over several chunks.
-use Rattle.std.proofs.Common.{◌≡◌, ℕ, ◌+◌, ◌^◌, ◌<◌, ◌≤◌, false, List, [], ◌∷◌, ◌++◌, length, take, drop, refl, sym, ap, subst, ◌∙◌, arith, append_assoc, nat_le, inl, inr}
+use Rattle.std.proofs.Common.{◌≡◌, ℕ, ◌+◌, ◌^◌, ◌<◌, ◌≤◌, false, List, [], ◌∷◌, ◌++◌, length, take, drop, refl, sym, ap, subst, ◌∙◌, arith, append_assoc, inl, inr}
 use Rattle.std.specs.List.{concat}
 use Rattle.std.specs.Str.{chars, IsUtf8, IsCharBoundary}
 use Rattle.std.proofs.lemmas.Bool.{cases_lt}
 use Rattle.std.proofs.lemmas.List.{append-nil, take_at, take_all, drop_all, take-append-drop}
-use Rattle.std.proofs.lemmas.List.Sums.{count_by-le-length}
-use Rattle.std.proofs.lemmas.Str.{length-le-encodes}
 use Rattle.rope_text.specs.declared.line_breaks.LineBreaks.{LineBreaks}
 use Rattle.rope_text.specs.declared.text_info.TextInfo.{TextInfo}
 use Rattle.rope_text.specs.Text.{byte_len}
@@ -24,10 +22,11 @@ use Rattle.rope_text.proofs.CuttingLaws.{concat-append, parts_crlf-append}
 use Rattle.rope_text.proofs.ChunkLaws.{KeepsCrlf-right}
 use Rattle.rope_text.proofs.LineLaws.{line_start-le-length}
 use Rattle.rope_text.proofs.LineSeams.{parts_crlf-take, first_line-left, first_line-right, first_line-all, no_break_at_all, break_count-apart}
-use Rattle.rope_text.proofs.InfoLaws.{break_count-le-length}
 use Rattle.rope_cursor.specs.Path.{Place, IsNext, leaves}
 use Rattle.rope_text.specs.LineParts.{after_byte, IsBetween}
 use Rattle.rope_cursor.specs.Caret.{AreChunks, PassesLine, PassedTexts, PassedChunks}
+use Rattle.rope_tree.specs.Search.{IsSmall}
+use Rattle.rope_tree.proofs.Infos.{small_info}
 use Rattle.rope_cursor.proofs.Spans.{leaves_next}
 
 -- no CR meets LF behind joined texts, or before part of a text
@@ -48,22 +47,9 @@ chunks_next p q n h = record {
   fits = rw (leaves_next p q n) h.fits;
 }
 
--- small counts
-pub record AreHalf (info : TextInfo) : Type 0 where
-  pub bytes : info.bytes < 2 ^ 63
-  pub chars : info.chars < 2 ^ 63
-  pub utf16_surrogates : info.utf16_surrogates < 2 ^ 63
-  pub break_count : info.break_count < 2 ^ 63
-
-pub half_of : (breaks : LineBreaks) (text : List ℕ) (info : TextInfo) → info ≡ info_of breaks text → byte_len text < 2 ^ 63 → AreHalf info
-half_of breaks text info e fits =
-    let long = length-le-encodes text in
-    record {
-      bytes = omega (arith, ap (λ x. x.bytes) e);
-      chars = omega (arith, ap (λ x. x.chars) e);
-      utf16_surrogates = omega (arith, ap (λ x. x.utf16_surrogates) e, count_by-le-length (λ c. nat_le 65536 c) text);
-      break_count = omega (arith, ap (λ x. x.break_count) e, break_count-le-length breaks text);
-    }
+-- the counts of a small text
+pub small_of : (breaks : LineBreaks) (text : List ℕ) (info : TextInfo) → info ≡ info_of breaks text → byte_len text < 2 ^ 63 → IsSmall info
+small_of breaks text info e fits = rw e (small_info breaks text fits)
 
 -- the size of a text within the chunks
 pub whole_text : (p : Place) → concat (leaves p) ≡ (concat p.before ++ p.here) ++ concat p.after
@@ -171,13 +157,13 @@ module _ (breaks : LineBreaks) (old : Place) where
         }
 
     -- the sums fit
-    pub more_fits : (more : TextInfo) → more ≡ info_of breaks (first_line breaks q.here) → AreHalf info × AreHalf more
+    pub more_fits : (more : TextInfo) → more ≡ info_of breaks (first_line breaks q.here) → IsSmall info × IsSmall more
     more_fits more e =
         let whole = ap byte_len (whole_text p) ∙ size_two (concat p.before ++ p.here) (concat p.after) in
         let front = ap byte_len h.front_is ∙ size_two (concat old.before ++ old.here) text in
         let back = ap byte_len ahead_is ∙ size_two q.here (concat q.after) in
         let line = size_front (line_start breaks q.here 1) q.here in
-        (half_of breaks text info h.counts (omega (arith, h.chunks.fits)), half_of breaks (first_line breaks q.here) more e (omega (arith, h.chunks.fits)))
+        (small_of breaks text info h.counts (omega (arith, h.chunks.fits)), small_of breaks (first_line breaks q.here) more e (omega (arith, h.chunks.fits)))
 
   -- no chunk is left: the line ends with the text
   pub passes_all : (p : Place) (info : TextInfo) (bytes : ℕ) → PassedChunks breaks old p info → p.after ≡ [] → bytes ≡ byte_len p.here

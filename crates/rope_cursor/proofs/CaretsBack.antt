@@ -26,7 +26,8 @@ use Rattle.rope_part.proofs.PartsBetween.{char_at_byte}
 use Rattle.rope_text.specs.LineParts.{before_byte, after_byte}
 use Rattle.rope_cursor.specs.Caret.{halves_at, AreChunks, IsCaret, PassesBack, PassedBack, PassedBackTo}
 use Rattle.rope_cursor.proofs.Spans.{leaves_next}
-use Rattle.rope_cursor.proofs.Carets.{apart_joined, apart_front, here_apart, front_place, half_of, AreHalf, size_two, whole_text}
+use Rattle.rope_cursor.proofs.Carets.{apart_joined, apart_front, here_apart, front_place, small_of, size_two, whole_text}
+use Rattle.rope_tree.specs.Search.{IsSmall}
 use Rattle.rope_cursor.proofs.CaretSteps.{apart_back}
 
 -- the place behind the last byte is behind the last character
@@ -149,14 +150,14 @@ module _ (breaks : LineBreaks) (skip left : ℕ) (front back x y q : List ℕ) (
         counts = sum_is sum s ∙ ap (λ n. info_of breaks (drop n x ++ q)) (none_inside none);
       }
 
-  pub both_half : AreHalf more × AreHalf info
-  both_half =
+  pub both_small : IsSmall more × IsSmall info
+  both_small =
       let k : ℕ = last_start breaks x left in
       let whole = ap byte_len (whole_text p) ∙ ap byte_len (append_assoc (concat p.before) p.here (concat p.after)) ∙ size_two (concat p.before) (p.here ++ concat p.after) in
       let parts = ap byte_len ahead_is ∙ size_two (x ++ q) back in
       let two = size_two x q in
       let split = ap byte_len (sym (take-append-drop k x)) ∙ size_two (take k x) (drop k x) in
-      (half_of breaks (drop k x) more counts (omega (arith, chunks.fits)), half_of breaks q info passed (omega (arith, chunks.fits)))
+      (small_of breaks (drop k x) more counts (omega (arith, chunks.fits)), small_of breaks q info passed (omega (arith, chunks.fits)))
 
 -- what was passed, and then a line's start further back
 pub compose_back : (breaks : LineBreaks) (skip left : ℕ) (front back q : List ℕ) (p new : Place) (b : ℕ) (info more sum : TextInfo) → PassedBack breaks skip front back p info left q
@@ -237,8 +238,8 @@ module _ (breaks : LineBreaks) (skip left : ℕ) (front back text : List ℕ) (p
   pub chunk_over : (sum : TextInfo) → sum ≡ info_sum more info → start ≤ 0 → PassedBack breaks skip front back q sum (left - more.break_count) (q.here ++ text)
   chunk_over = over_back breaks skip left front back q.here [] text q start more info (chunks_prev p q n h.chunks) (sym (append-nil q.here)) chunk_behind chunk_front h.few chunk_apart start_is counts h.counts
 
-  pub chunk_half : AreHalf more × AreHalf info
-  chunk_half = both_half breaks skip left front back q.here [] text q start more info (chunks_prev p q n h.chunks) (sym (append-nil q.here)) chunk_behind chunk_front h.few chunk_apart start_is counts h.counts
+  pub chunk_small : IsSmall more × IsSmall info
+  chunk_small = both_small breaks skip left front back q.here [] text q start more info (chunks_prev p q n h.chunks) (sym (append-nil q.here)) chunk_behind chunk_front h.few chunk_apart start_is counts h.counts
 
 nothing_more : (breaks : LineBreaks) (info : TextInfo) → info ≡ info_sum info (info_of breaks [])
 nothing_more breaks info = same_info info (info_sum info (info_of breaks [])) (omega arith) (omega arith) (omega arith) (omega (arith, no_breaks breaks))
@@ -264,8 +265,8 @@ module _ (breaks : LineBreaks) (skip : ℕ) (p : Place) (b start : ℕ) (more : 
   caret_left = breaks_left breaks skip skip (halves_at p b).front (halves_at p b).back (take (byte_to_char p.here b) p.here) (drop (byte_to_char p.here b) p.here) [] p start more (info_of breaks [])
       g.chunks here_split refl here_front here_few (never (ends_in_cr (take (byte_to_char p.here b) p.here))) start_is counts refl
 
-  pub caret_half : AreHalf more
-  caret_half = (both_half breaks skip skip (halves_at p b).front (halves_at p b).back (take (byte_to_char p.here b) p.here) (drop (byte_to_char p.here b) p.here) [] p start more (info_of breaks [])
+  pub caret_small : IsSmall more
+  caret_small = (both_small breaks skip skip (halves_at p b).front (halves_at p b).back (take (byte_to_char p.here b) p.here) (drop (byte_to_char p.here b) p.here) [] p start more (info_of breaks [])
       g.chunks here_split refl here_front here_few (never (ends_in_cr (take (byte_to_char p.here b) p.here))) start_is counts refl).0
 
   caret_over : start ≤ 0 → PassedBack breaks skip (halves_at p b).front (halves_at p b).back p more (skip - more.break_count) (take (byte_to_char p.here b) p.here ++ [])
@@ -273,12 +274,12 @@ module _ (breaks : LineBreaks) (skip : ℕ) (p : Place) (b start : ℕ) (more : 
       g.chunks here_split refl here_front here_few (never (ends_in_cr (take (byte_to_char p.here b) p.here))) start_is counts refl more (nothing_more breaks more)
 
   module _ (new : Place) (d : ℕ) (other : TextInfo) (none : start ≤ 0) (r : PassesBack breaks (skip - more.break_count) (concat p.before) (p.here ++ concat p.after) new d other) where
-    pub other_half : AreHalf other
-    other_half =
+    pub other_small : IsSmall other
+    other_small =
         let k : ℕ = last_start breaks (concat p.before) (skip - more.break_count) in
         let whole = ap byte_len (whole_text p) ∙ ap byte_len (append_assoc (concat p.before) p.here (concat p.after)) ∙ size_two (concat p.before) (p.here ++ concat p.after) in
         let split = ap byte_len (sym (take-append-drop k (concat p.before))) ∙ size_two (take k (concat p.before)) (drop k (concat p.before)) in
-        half_of breaks (drop k (concat p.before)) other r.counts (omega (arith, g.chunks.fits))
+        small_of breaks (drop k (concat p.before)) other r.counts (omega (arith, g.chunks.fits))
 
     pub caret_composed : (sum : TextInfo) → sum ≡ info_sum other more → PassesBack breaks skip (halves_at p b).front (halves_at p b).back new d sum
     caret_composed sum s =

@@ -11,4 +11,4 @@ pub mod PiecesAhead
 pub mod Carets
 pub mod CaretSteps
 pub mod CaretsBack
-mod NarrowChunks
+mod AsciiChunks

@@ -20,7 +20,8 @@ use Rattle.rope_part.specs.InChunk.{IsInChunk}
 use Rattle.rope_part.proofs.InChunks.{in_chunk_end}
 use Rattle.rope_cursor.specs.Caret.{Halves, HoldsAhead}
 use Rattle.rope_cursor.specs.Lines.{IsLineStart}
-use Rattle.rope_cursor.proofs.Carets.{AreHalf, half_of, size_front}
+use Rattle.rope_tree.specs.Search.{IsSmall}
+use Rattle.rope_cursor.proofs.Carets.{small_of, size_front}
 
 -- a step forward
 module _ (c : Content) (h new : Halves) (before passed : TextInfo) (l total : ℕ) (breaks : LineBreaks) (s : IsLineStart c h before l total) (less : l < total) (same : breaks ≡ c.breaks)
@@ -57,13 +58,13 @@ module _ (c : Content) (h new : Halves) (before passed : TextInfo) (l total : �
         fits = s.fits;
       }
 
-  pub next_half : AreHalf before × AreHalf passed
-  next_half =
+  pub next_small : IsSmall before × IsSmall passed
+  next_small =
       let sum = next_counts c.breaks c.text l inside in
       let size = ap (λ x. x.bytes) sum in
       let most = size_front (line_start c.breaks c.text (l + 1)) c.text in (
-        half_of c.breaks (take (line_start c.breaks c.text l) c.text) before s.before_is (omega (arith, s.fits)),
-        half_of c.breaks (slice_range c.text (line_start c.breaks c.text l) (line_start c.breaks c.text (l + 1))) passed counts_are (omega (arith, s.fits)),
+        small_of c.breaks (take (line_start c.breaks c.text l) c.text) before s.before_is (omega (arith, s.fits)),
+        small_of c.breaks (slice_range c.text (line_start c.breaks c.text l) (line_start c.breaks c.text (l + 1))) passed counts_are (omega (arith, s.fits)),
       )
 
 -- a line starts in no CR LF

@@ -52,13 +52,13 @@ pub fn bytes_at<'a>(part: &Part<'a>, byte_idx: usize) -> Bytes<'a>
     ensures { result ≡ at_place (encode_utf8_all (text_of part.now)) byte_idx }
 {
     let total = part.info().bytes;
-    let (span, before, _, _) = Span::holding(part, Unit::Byte, byte_idx);
+    let (span, start) = Span::holding(part, Unit::Byte, byte_idx);
     let chunk = span.chunk();
     Bytes {
         span,
         chunk,
-        at: byte_idx - before,
-        before,
+        at: byte_idx - start.bytes,
+        before: start.bytes,
         total,
         is_backward: false,
     }

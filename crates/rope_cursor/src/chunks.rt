@@ -10,7 +10,7 @@ ghost use Rattle.rope_part.specs.Part.{text_of, chunks_of, breaks_of};
 ghost use Rattle.rope_cursor.specs.Starts.{IsItem, size_in, chunk_place};
 
 use crate::span::Span;
-use rope_part::Part;
+use rope_part::{Before, Part};
 use rope_tree::{Unit, count};
 use std::alloc::AllocError;
 use std::marker::Model;
@@ -50,15 +50,16 @@ pub fn all_chunks<'a>(part: &Part<'a>) -> Chunks<'a>
 
 /// A cursor before the chunk that holds a byte or a character, facing forward; at the end of the text past the last chunk.
 /// With it the bytes, the characters and the line breaks of the text before its place.
-pub fn chunks_at<'a>(part: &Part<'a>, unit: Unit, idx: usize) -> (Chunks<'a>, usize, usize, usize)
+pub fn chunks_at<'a>(part: &Part<'a>, unit: Unit, idx: usize) -> (Chunks<'a>, Before)
     requires unit { IsItem unit }
     requires within { idx ≤ size_in unit (text_of part.now) }
     ensures stands { StandsAt (breaks_of part.now) (chunks_of part.now)
-        (chunk_place unit (chunks_of part.now) idx) result.0 result.1 result.2 result.3 }
+        (chunk_place unit (chunks_of part.now) idx)
+        result.0 result.1.bytes result.1.chars result.1.break_count }
     ensures cut { IsCutting (text_of part.now) (chunks_of part.now) }
 {
     let info = part.info();
-    let (span, bytes, chars, break_count) = Span::holding(part, unit, idx);
+    let (span, before) = Span::holding(part, unit, idx);
     let is_past = idx == count(info, unit);
     let chunks = Chunks {
         span,
@@ -67,9 +68,14 @@ pub fn chunks_at<'a>(part: &Part<'a>, unit: Unit, idx: usize) -> (Chunks<'a>, us
         is_backward: false,
     };
     if is_past {
-        return (chunks, info.bytes, info.chars, info.break_count);
+        let all = Before {
+            bytes: info.bytes,
+            chars: info.chars,
+            break_count: info.break_count,
+        };
+        return (chunks, all);
     }
-    (chunks, bytes, chars, break_count)
+    (chunks, before)
 }
 
 impl<'a> Chunks<'a> {

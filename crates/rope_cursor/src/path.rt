@@ -12,7 +12,7 @@ ghost use Rattle.rope_cursor.specs.Path.{leaves, IsBeside, IsLast, IsNext, Holds
 ghost use Rattle.rope_cursor.specs.Way.{IsLow};
 ghost use Rattle.rope_cursor.specs.Starts.{IsItem, IsHolding, size_in};
 
-use rope_part::Excerpt;
+use rope_part::{Before, Excerpt};
 use rope_text::str_utils::byte_len_of;
 use rope_text::{Steps, TextInfo};
 use rope_tree::{Node, Unit, View, count, place_of, total_before};
@@ -210,27 +210,18 @@ impl<'a> TreeSpan<'a> {
     /// characters and the line breaks of the text before it.
     // Inlined, since a call would answer the way through memory.
     #[inline(always)]
-    pub(crate) fn holding(
-        excerpt: &Excerpt<'a>,
-        unit: Unit,
-        idx: usize,
-    ) -> (TreeSpan<'a>, usize, usize, usize)
+    pub(crate) fn holding(excerpt: &Excerpt<'a>, unit: Unit, idx: usize) -> (TreeSpan<'a>, Before)
         requires unit { IsItem unit }
         requires within { idx ≤ size_in unit (excerpt_text excerpt.now) }
         ensures { IsHolding unit idx (excerpt_content excerpt.now)
-            result.0 result.1 result.2 result.3 }
+            result.0 result.1.bytes result.1.chars result.1.break_count }
     {
         let start = excerpt.start;
         let place = excerpt.place(unit, idx).min(count(excerpt.end, unit) - 1);
         let (path, before) = Path::at(excerpt.node, unit, place);
         let (at, from, to) = (before.bytes, start.bytes, excerpt.end.bytes);
         let span = TreeSpan { path, at, from, to };
-        (
-            span,
-            before.bytes.saturating_sub(start.bytes),
-            before.chars.saturating_sub(start.chars),
-            before.break_count.saturating_sub(start.break_count),
-        )
+        (span, Before::since(before, start))
     }
 
     /// The same chunk, with a way of its own.

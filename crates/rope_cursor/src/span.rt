@@ -10,7 +10,7 @@ ghost use Rattle.rope_cursor.specs.Path.{IsBeside, IsLast, leaves};
 ghost use Rattle.rope_cursor.specs.Starts.{IsItem, IsHolding, size_in};
 
 use crate::path::TreeSpan;
-use rope_part::Part;
+use rope_part::{Before, Part};
 use rope_text::TextInfo;
 use rope_text::str_utils::char_to_byte_idx;
 use rope_tree::Unit;
@@ -42,25 +42,22 @@ impl<'a> Span<'a> {
     /// characters and the line breaks of the text before it. An empty part has no chunk: then it is the empty text.
     // Inlined, since a call would answer the way through memory.
     #[inline(always)]
-    pub(crate) fn holding(
-        part: &Part<'a>,
-        unit: Unit,
-        idx: usize,
-    ) -> (Span<'a>, usize, usize, usize)
+    pub(crate) fn holding(part: &Part<'a>, unit: Unit, idx: usize) -> (Span<'a>, Before)
         requires unit { IsItem unit }
         requires within { idx ≤ size_in unit (text_of part.now) }
-        ensures { IsHolding unit idx (content_of part.now) result.0 result.1 result.2 result.3 }
+        ensures { IsHolding unit idx (content_of part.now)
+            result.0 result.1.bytes result.1.chars result.1.break_count }
     {
         match part {
             Part::InTree(excerpt) => {
-                let (way, bytes, chars, breaks) = TreeSpan::holding(excerpt, unit, idx);
+                let (way, before) = TreeSpan::holding(excerpt, unit, idx);
                 let chunk = way.chunk();
                 let way = Some(way);
-                (Span { chunk, way }, bytes, chars, breaks)
+                (Span { chunk, way }, before)
             }
             Part::Alone(plain) => {
                 let (chunk, way) = (plain.text, None);
-                (Span { chunk, way }, 0, 0, 0)
+                (Span { chunk, way }, Before::none())
             }
         }
     }
@@ -80,8 +77,8 @@ impl<'a> Span<'a> {
         ensures byte { result.1
             ≡ char_to_byte result.0.here (char_idx - length (concat result.0.before)) }
     {
-        let (span, _, chars, _) = Span::holding(part, Unit::Char, char_idx);
-        let within = char_idx - chars;
+        let (span, before) = Span::holding(part, Unit::Char, char_idx);
+        let within = char_idx - before.chars;
         let byte = if info.bytes == info.chars {
             within
         } else {

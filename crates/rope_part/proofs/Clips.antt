@@ -15,7 +15,7 @@ clip_all [] b full l = refl
 clip_all ([] ∷ chunks) b full l = absurd (omega (arith, full 0 [] (omega arith)))
 clip_all ((c ∷ cs) ∷ chunks) b full l =
     let chunk : List ℕ = c ∷ cs in
-    let wide = length-append chunk (concat chunks) in
+    let whole = length-append chunk (concat chunks) in
     let kept : slice_range chunk 0 b ≡ chunk = take_all (b - 0) chunk (omega arith) in
     let none : 0 - length chunk ≡ 0 = omega arith in
     rw (kept, none) (ap (λ r. chunk ∷ r) (clip_all chunks (b - length chunk) (All-tail (λ part. 0 < length part) chunk chunks full) (omega arith)))

@@ -61,10 +61,10 @@ front_part size m text a b n l within fits =
       | inl less ↦ front-append_left size m part rest n less
       | inr all ↦
           let whole : n ≡ size part = omega arith in
-          let wide = ap size (take_at part rest (length part) refl) in
+          let front_is = ap size (take_at part rest (length part) refl) in
           let alone = ap size (take_all (length part) part (omega arith)) in
           let long : length part ≤ length (part ++ rest) = omega (arith, length-append part rest) in
-          ap (front size m (part ++ rest)) (whole ∙ sym wide) ∙ front_exact size m (part ++ rest) (length part) long
+          ap (front size m (part ++ rest)) (whole ∙ sym front_is) ∙ front_exact size m (part ++ rest) (length part) long
           ∙ sym (ap (front size m part) (whole ∙ sym alone) ∙ front_exact size m part (length part) (omega arith))
     ] in
     ap (λ t. front size m t (size (take a text) + n)) (around_part text a b l)

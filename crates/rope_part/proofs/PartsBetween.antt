@@ -6,7 +6,7 @@ use Rattle.rope_text.specs.declared.line_breaks.LineBreaks.{LineBreaks}
 use Rattle.rope_text.specs.declared.text_info.TextInfo.{TextInfo}
 use Rattle.rope_text.specs.Content.{Content}
 use Rattle.rope_text.specs.Text.{byte_len, surrogate_count}
-use Rattle.rope_text.specs.TextInfo.{info_of, info_sum}
+use Rattle.rope_text.specs.TextInfo.{info_of, info_sum, HasSum}
 use Rattle.rope_text.specs.Breaks.{break_count}
 use Rattle.rope_text.specs.Conversions.{byte_to_char}
 use Rattle.rope_text.specs.Cutting.{parts_crlf}
@@ -100,18 +100,12 @@ module _ (breaks : LineBreaks) (text : List ℕ) (start end : TextInfo) (s : IsE
         end_is = end_between to last (omega arith) (omega arith);
       }
 
--- counts whose sums fit
-pub record AreSmall (info : TextInfo) : Type 0 where
-  pub bytes : info.bytes < 2 ^ 64
-  pub chars : info.chars < 2 ^ 64
-  pub utf16_surrogates : info.utf16_surrogates < 2 ^ 64
-  pub break_count : info.break_count < 2 ^ 64
-
-pub small_between : (breaks : LineBreaks) (text : List ℕ) (start end : TextInfo) → IsExcerpt breaks text start end → byte_len text < 2 ^ 63 → AreSmall start × AreSmall end
-small_between breaks text start end s fits =
-    let m = measured breaks text start end s in (
-      record { bytes = omega arith; chars = omega arith; utf16_surrogates = omega arith; break_count = omega arith },
-      record { bytes = omega arith; chars = omega arith; utf16_surrogates = omega arith; break_count = omega arith },
+-- what is added to the counts before a part
+pub sums_between : (breaks : LineBreaks) (text : List ℕ) (base from to : TextInfo) → IsExcerpt breaks text (info_sum base from) (info_sum base to) → byte_len text < 2 ^ 63 → HasSum base from × HasSum base to
+sums_between breaks text base from to s fits =
+    let m = measured breaks text (info_sum base from) (info_sum base to) s in (
+      record { bytes = omega arith; chars = omega arith; surrogates = omega arith; count = omega arith },
+      record { bytes = omega arith; chars = omega arith; surrogates = omega arith; count = omega arith },
     )
 
 -- contents that are the same

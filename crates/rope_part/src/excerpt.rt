@@ -9,6 +9,7 @@ ghost use Rattle.rope_tree.specs.Tree.{IsTree, text};
 ghost use Rattle.rope_part.specs.Edge.{start_info, end_info, line_info, IsLeafFrom, IsExcerpt, IsExcerpt-prop, IsLowTree, IsLowTree-prop};
 ghost use Rattle.rope_part.specs.InChunk.{IsInChunk};
 
+use crate::plain::LinePlace;
 use rope_text::str_utils::{char_to_byte_idx, count_surrogates};
 use rope_text::{Steps, TextInfo};
 use rope_tree::{Found, Node, Unit, convert_in, count, leaf_at};
@@ -33,7 +34,12 @@ fn line_start_at(node: &Node, line_idx: usize) -> (TextInfo, &str)
 }
 
 // A place in a leaf: the leaf, with what stands before it, and how many of its bytes and of its characters stand before the place.
-type LeafPlace<'a> = (Found<'a>, usize, usize);
+#[derive(Drop)]
+struct LeafPlace<'a> {
+    found: Found<'a>,
+    bytes: usize,
+    chars: usize,
+}
 
 /// One character or more of a tree's text. It keeps the counts of the text before its start and before its end, so
 /// that a length is a difference of two of them, and a conversion is one of the tree's.
@@ -110,13 +116,17 @@ impl<'a> Excerpt<'a> {
     fn place_of_char(&self, char_idx: usize) -> LeafPlace<'a>
         requires { char_idx < length (text_of self.now) }
         ensures { IsLeafPlace self.now.node.now (self.now.start.chars + char_idx)
-            result.0.leaf result.0.before result.1 result.2 }
+            result.found.leaf result.found.before result.bytes result.chars }
     {
         let place = self.place(Unit::Char, char_idx);
         let found = leaf_at(self.node, Unit::Char, place, &mut Steps::new());
         let chars = place - found.before.chars;
         let bytes = found.leaf.char_to_byte_idx(chars);
-        (found, bytes, chars)
+        LeafPlace {
+            found,
+            bytes,
+            chars,
+        }
     }
 
     // The place of the character that begins at a byte; none where the byte lies inside a character.
@@ -124,7 +134,7 @@ impl<'a> Excerpt<'a> {
         requires { byte_idx < byte_len (text_of self.now) }
         ensures some { IfSome result (λ place. IsLeafPlace self.now.node.now
             (self.now.start.chars + byte_to_char (text_of self.now) byte_idx)
-            place.0.leaf place.0.before place.1 place.2) }
+            place.found.leaf place.found.before place.bytes place.chars) }
         ensures whole { IsSome result ↔ (is_char_boundary (text_of self.now) byte_idx ≡ true) }
     {
         let place = self.place(Unit::Byte, byte_idx);
@@ -136,40 +146,47 @@ impl<'a> Excerpt<'a> {
         }
         let breaks = self.node.line_breaks();
         let chars = convert_in(leaf, found.inside, breaks, Unit::Byte, Unit::Char, bytes);
-        Some((found, bytes, chars))
+        Some(LeafPlace {
+            found,
+            bytes,
+            chars,
+        })
     }
 
     // The `start` of its part from a place on.
     fn start_at(&self, place: LeafPlace<'a>) -> TextInfo
-        requires { IsLeafPlace self.now.node.now (place.0.before.chars + place.2)
-            place.0.leaf place.0.before place.1 place.2 }
+        requires { IsLeafPlace self.now.node.now (place.found.before.chars + place.chars)
+            place.found.leaf place.found.before place.bytes place.chars }
         ensures { result ≡ start_info self.now.node.now.breaks (text self.now.node.now)
-            (place.entry.0.before.chars + place.entry.2) }
+            (place.entry.found.before.chars + place.entry.chars) }
     {
-        let (found, bytes, chars) = place;
+        let LeafPlace {
+            found,
+            bytes,
+            chars,
+        } = place;
         let leaf = found.leaf.as_str();
         let lines = found.leaf.char_to_line_with(chars, self.node.line_breaks());
-        // a front with as many bytes as characters has no pairs
-        let wide = if chars == bytes { "" } else { &leaf[..bytes] };
+        // ASCII has no pairs.
+        let counted = if chars == bytes { "" } else { &leaf[..bytes] };
         TextInfo {
             bytes: found.before.bytes + bytes,
             chars: found.before.chars + chars,
-            utf16_surrogates: found.before.utf16_surrogates + count_surrogates(wide),
+            utf16_surrogates: found.before.utf16_surrogates + count_surrogates(counted),
             break_count: found.before.break_count + lines,
         }
     }
 
     // The `end` of its part up to a place.
     fn end_at(&self, place: LeafPlace<'a>) -> TextInfo
-        requires { IsLeafPlace self.now.node.now (place.0.before.chars + place.2)
-            place.0.leaf place.0.before place.1 place.2 }
+        requires { IsLeafPlace self.now.node.now (place.found.before.chars + place.chars)
+            place.found.leaf place.found.before place.bytes place.chars }
         ensures { result ≡ end_info self.now.node.now.breaks (text self.now.node.now)
-            (place.entry.0.before.chars + place.entry.2) }
+            (place.entry.found.before.chars + place.entry.chars) }
     {
-        let (found, bytes, _) = place;
-        let leaf = found.leaf.as_str();
-        let front = TextInfo::from_str(&leaf[..bytes], self.node.line_breaks());
-        found.before.plus(front)
+        let leaf = place.found.leaf.as_str();
+        let front = TextInfo::from_str(&leaf[..place.bytes], self.node.line_breaks());
+        place.found.before.plus(front)
     }
 
     /// The `start` of its part from a character on.
@@ -254,22 +271,29 @@ impl<'a> Excerpt<'a> {
 
     /// The counts of its text before a line, and before the next one; past the last line those of all of it. And what the leaf
     /// in which the line starts has from there on. One look-up, where the line ends before that leaf does.
-    pub(crate) fn around_line(&self, line_idx: usize) -> (TextInfo, TextInfo, &'a str)
+    pub(crate) fn around_line(&self, line_idx: usize) -> LinePlace<'a>
         requires { line_idx < line_count (breaks_of self.now) (text_of self.now) }
-        ensures start { result.0 ≡ line_info (breaks_of self.now) (text_of self.now) line_idx }
-        ensures end { result.1 ≡ line_info (breaks_of self.now) (text_of self.now) (line_idx + 1) }
-        ensures held { IsInChunk (text_of self.now) (chunks_of self.now) result.0.chars
-            (chars result.2.now) }
+        ensures start { result.start ≡ line_info (breaks_of self.now) (text_of self.now) line_idx }
+        ensures end { result.end
+            ≡ line_info (breaks_of self.now) (text_of self.now) (line_idx + 1) }
+        ensures held { IsInChunk (text_of self.now) (chunks_of self.now) result.start.chars
+            (chars result.held.now) }
     {
         if line_idx == 0 {
-            return (TextInfo::new(), self.before_line(1), self.first_held());
+            return LinePlace {
+                start: TextInfo::new(),
+                end: self.before_line(1),
+                held: self.first_held(),
+            };
         }
-        let (start, rest) = line_start_at(self.node, self.place(Unit::LineBreak, line_idx));
-        let line = TextInfo::of_first_line(rest, self.node.line_breaks());
-        let before = self.counts_to(start);
+        let (before, held) = line_start_at(self.node, self.place(Unit::LineBreak, line_idx));
+        let line = TextInfo::of_first_line(held, self.node.line_breaks());
+        let start = self.counts_to(before);
         if line.break_count == 0 {
-            return (before, self.before_line(line_idx + 1), rest);
+            let end = self.before_line(line_idx + 1);
+            return LinePlace { start, end, held };
         }
-        (before, self.counts_to(start.plus(line)), rest)
+        let end = self.counts_to(before.plus(line));
+        LinePlace { start, end, held }
     }
 }

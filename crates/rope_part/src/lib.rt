@@ -11,5 +11,5 @@ mod part;
 mod plain;
 
 pub use excerpt::Excerpt;
-pub use part::Part;
+pub use part::{Before, Part};
 pub use plain::Plain;

@@ -1,5 +1,5 @@
 //! A part of a text.
-ghost use Rattle.std.specs.Prelude.{◌≡◌, ◌≤◌, ◌<◌, ◌+◌, length, slice_get, take, drop, true, false, ◌↔◌, Some, OnSome, IfSome, IfNone, IsSome};
+ghost use Rattle.std.specs.Prelude.{◌≡◌, ◌≤◌, ◌<◌, ◌+◌, ◌-◌, length, slice_get, take, drop, true, false, ◌↔◌, Some, OnSome, IfSome, IfNone, IsSome};
 ghost use Rattle.std.specs.List.{slice_range};
 ghost use Rattle.std.specs.Str.{chars, encode_utf8_all};
 ghost use Rattle.rope_text.specs.Text.{byte_len};
@@ -17,7 +17,7 @@ ghost use Rattle.rope_part.specs.Found.{IsFoundChunk, MayHold, chunk_index};
 ghost use Rattle.rope_part.specs.InChunk.{IsInChunk};
 
 use crate::excerpt::Excerpt;
-use crate::plain::Plain;
+use crate::plain::{LinePlace, Plain};
 use rope_text::str_utils::{byte_len_of, char_to_byte_idx, first_char};
 use rope_text::{LineBreaks, MAX_BYTES, Steps, TextInfo};
 use rope_tree::{Node, Unit, byte_at, char_at, convert, convert_in, count, first_sought, leaf_at};
@@ -32,6 +32,43 @@ pub enum Part<'a> {
     InTree(Excerpt<'a>),
     /// A plain text.
     Alone(Plain<'a>),
+}
+
+/// The bytes, the characters and the line breaks of a text before a place in it.
+#[derive(Clone, Copy)]
+pub struct Before {
+    pub bytes: usize,
+    pub chars: usize,
+    pub break_count: usize,
+}
+
+impl Before {
+    /// Those before the start of a text: none.
+    #[inline(always)]
+    pub fn none() -> Before
+        ensures { result ≡ record { bytes = 0; chars = 0; break_count = 0 } }
+    {
+        Before {
+            bytes: 0,
+            chars: 0,
+            break_count: 0,
+        }
+    }
+
+    /// Those before a place, from a start on: none where the place lies before the start.
+    // Inlined: a call would store the numbers and load them again.
+    #[inline(always)]
+    pub fn since(place: TextInfo, start: TextInfo) -> Before
+        ensures bytes { result.bytes ≡ place.bytes - start.bytes }
+        ensures chars { result.chars ≡ place.chars - start.chars }
+        ensures break_count { result.break_count ≡ place.break_count - start.break_count }
+    {
+        Before {
+            bytes: place.bytes.saturating_sub(start.bytes),
+            chars: place.chars.saturating_sub(start.chars),
+            break_count: place.break_count.saturating_sub(start.break_count),
+        }
+    }
 }
 
 impl<'a> Part<'a> {
@@ -170,12 +207,13 @@ impl<'a> Part<'a> {
 
     // The counts of its text before a line, and before the next one; past the last line those of all of it. And what the chunk
     // in which the line starts has from there on.
-    fn around_line(&self, line_idx: usize) -> (TextInfo, TextInfo, &'a str)
+    fn around_line(&self, line_idx: usize) -> LinePlace<'a>
         requires { line_idx < line_count (breaks_of self.now) (text_of self.now) }
-        ensures start { result.0 ≡ line_info (breaks_of self.now) (text_of self.now) line_idx }
-        ensures end { result.1 ≡ line_info (breaks_of self.now) (text_of self.now) (line_idx + 1) }
-        ensures held { IsInChunk (text_of self.now) (chunks_of self.now) result.0.chars
-            (chars result.2.now) }
+        ensures start { result.start ≡ line_info (breaks_of self.now) (text_of self.now) line_idx }
+        ensures end { result.end
+            ≡ line_info (breaks_of self.now) (text_of self.now) (line_idx + 1) }
+        ensures held { IsInChunk (text_of self.now) (chunks_of self.now) result.start.chars
+            (chars result.held.now) }
     {
         // For the proof: `info` says that a part has at most `isize::MAX` bytes, so the counts up to the next line fit.
         let _ = self.info();
@@ -226,8 +264,8 @@ impl<'a> Part<'a> {
         requires { line_idx < line_count (breaks_of self.now) (text_of self.now) }
         ensures { content_of result ≡ line_of (content_of self.now) line_idx }
     {
-        let (start, end, held) = self.around_line(line_idx);
-        self.between(start, end, held)
+        let line = self.around_line(line_idx);
+        self.between(line.start, line.end, line.held)
     }
 
     /// The byte at a place.
@@ -266,14 +304,14 @@ impl<'a> Part<'a> {
 
     /// The chunk that holds a byte or a character; at the end of the text the last chunk. Or the one that holds the last character
     /// of a line break, counted from 0. With it the bytes, the characters and the line breaks that end before it. With no chunk it
-    /// is `("", 0, 0, 0)`.
+    /// is the empty text, with nothing before it.
     // Inlined: the unit is a constant at most calls, and a search for one kind of count has no test for it.
     #[inline(always)]
-    pub fn chunk_at(&self, unit: Unit, idx: usize) -> (&'a str, usize, usize, usize)
+    pub fn chunk_at(&self, unit: Unit, idx: usize) -> (&'a str, Before)
         requires { MayHold unit (breaks_of self.now) (text_of self.now) idx }
         ensures { IsFoundChunk (found_chunk (breaks_of self.now) (chunks_of self.now)
             (chunk_index unit (breaks_of self.now) (chunks_of self.now) idx))
-            (chars result.0.now) result.1 result.2 result.3 }
+            (chars result.0.now) result.1.bytes result.1.chars result.1.break_count }
     {
         match self {
             Part::InTree(excerpt) => {
@@ -284,37 +322,32 @@ impl<'a> Part<'a> {
                 let start = excerpt.start;
                 let from = start.bytes.saturating_sub(before.bytes);
                 let to = (excerpt.end.bytes - before.bytes).min(leaf.len());
-                (
-                    &leaf[from..to],
-                    before.bytes.saturating_sub(start.bytes),
-                    before.chars.saturating_sub(start.chars),
-                    before.break_count.saturating_sub(start.break_count),
-                )
+                (&leaf[from..to], Before::since(before, start))
             }
-            Part::Alone(plain) => (plain.text, 0, 0, 0),
+            Part::Alone(plain) => (plain.text, Before::none()),
         }
     }
 
     // The same, for callers that are small.
     #[inline(never)]
-    fn chunk_apart(&self, unit: Unit, idx: usize) -> (&'a str, usize, usize, usize)
+    fn chunk_apart(&self, unit: Unit, idx: usize) -> (&'a str, Before)
         requires { MayHold unit (breaks_of self.now) (text_of self.now) idx }
         ensures { IsFoundChunk (found_chunk (breaks_of self.now) (chunks_of self.now)
             (chunk_index unit (breaks_of self.now) (chunks_of self.now) idx))
-            (chars result.0.now) result.1 result.2 result.3 }
+            (chars result.0.now) result.1.bytes result.1.chars result.1.break_count }
     {
         self.chunk_at(unit, idx)
     }
 
     /// The first chunk by whose end so many line breaks have ended; where there are fewer, the last chunk. With it the bytes,
-    /// the characters and the line breaks that end before it. With no chunk it is `("", 0, 0, 0)`.
+    /// the characters and the line breaks that end before it. With no chunk it is the empty text, with nothing before it.
     ///
     /// That chunk holds the last character of the last of these breaks.
-    pub fn chunk_at_line_break(&self, line_break_idx: usize) -> (&'a str, usize, usize, usize)
+    pub fn chunk_at_line_break(&self, line_break_idx: usize) -> (&'a str, Before)
         requires { line_break_idx ≤ line_count (breaks_of self.now) (text_of self.now) }
         ensures { IsFoundChunk (found_chunk (breaks_of self.now) (chunks_of self.now)
             (chunk_index_at_line_break (breaks_of self.now) (chunks_of self.now) line_break_idx))
-            (chars result.0.now) result.1 result.2 result.3 }
+            (chars result.0.now) result.1.bytes result.1.chars result.1.break_count }
     {
         let info = self.info();
         if line_break_idx == 0 {
@@ -336,7 +369,7 @@ impl<'a> Part<'a> {
             return Some(plain.text);
         }
         let len = self.info().bytes;
-        let (chunk, _, _, _) = self.chunk_apart(Unit::Char, 0);
+        let (chunk, _) = self.chunk_apart(Unit::Char, 0);
         (byte_len_of(chunk) == len).then_some(chunk)
     }
 
@@ -345,7 +378,7 @@ impl<'a> Part<'a> {
     /// end, which of lines is the one past the last.
     #[inline(always)]
     pub fn convert(&self, from: Unit, to: Unit, idx: usize) -> usize
-        requires pair { are_converted from to ≡ true }
+        requires units { are_converted from to ≡ true }
         requires within { idx ≤ end_index from (breaks_of self.now) (text_of self.now) }
         ensures { result ≡ converted from to (breaks_of self.now) (text_of self.now) idx }
     {

@@ -8,6 +8,15 @@ ghost use Rattle.rope_part.specs.Edge.{line_info, IsInfo-prop};
 
 use rope_text::{LineBreaks, TextInfo};
 
+/// The place of a line: the counts of the text before it, and before the next line or, of the last one, those of all of the text.
+/// And what the chunk in which the line starts has from there on.
+#[derive(Clone, Copy)]
+pub(crate) struct LinePlace<'a> {
+    pub start: TextInfo,
+    pub end: TextInfo,
+    pub held: &'a str,
+}
+
 /// A plain text, with its counts by a set of line breaks.
 #[derive(Clone, Copy)]
 pub struct Plain<'a> {
@@ -42,16 +51,17 @@ impl<'a> Plain<'a> {
 
     /// The counts of the text before a line, and before the next one; past the last line those of all of it. And the text from
     /// the line on.
-    pub(crate) fn around_line(&self, line_idx: usize) -> (TextInfo, TextInfo, &'a str)
+    pub(crate) fn around_line(&self, line_idx: usize) -> LinePlace<'a>
         requires within { line_idx < line_count self.now.breaks (text_of self.now) }
         requires fits { byte_len (text_of self.now) < 2 ^ 63 }
-        ensures start { result.0 ≡ line_info self.now.breaks (text_of self.now) line_idx }
-        ensures end { result.1 ≡ line_info self.now.breaks (text_of self.now) (line_idx + 1) }
-        ensures held { chars result.2.now ≡ drop result.0.chars (text_of self.now) }
+        ensures start { result.start ≡ line_info self.now.breaks (text_of self.now) line_idx }
+        ensures end { result.end ≡ line_info self.now.breaks (text_of self.now) (line_idx + 1) }
+        ensures held { chars result.held.now ≡ drop result.start.chars (text_of self.now) }
     {
         let start = self.before_line(line_idx);
         let held = &self.as_str()[start.bytes..];
         let line = TextInfo::of_first_line(held, self.breaks);
-        (start, start.plus(line), held)
+        let end = start.plus(line);
+        LinePlace { start, end, held }
     }
 }

@@ -2,7 +2,7 @@
 //!
 //! Modules, lowest first:
 //! - `script`: commands, queries, replies
-//! - `making`, `edits`: commands that add or change a rope
+//! - `making`, `changing`: commands that add or change a rope
 //! - `asking`: queries
 //! - `walker`, `walks`: cursors as replies
 //! - `shown`: texts as replies
@@ -11,7 +11,7 @@
 #![tactic(auto)]
 
 mod asking;
-mod edits;
+mod changing;
 pub mod laws;
 mod making;
 mod script;

@@ -5,7 +5,7 @@ ghost use Rattle.ropey.specs.View.{content};
 ghost use Rattle.rope_script.specs.Step.{Step, Ran};
 
 use crate::asking::ask;
-use crate::edits::{insert, insert_char, join, remove, shrink};
+use crate::changing::{insert, insert_char, join, remove, shrink};
 use crate::making::{copy, cut, make_clone, make_empty, make_text};
 use crate::script::{Command, Reply};
 use ropey::{LineBreaks, Result, Rope};

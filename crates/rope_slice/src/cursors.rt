@@ -80,7 +80,8 @@ impl<'a> RopeSlice<'a> {
         ensures { StandsBefore (content_of self.now)
             (chunk_place_at_byte (chunks_of self.now) byte_idx) result }
     {
-        chunks_at(&self.part, Unit::Byte, byte_idx)
+        let (chunks, before) = chunks_at(&self.part, Unit::Byte, byte_idx);
+        (chunks, before.bytes, before.chars, before.break_count)
     }
 
     /// A cursor over the chunks, before the chunk that holds the character `char_idx`, facing forward; for
@@ -93,7 +94,8 @@ impl<'a> RopeSlice<'a> {
         ensures { StandsBefore (content_of self.now)
             (chunk_place_at_char (chunks_of self.now) char_idx) result }
     {
-        chunks_at(&self.part, Unit::Char, char_idx)
+        let (chunks, before) = chunks_at(&self.part, Unit::Char, char_idx);
+        (chunks, before.bytes, before.chars, before.break_count)
     }
 
     /// A cursor over the chunks, before the first chunk by whose end `line_break_idx` line breaks have ended, or
@@ -111,10 +113,11 @@ impl<'a> RopeSlice<'a> {
         let char_idx = if line_break_idx > info.break_count {
             info.chars
         } else {
-            let (_, _, before, _) = self.part.chunk_at_line_break(line_break_idx);
-            before
+            let (_, before) = self.part.chunk_at_line_break(line_break_idx);
+            before.chars
         };
-        chunks_at(&self.part, Unit::Char, char_idx)
+        let (chunks, before) = chunks_at(&self.part, Unit::Char, char_idx);
+        (chunks, before.bytes, before.chars, before.break_count)
     }
 
     /// As `bytes_at`, or `None` exactly where the index is past `len_bytes()`. Costs one or two look-ups; takes no

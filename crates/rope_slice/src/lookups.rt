@@ -54,7 +54,8 @@ impl<'a> RopeSlice<'a> {
         ensures { ShowsChunk (content_of self.now)
             (chunk_index_at_byte (chunks_of self.now) byte_idx) result }
     {
-        self.part.chunk_at(Unit::Byte, byte_idx)
+        let (chunk, before) = self.part.chunk_at(Unit::Byte, byte_idx);
+        (chunk, before.bytes, before.chars, before.break_count)
     }
 
     /// The chunk that holds the character `char_idx`, and at the end of the text the last chunk. With it the
@@ -68,7 +69,8 @@ impl<'a> RopeSlice<'a> {
         ensures { ShowsChunk (content_of self.now)
             (chunk_index_at_char (chunks_of self.now) char_idx) result }
     {
-        self.part.chunk_at(Unit::Char, char_idx)
+        let (chunk, before) = self.part.chunk_at(Unit::Char, char_idx);
+        (chunk, before.bytes, before.chars, before.break_count)
     }
 
     /// The first chunk by whose end `line_break_idx` line breaks have ended, or else the last chunk. With it the
@@ -82,7 +84,8 @@ impl<'a> RopeSlice<'a> {
             (chunk_index_at_line_break (breaks_of self.now) (chunks_of self.now) line_break_idx)
             result }
     {
-        self.part.chunk_at_line_break(line_break_idx)
+        let (chunk, before) = self.part.chunk_at_line_break(line_break_idx);
+        (chunk, before.bytes, before.chars, before.break_count)
     }
 
     /// The whole text, exactly where the slice has at most one chunk, and else `None`. Costs at most two look-ups;
@@ -240,7 +243,7 @@ impl<'a> RopeSlice<'a> {
     }
 
     /// The line, counted from 0, on which the character `char_idx` lies: how many line breaks end at or before it.
-    /// The place between CR and LF lies on the line that the pair ends.
+    /// The place between CR and LF lies on the line that they end.
     ///
     /// The index is at most `len_chars()`. Costs one or two look-ups; takes no memory.
     pub fn char_to_line(&self, char_idx: usize) -> usize

@@ -13,10 +13,10 @@ use Rattle.rope_text.specs.TextInfo.{info_of}
 use Rattle.rope_text.specs.Bytes.{begins_char, begins_pair}
 use Rattle.rope_text.specs.declared.lanes.Mark.{Mark}
 use Rattle.rope_text.specs.declared.lanes.Mark.TheVariants.{Char, Pair, Break}
-use Rattle.rope_text.specs.Marks.{mark_at, marks, ahead, narrow_mark}
+use Rattle.rope_text.specs.Marks.{mark_at, marks, ahead, ascii_mark}
 use Rattle.rope_text.specs.ByteBreaks.{break_at, breaks_at, byte_break_count}
 use Rattle.rope_text.proofs.BitLaws.{one_at_most}
-use Rattle.rope_text.proofs.UnicodeLanes.{no_wide_begin}
+use Rattle.rope_text.proofs.UnicodeLanes.{no_multibyte_begin}
 use mir.Val.{bool_byte}
 
 pub byte_break_count-drop : (b : LineBreaks) (xs : List ℕ) (i : ℕ) → i < length xs →
@@ -100,35 +100,35 @@ count_by-unless p q r (k ∷ ks) same none =
     go false e few rest =
         sum_by-cons (λ j. cond (q j) 1 0) k ks ∙ rw (same k e, rest (omega (arith, few))) (sym (sum_by-cons (λ j. cond (r j) 1 0) k ks))
 
-pub wide_off : (a b c d e f : Bool) → (c || d) ≡ false → (a || b) ≡ ((a || b) || ((c && e) || (d && f)))
-wide_off true b c d e f h = refl
-wide_off false true c d e f h = refl
-wide_off false false false false e f h = refl
-wide_off false false true d e f h = absurd (both_ways true h refl)
-wide_off false false false true e f h = absurd (both_ways true h refl)
+pub multibyte_off : (a b c d e f : Bool) → (c || d) ≡ false → (a || b) ≡ ((a || b) || ((c && e) || (d && f)))
+multibyte_off true b c d e f h = refl
+multibyte_off false true c d e f h = refl
+multibyte_off false false false false e f h = refl
+multibyte_off false false true d e f h = absurd (both_ways true h refl)
+multibyte_off false false false true e f h = absurd (both_ways true h refl)
 
--- where no byte behind a block is needed, none is read, and where no NEL, LS or PS begins, the narrow marks are all
-pub narrow_alone : (m : Mark) (x y z : ℕ) → ahead m ≡ 0 → narrow_mark m x y ≡ narrow_mark m x z
-narrow_alone Char x y z h = refl
-narrow_alone Pair x y z h = refl
-narrow_alone (Break Lf) x y z h = refl
-narrow_alone (Break CrLf) x y z h = absurd (omega (arith, h))
-narrow_alone (Break Unicode) x y z h = absurd (omega (arith, h))
+-- where no byte behind a block is needed, none is read, and where no NEL, LS or PS begins, the ASCII marks are all
+pub ascii_alone : (m : Mark) (x y z : ℕ) → ahead m ≡ 0 → ascii_mark m x y ≡ ascii_mark m x z
+ascii_alone Char x y z h = refl
+ascii_alone Pair x y z h = refl
+ascii_alone (Break Lf) x y z h = refl
+ascii_alone (Break CrLf) x y z h = absurd (omega (arith, h))
+ascii_alone (Break Unicode) x y z h = absurd (omega (arith, h))
 
-pub narrow_all : (m : Mark) (xs ks : List ℕ) → (ahead m ≡ 2 → count_by (λ k. eqb (bit_and (get_or xs k 0) 223) 194) ks ≡ 0)
-    → count_by (λ k. narrow_mark m (get_or xs k 0) (get_or xs (k + 1) 0)) ks ≡ count_by (mark_at m xs) ks
-narrow_all Char xs ks none = refl
-narrow_all Pair xs ks none = refl
-narrow_all (Break Lf) xs ks none = refl
-narrow_all (Break CrLf) xs ks none = refl
-narrow_all (Break Unicode) xs ks none =
+pub ascii_all : (m : Mark) (xs ks : List ℕ) → (ahead m ≡ 2 → count_by (λ k. eqb (bit_and (get_or xs k 0) 223) 194) ks ≡ 0)
+    → count_by (λ k. ascii_mark m (get_or xs k 0) (get_or xs (k + 1) 0)) ks ≡ count_by (mark_at m xs) ks
+ascii_all Char xs ks none = refl
+ascii_all Pair xs ks none = refl
+ascii_all (Break Lf) xs ks none = refl
+ascii_all (Break CrLf) xs ks none = refl
+ascii_all (Break Unicode) xs ks none =
     let at : ℕ → ℕ → Bool = λ k v. eqb (get_or xs k 0) v in
     let is_low : ℕ → Bool = λ k. leb 10 (get_or xs k 0) && leb (get_or xs k 0) 12 in
     let is_lone_cr : ℕ → Bool = λ k. at k 13 && not (at (k + 1) 10) in
     count_by-unless (λ k. eqb (bit_and (get_or xs k 0) 223) 194) (λ k. is_low k || is_lone_cr k) (breaks_at Unicode xs) ks
     (λ k off.
-    wide_off (is_low k) (is_lone_cr k) (at k 194) (at k 226) (at (k + 1) 133) (at (k + 1) 128 && (at (k + 2) 168 || at (k + 2) 169))
-    (no_wide_begin (get_or xs k 0) off)) (none refl)
+    multibyte_off (is_low k) (is_lone_cr k) (at k 194) (at k 226) (at (k + 1) 133) (at (k + 1) 128 && (at (k + 2) 168 || at (k + 2) 169))
+    (no_multibyte_begin (get_or xs k 0) off)) (none refl)
 
 -- what the empty text counts
 pub record IsNone (info : TextInfo) : Type 0 where

@@ -22,8 +22,8 @@ slice_range-slice_range xs a b c d l =
       | inl less ↦
           let m = (b - a) - c in
           let size : b - a ≡ c + m = omega arith in
-          let wide : (a + d) - (a + c) ≡ d - c = omega arith in
-          rw (size, wide, drop-take c m (drop a xs), take-take (d - c) m (drop c (drop a xs)) (omega arith), drop-drop c a xs) refl
+          let width : (a + d) - (a + c) ≡ d - c = omega arith in
+          rw (size, width, drop-take c m (drop a xs), take-take (d - c) m (drop c (drop a xs)) (omega arith), drop-drop c a xs) refl
       | inr more ↦ slice_range_empty (slice_range xs a b) c d more ∙ sym (slice_range_empty xs (a + c) (a + d) (omega arith))
     ]
 
@@ -36,19 +36,19 @@ slice_range-append p q a b =
           let size = length-drop a p in
           rw (drop-append-le a p q (omega arith), none) (elim (cases_lt (length p) b) [
             | inl over ↦
-                let wide : b - a ≡ length (drop a p) + (b - length p) = omega arith in
+                let width : b - a ≡ length (drop a p) + (b - length p) = omega arith in
                 let whole : take (b - a) (drop a p) ≡ drop a p = take_all (b - a) (drop a p) (omega arith) in
                 let rest : (b - length p) - 0 ≡ b - length p = omega arith in
-                rw (whole, wide, take-append-add (drop a p) q (b - length p), rest) refl
+                rw (whole, width, take-append-add (drop a p) q (b - length p), rest) refl
             | inr within ↦
                 let nothing : (b - length p) - 0 ≡ 0 = omega arith in
                 rw (nothing, take-append-le (b - a) (drop a p) q (omega arith)) (sym (append-nil (take (b - a) (drop a p))))
           ])
       | inr past ↦
           let from : a ≡ length p + (a - length p) = omega arith in
-          let wide : (b - length p) - (a - length p) ≡ b - a = omega arith in
+          let width : (b - length p) - (a - length p) ≡ b - a = omega arith in
           let cut = ap (λ n. drop n (p ++ q)) from ∙ drop-append-add p q (a - length p) in
-          rw (slice_range_past p a b past, cut, wide) refl
+          rw (slice_range_past p a b past, cut, width) refl
     ]
 
 pub clip_empty : (chunks : List (List ℕ)) (a b : ℕ) → b ≤ a → clip chunks a b ≡ []

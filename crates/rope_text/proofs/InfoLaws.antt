@@ -8,7 +8,7 @@ use Rattle.rope_text.specs.declared.text_info.TextInfo.{TextInfo}
 use Rattle.rope_text.specs.Text.{surrogate_count}
 use Rattle.rope_text.specs.Breaks.{is_break_char, is_break_end, break_ends, break_count}
 use Rattle.rope_text.specs.Cutting.{parts_crlf}
-use Rattle.rope_text.specs.TextInfo.{info_of, info_sum, shared_breaks, less_breaks}
+use Rattle.rope_text.specs.TextInfo.{info_of, info_sum, HasPart, shared_breaks, less_breaks}
 use Rattle.rope_text.proofs.Measures.{IsMeasure-byte_len}
 use Rattle.rope_text.proofs.BreakLaws.{break_count-append}
 
@@ -30,6 +30,24 @@ info_of-append_apart breaks s t apart =
     let same : (break_count breaks s + break_count breaks t) - 0 ≡ break_count breaks s + break_count breaks t = omega arith in
     let whole : less_breaks (info_sum (info_of breaks s) (info_of breaks t)) 0 ≡ info_sum (info_of breaks s) (info_of breaks t) = rw same refl in
     info_of-append breaks s t ∙ ap (less_breaks (info_sum (info_of breaks s) (info_of breaks t))) none ∙ whole
+
+-- a front is in the sum
+pub part_of_sum : (total front rest : TextInfo) → total ≡ info_sum front rest → HasPart total front
+part_of_sum total front rest sum = record {
+  bytes = omega (arith, ap (λ i. i.bytes) sum);
+  chars = omega (arith, ap (λ i. i.chars) sum);
+  surrogates = omega (arith, ap (λ i. i.utf16_surrogates) sum);
+  count = omega (arith, ap (λ i. i.break_count) sum);
+}
+
+-- and so is what follows it
+pub rest_of_sum : (total front rest : TextInfo) → total ≡ info_sum front rest → HasPart total rest
+rest_of_sum total front rest sum = record {
+  bytes = omega (arith, ap (λ i. i.bytes) sum);
+  chars = omega (arith, ap (λ i. i.chars) sum);
+  surrogates = omega (arith, ap (λ i. i.utf16_surrogates) sum);
+  count = omega (arith, ap (λ i. i.break_count) sum);
+}
 
 -- no more breaks than characters
 pub break_count-le-length : (breaks : LineBreaks) (text : List ℕ) → break_count breaks text ≤ length text

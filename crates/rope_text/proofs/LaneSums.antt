@@ -16,11 +16,11 @@ use Rattle.rope_text.specs.declared.lanes.Mark.TheVariants.{Break}
 use Rattle.rope_text.specs.Bits.{ones_below}
 use Rattle.rope_text.specs.Bytes.{begins_char, begins_pair}
 use Rattle.rope_text.specs.ByteBreaks.{break_at, byte_break_count, breaks_at}
-use Rattle.rope_text.specs.Marks.{IsLanes, narrow_at, ahead}
-use Rattle.rope_text.specs.Runs.{IsSum, IsRun, wide_at, narrow_here, wide_here, wide_begin, places, chars_of, pairs_of, narrow_of, wide_of, high_of}
+use Rattle.rope_text.specs.Marks.{IsLanes, ascii_at, ahead}
+use Rattle.rope_text.specs.Runs.{IsSum, IsRun, multibyte_at, ascii_here, multibyte_here, multibyte_begin, places, chars_of, pairs_of, ascii_of, multibyte_of, high_of}
 use Rattle.rope_text.proofs.BitLaws.{ones_more, shift_more, no_marks}
 use Rattle.rope_text.proofs.Blocks.{byte_break_count-block, count_by-places}
-use Rattle.rope_text.proofs.UnicodeLanes.{no_wide_begin}
+use Rattle.rope_text.proofs.UnicodeLanes.{no_multibyte_begin}
 use Rattle.std.proofs.lemmas.Nat.{zero_from_ones}
 
 -- ---- places
@@ -78,10 +78,10 @@ unfolding places
 pairs_block xs i n h = count_by-places begins_pair xs i n h
 
 -- a break begins with a byte below 128 or with one above
-split_at : (b : LineBreaks) (x y z : ℕ) → cond {A = ℕ} (break_at b x y z) 1 0 ≡ cond (narrow_at b x y) 1 0 + cond (wide_at b x y z) 1 0
+split_at : (b : LineBreaks) (x y z : ℕ) → cond {A = ℕ} (break_at b x y z) 1 0 ≡ cond (ascii_at b x y) 1 0 + cond (multibyte_at b x y z) 1 0
 split_at Lf x y z = omega arith
 split_at CrLf x y z = omega arith
-split_at Unicode x y z = go (narrow_at Unicode x y) (wide_at Unicode x y z) (grind (arith, nat_tests))
+split_at Unicode x y z = go (ascii_at Unicode x y) (multibyte_at Unicode x y z) (grind (arith, nat_tests))
   where
     go : (s t : Bool) → (s && t) ≡ false → cond {A = ℕ} (s || t) 1 0 ≡ cond s 1 0 + cond t 1 0
     go true true e = absurd (both_ways true e refl)
@@ -89,19 +89,19 @@ split_at Unicode x y z = go (narrow_at Unicode x y) (wide_at Unicode x y z) (gri
     go false true e = refl
     go false false e = refl
 
-split_all : (b : LineBreaks) (xs ks : List ℕ) → count_by (breaks_at b xs) ks ≡ count_by (narrow_here b xs) ks + count_by (wide_here b xs) ks
+split_all : (b : LineBreaks) (xs ks : List ℕ) → count_by (breaks_at b xs) ks ≡ count_by (ascii_here b xs) ks + count_by (multibyte_here b xs) ks
 split_all b xs [] = refl
 split_all b xs (k ∷ ks) =
     omega (
       arith,
       sum_by-cons (λ j. cond (breaks_at b xs j) 1 0) k ks,
-      sum_by-cons (λ j. cond (narrow_here b xs j) 1 0) k ks,
-      sum_by-cons (λ j. cond (wide_here b xs j) 1 0) k ks,
+      sum_by-cons (λ j. cond (ascii_here b xs j) 1 0) k ks,
+      sum_by-cons (λ j. cond (multibyte_here b xs j) 1 0) k ks,
       split_at b (get_or xs k 0) (get_or xs (k + 1) 0) (get_or xs (k + 2) 0),
       split_all b xs ks,
     )
 
-pub breaks_block : (b : LineBreaks) (xs : List ℕ) (i n : ℕ) → i + n ≤ length xs → byte_break_count b (drop i xs) ≡ (narrow_of b xs i n + wide_of b xs i n) + byte_break_count b (drop (i + n) xs)
+pub breaks_block : (b : LineBreaks) (xs : List ℕ) (i n : ℕ) → i + n ≤ length xs → byte_break_count b (drop i xs) ≡ (ascii_of b xs i n + multibyte_of b xs i n) + byte_break_count b (drop (i + n) xs)
 unfolding places
 breaks_block b xs i n h = byte_break_count-block b xs i n h ∙ ap (λ k. k + byte_break_count b (drop (i + n) xs)) (split_all b xs (range_with_len i n))
 
@@ -129,10 +129,10 @@ low_begins x h = grind (arith, nat_tests)
 low_no_pair : (x : ℕ) → leb 128 x ≡ false → begins_pair x ≡ false
 low_no_pair x h = grind (arith, nat_tests)
 
-low_not_wide : (b : LineBreaks) (x y z : ℕ) → leb 128 x ≡ false → wide_at b x y z ≡ false
-low_not_wide Lf x y z h = refl
-low_not_wide CrLf x y z h = refl
-low_not_wide Unicode x y z h = grind (arith, nat_tests)
+low_not_multibyte : (b : LineBreaks) (x y z : ℕ) → leb 128 x ≡ false → multibyte_at b x y z ≡ false
+low_not_multibyte Lf x y z h = refl
+low_not_multibyte CrLf x y z h = refl
+low_not_multibyte Unicode x y z h = grind (arith, nat_tests)
 
 pub ascii_chars : (xs : List ℕ) (i n : ℕ) → high_of xs i n ≡ 0 → chars_of xs i n ≡ n
 ascii_chars xs i n low =
@@ -141,8 +141,8 @@ ascii_chars xs i n low =
 pub ascii_pairs : (xs : List ℕ) (i n : ℕ) → high_of xs i n ≡ 0 → pairs_of xs i n ≡ 0
 ascii_pairs xs i n low = none_of_others (λ k. leb 128 (get_or xs k 0)) (λ k. begins_pair (get_or xs k 0)) (places i n) (λ k e. low_no_pair (get_or xs k 0) e) low
 
-pub ascii_wide : (b : LineBreaks) (xs : List ℕ) (i n : ℕ) → high_of xs i n ≡ 0 → wide_of b xs i n ≡ 0
-ascii_wide b xs i n low = none_of_others (λ k. leb 128 (get_or xs k 0)) (wide_here b xs) (places i n) (λ k e. low_not_wide b (get_or xs k 0) (get_or xs (k + 1) 0) (get_or xs (k + 2) 0) e) low
+pub ascii_no_multibyte : (b : LineBreaks) (xs : List ℕ) (i n : ℕ) → high_of xs i n ≡ 0 → multibyte_of b xs i n ≡ 0
+ascii_no_multibyte b xs i n low = none_of_others (λ k. leb 128 (get_or xs k 0)) (multibyte_here b xs) (places i n) (λ k e. low_not_multibyte b (get_or xs k 0) (get_or xs (k + 1) 0) (get_or xs (k + 2) 0) e) low
 
 -- ---- lanes
 
@@ -263,8 +263,8 @@ lowest mask k b i n marked before after = elim (cases_lt k n) [
   | inr past ↦ absurd (omega (arith, marked k, marked (k + 1), take_past b i n k past, take_past b i n (k + 1) (omega (arith, past)), before, after))
 ]
 
-not_wide : (x y z : ℕ) → eqb (bit_and x 223) 194 ≡ false → wide_at Unicode x y z ≡ false
-not_wide x y z off = go (eqb x 194) (eqb x 226) (eqb y 133) (eqb y 128 && (eqb z 168 || eqb z 169)) (no_wide_begin x off)
+not_multibyte : (x y z : ℕ) → eqb (bit_and x 223) 194 ≡ false → multibyte_at Unicode x y z ≡ false
+not_multibyte x y z off = go (eqb x 194) (eqb x 226) (eqb y 133) (eqb y 128 && (eqb z 168 || eqb z 169)) (no_multibyte_begin x off)
   where
     go : (s t e f : Bool) → (s || t) ≡ false → ((s && e) || (t && f)) ≡ false
     go true t e f h = absurd (both_ways true h refl)
@@ -276,11 +276,11 @@ unfolding places
 one_place q i = omega arith
 
 -- the breaks behind the lowest mark, and the one that it may be
-pub wide_step : (xs : List ℕ) (mask k i n : ℕ) → IsLowest mask k (wide_begin xs) i n
-    → wide_of Unicode xs i n ≡ cond (wide_here Unicode xs (i + k)) 1 0 + wide_of Unicode xs (i + (k + 1)) (n - (k + 1))
-wide_step xs mask k i n h =
-    let q : ℕ → Bool = wide_here Unicode xs in
-    let none : count_by q (places i k) ≡ 0 = none_of_others (wide_begin xs) q (places i k) (λ j off. not_wide (get_or xs j 0) (get_or xs (j + 1) 0) (get_or xs (j + 2) 0) off) h.none in
+pub multibyte_step : (xs : List ℕ) (mask k i n : ℕ) → IsLowest mask k (multibyte_begin xs) i n
+    → multibyte_of Unicode xs i n ≡ cond (multibyte_here Unicode xs (i + k)) 1 0 + multibyte_of Unicode xs (i + (k + 1)) (n - (k + 1))
+multibyte_step xs mask k i n h =
+    let q : ℕ → Bool = multibyte_here Unicode xs in
+    let none : count_by q (places i k) ≡ 0 = none_of_others (multibyte_begin xs) q (places i k) (λ j off. not_multibyte (get_or xs j 0) (get_or xs (j + 1) 0) (get_or xs (j + 2) 0) off) h.none in
     omega (
       arith,
       none,
@@ -289,32 +289,32 @@ wide_step xs mask k i n h =
       one_place q (i + k),
     )
 
-pub wide_end : (xs : List ℕ) (mask i n : ℕ) → ((m : ℕ) → ones_below mask m ≡ count_by (wide_begin xs) (take m (places i n))) → count_ones mask ≡ 0 → wide_of Unicode xs i n ≡ 0
-wide_end xs mask i n marked none =
+pub multibyte_end : (xs : List ℕ) (mask i n : ℕ) → ((m : ℕ) → ones_below mask m ≡ count_by (multibyte_begin xs) (take m (places i n))) → count_ones mask ≡ 0 → multibyte_of Unicode xs i n ≡ 0
+multibyte_end xs mask i n marked none =
     let zero_mask : mask ≡ 0 = zero_from_ones mask none in
     let no : ones_below mask n ≡ 0 = ap (λ x. ones_below x n) zero_mask ∙ no_marks n in
-    none_of_others (wide_begin xs) (wide_here Unicode xs) (places i n) (λ j off. not_wide (get_or xs j 0) (get_or xs (j + 1) 0) (get_or xs (j + 2) 0) off)
-    (sym (take_past (wide_begin xs) i n n (omega arith)) ∙ sym (marked n) ∙ no)
+    none_of_others (multibyte_begin xs) (multibyte_here Unicode xs) (places i n) (λ j off. not_multibyte (get_or xs j 0) (get_or xs (j + 1) 0) (get_or xs (j + 2) 0) off)
+    (sym (take_past (multibyte_begin xs) i n n (omega arith)) ∙ sym (marked n) ∙ no)
 
-pub wide_few : (b : LineBreaks) (xs : List ℕ) (i n : ℕ) → wide_of b xs i n ≤ n
-wide_few b xs i n = omega (arith, count_by-le-length (wide_here b xs) (places i n), length-places i n)
+pub multibyte_few : (b : LineBreaks) (xs : List ℕ) (i n : ℕ) → multibyte_of b xs i n ≤ n
+multibyte_few b xs i n = omega (arith, count_by-le-length (multibyte_here b xs) (places i n), length-places i n)
 
 nowhere : (q : ℕ → Bool) (ks : List ℕ) → ((k : ℕ) → q k ≡ false) → count_by q ks ≡ 0
 nowhere q [] off = refl
 nowhere q (k ∷ ks) off = sum_by-cons (λ j. cond (q j) 1 0) k ks ∙ rw (off k, nowhere q ks off) refl
 
-pub wide_none : (b : LineBreaks) (xs : List ℕ) (i n : ℕ) → ahead (Break b) < 2 → wide_of b xs i n ≡ 0
-wide_none Lf xs i n h = nowhere (wide_here Lf xs) (places i n) (λ k. refl)
-wide_none CrLf xs i n h = nowhere (wide_here CrLf xs) (places i n) (λ k. refl)
-wide_none Unicode xs i n h = absurd (omega (arith, h))
+pub multibyte_none : (b : LineBreaks) (xs : List ℕ) (i n : ℕ) → ahead (Break b) < 2 → multibyte_of b xs i n ≡ 0
+multibyte_none Lf xs i n h = nowhere (multibyte_here Lf xs) (places i n) (λ k. refl)
+multibyte_none CrLf xs i n h = nowhere (multibyte_here CrLf xs) (places i n) (λ k. refl)
+multibyte_none Unicode xs i n h = absurd (omega (arith, h))
 
 pub is_unicode : (b : LineBreaks) → 2 ≤ ahead (Break b) → b ≡ Unicode
 is_unicode Lf h = absurd (omega (arith, h))
 is_unicode CrLf h = absurd (omega (arith, h))
 is_unicode Unicode h = refl
 
-pub narrow_few : (b : LineBreaks) (xs : List ℕ) (i n : ℕ) → narrow_of b xs i n ≤ n
-narrow_few b xs i n = omega (arith, count_by-le-length (narrow_here b xs) (places i n), length-places i n)
+pub ascii_few : (b : LineBreaks) (xs : List ℕ) (i n : ℕ) → ascii_of b xs i n ≤ n
+ascii_few b xs i n = omega (arith, count_by-le-length (ascii_here b xs) (places i n), length-places i n)
 
 -- ---- runs
 
@@ -329,11 +329,11 @@ same_more q from n at most {xs} next none h = record {
   sum = omega (arith, h.sum, none, places_split q from n 64 at (n + 64) next refl);
 }
 
-pub same_wide : (b : LineBreaks) (xs : List ℕ) (from n at t : ℕ) → at ≡ from + n → wide_of b xs at 64 ≡ 0 → t ≡ wide_of b xs from n → t ≡ wide_of b xs from (n + 64)
-same_wide b xs from n at t next none before = omega (arith, none, before, places_split (wide_here b xs) from n 64 at (n + 64) next refl)
+pub same_multibyte : (b : LineBreaks) (xs : List ℕ) (from n at t : ℕ) → at ≡ from + n → multibyte_of b xs at 64 ≡ 0 → t ≡ multibyte_of b xs from n → t ≡ multibyte_of b xs from (n + 64)
+same_multibyte b xs from n at t next none before = omega (arith, none, before, places_split (multibyte_here b xs) from n 64 at (n + 64) next refl)
 
-pub wide_more : (b : LineBreaks) (xs : List ℕ) (from n at t u : ℕ) → at ≡ from + n → u ≡ wide_of b xs at 64 → t ≡ wide_of b xs from n → t + u ≡ wide_of b xs from (n + 64)
-wide_more b xs from n at t u next more before = omega (arith, more, before, places_split (wide_here b xs) from n 64 at (n + 64) next refl)
+pub multibyte_more : (b : LineBreaks) (xs : List ℕ) (from n at t u : ℕ) → at ≡ from + n → u ≡ multibyte_of b xs at 64 → t ≡ multibyte_of b xs from n → t + u ≡ multibyte_of b xs from (n + 64)
+multibyte_more b xs from n at t u next more before = omega (arith, more, before, places_split (multibyte_here b xs) from n 64 at (n + 64) next refl)
 
 pub same_run : (b : LineBreaks) (xs : List ℕ) (i n most m more : ℕ) (cs ps ns : List ℕ) (w : ℕ) → n ≡ m → most ≡ more → IsRun b xs i n most cs ps ns w → IsRun b xs i m more cs ps ns w
 same_run b xs i n most m more cs ps ns w wider higher h = subst (λ k. IsRun b xs i m k cs ps ns w) higher (subst (λ k. IsRun b xs i k most cs ps ns w) wider h)
@@ -346,8 +346,8 @@ pub no_run : (b : LineBreaks) (xs : List ℕ) (i : ℕ) → IsRun b xs i 0 0 (re
 no_run b xs i = record {
   chars = zeros (λ k. begins_char (get_or xs k 0));
   pairs = zeros (λ k. begins_pair (get_or xs k 0));
-  narrow = zeros (narrow_here b xs);
-  wide = no_places (wide_here b xs) i;
+  ascii = zeros (ascii_here b xs);
+  multibyte = no_places (multibyte_here b xs) i;
 }
   where
     zeros : (q : ℕ → Bool) → IsSum 0 (count_by q (places i 0)) (replicate 16 0)

@@ -2,7 +2,7 @@ pub mod Greatest
 pub mod Places
 pub mod Measures
 pub mod ConversionLaws
-pub mod NarrowTexts
+pub mod AsciiTexts
 pub mod Walks
 pub mod BreakLaws
 pub mod JoinLaws

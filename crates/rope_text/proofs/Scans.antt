@@ -38,17 +38,17 @@ front_step breaks xs k p q l r front inside off chars pairs =
     }
 
 -- a character that ends a break takes one code unit
-record IsNarrow (x y z : ℕ) : Type 0 where
+record IsWithoutPair (x y z : ℕ) : Type 0 where
   pub some : 0 < char_width x
   pub most : char_width x ≤ 3
   pub first : begins_pair x ≡ false
   pub second : 1 < char_width x → begins_pair y ≡ false
   pub third : 2 < char_width x → begins_pair z ≡ false
 
-narrow : (breaks : LineBreaks) (x y z : ℕ) → break_at breaks x y z ≡ true → IsNarrow x y z
-narrow Lf x y z e = record { some = grind (arith, nat_tests); most = grind (arith, nat_tests); first = grind (arith, nat_tests); second = λ w. grind (arith, nat_tests); third = λ w. grind (arith, nat_tests) }
-narrow CrLf x y z e = record { some = grind (arith, nat_tests); most = grind (arith, nat_tests); first = grind (arith, nat_tests); second = λ w. grind (arith, nat_tests); third = λ w. grind (arith, nat_tests) }
-narrow Unicode x y z e = record { some = grind (arith, nat_tests); most = grind (arith, nat_tests); first = grind (arith, nat_tests); second = λ w. grind (arith, nat_tests); third = λ w. grind (arith, nat_tests) }
+without_pair : (breaks : LineBreaks) (x y z : ℕ) → break_at breaks x y z ≡ true → IsWithoutPair x y z
+without_pair Lf x y z e = record { some = grind (arith, nat_tests); most = grind (arith, nat_tests); first = grind (arith, nat_tests); second = λ w. grind (arith, nat_tests); third = λ w. grind (arith, nat_tests) }
+without_pair CrLf x y z e = record { some = grind (arith, nat_tests); most = grind (arith, nat_tests); first = grind (arith, nat_tests); second = λ w. grind (arith, nat_tests); third = λ w. grind (arith, nat_tests) }
+without_pair Unicode x y z e = record { some = grind (arith, nat_tests); most = grind (arith, nat_tests); first = grind (arith, nat_tests); second = λ w. grind (arith, nat_tests); third = λ w. grind (arith, nat_tests) }
 
 no_pair : (xs : List ℕ) (i j : ℕ) → j ≡ i + 1 → begins_pair (get_or xs i 0) ≡ false → count_by begins_pair (drop i xs) ≡ count_by begins_pair (drop j xs)
 no_pair xs i j next off = elim (cases_lt i (length xs)) [
@@ -58,14 +58,14 @@ no_pair xs i j next off = elim (cases_lt i (length xs)) [
   | inr past ↦ ap (count_by begins_pair) (drop_of_length-le xs past ∙ sym (drop_of_length-le xs (let far : length xs ≤ j = omega arith in far)))
 ]
 
-no_pairs : (xs : List ℕ) (p w : ℕ) → w ≡ char_width (get_or xs p 0) → IsNarrow (get_or xs p 0) (get_or xs (p + 1) 0) (get_or xs (p + 2) 0)
+no_pairs : (xs : List ℕ) (p w : ℕ) → w ≡ char_width (get_or xs p 0) → IsWithoutPair (get_or xs p 0) (get_or xs (p + 1) 0) (get_or xs (p + 2) 0)
     → count_by begins_pair (drop p xs) ≡ count_by begins_pair (drop (p + w) xs)
-no_pairs xs p w wide h = elim (cases_lt 1 w) [
-  | inr one ↦ no_pair xs p (p + w) (omega (arith, h.some, wide)) h.first
+no_pairs xs p w width h = elim (cases_lt 1 w) [
+  | inr one ↦ no_pair xs p (p + w) (omega (arith, h.some, width)) h.first
   | inl more ↦ elim (cases_lt 2 w) [
-    | inr two ↦ no_pair xs p (p + 1) refl h.first ∙ no_pair xs (p + 1) (p + w) (omega arith) (h.second (omega (arith, wide)))
-    | inl three ↦ no_pair xs p (p + 1) refl h.first ∙ no_pair xs (p + 1) (p + 2) (omega arith) (h.second (omega (arith, wide)))
-        ∙ no_pair xs (p + 2) (p + w) (omega (arith, h.most, wide)) (h.third (omega (arith, wide)))
+    | inr two ↦ no_pair xs p (p + 1) refl h.first ∙ no_pair xs (p + 1) (p + w) (omega arith) (h.second (omega (arith, width)))
+    | inl three ↦ no_pair xs p (p + 1) refl h.first ∙ no_pair xs (p + 1) (p + 2) (omega arith) (h.second (omega (arith, width)))
+        ∙ no_pair xs (p + 2) (p + w) (omega (arith, h.most, width)) (h.third (omega (arith, width)))
   ]
 ]
 
@@ -81,7 +81,7 @@ line_front breaks bs n p k q info u inside fore begin in_chars in_pairs bytes co
     let place : p + w ≡ byte_len (take l cs) = break_place breaks bs n p u inside fore begin in
     let start : k + 1 ≡ l = break_char breaks bs n p k u inside fore begin in_chars in
     let within = line_start-le-length breaks cs (suc n) in
-    let same : count_by begins_pair (drop p bs) ≡ count_by begins_pair (drop (p + w) bs) = no_pairs bs p w refl (narrow breaks (get_or bs p 0) (get_or bs (p + 1) 0) (get_or bs (p + 2) 0) begin) in
+    let same : count_by begins_pair (drop p bs) ≡ count_by begins_pair (drop (p + w) bs) = no_pairs bs p w refl (without_pair breaks (get_or bs p 0) (get_or bs (p + 1) 0) (get_or bs (p + 2) 0) begin) in
     let before : count_by begins_pair (take (p + w) bs) ≡ surrogate_count (take l cs) = ap (λ j. count_by begins_pair (take j bs)) place ∙ pairs_before bs l u in
     let on : cond {A = ℕ} (breaks_at breaks bs p) 1 0 ≡ 1 = ap (λ (t : Bool). cond {A = ℕ} t 1 0) begin in
     let some : suc n ≤ break_count breaks cs = omega (arith, break_count-chars breaks bs u, fore, byte_break_count-drop breaks bs p inside, on) in

@@ -12,8 +12,8 @@ low_break x y small = go (eqb y 10)
     go false = grind (arith, nat_tests)
 
 -- one comparison for the bytes with which NEL, LS and PS begin
-pub no_wide_begin : (x : ℕ) → eqb (bit_and x 223) 194 ≡ false → (eqb x 194 || eqb x 226) ≡ false
-no_wide_begin x off = go (eqb x 194) (eqb x 226) refl refl
+pub no_multibyte_begin : (x : ℕ) → eqb (bit_and x 223) 194 ≡ false → (eqb x 194 || eqb x 226) ≡ false
+no_multibyte_begin x off = go (eqb x 194) (eqb x 226) refl refl
   where
     go : (s t : Bool) → eqb x 194 ≡ s → eqb x 226 ≡ t → (eqb x 194 || eqb x 226) ≡ false
     go true t e f = let same = eqb-true x 194 e in absurd (both_ways true (rw same at off) refl)

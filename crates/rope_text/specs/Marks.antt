@@ -55,16 +55,16 @@ ahead (Break CrLf) = 1
 ahead (Break Unicode) = 2
 
 -- whether a break begins with the byte x, which is below 128, before the byte y
-abbrev pub narrow_at : LineBreaks → ℕ → ℕ → Bool
-narrow_at Lf x y = x == 10
-narrow_at CrLf x y = x == 10 || lone_cr x y
-narrow_at Unicode x y = is_in_range 10 12 x || lone_cr x y
+abbrev pub ascii_at : LineBreaks → ℕ → ℕ → Bool
+ascii_at Lf x y = x == 10
+ascii_at CrLf x y = x == 10 || lone_cr x y
+ascii_at Unicode x y = is_in_range 10 12 x || lone_cr x y
 
 -- whether a mark begins with the byte x before the byte y, a break only where x is below 128
-abbrev pub narrow_mark : Mark → ℕ → ℕ → Bool
-narrow_mark Char x y = begins_char x
-narrow_mark Pair x y = begins_pair x
-narrow_mark (Break breaks) x y = narrow_at breaks x y
+abbrev pub ascii_mark : Mark → ℕ → ℕ → Bool
+ascii_mark Char x y = begins_char x
+ascii_mark Pair x y = begins_pair x
+ascii_mark (Break breaks) x y = ascii_at breaks x y
 
 -- lanes that are g of each place, and lanes that are set where p holds of the place
 pub record IsLanes (ks : List ℕ) (g : ℕ → ℕ) (v : List ℕ) : Type 0 where
@@ -74,5 +74,5 @@ pub record IsMask (ks : List ℕ) (p : ℕ → Bool) (a : List ℕ) : Type 0 whe
   pub same : a ≡ map (λ k. cond (p k) 255 0) ks
 
 -- none of the n bytes from the byte `at` on is C2 or E2, with which breaks above 127 begin, where a mark may be such a break
-abbrev pub HasNoWide : Mark → List ℕ → ℕ → ℕ → Type 0
-HasNoWide mark bytes at n = ahead mark ≡ 2 → count_by (λ k. bit_and (get_or bytes k 0) 223 == 194) (range_with_len at n) ≡ 0
+abbrev pub HasNoMultibyte : Mark → List ℕ → ℕ → ℕ → Type 0
+HasNoMultibyte mark bytes at n = ahead mark ≡ 2 → count_by (λ k. bit_and (get_or bytes k 0) 223 == 194) (range_with_len at n) ≡ 0

@@ -7,7 +7,7 @@ use Rattle.rope_text.specs.declared.line_breaks.LineBreaks.{LineBreaks}
 use Rattle.rope_text.specs.declared.line_breaks.LineBreaks.TheVariants.{Lf, CrLf, Unicode}
 use Rattle.rope_text.specs.declared.lanes.Mark.{Mark}
 use Rattle.rope_text.specs.Bytes.{begins_char, begins_pair}
-use Rattle.rope_text.specs.Marks.{narrow_at, narrow_mark}
+use Rattle.rope_text.specs.Marks.{ascii_at, ascii_mark}
 
 -- 16 lanes, none of which is above `most`, that add up to the total
 pub record IsSum (most total : ℕ) (lanes : List ℕ) : Type 0 where
@@ -16,20 +16,20 @@ pub record IsSum (most total : ℕ) (lanes : List ℕ) : Type 0 where
   pub sum : sum_l lanes ≡ total
 
 -- whether a break begins with the byte x, which is above 127
-abbrev pub wide_at : LineBreaks → ℕ → ℕ → ℕ → Bool
-wide_at Lf x y z = false
-wide_at CrLf x y z = false
-wide_at Unicode x y z = (x == 0xC2 && y == 0x85) || (x == 0xE2 && (y == 0x80 && (z == 0xA8 || z == 0xA9)))
+abbrev pub multibyte_at : LineBreaks → ℕ → ℕ → ℕ → Bool
+multibyte_at Lf x y z = false
+multibyte_at CrLf x y z = false
+multibyte_at Unicode x y z = (x == 0xC2 && y == 0x85) || (x == 0xE2 && (y == 0x80 && (z == 0xA8 || z == 0xA9)))
 
 -- the tests at the byte k
-abbrev pub narrow_here : LineBreaks → List ℕ → ℕ → Bool
-narrow_here breaks xs k = narrow_at breaks (get_or xs k 0) (get_or xs (k + 1) 0)
+abbrev pub ascii_here : LineBreaks → List ℕ → ℕ → Bool
+ascii_here breaks xs k = ascii_at breaks (get_or xs k 0) (get_or xs (k + 1) 0)
 
-abbrev pub wide_here : LineBreaks → List ℕ → ℕ → Bool
-wide_here breaks xs k = wide_at breaks (get_or xs k 0) (get_or xs (k + 1) 0) (get_or xs (k + 2) 0)
+abbrev pub multibyte_here : LineBreaks → List ℕ → ℕ → Bool
+multibyte_here breaks xs k = multibyte_at breaks (get_or xs k 0) (get_or xs (k + 1) 0) (get_or xs (k + 2) 0)
 
-abbrev pub wide_begin : List ℕ → ℕ → Bool
-wide_begin xs k = bit_and (get_or xs k 0) 223 == 194
+abbrev pub multibyte_begin : List ℕ → ℕ → Bool
+multibyte_begin xs k = bit_and (get_or xs k 0) 223 == 194
 
 -- the n places from i on
 unfoldable pub places : ℕ → ℕ → List ℕ
@@ -42,25 +42,25 @@ chars_of xs i n = count_by (λ k. begins_char (get_or xs k 0)) (places i n)
 abbrev pub pairs_of : List ℕ → ℕ → ℕ → ℕ
 pairs_of xs i n = count_by (λ k. begins_pair (get_or xs k 0)) (places i n)
 
-abbrev pub narrow_of : LineBreaks → List ℕ → ℕ → ℕ → ℕ
-narrow_of breaks xs i n = count_by (narrow_here breaks xs) (places i n)
+abbrev pub ascii_of : LineBreaks → List ℕ → ℕ → ℕ → ℕ
+ascii_of breaks xs i n = count_by (ascii_here breaks xs) (places i n)
 
-abbrev pub wide_of : LineBreaks → List ℕ → ℕ → ℕ → ℕ
-wide_of breaks xs i n = count_by (wide_here breaks xs) (places i n)
+abbrev pub multibyte_of : LineBreaks → List ℕ → ℕ → ℕ → ℕ
+multibyte_of breaks xs i n = count_by (multibyte_here breaks xs) (places i n)
 
 abbrev pub high_of : List ℕ → ℕ → ℕ → ℕ
 high_of xs i n = count_by (λ k. leb 128 (get_or xs k 0)) (places i n)
 
 -- whether a mark begins with the byte k, and with how many of the n bytes from i on, a break only where it is below 128
-abbrev pub narrow_mark_at : Mark → List ℕ → ℕ → Bool
-narrow_mark_at mark xs k = narrow_mark mark (get_or xs k 0) (get_or xs (k + 1) 0)
+abbrev pub ascii_mark_at : Mark → List ℕ → ℕ → Bool
+ascii_mark_at mark xs k = ascii_mark mark (get_or xs k 0) (get_or xs (k + 1) 0)
 
 abbrev pub count_of : Mark → List ℕ → ℕ → ℕ → ℕ
-count_of mark xs i n = count_by (narrow_mark_at mark xs) (places i n)
+count_of mark xs i n = count_by (ascii_mark_at mark xs) (places i n)
 
 -- what the n bytes from i on count: in lanes the characters, the pairs and the breaks below 128, and the other breaks
-pub record IsRun (breaks : LineBreaks) (bytes : List ℕ) (i n most : ℕ) (in_chars in_pairs in_narrow : List ℕ) (in_wide : ℕ) : Type 0 where
+pub record IsRun (breaks : LineBreaks) (bytes : List ℕ) (i n most : ℕ) (in_chars in_pairs in_ascii : List ℕ) (in_multibyte : ℕ) : Type 0 where
   pub chars : IsSum most (chars_of bytes i n) in_chars
   pub pairs : IsSum most (pairs_of bytes i n) in_pairs
-  pub narrow : IsSum most (narrow_of breaks bytes i n) in_narrow
-  pub wide : in_wide ≡ wide_of breaks bytes i n
+  pub ascii : IsSum most (ascii_of breaks bytes i n) in_ascii
+  pub multibyte : in_multibyte ≡ multibyte_of breaks bytes i n

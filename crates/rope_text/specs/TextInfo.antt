@@ -1,5 +1,5 @@
 -- The counts of a text, and those of joined texts.
-use Rattle.std.specs.Prelude.{ℕ, ◌+◌, ◌-◌, ◌&&◌, cond, List, length}
+use Rattle.std.specs.Prelude.{ℕ, ◌+◌, ◌-◌, ◌<◌, ◌≤◌, ◌^◌, ◌&&◌, cond, List, length}
 use Rattle.rope_text.specs.declared.line_breaks.LineBreaks.{LineBreaks}
 use Rattle.rope_text.specs.declared.text_info.TextInfo.{TextInfo}
 use Rattle.rope_text.specs.Text.{byte_len, surrogate_count}
@@ -18,6 +18,20 @@ info_sum s t = record {
   utf16_surrogates = s.utf16_surrogates + t.utf16_surrogates;
   break_count = s.break_count + t.break_count;
 }
+
+-- the sums fit a machine's word, count by count
+pub record HasSum (s t : TextInfo) : Type 0 where
+  pub bytes : s.bytes + t.bytes < 2 ^ 64
+  pub chars : s.chars + t.chars < 2 ^ 64
+  pub surrogates : s.utf16_surrogates + t.utf16_surrogates < 2 ^ 64
+  pub count : s.break_count + t.break_count < 2 ^ 64
+
+-- the part is in the total, count by count
+pub record HasPart (total part : TextInfo) : Type 0 where
+  pub bytes : part.bytes ≤ total.bytes
+  pub chars : part.chars ≤ total.chars
+  pub surrogates : part.utf16_surrogates ≤ total.utf16_surrogates
+  pub count : part.break_count ≤ total.break_count
 
 -- one break, where CR meets LF and CR is a break by itself: the two are one break of the joined text
 abbrev pub shared_breaks : LineBreaks → List ℕ → List ℕ → ℕ

@@ -9,9 +9,9 @@ ghost use Rattle.std.specs.Prelude.{◌≡◌, ◌+◌, ◌-◌, ◌*◌, ◌<�
 ghost use Rattle.rope_text.specs.Bytes.{begins_char, begins_pair};
 ghost use Rattle.rope_text.specs.ByteBreaks.{byte_break_count, AreCounts};
 ghost use Rattle.rope_text.specs.Bits.{ones_below};
-ghost use Rattle.rope_text.specs.Marks.{HasNoWide, IsLanes, IsBlockMask, narrow_mark, mark_at, marks, ahead, lf_or_cr_lf};
+ghost use Rattle.rope_text.specs.Marks.{HasNoMultibyte, IsLanes, IsBlockMask, ascii_mark, mark_at, marks, ahead, lf_or_cr_lf};
 ghost use lib.Lanes.{sum_l};
-ghost use Rattle.rope_text.specs.Runs.{IsSum, count_of, wide_of, wide_at, wide_begin, places};
+ghost use Rattle.rope_text.specs.Runs.{IsSum, count_of, multibyte_of, multibyte_at, multibyte_begin, places};
 
 use crate::bits::{first_mark, ones_before, ones_between};
 use crate::{LineBreaks, TextInfo, known_set};
@@ -39,13 +39,13 @@ pub(crate) fn ahead(mark: Mark) -> usize
     }
 }
 
-// 1 in each lane of `x` where a mark begins, else 0; a break is seen only where it begins below 128. The lanes of `y` are the bytes
+// 1 in each lane of `x` where a mark begins, else 0; of the breaks the ASCII ones alone. The lanes of `y` are the bytes
 // behind those of `x`.
 fn ones<const N: usize>(x: Simd<u8, N>, y: Simd<u8, N>, mark: Mark) -> Simd<u8, N>
     requires { N ≤ 64 }
     ensures { (ks : List ℕ) (g h : ℕ → ℕ) → length ks ≡ N → ((k : ℕ) → g k < 256)
         → IsLanes ks g x.entry → IsLanes ks h y.entry
-        → IsLanes ks (λ k. cond (narrow_mark mark (g k) (h k)) 1 0) result }
+        → IsLanes ks (λ k. cond (ascii_mark mark (g k) (h k)) 1 0) result }
 {
     let marks = match mark {
         Mark::Char => x.simd_lt(Simd::splat(0x80)) | x.simd_ge(Simd::splat(0xC0)),
@@ -76,14 +76,14 @@ fn unicode_mask(bytes: &[u8], at: usize) -> u64
     let low = ones(x, y, Mark::Break(LineBreaks::Unicode)).simd_eq(u8x32::splat(1));
     let nel = x.simd_eq(u8x32::splat(0xC2)) & y.simd_eq(u8x32::splat(0x85));
     let separator = z.simd_eq(u8x32::splat(0xA8)) | z.simd_eq(u8x32::splat(0xA9));
-    let wide = x.simd_eq(u8x32::splat(0xE2)) & (y.simd_eq(u8x32::splat(0x80)) & separator);
-    (low | (nel | wide)).to_bitmask()
+    let ls_or_ps = x.simd_eq(u8x32::splat(0xE2)) & (y.simd_eq(u8x32::splat(0x80)) & separator);
+    (low | (nel | ls_or_ps)).to_bitmask()
 }
 
-// Which of the 32 bytes from `at` on begin a mark, of the breaks those alone that begin below 128.
-fn narrow_mask(bytes: &[u8], at: usize, mark: Mark) -> u64
+// Which of the 32 bytes from `at` on begin a mark, of the breaks the ASCII ones alone.
+fn ascii_mask(bytes: &[u8], at: usize, mark: Mark) -> u64
     requires { (at + 32) + ahead mark ≤ length bytes.now }
-    ensures { (n : ℕ) → n ≤ 32 → HasNoWide mark bytes.now at n
+    ensures { (n : ℕ) → n ≤ 32 → HasNoMultibyte mark bytes.now at n
         → marks mark (drop at bytes.now) ≡ ones_below result n + marks mark (drop (at + n) bytes.now) }
 {
     let x = u8x32::from_slice(&bytes[at..]);
@@ -103,12 +103,12 @@ pub(crate) fn known_mask(bytes: &[u8], at: usize, mark: Mark) -> u64
     if ahead(mark) == 2 {
         // Most blocks have none of the bytes C2 and E2, which begin NEL, LS and PS.
         let x = u8x32::from_slice(&bytes[at..]);
-        let wide_begin = (x & u8x32::splat(0xDF)).simd_eq(u8x32::splat(0xC2));
-        if wide_begin.to_bitmask() != 0 {
+        let multibyte_begin = (x & u8x32::splat(0xDF)).simd_eq(u8x32::splat(0xC2));
+        if multibyte_begin.to_bitmask() != 0 {
             return unicode_mask(bytes, at);
         }
     }
-    narrow_mask(bytes, at, mark)
+    ascii_mask(bytes, at, mark)
 }
 
 /// The masks of a block.
@@ -129,9 +129,9 @@ pub(crate) fn masks_of(bytes: &[u8], at: usize, breaks: LineBreaks) -> Masks
 {
     let lanes = u8x32::from_slice(&bytes[at..]);
     if lanes.simd_ge(u8x32::splat(0x80)).to_bitmask() == 0 {
-        // ASCII begins a character at each byte, and no pair and none of the breaks above it.
+        // ASCII begins a character at each byte, and no pair and no multibyte break.
         return Masks {
-            breaks: narrow_mask(bytes, at, Mark::Break(breaks)),
+            breaks: ascii_mask(bytes, at, Mark::Break(breaks)),
             chars: 0xFFFF_FFFF,
             pairs: 0,
         };
@@ -197,7 +197,9 @@ pub(crate) fn is_mark(bytes: &[u8], at: usize, mark: Mark) -> bool
     match breaks {
         LineBreaks::Lf => x == b'\n',
         LineBreaks::CrLf => x == b'\n' || is_lone_cr,
-        LineBreaks::Unicode => { (10..=12).contains(&x) || is_lone_cr || is_wide_break(x, y, z) }
+        LineBreaks::Unicode => {
+            (10..=12).contains(&x) || is_lone_cr || is_multibyte_break(x, y, z)
+        }
     }
 }
 
@@ -311,17 +313,17 @@ fn add_ones(sums: u8x16, bytes: &[u8], at: usize, mark: Mark) -> u8x16
     third + ones_from(bytes, at + 48, mark)
 }
 
-fn is_wide_break(x: u8, y: u8, z: u8) -> bool
-    ensures { result ≡ wide_at LineBreaks.Unicode x y z }
+fn is_multibyte_break(x: u8, y: u8, z: u8) -> bool
+    ensures { result ≡ multibyte_at LineBreaks.Unicode x y z }
 {
     (x == 0xC2 && y == 0x85) || (x == 0xE2 && y == 0x80 && (z == 0xA8 || z == 0xA9))
 }
 
 // How many NEL, LS and PS begin in the 64 bytes from `at` on, where they are breaks: their first bytes are rare, and each is
 // looked at by itself.
-fn wide_in(bytes: &[u8], at: usize, breaks: LineBreaks) -> usize
+fn multibyte_in(bytes: &[u8], at: usize, breaks: LineBreaks) -> usize
     requires { at + 66 ≤ length bytes.now }
-    ensures { result ≡ wide_of breaks bytes.now at 64 }
+    ensures { result ≡ multibyte_of breaks bytes.now at 64 }
 {
     if ahead(Mark::Break(breaks)) < 2 {
         return 0;
@@ -333,7 +335,7 @@ fn wide_in(bytes: &[u8], at: usize, breaks: LineBreaks) -> usize
     while begins.count_ones() > 0 {
         let skip = first_mark(begins);
         i += skip;
-        if is_wide_break(bytes[i], bytes[i + 1], bytes[i + 2]) {
+        if is_multibyte_break(bytes[i], bytes[i + 1], bytes[i + 2]) {
             total += 1;
         }
         i += 1;
@@ -365,19 +367,19 @@ fn count_run(bytes: &[u8], from: usize, to: usize, breaks: LineBreaks) -> TextIn
 {
     let size = 64 * ((to - from) / 64).min(BLOCKS);
     let none = u8x16::splat(0);
-    // Of the breaks, the lanes count those that begin below 128.
-    let (mut chars, mut pairs, mut narrow, mut wide) = (none, none, none, 0);
+    // Of the breaks, the lanes count the ASCII ones.
+    let (mut chars, mut pairs, mut ascii, mut multibyte) = (none, none, none, 0);
     let mut i = from;
     while i < from + size {
-        narrow = add_ones(narrow, bytes, i, Mark::Break(breaks));
+        ascii = add_ones(ascii, bytes, i, Mark::Break(breaks));
         let lanes = u8x64::from_slice(&bytes[i..]);
         if lanes.simd_ge(u8x64::splat(0x80)).to_bitmask() == 0 {
-            // ASCII begins a character at each byte, and no pair and none of the other breaks.
+            // ASCII begins a character at each byte, and no pair and no multibyte break.
             chars = chars + u8x16::splat(4);
         } else {
             chars = add_ones(chars, bytes, i, Mark::Char);
             pairs = add_ones(pairs, bytes, i, Mark::Pair);
-            wide += wide_in(bytes, i, breaks);
+            multibyte += multibyte_in(bytes, i, breaks);
         }
         i += 64;
     }
@@ -385,7 +387,7 @@ fn count_run(bytes: &[u8], from: usize, to: usize, breaks: LineBreaks) -> TextIn
         bytes: size,
         chars: sum_of(chars),
         utf16_surrogates: sum_of(pairs),
-        break_count: sum_of(narrow) + wide,
+        break_count: sum_of(ascii) + multibyte,
     }
 }
 

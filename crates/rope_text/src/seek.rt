@@ -2,8 +2,7 @@
 //! the place, and that one is halved. What is left behind the last block is gone through byte by byte.
 //! A place that isn't there is the end.
 //!
-//! The first line break of a text is found with what the text before it counts, in one pass. The three numbers stand as characters,
-//! bytes and pairs: with the two counts side by side, the compiler would add them up in one vector register, which takes longer.
+//! The first line break of a text is found with what the text before it counts, in one pass.
 #![tactic(auto, using(crate::proofs::Blocks::begins_le, crate::proofs::Blocks::pairs_le, crate::proofs::Blocks::byte_break_count_le))]
 
 ghost use Rattle.std.specs.Prelude.{◌≡◌, ◌+◌, ◌<◌, ◌≤◌, length, count_by, drop, take, IsTrue};
@@ -57,7 +56,7 @@ pub(crate) fn find_from(bytes: &[u8], from: usize, n: usize, mark: Mark) -> usiz
     find(bytes, at, left, mark)
 }
 
-/// The pairs of blocks before the character `n`: their end, and which character it is from there on.
+/// The blocks before the character `n`, two at a time: their end, and which character it is from there on.
 pub(crate) fn skip_chars(bytes: &[u8], n: usize) -> (usize, usize)
     ensures { IsPassed Mark.Char bytes.now n result.0 result.1 }
 {
@@ -73,7 +72,7 @@ pub(crate) fn skip_chars(bytes: &[u8], n: usize) -> (usize, usize)
     (at, left)
 }
 
-/// The same from the end, where it is known how many characters there are: the last pair of blocks that begins at or before the
+/// The same from the end, where it is known how many characters there are: the last two blocks that begin at or before the
 /// character `n`, or the start, and which character it is from there on.
 pub(crate) fn skip_chars_back(bytes: &[u8], n: usize, chars: usize) -> (usize, usize)
     requires within { n ≤ chars }
@@ -98,20 +97,20 @@ pub(crate) fn skip_chars_back(bytes: &[u8], n: usize, chars: usize) -> (usize, u
 pub(crate) fn skip_breaks_back(
     bytes: &[u8],
     n: usize,
-    count: usize,
+    break_count: usize,
     breaks: LineBreaks,
 ) -> (usize, usize)
-    requires within { n ≤ count }
-    requires count { count ≡ byte_break_count breaks bytes.now }
+    requires within { n ≤ break_count }
+    requires break_count { break_count ≡ byte_break_count breaks bytes.now }
     ensures { IsPassed (Mark.Break breaks) bytes.now n result.0 result.1 }
 {
     let mut at = bytes.len().saturating_sub(ahead(Mark::Break(breaks)));
     let behind = marks_between(bytes, at, bytes.len(), Mark::Break(breaks));
-    if count - n <= behind {
-        return (at, behind - (count - n));
+    if break_count - n <= behind {
+        return (at, behind - (break_count - n));
     }
     // What is left are the breaks from `n` on that begin before `at`.
-    let mut left = count - n - behind;
+    let mut left = break_count - n - behind;
     while at >= 32 {
         let passed = marks_in(bytes, at - 32, Mark::Break(breaks));
         if left <= passed {
@@ -189,16 +188,16 @@ fn skip_known(bytes: &[u8], n: usize, breaks: LineBreaks) -> (usize, TextInfo)
 /// The byte with which the break `n` begins, where it is known how many breaks there are: from the
 /// side that has fewer of them. Inlined, since each caller's set is a constant.
 #[inline(always)]
-pub(crate) fn find_break(bytes: &[u8], n: usize, count: usize, breaks: LineBreaks) -> usize
-    requires within { n ≤ count }
-    requires count { count ≡ byte_break_count breaks bytes.now }
+pub(crate) fn find_break(bytes: &[u8], n: usize, break_count: usize, breaks: LineBreaks) -> usize
+    requires within { n ≤ break_count }
+    requires break_count { break_count ≡ byte_break_count breaks bytes.now }
     ensures { IsPlaceOf (Mark.Break breaks) bytes.now 0 n result }
 {
-    let (from, left) = if n < count / 2 {
+    let (from, left) = if n < break_count / 2 {
         let (left, counts) = skip_known(bytes, n, breaks);
         (counts.bytes, left)
     } else {
-        skip_breaks_back(bytes, n, count, breaks)
+        skip_breaks_back(bytes, n, break_count, breaks)
     };
     find_from(bytes, from, left, Mark::Break(breaks))
 }
@@ -243,58 +242,63 @@ pub(crate) fn front_of_line(text: &str, line_idx: usize, breaks: LineBreaks) -> 
     counts
 }
 
+/// The bytes before a place, with no line break among them, and what they count.
+// In this order: with the two counts side by side, the compiler would add them up in one vector register, which takes longer.
+#[derive(Clone, Copy)]
+pub(crate) struct Front {
+    pub chars: usize,
+    pub at: usize,
+    pub pairs: usize,
+}
+
 // Goes on from a place near the end to the next break, or to the end of the last block that can be read; a place behind that end
 // stays.
-fn go_in_last_block(
-    bytes: &[u8],
-    from: (usize, usize, usize),
-    breaks: LineBreaks,
-) -> (usize, usize, usize)
-    requires near { length bytes.now ≤ from.1 + 34 }
-    requires front { IsFront breaks bytes.now from.0 from.1 from.2 }
-    ensures { IsFront breaks bytes.now result.0 result.1 result.2 }
+fn go_in_last_block(bytes: &[u8], from: Front, breaks: LineBreaks) -> Front
+    requires near { length bytes.now ≤ from.at + 34 }
+    requires front { IsFront breaks bytes.now from.chars from.at from.pairs }
+    ensures { IsFront breaks bytes.now result.chars result.at result.pairs }
 {
-    let (chars, start, pairs) = from;
-    if bytes.len() < 34 || start > bytes.len() - 2 {
+    if bytes.len() < 34 || from.at > bytes.len() - 2 {
         return from;
     }
     let at = bytes.len() - 34;
-    let skip = start - at;
+    let skip = from.at - at;
     let begins = known_mask(bytes, at, Mark::Char);
-    let doubles = known_mask(bytes, at, Mark::Pair);
+    let pairs = known_mask(bytes, at, Mark::Pair);
     let marks = mask(bytes, at, Mark::Break(breaks)) >> skip;
     let to = skip + first_mark(marks).min(32 - skip);
-    (
-        chars + ones_between(begins, skip, to),
-        at + to,
-        pairs + ones_between(doubles, skip, to),
-    )
+    Front {
+        chars: from.chars + ones_between(begins, skip, to),
+        at: at + to,
+        pairs: from.pairs + ones_between(pairs, skip, to),
+    }
 }
 
 // The same to the next break or to the end of the bytes. Never inlined: it is needed once a chunk, and would only make its
 // callers longer.
 #[inline(never)]
-fn go_to_end(bytes: &[u8], from: (usize, usize, usize), breaks: LineBreaks) -> (usize, usize, usize)
-    requires near { length bytes.now ≤ from.1 + 34 }
-    requires front { IsFront breaks bytes.now from.0 from.1 from.2 }
-    ensures front { IsFront breaks bytes.now result.0 result.1 result.2 }
-    ensures inside { result.1 < length bytes.now → IsTrue (breaks_at breaks bytes.now result.1) }
+fn go_to_end(bytes: &[u8], from: Front, breaks: LineBreaks) -> Front
+    requires near { length bytes.now ≤ from.at + 34 }
+    requires front { IsFront breaks bytes.now from.chars from.at from.pairs }
+    ensures front { IsFront breaks bytes.now result.chars result.at result.pairs }
+    ensures inside { result.at < length bytes.now → IsTrue (breaks_at breaks bytes.now result.at) }
 {
-    let (mut chars, mut at, mut pairs) = go_in_last_block(bytes, from, breaks);
+    let front = go_in_last_block(bytes, from, breaks);
+    let (mut chars, mut at, mut pairs) = (front.chars, front.at, front.pairs);
     while at < bytes.len() && !is_mark(bytes, at, Mark::Break(breaks)) {
         chars += is_mark(bytes, at, Mark::Char) as usize;
         pairs += is_mark(bytes, at, Mark::Pair) as usize;
         at += 1;
     }
-    (chars, at, pairs)
+    Front { chars, at, pairs }
 }
 
 /// The bytes before the one at which the last character of the first line break begins, or all, and what they count: a block at a
 /// time. A set that is known where this is called leaves no test for it in the loop.
 #[inline(always)]
-pub(crate) fn to_first_break(bytes: &[u8], breaks: LineBreaks) -> (usize, usize, usize)
-    ensures front { IsFront breaks bytes.now result.0 result.1 result.2 }
-    ensures inside { result.1 < length bytes.now → IsTrue (breaks_at breaks bytes.now result.1) }
+pub(crate) fn to_first_break(bytes: &[u8], breaks: LineBreaks) -> Front
+    ensures front { IsFront breaks bytes.now result.chars result.at result.pairs }
+    ensures inside { result.at < length bytes.now → IsTrue (breaks_at breaks bytes.now result.at) }
 {
     let (mut chars, mut at, mut pairs) = (0, 0, 0);
     while bytes.len() - at >= 34 {
@@ -302,11 +306,13 @@ pub(crate) fn to_first_break(bytes: &[u8], breaks: LineBreaks) -> (usize, usize,
         if ones_before(masks.breaks, 32) > 0 {
             let skip = first_mark(masks.breaks);
             chars += ones_before(masks.chars, skip);
-            return (chars, at + skip, pairs + ones_before(masks.pairs, skip));
+            pairs += ones_before(masks.pairs, skip);
+            at += skip;
+            return Front { chars, at, pairs };
         }
         at += 32;
         chars += ones_before(masks.chars, 32);
         pairs += ones_before(masks.pairs, 32);
     }
-    go_to_end(bytes, (chars, at, pairs), breaks)
+    go_to_end(bytes, Front { chars, at, pairs }, breaks)
 }

@@ -7,7 +7,7 @@ ghost use Rattle.rope_text.specs.Breaks.{break_count};
 ghost use Rattle.rope_text.specs.LineParts.{before_byte, after_byte, first_line, last_line_byte, last_line_info, IsBetween};
 ghost use Rattle.rope_text.specs.Cutting.{parts_crlf};
 ghost use Rattle.rope_text.specs.Lines.{line_start};
-ghost use Rattle.rope_text.specs.TextInfo.{info_of, info_sum};
+ghost use Rattle.rope_text.specs.TextInfo.{info_of, info_sum, HasSum, HasPart};
 
 use crate::back::back_to_break;
 use crate::lanes::count_all;
@@ -62,9 +62,13 @@ impl TextInfo {
     {
         let bytes = text.as_bytes();
         // Each set has a loop of its own, since marks that come from one of three places are slow to put together.
-        let mut line = TextInfo::new();
-        (line.chars, line.bytes, line.utf16_surrogates) =
-            known_set!(breaks => to_first_break(bytes, breaks));
+        let front = known_set!(breaks => to_first_break(bytes, breaks));
+        let mut line = TextInfo {
+            bytes: front.at,
+            chars: front.chars,
+            utf16_surrogates: front.pairs,
+            break_count: 0,
+        };
         if line.bytes < bytes.len() {
             line.bytes += width_of(bytes[line.bytes]);
             line.chars += 1;
@@ -121,10 +125,7 @@ impl TextInfo {
     /// The sums: the counts of two texts joined, unless CR meets LF there, which makes one line break less. Each
     /// sum is below 2^64. Takes constant time and no memory.
     pub fn plus(self, other: TextInfo) -> TextInfo
-        requires bytes { self.bytes + other.bytes < 2 ^ 64 }
-        requires chars { self.chars + other.chars < 2 ^ 64 }
-        requires utf16_surrogates { self.utf16_surrogates + other.utf16_surrogates < 2 ^ 64 }
-        requires break_count { self.break_count + other.break_count < 2 ^ 64 }
+        requires { HasSum self other }
         ensures sum { result ≡ info_sum self other }
         ensures joined { (breaks : LineBreaks) (s t : List ℕ)
             → self ≡ info_of breaks s → other ≡ info_of breaks t → parts_crlf s t ≡ false
@@ -141,10 +142,7 @@ impl TextInfo {
     /// The differences: the counts of what follows a front, unless CR meets LF there. No count of the front is
     /// greater than the text's. Takes constant time and no memory.
     pub fn minus(self, front: TextInfo) -> TextInfo
-        requires bytes { front.bytes ≤ self.bytes }
-        requires chars { front.chars ≤ self.chars }
-        requires utf16_surrogates { front.utf16_surrogates ≤ self.utf16_surrogates }
-        requires break_count { front.break_count ≤ self.break_count }
+        requires { HasPart self front }
         ensures sum { info_sum front result ≡ self }
         ensures rest { (breaks : LineBreaks) (s t : List ℕ)
             → self ≡ info_of breaks (s ++ t) → front ≡ info_of breaks s → parts_crlf s t ≡ false

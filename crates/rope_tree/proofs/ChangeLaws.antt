@@ -5,9 +5,9 @@ use Rattle.rope_text.specs.declared.line_breaks.LineBreaks.{LineBreaks}
 use Rattle.rope_text.specs.declared.line_breaks.LineBreaks.TheVariants.{Lf}
 use Rattle.rope_text.specs.declared.text_info.TextInfo.{TextInfo}
 use Rattle.rope_text.proofs.BreakLaws.{break_ends-nil}
-use Rattle.rope_text.specs.TextInfo.{info_of, info_sum}
+use Rattle.rope_text.specs.TextInfo.{info_of, info_sum, HasPart}
 use Rattle.rope_tree.specs.Tree.{Tree, text, joined, AreChildren}
-use Rattle.rope_tree.specs.Search.{IsSmall, HasPart}
+use Rattle.rope_tree.specs.Search.{IsSmall}
 use Rattle.rope_tree.specs.Narrow.{FitsWith}
 use Rattle.rope_tree.specs.Change.{IsChange, no_counts}
 use Rattle.rope_tree.proofs.TotalLaws.{same_counts, has_part, even}

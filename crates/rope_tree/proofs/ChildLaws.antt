@@ -3,14 +3,14 @@ use Rattle.std.proofs.Common.{◌≡◌, ℕ, ◌+◌, ◌-◌, ◌<◌, ◌≤�
 use Rattle.rope_text.specs.declared.text_info.TextInfo.{TextInfo}
 use Rattle.rope_text.specs.Text.{byte_len}
 use Rattle.rope_text.specs.Edit.{inserted}
-use Rattle.rope_text.specs.TextInfo.{info_of, info_sum}
+use Rattle.rope_text.specs.TextInfo.{info_of, info_sum, HasPart}
 use Rattle.rope_text.proofs.Measures.{IsMeasure-byte_len}
 use Rattle.rope_tree.specs.Tree.{Tree, text, joined, height_of, breaks_of, tree_over, AreChildren}
 use Rattle.rope_tree.specs.Totals.{HasTotals}
 use Rattle.rope_tree.specs.declared.node.Children.TheInside.{Inside}
 use Rattle.rope_tree.specs.Listed.{listed, IsListed}
 use Rattle.rope_tree.proofs.ListedLaws.{set_seen, set_listed, set_totals}
-use Rattle.rope_tree.specs.Search.{IsSmall, HasPart}
+use Rattle.rope_tree.specs.Search.{IsSmall}
 use Rattle.rope_tree.specs.Insert.{MayInsert, IsInserted, AreGrown}
 use Rattle.rope_tree.proofs.Infos.{small_info}
 use Rattle.rope_tree.specs.Narrow.{AreNarrow, FitsWith}

@@ -10,7 +10,7 @@ use Rattle.rope_text.specs.Conversions.{char_to_byte}
 use Rattle.rope_text.proofs.Measures.{IsMeasure-byte_len, IsMeasure-utf16_len, size_le_all}
 use Rattle.rope_text.proofs.ConversionLaws.{byte_to_char-le-length, char_to_line_end, utf16_len-le}
 use Rattle.rope_text.proofs.LineLaws.{line_start-le-length, line_start_first, line_start_past}
-use Rattle.rope_text.proofs.NarrowTexts.{narrow_front, narrow_units, narrow_byte_to_char, narrow_utf16_to_char}
+use Rattle.rope_text.proofs.AsciiTexts.{ascii_front, ascii_units, ascii_byte_to_char, ascii_utf16_to_char}
 use Rattle.rope_tree.specs.declared.search.Unit.{Unit}
 use Rattle.rope_tree.specs.declared.search.Unit.TheVariants.{Byte, Char, CodeUnit, LineBreak}
 use Rattle.rope_tree.specs.Search.{count_of}
@@ -64,12 +64,12 @@ converted-le LineBreak Char breaks text idx pair = omega (arith, line_start-le-l
 converted-le _ _ breaks text idx pair = absurd (cc)
 
 -- where there are as many bytes as characters, all indices of a place but its line are the same number
-pub narrow_converted : (from to : Unit) (breaks : LineBreaks) (text : List ℕ) (idx : ℕ) → are_converted from to ≡ true → byte_len text ≡ length text → (from ≡ LineBreak → ⊥) → (to ≡ LineBreak → from ≡ CodeUnit) → converted from to breaks text idx ≡ min idx (length text)
-narrow_converted Byte Char breaks text idx pair narrow from_other to_other = narrow_byte_to_char text narrow idx
-narrow_converted Byte LineBreak breaks text idx pair narrow from_other to_other = let e : Byte ≡ CodeUnit = to_other refl in absurd (cc)
-narrow_converted Char Byte breaks text idx pair narrow from_other to_other = narrow_front text narrow idx
-narrow_converted Char CodeUnit breaks text idx pair narrow from_other to_other = narrow_units text narrow idx
-narrow_converted Char LineBreak breaks text idx pair narrow from_other to_other = let e : Char ≡ CodeUnit = to_other refl in absurd (cc)
-narrow_converted CodeUnit Char breaks text idx pair narrow from_other to_other = narrow_utf16_to_char text narrow idx
-narrow_converted LineBreak _ breaks text idx pair narrow from_other to_other = absurd (from_other refl)
-narrow_converted _ _ breaks text idx pair narrow from_other to_other = absurd (cc)
+pub ascii_converted : (from to : Unit) (breaks : LineBreaks) (text : List ℕ) (idx : ℕ) → are_converted from to ≡ true → byte_len text ≡ length text → (from ≡ LineBreak → ⊥) → (to ≡ LineBreak → from ≡ CodeUnit) → converted from to breaks text idx ≡ min idx (length text)
+ascii_converted Byte Char breaks text idx pair ascii from_other to_other = ascii_byte_to_char text ascii idx
+ascii_converted Byte LineBreak breaks text idx pair ascii from_other to_other = let e : Byte ≡ CodeUnit = to_other refl in absurd (cc)
+ascii_converted Char Byte breaks text idx pair ascii from_other to_other = ascii_front text ascii idx
+ascii_converted Char CodeUnit breaks text idx pair ascii from_other to_other = ascii_units text ascii idx
+ascii_converted Char LineBreak breaks text idx pair ascii from_other to_other = let e : Char ≡ CodeUnit = to_other refl in absurd (cc)
+ascii_converted CodeUnit Char breaks text idx pair ascii from_other to_other = ascii_utf16_to_char text ascii idx
+ascii_converted LineBreak _ breaks text idx pair ascii from_other to_other = absurd (from_other refl)
+ascii_converted _ _ breaks text idx pair ascii from_other to_other = absurd (cc)

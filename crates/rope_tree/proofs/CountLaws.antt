@@ -9,11 +9,10 @@ use Rattle.rope_text.specs.Text.{byte_len, surrogate_count}
 use Rattle.rope_text.specs.Breaks.{is_break_char, break_count, ends_in_cr, begins_with_lf}
 use Rattle.rope_text.specs.Cutting.{parts_crlf}
 use Rattle.rope_text.specs.Edit.{inserted, removed}
-use Rattle.rope_text.specs.TextInfo.{info_of, info_sum, shared_breaks}
+use Rattle.rope_text.specs.TextInfo.{info_of, info_sum, shared_breaks, HasPart}
 use Rattle.rope_text.proofs.BreakLaws.{break_count-append, break_count-cons, break_char_13, one_less}
 use Rattle.rope_text.proofs.InfoLaws.{surrogate_count-append}
 use Rattle.rope_text.proofs.Measures.{IsMeasure-byte_len}
-use Rattle.rope_tree.specs.Search.{HasPart}
 use Rattle.rope_tree.proofs.InsertTrees.{inserted_is, byte_len-inserted, length-inserted}
 
 shared_first : (breaks : LineBreaks) (f a b : List ℕ) → 1 ≤ length a → shared_breaks breaks f (a ++ b) ≡ shared_breaks breaks f a

@@ -5,11 +5,10 @@ use Rattle.std.proofs.lemmas.Bool.{cases_lt}
 use Rattle.std.proofs.lemmas.List.{length-set}
 use Rattle.std.proofs.lemmas.List.FromFn.{length-map-range_with_len, get_or-map-range_with_len, map-range_with_len_more, fill_by_all}
 use Rattle.rope_text.specs.declared.text_info.TextInfo.{TextInfo}
-use Rattle.rope_text.specs.TextInfo.{info_sum}
+use Rattle.rope_text.specs.TextInfo.{info_sum, HasPart}
 use Rattle.rope_tree.specs.declared.search.count_rows.CountRows.TheInside.{Inside}
 use Rattle.rope_tree.specs.CountRows.{counts_at, all_totals, IsTotals}
 use Rattle.rope_tree.specs.Narrow.{IsBelow, IsNarrow, AreNarrow, IsBelowWith, FitsWith}
-use Rattle.rope_tree.specs.Search.{HasPart}
 use Rattle.rope_tree.specs.Shifted.{IsShifted}
 use Rattle.rope_tree.proofs.TotalLaws.{same_counts}
 use Rattle.rope_tree.proofs.CellRows.{pasted, set_same, set_other, in_length, in_here, in_before, in_behind}

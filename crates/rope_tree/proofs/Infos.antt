@@ -8,7 +8,7 @@ use Rattle.std.proofs.lemmas.Str.{length-le-encodes}
 use Rattle.rope_text.specs.declared.line_breaks.LineBreaks.{LineBreaks}
 use Rattle.rope_text.specs.declared.text_info.TextInfo.{TextInfo}
 use Rattle.rope_text.specs.Text.{byte_len, surrogate_count}
-use Rattle.rope_text.specs.TextInfo.{info_of}
+use Rattle.rope_text.specs.TextInfo.{info_of, info_sum, HasSum}
 use Rattle.rope_text.proofs.InfoLaws.{break_count-le-length}
 use Rattle.rope_tree.specs.Narrow.{IsBelow}
 use Rattle.rope_tree.specs.Search.{IsSmall}
@@ -20,6 +20,23 @@ small_info breaks text fits = record {
   chars = length-le-encodes text;
   surrogates = count_by-le-length (λ c. nat_le 65536 c) text;
   count = break_count-le-length breaks text;
+}
+
+-- counts that have a sum
+pub sum_of_small : (x y : TextInfo) → IsSmall x → IsSmall y → HasSum x y
+sum_of_small x y a b = record {
+  bytes = omega (arith, a.bytes, b.bytes);
+  chars = omega (arith, a.bytes, a.chars, b.bytes, b.chars);
+  surrogates = omega (arith, a.bytes, a.chars, a.surrogates, b.bytes, b.chars, b.surrogates);
+  count = omega (arith, a.bytes, a.chars, a.count, b.bytes, b.chars, b.count);
+}
+
+pub small_sum : (x y : TextInfo) → IsSmall (info_sum x y) → HasSum x y
+small_sum x y a = record {
+  bytes = omega (arith, a.bytes);
+  chars = omega (arith, a.bytes, a.chars);
+  surrogates = omega (arith, a.bytes, a.chars, a.surrogates);
+  count = omega (arith, a.bytes, a.chars, a.count);
 }
 
 -- none of them is above it

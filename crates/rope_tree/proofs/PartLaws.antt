@@ -7,14 +7,14 @@ use Rattle.std.proofs.lemmas.List.Elements.{All-take, All-drop}
 use Rattle.std.proofs.Math.Seq.{take-add, take-length, take-append_seam, take-append-add, drop-append_seam}
 use Rattle.rope_text.specs.declared.line_breaks.LineBreaks.{LineBreaks}
 use Rattle.rope_text.specs.declared.text_info.TextInfo.{TextInfo}
-use Rattle.rope_text.specs.TextInfo.{info_of, info_sum}
+use Rattle.rope_text.specs.TextInfo.{info_of, info_sum, HasPart}
 use Rattle.rope_text.proofs.InfoLaws.{info_of-append_apart}
 use Rattle.rope_tree.specs.Leaves.{AreLeaves}
 use Rattle.rope_text.specs.Text.{byte_len}
 use Rattle.rope_tree.specs.Tree.{Tree, joined, leaves_of, height_of, breaks_of, IsChild, AreChildren}
 use Rattle.rope_tree.specs.Siblings.{AreSiblings}
 use Rattle.rope_tree.specs.Totals.{HasTotals, IsTotalOf}
-use Rattle.rope_tree.specs.Search.{IsSmall, HasPart}
+use Rattle.rope_tree.specs.Search.{IsSmall}
 use Rattle.rope_tree.specs.Narrow.{FitsWith}
 use Rattle.rope_tree.specs.Flat.{IsFlat}
 use Rattle.rope_tree.specs.Rows.{IsPart}

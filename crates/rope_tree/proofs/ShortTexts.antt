@@ -11,5 +11,5 @@ module _ (s : Inside) (cs : List ℕ) (i : IsShort s) (view : chars s.text.now �
   pub as_many : length s.text.now ≡ length cs
   as_many = sym yes ∙ i.counted (omega arith) ∙ ap length view
 
-  pub narrow : byte_len cs ≡ length cs
-  narrow = ap byte_len (sym view) ∙ byte_len-chars s.text.now (IsUtf8-from_is_utf8 s.text.now i.utf8) ∙ as_many
+  pub ascii : byte_len cs ≡ length cs
+  ascii = ap byte_len (sym view) ∙ byte_len-chars s.text.now (IsUtf8-from_is_utf8 s.text.now i.utf8) ∙ as_many

@@ -5,8 +5,7 @@ use Rattle.std.proofs.lemmas.List.{length-set, take-set-le, get_or-set_same, get
 use Rattle.rope_text.specs.declared.line_breaks.LineBreaks.{LineBreaks}
 use Rattle.rope_text.specs.declared.text_info.TextInfo.{TextInfo}
 use Rattle.rope_text.specs.Text.{byte_len}
-use Rattle.rope_text.specs.TextInfo.{info_of, info_sum}
-use Rattle.rope_tree.specs.Search.{HasPart}
+use Rattle.rope_text.specs.TextInfo.{info_of, info_sum, HasPart}
 use Rattle.rope_tree.specs.Tree.{Tree, text, joined, AreChildren}
 use Rattle.rope_tree.specs.Totals.{HasTotals}
 use Rattle.rope_tree.specs.Narrow.{FitsWith}

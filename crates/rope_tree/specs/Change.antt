@@ -1,10 +1,9 @@
 -- By how much the counts of a text change.
 use Rattle.std.specs.Prelude.{◌≡◌, ◌^◌, List}
 use Rattle.rope_text.specs.declared.text_info.TextInfo.{TextInfo}
-use Rattle.rope_text.specs.TextInfo.{info_of, info_sum}
+use Rattle.rope_text.specs.TextInfo.{info_of, info_sum, HasPart}
 use Rattle.rope_tree.specs.Tree.{Tree, text, joined, breaks_of}
 use Rattle.rope_tree.specs.Narrow.{IsBelow}
-use Rattle.rope_tree.specs.Search.{HasPart}
 
 -- those of no text
 abbrev pub no_counts : TextInfo

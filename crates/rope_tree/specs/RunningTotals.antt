@@ -1,8 +1,8 @@
 -- What holds of running totals, place by place.
 use Rattle.std.specs.Prelude.{◌≡◌, ℕ, ◌+◌, ◌<◌, ◌≤◌, List, length, slice_index_or}
 use Rattle.rope_text.specs.declared.text_info.TextInfo.{TextInfo}
-use Rattle.rope_text.specs.TextInfo.{info_sum}
-use Rattle.rope_tree.specs.Search.{IsSmall, HasPart}
+use Rattle.rope_text.specs.TextInfo.{info_sum, HasPart}
+use Rattle.rope_tree.specs.Search.{IsSmall}
 use Rattle.rope_tree.specs.Narrow.{IsBelowWith}
 
 -- each is in the bounds that the counts of a rope's text keep

@@ -17,10 +17,3 @@ pub record IsSmall (info : TextInfo) : Type 0 where
   pub chars : info.chars ≤ info.bytes
   pub surrogates : info.utf16_surrogates ≤ info.chars
   pub count : info.break_count ≤ info.chars
-
--- the part is in the total, count by count
-pub record HasPart (total part : TextInfo) : Type 0 where
-  pub bytes : part.bytes ≤ total.bytes
-  pub chars : part.chars ≤ total.chars
-  pub surrogates : part.utf16_surrogates ≤ total.utf16_surrogates
-  pub count : part.break_count ≤ total.break_count

@@ -7,7 +7,7 @@ ghost use Rattle.rope_tree.specs.Tree.{Tree, leaves_of};
 ghost use Rattle.rope_tree.specs.Totals.{AreBelow};
 
 use crate::{Totals, total_before};
-use rope_text::MIN_PAIR_BYTES;
+use rope_text::{MIN_HALF_BYTES, MIN_PAIR_BYTES};
 
 /// How many bytes the leaves at the two ends of a node have to keep: the first beside what stands before the node, and the last
 /// beside what follows it. Where nothing does, none.
@@ -16,9 +16,6 @@ pub struct Least {
     pub first: usize,
     pub last: usize,
 }
-
-/// The bytes of a leaf that may stand beside any other: each has one at the least.
-const ENOUGH_BYTES: usize = MIN_PAIR_BYTES - 1;
 
 /// So many bytes are enough for a leaf next to the child at a place: where that is a leaf, what its own bytes leave to be
 /// wanted. The totals tell how many it has, and it isn't looked at.
@@ -29,12 +26,13 @@ fn least_next_to(height: usize, totals: &Totals, place: usize) -> usize
     ensures ahead { (ts : List Tree) → AreBelow height totals.now ts
         → IsDenseBehind result (leaves_of (drop place ts)) }
 {
+    // Beside any leaf half is enough: each has one byte at the least.
     if height > 1 {
-        return ENOUGH_BYTES;
+        return MIN_HALF_BYTES;
     }
     let before = total_before(totals, place).bytes;
     let bytes = totals.get(place).bytes.saturating_sub(before);
-    MIN_PAIR_BYTES.saturating_sub(bytes).min(ENOUGH_BYTES)
+    MIN_PAIR_BYTES.saturating_sub(bytes).min(MIN_HALF_BYTES)
 }
 
 /// What is enough at the two ends of the child at a place, of a list of children of a node of this height, by what is wanted at

@@ -29,17 +29,17 @@ pub fn convert_in(
     to: Unit,
     idx: usize,
 ) -> usize
-    requires pair { are_converted from to ≡ true }
+    requires units { are_converted from to ≡ true }
     requires info { info ≡ info_of breaks (chars text.now) }
     ensures { result ≡ converted from to breaks (chars text.now) idx }
 {
-    let is_narrow = info.chars == info.bytes;
+    let is_ascii = info.chars == info.bytes;
     match (from, to) {
         (LineBreak, Byte) => str_utils::line_to_byte_of(text, info.break_count, idx, breaks),
         (LineBreak, Char) => str_utils::line_to_char_of(text, info, idx, breaks),
         (Byte, LineBreak) => str_utils::byte_to_line_of(text, info.break_count, idx, breaks),
         (Char, LineBreak) => str_utils::char_to_line_of(text, info, idx, breaks),
-        _ if is_narrow => idx.min(info.bytes),
+        _ if is_ascii => idx.min(info.bytes),
         (Byte, Char) => str_utils::byte_to_char_idx_of(text, info.chars, idx),
         (Char, Byte) => str_utils::char_to_byte_idx_of(text, info.chars, idx),
         (Char, CodeUnit) => str_utils::char_to_utf16_idx(text, idx),
@@ -53,7 +53,7 @@ pub fn convert_in(
 /// end, which of lines is the one past the last. It is expanded where it is called, since the units are constants there.
 #[inline(always)]
 pub fn convert(node: &Node, from: Unit, to: Unit, idx: usize, steps: &mut Steps) -> usize
-    requires pair { are_converted from to ≡ true }
+    requires units { are_converted from to ≡ true }
     requires within { idx ≤ end_index from node.now.breaks (text node.now) }
     requires room { HaveRoom node.now.height steps.old }
     ensures value { result ≡ converted from to node.now.breaks (text node.now) idx }

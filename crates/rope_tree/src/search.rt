@@ -3,9 +3,9 @@ ghost use Rattle.std.specs.Prelude.{◌≡◌, ℕ, ◌+◌, ◌-◌, ◌<◌, �
 ghost use Rattle.rope_text.specs.declared.TheConstants.{MAX_CHILDREN};
 ghost use Rattle.rope_text.specs.declared.line_breaks.LineBreaks.{LineBreaks};
 ghost use Rattle.rope_text.specs.declared.text_info.TextInfo.{TextInfo};
-ghost use Rattle.rope_text.specs.TextInfo.{info_of, info_sum};
+ghost use Rattle.rope_text.specs.TextInfo.{info_of, info_sum, HasPart};
 ghost use Rattle.rope_tree.specs.declared.search.Unit.TheVariants.{Char};
-ghost use Rattle.rope_tree.specs.Search.{count_of, IsSmall, HasPart};
+ghost use Rattle.rope_tree.specs.Search.{count_of, IsSmall};
 ghost use Rattle.rope_tree.specs.Narrow.{IsBelow, IsNarrow, AreNarrow, FitsWith};
 ghost use Rattle.rope_tree.specs.RunningTotals.{AreSmall, HavePart, FitFrom, SameBefore, ChangedFrom, MovedFrom};
 

@@ -46,11 +46,11 @@ least_chunks : (t : Tree) → IsTree t → 1 ≤ t.height → 2 * 12 ^ (t.height
 least_chunks t i high = omega (arith, i.least_leaves high, mul-le-mul_right (12 ^ (t.height - 1)) (i.at_least_two high))
 
 most_for : (h w n : ℕ) → (h ≡ 0 → n ≤ 1) → w ≤ 24 → (1 ≤ h → n ≤ w * 24 ^ (h - 1)) → n ≤ 24 ^ h
-most_for zero w n lone wide most = lone refl
-most_for (suc h) w n lone wide most =
+most_for zero w n lone many most = lone refl
+most_for (suc h) w n lone many most =
     let e : suc h - 1 ≡ h = omega arith in
     let m : n ≤ w * 24 ^ h = subst (λ k. n ≤ w * 24 ^ k) e (most (omega arith)) in
-    omega (arith, m, pow-succ' 24 h, mul-le-mul_right (24 ^ h) wide)
+    omega (arith, m, pow-succ' 24 h, mul-le-mul_right (24 ^ h) many)
 
 pub rope_of : (t : Tree) → IsTree t → IsRope (view_of t)
 rope_of t i = record {

@@ -23,20 +23,20 @@
 //!     rope.insert(5, ", you")?;          // "hello, you"
 //!     let start = rope.line_to_char(0);  // 0
 //!
-//! *Where to look.* `rope` makes, clones and measures ropes, `rope_builder` and `texts` make them of pieces; `edits` changes
-//! them, with twins that count their steps; `lookups` answers about a place; `slices` borrows parts and starts cursors, which
+//! *Where to look.* `rope` makes, clones and measures ropes, `rope_builder` and `texts` make them of pieces; `rope_edits`
+//! changes them, with twins that count their steps; `lookups` answers about a place; `slices` borrows parts and starts cursors, which
 //! `iter` names; `compare`, `texts` and `io` read whole texts; `str_utils` is about plain ones; `laws` says what equality,
 //! order and hash have in common.
 #![tactic(auto)]
 
 mod compare;
-mod edits;
 pub mod io;
 pub mod iter;
 pub mod laws;
 mod lookups;
 mod rope;
 mod rope_builder;
+mod rope_edits;
 mod slices;
 pub mod str_utils;
 mod texts;

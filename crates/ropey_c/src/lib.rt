@@ -19,7 +19,7 @@
 //! are edited, texts and buffers that have their length, different objects in one call, and what may run on several threads
 //! at once. What a place that is written to held before is never read, so it may hold anything.
 //!
-//! *Where to look.* `makers` makes, clones and frees ropes; `edits`, `byte_edits` and `replace` change them; `lengths`,
+//! *Where to look.* `makers` makes, clones and frees ropes; `char_edits`, `byte_edits` and `replace` change them; `lengths`,
 //! `counts`, `conversions`, `positions` and `lookups` answer about a place or a part; `chunks` and `pieces` show where bytes
 //! lie; `copies` copies text out; `compare` compares texts; `texts` answers about plain texts; `builders` takes bytes in
 //! parts, over `intake`; `handle`, `lent`, `builder_handle` and `unboxed` keep a rope behind a pointer; `status` has the
@@ -29,12 +29,12 @@
 pub mod builder_handle;
 pub mod builders;
 pub mod byte_edits;
+pub mod char_edits;
 pub mod chunks;
 pub mod compare;
 pub mod conversions;
 pub mod copies;
 pub mod counts;
-pub mod edits;
 pub mod handle;
 pub mod intake;
 pub mod lengths;

@@ -3,8 +3,7 @@ ghost use Rattle.std.specs.Prelude.{◌≡◌, ℕ, ◌+◌, ◌-◌, ◌<◌, �
 ghost use Rattle.std.specs.List.{insert};
 ghost use Rattle.rope_text.specs.declared.TheConstants.{MAX_CHILDREN};
 ghost use Rattle.rope_text.specs.declared.text_info.TextInfo.{TextInfo};
-ghost use Rattle.rope_text.specs.TextInfo.{info_sum};
-ghost use Rattle.rope_tree.specs.Search.{HasPart};
+ghost use Rattle.rope_text.specs.TextInfo.{info_sum, HasPart};
 ghost use Rattle.rope_tree.specs.Narrow.{IsNarrow, AreNarrow, FitsWith};
 ghost use Rattle.rope_tree.specs.RunningTotals.{HavePart, FitFrom, SameBefore, ChangedFrom, MovedFrom};
 

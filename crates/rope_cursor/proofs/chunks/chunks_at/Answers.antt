@@ -28,4 +28,4 @@ returns-clause-stands c =
     let before : (c.args.idx == c.count.result) ≡ false = grind (arith, nat_tests) in
     rw before
     (starts_before (breaks_of part) c.holding-span.result.0 (text_of part) (chunks_of part) i.kept.cut e.text e.chunks c.info-info.result i.value c.args.idx c.args.unit c.requires.unit
-    c.holding-span.result.1 c.holding-span.result.2 c.holding-span.result.3 e.before (omega (arith, c.count.ensures, size, c.requires.within)) e.starts (e.inside (omega (arith, c.count.ensures, size, c.requires.within))))
+    c.holding-span.result.1.bytes c.holding-span.result.1.chars c.holding-span.result.1.break_count e.before (omega (arith, c.count.ensures, size, c.requires.within)) e.starts (e.inside (omega (arith, c.count.ensures, size, c.requires.within))))

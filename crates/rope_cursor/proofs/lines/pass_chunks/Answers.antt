@@ -5,34 +5,17 @@ use Rattle.rope_text.specs.TextInfo.{info_of}
 use Rattle.rope_text.specs.LineParts.{first_line}
 use Rattle.rope_text.specs.Text.{byte_len}
 use Rattle.rope_cursor.proofs.Carets.{passed_none, passed_more, passes_line, passes_end, more_fits}
+use Rattle.rope_tree.proofs.Infos.{sum_of_small}
 use Rattle.rope_cursor.proofs.lines.pass_chunks.Goals as goal
 
 pub loop-breaks-init : goal.loop-breaks-init
 loop-breaks-init c = record { passed = passed_none c.args.breaks c.args.span.now c.new-passed.result c.requires (c.new-passed.ensures c.args.breaks); same = refl }
 
-pub plus-passed-requires-clause-bytes : goal.plus-passed-requires-clause-bytes
-plus-passed-requires-clause-bytes c =
-    let half = more_fits c.args.breaks c.args.span.now c.loop-breaks.span c.step.new.self c.loop-breaks.passed c.loop-breaks.invariant.passed.0 c.loop-breaks.invariant.passed.1 c.loop-breaks-test.ensures.moved c.of_first_line-more.result
+pub plus-passed-requires : goal.plus-passed-requires
+plus-passed-requires c =
+    let small = more_fits c.args.breaks c.args.span.now c.loop-breaks.span c.step.new.self c.loop-breaks.passed c.loop-breaks.invariant.passed.0 c.loop-breaks.invariant.passed.1 c.loop-breaks-test.ensures.moved c.of_first_line-more.result
     (c.of_first_line-more.ensures ∙ ap (λ t. info_of c.args.breaks (first_line c.args.breaks t)) c.chunk.ensures) in
-    omega (arith, half.0.bytes, half.1.bytes)
-
-pub plus-passed-requires-clause-chars : goal.plus-passed-requires-clause-chars
-plus-passed-requires-clause-chars c =
-    let half = more_fits c.args.breaks c.args.span.now c.loop-breaks.span c.step.new.self c.loop-breaks.passed c.loop-breaks.invariant.passed.0 c.loop-breaks.invariant.passed.1 c.loop-breaks-test.ensures.moved c.of_first_line-more.result
-    (c.of_first_line-more.ensures ∙ ap (λ t. info_of c.args.breaks (first_line c.args.breaks t)) c.chunk.ensures) in
-    omega (arith, half.0.chars, half.1.chars)
-
-pub plus-passed-requires-clause-utf16_surrogates : goal.plus-passed-requires-clause-utf16_surrogates
-plus-passed-requires-clause-utf16_surrogates c =
-    let half = more_fits c.args.breaks c.args.span.now c.loop-breaks.span c.step.new.self c.loop-breaks.passed c.loop-breaks.invariant.passed.0 c.loop-breaks.invariant.passed.1 c.loop-breaks-test.ensures.moved c.of_first_line-more.result
-    (c.of_first_line-more.ensures ∙ ap (λ t. info_of c.args.breaks (first_line c.args.breaks t)) c.chunk.ensures) in
-    omega (arith, half.0.utf16_surrogates, half.1.utf16_surrogates)
-
-pub plus-passed-requires-clause-break_count : goal.plus-passed-requires-clause-break_count
-plus-passed-requires-clause-break_count c =
-    let half = more_fits c.args.breaks c.args.span.now c.loop-breaks.span c.step.new.self c.loop-breaks.passed c.loop-breaks.invariant.passed.0 c.loop-breaks.invariant.passed.1 c.loop-breaks-test.ensures.moved c.of_first_line-more.result
-    (c.of_first_line-more.ensures ∙ ap (λ t. info_of c.args.breaks (first_line c.args.breaks t)) c.chunk.ensures) in
-    omega (arith, half.0.break_count, half.1.break_count)
+    sum_of_small _ _ small.0 small.1
 
 pub returns-then-more-gt0-clause-passes : goal.returns-then-more-gt0-clause-passes
 returns-then-more-gt0-clause-passes c =

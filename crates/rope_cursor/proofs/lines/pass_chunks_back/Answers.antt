@@ -6,7 +6,8 @@ use Rattle.std.specs.List.{concat}
 use Rattle.rope_text.specs.Text.{byte_len}
 use Rattle.rope_text.specs.TextInfo.{info_of}
 use Rattle.rope_text.specs.LineParts.{last_start}
-use Rattle.rope_cursor.proofs.CaretsBack.{none_back, end_back, chunk_found, chunk_left, chunk_over, chunk_half, whole, apart_at_end}
+use Rattle.rope_cursor.proofs.CaretsBack.{none_back, end_back, chunk_found, chunk_left, chunk_over, chunk_small, whole, apart_at_end}
+use Rattle.rope_tree.proofs.Infos.{sum_of_small}
 use Rattle.rope_cursor.proofs.lines.pass_chunks_back.Goals as goal
 
 pub loop-breaks-init : goal.loop-breaks-init
@@ -18,37 +19,13 @@ of_last_line-start-requires-clause-between c = ap byte_len (whole _ _ c.byte_len
 pub of_last_line-start-requires-clause-apart : goal.of_last_line-start-requires-clause-apart
 of_last_line-start-requires-clause-apart c = apart_at_end _ _ c.byte_len_of-end.ensures
 
-pub plus-passed-requires-clause-bytes : goal.plus-passed-requires-clause-bytes
-plus-passed-requires-clause-bytes c =
-    let half = chunk_half c.args.breaks c.args.skip c.loop-breaks.left (concat c.args.span.now.before) (c.args.span.now.here ++ concat c.args.span.now.after) c.loop-breaks.invariant.passed.0 c.loop-breaks.span c.step.new.self
+pub plus-passed-requires : goal.plus-passed-requires
+plus-passed-requires c =
+    let small = chunk_small c.args.breaks c.args.skip c.loop-breaks.left (concat c.args.span.now.before) (c.args.span.now.here ++ concat c.args.span.now.after) c.loop-breaks.invariant.passed.0 c.loop-breaks.span c.step.new.self
     c.of_last_line-start.result.0 c.of_last_line-start.result.1 c.loop-breaks.passed c.loop-breaks.invariant.passed.1 c.loop-breaks-test.ensures.moved
     (c.of_last_line-start.ensures.start ∙ ap (λ t. byte_len (take (last_start c.args.breaks t c.loop-breaks.left) t)) (whole _ _ c.byte_len_of-end.ensures ∙ c.chunk-chunk.ensures))
     (c.of_last_line-start.ensures.counts ∙ ap (λ t. info_of c.args.breaks (drop (last_start c.args.breaks t c.loop-breaks.left) t)) (whole _ _ c.byte_len_of-end.ensures ∙ c.chunk-chunk.ensures)) in
-    omega (arith, half.0.bytes, half.1.bytes)
-
-pub plus-passed-requires-clause-chars : goal.plus-passed-requires-clause-chars
-plus-passed-requires-clause-chars c =
-    let half = chunk_half c.args.breaks c.args.skip c.loop-breaks.left (concat c.args.span.now.before) (c.args.span.now.here ++ concat c.args.span.now.after) c.loop-breaks.invariant.passed.0 c.loop-breaks.span c.step.new.self
-    c.of_last_line-start.result.0 c.of_last_line-start.result.1 c.loop-breaks.passed c.loop-breaks.invariant.passed.1 c.loop-breaks-test.ensures.moved
-    (c.of_last_line-start.ensures.start ∙ ap (λ t. byte_len (take (last_start c.args.breaks t c.loop-breaks.left) t)) (whole _ _ c.byte_len_of-end.ensures ∙ c.chunk-chunk.ensures))
-    (c.of_last_line-start.ensures.counts ∙ ap (λ t. info_of c.args.breaks (drop (last_start c.args.breaks t c.loop-breaks.left) t)) (whole _ _ c.byte_len_of-end.ensures ∙ c.chunk-chunk.ensures)) in
-    omega (arith, half.0.chars, half.1.chars)
-
-pub plus-passed-requires-clause-utf16_surrogates : goal.plus-passed-requires-clause-utf16_surrogates
-plus-passed-requires-clause-utf16_surrogates c =
-    let half = chunk_half c.args.breaks c.args.skip c.loop-breaks.left (concat c.args.span.now.before) (c.args.span.now.here ++ concat c.args.span.now.after) c.loop-breaks.invariant.passed.0 c.loop-breaks.span c.step.new.self
-    c.of_last_line-start.result.0 c.of_last_line-start.result.1 c.loop-breaks.passed c.loop-breaks.invariant.passed.1 c.loop-breaks-test.ensures.moved
-    (c.of_last_line-start.ensures.start ∙ ap (λ t. byte_len (take (last_start c.args.breaks t c.loop-breaks.left) t)) (whole _ _ c.byte_len_of-end.ensures ∙ c.chunk-chunk.ensures))
-    (c.of_last_line-start.ensures.counts ∙ ap (λ t. info_of c.args.breaks (drop (last_start c.args.breaks t c.loop-breaks.left) t)) (whole _ _ c.byte_len_of-end.ensures ∙ c.chunk-chunk.ensures)) in
-    omega (arith, half.0.utf16_surrogates, half.1.utf16_surrogates)
-
-pub plus-passed-requires-clause-break_count : goal.plus-passed-requires-clause-break_count
-plus-passed-requires-clause-break_count c =
-    let half = chunk_half c.args.breaks c.args.skip c.loop-breaks.left (concat c.args.span.now.before) (c.args.span.now.here ++ concat c.args.span.now.after) c.loop-breaks.invariant.passed.0 c.loop-breaks.span c.step.new.self
-    c.of_last_line-start.result.0 c.of_last_line-start.result.1 c.loop-breaks.passed c.loop-breaks.invariant.passed.1 c.loop-breaks-test.ensures.moved
-    (c.of_last_line-start.ensures.start ∙ ap (λ t. byte_len (take (last_start c.args.breaks t c.loop-breaks.left) t)) (whole _ _ c.byte_len_of-end.ensures ∙ c.chunk-chunk.ensures))
-    (c.of_last_line-start.ensures.counts ∙ ap (λ t. info_of c.args.breaks (drop (last_start c.args.breaks t c.loop-breaks.left) t)) (whole _ _ c.byte_len_of-end.ensures ∙ c.chunk-chunk.ensures)) in
-    omega (arith, half.0.break_count, half.1.break_count)
+    sum_of_small _ _ small.0 small.1
 
 pub returns-then-start-gt0-clause-passes : goal.returns-then-start-gt0-clause-passes
 returns-then-start-gt0-clause-passes c =

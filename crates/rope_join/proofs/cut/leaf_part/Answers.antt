@@ -4,7 +4,7 @@ use Rattle.std.proofs.lemmas.Result.{IfOk-weaker}
 use Rattle.std.proofs.lemmas.Str.{length-le-encodes}
 use Rattle.rope_text.specs.Text.{byte_len}
 use Rattle.rope_text.specs.TextInfo.{info_of, info_sum}
-use Rattle.rope_text.proofs.InfoLaws.{break_count-le-length}
+use Rattle.rope_text.proofs.InfoLaws.{break_count-le-length, rest_of_sum}
 use Rattle.rope_text.proofs.Walks.{byte_len-chars}
 use Rattle.rope_tree.proofs.CountLaws.{shared_le}
 use Rattle.rope_tree.proofs.InsertLeaves.{text_of_leaf}
@@ -56,19 +56,10 @@ part_sum c =
       | in_default w ↦ rw (w.part-is, w.other-is) sum
     ]
 
-pub minus-info-requires-clause-bytes : goal.minus-info-requires-clause-bytes
-minus-info-requires-clause-bytes c = omega (arith, ap (λ i. i.bytes) (part_sum (goal.at.minus-info-requires-clause-bytes c).Joined-side), ap (λ i. i.bytes) c.of_short.ensures)
-
-pub minus-info-requires-clause-chars : goal.minus-info-requires-clause-chars
-minus-info-requires-clause-chars c = omega (arith, ap (λ i. i.chars) (part_sum (goal.at.minus-info-requires-clause-chars c).Joined-side), ap (λ i. i.chars) c.of_short.ensures)
-
-pub minus-info-requires-clause-utf16_surrogates : goal.minus-info-requires-clause-utf16_surrogates
-minus-info-requires-clause-utf16_surrogates c =
-    omega (arith, ap (λ i. i.utf16_surrogates) (part_sum (goal.at.minus-info-requires-clause-utf16_surrogates c).Joined-side), ap (λ i. i.utf16_surrogates) c.of_short.ensures)
-
-pub minus-info-requires-clause-break_count : goal.minus-info-requires-clause-break_count
-minus-info-requires-clause-break_count c =
-    omega (arith, ap (λ i. i.break_count) (part_sum (goal.at.minus-info-requires-clause-break_count c).Joined-side), ap (λ i. i.break_count) c.of_short.ensures)
+pub minus-info-requires : goal.minus-info-requires
+minus-info-requires c =
+    let sum = part_sum (goal.at.minus-info-requires c).Joined-side in
+    rw c.of_short.ensures (rest_of_sum _ _ _ sum)
 
 pub make_leaf-requires-clause-info : goal.make_leaf-requires-clause-info
 make_leaf-requires-clause-info c =

@@ -1,7 +1,7 @@
 use Rattle.std.proofs.Common.{ap, ap₂, ◌∙◌, ◌++◌, ◌+◌, ◌≤◌, arith, sym, ◌≡◌}
 use Rattle.rope_text.specs.TextInfo.{info_of}
 use Rattle.rope_tree.specs.Search.{IsSmall}
-use Rattle.rope_tree.proofs.Infos.{small_info}
+use Rattle.rope_tree.proofs.Infos.{small_info, sum_of_small}
 use Rattle.rope_tree.proofs.InsertLeaves.{text_of_leaf}
 use Rattle.rope_tree.specs.Tree.{text, leaf_tree, height_of, breaks_of}
 use Rattle.rope_tree.specs.Siblings.{AreSiblings}
@@ -19,14 +19,8 @@ both c = (
   rw c.info-then-is_short.ensures.value (small_info _ _ c.info-then-is_short.ensures.tree.fits),
 )
 
-pub plus-info-requires-clause-chars : goal.plus-info-requires-clause-chars
-plus-info-requires-clause-chars c = let b = both c in omega (arith, b.0.chars, b.0.bytes, b.1.chars, b.1.bytes)
-
-pub plus-info-requires-clause-utf16_surrogates : goal.plus-info-requires-clause-utf16_surrogates
-plus-info-requires-clause-utf16_surrogates c = let b = both c in omega (arith, b.0.chars, b.0.bytes, b.1.chars, b.1.bytes, b.0.surrogates, b.1.surrogates)
-
-pub plus-info-requires-clause-break_count : goal.plus-info-requires-clause-break_count
-plus-info-requires-clause-break_count c = let b = both c in omega (arith, b.0.chars, b.0.bytes, b.1.chars, b.1.bytes, b.0.count, b.1.count)
+pub plus-info-requires : goal.plus-info-requires
+plus-info-requires c = let b = both c in sum_of_small _ _ b.0 b.1
 
 siblings : (c : In-Inner-view) → AreSiblings (breaks_of (c.in-Inner.first.now ++ c.in-Inner-view.second.now)) (height_of (c.in-Inner.first.now ++ c.in-Inner-view.second.now)) (c.in-Inner.first.now ++ c.in-Inner-view.second.now)
 siblings c = inner_siblings _ _ _ _ c.in-Inner.ensures.is c.in-Inner-view.ensures.is c.in-Inner.ensures.children c.in-Inner-view.ensures.children c.requires.join c.requires.merge.level (c.requires.merge.near (omega (arith, ap (λ u. u.height) c.in-Inner.ensures.is)))

@@ -8,7 +8,7 @@ use Rattle.rope_text.specs.TextInfo.{info_of}
 use Rattle.rope_text.proofs.Measures.{IsMeasure-byte_len, size_le_all}
 use Rattle.rope_text.proofs.TextParts.{chars_back, byte_len_boundary}
 use Rattle.rope_text.proofs.LineSeams.{break_count-front}
-use Rattle.rope_tree.proofs.Infos.{small_info}
+use Rattle.rope_tree.proofs.Infos.{small_info, sum_of_small}
 use Rattle.rope_tree.proofs.Descents.{small_found}
 use Rattle.rope_part.proofs.Edges.{line_found, line_rest, line_within}
 use Rattle.rope_part.proofs.InChunks.{in_found}
@@ -48,12 +48,7 @@ plus-requires c =
     let less = size_le_all byte_len IsMeasure-byte_len leaf k in
     let fits = c.as_str-leaf.ensures.fits in
     let part = small_info c.args.node.now.breaks (take k leaf) (omega arith) in
-    record {
-      bytes = omega (arith, ap (λ x. x.bytes) is);
-      chars = omega (arith, ap (λ x. x.chars) is);
-      utf16_surrogates = omega (arith, ap (λ x. x.utf16_surrogates) is);
-      break_count = omega (arith, ap (λ x. x.break_count) is);
-    }
+    sum_of_small _ _ small (rw is part)
 
 pub returns-clause-before : goal.returns-clause-before
 returns-clause-before c =

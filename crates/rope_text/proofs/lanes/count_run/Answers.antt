@@ -2,8 +2,8 @@ use Rattle.std.proofs.Common.{◌≡◌, ℕ, ◌+◌, ◌-◌, ◌*◌, ◌/◌
 use Rattle.std.proofs.lemmas.List.FromFn.{length-range_with_len}
 use Rattle.rope_text.specs.Bytes.{begins_char, begins_pair}
 use Rattle.rope_text.specs.ByteBreaks.{byte_break_count}
-use Rattle.rope_text.specs.Runs.{IsRun, narrow_here, high_of}
-use Rattle.rope_text.proofs.LaneSums.{places_are, added, more_sum, same_more, same_wide, wide_more, ascii_chars, ascii_pairs, ascii_wide, fours, no_run, same_run, chars_block, pairs_block, breaks_block, wide_few, narrow_few}
+use Rattle.rope_text.specs.Runs.{IsRun, ascii_here, high_of}
+use Rattle.rope_text.proofs.LaneSums.{places_are, added, more_sum, same_more, same_multibyte, multibyte_more, ascii_chars, ascii_pairs, ascii_no_multibyte, fours, no_run, same_run, chars_block, pairs_block, breaks_block, multibyte_few, ascii_few}
 use Rattle.rope_text.proofs.Marks.{compared_left, none_set, loaded}
 use Rattle.rope_text.proofs.lanes.count_run.Goals.{then-lanes-eq0, else-lanes-eq0}
 use Rattle.rope_text.proofs.lanes.count_run.Goals as goal
@@ -17,14 +17,14 @@ loop-i-init c = record {
   run = same_run c.args.breaks c.args.bytes.now c.args.from 0 0 _ _ _ _ _ _ (omega arith) (omega arith) (no_run c.args.breaks c.args.bytes.now c.args.from);
 }
 
-pub overflow_add-wide : goal.overflow_add-wide
-overflow_add-wide c =
+pub overflow_add-multibyte : goal.overflow_add-multibyte
+overflow_add-multibyte c =
     omega (
       arith,
-      c.loop-i.invariant.run.wide,
-      c.wide_in-wide.ensures,
-      wide_few c.args.breaks c.args.bytes.now c.args.from (c.loop-i.i - c.args.from),
-      wide_few c.args.breaks c.args.bytes.now c.loop-i.i 64,
+      c.loop-i.invariant.run.multibyte,
+      c.multibyte_in-multibyte.ensures,
+      multibyte_few c.args.breaks c.args.bytes.now c.args.from (c.loop-i.i - c.args.from),
+      multibyte_few c.args.breaks c.args.bytes.now c.loop-i.i 64,
     )
 
 pub loop-i-preserved : goal.loop-i-preserved
@@ -39,8 +39,8 @@ loop-i-preserved c =
     let most : ℕ = n / 16 in
     let next : l.i ≡ from + n = omega (arith, go.not_before) in
     let fit : most + 4 < 256 = omega (arith, go.whole, go.short, go.within, go.not_before) in
-    let narrow = more_sum (narrow_here b s) from n l.i most _ next refl (c.add_ones-narrow.ensures most _ fit run.narrow) in
-    let more : IsRun b s from (n + 64) (most + 4) c.if-lanes-eq0.chars c.if-lanes-eq0.pairs c.add_ones-narrow.result c.if-lanes-eq0.wide = elim c.if-lanes-eq0.branch [
+    let ascii = more_sum (ascii_here b s) from n l.i most _ next refl (c.add_ones-ascii.ensures most _ fit run.ascii) in
+    let more : IsRun b s from (n + 64) (most + 4) c.if-lanes-eq0.chars c.if-lanes-eq0.pairs c.add_ones-ascii.result c.if-lanes-eq0.multibyte = elim c.if-lanes-eq0.branch [
       | then-lanes-eq0 w ↦
           let long = length-range_with_len l.i 64 in
           let low : high_of s l.i 64 ≡ 0 = sym (ap (count_by (λ k. leb 128 (get_or s k 0))) (places_are l.i 64))
@@ -48,14 +48,14 @@ loop-i-preserved c =
           record {
             chars = rw w.chars-is (more_sum (λ k. begins_char (get_or s k 0)) from n l.i most 64 next (sym (ascii_chars s l.i 64 low)) (added most 4 _ 64 _ _ fit run.chars fours));
             pairs = rw w.pairs-is (same_more (λ k. begins_pair (get_or s k 0)) from n l.i most next (ascii_pairs s l.i 64 low) run.pairs);
-            narrow = narrow;
-            wide = rw w.wide-is (same_wide b s from n l.i _ next (ascii_wide b s l.i 64 low) run.wide);
+            ascii = ascii;
+            multibyte = rw w.multibyte-is (same_multibyte b s from n l.i _ next (ascii_no_multibyte b s l.i 64 low) run.multibyte);
           }
       | else-lanes-eq0 w ↦ record {
         chars = rw w.chars-is (more_sum (λ k. begins_char (get_or s k 0)) from n l.i most _ next refl (w.add_ones-chars.ensures most _ fit run.chars));
         pairs = rw w.pairs-is (more_sum (λ k. begins_pair (get_or s k 0)) from n l.i most _ next refl (w.add_ones-pairs.ensures most _ fit run.pairs));
-        narrow = narrow;
-        wide = rw w.wide-is (wide_more b s from n l.i _ _ next w.wide_in-wide.ensures run.wide);
+        ascii = ascii;
+        multibyte = rw w.multibyte-is (multibyte_more b s from n l.i _ _ next w.multibyte_in-multibyte.ensures run.multibyte);
       }
     ] in
     record {
@@ -72,10 +72,10 @@ overflow_add-result c =
     omega (
       arith,
       c.sum_of-3.ensures,
-      c.loop-i.invariant.run.narrow.sum,
-      c.loop-i.invariant.run.wide,
-      narrow_few c.args.breaks c.args.bytes.now c.args.from n,
-      wide_few c.args.breaks c.args.bytes.now c.args.from n,
+      c.loop-i.invariant.run.ascii.sum,
+      c.loop-i.invariant.run.multibyte,
+      ascii_few c.args.breaks c.args.bytes.now c.args.from n,
+      multibyte_few c.args.breaks c.args.bytes.now c.args.from n,
     )
 
 pub returns-clause-chars : goal.returns-clause-chars
@@ -112,8 +112,8 @@ returns-clause-break_count c =
     omega (
       arith,
       c.sum_of-3.ensures,
-      c.loop-i.invariant.run.narrow.sum,
-      c.loop-i.invariant.run.wide,
+      c.loop-i.invariant.run.ascii.sum,
+      c.loop-i.invariant.run.multibyte,
       breaks_block c.args.breaks s c.args.from n (omega arith),
       ap (λ k. byte_break_count c.args.breaks (drop k s)) end,
     )

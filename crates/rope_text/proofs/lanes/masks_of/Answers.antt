@@ -11,26 +11,26 @@ use Rattle.rope_text.proofs.LaneSums.{places_are, none_in_front, none_of_others,
 use Rattle.rope_text.proofs.Marks.{compared_left, none_set, loaded}
 use Rattle.rope_text.proofs.lanes.masks_of.Goals as goal
 
-not_wide : (x y : ℕ) → y ≤ x → leb 128 x ≡ false → eqb y 194 ≡ false
-not_wide x y below low = grind (arith, nat_tests)
+not_multibyte : (x y : ℕ) → y ≤ x → leb 128 x ≡ false → eqb y 194 ≡ false
+not_multibyte x y below low = grind (arith, nat_tests)
 
 whole : ones_below 4294967295 32 ≡ 32
 whole = ones-ones 32
 
 -- in a block of ASCII no byte is above 127
-none_high : (c : goal.After-narrow_mask) (n : ℕ) → n ≤ 32 → count_by (λ k. leb 128 (get_or c.args.bytes.now k 0)) (range_with_len c.args.at n) ≡ 0
+none_high : (c : goal.After-ascii_mask) (n : ℕ) → n ≤ 32 → count_by (λ k. leb 128 (get_or c.args.bytes.now k 0)) (range_with_len c.args.at n) ≡ 0
 none_high c n few =
     let long = length-range_with_len c.args.at 32 in
     none_in_front _ c.args.at n 32 few (none_set (omega (arith, long)) (compared_left leb 128 32 long (loaded c.args.bytes.now c.args.at 32 (omega (arith, c.requires)))) c.if-lanes-eq0.true)
 
-low : (c : goal.After-narrow_mask) (n : ℕ) → n ≤ 32 → high_of c.args.bytes.now c.args.at n ≡ 0
+low : (c : goal.After-ascii_mask) (n : ℕ) → n ≤ 32 → high_of c.args.bytes.now c.args.at n ≡ 0
 low c n few = sym (ap (count_by (λ k. leb 128 (get_or c.args.bytes.now k 0))) (places_are c.args.at n)) ∙ none_high c n few
 
 pub returns-then-lanes-eq0-clause-breaks : goal.returns-then-lanes-eq0-clause-breaks
 returns-then-lanes-eq0-clause-breaks c = λ n few.
     let s = c.args.bytes.now in
-    c.narrow_mask.ensures n few (λ _. none_of_others (λ k. leb 128 (get_or s k 0)) (λ k. eqb (bit_and (get_or s k 0) 223) 194) (range_with_len c.args.at n)
-    (λ k e. not_wide (get_or s k 0) (bit_and (get_or s k 0) 223) (and_le_l (get_or s k 0) 223) e) (none_high c n few))
+    c.ascii_mask.ensures n few (λ _. none_of_others (λ k. leb 128 (get_or s k 0)) (λ k. eqb (bit_and (get_or s k 0) 223) 194) (range_with_len c.args.at n)
+    (λ k e. not_multibyte (get_or s k 0) (bit_and (get_or s k 0) 223) (and_le_l (get_or s k 0) 223) e) (none_high c n few))
 
 pub returns-then-lanes-eq0-clause-chars : goal.returns-then-lanes-eq0-clause-chars
 returns-then-lanes-eq0-clause-chars c = λ n few.

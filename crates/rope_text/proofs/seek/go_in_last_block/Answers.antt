@@ -10,13 +10,13 @@ returns c =
     let s = c.args.bytes.now in
     let b = c.args.breaks in
     let at : ℕ = length s - 34 in
-    let skip : ℕ = c.args.from.1 - at in
+    let skip : ℕ = c.args.from.at - at in
     let more : ℕ = c.min.result in
     let first : ℕ = c.first_mark.result in
-    let start : at + skip ≡ c.args.from.1 = omega (arith, c.requires.near) in
+    let start : at + skip ≡ c.args.from.at = omega (arith, c.requires.near) in
     let few : skip ≤ 32 = omega arith in
     let all : skip + more ≤ 32 = omega (arith, few, c.min.ensures) in
-    let end : at + (skip + more) ≡ c.args.from.1 + more = omega (arith, start) in
+    let end : at + (skip + more) ≡ c.args.from.at + more = omega (arith, start) in
     let none : ones_below (c.mask.result / 2 ^ skip) more ≡ 0 = omega (arith, ones_more (c.mask.result / 2 ^ skip) more (first - more) first (omega (arith, c.min.ensures)), c.first_mark.ensures.before) in
     record {
       within = omega (arith, all, end);
@@ -40,8 +40,8 @@ returns c =
       pairs = omega (
         arith,
         c.requires.front.pairs,
-        c.known_mask-doubles.ensures skip few,
-        c.known_mask-doubles.ensures (skip + more) all,
+        c.known_mask-pairs.ensures skip few,
+        c.known_mask-pairs.ensures (skip + more) all,
         c.ones_between-2.ensures,
         ap (λ k. count_by begins_pair (drop k s)) start,
       );

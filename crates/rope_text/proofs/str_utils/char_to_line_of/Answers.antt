@@ -6,7 +6,7 @@ use Rattle.rope_text.specs.declared.line_breaks.LineBreaks.{LineBreaks}
 use Rattle.rope_text.specs.Conversions.{byte_to_line, char_to_byte, char_to_line}
 use Rattle.rope_text.specs.Text.{byte_len}
 use Rattle.rope_text.proofs.ConversionLaws.{byte_to_char-char_to_byte, byte_to_line-byte_to_char, char_to_line_past}
-use Rattle.rope_text.proofs.NarrowTexts.{narrow_char_to_line}
+use Rattle.rope_text.proofs.AsciiTexts.{ascii_char_to_line}
 use Rattle.rope_text.proofs.str_utils.char_to_line_of.Goals as goal
 
 -- a character lies on the line of the byte at which it starts
@@ -24,8 +24,8 @@ line_of_start breaks text i =
 pub returns-then-info : goal.returns-then-info
 returns-then-info c =
     let t = chars c.args.text.now in
-    let narrow : byte_len t ≡ length t = omega (arith, ap (λ x. x.bytes) c.requires, ap (λ x. x.chars) c.requires, c.if-info.true) in
-    c.byte_to_line_of.ensures ∙ narrow_char_to_line t narrow c.args.breaks c.args.char_idx
+    let ascii : byte_len t ≡ length t = omega (arith, ap (λ x. x.bytes) c.requires, ap (λ x. x.chars) c.requires, c.if-info.true) in
+    c.byte_to_line_of.ensures ∙ ascii_char_to_line t ascii c.args.breaks c.args.char_idx
 
 pub returns : goal.returns
 returns c =

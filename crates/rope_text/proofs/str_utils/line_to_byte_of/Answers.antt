@@ -21,27 +21,27 @@ returns-then-line_idx-eq0 c = record {
   boundary = byte_len_boundary c.args.text.now 0 c.utf8.text;
 }
 
-pub returns-then-line_idx-count-clause-value : goal.returns-then-line_idx-count-clause-value
-returns-then-line_idx-count-clause-value c =
+pub returns-then-line_idx-last_line-clause-value : goal.returns-then-line_idx-last_line-clause-value
+returns-then-line_idx-last_line-clause-value c =
     let text = c.args.text.now in
     let breaks = c.args.breaks in
     let n : ℕ = c.args.line_idx - 1 in
     let next : suc n ≡ c.args.line_idx = omega (arith, c.if-line_idx-eq0.false) in
-    let few = no_break_place breaks text n c.utf8.text (omega (arith, next, c.requires, c.if-line_idx-count.true, break_count-chars breaks text c.utf8.text)) in
+    let few = no_break_place breaks text n c.utf8.text (omega (arith, next, c.requires, c.if-line_idx-last_line.true, break_count-chars breaks text c.utf8.text)) in
     sym few ∙ ap (line_to_byte breaks (chars text)) next
 
 -- the breaks that are known are those of the bytes
 counted : (breaks : LineBreaks) (bs text : List ℕ) (count : ℕ) → IsUtf8 bs → bs ≡ text → count ≡ break_count breaks (chars text) → count ≡ byte_break_count breaks bs
 counted breaks bs text count u same known = known ∙ ap (λ xs. break_count breaks (chars xs)) (sym same) ∙ break_count-chars breaks bs u
 
-pub find_break-last-requires-clause-count : goal.find_break-last-requires-clause-count
-find_break-last-requires-clause-count c = counted c.args.breaks _ _ _ c.as_bytes-bytes.ensures.utf8 c.as_bytes-bytes.ensures.value c.requires
+pub find_break-last-requires-clause-break_count : goal.find_break-last-requires-clause-break_count
+find_break-last-requires-clause-break_count c = counted c.args.breaks _ _ _ c.as_bytes-bytes.ensures.utf8 c.as_bytes-bytes.ensures.value c.requires
 
-pub find_break-last-requires-in-CrLf-clause-count : goal.find_break-last-requires-in-CrLf-clause-count
-find_break-last-requires-in-CrLf-clause-count c = counted c.args.breaks _ _ _ c.as_bytes-bytes.ensures.utf8 c.as_bytes-bytes.ensures.value c.requires
+pub find_break-last-requires-in-CrLf-clause-break_count : goal.find_break-last-requires-in-CrLf-clause-break_count
+find_break-last-requires-in-CrLf-clause-break_count c = counted c.args.breaks _ _ _ c.as_bytes-bytes.ensures.utf8 c.as_bytes-bytes.ensures.value c.requires
 
-pub find_break-last-requires-in-Unicode-clause-count : goal.find_break-last-requires-in-Unicode-clause-count
-find_break-last-requires-in-Unicode-clause-count c = counted c.args.breaks _ _ _ c.as_bytes-bytes.ensures.utf8 c.as_bytes-bytes.ensures.value c.requires
+pub find_break-last-requires-in-Unicode-clause-break_count : goal.find_break-last-requires-in-Unicode-clause-break_count
+find_break-last-requires-in-Unicode-clause-break_count c = counted c.args.breaks _ _ _ c.as_bytes-bytes.ensures.utf8 c.as_bytes-bytes.ensures.value c.requires
 
 -- the last character of the break before the line is there
 found : (c : Joined-breaks) → IsPlaceOf (Break c.args.breaks) c.as_bytes-bytes.result.now 0 (c.args.line_idx - 1) c.match-breaks.last × (c.match-breaks.last < length c.as_bytes-bytes.result.now)
@@ -56,7 +56,7 @@ found c =
     let known = counted c.args.breaks bs _ _ c.as_bytes-bytes.ensures.utf8 c.as_bytes-bytes.ensures.value c.requires in
     let inside : last < length bs = elim (cases_lt last (length bs)) [
       | inl less ↦ less
-      | inr past ↦ absurd (omega (arith, place.end (omega (arith, place.bound, past)), known, c.if-line_idx-eq0.false, c.if-line_idx-count.false))
+      | inr past ↦ absurd (omega (arith, place.end (omega (arith, place.bound, past)), known, c.if-line_idx-eq0.false, c.if-line_idx-last_line.false))
     ] in
     (place, inside)
 

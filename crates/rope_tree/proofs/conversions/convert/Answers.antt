@@ -11,7 +11,7 @@ use Rattle.rope_tree.proofs.conversions.convert.Goals.{After-count-3}
 use Rattle.rope_tree.proofs.conversions.convert.Goals as goal
 
 pub returns-then-idx-first-clause-value : goal.returns-then-idx-first-clause-value
-returns-then-idx-first-clause-value c = sym (converted_first c.args.from c.args.to c.args.node.now.breaks (text c.args.node.now) c.args.idx c.requires.pair (omega arith))
+returns-then-idx-first-clause-value c = sym (converted_first c.args.from c.args.to c.args.node.now.breaks (text c.args.node.now) c.args.idx c.requires.units (omega arith))
 
 pub count-requires : goal.count-requires
 count-requires c = rw c.info-info.ensures.value (small_info c.args.node.now.breaks (text c.args.node.now) c.info-info.ensures.tree.fits)
@@ -25,7 +25,7 @@ returns-then-at-count-clause-value c =
     let t = text c.args.node.now in
     let e = ap (count_of c.args.from) c.info-info.ensures.value in
     c.count-then-at-count.ensures ∙ ap (count_of c.args.to) c.info-info.ensures.value
-    ∙ sym (converted_end c.args.from c.args.to breaks t c.args.idx c.requires.pair (omega (arith, e)))
+    ∙ sym (converted_end c.args.from c.args.to breaks t c.args.idx c.requires.units (omega (arith, e)))
 
 pub count-requires-2 : goal.count-requires-2
 count-requires-2 c = small_found _ _ _ _ _ c.info-info.ensures.tree c.leaf_at-found.ensures.found
@@ -46,10 +46,10 @@ value c =
     c.convert_in-inside.ensures ∙ ap (λ b. converted from to b (chars c.as_str-leaf.result.now) (c.args.idx - c.count-2.result)) c.line_breaks.ensures
     ∙ ap₂ (converted from to c.args.node.now.breaks) c.as_str-leaf.ensures.chars (ap (λ n. c.args.idx - n) c.count-2.ensures) in
     ap₂ (λ x y. x + y) c.count-3.ensures inside
-    ∙ sym (found_converted from to c.args.idx _ c.args.node.now found.leaf found.before c.requires.pair e c.info-info.ensures.tree c.leaf_at-found.ensures.found)
+    ∙ sym (found_converted from to c.args.idx _ c.args.node.now found.leaf found.before c.requires.units e c.info-info.ensures.tree c.leaf_at-found.ensures.found)
 
 pub overflow_add-result : goal.overflow_add-result
-overflow_add-result c = omega (arith, value c, converted-le c.args.from c.args.to c.args.node.now.breaks (text c.args.node.now) c.args.idx c.requires.pair, c.info-info.ensures.tree.fits)
+overflow_add-result c = omega (arith, value c, converted-le c.args.from c.args.to c.args.node.now.breaks (text c.args.node.now) c.args.idx c.requires.units, c.info-info.ensures.tree.fits)
 
 pub returns-clause-value : goal.returns-clause-value
 returns-clause-value c = value c

@@ -5,7 +5,7 @@ use Rattle.rope_text.specs.Edit.{inserted}
 use Rattle.rope_text.specs.TextInfo.{info_of, info_sum}
 use Rattle.rope_text.proofs.Walks.{byte_len-chars}
 use Rattle.rope_tree.specs.Search.{IsSmall}
-use Rattle.rope_tree.proofs.Infos.{small_info}
+use Rattle.rope_tree.proofs.Infos.{small_info, sum_of_small}
 use Rattle.rope_tree.proofs.InsertTrees.{inserted_is}
 use Rattle.rope_tree.proofs.CountLaws.{Corrects, corrects, info_apart}
 use Rattle.rope_tree.proofs.leaf_edits.info_between.Goals.{After-of_short, After-shared_breaks-2}
@@ -17,14 +17,8 @@ old c = rw c.requires.info (small_info c.args.breaks (chars c.args.front.now ++ 
 new : (c : After-of_short) → IsSmall c.of_short.result
 new c = rw c.of_short.ensures (small_info c.args.breaks (chars c.args.added.now) (omega (arith, byte_len-chars c.args.added.now c.utf8.added, c.requires.short)))
 
-pub plus-more-requires-clause-chars : goal.plus-more-requires-clause-chars
-plus-more-requires-clause-chars c = let o = old c in let n = new c in omega (arith, o.chars, o.bytes, n.chars, n.bytes)
-
-pub plus-more-requires-clause-utf16_surrogates : goal.plus-more-requires-clause-utf16_surrogates
-plus-more-requires-clause-utf16_surrogates c = let o = old c in let n = new c in omega (arith, o.chars, o.bytes, n.chars, n.bytes, o.surrogates, n.surrogates)
-
-pub plus-more-requires-clause-break_count : goal.plus-more-requires-clause-break_count
-plus-more-requires-clause-break_count c = let o = old c in let n = new c in omega (arith, o.chars, o.bytes, n.chars, n.bytes, o.count, n.count)
+pub plus-more-requires : goal.plus-more-requires
+plus-more-requires c = sum_of_small _ _ (old c) (new c)
 
 -- the place between the front and the back
 pub between : (front a back : List ℕ) → inserted (front ++ back) (length front) a ≡ front ++ (a ++ back)
@@ -53,9 +47,6 @@ overflow_sub-result c = (met (goal.at.overflow_sub-result c).After-shared_breaks
 
 pub returns : goal.returns
 returns c = (met (goal.at.returns c).After-shared_breaks-2).whole ∙ ap (info_of c.args.breaks) (between (chars c.args.front.now) (chars c.args.added.now) (chars c.args.back.now))
-
-pub plus-more-requires-clause-bytes : goal.plus-more-requires-clause-bytes
-plus-more-requires-clause-bytes c = let o = old c in let n = new c in omega (arith, o.bytes, n.bytes)
 
 pub returns-then-not-ends_in_cr-2 : goal.returns-then-not-ends_in_cr-2
 returns-then-not-ends_in_cr-2 c =

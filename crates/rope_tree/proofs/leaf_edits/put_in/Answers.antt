@@ -3,7 +3,7 @@ use Rattle.std.specs.Str.{chars, IsCharBoundary}
 use Rattle.rope_text.specs.Text.{byte_len}
 use Rattle.rope_text.specs.TextInfo.{info_of}
 use Rattle.rope_text.proofs.TextParts.{chars_front, chars_back, byte_len_boundary}
-use Rattle.rope_text.proofs.NarrowTexts.{narrow_front}
+use Rattle.rope_text.proofs.AsciiTexts.{ascii_front}
 use Rattle.rope_text.specs.Edit.{inserted}
 use Rattle.rope_tree.proofs.InsertTrees.{inserted_is}
 use Rattle.rope_tree.proofs.NodeTexts.{inserted_chars}
@@ -15,8 +15,8 @@ place_is : (c : Joined-info) → c.if-info.place ≡ byte_len (take c.args.at (c
 place_is c = elim c.if-info.branch [
   | then-info w ↦
       let cs = chars c.as_str-text.result.now in
-      let narrow : byte_len cs ≡ length cs = omega (arith, w.if-info.true, ap (λ i. i.bytes) c.requires.info, ap (λ i. i.chars) c.requires.info, ap length c.as_str-text.ensures.chars, ap byte_len c.as_str-text.ensures.chars) in
-      omega (arith, w.place-is, c.requires.within, ap length c.as_str-text.ensures.chars, narrow_front cs narrow c.args.at)
+      let ascii : byte_len cs ≡ length cs = omega (arith, w.if-info.true, ap (λ i. i.bytes) c.requires.info, ap (λ i. i.chars) c.requires.info, ap length c.as_str-text.ensures.chars, ap byte_len c.as_str-text.ensures.chars) in
+      omega (arith, w.place-is, c.requires.within, ap length c.as_str-text.ensures.chars, ascii_front cs ascii c.args.at)
   | else-info w ↦ w.place-is ∙ w.char_to_byte_idx_of-place.ensures.value
 ]
 

@@ -1,14 +1,16 @@
 use Rattle.std.proofs.Common.{◌≡◌, get_or, sym, ap, ap₂, refl, ◌∙◌, arith}
 use Rattle.rope_text.specs.declared.text_info.TextInfo.{TextInfo}
 use Rattle.rope_tree.specs.Tree.{text, height_of, breaks_of}
-use Rattle.rope_tree.specs.Search.{IsSmall, HasPart}
-use Rattle.rope_text.specs.TextInfo.{info_of, info_sum}
+use Rattle.rope_tree.specs.Search.{IsSmall}
+use Rattle.rope_text.specs.TextInfo.{info_of, info_sum, HasPart}
 use Rattle.rope_tree.proofs.NodeLaws.{small_totals, more_at}
 use Rattle.rope_tree.proofs.TotalLaws.{same_counts}
 use Rattle.rope_tree.proofs.InsertLeaves.{text_of_leaf}
 use Rattle.rope_tree.proofs.Descents.{Descends, descends}
 use Rattle.rope_tree.proofs.OnTheWay.{at_start, at_end, further, small_more}
 use Rattle.rope_tree.proofs.lookup.leaf_at.Goals.{After-total_before-front}
+use Rattle.rope_tree.proofs.Infos.{small_sum}
+use Rattle.rope_text.proofs.InfoLaws.{part_of_sum}
 use Rattle.rope_tree.proofs.lookup.leaf_at.Goals as goal
 
 -- the place is in the child that the search names
@@ -39,21 +41,10 @@ counts_are x y front e =
 
 -- so the front is in them
 has_front : (c : After-total_before-front) (all : TextInfo) → ((d : TextInfo) → all ≡ get_or c.in-Inner.totals.now c.place_of-place.result d) → HasPart all c.total_before-front.result
-has_front c all is =
-    let e = is all ∙ total c all in
-    record { bytes = omega (arith, ap (λ i. i.bytes) e); chars = omega (arith, ap (λ i. i.chars) e); surrogates = omega (arith, ap (λ i. i.utf16_surrogates) e); count = omega (arith, ap (λ i. i.break_count) e) }
+has_front c all is = part_of_sum _ _ _ (is all ∙ total c all)
 
-pub minus-inside-requires-clause-bytes : goal.minus-inside-requires-clause-bytes
-minus-inside-requires-clause-bytes c = (has_front (goal.at.minus-inside-requires-clause-bytes c).After-total_before-front c.get.result c.get.ensures).bytes
-
-pub minus-inside-requires-clause-chars : goal.minus-inside-requires-clause-chars
-minus-inside-requires-clause-chars c = (has_front (goal.at.minus-inside-requires-clause-chars c).After-total_before-front c.get.result c.get.ensures).chars
-
-pub minus-inside-requires-clause-utf16_surrogates : goal.minus-inside-requires-clause-utf16_surrogates
-minus-inside-requires-clause-utf16_surrogates c = (has_front (goal.at.minus-inside-requires-clause-utf16_surrogates c).After-total_before-front c.get.result c.get.ensures).surrogates
-
-pub minus-inside-requires-clause-break_count : goal.minus-inside-requires-clause-break_count
-minus-inside-requires-clause-break_count c = (has_front (goal.at.minus-inside-requires-clause-break_count c).After-total_before-front c.get.result c.get.ensures).count
+pub minus-inside-requires : goal.minus-inside-requires
+minus-inside-requires c = has_front (goal.at.minus-inside-requires c).After-total_before-front c.get.result c.get.ensures
 
 pub down-init : goal.down-init
 down-init c = (
@@ -73,17 +64,8 @@ overflow_sub-rest c =
     let d = down (goal.at.overflow_sub-rest c).After-total_before-front in
     omega (arith, d.not_past, c.count-rest.ensures)
 
-pub plus-before-requires-clause-bytes : goal.plus-before-requires-clause-bytes
-plus-before-requires-clause-bytes c = let s = small (goal.at.plus-before-requires-clause-bytes c).After-total_before-front in omega (arith, s)
-
-pub plus-before-requires-clause-chars : goal.plus-before-requires-clause-chars
-plus-before-requires-clause-chars c = let s = small (goal.at.plus-before-requires-clause-chars c).After-total_before-front in omega (arith, s)
-
-pub plus-before-requires-clause-utf16_surrogates : goal.plus-before-requires-clause-utf16_surrogates
-plus-before-requires-clause-utf16_surrogates c = let s = small (goal.at.plus-before-requires-clause-utf16_surrogates c).After-total_before-front in omega (arith, s)
-
-pub plus-before-requires-clause-break_count : goal.plus-before-requires-clause-break_count
-plus-before-requires-clause-break_count c = let s = small (goal.at.plus-before-requires-clause-break_count c).After-total_before-front in omega (arith, s)
+pub plus-before-requires : goal.plus-before-requires
+plus-before-requires c = small_sum _ _ (small (goal.at.plus-before-requires c).After-total_before-front)
 
 pub down-smaller : goal.down-smaller
 down-smaller c =

@@ -5,8 +5,9 @@ use Rattle.std.specs.Str.{chars}
 use Rattle.rope_text.specs.LineParts.{after_byte}
 use Rattle.rope_cursor.specs.Caret.{halves_at, HoldsAhead}
 use Rattle.rope_cursor.proofs.Carets.{between_boundary, between_after}
-use Rattle.rope_cursor.proofs.CaretSteps.{holds_ahead, info_half, place_fits, pass_inside, more_half, pass_over}
+use Rattle.rope_cursor.proofs.CaretSteps.{holds_ahead, info_small, place_fits, pass_inside, more_small, pass_over}
 use Rattle.rope_cursor.proofs.lines.Caret.pass_line.Goals.{After-of_first_line-first}
+use Rattle.rope_tree.proofs.Infos.{sum_of_small}
 use Rattle.rope_cursor.proofs.lines.Caret.pass_line.Goals as goal
 
 pub range_from-held-requires : goal.range_from-held-requires
@@ -48,32 +49,14 @@ returns-then-first-gt0-clause-counts c =
     (first_is (goal.at.returns-then-first-gt0-clause-counts c).After-of_first_line-first)
     c.if-first-gt0.true).counts
 
-pub plus-requires-clause-bytes : goal.plus-requires-clause-bytes
-plus-requires-clause-bytes c =
-    let one = info_half c.args.breaks c.self.inside.span c.self.inside.inside c.self.invariant c.of_first_line-first.result
-    (first_is (goal.at.plus-requires-clause-bytes c).After-of_first_line-first) in
-    let two = more_half c.args.breaks c.self.inside.span c.self.inside.inside c.self.invariant c.of_first_line-first.result
-    (first_is (goal.at.plus-requires-clause-bytes c).After-of_first_line-first)
+pub plus-requires : goal.plus-requires
+plus-requires c =
+    let one = info_small c.args.breaks c.self.inside.span c.self.inside.inside c.self.invariant c.of_first_line-first.result
+    (first_is (goal.at.plus-requires c).After-of_first_line-first) in
+    let two = more_small c.args.breaks c.self.inside.span c.self.inside.inside c.self.invariant c.of_first_line-first.result
+    (first_is (goal.at.plus-requires c).After-of_first_line-first)
     c.pass_chunks-inside.new.span c.pass_chunks-inside.result.0 c.pass_chunks-inside.result.1 c.if-first-gt0.false c.pass_chunks-inside.ensures.passes in
-    omega (arith, one.bytes, two.bytes)
-
-pub plus-requires-clause-chars : goal.plus-requires-clause-chars
-plus-requires-clause-chars c =
-    let one = info_half c.args.breaks c.self.inside.span c.self.inside.inside c.self.invariant c.of_first_line-first.result
-    (first_is (goal.at.plus-requires-clause-chars c).After-of_first_line-first) in
-    let two = more_half c.args.breaks c.self.inside.span c.self.inside.inside c.self.invariant c.of_first_line-first.result
-    (first_is (goal.at.plus-requires-clause-chars c).After-of_first_line-first)
-    c.pass_chunks-inside.new.span c.pass_chunks-inside.result.0 c.pass_chunks-inside.result.1 c.if-first-gt0.false c.pass_chunks-inside.ensures.passes in
-    omega (arith, one.chars, two.chars)
-
-pub plus-requires-clause-utf16_surrogates : goal.plus-requires-clause-utf16_surrogates
-plus-requires-clause-utf16_surrogates c =
-    let one = info_half c.args.breaks c.self.inside.span c.self.inside.inside c.self.invariant c.of_first_line-first.result
-    (first_is (goal.at.plus-requires-clause-utf16_surrogates c).After-of_first_line-first) in
-    let two = more_half c.args.breaks c.self.inside.span c.self.inside.inside c.self.invariant c.of_first_line-first.result
-    (first_is (goal.at.plus-requires-clause-utf16_surrogates c).After-of_first_line-first)
-    c.pass_chunks-inside.new.span c.pass_chunks-inside.result.0 c.pass_chunks-inside.result.1 c.if-first-gt0.false c.pass_chunks-inside.ensures.passes in
-    omega (arith, one.utf16_surrogates, two.utf16_surrogates)
+    sum_of_small _ _ one two
 
 pub returns-clause-front : goal.returns-clause-front
 returns-clause-front c =

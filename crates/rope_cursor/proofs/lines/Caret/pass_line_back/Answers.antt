@@ -1,4 +1,4 @@
-use Rattle.std.proofs.Common.{◌≡◌, ◌<◌, ℕ, List, take, drop, ◌∙◌, ap, arith}
+use Rattle.std.proofs.Common.{◌≡◌, ◌<◌, ℕ, List, take, drop, ◌∙◌, ap}
 use Rattle.std.specs.Str.{chars}
 use Rattle.rope_text.specs.declared.line_breaks.LineBreaks.{LineBreaks}
 use Rattle.rope_text.specs.declared.text_info.TextInfo.{TextInfo}
@@ -6,12 +6,13 @@ use Rattle.rope_text.specs.Text.{byte_len}
 use Rattle.rope_text.specs.TextInfo.{info_of}
 use Rattle.rope_text.specs.Conversions.{byte_to_char}
 use Rattle.rope_text.specs.LineParts.{last_start}
-use Rattle.rope_cursor.proofs.CaretsBack.{caret_apart, caret_found, caret_left, caret_half, other_half, caret_composed}
+use Rattle.rope_cursor.proofs.CaretsBack.{caret_apart, caret_found, caret_left, caret_small, other_small, caret_composed}
 use Rattle.rope_text.specs.LineParts.{after_byte}
 use Rattle.rope_cursor.specs.Caret.{IsCaret}
 use Rattle.rope_cursor.proofs.Carets.{between_boundary, between_after}
 use Rattle.rope_cursor.proofs.CaretSteps.{holds_ahead}
 use Rattle.rope_cursor.proofs.lines.Caret.pass_line_back.Goals.{After-of_last_line-start}
+use Rattle.rope_tree.proofs.Infos.{sum_of_small}
 use Rattle.rope_cursor.proofs.lines.Caret.pass_line_back.Goals as goal
 
 start_is : (breaks : LineBreaks) (skip : ℕ) (here chunk : List ℕ) (b start : ℕ) → chunk ≡ here → start ≡ byte_len (take (last_start breaks (take (byte_to_char chunk b) chunk) skip) (take (byte_to_char chunk b) chunk))
@@ -63,49 +64,16 @@ overflow_sub-skip c =
     (counts_are c.args.breaks c.args.skip c.self.inside.span.here (chars c.chunk-chunk.result.now) c.self.inside.inside c.of_last_line-start.result.1 c.chunk-chunk.ensures c.of_last_line-start.ensures.counts)
     c.if-start-gt0.false
 
-pub plus-requires-clause-bytes : goal.plus-requires-clause-bytes
-plus-requires-clause-bytes c =
-    let one = caret_half c.args.breaks c.args.skip c.self.inside.span c.self.inside.inside c.of_last_line-start.result.0 c.of_last_line-start.result.1 c.self.invariant
+pub plus-requires : goal.plus-requires
+plus-requires c =
+    let one = caret_small c.args.breaks c.args.skip c.self.inside.span c.self.inside.inside c.of_last_line-start.result.0 c.of_last_line-start.result.1 c.self.invariant
     (start_is c.args.breaks c.args.skip c.self.inside.span.here (chars c.chunk-chunk.result.now) c.self.inside.inside c.of_last_line-start.result.0 c.chunk-chunk.ensures c.of_last_line-start.ensures.start)
     (counts_are c.args.breaks c.args.skip c.self.inside.span.here (chars c.chunk-chunk.result.now) c.self.inside.inside c.of_last_line-start.result.1 c.chunk-chunk.ensures c.of_last_line-start.ensures.counts) in
-    let two = other_half c.args.breaks c.args.skip c.self.inside.span c.self.inside.inside c.of_last_line-start.result.0 c.of_last_line-start.result.1 c.self.invariant
+    let two = other_small c.args.breaks c.args.skip c.self.inside.span c.self.inside.inside c.of_last_line-start.result.0 c.of_last_line-start.result.1 c.self.invariant
     (start_is c.args.breaks c.args.skip c.self.inside.span.here (chars c.chunk-chunk.result.now) c.self.inside.inside c.of_last_line-start.result.0 c.chunk-chunk.ensures c.of_last_line-start.ensures.start)
     (counts_are c.args.breaks c.args.skip c.self.inside.span.here (chars c.chunk-chunk.result.now) c.self.inside.inside c.of_last_line-start.result.1 c.chunk-chunk.ensures c.of_last_line-start.ensures.counts)
     c.pass_chunks_back-inside.new.span c.pass_chunks_back-inside.result.0 c.pass_chunks_back-inside.result.1 c.if-start-gt0.false c.pass_chunks_back-inside.ensures.passes in
-    omega (arith, one.bytes, two.bytes)
-
-pub plus-requires-clause-chars : goal.plus-requires-clause-chars
-plus-requires-clause-chars c =
-    let one = caret_half c.args.breaks c.args.skip c.self.inside.span c.self.inside.inside c.of_last_line-start.result.0 c.of_last_line-start.result.1 c.self.invariant
-    (start_is c.args.breaks c.args.skip c.self.inside.span.here (chars c.chunk-chunk.result.now) c.self.inside.inside c.of_last_line-start.result.0 c.chunk-chunk.ensures c.of_last_line-start.ensures.start)
-    (counts_are c.args.breaks c.args.skip c.self.inside.span.here (chars c.chunk-chunk.result.now) c.self.inside.inside c.of_last_line-start.result.1 c.chunk-chunk.ensures c.of_last_line-start.ensures.counts) in
-    let two = other_half c.args.breaks c.args.skip c.self.inside.span c.self.inside.inside c.of_last_line-start.result.0 c.of_last_line-start.result.1 c.self.invariant
-    (start_is c.args.breaks c.args.skip c.self.inside.span.here (chars c.chunk-chunk.result.now) c.self.inside.inside c.of_last_line-start.result.0 c.chunk-chunk.ensures c.of_last_line-start.ensures.start)
-    (counts_are c.args.breaks c.args.skip c.self.inside.span.here (chars c.chunk-chunk.result.now) c.self.inside.inside c.of_last_line-start.result.1 c.chunk-chunk.ensures c.of_last_line-start.ensures.counts)
-    c.pass_chunks_back-inside.new.span c.pass_chunks_back-inside.result.0 c.pass_chunks_back-inside.result.1 c.if-start-gt0.false c.pass_chunks_back-inside.ensures.passes in
-    omega (arith, one.chars, two.chars)
-
-pub plus-requires-clause-utf16_surrogates : goal.plus-requires-clause-utf16_surrogates
-plus-requires-clause-utf16_surrogates c =
-    let one = caret_half c.args.breaks c.args.skip c.self.inside.span c.self.inside.inside c.of_last_line-start.result.0 c.of_last_line-start.result.1 c.self.invariant
-    (start_is c.args.breaks c.args.skip c.self.inside.span.here (chars c.chunk-chunk.result.now) c.self.inside.inside c.of_last_line-start.result.0 c.chunk-chunk.ensures c.of_last_line-start.ensures.start)
-    (counts_are c.args.breaks c.args.skip c.self.inside.span.here (chars c.chunk-chunk.result.now) c.self.inside.inside c.of_last_line-start.result.1 c.chunk-chunk.ensures c.of_last_line-start.ensures.counts) in
-    let two = other_half c.args.breaks c.args.skip c.self.inside.span c.self.inside.inside c.of_last_line-start.result.0 c.of_last_line-start.result.1 c.self.invariant
-    (start_is c.args.breaks c.args.skip c.self.inside.span.here (chars c.chunk-chunk.result.now) c.self.inside.inside c.of_last_line-start.result.0 c.chunk-chunk.ensures c.of_last_line-start.ensures.start)
-    (counts_are c.args.breaks c.args.skip c.self.inside.span.here (chars c.chunk-chunk.result.now) c.self.inside.inside c.of_last_line-start.result.1 c.chunk-chunk.ensures c.of_last_line-start.ensures.counts)
-    c.pass_chunks_back-inside.new.span c.pass_chunks_back-inside.result.0 c.pass_chunks_back-inside.result.1 c.if-start-gt0.false c.pass_chunks_back-inside.ensures.passes in
-    omega (arith, one.utf16_surrogates, two.utf16_surrogates)
-
-pub plus-requires-clause-break_count : goal.plus-requires-clause-break_count
-plus-requires-clause-break_count c =
-    let one = caret_half c.args.breaks c.args.skip c.self.inside.span c.self.inside.inside c.of_last_line-start.result.0 c.of_last_line-start.result.1 c.self.invariant
-    (start_is c.args.breaks c.args.skip c.self.inside.span.here (chars c.chunk-chunk.result.now) c.self.inside.inside c.of_last_line-start.result.0 c.chunk-chunk.ensures c.of_last_line-start.ensures.start)
-    (counts_are c.args.breaks c.args.skip c.self.inside.span.here (chars c.chunk-chunk.result.now) c.self.inside.inside c.of_last_line-start.result.1 c.chunk-chunk.ensures c.of_last_line-start.ensures.counts) in
-    let two = other_half c.args.breaks c.args.skip c.self.inside.span c.self.inside.inside c.of_last_line-start.result.0 c.of_last_line-start.result.1 c.self.invariant
-    (start_is c.args.breaks c.args.skip c.self.inside.span.here (chars c.chunk-chunk.result.now) c.self.inside.inside c.of_last_line-start.result.0 c.chunk-chunk.ensures c.of_last_line-start.ensures.start)
-    (counts_are c.args.breaks c.args.skip c.self.inside.span.here (chars c.chunk-chunk.result.now) c.self.inside.inside c.of_last_line-start.result.1 c.chunk-chunk.ensures c.of_last_line-start.ensures.counts)
-    c.pass_chunks_back-inside.new.span c.pass_chunks_back-inside.result.0 c.pass_chunks_back-inside.result.1 c.if-start-gt0.false c.pass_chunks_back-inside.ensures.passes in
-    omega (arith, one.break_count, two.break_count)
+    sum_of_small _ _ two one
 
 pub returns-clause-front : goal.returns-clause-front
 returns-clause-front c =

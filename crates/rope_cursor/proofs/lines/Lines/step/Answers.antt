@@ -1,4 +1,4 @@
-use Rattle.std.proofs.Common.{◌<◌, ◌-◌, ◌∙◌, refl, ap, arith}
+use Rattle.std.proofs.Common.{◌<◌, ◌-◌, ◌∙◌, refl, arith}
 use Rattle.rope_text.specs.Content.{Content}
 use Rattle.rope_part.specs.Part.{content_of}
 use Rattle.rope_cursor.specs.Lines.{at_line}
@@ -6,8 +6,10 @@ use Rattle.rope_cursor.proofs.Points.{stays_put}
 use Rattle.rope_cursor.proofs.LineSteps.{left_of_line, right_of_line, no_line}
 use Rattle.rope_part.proofs.PartsBetween.{line_from, line_to, line_apart, line_is}
 use Rattle.std.specs.Str.{chars}
-use Rattle.rope_cursor.proofs.LineMoves.{line_held, start_apart, breaks_enough, inside_back, before_sum, before_up, start_is, prev_start, inside, after_is, next_start, next_half}
+use Rattle.rope_cursor.proofs.LineMoves.{line_held, start_apart, breaks_enough, inside_back, before_sum, before_up, start_is, prev_start, inside, after_is, next_start, next_small}
 use Rattle.rope_cursor.proofs.lines.Lines.step.Goals.{Then-is_left, Else-is_left}
+use Rattle.rope_tree.proofs.Infos.{sum_of_small}
+use Rattle.rope_text.proofs.InfoLaws.{rest_of_sum}
 use Rattle.rope_cursor.proofs.lines.Lines.step.Goals as goal
 
 not_first : (g : _) (c : Then-is_left g) → 0 < c.self.inside.line
@@ -25,26 +27,12 @@ returns-then-self-end_of g c =
 pub overflow_sub-here : goal.overflow_sub-here
 overflow_sub-here g c = breaks_enough (content_of c.self.inside.part) c.self.inside.caret c.self.inside.before c.self.inside.line c.self.inside.total c.self.invariant
 
-pub minus-self-inside-requires-clause-bytes : goal.minus-self-inside-requires-clause-bytes
-minus-self-inside-requires-clause-bytes g c =
+pub minus-self-inside-requires : goal.minus-self-inside-requires
+minus-self-inside-requires g c =
     let sum = before_sum (content_of c.self.inside.part) c.self.inside.caret c.pass_line_back.new.self c.self.inside.before c.pass_line_back.result.0 c.self.inside.line c.self.inside.total
-    (c.self.inside.before.break_count - (c.self.inside.line - 1)) c.line_breaks-breaks.result c.self.invariant (not_first g (goal.at.minus-self-inside-requires-clause-bytes g c).Then-is_left) c.line_breaks-breaks.ensures refl
+    (c.self.inside.before.break_count - (c.self.inside.line - 1)) c.line_breaks-breaks.result c.self.invariant (not_first g (goal.at.minus-self-inside-requires g c).Then-is_left) c.line_breaks-breaks.ensures refl
     c.pass_line_back.ensures.front c.pass_line_back.ensures.back c.pass_line_back.ensures.counts in
-    omega (arith, ap (λ x. x.bytes) sum)
-
-pub minus-self-inside-requires-clause-utf16_surrogates : goal.minus-self-inside-requires-clause-utf16_surrogates
-minus-self-inside-requires-clause-utf16_surrogates g c =
-    let sum = before_sum (content_of c.self.inside.part) c.self.inside.caret c.pass_line_back.new.self c.self.inside.before c.pass_line_back.result.0 c.self.inside.line c.self.inside.total
-    (c.self.inside.before.break_count - (c.self.inside.line - 1)) c.line_breaks-breaks.result c.self.invariant (not_first g (goal.at.minus-self-inside-requires-clause-utf16_surrogates g c).Then-is_left) c.line_breaks-breaks.ensures refl
-    c.pass_line_back.ensures.front c.pass_line_back.ensures.back c.pass_line_back.ensures.counts in
-    omega (arith, ap (λ x. x.utf16_surrogates) sum)
-
-pub minus-self-inside-requires-clause-break_count : goal.minus-self-inside-requires-clause-break_count
-minus-self-inside-requires-clause-break_count g c =
-    let sum = before_sum (content_of c.self.inside.part) c.self.inside.caret c.pass_line_back.new.self c.self.inside.before c.pass_line_back.result.0 c.self.inside.line c.self.inside.total
-    (c.self.inside.before.break_count - (c.self.inside.line - 1)) c.line_breaks-breaks.result c.self.invariant (not_first g (goal.at.minus-self-inside-requires-clause-break_count g c).Then-is_left) c.line_breaks-breaks.ensures refl
-    c.pass_line_back.ensures.front c.pass_line_back.ensures.back c.pass_line_back.ensures.counts in
-    omega (arith, ap (λ x. x.break_count) sum)
+    rest_of_sum _ _ _ sum
 
 pub between-requires-clause-from_is : goal.between-requires-clause-from_is
 between-requires-clause-from_is g c =
@@ -94,29 +82,11 @@ returns-then-is_left g c =
 pub pass_line_back-requires : goal.pass_line_back-requires
 pass_line_back-requires g c = start_apart (content_of c.self.inside.part) c.self.inside.caret c.self.inside.before c.self.inside.line c.self.inside.total c.self.invariant
 
-pub plus-self-inside-requires-clause-bytes : goal.plus-self-inside-requires-clause-bytes
-plus-self-inside-requires-clause-bytes g c =
-    let half = next_half (content_of c.self.inside.part) c.self.inside.caret c.pass_line.new.self c.self.inside.before c.pass_line.result.0 c.self.inside.line c.self.inside.total c.line_breaks-breaks.result c.self.invariant
-    (not_last g (goal.at.plus-self-inside-requires-clause-bytes g c).Else-is_left) c.line_breaks-breaks.ensures c.pass_line.ensures.front c.pass_line.ensures.back c.pass_line.ensures.counts in
-    omega (arith, half.0.bytes, half.1.bytes)
-
-pub plus-self-inside-requires-clause-chars : goal.plus-self-inside-requires-clause-chars
-plus-self-inside-requires-clause-chars g c =
-    let half = next_half (content_of c.self.inside.part) c.self.inside.caret c.pass_line.new.self c.self.inside.before c.pass_line.result.0 c.self.inside.line c.self.inside.total c.line_breaks-breaks.result c.self.invariant
-    (not_last g (goal.at.plus-self-inside-requires-clause-chars g c).Else-is_left) c.line_breaks-breaks.ensures c.pass_line.ensures.front c.pass_line.ensures.back c.pass_line.ensures.counts in
-    omega (arith, half.0.chars, half.1.chars)
-
-pub plus-self-inside-requires-clause-utf16_surrogates : goal.plus-self-inside-requires-clause-utf16_surrogates
-plus-self-inside-requires-clause-utf16_surrogates g c =
-    let half = next_half (content_of c.self.inside.part) c.self.inside.caret c.pass_line.new.self c.self.inside.before c.pass_line.result.0 c.self.inside.line c.self.inside.total c.line_breaks-breaks.result c.self.invariant
-    (not_last g (goal.at.plus-self-inside-requires-clause-utf16_surrogates g c).Else-is_left) c.line_breaks-breaks.ensures c.pass_line.ensures.front c.pass_line.ensures.back c.pass_line.ensures.counts in
-    omega (arith, half.0.utf16_surrogates, half.1.utf16_surrogates)
-
-pub plus-self-inside-requires-clause-break_count : goal.plus-self-inside-requires-clause-break_count
-plus-self-inside-requires-clause-break_count g c =
-    let half = next_half (content_of c.self.inside.part) c.self.inside.caret c.pass_line.new.self c.self.inside.before c.pass_line.result.0 c.self.inside.line c.self.inside.total c.line_breaks-breaks.result c.self.invariant
-    (not_last g (goal.at.plus-self-inside-requires-clause-break_count g c).Else-is_left) c.line_breaks-breaks.ensures c.pass_line.ensures.front c.pass_line.ensures.back c.pass_line.ensures.counts in
-    omega (arith, half.0.break_count, half.1.break_count)
+pub plus-self-inside-requires : goal.plus-self-inside-requires
+plus-self-inside-requires g c =
+    let small = next_small (content_of c.self.inside.part) c.self.inside.caret c.pass_line.new.self c.self.inside.before c.pass_line.result.0 c.self.inside.line c.self.inside.total c.line_breaks-breaks.result c.self.invariant
+    (not_last g (goal.at.plus-self-inside-requires g c).Else-is_left) c.line_breaks-breaks.ensures c.pass_line.ensures.front c.pass_line.ensures.back c.pass_line.ensures.counts in
+    sum_of_small _ _ small.0 small.1
 
 pub between-requires-2-clause-to_is : goal.between-requires-2-clause-to_is
 between-requires-2-clause-to_is g c =

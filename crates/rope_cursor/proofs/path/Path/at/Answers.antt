@@ -8,6 +8,7 @@ use Rattle.rope_tree.proofs.Descents.{Descends, descends}
 use Rattle.rope_tree.proofs.OnTheWay.{small_more}
 use Rattle.rope_cursor.proofs.Ways.{path_start, path_down, path_end, path_holds, leaves_way}
 use Rattle.rope_cursor.proofs.path.Path.at.Goals.{After-total_before-front, After-as_str-leaf}
+use Rattle.rope_tree.proofs.Infos.{small_sum}
 use Rattle.rope_cursor.proofs.path.Path.at.Goals as goal
 
 -- the place is in the child that the search names
@@ -36,17 +37,8 @@ overflow_sub-rest c =
     let d = down (goal.at.overflow_sub-rest c).After-total_before-front in
     omega (arith, d.not_past, c.count-rest.ensures)
 
-pub plus-before-requires-clause-bytes : goal.plus-before-requires-clause-bytes
-plus-before-requires-clause-bytes c = let s = small (goal.at.plus-before-requires-clause-bytes c).After-total_before-front in omega (arith, s)
-
-pub plus-before-requires-clause-chars : goal.plus-before-requires-clause-chars
-plus-before-requires-clause-chars c = let s = small (goal.at.plus-before-requires-clause-chars c).After-total_before-front in omega (arith, s)
-
-pub plus-before-requires-clause-utf16_surrogates : goal.plus-before-requires-clause-utf16_surrogates
-plus-before-requires-clause-utf16_surrogates c = let s = small (goal.at.plus-before-requires-clause-utf16_surrogates c).After-total_before-front in omega (arith, s)
-
-pub plus-before-requires-clause-break_count : goal.plus-before-requires-clause-break_count
-plus-before-requires-clause-break_count c = let s = small (goal.at.plus-before-requires-clause-break_count c).After-total_before-front in omega (arith, s)
+pub plus-before-requires : goal.plus-before-requires
+plus-before-requires c = small_sum _ _ (small (goal.at.plus-before-requires c).After-total_before-front)
 
 pub down-smaller : goal.down-smaller
 down-smaller c =

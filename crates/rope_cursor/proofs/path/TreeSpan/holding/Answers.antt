@@ -32,6 +32,6 @@ invariant_of-span c =
 pub returns : goal.returns
 returns c =
     let s = c.args.excerpt.now in
-    rw (c.saturating_sub.ensures, c.saturating_sub-2.ensures, c.saturating_sub-3.ensures)
+    rw (c.since.ensures.bytes, c.since.ensures.chars, c.since.ensures.break_count)
     (holds_here s.node.now s.start s.end c.place.ensures.tree s.is_excerpt c.args.idx c.min-place.result c.args.unit c.requires.unit (place_is (goal.at.returns c).After-min-place)
     c.at-path.result.0 c.at-path.result.1 c.at-path.ensures.leaves c.at-path.ensures.holds c.requires.within)

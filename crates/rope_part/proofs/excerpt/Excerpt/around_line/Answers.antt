@@ -11,7 +11,7 @@ use Rattle.rope_text.proofs.LineSeams.{break_count-front}
 use Rattle.rope_text.proofs.Measures.{IsMeasure-byte_len, size_le_all}
 use Rattle.rope_tree.specs.Tree.{text}
 use Rattle.rope_tree.specs.Search.{IsSmall}
-use Rattle.rope_tree.proofs.Infos.{small_info}
+use Rattle.rope_tree.proofs.Infos.{small_info, small_sum}
 use Rattle.rope_part.specs.Excerpt.{text_of, breaks_of}
 use Rattle.rope_part.proofs.LeafLines.{line_in_leaf}
 use Rattle.rope_part.proofs.Measured.{measured}
@@ -22,7 +22,7 @@ use Rattle.std.proofs.lemmas.Bool.{cases_lt}
 use Rattle.std.proofs.lemmas.List.{length-take, length-take-le}
 use Rattle.rope_text.proofs.LineLaws.{line_start-le-length, line_start_first}
 use Rattle.rope_part.proofs.ExcerptLines.{line_later, line_place_within, line_counts, own_line}
-use Rattle.rope_part.proofs.excerpt.Excerpt.around_line.Goals.{After-line_start_at, After-counts_to-before, Else-line-eq0}
+use Rattle.rope_part.proofs.excerpt.Excerpt.around_line.Goals.{After-line_start_at, After-counts_to-start, Else-line-eq0}
 use Rattle.rope_part.proofs.excerpt.Excerpt.around_line.Goals as goal
 
 start_is : (c : After-line_start_at) → c.line_start_at.result.0 ≡ info_of c.args.self.now.node.now.breaks (take (line_start c.args.self.now.node.now.breaks (text c.args.self.now.node.now) (c.args.self.now.start.break_count + c.args.line_idx)) (text c.args.self.now.node.now))
@@ -69,38 +69,17 @@ returns-then-line_idx-eq0-clause-end c =
 pub line_start_at-requires-clause-within : goal.line_start_at-requires-clause-within
 line_start_at-requires-clause-within c = let m = measured _ _ _ _ c.args.self.now.is_excerpt in omega (arith, c.place.ensures.value)
 
-pub plus-requires-clause-bytes : goal.plus-requires-clause-bytes
-plus-requires-clause-bytes c =
-    let here = (goal.at.plus-requires-clause-bytes c).Else-line-eq0 in
-    let s = small here in
-    omega (arith, ap (λ x. x.bytes) (sum_is here))
+pub plus-requires : goal.plus-requires
+plus-requires c = let here = (goal.at.plus-requires c).Else-line-eq0 in small_sum _ _ (rw (sum_is here) (small here))
 
-pub plus-requires-clause-chars : goal.plus-requires-clause-chars
-plus-requires-clause-chars c =
-    let here = (goal.at.plus-requires-clause-chars c).Else-line-eq0 in
-    let s = small here in
-    omega (arith, ap (λ x. x.chars) (sum_is here))
+pub counts_to-start-requires-clause-later : goal.counts_to-start-requires-clause-later
+counts_to-start-requires-clause-later c = line_later _ _ _ _ _ c.args.self.now.is_excerpt c.args.line_idx (omega arith) (start_is (goal.at.counts_to-start-requires-clause-later c).After-line_start_at)
 
-pub plus-requires-clause-utf16_surrogates : goal.plus-requires-clause-utf16_surrogates
-plus-requires-clause-utf16_surrogates c =
-    let here = (goal.at.plus-requires-clause-utf16_surrogates c).Else-line-eq0 in
-    let s = small here in
-    omega (arith, ap (λ x. x.utf16_surrogates) (sum_is here))
+pub counts_to-start-requires-clause-within : goal.counts_to-start-requires-clause-within
+counts_to-start-requires-clause-within c = line_place_within _ _ _ _ _ c.args.self.now.is_excerpt c.args.line_idx (omega arith) (start_is (goal.at.counts_to-start-requires-clause-within c).After-line_start_at)
 
-pub plus-requires-clause-break_count : goal.plus-requires-clause-break_count
-plus-requires-clause-break_count c =
-    let here = (goal.at.plus-requires-clause-break_count c).Else-line-eq0 in
-    let s = small here in
-    omega (arith, ap (λ x. x.break_count) (sum_is here))
-
-pub counts_to-before-requires-clause-later : goal.counts_to-before-requires-clause-later
-counts_to-before-requires-clause-later c = line_later _ _ _ _ _ c.args.self.now.is_excerpt c.args.line_idx (omega arith) (start_is (goal.at.counts_to-before-requires-clause-later c).After-line_start_at)
-
-pub counts_to-before-requires-clause-within : goal.counts_to-before-requires-clause-within
-counts_to-before-requires-clause-within c = line_place_within _ _ _ _ _ c.args.self.now.is_excerpt c.args.line_idx (omega arith) (start_is (goal.at.counts_to-before-requires-clause-within c).After-line_start_at)
-
-pub counts_to-before-requires-clause-counts : goal.counts_to-before-requires-clause-counts
-counts_to-before-requires-clause-counts c = line_counts _ _ _ _ _ c.args.self.now.is_excerpt c.args.line_idx (omega arith) (start_is (goal.at.counts_to-before-requires-clause-counts c).After-line_start_at)
+pub counts_to-start-requires-clause-counts : goal.counts_to-start-requires-clause-counts
+counts_to-start-requires-clause-counts c = line_counts _ _ _ _ _ c.args.self.now.is_excerpt c.args.line_idx (omega arith) (start_is (goal.at.counts_to-start-requires-clause-counts c).After-line_start_at)
 
 pub overflow_add-line_idx : goal.overflow_add-line_idx
 overflow_add-line_idx c =
@@ -108,35 +87,35 @@ overflow_add-line_idx c =
     let m = measured _ _ _ _ c.args.self.now.is_excerpt in
     omega (arith, c.place.ensures.value, break_count-le-length c.args.self.now.node.now.breaks t, length-le-encodes t, c.place.ensures.tree.fits)
 
-pub counts_to-requires-clause-later : goal.counts_to-requires-clause-later
-counts_to-requires-clause-later c =
-    let end = next_is (goal.at.counts_to-requires-clause-later c).Else-line-eq0 c.plus.result c.plus.ensures.sum in
+pub counts_to-end-requires-clause-later : goal.counts_to-end-requires-clause-later
+counts_to-end-requires-clause-later c =
+    let end = next_is (goal.at.counts_to-end-requires-clause-later c).Else-line-eq0 c.plus.result c.plus.ensures.sum in
     line_later _ _ _ _ _ c.args.self.now.is_excerpt (c.args.line_idx + 1) (omega arith) end
 
-pub counts_to-requires-clause-within : goal.counts_to-requires-clause-within
-counts_to-requires-clause-within c =
-    let end = next_is (goal.at.counts_to-requires-clause-within c).Else-line-eq0 c.plus.result c.plus.ensures.sum in
+pub counts_to-end-requires-clause-within : goal.counts_to-end-requires-clause-within
+counts_to-end-requires-clause-within c =
+    let end = next_is (goal.at.counts_to-end-requires-clause-within c).Else-line-eq0 c.plus.result c.plus.ensures.sum in
     line_place_within _ _ _ _ _ c.args.self.now.is_excerpt (c.args.line_idx + 1) (omega arith) end
 
-pub counts_to-requires-clause-counts : goal.counts_to-requires-clause-counts
-counts_to-requires-clause-counts c =
-    let end = next_is (goal.at.counts_to-requires-clause-counts c).Else-line-eq0 c.plus.result c.plus.ensures.sum in
+pub counts_to-end-requires-clause-counts : goal.counts_to-end-requires-clause-counts
+counts_to-end-requires-clause-counts c =
+    let end = next_is (goal.at.counts_to-end-requires-clause-counts c).Else-line-eq0 c.plus.result c.plus.ensures.sum in
     line_counts _ _ _ _ _ c.args.self.now.is_excerpt (c.args.line_idx + 1) (omega arith) end
 
 pub returns-then-line-eq0-clause-start : goal.returns-then-line-eq0-clause-start
 returns-then-line-eq0-clause-start c =
-    c.counts_to-before.ensures ∙ own_line _ _ _ _ _ c.args.self.now.is_excerpt c.args.line_idx (omega arith) (start_is (goal.at.returns-then-line-eq0-clause-start c).After-line_start_at)
+    c.counts_to-start.ensures ∙ own_line _ _ _ _ _ c.args.self.now.is_excerpt c.args.line_idx (omega arith) (start_is (goal.at.returns-then-line-eq0-clause-start c).After-line_start_at)
 
 pub returns-clause-start : goal.returns-clause-start
-returns-clause-start c = c.counts_to-before.ensures ∙ own_line _ _ _ _ _ c.args.self.now.is_excerpt c.args.line_idx (omega arith) (start_is (goal.at.returns-clause-start c).After-line_start_at)
+returns-clause-start c = c.counts_to-start.ensures ∙ own_line _ _ _ _ _ c.args.self.now.is_excerpt c.args.line_idx (omega arith) (start_is (goal.at.returns-clause-start c).After-line_start_at)
 
 pub returns-clause-end : goal.returns-clause-end
 returns-clause-end c =
     let end = next_is (goal.at.returns-clause-end c).Else-line-eq0 c.plus.result c.plus.ensures.sum in
-    c.counts_to.ensures ∙ own_line _ _ _ _ _ c.args.self.now.is_excerpt (c.args.line_idx + 1) (omega arith) end
+    c.counts_to-end.ensures ∙ own_line _ _ _ _ _ c.args.self.now.is_excerpt (c.args.line_idx + 1) (omega arith) end
 
 -- what follows in the leaf lies in the chunk there, or the line starts at the end
-held_in : (c : After-counts_to-before) → c.line_start_at.result.0 ≡ info_of c.args.self.now.node.now.breaks (take (line_start c.args.self.now.node.now.breaks (text c.args.self.now.node.now) (c.args.self.now.start.break_count + c.args.line_idx)) (text c.args.self.now.node.now)) → IsInChunk (text_of c.args.self.now) (chunks_of c.args.self.now) c.counts_to-before.result.chars (chars c.line_start_at.result.1.now)
+held_in : (c : After-counts_to-start) → c.line_start_at.result.0 ≡ info_of c.args.self.now.node.now.breaks (take (line_start c.args.self.now.node.now.breaks (text c.args.self.now.node.now) (c.args.self.now.start.break_count + c.args.line_idx)) (text c.args.self.now.node.now)) → IsInChunk (text_of c.args.self.now) (chunks_of c.args.self.now) c.counts_to-start.result.chars (chars c.line_start_at.result.1.now)
 held_in c start =
     let s = c.args.self.now in
     let t = text s.node.now in
@@ -144,16 +123,16 @@ held_in c start =
     let place : ℕ = c.line_start_at.result.0.chars in
     let here : place ≡ line_start s.node.now.breaks t c.place.result = ap (λ x. x.chars) c.line_start_at.ensures.before ∙ length-take-le (line_start s.node.now.breaks t c.place.result) t (line_start-le-length s.node.now.breaks t c.place.result) in
     let later = line_later _ _ _ _ _ s.is_excerpt c.args.line_idx (omega arith) start in
-    let size = ap (λ x. x.chars) c.counts_to-before.ensures ∙ length-take (place - s.start.chars) (text_of s) in
+    let size = ap (λ x. x.chars) c.counts_to-start.ensures ∙ length-take (place - s.start.chars) (text_of s) in
     elim (cases_lt place s.end.chars) [
-      | inr past ↦ in_chunk_end (text_of s) (chunks_of s) c.counts_to-before.result.chars (chars c.line_start_at.result.1.now) (omega (arith, size, m.chars))
+      | inr past ↦ in_chunk_end (text_of s) (chunks_of s) c.counts_to-start.result.chars (chars c.line_start_at.result.1.now) (omega (arith, size, m.chars))
       | inl inside ↦
-          let from : s.start.chars + c.counts_to-before.result.chars ≡ line_start s.node.now.breaks t c.place.result = omega (arith, size, m.chars, here, later) in
-          in_clip t s.node.now.leaves s.start.chars s.end.chars c.counts_to-before.result.chars (chars c.line_start_at.result.1.now) (rw from c.line_start_at.ensures.chunk) (omega (arith, m.some)) m.within
+          let from : s.start.chars + c.counts_to-start.result.chars ≡ line_start s.node.now.breaks t c.place.result = omega (arith, size, m.chars, here, later) in
+          in_clip t s.node.now.leaves s.start.chars s.end.chars c.counts_to-start.result.chars (chars c.line_start_at.result.1.now) (rw from c.line_start_at.ensures.chunk) (omega (arith, m.some)) m.within
     ]
 
 pub returns-then-line-eq0-clause-held : goal.returns-then-line-eq0-clause-held
-returns-then-line-eq0-clause-held c = held_in (goal.at.returns-then-line-eq0-clause-held c).After-counts_to-before (start_is (goal.at.returns-then-line-eq0-clause-held c).After-line_start_at)
+returns-then-line-eq0-clause-held c = held_in (goal.at.returns-then-line-eq0-clause-held c).After-counts_to-start (start_is (goal.at.returns-then-line-eq0-clause-held c).After-line_start_at)
 
 pub returns-clause-held : goal.returns-clause-held
-returns-clause-held c = held_in (goal.at.returns-clause-held c).After-counts_to-before (start_is (goal.at.returns-clause-held c).After-line_start_at)
+returns-clause-held c = held_in (goal.at.returns-clause-held c).After-counts_to-start (start_is (goal.at.returns-clause-held c).After-line_start_at)

@@ -3,14 +3,8 @@ use Rattle.rope_part.proofs.Measured.{measured, info_part}
 use Rattle.rope_part.proofs.Kept.{excerpt_kept}
 use Rattle.rope_part.proofs.excerpt.Excerpt.info.Goals as goal
 
-pub minus-requires-clause-bytes : goal.minus-requires-clause-bytes
-minus-requires-clause-bytes c = let m = measured _ _ _ _ c.args.self.now.is_excerpt in omega arith
-
-pub minus-requires-clause-utf16_surrogates : goal.minus-requires-clause-utf16_surrogates
-minus-requires-clause-utf16_surrogates c = let m = measured _ _ _ _ c.args.self.now.is_excerpt in omega arith
-
-pub minus-requires-clause-break_count : goal.minus-requires-clause-break_count
-minus-requires-clause-break_count c = let m = measured _ _ _ _ c.args.self.now.is_excerpt in omega arith
+pub minus-requires : goal.minus-requires
+minus-requires c = let m = measured _ _ _ _ c.args.self.now.is_excerpt in record { bytes = omega arith; chars = omega arith; surrogates = omega arith; count = omega arith }
 
 pub returns-clause-value : goal.returns-clause-value
 returns-clause-value c = info_part _ _ _ _ _ c.args.self.now.is_excerpt c.minus.ensures.sum

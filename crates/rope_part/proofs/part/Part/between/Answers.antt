@@ -1,6 +1,6 @@
 use Rattle.std.proofs.Common.{ℕ, List, ◌≡◌, ◌++◌, take, drop, false, ◌-◌, ◌<◌, ◌≤◌, ◌∙◌, inl, inr, length, refl, ap, sym, arith}
 use Rattle.rope_text.specs.Cutting.{single_chunk}
-use Rattle.rope_text.specs.TextInfo.{info_sum}
+use Rattle.rope_text.specs.TextInfo.{info_sum, HasSum}
 use Rattle.rope_text.proofs.ClipLaws.{slice_range_empty}
 use Rattle.rope_text.specs.LineParts.{part_between}
 use Rattle.rope_tree.specs.Tree.{text}
@@ -10,7 +10,7 @@ use Rattle.rope_part.specs.Excerpt as of_excerpt
 use Rattle.rope_part.proofs.Measured.{measured}
 use Rattle.rope_part.proofs.Excerpts.{length_part}
 use Rattle.rope_part.proofs.Clips.{part_of_part, clip_of_clip, single_chunk-clip}
-use Rattle.rope_part.proofs.PartsBetween.{between_sum, same_content, excerpt_between, small_between, AreSmall}
+use Rattle.rope_part.proofs.PartsBetween.{between_sum, same_content, excerpt_between, sums_between}
 use Rattle.rope_part.specs.Part.{content_of, text_of, chunks_of, breaks_of}
 use Rattle.rope_text.specs.Text.{byte_len}
 use Rattle.rope_text.specs.declared.text_info.TextInfo.{TextInfo}
@@ -29,6 +29,7 @@ use Rattle.rope_part.proofs.InChunks.{EndsInChunk, ends_in_chunk}
 use Rattle.rope_part.proofs.ChunkParts.{chars_of_part, boundary_of}
 use Rattle.rope_part.proofs.Excerpts.{front_and_part}
 use Rattle.rope_part.proofs.part.Part.between.Goals.{Then-info-held, In-InTree, After-range-text, After-range-text-in-Alone}
+use Rattle.rope_text.proofs.InfoLaws.{part_of_sum}
 use Rattle.rope_part.proofs.part.Part.between.Goals as goal
 
 -- the counts of the part
@@ -36,14 +37,8 @@ sum_is : (own : Content) (from to : TextInfo) → from ≡ info_of own.breaks (t
     → parts_crlf (take from.chars own.text) (drop from.chars own.text) ≡ false → to ≡ info_sum from (info_of own.breaks (slice_range own.text from.chars to.chars))
 sum_is own from to = between_sum own.breaks own.text from to
 
-pub minus-info-requires-clause-bytes : goal.minus-info-requires-clause-bytes
-minus-info-requires-clause-bytes c = omega (arith, ap (λ x. x.bytes) (sum_is (content_of c.args.self.now) c.args.from c.args.to c.requires.from_is c.requires.to_is c.requires.ordered c.requires.apart))
-
-pub minus-info-requires-clause-utf16_surrogates : goal.minus-info-requires-clause-utf16_surrogates
-minus-info-requires-clause-utf16_surrogates c = omega (arith, ap (λ x. x.utf16_surrogates) (sum_is (content_of c.args.self.now) c.args.from c.args.to c.requires.from_is c.requires.to_is c.requires.ordered c.requires.apart))
-
-pub minus-info-requires-clause-break_count : goal.minus-info-requires-clause-break_count
-minus-info-requires-clause-break_count c = omega (arith, ap (λ x. x.break_count) (sum_is (content_of c.args.self.now) c.args.from c.args.to c.requires.from_is c.requires.to_is c.requires.ordered c.requires.apart))
+pub minus-info-requires : goal.minus-info-requires
+minus-info-requires c = part_of_sum _ _ _ (sum_is (content_of c.args.self.now) c.args.from c.args.to c.requires.from_is c.requires.to_is c.requires.ordered c.requires.apart)
 
 counts_are : (own : Content) (from to info : TextInfo) → from ≡ info_of own.breaks (take from.chars own.text) → to ≡ info_of own.breaks (take to.chars own.text) → from.chars ≤ to.chars
     → parts_crlf (take from.chars own.text) (drop from.chars own.text) ≡ false
@@ -103,37 +98,19 @@ kept c =
     excerpt_between s.node.now.breaks (text s.node.now) s.start s.end s.is_excerpt c.args.from c.args.to (rw c.in-InTree.is at c.requires.from_is) (rw c.in-InTree.is at c.requires.to_is)
     (some c) (rw c.in-InTree.is at c.requires.within) (rw c.in-InTree.is at c.requires.apart)
 
-small : (c : In-InTree) → AreSmall (info_sum c.in-InTree.excerpt.start c.args.from) × AreSmall (info_sum c.in-InTree.excerpt.start c.args.to)
-small c =
+sums : (c : In-InTree) → HasSum c.in-InTree.excerpt.start c.args.from × HasSum c.in-InTree.excerpt.start c.args.to
+sums c =
     let s = c.in-InTree.excerpt in
-    small_between s.node.now.breaks (text s.node.now) (info_sum s.start c.args.from) (info_sum s.start c.args.to) (kept c) c.in-InTree.excerpt.is_low.tree.fits
+    sums_between s.node.now.breaks (text s.node.now) s.start c.args.from c.args.to (kept c) s.is_low.tree.fits
 
 inside : (s : Excerpt) (j : ℕ) → j ≤ length (of_excerpt.text_of s) → j ≤ s.end.chars - s.start.chars
 inside s j l = let m = measured _ _ _ _ s.is_excerpt in omega (arith, length_part (text s.node.now) s.start.chars s.end.chars m.within)
 
-pub plus-start-requires-clause-bytes : goal.plus-start-requires-clause-bytes
-plus-start-requires-clause-bytes c = (small (goal.at.plus-start-requires-clause-bytes c).In-InTree).0.bytes
+pub plus-start-requires : goal.plus-start-requires
+plus-start-requires c = (sums (goal.at.plus-start-requires c).In-InTree).0
 
-pub plus-start-requires-clause-chars : goal.plus-start-requires-clause-chars
-plus-start-requires-clause-chars c = (small (goal.at.plus-start-requires-clause-chars c).In-InTree).0.chars
-
-pub plus-start-requires-clause-utf16_surrogates : goal.plus-start-requires-clause-utf16_surrogates
-plus-start-requires-clause-utf16_surrogates c = (small (goal.at.plus-start-requires-clause-utf16_surrogates c).In-InTree).0.utf16_surrogates
-
-pub plus-start-requires-clause-break_count : goal.plus-start-requires-clause-break_count
-plus-start-requires-clause-break_count c = (small (goal.at.plus-start-requires-clause-break_count c).In-InTree).0.break_count
-
-pub plus-end-requires-clause-bytes : goal.plus-end-requires-clause-bytes
-plus-end-requires-clause-bytes c = (small (goal.at.plus-end-requires-clause-bytes c).In-InTree).1.bytes
-
-pub plus-end-requires-clause-chars : goal.plus-end-requires-clause-chars
-plus-end-requires-clause-chars c = (small (goal.at.plus-end-requires-clause-chars c).In-InTree).1.chars
-
-pub plus-end-requires-clause-utf16_surrogates : goal.plus-end-requires-clause-utf16_surrogates
-plus-end-requires-clause-utf16_surrogates c = (small (goal.at.plus-end-requires-clause-utf16_surrogates c).In-InTree).1.utf16_surrogates
-
-pub plus-end-requires-clause-break_count : goal.plus-end-requires-clause-break_count
-plus-end-requires-clause-break_count c = (small (goal.at.plus-end-requires-clause-break_count c).In-InTree).1.break_count
+pub plus-end-requires : goal.plus-end-requires
+plus-end-requires c = (sums (goal.at.plus-end-requires c).In-InTree).1
 
 pub invariant_of-result-in-InTree : goal.invariant_of-result-in-InTree
 invariant_of-result-in-InTree c = record { is_low = c.in-InTree.excerpt.is_low; is_excerpt = rw (c.plus-start.ensures.sum, c.plus-end.ensures.sum) (kept (goal.at.invariant_of-result-in-InTree c).In-InTree) }

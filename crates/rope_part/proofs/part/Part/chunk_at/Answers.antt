@@ -89,8 +89,8 @@ returns-in-InTree c =
     rw c.in-InTree.is (rw (h.index_is (excerpt_kept s.node.now s.start s.end c.place.ensures.tree s.is_excerpt).cut.nonempty) (p.found _ _ _ _
     (chars_of_part c.as_str-leaf.result.now c.leaf_at-found.result.leaf c.range.result.now i j c.saturating_sub-from.result c.min-to.result c.as_str-leaf.utf8 c.as_str-leaf.ensures.chars (omega arith)
     (c.saturating_sub-from.ensures ∙ sym p.from_bytes) (omega (arith, c.min-to.ensures, p.to_bytes)) c.range.ensures.value)
-    c.saturating_sub.ensures c.saturating_sub-in-InTree.ensures c.saturating_sub-in-InTree-2.ensures))
+    c.since.ensures.bytes c.since.ensures.chars c.since.ensures.break_count))
 
 pub returns-in-Alone : goal.returns-in-Alone
 returns-in-Alone c =
-    rw c.in-Alone.is (found_single c.in-Alone.plain.breaks (chars c.in-Alone.plain.text.now) (chars c.in-Alone.plain.text.now) _ (index_single c.args.unit c.in-Alone.plain.breaks (chars c.in-Alone.plain.text.now) c.args.idx (rw c.in-Alone.is at c.requires)) refl)
+    rw (c.in-Alone.is, c.none.ensures) (found_single c.in-Alone.plain.breaks (chars c.in-Alone.plain.text.now) (chars c.in-Alone.plain.text.now) _ (index_single c.args.unit c.in-Alone.plain.breaks (chars c.in-Alone.plain.text.now) c.args.idx (rw c.in-Alone.is at c.requires)) refl)

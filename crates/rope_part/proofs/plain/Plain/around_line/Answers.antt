@@ -10,7 +10,7 @@ use Rattle.rope_text.proofs.LineSeams.{first_line-drop}
 use Rattle.rope_text.proofs.TextParts.{chars_back, byte_len_boundary}
 use Rattle.rope_text.proofs.Measures.{IsMeasure-byte_len, size_le_all}
 use Rattle.rope_tree.specs.Search.{IsSmall}
-use Rattle.rope_tree.proofs.Infos.{small_info}
+use Rattle.rope_tree.proofs.Infos.{small_info, small_sum}
 use Rattle.rope_part.specs.Edge.{line_info}
 use Rattle.rope_part.specs.Plain.{text_of}
 use Rattle.rope_part.proofs.LeafLines.{next_counts}
@@ -33,7 +33,7 @@ sum_is c =
     ∙ sym (next_counts breaks t c.args.line_idx c.requires.within)
 
 pub returns-clause-end : goal.returns-clause-end
-returns-clause-end c = c.plus.ensures.sum ∙ sum_is (goal.at.returns-clause-end c).After-of_first_line-line
+returns-clause-end c = c.plus-end.ensures.sum ∙ sum_is (goal.at.returns-clause-end c).After-of_first_line-line
 
 pub returns-clause-held : goal.returns-clause-held
 returns-clause-held c =
@@ -55,14 +55,5 @@ small c =
     let next = line_start c.args.self.now.breaks t (c.args.line_idx + 1) in
     small_info c.args.self.now.breaks (take next t) (omega (arith, size_le_all byte_len IsMeasure-byte_len t next, c.requires.fits))
 
-pub plus-requires-clause-bytes : goal.plus-requires-clause-bytes
-plus-requires-clause-bytes c = let here = (goal.at.plus-requires-clause-bytes c).After-of_first_line-line in let s = small here in omega (arith, ap (λ x. x.bytes) (sum_is here))
-
-pub plus-requires-clause-chars : goal.plus-requires-clause-chars
-plus-requires-clause-chars c = let here = (goal.at.plus-requires-clause-chars c).After-of_first_line-line in let s = small here in omega (arith, ap (λ x. x.chars) (sum_is here))
-
-pub plus-requires-clause-utf16_surrogates : goal.plus-requires-clause-utf16_surrogates
-plus-requires-clause-utf16_surrogates c = let here = (goal.at.plus-requires-clause-utf16_surrogates c).After-of_first_line-line in let s = small here in omega (arith, ap (λ x. x.utf16_surrogates) (sum_is here))
-
-pub plus-requires-clause-break_count : goal.plus-requires-clause-break_count
-plus-requires-clause-break_count c = let here = (goal.at.plus-requires-clause-break_count c).After-of_first_line-line in let s = small here in omega (arith, ap (λ x. x.break_count) (sum_is here))
+pub plus-end-requires : goal.plus-end-requires
+plus-end-requires c = let here = (goal.at.plus-end-requires c).After-of_first_line-line in small_sum _ _ (rw (sum_is here) (small here))

@@ -2,12 +2,12 @@ use Rattle.std.proofs.Common.{◌≡◌, ℕ, length, ap, ◌∙◌, subst, arit
 use Rattle.rope_text.specs.Lookup.{StandsAt, found_chunk, chunk_index_at_line_break, chunk_place_at_line_break, chunk_place_at_char}
 use Rattle.rope_slice.specs.Slice.{text_of, chunks_of, breaks_of}
 use Rattle.rope_cursor.proofs.ChunkStarts.{front_le, line_break_start, line_break_end}
-use Rattle.rope_slice.proofs.slice.RopeSlice.chunks_at_line_break.Goals.{After-chunks_at, then-line_break_idx-info, else-line_break_idx-info}
+use Rattle.rope_slice.proofs.slice.RopeSlice.chunks_at_line_break.Goals.{After-chunks_at-chunks, then-line_break_idx-info, else-line_break_idx-info}
 use Rattle.rope_slice.proofs.slice.RopeSlice.chunks_at_line_break.Goals as goal
 
-pub chunks_at-requires-clause-within : goal.chunks_at-requires-clause-within
+pub chunks_at-chunks-requires-clause-within : goal.chunks_at-chunks-requires-clause-within
 unfolding found_chunk
-chunks_at-requires-clause-within c =
+chunks_at-chunks-requires-clause-within c =
     let part = c.args.self.now in
     let cut = c.info-info.ensures.kept.cut in
     elim c.if-line_break_idx-info.branch [
@@ -15,13 +15,13 @@ chunks_at-requires-clause-within c =
       | else-line_break_idx-info w ↦ omega (
         arith,
         w.char_idx-is,
-        w.chunk_at_line_break-before.ensures.chars_are,
+        w.chunk_at_line_break.ensures.chars_are,
         front_le (chunks_of part) (chunk_index_at_line_break (breaks_of part) (chunks_of part) c.args.line_break_idx),
         ap length cut.joined,
       )
     ]
 
-place_is : (c : After-chunks_at) → chunk_place_at_char (chunks_of c.args.self.now) c.if-line_break_idx-info.char_idx ≡ chunk_place_at_line_break (breaks_of c.args.self.now) (chunks_of c.args.self.now) c.args.line_break_idx
+place_is : (c : After-chunks_at-chunks) → chunk_place_at_char (chunks_of c.args.self.now) c.if-line_break_idx-info.char_idx ≡ chunk_place_at_line_break (breaks_of c.args.self.now) (chunks_of c.args.self.now) c.args.line_break_idx
 unfolding found_chunk
 place_is c =
     let part = c.args.self.now in
@@ -29,10 +29,10 @@ place_is c =
     let breaks = ap (λ i. i.break_count) c.info-info.ensures.value in
     elim c.if-line_break_idx-info.branch [
       | then-line_break_idx-info w ↦ line_break_end (breaks_of part) (text_of part) (chunks_of part) cut c.args.line_break_idx c.if-line_break_idx-info.char_idx (omega (arith, c.requires, w.if-line_break_idx-info.true, breaks)) (w.char_idx-is ∙ ap (λ i. i.chars) c.info-info.ensures.value)
-      | else-line_break_idx-info w ↦ line_break_start (breaks_of part) (text_of part) (chunks_of part) cut c.args.line_break_idx c.if-line_break_idx-info.char_idx (omega (arith, c.requires, w.if-line_break_idx-info.false, breaks)) (w.char_idx-is ∙ w.chunk_at_line_break-before.ensures.chars_are)
+      | else-line_break_idx-info w ↦ line_break_start (breaks_of part) (text_of part) (chunks_of part) cut c.args.line_break_idx c.if-line_break_idx-info.char_idx (omega (arith, c.requires, w.if-line_break_idx-info.false, breaks)) (w.char_idx-is ∙ w.chunk_at_line_break.ensures.chars_are)
     ]
 
 pub returns : goal.returns
 returns c =
     let part = c.args.self.now in
-    subst (λ (n : ℕ). StandsAt (breaks_of part) (chunks_of part) n c.chunks_at.result.0 c.chunks_at.result.1 c.chunks_at.result.2 c.chunks_at.result.3) (place_is (goal.at.returns c).After-chunks_at) c.chunks_at.ensures.stands
+    subst (λ (n : ℕ). StandsAt (breaks_of part) (chunks_of part) n c.chunks_at-chunks.result.0 c.chunks_at-chunks.result.1.bytes c.chunks_at-chunks.result.1.chars c.chunks_at-chunks.result.1.break_count) (place_is (goal.at.returns c).After-chunks_at-chunks) c.chunks_at-chunks.ensures.stands

@@ -9,7 +9,7 @@ use Rattle.rope_text.specs.Cutting.{parts_crlf}
 use Rattle.rope_text.specs.Edit.{inserted}
 use Rattle.rope_text.specs.TextInfo.{info_of, info_sum}
 use Rattle.rope_text.proofs.Apart.{has_chars}
-use Rattle.rope_text.proofs.InfoLaws.{info_of-append_apart}
+use Rattle.rope_text.proofs.InfoLaws.{info_of-append_apart, part_of_sum}
 use Rattle.rope_text.proofs.Walks.{byte_len-chars}
 use Rattle.rope_tree.specs.Tree.{Tree, text, leaf_tree, IsTree}
 use Rattle.rope_tree.specs.Insert.{IsInserted}
@@ -71,11 +71,8 @@ module _ (c : After-from_str-front_info) where
       subst (λ t. IsInserted t (leaf_tree br x ∷ leaf_tree br y ∷ []) (inserted (text c.args.self.now) c.args.at s)) (sym c.known_text.ensures.is)
       (two_inserted br c.known_text.result x y _ _ _ refl refl x_tree y_tree is (x_some, y_some, apart) (x_long, y_long))
 
-pub minus-requires-clause-bytes : goal.minus-requires-clause-bytes
-minus-requires-clause-bytes c = omega (arith, ap (λ i. i.bytes) (parted (goal.at.minus-requires-clause-bytes c).After-from_str-front_info))
-
-pub minus-requires-clause-break_count : goal.minus-requires-clause-break_count
-minus-requires-clause-break_count c = omega (arith, ap (λ i. i.break_count) (parted (goal.at.minus-requires-clause-break_count c).After-from_str-front_info))
+pub minus-requires : goal.minus-requires
+minus-requires c = part_of_sum _ _ _ (parted (goal.at.minus-requires c).After-from_str-front_info)
 
 pub keep-requires-clause-len : goal.keep-requires-clause-len
 keep-requires-clause-len c =

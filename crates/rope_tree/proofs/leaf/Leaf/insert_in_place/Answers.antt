@@ -1,7 +1,6 @@
 use Rattle.std.proofs.Common.{◌≡◌, sym, ap, subst, ◌∙◌, arith}
-use Rattle.rope_text.specs.TextInfo.{info_of}
+use Rattle.rope_text.specs.TextInfo.{info_of, HasPart}
 use Rattle.rope_text.specs.Edit.{inserted}
-use Rattle.rope_tree.specs.Search.{HasPart}
 use Rattle.rope_tree.proofs.CountLaws.{counts_grow}
 use Rattle.rope_tree.proofs.Infos.{IsLow, low_info, small_info}
 use Rattle.rope_tree.proofs.ChangeLaws.{grown_change}
@@ -38,17 +37,8 @@ new_is c = c.put_in-after.ensures.info ∙ ap (λ b. info_of b (inserted c.self.
 has : (c : After-put_in-after) → HasPart c.put_in-after.result c.info-before.result
 has c = rw (old_is c, new_is c) (counts_grow c.self.inside.summary.breaks c.self.inside.text c.args.added.now c.args.at c.requires.some)
 
-pub minus-requires-clause-bytes : goal.minus-requires-clause-bytes
-minus-requires-clause-bytes c = (has (goal.at.minus-requires-clause-bytes c).After-put_in-after).bytes
-
-pub minus-requires-clause-chars : goal.minus-requires-clause-chars
-minus-requires-clause-chars c = (has (goal.at.minus-requires-clause-chars c).After-put_in-after).chars
-
-pub minus-requires-clause-utf16_surrogates : goal.minus-requires-clause-utf16_surrogates
-minus-requires-clause-utf16_surrogates c = (has (goal.at.minus-requires-clause-utf16_surrogates c).After-put_in-after).surrogates
-
-pub minus-requires-clause-break_count : goal.minus-requires-clause-break_count
-minus-requires-clause-break_count c = (has (goal.at.minus-requires-clause-break_count c).After-put_in-after).count
+pub minus-requires : goal.minus-requires
+minus-requires c = has (goal.at.minus-requires c).After-put_in-after
 
 pub returns-clause-change : goal.returns-clause-change
 returns-clause-change c = λ yes.

@@ -1,7 +1,6 @@
 use Rattle.std.proofs.Common.{◌≡◌, sym, ap, subst, ◌∙◌, arith}
-use Rattle.rope_text.specs.TextInfo.{info_of}
+use Rattle.rope_text.specs.TextInfo.{info_of, HasPart}
 use Rattle.rope_text.specs.Edit.{removed}
-use Rattle.rope_tree.specs.Search.{HasPart}
 use Rattle.rope_tree.proofs.CountLaws.{counts_fall}
 use Rattle.rope_tree.proofs.Infos.{IsLow, low_info}
 use Rattle.rope_tree.proofs.NodeLaws.{leaf_text}
@@ -39,17 +38,8 @@ new_is c = c.in-Some.ensures.info ∙ ap (λ b. info_of b (removed c.self.inside
 has : (c : In-Some) → HasPart c.info-before.result c.in-Some.after
 has c = rw (old_is c, new_is c) (counts_fall c.self.inside.summary.breaks c.self.inside.text c.args.start c.args.end c.requires.ordered (rw (← c.self.view_is, leaf_text c.self.inside.text) at c.requires.within))
 
-pub minus-requires-clause-bytes : goal.minus-requires-clause-bytes
-minus-requires-clause-bytes c = (has (goal.at.minus-requires-clause-bytes c).In-Some).bytes
-
-pub minus-requires-clause-chars : goal.minus-requires-clause-chars
-minus-requires-clause-chars c = (has (goal.at.minus-requires-clause-chars c).In-Some).chars
-
-pub minus-requires-clause-utf16_surrogates : goal.minus-requires-clause-utf16_surrogates
-minus-requires-clause-utf16_surrogates c = (has (goal.at.minus-requires-clause-utf16_surrogates c).In-Some).surrogates
-
-pub minus-requires-clause-break_count : goal.minus-requires-clause-break_count
-minus-requires-clause-break_count c = (has (goal.at.minus-requires-clause-break_count c).In-Some).count
+pub minus-requires : goal.minus-requires
+minus-requires c = has (goal.at.minus-requires c).In-Some
 
 pub returns-clause-change : goal.returns-clause-change
 returns-clause-change c = λ yes.

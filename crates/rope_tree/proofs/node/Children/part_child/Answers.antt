@@ -11,7 +11,7 @@ use Rattle.rope_tree.specs.Search.{IsSmall}
 use Rattle.rope_tree.specs.Tree.{Tree, text, joined, height_of, breaks_of, AreChildren}
 use Rattle.rope_tree.specs.Totals.{HasTotals}
 use Rattle.rope_tree.specs.Insert.{IsInserted, AreGrown}
-use Rattle.rope_tree.proofs.Infos.{small_info, small_below}
+use Rattle.rope_tree.proofs.Infos.{small_info, small_below, sum_of_small}
 use Rattle.rope_tree.proofs.TreeLaws.{breaks_of_is}
 use Rattle.rope_tree.proofs.NodeLaws.{byte_len-joined, small_totals}
 use Rattle.rope_tree.proofs.Descents.{front_is}
@@ -171,61 +171,15 @@ module _ (c : After-info-front) where
   first_is : (before first : TextInfo) → before ≡ info_of br (joined front) → first ≡ info_sum before c.info-front.result → first ≡ info_sum (info_of br (joined front)) (info_of br (text u))
   first_is before first is sum = sum ∙ ap (λ x. info_sum x c.info-front.result) is ∙ ap (λ x. info_sum (info_of br (joined front)) x) (front_counts c)
 
-pub plus-total-requires-clause-bytes : goal.plus-total-requires-clause-bytes
-plus-total-requires-clause-bytes c =
-    let f = (goal.at.plus-total-requires-clause-bytes c).After-info-front in
-    let b = small_before f c.total_before.result (before_is f c.total_before.result c.total_before.ensures.first c.total_before.ensures.later) in
-    let n = small_front f in
-    omega (arith, b.bytes, b.chars, b.surrogates, b.count, n.bytes, n.chars, n.surrogates, n.count)
+pub plus-total-requires : goal.plus-total-requires
+plus-total-requires c =
+    let f = (goal.at.plus-total-requires c).After-info-front in
+    sum_of_small _ _ (small_before f c.total_before.result (before_is f c.total_before.result c.total_before.ensures.first c.total_before.ensures.later)) (small_front f)
 
-pub plus-requires-clause-bytes : goal.plus-requires-clause-bytes
-plus-requires-clause-bytes c =
-    let f = (goal.at.plus-requires-clause-bytes c).After-info-front in
-    let b = small_back f c.info.result c.info.ensures.value in
-    let n = small_front f in
-    omega (arith, b.bytes, b.chars, b.surrogates, b.count, n.bytes, n.chars, n.surrogates, n.count)
-
-pub plus-total-requires-clause-chars : goal.plus-total-requires-clause-chars
-plus-total-requires-clause-chars c =
-    let f = (goal.at.plus-total-requires-clause-chars c).After-info-front in
-    let b = small_before f c.total_before.result (before_is f c.total_before.result c.total_before.ensures.first c.total_before.ensures.later) in
-    let n = small_front f in
-    omega (arith, b.bytes, b.chars, b.surrogates, b.count, n.bytes, n.chars, n.surrogates, n.count)
-
-pub plus-requires-clause-chars : goal.plus-requires-clause-chars
-plus-requires-clause-chars c =
-    let f = (goal.at.plus-requires-clause-chars c).After-info-front in
-    let b = small_back f c.info.result c.info.ensures.value in
-    let n = small_front f in
-    omega (arith, b.bytes, b.chars, b.surrogates, b.count, n.bytes, n.chars, n.surrogates, n.count)
-
-pub plus-total-requires-clause-utf16_surrogates : goal.plus-total-requires-clause-utf16_surrogates
-plus-total-requires-clause-utf16_surrogates c =
-    let f = (goal.at.plus-total-requires-clause-utf16_surrogates c).After-info-front in
-    let b = small_before f c.total_before.result (before_is f c.total_before.result c.total_before.ensures.first c.total_before.ensures.later) in
-    let n = small_front f in
-    omega (arith, b.bytes, b.chars, b.surrogates, b.count, n.bytes, n.chars, n.surrogates, n.count)
-
-pub plus-requires-clause-utf16_surrogates : goal.plus-requires-clause-utf16_surrogates
-plus-requires-clause-utf16_surrogates c =
-    let f = (goal.at.plus-requires-clause-utf16_surrogates c).After-info-front in
-    let b = small_back f c.info.result c.info.ensures.value in
-    let n = small_front f in
-    omega (arith, b.bytes, b.chars, b.surrogates, b.count, n.bytes, n.chars, n.surrogates, n.count)
-
-pub plus-total-requires-clause-break_count : goal.plus-total-requires-clause-break_count
-plus-total-requires-clause-break_count c =
-    let f = (goal.at.plus-total-requires-clause-break_count c).After-info-front in
-    let b = small_before f c.total_before.result (before_is f c.total_before.result c.total_before.ensures.first c.total_before.ensures.later) in
-    let n = small_front f in
-    omega (arith, b.bytes, b.chars, b.surrogates, b.count, n.bytes, n.chars, n.surrogates, n.count)
-
-pub plus-requires-clause-break_count : goal.plus-requires-clause-break_count
-plus-requires-clause-break_count c =
-    let f = (goal.at.plus-requires-clause-break_count c).After-info-front in
-    let b = small_back f c.info.result c.info.ensures.value in
-    let n = small_front f in
-    omega (arith, b.bytes, b.chars, b.surrogates, b.count, n.bytes, n.chars, n.surrogates, n.count)
+pub plus-requires : goal.plus-requires
+plus-requires c =
+    let f = (goal.at.plus-requires c).After-info-front in
+    sum_of_small _ _ (small_front f) (small_back f c.info.result c.info.ensures.value)
 
 pub retotal-requires-2-clause-small : goal.retotal-requires-2-clause-small
 retotal-requires-2-clause-small c =

@@ -4,7 +4,7 @@ use Rattle.rope_text.specs.Text.{byte_len}
 use Rattle.rope_text.proofs.Walks.{byte_len-chars}
 use Rattle.rope_text.specs.Edit.{inserted}
 use Rattle.rope_text.specs.TextInfo.{info_of, info_sum}
-use Rattle.rope_text.proofs.InfoLaws.{info_of-append_apart}
+use Rattle.rope_text.proofs.InfoLaws.{info_of-append_apart, part_of_sum}
 use Rattle.rope_tree.specs.Tree.{leaf_tree}
 use Rattle.rope_tree.specs.Insert.{IsInserted}
 use Rattle.rope_tree.proofs.InsertTrees.{length-inserted, byte_len-inserted}
@@ -24,11 +24,8 @@ parted c =
     ∙ info_of-append_apart breaks (chars halves.result.0.now) (chars halves.result.1.now) halves.ensures.apart
     ∙ ap (λ i. info_sum i (info_of breaks (chars halves.result.1.now))) (sym c.from_str-front_info.ensures)
 
-pub minus-back_info-requires-clause-bytes : goal.minus-back_info-requires-clause-bytes
-minus-back_info-requires-clause-bytes c = omega (arith, ap (λ i. i.bytes) (parted (goal.at.minus-back_info-requires-clause-bytes c).After-from_str-front_info))
-
-pub minus-back_info-requires-clause-break_count : goal.minus-back_info-requires-clause-break_count
-minus-back_info-requires-clause-break_count c = omega (arith, ap (λ i. i.break_count) (parted (goal.at.minus-back_info-requires-clause-break_count c).After-from_str-front_info))
+pub minus-back_info-requires : goal.minus-back_info-requires
+minus-back_info-requires c = part_of_sum _ _ _ (parted (goal.at.minus-back_info-requires c).After-from_str-front_info)
 
 pub returns-then-text-le-MAX_BYTES-clause-ok : goal.returns-then-text-le-MAX_BYTES-clause-ok
 returns-then-text-le-MAX_BYTES-clause-ok c =

@@ -7,6 +7,7 @@ use Rattle.rope_tree.specs.NewList.{NewList, new_list, nodes_in}
 use Rattle.rope_tree.proofs.NodeLaws.{same_at}
 use Rattle.rope_tree.proofs.RowLaws.{AddsTree, adds_tree, total_more, more_in, is_new_list_more, next_siblings}
 use Rattle.rope_tree.proofs.node.row.push_all.Goals.{After-info}
+use Rattle.rope_tree.proofs.Infos.{small_sum}
 use Rattle.rope_tree.proofs.node.row.push_all.Goals as goal
 
 -- the list so far
@@ -29,17 +30,8 @@ room c =
     let front = take c.loop-node.node-index c.args.nodes.now in
     omega (arith, c.requires.room, ap length c.loop-node.invariant.nodes, length-append (nodes_in (new_list c.args.totals.now c.args.places.now)) front, length-take-le c.loop-node.node-index c.args.nodes.now (omega arith), c.loop-node-test.true)
 
-pub plus-total-requires-clause-bytes : goal.plus-total-requires-clause-bytes
-plus-total-requires-clause-bytes c = let n = next c in omega arith
-
-pub plus-total-requires-clause-chars : goal.plus-total-requires-clause-chars
-plus-total-requires-clause-chars c = let n = next c in omega arith
-
-pub plus-total-requires-clause-utf16_surrogates : goal.plus-total-requires-clause-utf16_surrogates
-plus-total-requires-clause-utf16_surrogates c = let n = next c in omega arith
-
-pub plus-total-requires-clause-break_count : goal.plus-total-requires-clause-break_count
-plus-total-requires-clause-break_count c = let n = next c in omega arith
+pub plus-total-requires : goal.plus-total-requires
+plus-total-requires c = small_sum _ _ (next c).small_sum
 
 pub push-requires-clause-small : goal.push-requires-clause-small
 push-requires-clause-small c = rw c.plus-total.ensures.sum (next (goal.at.push-requires-clause-small c).After-info).small_sum

@@ -4,21 +4,21 @@ use Rattle.std.specs.Str.{IsCharBoundary}
 use Rattle.std.proofs.lemmas.Str.{length-le-encodes, IsCharBoundary-from_rest}
 use Rattle.rope_text.specs.Text.{byte_len}
 use Rattle.rope_text.proofs.TextParts.{byte_len_boundary, chars_back}
-use Rattle.rope_text.proofs.NarrowTexts.{narrow_front}
+use Rattle.rope_text.proofs.AsciiTexts.{ascii_front}
 use Rattle.std.proofs.lemmas.List.{length-drop}
 use Rattle.std.proofs.Math.Seq.{take-add}
 use Rattle.rope_text.proofs.Measures.{IsMeasure-byte_len}
 use Rattle.rope_tree.proofs.node_text.NodeText.byte_range.Goals.{After-min-then-chars-text}
 use Rattle.rope_tree.proofs.node_text.NodeText.byte_range.Goals as goal
 
-narrow : (c : After-min-then-chars-text) → byte_len c.args.self.now ≡ length c.args.self.now
-narrow c = omega (arith, c.if-chars-text.true, ap length c.as_str-text.ensures.bytes, c.requires.chars, length-le-encodes c.args.self.now)
+ascii : (c : After-min-then-chars-text) → byte_len c.args.self.now ≡ length c.args.self.now
+ascii c = omega (arith, c.if-chars-text.true, ap length c.as_str-text.ensures.bytes, c.requires.chars, length-le-encodes c.args.self.now)
 
 from_is : (c : After-min-then-chars-text) → c.min.result ≡ byte_len (take c.args.start c.args.self.now)
-from_is c = omega (arith, c.min.ensures, c.requires.chars, narrow_front c.args.self.now (narrow c) c.args.start)
+from_is c = omega (arith, c.min.ensures, c.requires.chars, ascii_front c.args.self.now (ascii c) c.args.start)
 
 to_is : (c : After-min-then-chars-text) → c.min-then-chars-text.result ≡ byte_len (take c.args.end c.args.self.now)
-to_is c = omega (arith, c.min-then-chars-text.ensures, c.requires.chars, narrow_front c.args.self.now (narrow c) c.args.end)
+to_is c = omega (arith, c.min-then-chars-text.ensures, c.requires.chars, ascii_front c.args.self.now (ascii c) c.args.end)
 
 -- a character's bytes begin at a boundary
 boundary : (c : After-min-then-chars-text) (i n : ℕ) → n ≡ byte_len (take i c.args.self.now) → IsCharBoundary c.as_str-text.result.now n

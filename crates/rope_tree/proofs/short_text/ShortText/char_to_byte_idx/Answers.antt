@@ -3,23 +3,23 @@ use Rattle.std.specs.Str.{chars, encode_utf8_all, IsCharBoundary}
 use Rattle.std.proofs.lemmas.Str.{encodes-chars, IsUtf8-from_is_utf8}
 use Rattle.rope_text.specs.Text.{byte_len}
 use Rattle.rope_text.proofs.TextParts.{byte_len_boundary}
-use Rattle.rope_text.proofs.NarrowTexts.{narrow_front}
-use Rattle.rope_tree.proofs.ShortTexts.{narrow, as_many}
+use Rattle.rope_text.proofs.AsciiTexts.{ascii_front}
+use Rattle.rope_tree.proofs.ShortTexts.{ascii, as_many}
 use Rattle.rope_tree.proofs.short_text.ShortText.char_to_byte_idx.Goals as goal
 
 pub returns-then-self-clause-value : goal.returns-then-self-clause-value
 returns-then-self-clause-value c =
-    let e = narrow c.self.inside c.args.self.now c.self.invariant c.self.view_is c.if-self.true in
-    omega (arith, c.min.ensures, as_many c.self.inside c.args.self.now c.self.invariant c.self.view_is c.if-self.true, narrow_front c.args.self.now e c.args.char_idx)
+    let e = ascii c.self.inside c.args.self.now c.self.invariant c.self.view_is c.if-self.true in
+    omega (arith, c.min.ensures, as_many c.self.inside c.args.self.now c.self.invariant c.self.view_is c.if-self.true, ascii_front c.args.self.now e c.args.char_idx)
 
 pub returns-then-self-clause-boundary : goal.returns-then-self-clause-boundary
 returns-then-self-clause-boundary c =
     let bs = c.self.inside.text.now in
     let u = IsUtf8-from_is_utf8 bs c.self.invariant.utf8 in
-    let e = narrow c.self.inside c.args.self.now c.self.invariant c.self.view_is c.if-self.true in
+    let e = ascii c.self.inside c.args.self.now c.self.invariant c.self.view_is c.if-self.true in
     let place : byte_len (take c.args.char_idx (chars bs)) ≡ c.min.result =
     ap (λ s. byte_len (take c.args.char_idx s)) c.self.view_is
-    ∙ omega (arith, c.min.ensures, as_many c.self.inside c.args.self.now c.self.invariant c.self.view_is c.if-self.true, narrow_front c.args.self.now e c.args.char_idx) in
+    ∙ omega (arith, c.min.ensures, as_many c.self.inside c.args.self.now c.self.invariant c.self.view_is c.if-self.true, ascii_front c.args.self.now e c.args.char_idx) in
     let bytes = encodes-chars bs u in
     subst (λ s. IsCharBoundary (encode_utf8_all s) c.min.result) c.self.view_is
     (subst (λ x. IsCharBoundary x c.min.result) (sym bytes) (subst (IsCharBoundary bs) place (byte_len_boundary bs c.args.char_idx u)))

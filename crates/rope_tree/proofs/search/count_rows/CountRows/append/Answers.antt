@@ -1,8 +1,7 @@
 -- From the place on each total is one of the others.
 use Rattle.std.proofs.Common.{◌≡◌, ℕ, ◌+◌, ◌-◌, ◌<◌, ◌≤◌, length, get_or, refl, sym, ap, subst, ◌∙◌, arith}
 use Rattle.rope_text.specs.declared.text_info.TextInfo.{TextInfo}
-use Rattle.rope_text.specs.TextInfo.{info_sum}
-use Rattle.rope_tree.specs.Search.{HasPart}
+use Rattle.rope_text.specs.TextInfo.{info_sum, HasPart}
 use Rattle.rope_tree.specs.Narrow.{FitsWith}
 use Rattle.rope_tree.specs.declared.search.count_rows.CountRows.TheInside.{Inside}
 use Rattle.rope_tree.specs.CountRows.{all_totals, IsTotals}

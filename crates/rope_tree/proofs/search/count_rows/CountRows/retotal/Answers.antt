@@ -1,5 +1,5 @@
 use Rattle.std.proofs.Common.{◌≡◌, ℕ, ◌<◌, ◌≤◌, ◌^◌, length, refl, arith}
-use Rattle.rope_tree.specs.Search.{HasPart}
+use Rattle.rope_text.specs.TextInfo.{HasPart}
 use Rattle.rope_tree.specs.Narrow.{IsNarrow, FitsWith}
 use Rattle.rope_tree.specs.CountRows.{counts_at}
 use Rattle.rope_tree.proofs.CountsKept.{many, total_seen, all_below, was_below, is_below, early_same, late_sums, shifted_totals}

@@ -1,6 +1,6 @@
 use Rattle.std.proofs.Common.{arith}
 use Rattle.rope_script.proofs.Contents.{shrink_of}
-use Rattle.rope_script.proofs.edits.shrink.Goals as goal
+use Rattle.rope_script.proofs.changing.shrink.Goals as goal
 
 pub returns : goal.returns
 returns c =

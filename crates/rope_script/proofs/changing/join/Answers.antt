@@ -2,7 +2,7 @@ use Rattle.std.proofs.Common.{◌≡◌, ◌<◌, length, get_or, None, Some, ar
 use Rattle.rope_text.specs.declared.error.Error.TheVariants.{OutOfMemory}
 use Rattle.ropey.specs.View.{IsRope}
 use Rattle.rope_script.proofs.Contents.{join_of, unjoined_of, same_place}
-use Rattle.rope_script.proofs.edits.join.Goals as goal
+use Rattle.rope_script.proofs.changing.join.Goals as goal
 
 pub returns-in-Some : goal.returns-in-Some
 returns-in-Some c =

@@ -1,6 +1,6 @@
 use Rattle.std.proofs.Common.{arith, sym, true≢false}
 use Rattle.rope_script.proofs.Contents.{of_content, edit_of}
-use Rattle.rope_script.proofs.edits.insert_char.Goals as goal
+use Rattle.rope_script.proofs.changing.insert_char.Goals as goal
 
 pub returns : goal.returns
 returns c =

@@ -1,4 +1,4 @@
-//! Ropes that are changed.
+//! Ropes edited at the index of a character, split and appended.
 ghost use Rattle.std.specs.Prelude.{◌≡◌, ◌≢◌, ◌<◌, ◌⊎◌, ◌++◌, [], ◌∷◌, length, take, drop, None, Some, IfSome, IfErr, OnOk, IsSomeAnd, MatchOption};
 ghost use Rattle.std.specs.Str.{chars};
 ghost use Rattle.rope_text.specs.Edit.{inserted, insert_error, removed, char_range_error, char_index_error, append_error};

@@ -2,7 +2,7 @@ use Rattle.std.proofs.Common.{◌≡◌, ◌∙◌, ℕ, List, length, None, sym
 use Rattle.std.proofs.lemmas.List.{nil_from_length}
 use Rattle.std.specs.Str.{chars}
 use Rattle.rope_text.specs.Edit.{insert_error}
-use Rattle.ropey_c.proofs.edits.insert.Goals as goal
+use Rattle.ropey_c.proofs.char_edits.insert.Goals as goal
 
 pub returns-in-Some-clause-empty : goal.returns-in-Some-clause-empty
 unfolding chars

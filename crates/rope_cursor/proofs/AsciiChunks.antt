@@ -7,11 +7,11 @@ use Rattle.rope_text.proofs.CuttingLaws.{concat-append}
 use Rattle.rope_text.proofs.Measures.{IsMeasure-byte_len}
 use Rattle.rope_cursor.specs.Path.{Place, leaves}
 
-pub narrow_here : (p : Place) (text : List ℕ) → concat (leaves p) ≡ text → byte_len text ≡ length text → byte_len p.here ≡ length p.here
-narrow_here p text whole narrow =
+pub ascii_here : (p : Place) (text : List ℕ) → concat (leaves p) ≡ text → byte_len text ≡ length text → byte_len p.here ≡ length p.here
+ascii_here p text whole ascii =
     omega (
       arith,
-      narrow,
+      ascii,
       ap byte_len (concat-append p.before (p.here ∷ p.after)),
       ap length (concat-append p.before (p.here ∷ p.after)),
       ap byte_len whole,
