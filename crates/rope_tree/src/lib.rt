@@ -17,7 +17,8 @@
 //! - `leaf`: a text with its counts
 //! - `maker`: where nodes' memory comes from
 //! - `search`: running totals, and the child that holds a place
-//! - `node`: nodes; `node::row` puts them side by side, `node::in_place` edits them where they stand
+//! - `node`: nodes; `node::row` puts them side by side, `node::anew` puts a text into a tree beside the old one, and
+//!   `node::in_place` edits nodes where they stand
 //! - `lookup`, `conversions`: the way down to a leaf, and indices on it
 //! - `beside`: how few bytes a leaf may keep beside its neighbours
 //! - `edit`: short inserts into whole trees, and removals from one leaf
