@@ -1,8 +1,9 @@
 #!/usr/bin/env python3
 """Tries each wrong body by itself, and keeps in docs/refusals.tsv which goal refused it.
 
-    scripts/each_edit_alone.py CRATE[/EDIT]..   # tries the bodies of these crates, or of these edits of them
-    scripts/each_edit_alone.py --stale          # proves nothing: lists what has changed since its line was written
+    scripts/each_edit_alone.py CRATE[/EDIT]..             # tries the bodies of these crates, or of these edits of them
+    scripts/each_edit_alone.py --changed CRATE[/EDIT]..   # those alone that have changed since their line was written
+    scripts/each_edit_alone.py --stale                    # proves nothing: lists what has changed since then
 
 An edit may hold several bodies, and `rt ci` sees only that one of them is refused. This writes each to an edit of its own, in
 a scratch folder whose crates are links to the repository's, and runs `rt must-fail` there once, which tries four bodies at a
@@ -130,8 +131,8 @@ def write(rows):
     TABLE.write_text("\n".join("\t".join(row) for row in [HEADS, *order]) + "\n", encoding="utf-8")
 
 
-def scratch(edits, room):
-    """Makes a folder in which each body of these edits is an edit of its own, and all else are links."""
+def scratch(edits, bodies, room):
+    """Makes a folder in which each of these bodies is an edit of its own, and all else are links."""
     room.mkdir()
     for name in ("crates.txt", "HANDLES"):
         (room / name).symlink_to(TOP / name)
@@ -145,6 +146,8 @@ def scratch(edits, room):
         alone = room / edit.parent.relative_to(TOP)
         alone.mkdir(exist_ok=True)
         for number, (file, pairs) in enumerate(changes(edit), 1):
+            if (f"{edit.stem} {number}", crate.name) not in bodies:
+                continue
             body = "".join(f"old: {old}\nnew: {new}\n" for old, new in pairs)
             (alone / f"{edit.stem}.{number}.edit").write_text(f"file: {file.relative_to(crate)}\n{body}", encoding="utf-8")
 
@@ -178,11 +181,11 @@ def said_by(words, room):
             raise
 
 
-def tried(edits):
-    """Tries the bodies of these edits: what `rt must-fail` says of each that was refused, and what else it says."""
+def tried(edits, bodies):
+    """Tries these bodies of these edits: what `rt must-fail` says of each that was refused, and what else it says."""
     with tempfile.TemporaryDirectory(prefix="each-edit-alone-") as name:
         room = pathlib.Path(name)
-        scratch(edits, room / "tree")
+        scratch(edits, bodies, room / "tree")
         lines = said_by(["rt", "must-fail", *sorted({crate_of(edit) for edit in edits})], room)
     told = list(map(REFUSED.match, lines))
     found = {(f"{it['edit']} {it['number']}", it["crate"]): it for it in told if it}
@@ -196,19 +199,19 @@ def rows_of(bodies, found):
             yield [*key, function, goal_of(key[1], found[key]["said"]), KINDS[found[key]["only"]], checksum]
 
 
-def try_all(edits):
-    """Tries the bodies of these edits, writes the lines of those that were refused, and answers whether each was."""
-    bodies, begun = bodies_of(edits), time.monotonic()
+def try_all(edits, bodies):
+    """Tries these bodies of these edits, writes the lines of those that were refused, and answers whether each was."""
+    begun = time.monotonic()
     print(f"{len(bodies)} bodies of {len(edits)} edits", flush=True)
-    found, others = tried(edits)
+    found, others = tried(edits, bodies)
     lost = [key for key in bodies if key not in found]
     if lost:
         print("\n".join(others))
     if found:
-        named = {(edit.stem, crate_of(edit)) for edit in edits}
-        kept = [row for row in table().values() if (row[0].split()[0], row[1]) not in named]
+        standing = bodies_of(CRATES.glob("*/must-fail/*.edit"))
+        kept = [row for key, row in table().items() if key in standing and key not in bodies]
         write([*kept, *rows_of(bodies, found)])
-    each = (time.monotonic() - begun) / len(bodies)
+    each = (time.monotonic() - begun) / max(len(bodies), 1)
     print(f"{len(bodies) - len(lost)} were refused, {len(lost)} not; {each:.1f} seconds a body")
     return not lost
 
@@ -229,11 +232,16 @@ def main(words):
         found = list(stale())
         print("\n".join(found) if found else f"{len(table())} bodies have the line of their refusal")
         return 1 if found else 0
-    edits = edits_of(words)
+    names = [word for word in words if word != "--changed"]
+    edits = edits_of(names)
     if not edits:
-        print("no such edit" if words else __doc__, file=sys.stderr)
+        print("no such edit" if names else __doc__, file=sys.stderr)
         return 2
-    return 0 if try_all(edits) else 1
+    bodies = bodies_of(edits)
+    if "--changed" in words:
+        rows = table()
+        bodies = {key: body for key, body in bodies.items() if key not in rows or rows[key][5] != body[1]}
+    return 0 if try_all(edits, bodies) else 1
 
 
 if __name__ == "__main__":
