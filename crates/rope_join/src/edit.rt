@@ -59,7 +59,7 @@ fn join_parts(maker: &mut Maker, left: &Node, end: usize, right: &Node, start: u
 }
 
 /// The text of the one tree and then that of the other.
-pub fn append(maker: &mut Maker, left: &Node, right: &Node) -> Made<Node>
+fn append(maker: &mut Maker, left: &Node, right: &Node) -> Made<Node>
     requires same_breaks { right.now.breaks ≡ left.now.breaks }
     requires fits { byte_len (text left.now) + byte_len (text right.now) < 2 ^ 63 }
     ensures text { IfOk result (λ node. text node ≡ text left.now ++ text right.now) }
