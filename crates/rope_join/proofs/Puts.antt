@@ -9,7 +9,7 @@ use Rattle.rope_text.specs.Text.{byte_len}
 use Rattle.rope_text.specs.Dense.{IsDenseBehind, last_bytes}
 use Rattle.rope_text.proofs.Measures.{IsMeasure-byte_len}
 use Rattle.rope_text.proofs.CuttingLaws.{concat-append}
-use Rattle.rope_text.proofs.DenseLaws.{last_bytes-some, last_bytes-append, dense-append, dense_right}
+use Rattle.rope_text.proofs.DenseLaws.{last_bytes-some, dense-append, dense_right}
 use Rattle.rope_tree.specs.Leaves.{AreLeaves, IsSeam, Recuts}
 use Rattle.rope_tree.specs.Tree.{Tree, text, joined, leaves_of, height_of, breaks_of, tree_over, IsTree, IsWide, IsChild, AreChildren}
 use Rattle.rope_tree.specs.Siblings.{AreSiblings, AreOver, gathered}
@@ -20,7 +20,7 @@ use Rattle.rope_tree.proofs.TreeLaws.{breaks_of_wide, height_of_is, breaks_of_is
 use Rattle.rope_tree.proofs.NodeLaws.{leaves_of-append, children_of_first, child_at}
 use Rattle.rope_tree.proofs.InsertTrees.{siblings_of_first}
 use Rattle.rope_tree.proofs.Gathered.{is_gathered, gathered_tree}
-use Rattle.rope_join.specs.Join.{CanJoin, IsNear, IsUnion}
+use Rattle.rope_join.specs.Join.{CanJoin, IsUnion}
 use Rattle.rope_join.specs.Put.{CanPut, IsPut, leaves_before, leaves_behind}
 use Rattle.rope_join.proofs.Unions.{left_parts}
 
@@ -132,14 +132,6 @@ module _ (ts : List Tree) (first past : ℕ) (part : Tree) (a : AreChildren (bre
           same_breaks = can.same_breaks ∙ sym own.same_breaks;
           seam = seam_of_right (concat (leaves_of (take (first - 1) ts))) (text left) (text part) (subst (λ s. IsSeam s (text part)) texts seam_part);
           fits = omega (arith, can.fits, ap byte_len texts, IsMeasure-byte_len.joined (concat (leaves_of (take (first - 1) ts))) (text left), ap byte_len (concat-append part.leaves (leaves_of (drop past ts))), IsMeasure-byte_len.joined (text part) (concat (leaves_of (drop past ts))));
-        }
-
-    -- the last leaf before the tree is the last of the child before it
-    pub left_near : IsNear left part
-    left_near =
-        let zs = leaves_of (take (first - 1) ts) in
-        record {
-          near = λ _ _. subst (λ n. IsDenseBehind n part.leaves) (ap (last_bytes 492) old_is ∙ last_bytes-append 492 zs left.leaves ∙ last_bytes-some (last_bytes 492 zs) 492 left.leaves own.some) can.near;
         }
 
     module _ (ms : List Tree) (u : IsUnion left part ms) (low : part.height ≤ height_of ts) where

@@ -13,7 +13,7 @@ ghost use Rattle.rope_join.specs.Cut.{SparesFirst, SparesLast, IsSides};
 ghost use Rattle.rope_join.specs.Put.{CanPut, CanPutAtEnd, IsPut, IsPutAtEnd, leaves_before};
 
 use crate::cut::{back, front};
-use crate::join::{end_leaf_len, join, unite_near};
+use crate::join::{end_leaf_len, join, unite};
 use rope_text::{MIN_PAIR_BYTES, Steps};
 use rope_tree::{
     Made, Maker, Node, Row, Totals, Unit, View, node_over, pack, pack_over, place_of, root_of,
@@ -121,7 +121,7 @@ pub(crate) fn put(
         let packed = pack_over(maker, row.first(first), nodes, after)?;
         return root_of(maker, packed);
     }
-    let middle = unite_near(maker, &children[first - 1], part)?;
+    let middle = unite(maker, &children[first - 1], part)?;
     let packed = pack(maker, row.first(first - 1), middle, after)?;
     root_of(maker, packed)
 }

@@ -122,24 +122,6 @@ pub(crate) fn unite(maker: &mut Maker, left: &Node, right: &Node) -> Made<Nodes>
     pack(maker, before, middle, after)
 }
 
-/// The same of two trees whose leaves on those sides have bytes enough together, unless the one is a leaf: the caller knows it, so
-/// that nobody goes down to them to see. In a large tree each such way is a row of misses.
-pub(crate) fn unite_near(maker: &mut Maker, left: &Node, right: &Node) -> Made<Nodes>
-    requires left_some { 1 ≤ length left.now.leaves }
-    requires right_some { 1 ≤ length right.now.leaves }
-    requires join { CanJoin left.now right.now }
-    requires near { IsNear left.now right.now }
-    ensures union { IfOk result (λ nodes. IsUnion left.now right.now (trees_in nodes)) }
-    ensures made { maker.new.made ≤ maker.old.made + 2 * max left.now.height right.now.height + 2 }
-    ensures made_near { maker.new.made
-        ≤ maker.old.made + 2 * distance left.now.height right.now.height + 2 }
-{
-    if left.height() == right.height() {
-        return merge(maker, left, right);
-    }
-    unite(maker, left, right)
-}
-
 /// The text of the one tree and then that of the other as one tree, at most one level higher than the higher of them. No
 /// CR at the end of the one may stand before an LF of the other.
 pub fn join(maker: &mut Maker, left: &Node, right: &Node) -> Made<Node>
@@ -191,7 +173,7 @@ pub fn join_rows(
     ensures made { maker.new.made
         ≤ maker.old.made + 2 * distance left.now.height right.now.height + 5 }
 {
-    let nodes = unite_near(maker, left, right)?;
+    let nodes = unite(maker, left, right)?;
     if before.nodes.is_empty() && after.nodes.is_empty() {
         return root_of(maker, nodes);
     }

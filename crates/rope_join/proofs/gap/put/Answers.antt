@@ -6,7 +6,7 @@ use Rattle.rope_tree.specs.Tree.{Tree, leaves_of, height_of, breaks_of, IsTree, 
 use Rattle.rope_tree.specs.View.{trees_in}
 use Rattle.rope_tree.proofs.NodeLaws.{first_height}
 use Rattle.rope_join.specs.Put.{IsPut, leaves_before, leaves_behind}
-use Rattle.rope_join.proofs.Puts.{put_level, put_family, put_is, put_tree, level_each, level_count, level_recuts, left_join, left_near, united_each, united_count, united_recuts}
+use Rattle.rope_join.proofs.Puts.{put_level, put_family, put_is, put_tree, level_each, level_count, level_recuts, left_join, united_each, united_count, united_recuts}
 use Rattle.rope_join.proofs.gap.put.Goals.{After-first, After-index-children-first, After-first-2}
 use Rattle.rope_join.proofs.gap.put.Goals as goal
 
@@ -68,13 +68,9 @@ low c =
     let first = first_height ts c.index-children-0.result (omega (arith, c.requires.children.at_least_two)) in
     omega (arith, c.if-height.false, c.height.ensures.value, c.height-2.ensures.value, ap (λ t. t.height) c.index-children-0.is, first)
 
-pub unite_near-requires-clause-join : goal.unite_near-requires-clause-join
-unite_near-requires-clause-join c =
+pub unite-requires-clause-join : goal.unite-requires-clause-join
+unite-requires-clause-join c =
     left_join c.args.children.now c.args.first c.args.past c.args.part.now c.requires.children c.requires.put c.index-children-first.result (sym c.index-children-first.is)
-
-pub unite_near-requires-clause-near : goal.unite_near-requires-clause-near
-unite_near-requires-clause-near c =
-    left_near c.args.children.now c.args.first c.args.past c.args.part.now c.requires.children c.requires.put c.index-children-first.result (sym c.index-children-first.is)
 
 united : (c : After-first-2) → List Tree
 united c = c.first-2.result.nodes.now ++ (trees_in c.in_ok-middle.middle ++ c.rest-after.result.nodes.now)
