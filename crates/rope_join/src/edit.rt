@@ -71,8 +71,9 @@ fn append(maker: &mut Maker, left: &Node, right: &Node) -> Made<Node>
     join_parts(maker, left, left.info().chars, right, 0)
 }
 
-/// Puts the text of another tree, which has some, behind that of a tree. A short one that is a leaf goes where the nodes stand, as an
-/// insert does; for a longer one a tree of both takes the old one's place last of all.
+/// Puts the text of another tree behind that of a tree. A short one that is a leaf goes into the
+/// last leaf where that stands, as an insert does; for any other a tree of both takes the old one's
+/// place last of all.
 pub fn append_to(maker: &mut Maker, root: &mut Node, other: &Node) -> Made<()>
     requires same_breaks { other.now.breaks ≡ root.old.breaks }
     requires fits { byte_len (text root.old) + byte_len (text other.now) < 2 ^ 63 }
