@@ -3,7 +3,7 @@ ghost use Rattle.std.specs.Prelude.{◌≡◌, ℕ, ◌+◌, ◌<◌, ◌≤◌,
 ghost use Rattle.rope_text.specs.Compare.{blocks, hash_writes};
 ghost use Rattle.rope_part.specs.Part.{text_of};
 
-use rope_cursor::all_chunks;
+use rope_cursor::Pieces;
 use rope_part::Part;
 use std::hash::Hasher;
 
@@ -17,8 +17,10 @@ pub fn feed<H: Hasher>(part: &Part<'_>, state: &mut H)
 {
     let mut block = [0u8; BLOCK_BYTES];
     let mut held = 0;
-    for chunk in all_chunks(part) {
-        held = feed_piece(state, &mut block, held, chunk.as_bytes());
+    let (mut piece, mut pieces) = Pieces::of(part);
+    while !piece.is_empty() {
+        held = feed_piece(state, &mut block, held, piece);
+        piece = pieces.next_piece();
     }
     if held > 0 {
         state.write(&block[..held]);

@@ -13,11 +13,11 @@ ghost use Rattle.rope_tree.specs.Tree.{text, leaf_tree, IsTree};
 use crate::cut::{back, front};
 use crate::gap::{join_sides, put, stands, without};
 use crate::join::join;
-use rope_text::{MAX_BYTES, Steps};
+use rope_text::{MAX_BYTES, MAX_SHORT_BYTES, Steps};
 use rope_tree::build::build;
 use rope_tree::{
-    Builder, Made, Maker, Node, ShortText, Unit, View, char_at, is_lf, leaf_of, place_of,
-    remove_at, total_before,
+    Builder, Made, Maker, Node, ShortText, Unit, View, char_at, insert_at, is_lf, leaf_of,
+    place_of, remove_at, total_before,
 };
 
 /// Whether a CR at the end of the first `end` characters of the one tree meets an LF behind the
@@ -59,7 +59,7 @@ fn join_parts(maker: &mut Maker, left: &Node, end: usize, right: &Node, start: u
 }
 
 /// The text of the one tree and then that of the other.
-pub fn append(maker: &mut Maker, left: &Node, right: &Node) -> Made<Node>
+fn append(maker: &mut Maker, left: &Node, right: &Node) -> Made<Node>
     requires same_breaks { right.now.breaks ≡ left.now.breaks }
     requires fits { byte_len (text left.now) + byte_len (text right.now) < 2 ^ 63 }
     ensures text { IfOk result (λ node. text node ≡ text left.now ++ text right.now) }
@@ -69,6 +69,30 @@ pub fn append(maker: &mut Maker, left: &Node, right: &Node) -> Made<Node>
         ≤ maker.old.made + 16 * max left.now.height right.now.height + 11 }
 {
     join_parts(maker, left, left.info().chars, right, 0)
+}
+
+/// Puts the text of another tree behind that of a tree. A short one that is a leaf goes into the
+/// last leaf where that stands, as an insert does; for any other a tree of both takes the old one's
+/// place last of all.
+pub fn append_to(maker: &mut Maker, root: &mut Node, other: &Node) -> Made<()>
+    requires same_breaks { other.now.breaks ≡ root.old.breaks }
+    requires fits { byte_len (text root.old) + byte_len (text other.now) < 2 ^ 63 }
+    ensures text { OnOk result (text root.new ≡ text root.old ++ text other.now) }
+    ensures breaks { root.new.breaks ≡ root.old.breaks }
+    ensures tree { IsTree root.new }
+    ensures err { OnErr result (root.new ≡ root.old) }
+    ensures made { maker.new.made
+        ≤ maker.old.made + 16 * max root.old.height other.now.height + 11 }
+{
+    let end = root.info().chars;
+    if let View::Leaf(leaf) = other.view()
+        && leaf.len() > 0
+        && leaf.len() <= MAX_SHORT_BYTES
+    {
+        return insert_at(maker, root, end, leaf.as_str());
+    }
+    *root = append(maker, root, other)?;
+    Ok(())
 }
 
 /// A tree without the characters from `start` up to `end`, at least one.

@@ -38,5 +38,9 @@ returns-then-bytes-eq0-clause-ok c =
       ap text c.swap.ensures.x_after ∙ ap (λ r. r.text) c.other.view_is ∙ sym (ap (λ t. t ++ c.args.other.text) none),
     )
 
+-- each tree is a rope
+pub returns-in_err-appended-clause-kept : goal.returns-in_err-appended-clause-kept
+returns-in_err-appended-clause-kept c = (search rules, search rules, rope_of c.append_to-appended.new.root c.append_to-appended.ensures.tree)
+
 pub returns-clause-kept : goal.returns-clause-kept
-returns-clause-kept c = (search rules, search rules, rope_of _ c.in_ok-self-inside.ensures.tree)
+returns-clause-kept c = (search rules, search rules, rope_of c.append_to-appended.new.root c.append_to-appended.ensures.tree)
