@@ -46,6 +46,10 @@ pub fn insert_at(maker: &mut Maker, root: &mut Node, at: usize, added: &str) -> 
     if root.insert_in_place(maker, at, &added, to_right, true, &mut TextInfo::new())? {
         return Ok(());
     }
+    // The first try made the nodes on the way the tree's own.
+    if root.insert_parting(maker, at, &added, to_right)? {
+        return Ok(());
+    }
     let nodes = insert(maker, root, at, &added, to_right)?;
     *root = root_of(maker, nodes)?;
     Ok(())

@@ -198,7 +198,7 @@ impl Children {
         }
         let node = &mut self.nodes[place];
         if !node.insert_in_place(maker, inside, added, to_right, follows, more)? {
-            return self.cut_full_child(maker, at, added, to_right, more);
+            return unchanged();
         }
         self.totals.retotal(place, TextInfo::new(), *more);
         self.last = place as u8;
@@ -234,32 +234,6 @@ impl Children {
         }
         *more = self.total().minus(before);
         Ok(true)
-    }
-
-    /// The same where the child has children of its own, of which it has no room for one more; a leaf is left as it is.
-    #[cold]
-    #[inline(never)]
-    fn cut_full_child(
-        &mut self,
-        maker: &mut Maker,
-        at: usize,
-        added: &ShortText<'_>,
-        to_right: bool,
-        more: &mut TextInfo,
-    ) -> Made<bool>
-        requires children { AreFamily self.old }
-        requires takes { TakesShort (tree_over self.old) at added.now }
-        requires side { MayInsert (tree_over self.old) at added.now to_right }
-        ensures change { IfOk result (λ did. did ≡ true → GrowBy more.new self.old self.new) }
-        ensures made { maker.new.made ≤ maker.old.made + 2 * height_of self.old + 2 }
-        ensures idle { IfOk result (λ did. did ≡ false → maker.new.made ≡ maker.old.made) }
-        ensures tried { IsTried result self.old self.new
-            (AreGrown self.old self.new (inserted (joined self.old) at added.now)) }
-    {
-        if self.height == 1 {
-            return Ok(false);
-        }
-        self.cut_child(maker, at, added, to_right, more)
     }
 
     /// The same, without by how much the counts grew.
@@ -301,6 +275,41 @@ impl Children {
         self.totals.retotal(place, old, front.plus(back.info()));
         self.totals.insert(place, total);
         put_behind(&mut self.nodes[..count + 1], place, back);
+        Ok(true)
+    }
+
+    /// Puts a text before the character `at` of children that have children, where the lowest list that has room takes one child
+    /// more; returns whether it did. So a list without room becomes two, and no node above them is made anew. Nothing is changed
+    /// where none has room, where a node on the way is shared, or where memory is refused.
+    #[cycle(parting)]
+    #[cold]
+    #[inline(never)]
+    fn insert_parting(
+        &mut self,
+        maker: &mut Maker,
+        at: usize,
+        added: &ShortText<'_>,
+        to_right: bool,
+    ) -> Made<bool>
+        requires children { AreFamily self.old }
+        requires takes { TakesShort (tree_over self.old) at added.now }
+        requires side { MayInsert (tree_over self.old) at added.now to_right }
+        ensures made { maker.new.made ≤ maker.old.made + 2 * height_of self.old + 2 }
+        ensures idle { IfOk result (λ did. did ≡ false → maker.new.made ≡ maker.old.made) }
+        ensures tried { IsTried result self.old self.new
+            (AreGrown self.old self.new (inserted (joined self.old) at added.now)) }
+    {
+        if self.height == 1 || !self.totals.has_room_for(added.len()) {
+            return Ok(false);
+        }
+        let (place, inside, _) = self.way_in(at, to_right, false);
+        let node = &mut self.nodes[place];
+        let old = node.info();
+        if !node.insert_parting(maker, inside, added, to_right)? {
+            return self.part_child(maker, at, added, to_right);
+        }
+        let grown = node.info();
+        self.totals.retotal(place, old, grown);
         Ok(true)
     }
 
@@ -396,6 +405,33 @@ impl Node {
                 }
                 None => Ok(false),
             },
+        }
+    }
+
+    /// Puts a text of at most 981 bytes before the character `at`, where a list on the way has room for one child more, and all
+    /// nodes on the way are this tree's own; returns whether it did. Where memory is refused, the tree is as it was.
+    #[cycle(parting)]
+    pub(crate) fn insert_parting(
+        &mut self,
+        maker: &mut Maker,
+        at: usize,
+        added: &ShortText<'_>,
+        to_right: bool,
+    ) -> Made<bool>
+        requires takes { TakesShort self.old at added.now }
+        requires side { MayInsert self.old at added.now to_right }
+        ensures made { maker.new.made ≤ maker.old.made + 2 * self.old.height }
+        ensures idle { IfOk result (λ did. did ≡ false → maker.new.made ≡ maker.old.made) }
+        ensures tree { IsTree self.new }
+        ensures tried { IsTried result self.old self.new
+            (IsInserted self.old (self.new ∷ []) (inserted (text self.old) at added.now)) }
+    {
+        match &mut self.form {
+            Form::Inner(children) => match Rc::get_mut(children) {
+                Some(children) => children.insert_parting(maker, at, added, to_right),
+                None => Ok(false),
+            },
+            _ => Ok(false),
         }
     }
 

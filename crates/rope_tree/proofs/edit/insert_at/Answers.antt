@@ -8,11 +8,11 @@ use Rattle.rope_tree.proofs.InsertTrees.{byte_len-inserted}
 use Rattle.rope_tree.proofs.edit.insert_at.Goals.{In_ok-nodes}
 use Rattle.rope_tree.proofs.edit.insert_at.Goals as goal
 
-kept : (c : In_ok-nodes) → c.insert_in_place.new.self ≡ c.args.root.now
-kept c = c.in_ok-insert_in_place.ensures.tried.kept c.if-branch.false
+kept : (c : In_ok-nodes) → c.insert_parting.new.self ≡ c.args.root.now
+kept c = c.in_ok-insert_parting.ensures.tried.kept c.if-branch-2.false ∙ c.in_ok-insert_in_place.ensures.tried.kept c.if-branch.false
 
-fits : (c : In_ok-nodes) → byte_len (inserted (text c.insert_in_place.new.self) c.args.at c.new-added.result) < 2 ^ 63
-fits c = omega (arith, byte_len-inserted (text c.insert_in_place.new.self) c.args.at c.new-added.result, c.requires.fits, c.new-added.ensures.len, ap (λ t. byte_len (text t)) (kept c))
+fits : (c : In_ok-nodes) → byte_len (inserted (text c.insert_parting.new.self) c.args.at c.new-added.result) < 2 ^ 63
+fits c = omega (arith, byte_len-inserted (text c.insert_parting.new.self) c.args.at c.new-added.result, c.requires.fits, c.new-added.ensures.len, ap (λ t. byte_len (text t)) (kept c))
 
 pub root_of-requires : goal.root_of-requires
 root_of-requires c = root_children _ _ _ c.in_ok-nodes.ensures.ok (fits (goal.at.root_of-requires c).In_ok-nodes)

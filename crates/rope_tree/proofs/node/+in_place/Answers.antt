@@ -1,14 +1,11 @@
-use Rattle.std.proofs.Common.{◌≡◌, ℕ, ◌+◌, ◌*◌, ◌≤◌, List, true, [], ◌∷◌, length, take, get_or, set, ap, sym, subst, refl, ◌∙◌, arith}
-use Rattle.std.proofs.lemmas.List.{set-get_or}
+use Rattle.std.proofs.Common.{◌≡◌, ℕ, true, [], ◌∷◌, get_or, ap, sym, subst, refl, ◌∙◌, arith}
 use Rattle.std.proofs.lemmas.Result.{IfOk-weaker}
 use Rattle.rope_text.specs.Edit.{inserted}
 use Rattle.rope_tree.specs.declared.node.Form.{Form}
 use Rattle.rope_tree.specs.declared.node.Node.TheInside.{Inside}
-use Rattle.rope_tree.specs.declared.node.Children.TheInside.{Inside as Fields}
-use Rattle.rope_tree.specs.Listed.{listed}
 use Rattle.rope_tree.specs.Shape.{IsLeafNode, IsForm, IsNode}
 use Rattle.rope_tree.specs.Falls.{tallest_below}
-use Rattle.rope_tree.specs.Tree.{Tree, text, joined, breaks_of, height_of, tree_over}
+use Rattle.rope_tree.specs.Tree.{text, joined, breaks_of, height_of, tree_over}
 use Rattle.rope_text.specs.TextInfo.{info_of}
 use Rattle.rope_tree.specs.Change.{IsChange, no_counts}
 use Rattle.rope_tree.specs.Insert.{TakesShort, MayInsert, IsInserted}
@@ -18,7 +15,7 @@ use Rattle.rope_tree.proofs.GrownLaws.{tallest_above}
 use Rattle.rope_tree.proofs.FormLaws.{inner_of, inner_seen, leaf_seen, node_tree, grown_leaf, by_answer, by_outcome, not_tried, tried_in, still_children, grown_children, grown_node}
 use Rattle.rope_tree.proofs.ListedLaws.{seen_at}
 use Rattle.rope_tree.proofs.ChangeLaws.{change_from, change_seen}
-use Rattle.rope_tree.proofs.ChildLaws.{Finds, read, child_fits, may, change_part, change_narrow, fields_changed, all_changed, list_changed}
+use Rattle.rope_tree.proofs.ChildLaws.{if_idle, Finds, read, child_fits, may, change_part, change_narrow, fields_changed, all_changed, list_changed}
 use Rattle.rope_tree.proofs.node.+in_place.Goals.{Children::insert_in_place-After-index-self-place-2, Node::insert_in_place-Joined-self, Node::insert_in_place-in-Empty, Node::insert_in_place-in-Leaf+in-Some, Node::insert_in_place-in-Leaf+in-None, Node::insert_in_place-in-Inner+in-Some-get_mut, Node::insert_in_place-in-Inner+in-None-get_mut}
 use Rattle.rope_tree.proofs.node.+in_place.Goals as goal
 
@@ -201,17 +198,13 @@ Node::insert_in_place-returns-clause-change t c =
       | Node::insert_in_place-in-Inner+in-None-get_mut w ↦ rw w.result-is (λ no. cc)
     ]
 
--- the bound by the height of the children, where the one that was tried is as it was
-bound_from : (a : Fields) (ts : List Tree) (k : ℕ) (d u : Tree) (after before : ℕ) → after ≤ before + 2 * height_of (listed (record { height = a.height; breaks = a.breaks; last = a.last; totals = a.totals; nodes = set a.nodes k u })) + 2
-    → u ≡ get_or a.nodes k d → listed a ≡ ts → after ≤ before + 2 * height_of ts + 2
-bound_from a ts k d u after before le is view =
-    let same : set a.nodes k u ≡ a.nodes = ap (λ x. set a.nodes k x) is ∙ set-get_or a.nodes k d in
-    rw (sym view, sym (ap (take (length a.totals)) same)) le
-
 pub Children::insert_in_place-returns-then-not-branch-clause-made :
     goal.Children::insert_in_place-returns-then-not-branch-clause-made
 Children::insert_in_place-returns-then-not-branch-clause-made t c =
-    let f = found t (goal.at.Children::insert_in_place-returns-then-not-branch-clause-made t c).After-index-self-place-2 in
-    let made = bound_from c.self.inside c.args.self.now c.in-Some.place c.index-self-place-2.result c.insert_in_place.new.self c.cut_full_child.new.maker.made c.insert_in_place.new.maker.made c.cut_full_child.ensures.made
-        (c.in_ok-insert_in_place.ensures.tried.kept c.if-not-branch.true) c.self.view_is in
-    omega (arith, c.in_ok-insert_in_place.ensures.idle c.if-not-branch.true, f.taken.own.at_height, made)
+    omega (arith, c.insert_in_place.ensures.made, (found t (goal.at.Children::insert_in_place-returns-then-not-branch-clause-made t c).After-index-self-place-2).taken.own.at_height)
+
+pub Children::insert_in_place-returns-then-not-branch-clause-idle :
+    goal.Children::insert_in_place-returns-then-not-branch-clause-idle
+Children::insert_in_place-returns-then-not-branch-clause-idle t c =
+    let f = found t (goal.at.Children::insert_in_place-returns-then-not-branch-clause-idle t c).After-index-self-place-2 in
+    if_idle _ (omega (arith, c.in_ok-insert_in_place.ensures.idle c.if-not-branch.true, f.taken.own.at_height))

@@ -1,0 +1,123 @@
+use Rattle.std.proofs.Common.{ℕ, get_or, sym, refl, arith}
+use Rattle.rope_tree.specs.Shape.{IsNode}
+use Rattle.rope_tree.specs.Tree.{Tree, breaks_of, tree_over}
+use Rattle.rope_tree.proofs.Infos.{small_below}
+use Rattle.rope_tree.proofs.NodeLaws.{small_totals}
+use Rattle.rope_tree.proofs.InsertDescents.{takes}
+use Rattle.rope_tree.proofs.GrownLaws.{tallest_above}
+use Rattle.rope_tree.proofs.FormLaws.{inner_of, inner_seen, node_tree, by_outcome, not_tried, tried_in, still_children, grown_children, grown_node}
+use Rattle.rope_tree.proofs.ListedLaws.{seen_at}
+use Rattle.rope_tree.proofs.ChildLaws.{Finds, read, part, child_fits, may, small, still_narrow, fields_after, all_grown}
+use Rattle.rope_tree.proofs.node.+parting.Goals.{Children::insert_parting-After-info-old, Node::insert_parting-Joined-self, Node::insert_parting-in-Inner+in-Some, Node::insert_parting-in-Inner+in-None, Node::insert_parting-in_default}
+use Rattle.rope_tree.proofs.node.+parting.Goals as goal
+
+-- the child that takes the text
+abbrev child : (t : ℕ) → Children::insert_parting-After-info-old t → Tree
+child t c = get_or c.self.inside.nodes c.way_in-place.result.0 c.index-self-place.result
+
+found : (t : ℕ) (c : Children::insert_parting-After-info-old t) → Finds c.self.inside c.args.self.now c.way_in-place.result.0 (child t c) c.args.at c.way_in-place.result.1 c.args.to_right
+found t c = record {
+  view = c.self.view_is;
+  fields = c.self.invariant;
+  taken = takes c.args.self.now c.way_in-place.result.0 (child t c) c.args.at c.way_in-place.result.1 c.args.to_right
+      c.requires.children c.way_in-place.ensures.child (seen_at c.self.inside c.args.self.now c.way_in-place.result.0 c.index-self-place.result c.self.view_is c.way_in-place.ensures.child)
+      c.way_in-place.ensures.place c.way_in-place.ensures.goes;
+}
+
+pub Children::insert_parting-insert_parting-requires :
+    goal.Children::insert_parting-insert_parting-requires
+Children::insert_parting-insert_parting-requires t c =
+    let f = found t (goal.at.Children::insert_parting-insert_parting-requires t c).After-info-old in
+    let low = rw f.taken.child_is at (tallest_above c.args.self.now c.way_in-place.result.0 (child t (goal.at.Children::insert_parting-insert_parting-requires t c).After-info-old) f.taken.within) in
+    let fits = child_fits _ _ _ _ _ _ _ f c.args.added.now c.requires.takes.some c.requires.side c.requires.takes.fits in
+    let side = may _ _ _ _ _ _ _ f c.args.added.now c.requires.takes.some c.requires.side c.requires.takes.fits in
+    (omega (arith, c.decreases, low), (record { within = f.taken.goes.within; some = c.requires.takes.some; short = c.requires.takes.short; fits = fits }, side))
+
+pub Children::insert_parting-returns-in_err-insert_parting-clause-made :
+    goal.Children::insert_parting-returns-in_err-insert_parting-clause-made
+Children::insert_parting-returns-in_err-insert_parting-clause-made t c =
+    omega (arith, c.insert_parting.ensures.made, (found t (goal.at.Children::insert_parting-returns-in_err-insert_parting-clause-made t c).After-info-old).taken.own.at_height)
+
+pub Children::insert_parting-retotal-requires-clause-small :
+    goal.Children::insert_parting-retotal-requires-clause-small
+Children::insert_parting-retotal-requires-clause-small t c =
+    let f = found t (goal.at.Children::insert_parting-retotal-requires-clause-small t c).After-info-old in
+    small_totals (breaks_of c.args.self.now) c.self.inside.totals c.args.self.now (read _ _ _ _ _ _ _ f c.self.inside.totals refl) c.requires.children.fits
+
+pub Children::insert_parting-retotal-requires-clause-part :
+    goal.Children::insert_parting-retotal-requires-clause-part
+Children::insert_parting-retotal-requires-clause-part t c =
+    part _ _ _ _ _ _ _ (found t (goal.at.Children::insert_parting-retotal-requires-clause-part t c).After-info-old) c.self.inside.totals refl c.info-old.result c.info-old.ensures.value
+
+pub Children::insert_parting-retotal-requires-clause-new :
+    goal.Children::insert_parting-retotal-requires-clause-new
+Children::insert_parting-retotal-requires-clause-new t c =
+    small_below c.info-grown.result
+    (small _ _ _ _ _ _ _ (found t (goal.at.Children::insert_parting-retotal-requires-clause-new t c).After-info-old) c.args.added.now c.requires.takes.some c.requires.side c.requires.takes.fits
+    c.insert_parting.new.self (c.in_ok-insert_parting.ensures.tried.done c.if-not-branch.false) c.info-grown.result c.info-grown.ensures.value)
+
+pub Children::insert_parting-retotal-requires-clause-fits :
+    goal.Children::insert_parting-retotal-requires-clause-fits
+Children::insert_parting-retotal-requires-clause-fits t c =
+    still_narrow _ _ _ _ _ _ _ (found t (goal.at.Children::insert_parting-retotal-requires-clause-fits t c).After-info-old) c.args.added.now c.requires.takes.some c.requires.side c.requires.takes.fits
+    c.insert_parting.new.self (c.in_ok-insert_parting.ensures.tried.done c.if-not-branch.false)
+    c.self.inside.totals refl (rw c.len.ensures.value at c.has_room_for.ensures c.if-not-has_room_for.false) c.info-old.result c.info-grown.result c.info-old.ensures.value c.info-grown.ensures.value
+
+pub Children::insert_parting-invariant_of-self-2 :
+    goal.Children::insert_parting-invariant_of-self-2
+Children::insert_parting-invariant_of-self-2 t c =
+    fields_after _ _ _ _ _ _ _ (found t (goal.at.Children::insert_parting-invariant_of-self-2 t c).After-info-old) c.args.added.now c.requires.takes.some c.requires.side c.requires.takes.fits
+    c.insert_parting.new.self (c.in_ok-insert_parting.ensures.tried.done c.if-not-branch.false)
+    _ refl refl refl c.self.inside.totals c.retotal.new.self c.info-old.result c.info-grown.result refl c.info-old.ensures.value c.info-grown.ensures.value c.retotal.ensures.len c.retotal.ensures.before c.retotal.ensures.after refl
+
+pub Children::insert_parting-returns-clause-made :
+    goal.Children::insert_parting-returns-clause-made
+Children::insert_parting-returns-clause-made t c =
+    omega (arith, c.insert_parting.ensures.made, (found t (goal.at.Children::insert_parting-returns-clause-made t c).After-info-old).taken.own.at_height)
+
+pub Children::insert_parting-returns-clause-tried :
+    goal.Children::insert_parting-returns-clause-tried
+Children::insert_parting-returns-clause-tried t c = record {
+  done = λ yes.
+      all_grown _ _ _ _ _ _ _ (found t (goal.at.Children::insert_parting-returns-clause-tried t c).After-info-old) c.args.added.now c.requires.takes.some c.requires.side c.requires.takes.fits
+      c.insert_parting.new.self (c.in_ok-insert_parting.ensures.tried.done c.if-not-branch.false)
+      (record { height = _; breaks = _; last = c.self.inside.last; totals = _; nodes = _ }) refl refl refl c.self.inside.totals c.retotal.new.self c.info-old.result c.info-grown.result refl c.info-old.ensures.value c.info-grown.ensures.value c.retotal.ensures.len c.retotal.ensures.before c.retotal.ensures.after refl;
+  kept = λ no. cc;
+  err = tt;
+}
+
+-- what the node is then
+ended : (t : ℕ) (c : Node::insert_parting-Joined-self t) → IsNode c.match-self.self-inside
+ended t c =
+    elim c.match-self.branch [
+      | Node::insert_parting-in-Inner+in-Some w ↦
+          let did = w.insert_parting in
+          let ts = w.in-Some.children.now in
+          let us = did.new.self in
+          let i = inner_seen c.self.inside c.args.self.now w.in-Inner.children ts c.self.invariant w.in-Inner.is c.self.view_is w.in-Some.ensures.value in
+          rw w.self-inside-is (record {
+            form = by_outcome did.result ts us did.ensures.tried (grown_children c.args.self.now ts us c.args.at c.args.added.now i) (still_children c.args.self.now ts us i);
+          })
+      | Node::insert_parting-in-Inner+in-None w ↦
+          rw w.self-inside-is (record { form = (inner_of c.self.inside c.args.self.now w.in-Inner.children c.self.invariant w.in-Inner.is c.self.view_is).children })
+      | Node::insert_parting-in_default w ↦ rw w.self-inside-is c.self.invariant
+    ]
+
+pub Node::insert_parting-invariant_of-self : goal.Node::insert_parting-invariant_of-self
+Node::insert_parting-invariant_of-self t c = ended t (goal.at.Node::insert_parting-invariant_of-self t c).Joined-self
+
+pub Node::insert_parting-returns-clause-tree : goal.Node::insert_parting-returns-clause-tree
+Node::insert_parting-returns-clause-tree t c = node_tree _ _ (ended t (goal.at.Node::insert_parting-returns-clause-tree t c).Joined-self) refl
+
+pub Node::insert_parting-returns-clause-tried : goal.Node::insert_parting-returns-clause-tried
+Node::insert_parting-returns-clause-tried t c =
+    elim c.match-self.branch [
+      | Node::insert_parting-in-Inner+in-Some w ↦
+          let did = w.insert_parting in
+          let ts = w.in-Some.children.now in
+          let us = did.new.self in
+          let i = inner_seen c.self.inside c.args.self.now w.in-Inner.children ts c.self.invariant w.in-Inner.is c.self.view_is w.in-Some.ensures.value in
+          rw (w.result-is, w.self-inside-is) (tried_in did.result tree_over ts us c.args.self.now (tree_over us) i.is refl (grown_node c.args.self.now ts us c.args.at c.args.added.now i) did.ensures.tried)
+      | Node::insert_parting-in-Inner+in-None w ↦ rw (w.result-is, w.self-inside-is) (not_tried c.args.self.now _ (sym (inner_of c.self.inside c.args.self.now w.in-Inner.children c.self.invariant w.in-Inner.is c.self.view_is).is))
+      | Node::insert_parting-in_default w ↦ rw (w.result-is, w.self-inside-is) (not_tried c.args.self.now _ c.self.view_is)
+    ]
