@@ -171,7 +171,8 @@ static void make(pair *p) {
         bytes[below(len)] = 0xFF;
     }
     text.break_set = set;
-    ropey_status status = CALL(ropey_from_text(len == 0 && below(2) ? NULL : bytes, len, set, &p->rope));
+    bool is_known = !broken && below(2);
+    ropey_status status = CALL((is_known ? ropey_from_text_unchecked : ropey_from_text)(len == 0 && below(2) ? NULL : bytes, len, set, &p->rope));
     ropey_status wanted = set > ROPEY_UNICODE ? ROPEY_UNKNOWN_BREAK_SET : broken ? ROPEY_INVALID_UTF8 : ROPEY_OK;
     free(bytes);
     if (status == ROPEY_OK && wanted == ROPEY_OK) {
@@ -469,6 +470,36 @@ static void pieces(pair *p) {
     CHECK(count <= room && (count == room || at == len));
 }
 
+/* Chunks from a byte, a character or a line break on, with all that lies before them: they are those of the look-up of one. */
+static void chunks_at(pair *p) {
+    typedef ropey_status one(const ropey_rope *, size_t, ropey_chunk *);
+    typedef ropey_status some(const ropey_rope *, size_t, ropey_piece *, size_t, size_t *, size_t *, size_t *, size_t *);
+    one *const ones[] = {ropey_chunk_at_byte, ropey_chunk_at_char, ropey_chunk_at_line_break};
+    some *const alls[] = {ropey_chunks_at_byte, ropey_chunks_at_char, ropey_chunks_at_line_break};
+    const model *m = &p->text;
+    ropey_counts all = counts_of(m);
+    size_t unit = below(3), len = unit == 0 ? all.bytes : unit == 1 ? m->len : all.line_breaks + 1, i = below(4) == 0 ? len : below(len + 2);
+    size_t room = below(PIECES), count = 77, bytes = 77, chars = 77, line_breaks = 77;
+    ropey_piece found[PIECES];
+    memset(found, 0, sizeof found);
+    ropey_chunk first = ROPEY_NO_CHUNK;
+    ropey_status wanted = ones[unit](&p->rope, i, &first);
+    CHECK(alls[unit](&p->rope, i, room == 0 ? NULL : found, room, &count, &bytes, &chars, &line_breaks) == wanted);
+    if (wanted != ROPEY_OK) {
+        CHECK(count == 77 && bytes == 77 && chars == 77 && line_breaks == 77 && found[0].text == NULL);
+        return;
+    }
+    ropey_chunk end = {first.text, 0, all.bytes, m->len, all.line_breaks};
+    first = i == len ? end : first;
+    CHECK(bytes == first.bytes_before && chars == first.chars_before && line_breaks == first.line_breaks_before);
+    CHECK(count == 0 || (found[0].text == first.text && found[0].len == first.len));
+    for (size_t k = 0; k < count; k++) {
+        CHECK(found[k].len > 0 && memcmp(found[k].text, p->bytes + bytes, found[k].len) == 0);
+        bytes += found[k].len;
+    }
+    CHECK(count <= room && (count == room || bytes == all.bytes));
+}
+
 static void line(pair *p) {
     const model *m = &p->text;
     size_t lines = counts_of(m).line_breaks + 1, l = below(lines + 1), room = below(PIECES), count = 77;
@@ -671,7 +702,7 @@ static void step(int k, pair *p, pair *q) {
     case 10: place(p); break;
     case 11: item(p); break;
     case 12: chunk(p); break;
-    case 13: pieces(p); break;
+    case 13: below(2) ? pieces(p) : chunks_at(p); break;
     case 14: line(p); break;
     case 15: range(p); break;
     case 16: compare(p, q); break;

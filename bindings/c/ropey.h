@@ -22,7 +22,7 @@
  * break of the rope's set. A text has one line more than it has line breaks, and its last line may be empty.
  *
  * Refusals. A call answers ROPEY_OK, or the first reason for which it was refused, in the order in which its comment gives
- * them. No index, text or number can make a call do anything else. A refused call leaves every rope as it was and writes
+ * them. No index, text or number can make a call do anything else, but for ropey_from_text_unchecked. A refused call leaves every rope as it was and writes
  * nothing, but where its comment says so. A call on a handle that holds no rope answers ROPEY_NO_ROPE_HELD.
  *
  * Edits are the calls that take a `ropey_rope *` which holds a rope; look-ups are those that take a `const ropey_rope *`.
@@ -167,6 +167,10 @@ typedef struct {
  * Refused: UNKNOWN_BREAK_SET, INVALID_UTF8, OUT_OF_MEMORY. */
 ropey_status ropey_from_text(const uint8_t *text, size_t len, uint32_t break_set, ropey_rope *rope);
 
+/* The same of a text that is known to be UTF-8, which is not read to find out. This alone of all calls has a condition: where the
+ * bytes are no UTF-8, it makes no rope, and later calls may do anything. Refused: UNKNOWN_BREAK_SET, OUT_OF_MEMORY. */
+ropey_status ropey_from_text_unchecked(const uint8_t *text, size_t len, uint32_t break_set, ropey_rope *rope);
+
 /* Frees the rope, if there is one. Afterwards the handle holds none. */
 void ropey_free(ropey_rope *rope);
 
@@ -284,6 +288,17 @@ ropey_status ropey_chunk_at_line_break(const ropey_rope *rope, size_t line_idx, 
  * the last piece. One look-up, and then a step a chunk. Refused: NO_ROPE_HELD, BYTE_INDEX_OUT_OF_BOUNDS. */
 ropey_status ropey_chunks_from_byte(const ropey_rope *rope, size_t byte_idx, ropey_piece *pieces, size_t room,
     size_t *count, size_t *bytes_before);
+
+/* The chunks from one on, as far as there is room, and how many bytes, characters and line breaks of the text lie before the
+ * first of them: from the chunk that holds a byte or a character, or the line break before a line, for the first line from the
+ * first chunk. For the length, or the number of lines, there are none, and all of the text lies before.
+ * Refused: NO_ROPE_HELD, and the index's OUT_OF_BOUNDS where it is past the length. */
+ropey_status ropey_chunks_at_byte(const ropey_rope *rope, size_t byte_idx, ropey_piece *pieces, size_t room, size_t *count,
+    size_t *bytes_before, size_t *chars_before, size_t *line_breaks_before);
+ropey_status ropey_chunks_at_char(const ropey_rope *rope, size_t char_idx, ropey_piece *pieces, size_t room, size_t *count,
+    size_t *bytes_before, size_t *chars_before, size_t *line_breaks_before);
+ropey_status ropey_chunks_at_line_break(const ropey_rope *rope, size_t line_idx, ropey_piece *pieces, size_t room,
+    size_t *count, size_t *bytes_before, size_t *chars_before, size_t *line_breaks_before);
 
 /* The chunks before the one that holds a byte, the nearest first, as far as there is room: their number is written to
  * count, and how many bytes lie before the chunk that holds the byte to bytes_before. At the end of the text the last chunk

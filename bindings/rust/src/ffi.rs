@@ -13,6 +13,7 @@
 use std::alloc::{handle_alloc_error, Layout};
 use std::ffi::c_void;
 use std::marker::PhantomData;
+use std::mem::MaybeUninit;
 use std::ptr;
 
 /// `ropey_rope`.
@@ -54,6 +55,13 @@ struct Piece {
 }
 
 const NO_PIECE: Piece = Piece { text: "".as_ptr(), len: 0 };
+
+impl Piece {
+    #[inline(always)]
+    fn of(text: &str) -> Piece {
+        Piece { text: text.as_ptr(), len: text.len() }
+    }
+}
 
 /// `ropey_counts`: how much a text holds.
 #[repr(C)]
@@ -101,6 +109,7 @@ const BREAK_SET: u32 = match (cfg!(feature = "cr_lines"), cfg!(feature = "unicod
 // Those that are alike are declared where they are called.
 extern "C" {
     fn ropey_from_text(text: *const u8, len: usize, break_set: u32, rope: *mut Handle) -> u32;
+    fn ropey_from_text_unchecked(text: *const u8, len: usize, break_set: u32, rope: *mut Handle) -> u32;
     fn ropey_free(rope: *mut Handle);
     fn ropey_clone(rope: *const Handle, copy: *mut Handle) -> u32;
     fn ropey_shrink_to_fit(rope: *mut Handle) -> u32;
@@ -202,7 +211,10 @@ impl Clone for Root {
 /// Edits answer whether the index or range was in range. Out of memory, they end as those of a `Vec` do.
 impl Root {
     pub(crate) fn of_text(text: &str) -> Root {
-        Root::of_bytes(text.as_bytes()).expect("a text is UTF-8")
+        let mut root = Root(NONE);
+        // Safety: a `&str` is UTF-8.
+        must(unsafe { ropey_from_text_unchecked(text.as_ptr(), text.len(), BREAK_SET, &mut root.0) });
+        root
     }
 
     /// A rope of the bytes; none where they are not UTF-8.
@@ -358,78 +370,140 @@ impl Root {
 
 /// Calls that write a list from an index on.
 macro_rules! lists {
-    ($($call:ident: $item:ty $(, $last:ident)?;)*) => {
+    ($($call:ident: $item:ty $(, $last:ident)*;)*) => {
         extern "C" {
-            $(fn $call(rope: *const Handle, i: usize, list: *mut $item, room: usize, count: *mut usize $(, $last: *mut usize)?) -> u32;)*
+            $(fn $call(rope: *const Handle, i: usize, list: *mut $item, room: usize, count: *mut usize $(, $last: *mut usize)*) -> u32;)*
         }
     };
 }
 
 lists! {
-    ropey_chunks_from_byte: Piece, bytes_before;
+    ropey_chunks_at_byte: Piece, bytes, chars, line_breaks;
+    ropey_chunks_at_char: Piece, bytes, chars, line_breaks;
+    ropey_chunks_at_line_break: Piece, bytes, chars, line_breaks;
     ropey_chunks_before_byte: Piece, bytes_before;
     ropey_lines_from: RawSlice;
     ropey_lines_before: RawSlice;
 }
 
-/// Has the library write as much of a list as there is room for.
-fn fill<T: Copy>(list: &mut Vec<T>, none: T, room: usize, call: impl FnOnce(*mut T, *mut usize) -> u32) {
+/// Has the library write as much of a list as there is room for. It reads nothing of what the list held.
+#[inline(always)]
+fn fill<T>(list: &mut Vec<T>, room: usize, call: impl FnOnce(*mut T, usize, *mut usize) -> u32) {
     let mut count = 0;
-    *list = vec![none; room];
-    must(call(list.as_mut_ptr(), &mut count));
-    list.truncate(count);
+    list.clear();
+    list.reserve_exact(room);
+    must(call(list.as_mut_ptr(), room, &mut count));
+    // Safety: the library wrote so many, for which there is room.
+    unsafe { list.set_len(count) };
 }
 
-/// Some pieces of a rope that lie one after another.
+/// How many pieces take no memory of their own.
+pub(crate) const FEW_PIECES: usize = 3;
+
+/// Some pieces of a rope that lie one after another: the first `len` of a few, or a list of more. The next time it is given
+/// at most `room`.
 pub(crate) struct Pieces<'a> {
+    few: [MaybeUninit<Piece>; FEW_PIECES],
+    len: usize,
     list: Vec<Piece>,
+    pub room: usize,
     text: PhantomData<&'a str>,
 }
 
 impl<'a> Pieces<'a> {
     #[inline]
     pub(crate) fn new() -> Pieces<'a> {
-        Pieces { list: Vec::new(), text: PhantomData }
+        let few = [MaybeUninit::uninit(); FEW_PIECES];
+        Pieces { few, len: 0, list: Vec::new(), room: FEW_PIECES, text: PhantomData }
+    }
+
+    #[inline]
+    pub(crate) fn of(text: &'a str) -> Pieces<'a> {
+        let mut pieces = Pieces::new();
+        pieces.few[0].write(Piece::of(text));
+        pieces.len = 1;
+        pieces
+    }
+
+    /// The same, where they are a few, and else none.
+    #[inline]
+    pub(crate) fn few(&self) -> Pieces<'a> {
+        Pieces { list: Vec::new(), room: FEW_PIECES, ..*self }
     }
 
     #[inline]
     pub(crate) fn len(&self) -> usize {
-        self.list.len()
+        self.len + self.list.len()
     }
 
     #[inline]
     pub(crate) fn get(&self, i: usize) -> Option<&'a str> {
-        // Safety: the piece was written by `set`, or by the library as a part of a rope that is borrowed for `'a`.
-        self.list.get(i).map(|piece| unsafe { text_at(*piece) })
+        // Safety: the piece was written by `of` or `set`, or by the library as a part of a rope that is borrowed for `'a`.
+        unsafe {
+            let piece = if i < self.len { self.few.get(i)?.assume_init() } else { *self.list.get(i)? };
+            Some(text_at(piece))
+        }
     }
 
     /// Puts a text in the place of the piece `i`.
     #[inline]
     pub(crate) fn set(&mut self, i: usize, text: &'a str) {
-        self.list[i] = Piece { text: text.as_ptr(), len: text.len() };
+        if i < self.len {
+            self.few[i].write(Piece::of(text));
+        } else {
+            self.list[i] = Piece::of(text);
+        }
     }
 
-    /// The chunks from the one that holds a byte on, at most `room` of them, and where the first of them begins. The index
-    /// is at most the length.
-    pub(crate) fn fetch(&mut self, root: &'a Root, byte_idx: usize, room: usize) -> usize {
-        let mut before = 0;
-        fill(&mut self.list, NO_PIECE, room, |pieces, count| unsafe {
-            ropey_chunks_from_byte(&root.0, byte_idx, pieces, room, count, &mut before)
-        });
-        before
+    #[inline(always)]
+    fn fill(&mut self, call: impl FnOnce(*mut Piece, usize, *mut usize) -> u32) {
+        self.list.clear();
+        self.len = 0;
+        if self.room <= FEW_PIECES {
+            must(call(self.few.as_mut_ptr().cast(), self.room, &mut self.len));
+        } else {
+            fill(&mut self.list, self.room, call);
+        }
     }
 
-    /// The chunks before the one that holds a byte, at most `room` of them, and where the last of them ends. The index is
-    /// at most the length.
-    pub(crate) fn fetch_before(&mut self, root: &'a Root, byte_idx: usize, room: usize) -> usize {
+    /// The chunks before the one that holds a byte, and where the last of them ends. The index is at most the length.
+    pub(crate) fn fetch_before(&mut self, root: &'a Root, byte_idx: usize) -> usize {
         let mut end = 0;
-        fill(&mut self.list, NO_PIECE, room, |pieces, count| unsafe {
-            ropey_chunks_before_byte(&root.0, byte_idx, pieces, room, count, &mut end)
+        self.fill(|list, room, count| unsafe {
+            ropey_chunks_before_byte(&root.0, byte_idx, list, room, count, &mut end)
         });
         // The nearest comes first.
-        self.list.reverse();
+        if self.list.is_empty() {
+            self.few[..self.len].reverse();
+        } else {
+            self.list.reverse();
+        }
         end
     }
+}
+
+/// Look-ups of the chunks from a place on, with the bytes, characters and line breaks before them. The index is in bounds.
+macro_rules! chunks_at {
+    ($($name:ident: $call:ident;)*) => {
+        impl<'a> Pieces<'a> {
+            $(
+                #[inline]
+                pub(crate) fn $name(&mut self, root: &'a Root, index: usize) -> (usize, usize, usize) {
+                    let (mut bytes, mut chars, mut breaks) = (0, 0, 0);
+                    self.fill(|list, room, count| unsafe {
+                        $call(&root.0, index, list, room, count, &mut bytes, &mut chars, &mut breaks)
+                    });
+                    (bytes, chars, breaks)
+                }
+            )*
+        }
+    };
+}
+
+chunks_at! {
+    fetch_at_byte: ropey_chunks_at_byte;
+    fetch_at_char: ropey_chunks_at_char;
+    fetch_at_line_break: ropey_chunks_at_line_break;
 }
 
 /// Some lines of a rope, from the line `first` on, or from it back.
@@ -476,7 +550,7 @@ impl<'a> Window<'a> {
         // Few for a cursor that has turned, as it may turn again; and no few are left for another time.
         let room = if is_back == self.is_back { self.room } else { FEW_LINES };
         let room = if left <= 2 * room { left } else { room };
-        fill(&mut self.list, NO_SLICE, room, |lines, count| unsafe {
+        fill(&mut self.list, room, |lines, room, count| unsafe {
             if is_back {
                 ropey_lines_before(&root.0, line_idx + 1, lines, room, count)
             } else {
@@ -495,14 +569,15 @@ const MOST_LINES: usize = 64;
 
 /// Conversions in a text, by the set of line breaks where it is given. An index past the end stands for the end.
 macro_rules! text_conversions {
-    ($($name:ident: $call:ident($($break_set:ident: $set:ty)?);)*) => {
+    ($($(#[$doc:meta])* $name:ident: $call:ident($($break_set:ident: $set:ty)?);)*) => {
         extern "C" {
             $(fn $call(text: *const u8, len: usize, $(break_set: $set,)? index: usize, answer: *mut usize) -> u32;)*
         }
 
         $(
+            $(#[$doc])*
             #[inline]
-            pub(crate) fn $name(text: &str, index: usize) -> usize {
+            pub fn $name(text: &str, index: usize) -> usize {
                 let mut answer = 0;
                 must(unsafe { $call(text.as_ptr(), text.len(), $($break_set,)? index, &mut answer) });
                 answer
@@ -512,13 +587,21 @@ macro_rules! text_conversions {
 }
 
 text_conversions! {
+    /// The character that holds a byte.
     byte_to_char: ropey_text_byte_to_char();
+    /// The byte at which a character starts.
     char_to_byte: ropey_text_char_to_byte();
+    /// The code unit at which a character starts.
     char_to_utf16: ropey_text_char_to_utf16();
+    /// The character that holds a code unit.
     utf16_to_char: ropey_text_utf16_to_char();
+    /// The line on which a byte lies.
     byte_to_line: ropey_text_byte_to_line(BREAK_SET: u32);
+    /// The line on which a character lies.
     char_to_line: ropey_text_char_to_line(BREAK_SET: u32);
+    /// The byte at which a line starts.
     line_to_byte: ropey_text_line_to_byte(BREAK_SET: u32);
+    /// The character at which a line starts.
     line_to_char: ropey_text_line_to_char(BREAK_SET: u32);
 }
 

@@ -285,18 +285,6 @@ impl Rope {
         get_chunks_at_line_break(line_break_idx) -> ChunksAt<'_> [part().get_chunks_at_line_break];
     }
 
-    /// A slice of a range of characters; none where it is not in range.
-    #[inline]
-    pub fn get_slice<R: RangeBounds<usize>>(&self, char_range: R) -> Option<RopeSlice<'_>> {
-        self.slice_chars(Bounds::of(&char_range)).ok()
-    }
-
-    /// A slice of a range of bytes; none where it is not in range, or one of its bounds lies inside a character.
-    #[inline]
-    pub fn get_byte_slice<R: RangeBounds<usize>>(&self, byte_range: R) -> Option<RopeSlice<'_>> {
-        self.slice_bytes(Bounds::of(&byte_range)).ok()
-    }
-
     /// A cursor over the chunks.
     #[inline]
     pub fn chunks(&self) -> Chunks<'_> {

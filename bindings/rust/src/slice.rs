@@ -2,7 +2,7 @@
 use std::ops::RangeBounds;
 
 use crate::calls::panicking_calls;
-use crate::ffi::{self, ChunkAt, Counts, Lent, Root};
+use crate::ffi::{self, ChunkAt, Counts, Lent, Pieces, Root};
 use crate::iter::{Bytes, Chars, Chunks, Lines};
 use crate::range::Bounds;
 use crate::str_utils::first_line;
@@ -296,35 +296,38 @@ impl<'a> RopeSlice<'a> {
 
     /// The chunk that holds a byte, or the last chunk for the length; none where the index is past that.
     pub(crate) fn get_chunk_at_byte(&self, byte_idx: usize) -> Option<ChunkAt<'a>> {
-        let is_inside = byte_idx <= self.counts.bytes;
-        is_inside
-            .then(|| self.chunk_by(|root, start| root.chunk_at_byte(start.bytes + byte_idx.min(self.counts.bytes - 1))))
+        let last = self.counts.bytes.wrapping_sub(1);
+        self.chunk_by(byte_idx, self.counts.bytes, |root, start| root.chunk_at_byte(start.bytes + byte_idx.min(last)))
     }
 
     /// The chunk that holds a character, or the last chunk for the length; none where the index is past that.
     pub fn get_chunk_at_char(&self, char_idx: usize) -> Option<ChunkAt<'a>> {
-        let is_inside = char_idx <= self.counts.chars;
-        is_inside
-            .then(|| self.chunk_by(|root, start| root.chunk_at_char(start.chars + char_idx.min(self.counts.chars - 1))))
+        let last = self.counts.chars.wrapping_sub(1);
+        self.chunk_by(char_idx, self.counts.chars, |root, start| root.chunk_at_char(start.chars + char_idx.min(last)))
     }
 
     /// The chunk that holds the line break before a line: the first chunk for the first line, the last chunk for the
     /// number of lines; none where the index is past that.
     pub fn get_chunk_at_line_break(&self, line_break_idx: usize) -> Option<ChunkAt<'a>> {
         let lines = self.len_lines();
-        let is_inside = line_break_idx <= lines;
-        is_inside.then(|| {
-            self.chunk_by(|root, start| match line_break_idx {
-                0 => root.chunk_at_byte(start.bytes),
-                _ if line_break_idx == lines => root.chunk_at_byte(start.bytes + self.counts.bytes - 1),
-                _ => root.chunk_at_line_break(start.line_breaks + line_break_idx),
-            })
+        self.chunk_by(line_break_idx, lines, |root, start| match line_break_idx {
+            0 => root.chunk_at_byte(start.bytes),
+            _ if line_break_idx == lines => root.chunk_at_byte(start.bytes + self.counts.bytes - 1),
+            _ => root.chunk_at_line_break(start.line_breaks + line_break_idx),
         })
     }
 
-    /// A chunk of the range that a look-up finds, cut to the range and counted from its start.
-    fn chunk_by(&self, find: impl FnOnce(&'a Root, Counts) -> Option<ChunkAt<'a>>) -> ChunkAt<'a> {
-        match self.part {
+    /// A chunk of the range that a look-up finds, cut to the range and counted from its start; none where the index is past
+    /// the length.
+    #[inline]
+    fn chunk_by(
+        &self,
+        index: usize,
+        len: usize,
+        find: impl FnOnce(&'a Root, Counts) -> Option<ChunkAt<'a>>,
+    ) -> Option<ChunkAt<'a>> {
+        Some(match self.part {
+            _ if index > len => return None,
             Part::Range { root, start } => {
                 let (text, bytes, chars, line_breaks) = known(find(root, start));
                 let (text, first) = cut(text, bytes, start, self.counts);
@@ -332,13 +335,7 @@ impl<'a> RopeSlice<'a> {
                 (text, first - start.bytes, chars, line_breaks.saturating_sub(start.line_breaks))
             }
             Part::Text(text) => (text, 0, 0, 0),
-        }
-    }
-
-    /// A slice of a range of characters; none where it is not in range.
-    #[inline]
-    pub fn get_slice<R: RangeBounds<usize>>(&self, char_range: R) -> Option<RopeSlice<'a>> {
-        self.slice_chars(Bounds::of(&char_range)).ok()
+        })
     }
 
     pub(crate) fn slice_chars(&self, bounds: Bounds) -> Result<RopeSlice<'a>> {
@@ -354,12 +351,6 @@ impl<'a> RopeSlice<'a> {
                 RopeSlice::from(&rest[..ffi::char_to_byte(rest, to - from)])
             }
         })
-    }
-
-    /// A slice of a range of bytes; none where it is not in range, or one of its bounds lies inside a character.
-    #[inline]
-    pub fn get_byte_slice<R: RangeBounds<usize>>(&self, byte_range: R) -> Option<RopeSlice<'a>> {
-        self.slice_bytes(Bounds::of(&byte_range)).ok()
     }
 
     pub(crate) fn slice_bytes(&self, bounds: Bounds) -> Result<RopeSlice<'a>> {
@@ -409,33 +400,47 @@ impl<'a> RopeSlice<'a> {
     /// What [`chunks_at_byte`](Self::chunks_at_byte) answers; none where the index is past the end.
     #[inline]
     pub fn get_chunks_at_byte(&self, byte_idx: usize) -> Option<ChunksAt<'a>> {
-        Some(self.chunks_from(self.get_chunk_at_byte(byte_idx)?, byte_idx == self.len_bytes()))
+        self.chunks_by(byte_idx, self.len_bytes(), |root, start, list| list.fetch_at_byte(root, start.bytes + byte_idx))
     }
 
     /// What [`chunks_at_char`](Self::chunks_at_char) answers; none where the index is past the end.
     #[inline]
     pub fn get_chunks_at_char(&self, char_idx: usize) -> Option<ChunksAt<'a>> {
-        Some(self.chunks_from(self.get_chunk_at_char(char_idx)?, char_idx == self.len_chars()))
+        self.chunks_by(char_idx, self.len_chars(), |root, start, list| list.fetch_at_char(root, start.chars + char_idx))
     }
 
     /// What [`chunks_at_line_break`](Self::chunks_at_line_break) answers; none where the index is past the number of lines.
     #[inline]
     pub fn get_chunks_at_line_break(&self, line_break_idx: usize) -> Option<ChunksAt<'a>> {
-        Some(self.chunks_from(self.get_chunk_at_line_break(line_break_idx)?, line_break_idx == self.len_lines()))
+        self.chunks_by(line_break_idx, self.len_lines(), |root, start, list| match line_break_idx {
+            0 => list.fetch_at_byte(root, start.bytes),
+            _ => list.fetch_at_line_break(root, start.line_breaks + line_break_idx),
+        })
     }
 
-    /// A cursor before a chunk, or at the end.
+    /// A cursor before the chunk that a look-up finds, or at the end for the length; none where the index is past that.
     #[inline]
-    fn chunks_from(&self, (chunk, bytes, chars, line_breaks): ChunkAt<'a>, is_at_end: bool) -> ChunksAt<'a> {
+    fn chunks_by(
+        &self,
+        index: usize,
+        len: usize,
+        find: impl FnOnce(&'a Root, Counts, &mut Pieces<'a>) -> (usize, usize, usize),
+    ) -> Option<ChunksAt<'a>> {
         let all = self.counts;
-        match self.part {
-            Part::Range { root, start } if is_at_end => {
+        Some(match self.part {
+            _ if index > len => return None,
+            Part::Range { root, start } if index < len => {
+                let (chunks, bytes, chars, line_breaks) =
+                    Chunks::found(root, start, all, |pieces| find(root, start, pieces));
+                let line_breaks = line_breaks.saturating_sub(start.line_breaks);
+                (chunks, bytes.saturating_sub(start.bytes), chars.saturating_sub(start.chars), line_breaks)
+            }
+            Part::Range { root, start } => {
                 (Chunks::of_range(root, start, all, all.bytes), all.bytes, all.chars, all.line_breaks)
             }
-            Part::Range { root, start } => (Chunks::before(root, start, all, chunk, bytes), bytes, chars, line_breaks),
-            Part::Text(text) if is_at_end => (Chunks::of_text(text, true), all.bytes, all.chars, all.line_breaks),
-            Part::Text(text) => (Chunks::of_text(text, false), 0, 0, 0),
-        }
+            Part::Text(text) if index < len => (Chunks::of_text(text, false), 0, 0, 0),
+            Part::Text(text) => (Chunks::of_text(text, true), all.bytes, all.chars, all.line_breaks),
+        })
     }
 
     /// A cursor over the chunks.

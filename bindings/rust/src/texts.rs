@@ -5,6 +5,7 @@ use std::fmt;
 use std::hash::{Hash, Hasher};
 
 use crate::builder::RopeBuilder;
+use crate::ffi::Counts;
 use crate::rope::Rope;
 use crate::slice::{Part, RopeSlice};
 
@@ -149,13 +150,7 @@ fn order(left: RopeSlice<'_>, right: RopeSlice<'_>) -> Ordering {
 }
 
 fn is_text(slice: RopeSlice<'_>, text: &str) -> bool {
-    let mut rest = text.as_bytes();
-    slice.len_bytes() == text.len()
-        && slice.chunks().all(|chunk| {
-            let (part, behind) = rest.split_at(chunk.len());
-            rest = behind;
-            part == chunk.as_bytes()
-        })
+    slice.len_bytes() == text.len() && order(slice, RopeSlice::of_text(text, Counts::NONE)).is_eq()
 }
 
 impl PartialEq for Rope {

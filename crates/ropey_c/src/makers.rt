@@ -1,6 +1,6 @@
 //! Ropes that are made, cloned and freed.
 ghost use Rattle.std.specs.Prelude.{◌≡◌, ◌<◌, ◌⊎◌, [], None, Some, IfSome, IsSomeAnd, MatchOption, MatchResult};
-ghost use Rattle.std.specs.Str.{chars};
+ghost use Rattle.std.specs.Str.{IsUtf8, chars};
 ghost use Rattle.rope_text.specs.declared.error.Error.TheVariants.{OutOfMemory};
 ghost use Rattle.ropey.specs.View.{HasFewChunks, IsBuilt};
 ghost use Rattle.ropey_c.specs.Handles.{HoldsRope};
@@ -15,6 +15,7 @@ use crate::status::{
 use rope_text::utf8;
 use ropey::{LineBreaks, Rope};
 use std::alloc::Global;
+use std::str;
 
 // Puts a rope that was just made into a handle.
 pub(crate) fn keep(alloc: Global, made: Rope, rope: &mut Handle) -> u32
@@ -31,17 +32,25 @@ pub(crate) fn keep(alloc: Global, made: Rope, rope: &mut Handle) -> u32
     }
 }
 
-fn make(alloc: Global, text: &[u8], breaks: LineBreaks, rope: &mut Handle) -> u32
+fn make(alloc: Global, text: &str, breaks: LineBreaks, rope: &mut Handle) -> u32
+    ensures status { IsStatus None result }
+    ensures ok { result ≡ OK → IsSomeAnd rope.new.rope (λ r. (r.text ≡ chars text.now) × IsBuilt breaks r) }
+    ensures err { 0 < result → rope.new.rope ≡ rope.old.rope }
+{
+    match Rope::from_str_with(alloc, text, breaks) {
+        Ok(made) => keep(alloc, made, rope),
+        Err(_) => OUT_OF_MEMORY,
+    }
+}
+
+fn make_checked(alloc: Global, text: &[u8], breaks: LineBreaks, rope: &mut Handle) -> u32
     ensures status { IsTextStatus text.now None result }
     ensures ok { result ≡ OK → IsSomeAnd rope.new.rope (λ r. (r.text ≡ chars text.now) × IsBuilt breaks r) }
     ensures err { 0 < result → rope.new.rope ≡ rope.old.rope }
 {
-    let Some(text) = utf8::text_of(text) else {
-        return INVALID_UTF8;
-    };
-    match Rope::from_str_with(alloc, text, breaks) {
-        Ok(made) => keep(alloc, made, rope),
-        Err(_) => OUT_OF_MEMORY,
+    match utf8::text_of(text) {
+        Some(text) => make(alloc, text, breaks, rope),
+        None => INVALID_UTF8,
     }
 }
 
@@ -64,7 +73,34 @@ pub extern "C" fn ropey_from_text(
     ensures err { 0 < result → rope.new.rope ≡ rope.old.rope }
 {
     match given_breaks(break_set) {
-        Some(breaks) => make(alloc, text, breaks, rope),
+        Some(breaks) => make_checked(alloc, text, breaks, rope),
+        None => UNKNOWN_BREAK_SET,
+    }
+}
+
+/// Makes a rope of a copy of a text that is known to be UTF-8, without reading it to find out, and frees the one that the
+/// handle held. This alone of all calls has a condition: what it makes of other bytes is no rope, and anything may come of
+/// it later.
+///
+/// Takes time and memory in proportion to the text, which is at most `isize::MAX` bytes.
+///
+/// # Errors
+///
+/// `UNKNOWN_BREAK_SET`, then `OUT_OF_MEMORY`. A refused call leaves the handle as it was.
+#[unsafe(no_mangle)]
+pub extern "C" fn ropey_from_text_unchecked(
+    alloc: Global,
+    text: &[u8],
+    break_set: u32,
+    rope: &mut Handle,
+) -> u32
+    requires { IsUtf8 text.now }
+    ensures status { IsMakerStatus (given_breaks break_set) text.now result }
+    ensures ok { result ≡ OK → IsSomeAnd rope.new.rope (λ r. (r.text ≡ chars text.now) × IsBuiltWith (given_breaks break_set) r) }
+    ensures err { 0 < result → rope.new.rope ≡ rope.old.rope }
+{
+    match given_breaks(break_set) {
+        Some(set) => make(alloc, unsafe { str::from_utf8_unchecked(text) }, set, rope),
         None => UNKNOWN_BREAK_SET,
     }
 }
