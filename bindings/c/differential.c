@@ -564,6 +564,40 @@ static void slices(pair *p) {
     }
 }
 
+/* A range, and the lines from a character on, with what lies before them. */
+static void slices_at(pair *p) {
+    enum { SLICES = 8 };
+    const model *m = &p->text;
+    size_t i = below(m->len + 2), room = below(SLICES), count = 77;
+    ropey_slice found[SLICES], slice = ROPEY_NO_SLICE;
+    ropey_counts before = {77, 77, 77, 77}, wanted;
+    memset(found, 0, sizeof found);
+    ropey_range r = drawn_range(m->len);
+    ropey_status fault = !p->held ? ROPEY_NO_ROPE_HELD : char_range_fault(m, r);
+    CHECK(ropey_char_slice_at(&p->rope, r.start, r.end, &slice, &before) == fault);
+    CHECK(fault == ROPEY_OK || (slice.counts.bytes == 0 && before.bytes == 77));
+    if (fault == ROPEY_OK) {
+        see_slice(p, &slice, r.start, r.end);
+        wanted = counts_before(m, r.start);
+        CHECK(memcmp(&before, &wanted, sizeof before) == 0);
+    }
+    before.bytes = 77;
+    fault = !p->held ? ROPEY_NO_ROPE_HELD : i > m->len ? ROPEY_CHAR_INDEX_OUT_OF_BOUNDS : ROPEY_OK;
+    CHECK(ropey_lines_at(&p->rope, i, room == 0 ? NULL : found, room, &count, &before) == fault);
+    if (fault != ROPEY_OK) {
+        CHECK(count == 77 && before.bytes == 77);
+        return;
+    }
+    model rest = part_of(m, i, m->len);
+    size_t lines = counts_of(&rest).line_breaks + 1;
+    wanted = counts_before(m, i);
+    CHECK(memcmp(&before, &wanted, sizeof before) == 0 && count == (room < lines ? room : lines));
+    for (size_t k = 0; k < count; k++) {
+        see_slice(p, &found[k], i + start_of_line(&rest, k), i + start_of_line(&rest, k + 1));
+    }
+    free(rest.chars);
+}
+
 /* Copies and counts of a range. */
 static void range(pair *p) {
     static uint8_t buffer[16 * LONGEST];
@@ -707,7 +741,7 @@ static void step(int k, pair *p, pair *q) {
     case 15: range(p); break;
     case 16: compare(p, q); break;
     case 17: plain(); break;
-    case 18: slices(p); break;
+    case 18: below(2) ? slices(p) : slices_at(p); break;
     default: build(p); break;
     }
     held_all(NULL);

@@ -315,10 +315,18 @@ ropey_status ropey_line_slice(const ropey_rope *rope, size_t line_idx, ropey_sli
  * Refused: NO_ROPE_HELD, CHAR_RANGE_OUT_OF_BOUNDS, CHAR_RANGE_INVALID. */
 ropey_status ropey_char_slice(const ropey_rope *rope, size_t start, size_t end, ropey_slice *slice);
 
+/* The same, with how much of the text lies before start. A line break that ends behind start is none of it. */
+ropey_status ropey_char_slice_at(const ropey_rope *rope, size_t start, size_t end, ropey_slice *slice, ropey_counts *before);
+
 /* The lines from line_idx on, or those before it, the nearest first, each with its line break, as far as there is room: their
  * number is written to count. One look-up, and then a step a line. Refused: NO_ROPE_HELD, LINE_INDEX_OUT_OF_BOUNDS. */
 ropey_status ropey_lines_from(const ropey_rope *rope, size_t line_idx, ropey_slice *lines, size_t room, size_t *count);
 ropey_status ropey_lines_before(const ropey_rope *rope, size_t line_idx, ropey_slice *lines, size_t room, size_t *count);
+
+/* The lines of the text from a character on, of which the first begins there, with how much of the text lies before it. To go
+ * on, ask for the character past the last line. Refused: NO_ROPE_HELD, CHAR_INDEX_OUT_OF_BOUNDS. */
+ropey_status ropey_lines_at(const ropey_rope *rope, size_t char_idx, ropey_slice *lines, size_t room, size_t *count,
+    ropey_counts *before);
 
 /* Copies and comparisons. */
 

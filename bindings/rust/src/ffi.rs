@@ -24,6 +24,9 @@ struct Handle {
 
 const NONE: Handle = Handle { ptr: ptr::null_mut() };
 
+/// `const ropey_rope *`.
+type Held = *const Handle;
+
 /// `ropey_chunk`.
 #[repr(C)]
 struct RawChunk {
@@ -111,22 +114,16 @@ extern "C" {
     fn ropey_from_text(text: *const u8, len: usize, break_set: u32, rope: *mut Handle) -> u32;
     fn ropey_from_text_unchecked(text: *const u8, len: usize, break_set: u32, rope: *mut Handle) -> u32;
     fn ropey_free(rope: *mut Handle);
-    fn ropey_clone(rope: *const Handle, copy: *mut Handle) -> u32;
+    fn ropey_clone(rope: Held, copy: *mut Handle) -> u32;
     fn ropey_shrink_to_fit(rope: *mut Handle) -> u32;
     fn ropey_insert(rope: *mut Handle, char_idx: usize, text: *const u8, len: usize) -> u32;
     fn ropey_insert_char(rope: *mut Handle, char_idx: usize, c: u32) -> u32;
     fn ropey_remove(rope: *mut Handle, start: usize, end: usize) -> u32;
     fn ropey_split_off(rope: *mut Handle, char_idx: usize, tail: *mut Handle) -> u32;
     fn ropey_append(rope: *mut Handle, other: *mut Handle) -> u32;
-    fn ropey_copy_bytes(
-        rope: *const Handle,
-        start: usize,
-        end: usize,
-        buffer: *mut u8,
-        room: usize,
-        len: *mut usize,
-    ) -> u32;
+    fn ropey_copy_bytes(rope: Held, start: usize, end: usize, buffer: *mut u8, room: usize, len: *mut usize) -> u32;
     fn ropey_text_counts(text: *const u8, len: usize, break_set: u32, counts: *mut Counts) -> u32;
+    fn ropey_char_slice_at(rope: Held, start: usize, end: usize, slice: *mut RawSlice, before: *mut Counts) -> u32;
 }
 
 /// One lock for all ropes, around every call that may touch a count of owners: clones, edits, frees.
@@ -263,7 +260,7 @@ impl Root {
 macro_rules! lengths {
     ($($name:ident: $call:ident;)*) => {
         extern "C" {
-            $(fn $call(rope: *const Handle) -> usize;)*
+            $(fn $call(rope: Held) -> usize;)*
         }
 
         impl Root {
@@ -289,7 +286,7 @@ lengths! {
 macro_rules! look_ups {
     (($raw:ty = $none:expr) -> $answer:ty, $answered:expr; $($name:ident($($index:ident),+): $call:ident;)*) => {
         extern "C" {
-            $(fn $call(rope: *const Handle, $($index: usize,)+ answer: *mut $raw) -> u32;)*
+            $(fn $call(rope: Held, $($index: usize,)+ answer: *mut $raw) -> u32;)*
         }
 
         impl Root {
@@ -336,16 +333,22 @@ look_ups! {
 look_ups! {
     (RawSlice = NO_SLICE) -> Lent<'_>, |slice: RawSlice| unsafe { slice.lent() };
     line_slice(line_idx): ropey_line_slice;
-    char_slice(start, end): ropey_char_slice;
 }
 
 look_ups! {
     (Counts = Counts::NONE) -> Counts, |counts| counts;
-    counts_in_chars(start, end): ropey_counts_in_chars;
     counts_in_bytes(start, end): ropey_counts_in_bytes;
 }
 
 impl Root {
+    /// The characters from `start` up to `end`, which are in range, and how much lies before them.
+    #[inline]
+    pub(crate) fn char_slice(&self, start: usize, end: usize) -> (Lent<'_>, Counts) {
+        let (mut slice, mut before) = (NO_SLICE, Counts::NONE);
+        must(unsafe { ropey_char_slice_at(&self.0, start, end, &mut slice, &mut before) });
+        (unsafe { slice.lent() }, before)
+    }
+
     /// A copy of the bytes from `start` up to `end`.
     pub(crate) fn copied(&self, start: usize, end: usize) -> String {
         let (mut bytes, mut len) = (Vec::with_capacity(end - start), 0);
@@ -368,21 +371,21 @@ impl Root {
     }
 }
 
-/// Calls that write a list from an index on.
+/// Calls that write a list from an index on, and more behind it.
 macro_rules! lists {
-    ($($call:ident: $item:ty $(, $last:ident)*;)*) => {
+    ($($call:ident: $item:ty $(, $last:ty)*;)*) => {
         extern "C" {
-            $(fn $call(rope: *const Handle, i: usize, list: *mut $item, room: usize, count: *mut usize $(, $last: *mut usize)*) -> u32;)*
+            $(fn $call(rope: Held, i: usize, list: *mut $item, room: usize, count: *mut usize $(, _: *mut $last)*) -> u32;)*
         }
     };
 }
 
 lists! {
-    ropey_chunks_at_byte: Piece, bytes, chars, line_breaks;
-    ropey_chunks_at_char: Piece, bytes, chars, line_breaks;
-    ropey_chunks_at_line_break: Piece, bytes, chars, line_breaks;
-    ropey_chunks_before_byte: Piece, bytes_before;
-    ropey_lines_from: RawSlice;
+    ropey_chunks_at_byte: Piece, usize, usize, usize;
+    ropey_chunks_at_char: Piece, usize, usize, usize;
+    ropey_chunks_at_line_break: Piece, usize, usize, usize;
+    ropey_chunks_before_byte: Piece, usize;
+    ropey_lines_at: RawSlice, Counts;
     ropey_lines_before: RawSlice;
 }
 
@@ -436,23 +439,26 @@ impl<'a> Pieces<'a> {
         self.len + self.list.len()
     }
 
-    #[inline]
-    pub(crate) fn get(&self, i: usize) -> Option<&'a str> {
-        // Safety: the piece was written by `of` or `set`, or by the library as a part of a rope that is borrowed for `'a`.
-        unsafe {
-            let piece = if i < self.len { self.few.get(i)?.assume_init() } else { *self.list.get(i)? };
-            Some(text_at(piece))
+    #[inline(always)]
+    fn at(&mut self, i: usize) -> Option<&mut Piece> {
+        if i < self.len {
+            // Safety: the first `len` were written.
+            self.few.get_mut(i).map(|piece| unsafe { piece.assume_init_mut() })
+        } else {
+            self.list.get_mut(i)
         }
+    }
+
+    #[inline]
+    pub(crate) fn get(&mut self, i: usize) -> Option<&'a str> {
+        // Safety: the piece was written by `of` or `set`, or by the library as a part of a rope that is borrowed for `'a`.
+        self.at(i).map(|piece| unsafe { text_at(*piece) })
     }
 
     /// Puts a text in the place of the piece `i`.
     #[inline]
     pub(crate) fn set(&mut self, i: usize, text: &'a str) {
-        if i < self.len {
-            self.few[i].write(Piece::of(text));
-        } else {
-            self.list[i] = Piece::of(text);
-        }
+        *self.at(i).expect("there is such a piece") = Piece::of(text);
     }
 
     #[inline(always)]
@@ -473,11 +479,8 @@ impl<'a> Pieces<'a> {
             ropey_chunks_before_byte(&root.0, byte_idx, list, room, count, &mut end)
         });
         // The nearest comes first.
-        if self.list.is_empty() {
-            self.few[..self.len].reverse();
-        } else {
-            self.list.reverse();
-        }
+        self.few[..self.len].reverse();
+        self.list.reverse();
         end
     }
 }
@@ -512,17 +515,19 @@ pub(crate) struct Window<'a> {
     first: usize,
     is_back: bool,
     room: usize,
+    // How much of the rope lies before the cursor, where that is known.
+    pub before: Option<Counts>,
     text: PhantomData<&'a str>,
 }
 
 impl<'a> Window<'a> {
     #[inline]
-    pub(crate) fn new() -> Window<'a> {
-        Window { list: Vec::new(), first: 0, is_back: false, room: FEW_LINES, text: PhantomData }
+    pub(crate) fn new(before: Option<Counts>) -> Window<'a> {
+        Window { list: Vec::new(), first: 0, is_back: false, room: FEW_LINES, before, text: PhantomData }
     }
 
     /// A line of the rope, which has one of this number; it is fetched with those that a cursor will pass next, at most
-    /// `left`.
+    /// `left`. With lines ahead of the cursor it is looked up how much lies before them.
     #[inline(always)]
     pub(crate) fn line(&mut self, root: &'a Root, line_idx: usize, is_back: bool, left: usize) -> Lent<'a> {
         let mut at = self.place(line_idx);
@@ -550,13 +555,17 @@ impl<'a> Window<'a> {
         // Few for a cursor that has turned, as it may turn again; and no few are left for another time.
         let room = if is_back == self.is_back { self.room } else { FEW_LINES };
         let room = if left <= 2 * room { left } else { room };
-        fill(&mut self.list, room, |lines, room, count| unsafe {
-            if is_back {
+        if is_back {
+            fill(&mut self.list, room, |lines, room, count| unsafe {
                 ropey_lines_before(&root.0, line_idx + 1, lines, room, count)
-            } else {
-                ropey_lines_from(&root.0, line_idx, lines, room, count)
-            }
-        });
+            });
+        } else {
+            let start = self.before.map(|before| before.chars).or_else(|| root.line_to_char(line_idx));
+            let before = self.before.insert(Counts::NONE);
+            fill(&mut self.list, room, |lines, room, count| unsafe {
+                ropey_lines_at(&root.0, start.unwrap_or(0), lines, room, count, before)
+            });
+        }
         (self.first, self.is_back) = (line_idx, is_back);
         self.room = if room <= FEW_LINES { SCREEN_LINES } else { MOST_LINES };
     }

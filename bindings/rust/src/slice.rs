@@ -89,12 +89,8 @@ impl<'a> RopeSlice<'a> {
     /// The characters of a rope from `start` up to `end`, which are in range.
     #[inline]
     pub(crate) fn of_chars(root: &'a Root, start: usize, end: usize) -> RopeSlice<'a> {
-        // One chunk may have so few of them.
-        if end - start <= MAX_BYTES {
-            return RopeSlice::of_lent(root, known(root.char_slice(start, end)), || RopeSlice::before(root, start));
-        }
-        let before = RopeSlice::before(root, start);
-        RopeSlice::of_range(root, before, known(root.counts_in_chars(0, end)).minus(before))
+        let (lent, before) = root.char_slice(start, end);
+        RopeSlice::of_lent(root, lent, || before)
     }
 
     /// The bytes of a rope from `start` up to `end`, which are in range; none where one of them lies inside a character.
@@ -111,16 +107,8 @@ impl<'a> RopeSlice<'a> {
 
     /// How much lies before a line of a rope.
     pub(crate) fn before_line(root: &'a Root, line_idx: usize) -> Counts {
-        RopeSlice::before(root, known(root.line_to_char(line_idx)))
-    }
-
-    /// How much lies before a character of a rope: what the rest leaves over, as a CR whose LF follows is no line break
-    /// before it.
-    fn before(root: &'a Root, chars: usize) -> Counts {
-        match chars {
-            0 => Counts::NONE,
-            _ => root.counts().minus(known(root.counts_in_chars(chars, root.len_chars()))),
-        }
+        let start = known(root.line_to_char(line_idx));
+        root.char_slice(start, start).1
     }
 
     /// How much the slice holds.

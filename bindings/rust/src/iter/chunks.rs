@@ -153,7 +153,8 @@ impl<'a> Chunks<'a> {
             if end < self.at {
                 self.pieces.room = 1;
                 self.pieces.fetch_at_byte(root, end);
-                self.pieces.set(0, &known(self.pieces.get(0))[..self.at - end]);
+                let text = known(self.pieces.get(0));
+                self.pieces.set(0, &text[..self.at - end]);
             }
             (self.pieces.room, self.passed) = (next, self.pieces.len());
         }

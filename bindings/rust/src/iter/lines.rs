@@ -18,9 +18,8 @@ use crate::str_utils::{first_line, last_line};
 pub struct Lines<'a> {
     slice: RopeSlice<'a>,
     is_whole: bool,
-    // Of a rope: some lines around the cursor, and how much of the rope lies before it, where that is known.
+    // Of a rope: some lines around the cursor.
     window: Window<'a>,
-    before: Option<Counts>,
     // Of a text in one piece: the byte at which it stands.
     idx: usize,
     passed: usize,
@@ -42,7 +41,7 @@ impl<'a> Lines<'a> {
         let idx = slice.as_str().filter(|_| line_idx > 0).map_or(0, |text| line_to_byte(text, line_idx));
         let before = (line_idx == 0).then(|| slice.start());
         let (is_whole, total) = (slice.is_whole(), slice.len_lines());
-        Lines { slice, is_whole, window: Window::new(), before, idx, passed: line_idx, total, is_reversed: false }
+        Lines { slice, is_whole, window: Window::new(before), idx, passed: line_idx, total, is_reversed: false }
     }
 
     #[inline(always)]
@@ -100,27 +99,27 @@ impl<'a> Lines<'a> {
 
     #[inline(always)]
     fn pass(&mut self, line: Counts, is_back: bool) {
-        if let Some(before) = self.before {
-            self.before = Some(if is_back { before.minus(line) } else { before.plus(line) });
+        if let Some(before) = self.window.before {
+            self.window.before = Some(if is_back { before.minus(line) } else { before.plus(line) });
         }
     }
 
     /// A line that lies in several chunks.
     #[inline(never)]
     fn long_line(&mut self, root: &'a Root, line: usize, counts: Counts, is_back: bool) -> RopeSlice<'a> {
-        let start = match self.before {
+        let start = match self.window.before {
             Some(before) if is_back => before.minus(counts),
             Some(before) => before,
             None => RopeSlice::before_line(root, line),
         };
-        self.before = Some(if is_back { start } else { start.plus(counts) });
+        self.window.before = Some(if is_back { start } else { start.plus(counts) });
         RopeSlice::of_range(root, start, counts)
     }
 
     /// A line at an end of a slice, which may be less than the rope's.
     #[inline(never)]
     fn cut_line(&mut self, line_idx: usize, is_back: bool) -> RopeSlice<'a> {
-        let line = match self.before {
+        let line = match self.window.before {
             Some(before) if !is_back && line_idx > 0 => self.clipped(line_idx, before),
             _ => self.slice.get_line(line_idx).unwrap_or(RopeSlice::EMPTY),
         };
