@@ -581,6 +581,11 @@ static void slices_at(pair *p) {
         wanted = counts_before(m, r.start);
         CHECK(memcmp(&before, &wanted, sizeof before) == 0);
     }
+    ropey_counts counts = {77, 77, 77, 77};
+    before = counts;
+    CHECK(ropey_counts_in_chars_at(&p->rope, r.start, r.end, &counts, &before) == fault);
+    CHECK(fault == ROPEY_OK ? memcmp(&counts, &slice.counts, sizeof counts) == 0 && memcmp(&before, &wanted, sizeof before) == 0
+        : counts.bytes == 77 && before.bytes == 77);
     before.bytes = 77;
     fault = !p->held ? ROPEY_NO_ROPE_HELD : i > m->len ? ROPEY_CHAR_INDEX_OUT_OF_BOUNDS : ROPEY_OK;
     CHECK(ropey_lines_at(&p->rope, i, room == 0 ? NULL : found, room, &count, &before) == fault);

@@ -315,8 +315,11 @@ ropey_status ropey_line_slice(const ropey_rope *rope, size_t line_idx, ropey_sli
  * Refused: NO_ROPE_HELD, CHAR_RANGE_OUT_OF_BOUNDS, CHAR_RANGE_INVALID. */
 ropey_status ropey_char_slice(const ropey_rope *rope, size_t start, size_t end, ropey_slice *slice);
 
-/* The same, with how much of the text lies before start. A line break that ends behind start is none of it. */
+/* The same, or its counts alone, with how much of the text lies before start. A line break that ends behind start is none of
+ * it. */
 ropey_status ropey_char_slice_at(const ropey_rope *rope, size_t start, size_t end, ropey_slice *slice, ropey_counts *before);
+ropey_status ropey_counts_in_chars_at(const ropey_rope *rope, size_t start, size_t end, ropey_counts *counts,
+    ropey_counts *before);
 
 /* The lines from line_idx on, or those before it, the nearest first, each with its line break, as far as there is room: their
  * number is written to count. One look-up, and then a step a line. Refused: NO_ROPE_HELD, LINE_INDEX_OUT_OF_BOUNDS. */

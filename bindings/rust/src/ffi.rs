@@ -41,14 +41,6 @@ const NO_CHUNK: RawChunk = RawChunk { text: NO_PIECE, bytes_before: 0, chars_bef
 /// A chunk, and the bytes, characters and line breaks before it.
 pub(crate) type ChunkAt<'a> = (&'a str, usize, usize, usize);
 
-impl RawChunk {
-    /// Safety: the rope is neither edited nor freed for `'a`.
-    #[inline(always)]
-    unsafe fn lent<'a>(self) -> ChunkAt<'a> {
-        (text_at(self.text), self.bytes_before, self.chars_before, self.line_breaks_before)
-    }
-}
-
 /// `ropey_piece`.
 #[repr(C)]
 #[derive(Clone, Copy)]
@@ -123,6 +115,7 @@ extern "C" {
     fn ropey_append(rope: *mut Handle, other: *mut Handle) -> u32;
     fn ropey_copy_bytes(rope: Held, start: usize, end: usize, buffer: *mut u8, room: usize, len: *mut usize) -> u32;
     fn ropey_text_counts(text: *const u8, len: usize, break_set: u32, counts: *mut Counts) -> u32;
+    fn ropey_counts_in_chars_at(rope: Held, start: usize, end: usize, counts: *mut Counts, before: *mut Counts) -> u32;
     fn ropey_char_slice_at(rope: Held, start: usize, end: usize, slice: *mut RawSlice, before: *mut Counts) -> u32;
 }
 
@@ -324,7 +317,8 @@ look_ups! {
 }
 
 look_ups! {
-    (RawChunk = NO_CHUNK) -> ChunkAt<'_>, |chunk: RawChunk| unsafe { chunk.lent() };
+    (RawChunk = NO_CHUNK) -> ChunkAt<'_>,
+    |chunk: RawChunk| (unsafe { text_at(chunk.text) }, chunk.bytes_before, chunk.chars_before, chunk.line_breaks_before);
     chunk_at_byte(byte_idx): ropey_chunk_at_byte;
     chunk_at_char(char_idx): ropey_chunk_at_char;
     chunk_at_line_break(line_idx): ropey_chunk_at_line_break;
@@ -347,6 +341,14 @@ impl Root {
         let (mut slice, mut before) = (NO_SLICE, Counts::NONE);
         must(unsafe { ropey_char_slice_at(&self.0, start, end, &mut slice, &mut before) });
         (unsafe { slice.lent() }, before)
+    }
+
+    /// How much the characters from `start` up to `end`, which are in range, hold, and how much lies before them.
+    #[inline]
+    pub(crate) fn counts_in_chars(&self, start: usize, end: usize) -> (Counts, Counts) {
+        let (mut counts, mut before) = (Counts::NONE, Counts::NONE);
+        must(unsafe { ropey_counts_in_chars_at(&self.0, start, end, &mut counts, &mut before) });
+        (counts, before)
     }
 
     /// A copy of the bytes from `start` up to `end`.

@@ -3,7 +3,7 @@ use std::ops::RangeBounds;
 
 use crate::calls::panicking_calls;
 use crate::ffi::{self, ChunkAt, Counts, Lent, Pieces, Root};
-use crate::iter::{Bytes, Chars, Chunks, Lines};
+use crate::iter::{Bytes, Chars, Chunks, InChunk, Lines};
 use crate::range::Bounds;
 use crate::str_utils::first_line;
 use crate::{Error, Result, MAX_BYTES};
@@ -25,7 +25,7 @@ use crate::{Error, Result, MAX_BYTES};
 /// ```
 #[derive(Clone, Copy)]
 pub struct RopeSlice<'a> {
-    counts: Counts,
+    pub(crate) counts: Counts,
     pub(crate) part: Part<'a>,
 }
 
@@ -89,8 +89,13 @@ impl<'a> RopeSlice<'a> {
     /// The characters of a rope from `start` up to `end`, which are in range.
     #[inline]
     pub(crate) fn of_chars(root: &'a Root, start: usize, end: usize) -> RopeSlice<'a> {
-        let (lent, before) = root.char_slice(start, end);
-        RopeSlice::of_lent(root, lent, || before)
+        // One chunk may have so few of them.
+        if end - start <= MAX_BYTES {
+            let (lent, before) = root.char_slice(start, end);
+            return RopeSlice::of_lent(root, lent, || before);
+        }
+        let (counts, before) = root.counts_in_chars(start, end);
+        RopeSlice::of_range(root, before, counts)
     }
 
     /// The bytes of a rope from `start` up to `end`, which are in range; none where one of them lies inside a character.
@@ -108,25 +113,23 @@ impl<'a> RopeSlice<'a> {
     /// How much lies before a line of a rope.
     pub(crate) fn before_line(root: &'a Root, line_idx: usize) -> Counts {
         let start = known(root.line_to_char(line_idx));
-        root.char_slice(start, start).1
-    }
-
-    /// How much the slice holds.
-    pub(crate) fn counts(&self) -> Counts {
-        self.counts
+        root.counts_in_chars(start, start).1
     }
 
     /// How much of the rope lies before the slice.
     pub(crate) fn start(&self) -> Counts {
-        match self.part {
-            Part::Range { start, .. } => start,
-            Part::Text(_) => Counts::NONE,
-        }
+        let Part::Range { start, .. } = self.part else { return Counts::NONE };
+        start
     }
 
     /// Whether the slice is all of a rope.
     pub(crate) fn is_whole(&self) -> bool {
         matches!(self.part, Part::Range { root, .. } if root.len_bytes() == self.counts.bytes)
+    }
+
+    /// Whether the slice is a range that may be a text in one piece.
+    fn may_be_one_chunk(&self) -> bool {
+        self.counts.bytes <= MAX_BYTES && matches!(self.part, Part::Range { .. })
     }
 
     /// The line of a rope that the slice's line is, where it is no less; else none. In a slice that isn't whole, those at its
@@ -153,6 +156,7 @@ macro_rules! conversions {
                     return if $index == counts.$from { Ok(counts.$to) } else { Err(Error::$error($index, counts.$from)) };
                 }
                 Ok(match self.part {
+                    _ if $index == 0 => 0,
                     Part::Range { root, start } => known(root.$call(start.$from + $index)) - start.$to,
                     Part::Text(text) => ffi::$call(text, $index),
                 })
@@ -329,7 +333,7 @@ impl<'a> RopeSlice<'a> {
     pub(crate) fn slice_chars(&self, bounds: Bounds) -> Result<RopeSlice<'a>> {
         let len = self.counts.chars;
         let (from, to) = bounds.of_chars(len)?;
-        if to - from == len {
+        if to - from == len && !self.may_be_one_chunk() {
             return Ok(*self);
         }
         Ok(match self.part {
@@ -344,7 +348,7 @@ impl<'a> RopeSlice<'a> {
     pub(crate) fn slice_bytes(&self, bounds: Bounds) -> Result<RopeSlice<'a>> {
         let len = self.counts.bytes;
         let (from, to) = bounds.of_bytes(len)?;
-        if to - from == len {
+        if to - from == len && !self.may_be_one_chunk() {
             return Ok(*self);
         }
         let slice = match self.part {
@@ -360,21 +364,22 @@ impl<'a> RopeSlice<'a> {
     /// A cursor over the bytes that stands before a byte; none where the index is past the end.
     #[inline]
     pub fn get_bytes_at(&self, byte_idx: usize) -> Option<Bytes<'a>> {
-        let is_inside = byte_idx <= self.counts.bytes;
-        is_inside.then(|| match self.part {
-            Part::Range { root, start } => Bytes::of_range(root, start, self.counts, byte_idx),
-            Part::Text(text) => Bytes::of_text(text, byte_idx),
-        })
+        (byte_idx <= self.counts.bytes).then(|| Bytes::at(self.behind(byte_idx), byte_idx, self.counts.bytes))
     }
 
     /// A cursor over the characters that stands before a character; none where the index is past the end.
     #[inline]
     pub fn get_chars_at(&self, char_idx: usize) -> Option<Chars<'a>> {
-        let is_inside = char_idx <= self.counts.chars;
-        is_inside.then(|| match self.part {
-            Part::Range { root, start } => Chars::of_range(root, start, self.counts, char_idx),
-            Part::Text(text) => Chars::of_text(text, self.counts, char_idx),
-        })
+        let byte_idx = self.try_char_to_byte(char_idx).ok()?;
+        Some(Chars::at(self.behind(byte_idx), char_idx, self.counts.chars))
+    }
+
+    #[inline]
+    fn behind(&self, byte_idx: usize) -> InChunk<'a> {
+        match self.part {
+            Part::Range { root, start } => Chunks::behind(root, start, self.counts, byte_idx),
+            Part::Text(text) => (Chunks::of_text(text, true), text, byte_idx),
+        }
     }
 
     /// A cursor over the lines that stands before a line, or at the end for the number of lines; none where the index is
@@ -415,20 +420,20 @@ impl<'a> RopeSlice<'a> {
         find: impl FnOnce(&'a Root, Counts, &mut Pieces<'a>) -> (usize, usize, usize),
     ) -> Option<ChunksAt<'a>> {
         let all = self.counts;
-        Some(match self.part {
+        let chunks = match self.part {
             _ if index > len => return None,
             Part::Range { root, start } if index < len => {
-                let (chunks, bytes, chars, line_breaks) =
-                    Chunks::found(root, start, all, |pieces| find(root, start, pieces));
-                let line_breaks = line_breaks.saturating_sub(start.line_breaks);
-                (chunks, bytes.saturating_sub(start.bytes), chars.saturating_sub(start.chars), line_breaks)
+                let mut chunks = Chunks::of_range(root, start, all, 0);
+                let (bytes, chars, breaks) = find(root, start, &mut chunks.pieces);
+                chunks.stand(bytes);
+                let (bytes, chars) = (bytes.saturating_sub(start.bytes), chars.saturating_sub(start.chars));
+                return Some((chunks, bytes, chars, breaks.saturating_sub(start.line_breaks)));
             }
-            Part::Range { root, start } => {
-                (Chunks::of_range(root, start, all, all.bytes), all.bytes, all.chars, all.line_breaks)
-            }
-            Part::Text(text) if index < len => (Chunks::of_text(text, false), 0, 0, 0),
-            Part::Text(text) => (Chunks::of_text(text, true), all.bytes, all.chars, all.line_breaks),
-        })
+            Part::Text(text) if index < len => return Some((Chunks::of_text(text, false), 0, 0, 0)),
+            Part::Range { root, start } => Chunks::of_range(root, start, all, all.bytes),
+            Part::Text(text) => Chunks::of_text(text, true),
+        };
+        Some((chunks, all.bytes, all.chars, all.line_breaks))
     }
 
     /// A cursor over the chunks.

@@ -12,15 +12,15 @@ use crate::slice::{Part, RopeSlice};
 // Ropes of texts.
 
 macro_rules! rope_of_texts {
-    ($($text:ty;)*) => {
+    ($(<$($life:lifetime)?> $text:ty;)*) => {
         $(
-            impl<'a> From<$text> for Rope {
+            impl<$($life)?> From<$text> for Rope {
                 fn from(text: $text) -> Rope {
                     Rope::from_str(&text)
                 }
             }
 
-            impl<'a> FromIterator<$text> for Rope {
+            impl<$($life)?> FromIterator<$text> for Rope {
                 /// A rope of the texts, one behind another.
                 fn from_iter<T: IntoIterator<Item = $text>>(texts: T) -> Rope {
                     let mut builder = RopeBuilder::new();
@@ -32,23 +32,10 @@ macro_rules! rope_of_texts {
     };
 }
 
-// `String` has no lifetime to name, so that it stands apart.
 rope_of_texts! {
-    &'a str;
-    Cow<'a, str>;
-}
-
-impl From<String> for Rope {
-    fn from(text: String) -> Rope {
-        Rope::from_str(&text)
-    }
-}
-
-impl FromIterator<String> for Rope {
-    /// A rope of the texts, one behind another.
-    fn from_iter<T: IntoIterator<Item = String>>(texts: T) -> Rope {
-        texts.into_iter().map(Cow::<str>::Owned).collect()
-    }
+    <'a> &'a str;
+    <'a> Cow<'a, str>;
+    <> String;
 }
 
 /// Up to so many bytes a copy costs less than to cut a tree twice.

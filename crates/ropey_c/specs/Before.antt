@@ -1,5 +1,6 @@
 -- Parts of a rope's text with what lies before them, as C sees them.
 use Rattle.std.specs.Prelude.{◌≡◌, ℕ, ◌<◌, ◌≤◌, List, length, take, Option, Some, None}
+use Rattle.std.specs.List.{slice_range}
 use Rattle.rope_text.specs.declared.error.Error.{Error}
 use Rattle.rope_text.specs.declared.line_breaks.LineBreaks.{LineBreaks}
 use Rattle.rope_text.specs.Text.{byte_len, utf16_len}
@@ -9,6 +10,7 @@ use Rattle.rope_text.specs.LineParts.{lines_of, part_between}
 use Rattle.rope_text.specs.Edit.{char_range_error}
 use Rattle.ropey.specs.View.{RopeView, content}
 use Rattle.ropey_c.specs.Status.{status_of}
+use Rattle.ropey_c.specs.Counts.{IsCounts}
 use Rattle.ropey_c.specs.Slices.{shown, shown_as, Shows}
 use Rattle.ropey_c.specs.declared.counts.Counts.{Counts}
 use Rattle.ropey_c.specs.declared.slices.Slice.{Slice}
@@ -32,6 +34,17 @@ SliceOfCharsAt None start end status old new before_old before = (status ≡ NO_
 SliceOfCharsAt (Some rope) start end status old new before_old before =
     SliceAt (char_range_error (Some start) (Some end) (length rope.text)) rope start (part_between (content rope) start end)
     status old new before_old before
+
+-- the same of how much the part holds
+abbrev pub CountsPartAt : Option Error → RopeView → ℕ → ℕ → ℕ → Counts → Counts → Counts → Counts → Type 0
+CountsPartAt None rope start end status old new before_old before =
+    (status ≡ OK) × IsCounts rope.breaks (slice_range rope.text start end) new × IsBefore rope.breaks rope.text start before
+CountsPartAt (Some e) rope start end status old new before_old before = (status ≡ status_of e) × (new ≡ old) × (before ≡ before_old)
+
+abbrev pub CountsInCharsAt : Option RopeView → ℕ → ℕ → ℕ → Counts → Counts → Counts → Counts → Type 0
+CountsInCharsAt None start end status old new before_old before = (status ≡ NO_ROPE_HELD) × (new ≡ old) × (before ≡ before_old)
+CountsInCharsAt (Some rope) start end status old new before_old before =
+    CountsPartAt (char_range_error (Some start) (Some end) (length rope.text)) rope start end status old new before_old before
 
 -- the lines of the text from a character on, and what lies before it
 abbrev pub ShowsLinesAt : Option RopeView → ℕ → ℕ → List Slice → List Slice → ℕ → ℕ → Counts → Counts → Type 0

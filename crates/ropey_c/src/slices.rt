@@ -12,7 +12,7 @@ ghost use Rattle.rope_slice.specs.Slice.{content_of, text_of, chunks_of, breaks_
 ghost use Rattle.ropey.specs.View.{content};
 ghost use Rattle.ropey_c.specs.Handles.{HoldsRope};
 ghost use Rattle.ropey_c.specs.Slices.{shown, shown_as, SliceOfChars, SliceOfLine, ShowsBy, ShowsLinesFrom, ShowsLinesBefore};
-ghost use Rattle.ropey_c.specs.Before.{IsBefore, SliceOfCharsAt, ShowsLinesAt};
+ghost use Rattle.ropey_c.specs.Before.{IsBefore, SliceOfCharsAt, CountsInCharsAt, ShowsLinesAt};
 
 use crate::counts::{Counts, counts_of};
 use crate::lent::Lent;
@@ -291,6 +291,49 @@ pub extern "C" fn ropey_char_slice_at<'a>(
         return NO_ROPE_HELD;
     };
     find_chars_at(held, start, end, slice, before)
+}
+
+fn count_chars_at(
+    rope: &Rope,
+    start: usize,
+    end: usize,
+    counts: &mut Counts,
+    before: &mut Counts,
+) -> u32
+    ensures { CountsInCharsAt (Some rope.now) start end result counts.old counts.new before.old before.new }
+{
+    match char_bounds(&(start..end), rope.len_chars()) {
+        Ok((start, end)) => {
+            let (counted, front) = part_at(rope, start, end);
+            *counts = counts_of(&counted);
+            *before = front;
+            OK
+        }
+        Err(error) => status_of(error),
+    }
+}
+
+/// How much text the characters from `start` up to `end` are, as `ropey_counts_in_chars` counts it, and how much of the text
+/// lies before them, as `ropey_char_slice_at` does.
+///
+/// # Errors
+///
+/// `NO_ROPE_HELD`, then `CHAR_RANGE_OUT_OF_BOUNDS`, then `CHAR_RANGE_INVALID`. Then nothing is written.
+#[unsafe(no_mangle)]
+pub extern "C" fn ropey_counts_in_chars_at(
+    rope: &Lent,
+    start: usize,
+    end: usize,
+    counts: &mut Counts,
+    before: &mut Counts,
+) -> u32
+    ensures answer { CountsInCharsAt rope.now.rope start end result counts.old counts.new before.old before.new }
+    ensures kept { HoldsRope rope.now.rope }
+{
+    match rope.held() {
+        Some(held) => count_chars_at(held, start, end, counts, before),
+        None => NO_ROPE_HELD,
+    }
 }
 
 fn find_lines_at<'a>(

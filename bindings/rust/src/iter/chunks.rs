@@ -16,7 +16,7 @@ use crate::MAX_BYTES;
 pub struct Chunks<'a> {
     // The rope, and some chunks around the cursor, of which so many lie behind it. Without a rope, a text in one piece.
     root: Option<&'a Root>,
-    pieces: Pieces<'a>,
+    pub(crate) pieces: Pieces<'a>,
     passed: usize,
     // The range, and where the cursor stands, in bytes of the rope.
     start: usize,
@@ -29,6 +29,9 @@ pub struct Chunks<'a> {
 const MOST: usize = 256;
 
 cursor!(Chunks, &'a str, {});
+
+/// A cursor behind a chunk, the chunk, and how many of its bytes lie before a place in it.
+pub(crate) type InChunk<'a> = (Chunks<'a>, &'a str, usize);
 
 impl Clone for Chunks<'_> {
     /// The same place. Of what was fetched no more than a few are copied, as many a clone is soon dropped.
@@ -55,26 +58,10 @@ impl<'a> Chunks<'a> {
         Chunks { root: None, pieces, passed, start: 0, end, at, is_reversed: false }
     }
 
-    /// Over a range of a rope, before a chunk that a look-up finds; with the bytes, characters and line breaks of the rope
-    /// before it.
-    #[inline]
-    pub(crate) fn found(
-        root: &'a Root,
-        start: Counts,
-        counts: Counts,
-        find: impl FnOnce(&mut Pieces<'a>) -> (usize, usize, usize),
-    ) -> (Chunks<'a>, usize, usize, usize) {
-        let mut chunks = Chunks::of_range(root, start, counts, 0);
-        let (bytes, chars, line_breaks) = find(&mut chunks.pieces);
-        chunks.at = bytes.max(chunks.start);
-        chunks.cut_first(bytes);
-        (chunks, bytes, chars, line_breaks)
-    }
-
     /// Over a range of a rope, behind the chunk that holds its byte `at`, or behind the last one; with that chunk, as far as
     /// it lies in the range, and how many of its bytes lie before `at`.
     #[inline]
-    pub(crate) fn behind(root: &'a Root, start: Counts, counts: Counts, at: usize) -> (Chunks<'a>, &'a str, usize) {
+    pub(crate) fn behind(root: &'a Root, start: Counts, counts: Counts, at: usize) -> InChunk<'a> {
         let mut chunks = Chunks::of_range(root, start, counts, 0);
         if at == 0 {
             let text = known(chunks.forward());
@@ -166,6 +153,12 @@ impl<'a> Chunks<'a> {
         let room = self.pieces.room;
         self.pieces.room = room.min(left / MAX_BYTES + 2);
         MOST.min(2 * room)
+    }
+
+    /// Stands before the first of what was fetched, which begins at the byte `first` of the rope, or at the start of the range.
+    pub(crate) fn stand(&mut self, first: usize) {
+        self.at = first.max(self.start);
+        self.cut_first(first);
     }
 
     /// The first of what was fetched begins at the byte `first` of the rope, perhaps before the cursor, where the range does.

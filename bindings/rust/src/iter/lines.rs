@@ -120,20 +120,20 @@ impl<'a> Lines<'a> {
     #[inline(never)]
     fn cut_line(&mut self, line_idx: usize, is_back: bool) -> RopeSlice<'a> {
         let line = match self.window.before {
-            Some(before) if !is_back && line_idx > 0 => self.clipped(line_idx, before),
+            Some(before) if !is_back => self.clipped(line_idx, before),
             _ => self.slice.get_line(line_idx).unwrap_or(RopeSlice::EMPTY),
         };
-        self.pass(line.counts(), is_back);
+        self.pass(line.counts, is_back);
         line
     }
 
     /// The line that the cursor stands before, as far as it lies in the slice.
     fn clipped(&mut self, line_idx: usize, before: Counts) -> RopeSlice<'a> {
-        let left = self.slice.start().plus(self.slice.counts()).minus(before);
+        let left = self.slice.start().plus(self.slice.counts).minus(before);
         let Some((root, line)) = self.slice.line_of_rope(line_idx, true).filter(|_| left.bytes > 0) else {
             return RopeSlice::EMPTY;
         };
-        let (text, counts) = self.window.line(root, line, false, 1);
+        let (text, counts) = self.window.line(root, line, false, self.total - line_idx);
         let counts = if counts.bytes > left.bytes { left } else { counts };
         RopeSlice::of_lent(root, (text.map(|text| &text[..counts.bytes]), counts), || before)
     }
