@@ -200,6 +200,23 @@ static void make_clone(pair *p, pair *q) {
     held(q);
 }
 
+static void make_part(pair *p, pair *q) {
+    if (p == q) {
+        return;
+    }
+    ropey_range r = drawn_range(p->text.len);
+    ropey_status wanted = !p->held ? ROPEY_NO_ROPE_HELD : char_range_fault(&p->text, r);
+    ropey_status status = CALL(ropey_clone_chars(&p->rope, r.start, r.end, &q->rope));
+    held_all(q);
+    if (status == ROPEY_OK) {
+        CHECK(wanted == ROPEY_OK);
+        take(q, part_of(&p->text, r.start, r.end));
+        return;
+    }
+    CHECK(status == (wanted == ROPEY_OK ? ROPEY_OUT_OF_MEMORY : wanted));
+    held(q);
+}
+
 static void release(pair *p) {
     ropey_free(&p->rope);
     forget(p);
@@ -729,7 +746,7 @@ static void step(int k, pair *p, pair *q) {
     now = names[k];
     switch (k) {
     case 0: make(p); break;
-    case 1: make_clone(p, q); break;
+    case 1: below(2) ? make_clone(p, q) : make_part(p, q); break;
     case 2: release(p); break;
     case 3: shrink(p); break;
     case 4: put_text(p); break;

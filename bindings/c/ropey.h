@@ -31,10 +31,11 @@
  * for ROPEY_OUT_OF_MEMORY: that leaves the text, but not the pointers.
  *
  * Threads. A rope and its clones, the tails that were split off and the ropes that were appended among them, share memory
- * whose owners are counted without locks. Look-ups but `ropey_clone` neither read nor write these counts. So
+ * whose owners are counted without locks. `ropey_clone` and `ropey_clone_chars` read and write these counts, and no other
+ * look-up does. So
  *   - look-ups of one handle may run at once on any threads, as long as no edit of that handle runs;
- *   - edits and `ropey_clone` of ropes that share memory run one at a time: one lock around them is enough, which look-ups
- *     need not take, also of ropes that share memory with the one that is edited.
+ *   - edits and these two calls on ropes that share memory run one at a time: one lock around them is enough, which other
+ *     look-ups need not take, also of ropes that share memory with the one that is edited.
  * A handle may be handed to another thread as any object may. No call may come from a signal handler, or from the child of
  * a fork where the program has threads.
  */
@@ -177,6 +178,10 @@ void ropey_free(ropey_rope *rope);
 /* Makes a clone, in constant time. The two share memory, and an edit of one leaves the other as it was.
  * Refused: NO_ROPE_HELD, OUT_OF_MEMORY. */
 ropey_status ropey_clone(const ropey_rope *rope, ropey_rope *copy);
+
+/* Makes a rope of the characters from start up to end, which shares memory with the first as a clone does.
+ * Refused: NO_ROPE_HELD, CHAR_RANGE_OUT_OF_BOUNDS, CHAR_RANGE_INVALID, OUT_OF_MEMORY. */
+ropey_status ropey_clone_chars(const ropey_rope *rope, size_t start, size_t end, ropey_rope *copy);
 
 /* Cuts the text into as few chunks as ropey_from_text does. Refused: NO_ROPE_HELD, OUT_OF_MEMORY. */
 ropey_status ropey_shrink_to_fit(ropey_rope *rope);

@@ -107,6 +107,7 @@ extern "C" {
     fn ropey_from_text_unchecked(text: *const u8, len: usize, break_set: u32, rope: *mut Handle) -> u32;
     fn ropey_free(rope: *mut Handle);
     fn ropey_clone(rope: Held, copy: *mut Handle) -> u32;
+    fn ropey_clone_chars(rope: Held, start: usize, end: usize, copy: *mut Handle) -> u32;
     fn ropey_shrink_to_fit(rope: *mut Handle) -> u32;
     fn ropey_insert(rope: *mut Handle, char_idx: usize, text: *const u8, len: usize) -> u32;
     fn ropey_insert_char(rope: *mut Handle, char_idx: usize, c: u32) -> u32;
@@ -211,6 +212,14 @@ impl Root {
     pub(crate) fn of_bytes(bytes: &[u8]) -> Option<Root> {
         let mut root = Root(NONE);
         done(unsafe { ropey_from_text(bytes.as_ptr(), bytes.len(), BREAK_SET, &mut root.0) }).then_some(root)
+    }
+
+    /// A rope of the characters from `start` up to `end`, which are in range.
+    pub(crate) fn clone_chars(&self, start: usize, end: usize) -> Root {
+        let mut copy = Root(NONE);
+        let _lock = lock();
+        must(unsafe { ropey_clone_chars(&self.0, start, end, &mut copy.0) });
+        copy
     }
 
     pub(crate) fn shrink_to_fit(&mut self) {
@@ -388,6 +397,7 @@ lists! {
     ropey_chunks_at_line_break: Piece, usize, usize, usize;
     ropey_chunks_before_byte: Piece, usize;
     ropey_lines_at: RawSlice, Counts;
+    ropey_lines_from: RawSlice;
     ropey_lines_before: RawSlice;
 }
 
@@ -529,7 +539,7 @@ impl<'a> Window<'a> {
     }
 
     /// A line of the rope, which has one of this number; it is fetched with those that a cursor will pass next, at most
-    /// `left`. With lines ahead of the cursor it is looked up how much lies before them.
+    /// `left`. With many lines ahead of the cursor it is looked up how much lies before them.
     #[inline(always)]
     pub(crate) fn line(&mut self, root: &'a Root, line_idx: usize, is_back: bool, left: usize) -> Lent<'a> {
         let mut at = self.place(line_idx);
@@ -557,17 +567,16 @@ impl<'a> Window<'a> {
         // Few for a cursor that has turned, as it may turn again; and no few are left for another time.
         let room = if is_back == self.is_back { self.room } else { FEW_LINES };
         let room = if left <= 2 * room { left } else { room };
-        if is_back {
-            fill(&mut self.list, room, |lines, room, count| unsafe {
-                ropey_lines_before(&root.0, line_idx + 1, lines, room, count)
-            });
-        } else {
-            let start = self.before.map(|before| before.chars).or_else(|| root.line_to_char(line_idx));
-            let before = self.before.insert(Counts::NONE);
-            fill(&mut self.list, room, |lines, room, count| unsafe {
-                ropey_lines_at(&root.0, start.unwrap_or(0), lines, room, count, before)
-            });
-        }
+        fill(&mut self.list, room, |lines, room, count| unsafe {
+            match (is_back, self.before) {
+                (true, _) => ropey_lines_before(&root.0, line_idx + 1, lines, room, count),
+                (false, None) if room <= FEW_LINES => ropey_lines_from(&root.0, line_idx, lines, room, count),
+                (false, before) => {
+                    let start = before.map(|before| before.chars).or_else(|| root.line_to_char(line_idx));
+                    ropey_lines_at(&root.0, start.unwrap_or(0), lines, room, count, self.before.insert(Counts::NONE))
+                }
+            }
+        });
         (self.first, self.is_back) = (line_idx, is_back);
         self.room = if room <= FEW_LINES { SCREEN_LINES } else { MOST_LINES };
     }

@@ -44,19 +44,12 @@ const COPIED: usize = 1 << 13;
 impl<'a> From<RopeSlice<'a>> for Rope {
     /// A rope of the slice's text. Of a long text it shares what it can with the slice's rope.
     fn from(slice: RopeSlice<'a>) -> Rope {
-        let (root, start) = match slice.part {
-            Part::Range { root, start } if slice.len_bytes() > COPIED => (root, start.chars),
-            _ => return Rope::from_str(&Cow::from(slice)),
-        };
-        let mut rope = Rope::of(root.clone());
-        let end = start + slice.len_chars();
-        if end < rope.len_chars() {
-            drop(rope.split_off(end));
+        match slice.part {
+            Part::Range { root, start } if slice.len_bytes() > COPIED => {
+                Rope::of(root.clone_chars(start.chars, start.chars + slice.len_chars()))
+            }
+            _ => Rope::from_str(&Cow::from(slice)),
         }
-        if start > 0 {
-            rope = rope.split_off(start);
-        }
-        rope
     }
 }
 

@@ -2,18 +2,21 @@
 ghost use Rattle.std.specs.Prelude.{◌≡◌, ◌<◌, ◌⊎◌, [], None, Some, IfSome, IsSomeAnd, MatchOption, MatchResult};
 ghost use Rattle.std.specs.Str.{IsUtf8, chars};
 ghost use Rattle.rope_text.specs.declared.error.Error.TheVariants.{OutOfMemory};
-ghost use Rattle.ropey.specs.View.{HasFewChunks, IsBuilt};
+ghost use Rattle.rope_slice.specs.Slice.{text_of, breaks_of};
+ghost use Rattle.ropey.specs.View.{HasFewChunks, IsBuilt, IsRope};
 ghost use Rattle.ropey_c.specs.Handles.{HoldsRope};
 ghost use Rattle.ropey_c.specs.Status.{given_breaks, IsStatus, IsTextStatus, IsMakerStatus};
-ghost use Rattle.ropey_c.specs.Answers.{Changes, IsBuiltWith};
+ghost use Rattle.ropey_c.specs.Answers.{Changes, IsBuiltWith, ClonesChars};
 
 use crate::handle::Handle;
 use crate::lent::Lent;
 use crate::status::{
     INVALID_UTF8, NO_ROPE_HELD, OK, OUT_OF_MEMORY, UNKNOWN_BREAK_SET, given_breaks, status,
+    status_of,
 };
+use rope_text::range::char_bounds;
 use rope_text::utf8;
-use ropey::{LineBreaks, Rope};
+use ropey::{LineBreaks, Rope, RopeSlice};
 use std::alloc::Global;
 use std::str;
 
@@ -144,6 +147,53 @@ pub extern "C" fn ropey_clone(alloc: Global, rope: &Lent, copy: &mut Handle) -> 
 {
     match rope.held() {
         Some(held) => clone_into(alloc, held, copy),
+        None => NO_ROPE_HELD,
+    }
+}
+
+fn clone_chars(alloc: Global, rope: &Rope, start: usize, end: usize, copy: &mut Handle) -> u32
+    ensures { ClonesChars (Some rope.now) start end result copy.old.rope copy.new.rope }
+{
+    match char_bounds(&(start..end), rope.len_chars()) {
+        Ok((start, end)) => keep_part(alloc, rope.slice(start..end), copy),
+        Err(error) => status_of(error),
+    }
+}
+
+// Puts a rope of a slice's text into a handle.
+fn keep_part(alloc: Global, part: RopeSlice<'_>, rope: &mut Handle) -> u32
+    ensures status { IsStatus None result }
+    ensures ok { result ≡ OK → IsSomeAnd rope.new.rope (λ r. (r.text ≡ text_of part.entry)
+        × (r.breaks ≡ breaks_of part.entry) × IsRope r) }
+    ensures err { 0 < result → rope.new.rope ≡ rope.old.rope }
+{
+    match Rope::from_slice(alloc, part) {
+        Ok(made) => keep(alloc, made, rope),
+        Err(_) => OUT_OF_MEMORY,
+    }
+}
+
+/// Makes a rope of the characters from `start` up to `end`, counted from 0, and frees the one that `copy` held. The two ropes
+/// share the nodes that lie within the range until one of them is edited, which leaves the other as it was. Takes time and
+/// memory for the nodes along the two cuts.
+///
+/// # Errors
+///
+/// `NO_ROPE_HELD`, then `CHAR_RANGE_OUT_OF_BOUNDS`, then `CHAR_RANGE_INVALID`, then `OUT_OF_MEMORY`. A refused call leaves
+/// `copy` as it was.
+#[unsafe(no_mangle)]
+pub extern "C" fn ropey_clone_chars(
+    alloc: Global,
+    rope: &Lent,
+    start: usize,
+    end: usize,
+    copy: &mut Handle,
+) -> u32
+    ensures answer { ClonesChars rope.now.rope start end result copy.old.rope copy.new.rope }
+    ensures kept { HoldsRope rope.now.rope }
+{
+    match rope.held() {
+        Some(held) => clone_chars(alloc, held, start, end, copy),
         None => NO_ROPE_HELD,
     }
 }
