@@ -200,23 +200,6 @@ static void make_clone(pair *p, pair *q) {
     held(q);
 }
 
-static void make_part(pair *p, pair *q) {
-    if (p == q) {
-        return;
-    }
-    ropey_range r = drawn_range(p->text.len);
-    ropey_status wanted = !p->held ? ROPEY_NO_ROPE_HELD : char_range_fault(&p->text, r);
-    ropey_status status = CALL(ropey_clone_chars(&p->rope, r.start, r.end, &q->rope));
-    held_all(q);
-    if (status == ROPEY_OK) {
-        CHECK(wanted == ROPEY_OK);
-        take(q, part_of(&p->text, r.start, r.end));
-        return;
-    }
-    CHECK(status == (wanted == ROPEY_OK ? ROPEY_OUT_OF_MEMORY : wanted));
-    held(q);
-}
-
 static void release(pair *p) {
     ropey_free(&p->rope);
     forget(p);
@@ -243,6 +226,23 @@ static ropey_status char_range_fault(const model *m, ropey_range r) {
         return ROPEY_CHAR_RANGE_OUT_OF_BOUNDS;
     }
     return r.end < r.start ? ROPEY_CHAR_RANGE_INVALID : ROPEY_OK;
+}
+
+static void make_part(pair *p, pair *q) {
+    if (p == q) {
+        return;
+    }
+    ropey_range r = drawn_range(p->text.len);
+    ropey_status wanted = !p->held ? ROPEY_NO_ROPE_HELD : char_range_fault(&p->text, r);
+    ropey_status status = CALL(ropey_clone_chars(&p->rope, r.start, r.end, &q->rope));
+    held_all(q);
+    if (status == ROPEY_OK) {
+        CHECK(wanted == ROPEY_OK);
+        take(q, part_of(&p->text, r.start, r.end));
+        return;
+    }
+    CHECK(status == (wanted == ROPEY_OK ? ROPEY_OUT_OF_MEMORY : wanted));
+    held(q);
 }
 
 static ropey_status byte_range_fault(const model *m, ropey_range r) {
