@@ -147,11 +147,11 @@ impl<'a> Chunks<'a> {
         }
     }
 
-    /// Has no more fetched than full chunks would have the text that is left; answers how many to fetch the next time, as many
-    /// a cursor is soon dropped.
+    /// Has about as many fetched as full chunks would have the text that is left, and two at least; answers how many to fetch the
+    /// next time: few at first, as many a cursor is soon dropped.
     fn set_room(&mut self, left: usize) -> usize {
         let room = self.pieces.room;
-        self.pieces.room = room.min(left / MAX_BYTES + 2);
+        self.pieces.room = room.min((left + MAX_BYTES / 2) / MAX_BYTES + 1).max(2);
         MOST.min(2 * room)
     }
 
