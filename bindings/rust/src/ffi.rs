@@ -7,6 +7,7 @@
 //!   `Root`, and edits borrow it mutably, so that none of them outlives an edit.
 //! - The bytes of a chunk, and of a piece, are UTF-8, and a character that is answered is a Unicode scalar value.
 //! - A `&str` is UTF-8, and its length is at most `isize::MAX`.
+//! - What a call writes to is never read by it, so that a list is handed over as room that holds nothing yet.
 //! - Counts of owners are not atomic. Without the feature `threads`, nothing that holds a `Root` is `Send` or `Sync`.
 #![allow(unsafe_code)]
 

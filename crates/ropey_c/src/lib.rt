@@ -20,10 +20,10 @@
 //! at once. What a place that is written to held before is never read, so it may hold anything.
 //!
 //! *Where to look.* `makers` makes, clones and frees ropes; `edits`, `byte_edits` and `replace` change them; `lengths`,
-//! `counts`, `conversions`, `positions` and `lookups` answer about a place or a part; `chunks` and `pieces` show where bytes
-//! lie; `copies` copies text out; `compare` compares texts; `texts` answers about plain texts; `builders` takes bytes in
-//! parts, over `intake`; `handle`, `lent`, `builder_handle` and `unboxed` keep a rope behind a pointer; `status` has the
-//! numbers that stand for refusals.
+//! `counts`, `conversions`, `positions` and `lookups` answer about a place or a part; `chunks`, `pieces` and `slices` show
+//! where bytes lie, and what lies before them; `copies` copies text out; `compare` compares texts; `texts` answers about
+//! plain texts; `builders` takes bytes in parts, over `intake`; `handle`, `lent`, `builder_handle` and `unboxed` keep a rope
+//! behind a pointer; `status` has the numbers that stand for refusals.
 #![tactic(auto)]
 
 pub mod builder_handle;

@@ -1,5 +1,5 @@
 use Rattle.std.proofs.Common.{refl, ap, subst, ◌∙◌, arith}
-use Rattle.rope_text.specs.Lookup.{found_chunk, LieBefore}
+use Rattle.rope_text.specs.Lookup.{found_chunk}
 use Rattle.rope_text.specs.Sides.{ahead}
 use Rattle.ropey_c.specs.Pieces.{Fills}
 use Rattle.ropey_c.proofs.pieces.find_chunks_at_line_break.Goals as goal
