@@ -90,7 +90,8 @@ impl<'a> Lines<'a> {
         let Some((root, line)) = self.slice.line_of_rope(line_idx, self.is_whole) else {
             return self.cut_line(line_idx, is_back);
         };
-        let left = if is_back { line_idx + 1 } else { self.total - line_idx };
+        // The first line of a slice that isn't whole may be cut, and is fetched going forward alone, from where the slice starts.
+        let left = if is_back { line_idx + usize::from(self.is_whole) } else { self.total - line_idx };
         let (text, counts) = self.window.line(root, line, is_back, left);
         let Some(text) = text else { return self.long_line(root, line, counts, is_back) };
         self.pass(counts, is_back);
