@@ -6,7 +6,8 @@
 # The counts of nodes are changed in one way alone: a node that is owned is made, cloned (`share`) or dropped. Look-ups get
 # nodes by `&`. So the files that they go through may name no owned node, no `Rc`, no `share` and no `Maker`, which makes
 # nodes; and `crates/ropey_c` may name none of them where it looks. The one exception is `Rope::from_slice`, which makes a rope
-# and which no call of the library for C reaches. It needs git and grep. The status is 0 where nothing is found.
+# and which in the library for C `ropey_clone_chars` alone reaches, no look-up. It needs git and grep. The status is 0 where
+# nothing is found.
 #
 # bindings/c/look_ups_write_nothing.c shows the same as it runs: nodes and handles lie in memory that may only be read.
 set -euo pipefail

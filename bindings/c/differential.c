@@ -171,7 +171,8 @@ static void make(pair *p) {
         bytes[below(len)] = 0xFF;
     }
     text.break_set = set;
-    ropey_status status = CALL(ropey_from_text(len == 0 && below(2) ? NULL : bytes, len, set, &p->rope));
+    bool is_known = !broken && below(2);
+    ropey_status status = CALL((is_known ? ropey_from_text_unchecked : ropey_from_text)(len == 0 && below(2) ? NULL : bytes, len, set, &p->rope));
     ropey_status wanted = set > ROPEY_UNICODE ? ROPEY_UNKNOWN_BREAK_SET : broken ? ROPEY_INVALID_UTF8 : ROPEY_OK;
     free(bytes);
     if (status == ROPEY_OK && wanted == ROPEY_OK) {
@@ -225,6 +226,23 @@ static ropey_status char_range_fault(const model *m, ropey_range r) {
         return ROPEY_CHAR_RANGE_OUT_OF_BOUNDS;
     }
     return r.end < r.start ? ROPEY_CHAR_RANGE_INVALID : ROPEY_OK;
+}
+
+static void make_part(pair *p, pair *q) {
+    if (p == q) {
+        return;
+    }
+    ropey_range r = drawn_range(p->text.len);
+    ropey_status wanted = !p->held ? ROPEY_NO_ROPE_HELD : char_range_fault(&p->text, r);
+    ropey_status status = CALL(ropey_clone_chars(&p->rope, r.start, r.end, &q->rope));
+    held_all(q);
+    if (status == ROPEY_OK) {
+        CHECK(wanted == ROPEY_OK);
+        take(q, part_of(&p->text, r.start, r.end));
+        return;
+    }
+    CHECK(status == (wanted == ROPEY_OK ? ROPEY_OUT_OF_MEMORY : wanted));
+    held(q);
 }
 
 static ropey_status byte_range_fault(const model *m, ropey_range r) {
@@ -469,6 +487,36 @@ static void pieces(pair *p) {
     CHECK(count <= room && (count == room || at == len));
 }
 
+/* Chunks from a byte, a character or a line break on, with all that lies before them: they are those of the look-up of one. */
+static void chunks_at(pair *p) {
+    typedef ropey_status one(const ropey_rope *, size_t, ropey_chunk *);
+    typedef ropey_status some(const ropey_rope *, size_t, ropey_piece *, size_t, size_t *, size_t *, size_t *, size_t *);
+    one *const ones[] = {ropey_chunk_at_byte, ropey_chunk_at_char, ropey_chunk_at_line_break};
+    some *const alls[] = {ropey_chunks_at_byte, ropey_chunks_at_char, ropey_chunks_at_line_break};
+    const model *m = &p->text;
+    ropey_counts all = counts_of(m);
+    size_t unit = below(3), len = unit == 0 ? all.bytes : unit == 1 ? m->len : all.line_breaks + 1, i = below(4) == 0 ? len : below(len + 2);
+    size_t room = below(PIECES), count = 77, bytes = 77, chars = 77, line_breaks = 77;
+    ropey_piece found[PIECES];
+    memset(found, 0, sizeof found);
+    ropey_chunk first = ROPEY_NO_CHUNK;
+    ropey_status wanted = ones[unit](&p->rope, i, &first);
+    CHECK(alls[unit](&p->rope, i, room == 0 ? NULL : found, room, &count, &bytes, &chars, &line_breaks) == wanted);
+    if (wanted != ROPEY_OK) {
+        CHECK(count == 77 && bytes == 77 && chars == 77 && line_breaks == 77 && found[0].text == NULL);
+        return;
+    }
+    ropey_chunk end = {first.text, 0, all.bytes, m->len, all.line_breaks};
+    first = i == len ? end : first;
+    CHECK(bytes == first.bytes_before && chars == first.chars_before && line_breaks == first.line_breaks_before);
+    CHECK(count == 0 || (found[0].text == first.text && found[0].len == first.len));
+    for (size_t k = 0; k < count; k++) {
+        CHECK(found[k].len > 0 && memcmp(found[k].text, p->bytes + bytes, found[k].len) == 0);
+        bytes += found[k].len;
+    }
+    CHECK(count <= room && (count == room || bytes == all.bytes));
+}
+
 static void line(pair *p) {
     const model *m = &p->text;
     size_t lines = counts_of(m).line_breaks + 1, l = below(lines + 1), room = below(PIECES), count = 77;
@@ -531,6 +579,45 @@ static void slices(pair *p) {
     for (size_t k = 0; k < count; k++) {
         see_slice(p, &found[k], start_of_line(m, l - k - 1), start_of_line(m, l - k));
     }
+}
+
+/* A range, and the lines from a character on, with what lies before them. */
+static void slices_at(pair *p) {
+    enum { SLICES = 8 };
+    const model *m = &p->text;
+    size_t i = below(m->len + 2), room = below(SLICES), count = 77;
+    ropey_slice found[SLICES], slice = ROPEY_NO_SLICE;
+    ropey_counts before = {77, 77, 77, 77}, wanted;
+    memset(found, 0, sizeof found);
+    ropey_range r = drawn_range(m->len);
+    ropey_status fault = !p->held ? ROPEY_NO_ROPE_HELD : char_range_fault(m, r);
+    CHECK(ropey_char_slice_at(&p->rope, r.start, r.end, &slice, &before) == fault);
+    CHECK(fault == ROPEY_OK || (slice.counts.bytes == 0 && before.bytes == 77));
+    if (fault == ROPEY_OK) {
+        see_slice(p, &slice, r.start, r.end);
+        wanted = counts_before(m, r.start);
+        CHECK(memcmp(&before, &wanted, sizeof before) == 0);
+    }
+    ropey_counts counts = {77, 77, 77, 77};
+    before = counts;
+    CHECK(ropey_counts_in_chars_at(&p->rope, r.start, r.end, &counts, &before) == fault);
+    CHECK(fault == ROPEY_OK ? memcmp(&counts, &slice.counts, sizeof counts) == 0 && memcmp(&before, &wanted, sizeof before) == 0
+        : counts.bytes == 77 && before.bytes == 77);
+    before.bytes = 77;
+    fault = !p->held ? ROPEY_NO_ROPE_HELD : i > m->len ? ROPEY_CHAR_INDEX_OUT_OF_BOUNDS : ROPEY_OK;
+    CHECK(ropey_lines_at(&p->rope, i, room == 0 ? NULL : found, room, &count, &before) == fault);
+    if (fault != ROPEY_OK) {
+        CHECK(count == 77 && before.bytes == 77);
+        return;
+    }
+    model rest = part_of(m, i, m->len);
+    size_t lines = counts_of(&rest).line_breaks + 1;
+    wanted = counts_before(m, i);
+    CHECK(memcmp(&before, &wanted, sizeof before) == 0 && count == (room < lines ? room : lines));
+    for (size_t k = 0; k < count; k++) {
+        see_slice(p, &found[k], i + start_of_line(&rest, k), i + start_of_line(&rest, k + 1));
+    }
+    free(rest.chars);
 }
 
 /* Copies and counts of a range. */
@@ -659,7 +746,7 @@ static void step(int k, pair *p, pair *q) {
     now = names[k];
     switch (k) {
     case 0: make(p); break;
-    case 1: make_clone(p, q); break;
+    case 1: below(2) ? make_clone(p, q) : make_part(p, q); break;
     case 2: release(p); break;
     case 3: shrink(p); break;
     case 4: put_text(p); break;
@@ -671,12 +758,12 @@ static void step(int k, pair *p, pair *q) {
     case 10: place(p); break;
     case 11: item(p); break;
     case 12: chunk(p); break;
-    case 13: pieces(p); break;
+    case 13: below(2) ? pieces(p) : chunks_at(p); break;
     case 14: line(p); break;
     case 15: range(p); break;
     case 16: compare(p, q); break;
     case 17: plain(); break;
-    case 18: slices(p); break;
+    case 18: below(2) ? slices(p) : slices_at(p); break;
     default: build(p); break;
     }
     held_all(NULL);

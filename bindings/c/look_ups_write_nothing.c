@@ -66,7 +66,7 @@ static void make(ropey_rope *ropes) {
     }
 }
 
-/* Every look-up but ropey_clone. */
+/* Every look-up but ropey_clone and ropey_clone_chars. */
 static void look(const ropey_rope *rope, const ropey_rope *other) {
     size_t bytes = ropey_len_bytes(rope), chars = ropey_len_chars(rope), lines = ropey_len_lines(rope), units = ropey_len_utf16(rope);
     size_t i = below(chars), line = below(lines), answer = 0, count = 0, before = 0;
@@ -80,6 +80,7 @@ static void look(const ropey_rope *rope, const ropey_rope *other) {
     ropey_counts counts = {0, 0, 0, 0};
     ropey_chunk chunk = ROPEY_NO_CHUNK;
     ropey_piece pieces[PIECES] = {{0}};
+    ropey_slice slices[PIECES] = {{0}};
     expect(ropey_get_break_set(rope, &number));
     expect(ropey_byte_to_char(rope, below(bytes), &answer));
     expect(ropey_byte_to_line(rope, below(bytes), &answer));
@@ -104,6 +105,16 @@ static void look(const ropey_rope *rope, const ropey_rope *other) {
     expect(ropey_chunk_at_line_break(rope, line, &chunk));
     expect(ropey_chunks_from_byte(rope, below(bytes), pieces, PIECES, &count, &before));
     expect(ropey_chunks_before_byte(rope, below(bytes), pieces, PIECES, &count, &before));
+    expect(ropey_chunks_at_byte(rope, below(bytes), pieces, PIECES, &count, &before, &answer, &answer));
+    expect(ropey_chunks_at_char(rope, i, pieces, PIECES, &count, &before, &answer, &answer));
+    expect(ropey_chunks_at_line_break(rope, line, pieces, PIECES, &count, &before, &answer, &answer));
+    expect(ropey_line_slice(rope, line, &slices[0]));
+    expect(ropey_char_slice(rope, i, chars, &slices[0]));
+    expect(ropey_char_slice_at(rope, i, chars, &slices[0], &counts));
+    expect(ropey_counts_in_chars_at(rope, i, chars, &counts, &slices[0].counts));
+    expect(ropey_lines_from(rope, line, slices, PIECES, &count));
+    expect(ropey_lines_before(rope, line, slices, PIECES, &count));
+    expect(ropey_lines_at(rope, i, slices, PIECES, &count, &counts));
     expect(ropey_compare(rope, other, &order));
     expect(ropey_equals_text(rope, chunk.text, chunk.len, &equal));
 }

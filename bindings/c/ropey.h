@@ -22,7 +22,7 @@
  * break of the rope's set. A text has one line more than it has line breaks, and its last line may be empty.
  *
  * Refusals. A call answers ROPEY_OK, or the first reason for which it was refused, in the order in which its comment gives
- * them. No index, text or number can make a call do anything else. A refused call leaves every rope as it was and writes
+ * them. No index, text or number can make a call do anything else, but for ropey_from_text_unchecked. A refused call leaves every rope as it was and writes
  * nothing, but where its comment says so. A call on a handle that holds no rope answers ROPEY_NO_ROPE_HELD.
  *
  * Edits are the calls that take a `ropey_rope *` which holds a rope; look-ups are those that take a `const ropey_rope *`.
@@ -31,10 +31,11 @@
  * for ROPEY_OUT_OF_MEMORY: that leaves the text, but not the pointers.
  *
  * Threads. A rope and its clones, the tails that were split off and the ropes that were appended among them, share memory
- * whose owners are counted without locks. Look-ups but `ropey_clone` neither read nor write these counts. So
+ * whose owners are counted without locks. `ropey_clone` and `ropey_clone_chars` read and write these counts, and no other
+ * look-up does. So
  *   - look-ups of one handle may run at once on any threads, as long as no edit of that handle runs;
- *   - edits and `ropey_clone` of ropes that share memory run one at a time: one lock around them is enough, which look-ups
- *     need not take, also of ropes that share memory with the one that is edited.
+ *   - edits and these two calls on ropes that share memory run one at a time: one lock around them is enough, which other
+ *     look-ups need not take, also of ropes that share memory with the one that is edited.
  * A handle may be handed to another thread as any object may. No call may come from a signal handler, or from the child of
  * a fork where the program has threads.
  */
@@ -167,12 +168,20 @@ typedef struct {
  * Refused: UNKNOWN_BREAK_SET, INVALID_UTF8, OUT_OF_MEMORY. */
 ropey_status ropey_from_text(const uint8_t *text, size_t len, uint32_t break_set, ropey_rope *rope);
 
+/* The same of a text that is known to be UTF-8, which is not read to find out. This alone of all calls has a condition: where the
+ * bytes are no UTF-8, it makes no rope, and later calls may do anything. Refused: UNKNOWN_BREAK_SET, OUT_OF_MEMORY. */
+ropey_status ropey_from_text_unchecked(const uint8_t *text, size_t len, uint32_t break_set, ropey_rope *rope);
+
 /* Frees the rope, if there is one. Afterwards the handle holds none. */
 void ropey_free(ropey_rope *rope);
 
 /* Makes a clone, in constant time. The two share memory, and an edit of one leaves the other as it was.
  * Refused: NO_ROPE_HELD, OUT_OF_MEMORY. */
 ropey_status ropey_clone(const ropey_rope *rope, ropey_rope *copy);
+
+/* Makes a rope of the characters from start up to end, which shares memory with the first as a clone does.
+ * Refused: NO_ROPE_HELD, CHAR_RANGE_OUT_OF_BOUNDS, CHAR_RANGE_INVALID, OUT_OF_MEMORY. */
+ropey_status ropey_clone_chars(const ropey_rope *rope, size_t start, size_t end, ropey_rope *copy);
 
 /* Cuts the text into as few chunks as ropey_from_text does. Refused: NO_ROPE_HELD, OUT_OF_MEMORY. */
 ropey_status ropey_shrink_to_fit(ropey_rope *rope);
@@ -285,6 +294,17 @@ ropey_status ropey_chunk_at_line_break(const ropey_rope *rope, size_t line_idx, 
 ropey_status ropey_chunks_from_byte(const ropey_rope *rope, size_t byte_idx, ropey_piece *pieces, size_t room,
     size_t *count, size_t *bytes_before);
 
+/* The chunks from one on, as far as there is room, and how many bytes, characters and line breaks of the text lie before the
+ * first of them: from the chunk that holds a byte or a character, or the line break before a line, for the first line from the
+ * first chunk. For the length, or the number of lines, there are none, and all of the text lies before.
+ * Refused: NO_ROPE_HELD, and the index's OUT_OF_BOUNDS where it is past the length. */
+ropey_status ropey_chunks_at_byte(const ropey_rope *rope, size_t byte_idx, ropey_piece *pieces, size_t room, size_t *count,
+    size_t *bytes_before, size_t *chars_before, size_t *line_breaks_before);
+ropey_status ropey_chunks_at_char(const ropey_rope *rope, size_t char_idx, ropey_piece *pieces, size_t room, size_t *count,
+    size_t *bytes_before, size_t *chars_before, size_t *line_breaks_before);
+ropey_status ropey_chunks_at_line_break(const ropey_rope *rope, size_t line_idx, ropey_piece *pieces, size_t room,
+    size_t *count, size_t *bytes_before, size_t *chars_before, size_t *line_breaks_before);
+
 /* The chunks before the one that holds a byte, the nearest first, as far as there is room: their number is written to
  * count, and how many bytes lie before the chunk that holds the byte to bytes_before. At the end of the text the last chunk
  * comes first. To go on, ask for the first byte of the last piece. Refused: NO_ROPE_HELD, BYTE_INDEX_OUT_OF_BOUNDS. */
@@ -300,10 +320,21 @@ ropey_status ropey_line_slice(const ropey_rope *rope, size_t line_idx, ropey_sli
  * Refused: NO_ROPE_HELD, CHAR_RANGE_OUT_OF_BOUNDS, CHAR_RANGE_INVALID. */
 ropey_status ropey_char_slice(const ropey_rope *rope, size_t start, size_t end, ropey_slice *slice);
 
+/* The same, or its counts alone, with how much of the text lies before start. A line break that ends behind start is none of
+ * it. */
+ropey_status ropey_char_slice_at(const ropey_rope *rope, size_t start, size_t end, ropey_slice *slice, ropey_counts *before);
+ropey_status ropey_counts_in_chars_at(const ropey_rope *rope, size_t start, size_t end, ropey_counts *counts,
+    ropey_counts *before);
+
 /* The lines from line_idx on, or those before it, the nearest first, each with its line break, as far as there is room: their
  * number is written to count. One look-up, and then a step a line. Refused: NO_ROPE_HELD, LINE_INDEX_OUT_OF_BOUNDS. */
 ropey_status ropey_lines_from(const ropey_rope *rope, size_t line_idx, ropey_slice *lines, size_t room, size_t *count);
 ropey_status ropey_lines_before(const ropey_rope *rope, size_t line_idx, ropey_slice *lines, size_t room, size_t *count);
+
+/* The lines of the text from a character on, of which the first begins there, with how much of the text lies before it. To go
+ * on, ask for the character past the last line. Refused: NO_ROPE_HELD, CHAR_INDEX_OUT_OF_BOUNDS. */
+ropey_status ropey_lines_at(const ropey_rope *rope, size_t char_idx, ropey_slice *lines, size_t room, size_t *count,
+    ropey_counts *before);
 
 /* Copies and comparisons. */
 

@@ -53,6 +53,13 @@ class rope {
         return copy;
     }
 
+    /* Of a range of characters. */
+    rope clone(size_t start, size_t end) const {
+        rope copy{none()};
+        check(ropey_clone_chars(&handle, start, end, &copy.handle));
+        return copy;
+    }
+
     void insert(size_t char_idx, std::string_view text) { check(ropey_insert(&handle, char_idx, bytes_of(text), text.size())); }
     void insert_at_byte(size_t byte_idx, std::string_view text) { check(ropey_insert_at_byte(&handle, byte_idx, bytes_of(text), text.size())); }
     void remove(size_t start, size_t end) { check(ropey_remove(&handle, start, end)); }

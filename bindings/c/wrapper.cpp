@@ -25,6 +25,8 @@ int main() {
     rope.replace(0, 5, "HELLO");
     CHECK(rope.line(0) == "HELLO, you \xF0\x9F\x90\x88\r\n" && before.text(0, 6) == "hello ");
     CHECK(rope != before && before == before.clone() && before.compare(rope) > 0);
+    CHECK(before.clone(6, 12).text() == before.text(6, 12));
+    CHECK(refusal_of([&] { before.clone(5, 4); }) == ROPEY_CHAR_RANGE_INVALID);
     CHECK(rope.byte_to_char(11) == 11 && rope.char_to_utf16(12) == 13 && rope.line_to_char(1) == 14);
     CHECK(refusal_of([&] { rope.insert(100, "x"); }) == ROPEY_CHAR_INDEX_OUT_OF_BOUNDS);
     CHECK(refusal_of([&] { rope.remove_bytes(12, 13); }) == ROPEY_BYTE_RANGE_NOT_CHAR_BOUNDARY);

@@ -11,15 +11,15 @@ const ADVICE: &str = "It is made by scripts/build_c_library.sh of this repositor
 /// The folder that `pkg-config` names, where the library is installed.
 fn installed() -> Option<PathBuf> {
     let output = Command::new("pkg-config").args(["--variable=libdir", "ropey"]).output().ok()?;
-    let folder = String::from_utf8(output.stdout).ok()?;
-    let folder = Path::new(folder.trim());
-    (output.status.success() && folder.join(ARCHIVE).is_file()).then(|| folder.to_path_buf())
+    let folder = String::from_utf8(output.stdout).ok().filter(|_| output.status.success())?;
+    Some(PathBuf::from(folder.trim()))
 }
 
-/// The folder of this repository in which the library is built.
-fn built() -> Option<PathBuf> {
-    let folder = Path::new(env!("CARGO_MANIFEST_DIR")).join("../../crates/ropey_c/out");
-    folder.join(ARCHIVE).is_file().then_some(folder)
+/// The folders in which an archive is looked for, where none is named: the installed one, and that of this repository in which
+/// the library is built.
+fn found() -> Option<PathBuf> {
+    let built = Path::new(env!("CARGO_MANIFEST_DIR")).join("../../crates/ropey_c/out");
+    installed().into_iter().chain([built]).find(|folder| folder.join(ARCHIVE).is_file())
 }
 
 fn named() -> Option<PathBuf> {
@@ -34,8 +34,7 @@ fn main() {
     if std::env::var_os("DOCS_RS").is_some() {
         return;
     }
-    let folder =
-        named().or_else(installed).or_else(built).unwrap_or_else(|| panic!("{ARCHIVE} is not found. {ADVICE}"));
+    let folder = named().or_else(found).unwrap_or_else(|| panic!("{ARCHIVE} is not found. {ADVICE}"));
     println!("cargo:rerun-if-changed={}", folder.join(ARCHIVE).display());
     println!("cargo:rustc-link-search=native={}", folder.display());
     println!("cargo:rustc-link-lib=static=ropey");

@@ -1,5 +1,5 @@
 //! Ropes of texts that come in parts.
-use std::io;
+use std::io::{self, ErrorKind};
 
 use crate::ffi::Root;
 use crate::rope::Rope;
@@ -22,13 +22,8 @@ const READ: usize = 1 << 12;
 #[derive(Clone, Debug, Default)]
 pub struct RopeBuilder {
     rope: Rope,
-    // The bytes that wait, `filled` of them, and room for reading more.
-    bytes: Vec<u8>,
-    filled: usize,
-}
-
-fn invalid() -> io::Error {
-    io::Error::new(io::ErrorKind::InvalidData, "the bytes that were read are not UTF-8")
+    // The text that waits.
+    text: String,
 }
 
 impl RopeBuilder {
@@ -40,44 +35,50 @@ impl RopeBuilder {
     /// Gives the builder the text that follows.
     #[inline]
     pub fn append(&mut self, chunk: &str) {
-        self.bytes.truncate(self.filled);
-        self.bytes.extend_from_slice(chunk.as_bytes());
-        self.filled = self.bytes.len();
-        if self.filled >= BLOCK {
-            self.settle(self.filled).expect("texts are UTF-8");
+        self.text.push_str(chunk);
+        if self.text.len() >= BLOCK {
+            self.settle();
         }
     }
 
     /// The rope of all that the builder was given.
-    pub fn finish(self) -> Rope {
-        self.made().expect("texts are UTF-8")
+    pub fn finish(mut self) -> Rope {
+        self.settle();
+        self.rope
     }
 
-    /// Reads once, and answers whether there was something to read.
-    pub(crate) fn read(&mut self, reader: &mut impl io::Read) -> io::Result<bool> {
-        if self.filled >= BLOCK {
+    fn settle(&mut self) {
+        self.rope.append(Rope::of(Root::of_text(&self.text)));
+        self.text.clear();
+    }
+}
+
+/// The rope of all that a reader gives, which has to be UTF-8.
+pub(crate) fn read(reader: &mut impl io::Read) -> io::Result<Rope> {
+    let invalid = || io::Error::new(ErrorKind::InvalidData, "the bytes that were read are not UTF-8");
+    let (mut rope, mut bytes, mut filled) = (Rope::new(), vec![0; READ], 0);
+    loop {
+        let count = reader.read(&mut bytes[filled..])?;
+        filled += count;
+        let whole = match count {
+            0 => filled,
             // The last character may not be whole yet, and waits for the next bytes.
-            let last = self.bytes[..self.filled].iter().rposition(|byte| !matches!(byte, 0x80..=0xbf));
-            self.settle(last.filter(|&last| last > 0).ok_or_else(invalid)?)?;
-        } else if self.filled == self.bytes.len() {
-            self.bytes.resize(BLOCK.min(READ.max(4 * self.filled)), 0);
+            _ if filled >= BLOCK => {
+                let last = bytes[..filled].iter().rposition(|byte| !matches!(byte, 0x80..=0xbf));
+                last.filter(|&last| last > 0).ok_or_else(invalid)?
+            }
+            _ => 0,
+        };
+        if whole > 0 {
+            rope.append(Rope::of(Root::of_bytes(&bytes[..whole]).ok_or_else(invalid)?));
+            bytes.copy_within(whole..filled, 0);
+            filled -= whole;
         }
-        let count = reader.read(&mut self.bytes[self.filled..])?;
-        self.filled += count;
-        Ok(count > 0)
-    }
-
-    /// The rope of all bytes, which have to be UTF-8.
-    pub(crate) fn made(mut self) -> io::Result<Rope> {
-        self.settle(self.filled)?;
-        Ok(self.rope)
-    }
-
-    /// Puts the first of the bytes that wait behind the rope.
-    fn settle(&mut self, len: usize) -> io::Result<()> {
-        self.rope.append(Rope::of(Root::of_bytes(&self.bytes[..len]).ok_or_else(invalid)?));
-        self.bytes.copy_within(len..self.filled, 0);
-        self.filled -= len;
-        Ok(())
+        if count == 0 {
+            return Ok(rope);
+        }
+        if filled == bytes.len() {
+            bytes.resize(BLOCK.min(4 * filled), 0);
+        }
     }
 }

@@ -120,6 +120,18 @@ macro_rules! panicking_calls {
             self.lines_at(0)
         }
 
+        /// A slice of a range of characters; none where it is not in range.
+        #[inline]
+        pub fn get_slice<R: RangeBounds<usize>>(&self, char_range: R) -> Option<RopeSlice<$text>> {
+            self.slice_chars(Bounds::of(&char_range)).ok()
+        }
+
+        /// A slice of a range of bytes; none where it is not in range, or one of its bounds lies inside a character.
+        #[inline]
+        pub fn get_byte_slice<R: RangeBounds<usize>>(&self, byte_range: R) -> Option<RopeSlice<$text>> {
+            self.slice_bytes(Bounds::of(&byte_range)).ok()
+        }
+
         /// A slice of a range of characters. No text is copied.
         ///
         /// # Panics

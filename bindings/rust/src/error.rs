@@ -46,16 +46,10 @@ pub enum Error {
 
 impl std::error::Error for Error {}
 
-/// The bounds of a range as they were given, printed as Rust writes them.
-struct Bounds(Option<usize>, Option<usize>);
-
-impl fmt::Display for Bounds {
-    fn fmt(&self, f: &mut fmt::Formatter<'_>) -> fmt::Result {
-        let Bounds(start, end) = self;
-        start.map_or(Ok(()), |start| write!(f, "{start}"))?;
-        f.write_str("..")?;
-        end.map_or(Ok(()), |end| write!(f, "{end}"))
-    }
+/// The bounds of a range as they were given, as Rust writes them.
+fn range(start: Option<usize>, end: Option<usize>) -> String {
+    let bound = |index: Option<usize>| index.map_or(String::new(), |index| index.to_string());
+    format!("{}..{}", bound(start), bound(end))
 }
 
 impl fmt::Display for Error {
@@ -71,15 +65,15 @@ impl fmt::Display for Error {
             Error::Utf16IndexOutOfBounds(i, len) => index("Utf16 code-unit", "utf16", "utf16 length", i, len),
             Error::ByteIndexNotCharBoundary(i) => write!(f, "Byte index is not a valid char boundary: byte index {i}"),
             Error::ByteRangeNotCharBoundary(start, end) => {
-                write!(f, "Byte range does not align with char boundaries: range {}", Bounds(start, end))
+                write!(f, "Byte range does not align with char boundaries: range {}", range(start, end))
             }
             Error::ByteRangeInvalid(start, end) => write!(f, "Invalid byte range {start}..{end}: start must be <= end"),
             Error::CharRangeInvalid(start, end) => write!(f, "Invalid char range {start}..{end}: start must be <= end"),
             Error::ByteRangeOutOfBounds(start, end, len) => {
-                write!(f, "Byte range out of bounds: byte range {}, {OF} byte length {len}", Bounds(start, end))
+                write!(f, "Byte range out of bounds: byte range {}, {OF} byte length {len}", range(start, end))
             }
             Error::CharRangeOutOfBounds(start, end, len) => {
-                write!(f, "Char range out of bounds: char range {}, {OF} char length {len}", Bounds(start, end))
+                write!(f, "Char range out of bounds: char range {}, {OF} char length {len}", range(start, end))
             }
         }
     }

@@ -7,12 +7,14 @@
 //!   `Root`, and edits borrow it mutably, so that none of them outlives an edit.
 //! - The bytes of a chunk, and of a piece, are UTF-8, and a character that is answered is a Unicode scalar value.
 //! - A `&str` is UTF-8, and its length is at most `isize::MAX`.
+//! - What a call writes to is never read by it, so that a list is handed over as room that holds nothing yet.
 //! - Counts of owners are not atomic. Without the feature `threads`, nothing that holds a `Root` is `Send` or `Sync`.
 #![allow(unsafe_code)]
 
 use std::alloc::{handle_alloc_error, Layout};
 use std::ffi::c_void;
 use std::marker::PhantomData;
+use std::mem::MaybeUninit;
 use std::ptr;
 
 /// `ropey_rope`.
@@ -22,6 +24,9 @@ struct Handle {
 }
 
 const NONE: Handle = Handle { ptr: ptr::null_mut() };
+
+/// `const ropey_rope *`.
+type Held = *const Handle;
 
 /// `ropey_chunk`.
 #[repr(C)]
@@ -37,14 +42,6 @@ const NO_CHUNK: RawChunk = RawChunk { text: NO_PIECE, bytes_before: 0, chars_bef
 /// A chunk, and the bytes, characters and line breaks before it.
 pub(crate) type ChunkAt<'a> = (&'a str, usize, usize, usize);
 
-impl RawChunk {
-    /// Safety: the rope is neither edited nor freed for `'a`.
-    #[inline(always)]
-    unsafe fn lent<'a>(self) -> ChunkAt<'a> {
-        (text_at(self.text), self.bytes_before, self.chars_before, self.line_breaks_before)
-    }
-}
-
 /// `ropey_piece`.
 #[repr(C)]
 #[derive(Clone, Copy)]
@@ -54,6 +51,13 @@ struct Piece {
 }
 
 const NO_PIECE: Piece = Piece { text: "".as_ptr(), len: 0 };
+
+impl Piece {
+    #[inline(always)]
+    fn of(text: &str) -> Piece {
+        Piece { text: text.as_ptr(), len: text.len() }
+    }
+}
 
 /// `ropey_counts`: how much a text holds.
 #[repr(C)]
@@ -101,23 +105,20 @@ const BREAK_SET: u32 = match (cfg!(feature = "cr_lines"), cfg!(feature = "unicod
 // Those that are alike are declared where they are called.
 extern "C" {
     fn ropey_from_text(text: *const u8, len: usize, break_set: u32, rope: *mut Handle) -> u32;
+    fn ropey_from_text_unchecked(text: *const u8, len: usize, break_set: u32, rope: *mut Handle) -> u32;
     fn ropey_free(rope: *mut Handle);
-    fn ropey_clone(rope: *const Handle, copy: *mut Handle) -> u32;
+    fn ropey_clone(rope: Held, copy: *mut Handle) -> u32;
+    fn ropey_clone_chars(rope: Held, start: usize, end: usize, copy: *mut Handle) -> u32;
     fn ropey_shrink_to_fit(rope: *mut Handle) -> u32;
     fn ropey_insert(rope: *mut Handle, char_idx: usize, text: *const u8, len: usize) -> u32;
     fn ropey_insert_char(rope: *mut Handle, char_idx: usize, c: u32) -> u32;
     fn ropey_remove(rope: *mut Handle, start: usize, end: usize) -> u32;
     fn ropey_split_off(rope: *mut Handle, char_idx: usize, tail: *mut Handle) -> u32;
     fn ropey_append(rope: *mut Handle, other: *mut Handle) -> u32;
-    fn ropey_copy_bytes(
-        rope: *const Handle,
-        start: usize,
-        end: usize,
-        buffer: *mut u8,
-        room: usize,
-        len: *mut usize,
-    ) -> u32;
+    fn ropey_copy_bytes(rope: Held, start: usize, end: usize, buffer: *mut u8, room: usize, len: *mut usize) -> u32;
     fn ropey_text_counts(text: *const u8, len: usize, break_set: u32, counts: *mut Counts) -> u32;
+    fn ropey_counts_in_chars_at(rope: Held, start: usize, end: usize, counts: *mut Counts, before: *mut Counts) -> u32;
+    fn ropey_char_slice_at(rope: Held, start: usize, end: usize, slice: *mut RawSlice, before: *mut Counts) -> u32;
 }
 
 /// One lock for all ropes, around every call that may touch a count of owners: clones, edits, frees.
@@ -202,13 +203,24 @@ impl Clone for Root {
 /// Edits answer whether the index or range was in range. Out of memory, they end as those of a `Vec` do.
 impl Root {
     pub(crate) fn of_text(text: &str) -> Root {
-        Root::of_bytes(text.as_bytes()).expect("a text is UTF-8")
+        let mut root = Root(NONE);
+        // Safety: a `&str` is UTF-8.
+        must(unsafe { ropey_from_text_unchecked(text.as_ptr(), text.len(), BREAK_SET, &mut root.0) });
+        root
     }
 
     /// A rope of the bytes; none where they are not UTF-8.
     pub(crate) fn of_bytes(bytes: &[u8]) -> Option<Root> {
         let mut root = Root(NONE);
         done(unsafe { ropey_from_text(bytes.as_ptr(), bytes.len(), BREAK_SET, &mut root.0) }).then_some(root)
+    }
+
+    /// A rope of the characters from `start` up to `end`, which are in range.
+    pub(crate) fn clone_chars(&self, start: usize, end: usize) -> Root {
+        let mut copy = Root(NONE);
+        let _lock = lock();
+        must(unsafe { ropey_clone_chars(&self.0, start, end, &mut copy.0) });
+        copy
     }
 
     pub(crate) fn shrink_to_fit(&mut self) {
@@ -251,7 +263,7 @@ impl Root {
 macro_rules! lengths {
     ($($name:ident: $call:ident;)*) => {
         extern "C" {
-            $(fn $call(rope: *const Handle) -> usize;)*
+            $(fn $call(rope: Held) -> usize;)*
         }
 
         impl Root {
@@ -277,7 +289,7 @@ lengths! {
 macro_rules! look_ups {
     (($raw:ty = $none:expr) -> $answer:ty, $answered:expr; $($name:ident($($index:ident),+): $call:ident;)*) => {
         extern "C" {
-            $(fn $call(rope: *const Handle, $($index: usize,)+ answer: *mut $raw) -> u32;)*
+            $(fn $call(rope: Held, $($index: usize,)+ answer: *mut $raw) -> u32;)*
         }
 
         impl Root {
@@ -315,7 +327,8 @@ look_ups! {
 }
 
 look_ups! {
-    (RawChunk = NO_CHUNK) -> ChunkAt<'_>, |chunk: RawChunk| unsafe { chunk.lent() };
+    (RawChunk = NO_CHUNK) -> ChunkAt<'_>,
+    |chunk: RawChunk| (unsafe { text_at(chunk.text) }, chunk.bytes_before, chunk.chars_before, chunk.line_breaks_before);
     chunk_at_byte(byte_idx): ropey_chunk_at_byte;
     chunk_at_char(char_idx): ropey_chunk_at_char;
     chunk_at_line_break(line_idx): ropey_chunk_at_line_break;
@@ -324,16 +337,30 @@ look_ups! {
 look_ups! {
     (RawSlice = NO_SLICE) -> Lent<'_>, |slice: RawSlice| unsafe { slice.lent() };
     line_slice(line_idx): ropey_line_slice;
-    char_slice(start, end): ropey_char_slice;
 }
 
 look_ups! {
     (Counts = Counts::NONE) -> Counts, |counts| counts;
-    counts_in_chars(start, end): ropey_counts_in_chars;
     counts_in_bytes(start, end): ropey_counts_in_bytes;
 }
 
 impl Root {
+    /// The characters from `start` up to `end`, which are in range, and how much lies before them.
+    #[inline]
+    pub(crate) fn char_slice(&self, start: usize, end: usize) -> (Lent<'_>, Counts) {
+        let (mut slice, mut before) = (NO_SLICE, Counts::NONE);
+        must(unsafe { ropey_char_slice_at(&self.0, start, end, &mut slice, &mut before) });
+        (unsafe { slice.lent() }, before)
+    }
+
+    /// How much the characters from `start` up to `end`, which are in range, hold, and how much lies before them.
+    #[inline]
+    pub(crate) fn counts_in_chars(&self, start: usize, end: usize) -> (Counts, Counts) {
+        let (mut counts, mut before) = (Counts::NONE, Counts::NONE);
+        must(unsafe { ropey_counts_in_chars_at(&self.0, start, end, &mut counts, &mut before) });
+        (counts, before)
+    }
+
     /// A copy of the bytes from `start` up to `end`.
     pub(crate) fn copied(&self, start: usize, end: usize) -> String {
         let (mut bytes, mut len) = (Vec::with_capacity(end - start), 0);
@@ -356,80 +383,143 @@ impl Root {
     }
 }
 
-/// Calls that write a list from an index on.
+/// Calls that write a list from an index on, and more behind it.
 macro_rules! lists {
-    ($($call:ident: $item:ty $(, $last:ident)?;)*) => {
+    ($($call:ident: $item:ty $(, $last:ty)*;)*) => {
         extern "C" {
-            $(fn $call(rope: *const Handle, i: usize, list: *mut $item, room: usize, count: *mut usize $(, $last: *mut usize)?) -> u32;)*
+            $(fn $call(rope: Held, i: usize, list: *mut $item, room: usize, count: *mut usize $(, _: *mut $last)*) -> u32;)*
         }
     };
 }
 
 lists! {
-    ropey_chunks_from_byte: Piece, bytes_before;
-    ropey_chunks_before_byte: Piece, bytes_before;
+    ropey_chunks_at_byte: Piece, usize, usize, usize;
+    ropey_chunks_at_char: Piece, usize, usize, usize;
+    ropey_chunks_at_line_break: Piece, usize, usize, usize;
+    ropey_chunks_before_byte: Piece, usize;
+    ropey_lines_at: RawSlice, Counts;
     ropey_lines_from: RawSlice;
     ropey_lines_before: RawSlice;
 }
 
-/// Has the library write as much of a list as there is room for.
-fn fill<T: Copy>(list: &mut Vec<T>, none: T, room: usize, call: impl FnOnce(*mut T, *mut usize) -> u32) {
+/// Has the library write as much of a list as there is room for. It reads nothing of what the list held.
+#[inline(always)]
+fn fill<T>(list: &mut Vec<T>, room: usize, call: impl FnOnce(*mut T, usize, *mut usize) -> u32) {
     let mut count = 0;
-    *list = vec![none; room];
-    must(call(list.as_mut_ptr(), &mut count));
-    list.truncate(count);
+    list.clear();
+    list.reserve_exact(room);
+    must(call(list.as_mut_ptr(), room, &mut count));
+    // Safety: the library wrote so many, for which there is room.
+    unsafe { list.set_len(count) };
 }
 
-/// Some pieces of a rope that lie one after another.
+/// How many pieces take no memory of their own.
+pub(crate) const FEW_PIECES: usize = 3;
+
+/// Some pieces of a rope that lie one after another: the first `len` of a few, or a list of more. The next time it is given
+/// at most `room`.
 pub(crate) struct Pieces<'a> {
+    few: [MaybeUninit<Piece>; FEW_PIECES],
+    len: usize,
     list: Vec<Piece>,
+    pub room: usize,
     text: PhantomData<&'a str>,
 }
 
 impl<'a> Pieces<'a> {
     #[inline]
     pub(crate) fn new() -> Pieces<'a> {
-        Pieces { list: Vec::new(), text: PhantomData }
+        let few = [MaybeUninit::uninit(); FEW_PIECES];
+        Pieces { few, len: 0, list: Vec::new(), room: FEW_PIECES, text: PhantomData }
+    }
+
+    #[inline]
+    pub(crate) fn of(text: &'a str) -> Pieces<'a> {
+        let mut pieces = Pieces::new();
+        pieces.few[0].write(Piece::of(text));
+        pieces.len = 1;
+        pieces
+    }
+
+    /// The same, where they are a few, and else none.
+    #[inline]
+    pub(crate) fn few(&self) -> Pieces<'a> {
+        Pieces { list: Vec::new(), room: FEW_PIECES, ..*self }
     }
 
     #[inline]
     pub(crate) fn len(&self) -> usize {
-        self.list.len()
+        self.len + self.list.len()
+    }
+
+    #[inline(always)]
+    fn at(&mut self, i: usize) -> Option<&mut Piece> {
+        if i < self.len {
+            // Safety: the first `len` were written.
+            self.few.get_mut(i).map(|piece| unsafe { piece.assume_init_mut() })
+        } else {
+            self.list.get_mut(i)
+        }
     }
 
     #[inline]
-    pub(crate) fn get(&self, i: usize) -> Option<&'a str> {
-        // Safety: the piece was written by `set`, or by the library as a part of a rope that is borrowed for `'a`.
-        self.list.get(i).map(|piece| unsafe { text_at(*piece) })
+    pub(crate) fn get(&mut self, i: usize) -> Option<&'a str> {
+        // Safety: the piece was written by `of` or `set`, or by the library as a part of a rope that is borrowed for `'a`.
+        self.at(i).map(|piece| unsafe { text_at(*piece) })
     }
 
     /// Puts a text in the place of the piece `i`.
     #[inline]
     pub(crate) fn set(&mut self, i: usize, text: &'a str) {
-        self.list[i] = Piece { text: text.as_ptr(), len: text.len() };
+        *self.at(i).expect("there is such a piece") = Piece::of(text);
     }
 
-    /// The chunks from the one that holds a byte on, at most `room` of them, and where the first of them begins. The index
-    /// is at most the length.
-    pub(crate) fn fetch(&mut self, root: &'a Root, byte_idx: usize, room: usize) -> usize {
-        let mut before = 0;
-        fill(&mut self.list, NO_PIECE, room, |pieces, count| unsafe {
-            ropey_chunks_from_byte(&root.0, byte_idx, pieces, room, count, &mut before)
-        });
-        before
+    #[inline(always)]
+    fn fill(&mut self, call: impl FnOnce(*mut Piece, usize, *mut usize) -> u32) {
+        self.list.clear();
+        self.len = 0;
+        if self.room <= FEW_PIECES {
+            must(call(self.few.as_mut_ptr().cast(), self.room, &mut self.len));
+        } else {
+            fill(&mut self.list, self.room, call);
+        }
     }
 
-    /// The chunks before the one that holds a byte, at most `room` of them, and where the last of them ends. The index is
-    /// at most the length.
-    pub(crate) fn fetch_before(&mut self, root: &'a Root, byte_idx: usize, room: usize) -> usize {
+    /// The chunks before the one that holds a byte, and where the last of them ends. The index is at most the length.
+    pub(crate) fn fetch_before(&mut self, root: &'a Root, byte_idx: usize) -> usize {
         let mut end = 0;
-        fill(&mut self.list, NO_PIECE, room, |pieces, count| unsafe {
-            ropey_chunks_before_byte(&root.0, byte_idx, pieces, room, count, &mut end)
+        self.fill(|list, room, count| unsafe {
+            ropey_chunks_before_byte(&root.0, byte_idx, list, room, count, &mut end)
         });
         // The nearest comes first.
+        self.few[..self.len].reverse();
         self.list.reverse();
         end
     }
+}
+
+/// Look-ups of the chunks from a place on, with the bytes, characters and line breaks before them. The index is in bounds.
+macro_rules! chunks_at {
+    ($($name:ident: $call:ident;)*) => {
+        impl<'a> Pieces<'a> {
+            $(
+                #[inline]
+                pub(crate) fn $name(&mut self, root: &'a Root, index: usize) -> (usize, usize, usize) {
+                    let (mut bytes, mut chars, mut breaks) = (0, 0, 0);
+                    self.fill(|list, room, count| unsafe {
+                        $call(&root.0, index, list, room, count, &mut bytes, &mut chars, &mut breaks)
+                    });
+                    (bytes, chars, breaks)
+                }
+            )*
+        }
+    };
+}
+
+chunks_at! {
+    fetch_at_byte: ropey_chunks_at_byte;
+    fetch_at_char: ropey_chunks_at_char;
+    fetch_at_line_break: ropey_chunks_at_line_break;
 }
 
 /// Some lines of a rope, from the line `first` on, or from it back.
@@ -438,17 +528,19 @@ pub(crate) struct Window<'a> {
     first: usize,
     is_back: bool,
     room: usize,
+    // How much of the rope lies before the cursor, where that is known.
+    pub before: Option<Counts>,
     text: PhantomData<&'a str>,
 }
 
 impl<'a> Window<'a> {
     #[inline]
-    pub(crate) fn new() -> Window<'a> {
-        Window { list: Vec::new(), first: 0, is_back: false, room: FEW_LINES, text: PhantomData }
+    pub(crate) fn new(before: Option<Counts>) -> Window<'a> {
+        Window { list: Vec::new(), first: 0, is_back: false, room: FEW_LINES, before, text: PhantomData }
     }
 
     /// A line of the rope, which has one of this number; it is fetched with those that a cursor will pass next, at most
-    /// `left`.
+    /// `left`. With many lines ahead of the cursor it is looked up how much lies before them.
     #[inline(always)]
     pub(crate) fn line(&mut self, root: &'a Root, line_idx: usize, is_back: bool, left: usize) -> Lent<'a> {
         let mut at = self.place(line_idx);
@@ -476,11 +568,14 @@ impl<'a> Window<'a> {
         // Few for a cursor that has turned, as it may turn again; and no few are left for another time.
         let room = if is_back == self.is_back { self.room } else { FEW_LINES };
         let room = if left <= 2 * room { left } else { room };
-        fill(&mut self.list, NO_SLICE, room, |lines, count| unsafe {
-            if is_back {
-                ropey_lines_before(&root.0, line_idx + 1, lines, room, count)
-            } else {
-                ropey_lines_from(&root.0, line_idx, lines, room, count)
+        fill(&mut self.list, room, |lines, room, count| unsafe {
+            match (is_back, self.before) {
+                (true, _) => ropey_lines_before(&root.0, line_idx + 1, lines, room, count),
+                (false, None) if room <= FEW_LINES => ropey_lines_from(&root.0, line_idx, lines, room, count),
+                (false, before) => {
+                    let start = before.map(|before| before.chars).or_else(|| root.line_to_char(line_idx));
+                    ropey_lines_at(&root.0, start.unwrap_or(0), lines, room, count, self.before.insert(Counts::NONE))
+                }
             }
         });
         (self.first, self.is_back) = (line_idx, is_back);
@@ -495,14 +590,15 @@ const MOST_LINES: usize = 64;
 
 /// Conversions in a text, by the set of line breaks where it is given. An index past the end stands for the end.
 macro_rules! text_conversions {
-    ($($name:ident: $call:ident($($break_set:ident: $set:ty)?);)*) => {
+    ($($(#[$doc:meta])* $name:ident: $call:ident($($break_set:ident: $set:ty)?);)*) => {
         extern "C" {
             $(fn $call(text: *const u8, len: usize, $(break_set: $set,)? index: usize, answer: *mut usize) -> u32;)*
         }
 
         $(
+            $(#[$doc])*
             #[inline]
-            pub(crate) fn $name(text: &str, index: usize) -> usize {
+            pub fn $name(text: &str, index: usize) -> usize {
                 let mut answer = 0;
                 must(unsafe { $call(text.as_ptr(), text.len(), $($break_set,)? index, &mut answer) });
                 answer
@@ -512,13 +608,21 @@ macro_rules! text_conversions {
 }
 
 text_conversions! {
+    /// The character that holds a byte.
     byte_to_char: ropey_text_byte_to_char();
+    /// The byte at which a character starts.
     char_to_byte: ropey_text_char_to_byte();
+    /// The code unit at which a character starts.
     char_to_utf16: ropey_text_char_to_utf16();
+    /// The character that holds a code unit.
     utf16_to_char: ropey_text_utf16_to_char();
+    /// The line on which a byte lies.
     byte_to_line: ropey_text_byte_to_line(BREAK_SET: u32);
+    /// The line on which a character lies.
     char_to_line: ropey_text_char_to_line(BREAK_SET: u32);
+    /// The byte at which a line starts.
     line_to_byte: ropey_text_line_to_byte(BREAK_SET: u32);
+    /// The character at which a line starts.
     line_to_char: ropey_text_line_to_char(BREAK_SET: u32);
 }
 

@@ -2,7 +2,7 @@
 use std::io;
 use std::ops::RangeBounds;
 
-use crate::builder::RopeBuilder;
+use crate::builder;
 use crate::calls::{panicking_calls, refuse};
 use crate::ffi::{ChunkAt, Counts, Root};
 use crate::instance::Instance;
@@ -48,14 +48,14 @@ macro_rules! conversions {
     };
 }
 
-/// The calls that answer none where an index is past the end: of the root, or of the slice of all of the rope.
+/// Calls of the root, or of the slice of all of the rope. Those with an index answer none where it is past the end.
 macro_rules! asked {
-    ($($(#[$doc:meta])* $name:ident($index:ident) -> $answer:ty [$($call:tt)+];)*) => {
+    ($($(#[$doc:meta])* $name:ident($($index:ident)?) -> $answer:ty [$($call:tt)+];)*) => {
         $(
             $(#[$doc])*
             #[inline]
-            pub fn $name(&self, $index: usize) -> Option<$answer> {
-                self.$($call)+($index)
+            pub fn $name(&self, $($index: usize)?) -> $answer {
+                self.$($call)+($($index)?)
             }
         )*
     };
@@ -89,9 +89,7 @@ impl Rope {
     ///
     /// The reader's first error, an interruption among them, and `InvalidData` where the bytes are not UTF-8.
     pub fn from_reader<T: io::Read>(mut reader: T) -> io::Result<Rope> {
-        let mut builder = RopeBuilder::new();
-        while builder.read(&mut reader)? {}
-        builder.made()
+        builder::read(&mut reader)
     }
 
     /// Writes the text, chunk by chunk.
@@ -106,28 +104,17 @@ impl Rope {
 
 /// Lengths and memory.
 impl Rope {
-    /// The length in bytes, in constant time.
-    #[inline]
-    pub fn len_bytes(&self) -> usize {
-        self.root.len_bytes()
-    }
-
-    /// The length in characters, in constant time.
-    #[inline]
-    pub fn len_chars(&self) -> usize {
-        self.root.len_chars()
-    }
-
-    /// The number of lines, in constant time: one more than there are line breaks.
-    #[inline]
-    pub fn len_lines(&self) -> usize {
-        self.root.len_lines()
-    }
-
-    /// The length in UTF-16 code units, in constant time.
-    #[inline]
-    pub fn len_utf16_cu(&self) -> usize {
-        self.root.len_utf16()
+    asked! {
+        /// The length in bytes, in constant time.
+        len_bytes() -> usize [root.len_bytes];
+        /// The length in characters, in constant time.
+        len_chars() -> usize [root.len_chars];
+        /// The number of lines, in constant time: one more than there are line breaks.
+        len_lines() -> usize [root.len_lines];
+        /// The length in UTF-16 code units, in constant time.
+        len_utf16_cu() -> usize [root.len_utf16];
+        /// A cursor over the chunks.
+        chunks() -> Chunks<'_> [part().chunks];
     }
 
     /// How many bytes of text the rope's chunks have room for, those that it shares among them.
@@ -260,47 +247,29 @@ impl Rope {
 
     asked! {
         /// A byte; none where the index is past the last one.
-        get_byte(byte_idx) -> u8 [root.byte];
+        get_byte(byte_idx) -> Option<u8> [root.byte];
         /// A character; none where the index is past the last one.
-        get_char(char_idx) -> char [root.char];
+        get_char(char_idx) -> Option<char> [root.char];
         /// A line, its line break among it; none where the index is past the last one.
-        get_line(line_idx) -> RopeSlice<'_> [root.line];
+        get_line(line_idx) -> Option<RopeSlice<'_>> [root.line];
         /// What [`chunk_at_byte`](Self::chunk_at_byte) answers; none where the index is past the end.
-        get_chunk_at_byte(byte_idx) -> ChunkAt<'_> [root.chunk_at_byte];
+        get_chunk_at_byte(byte_idx) -> Option<ChunkAt<'_>> [root.chunk_at_byte];
         /// What [`chunk_at_char`](Self::chunk_at_char) answers; none where the index is past the end.
-        get_chunk_at_char(char_idx) -> ChunkAt<'_> [root.chunk_at_char];
+        get_chunk_at_char(char_idx) -> Option<ChunkAt<'_>> [root.chunk_at_char];
         /// What [`chunk_at_line_break`](Self::chunk_at_line_break) answers; none where the index is past the number of lines.
-        get_chunk_at_line_break(line_break_idx) -> ChunkAt<'_> [root.chunk_at_line_break];
+        get_chunk_at_line_break(line_break_idx) -> Option<ChunkAt<'_>> [root.chunk_at_line_break];
         /// A cursor over the bytes that stands before a byte; none where the index is past the end.
-        get_bytes_at(byte_idx) -> Bytes<'_> [part().get_bytes_at];
+        get_bytes_at(byte_idx) -> Option<Bytes<'_>> [part().get_bytes_at];
         /// A cursor over the characters that stands before a character; none where the index is past the end.
-        get_chars_at(char_idx) -> Chars<'_> [part().get_chars_at];
+        get_chars_at(char_idx) -> Option<Chars<'_>> [part().get_chars_at];
         /// A cursor over the lines that stands before a line; none where the index is past the number of lines.
-        get_lines_at(line_idx) -> Lines<'_> [part().get_lines_at];
+        get_lines_at(line_idx) -> Option<Lines<'_>> [part().get_lines_at];
         /// What [`chunks_at_byte`](Self::chunks_at_byte) answers; none where the index is past the end.
-        get_chunks_at_byte(byte_idx) -> ChunksAt<'_> [part().get_chunks_at_byte];
+        get_chunks_at_byte(byte_idx) -> Option<ChunksAt<'_>> [part().get_chunks_at_byte];
         /// What [`chunks_at_char`](Self::chunks_at_char) answers; none where the index is past the end.
-        get_chunks_at_char(char_idx) -> ChunksAt<'_> [part().get_chunks_at_char];
+        get_chunks_at_char(char_idx) -> Option<ChunksAt<'_>> [part().get_chunks_at_char];
         /// What [`chunks_at_line_break`](Self::chunks_at_line_break) answers; none where the index is past the number of lines.
-        get_chunks_at_line_break(line_break_idx) -> ChunksAt<'_> [part().get_chunks_at_line_break];
-    }
-
-    /// A slice of a range of characters; none where it is not in range.
-    #[inline]
-    pub fn get_slice<R: RangeBounds<usize>>(&self, char_range: R) -> Option<RopeSlice<'_>> {
-        self.slice_chars(Bounds::of(&char_range)).ok()
-    }
-
-    /// A slice of a range of bytes; none where it is not in range, or one of its bounds lies inside a character.
-    #[inline]
-    pub fn get_byte_slice<R: RangeBounds<usize>>(&self, byte_range: R) -> Option<RopeSlice<'_>> {
-        self.slice_bytes(Bounds::of(&byte_range)).ok()
-    }
-
-    /// A cursor over the chunks.
-    #[inline]
-    pub fn chunks(&self) -> Chunks<'_> {
-        self.part().chunks()
+        get_chunks_at_line_break(line_break_idx) -> Option<ChunksAt<'_>> [part().get_chunks_at_line_break];
     }
 
     /// The slice of all of the text, as a range, though it may lie in one chunk.
@@ -310,20 +279,10 @@ impl Rope {
     }
 
     fn slice_chars(&self, bounds: Bounds) -> Result<RopeSlice<'_>> {
-        let len = self.len_chars();
-        let (start, end) = bounds.of_chars(len)?;
-        if end - start == len && self.len_bytes() > MAX_BYTES {
-            return Ok(self.part());
-        }
-        Ok(RopeSlice::of_chars(&self.root, start, end))
+        self.part().slice_chars(bounds)
     }
 
     fn slice_bytes(&self, bounds: Bounds) -> Result<RopeSlice<'_>> {
-        let len = self.len_bytes();
-        let (start, end) = bounds.of_bytes(len)?;
-        if end - start == len && len > MAX_BYTES {
-            return Ok(self.part());
-        }
-        RopeSlice::of_bytes(&self.root, start, end).ok_or(bounds.inside_character())
+        self.part().slice_bytes(bounds)
     }
 }

@@ -2,8 +2,8 @@
 use std::ops::RangeBounds;
 
 use crate::calls::panicking_calls;
-use crate::ffi::{self, ChunkAt, Counts, Lent, Root};
-use crate::iter::{Bytes, Chars, Chunks, Lines};
+use crate::ffi::{self, ChunkAt, Counts, Lent, Pieces, Root};
+use crate::iter::{Bytes, Chars, Chunks, InChunk, Lines};
 use crate::range::Bounds;
 use crate::str_utils::first_line;
 use crate::{Error, Result, MAX_BYTES};
@@ -25,7 +25,7 @@ use crate::{Error, Result, MAX_BYTES};
 /// ```
 #[derive(Clone, Copy)]
 pub struct RopeSlice<'a> {
-    counts: Counts,
+    pub(crate) counts: Counts,
     pub(crate) part: Part<'a>,
 }
 
@@ -91,10 +91,11 @@ impl<'a> RopeSlice<'a> {
     pub(crate) fn of_chars(root: &'a Root, start: usize, end: usize) -> RopeSlice<'a> {
         // One chunk may have so few of them.
         if end - start <= MAX_BYTES {
-            return RopeSlice::of_lent(root, known(root.char_slice(start, end)), || RopeSlice::before(root, start));
+            let (lent, before) = root.char_slice(start, end);
+            return RopeSlice::of_lent(root, lent, || before);
         }
-        let before = RopeSlice::before(root, start);
-        RopeSlice::of_range(root, before, known(root.counts_in_chars(0, end)).minus(before))
+        let (counts, before) = root.counts_in_chars(start, end);
+        RopeSlice::of_range(root, before, counts)
     }
 
     /// The bytes of a rope from `start` up to `end`, which are in range; none where one of them lies inside a character.
@@ -111,34 +112,24 @@ impl<'a> RopeSlice<'a> {
 
     /// How much lies before a line of a rope.
     pub(crate) fn before_line(root: &'a Root, line_idx: usize) -> Counts {
-        RopeSlice::before(root, known(root.line_to_char(line_idx)))
-    }
-
-    /// How much lies before a character of a rope: what the rest leaves over, as a CR whose LF follows is no line break
-    /// before it.
-    fn before(root: &'a Root, chars: usize) -> Counts {
-        match chars {
-            0 => Counts::NONE,
-            _ => root.counts().minus(known(root.counts_in_chars(chars, root.len_chars()))),
-        }
-    }
-
-    /// How much the slice holds.
-    pub(crate) fn counts(&self) -> Counts {
-        self.counts
+        let start = known(root.line_to_char(line_idx));
+        root.counts_in_chars(start, start).1
     }
 
     /// How much of the rope lies before the slice.
     pub(crate) fn start(&self) -> Counts {
-        match self.part {
-            Part::Range { start, .. } => start,
-            Part::Text(_) => Counts::NONE,
-        }
+        let Part::Range { start, .. } = self.part else { return Counts::NONE };
+        start
     }
 
     /// Whether the slice is all of a rope.
     pub(crate) fn is_whole(&self) -> bool {
         matches!(self.part, Part::Range { root, .. } if root.len_bytes() == self.counts.bytes)
+    }
+
+    /// Whether the slice is a range that may be a text in one piece.
+    fn may_be_one_chunk(&self) -> bool {
+        self.counts.bytes <= MAX_BYTES && matches!(self.part, Part::Range { .. })
     }
 
     /// The line of a rope that the slice's line is, where it is no less; else none. In a slice that isn't whole, those at its
@@ -165,6 +156,7 @@ macro_rules! conversions {
                     return if $index == counts.$from { Ok(counts.$to) } else { Err(Error::$error($index, counts.$from)) };
                 }
                 Ok(match self.part {
+                    _ if $index == 0 => 0,
                     Part::Range { root, start } => known(root.$call(start.$from + $index)) - start.$to,
                     Part::Text(text) => ffi::$call(text, $index),
                 })
@@ -296,35 +288,38 @@ impl<'a> RopeSlice<'a> {
 
     /// The chunk that holds a byte, or the last chunk for the length; none where the index is past that.
     pub(crate) fn get_chunk_at_byte(&self, byte_idx: usize) -> Option<ChunkAt<'a>> {
-        let is_inside = byte_idx <= self.counts.bytes;
-        is_inside
-            .then(|| self.chunk_by(|root, start| root.chunk_at_byte(start.bytes + byte_idx.min(self.counts.bytes - 1))))
+        let last = self.counts.bytes.wrapping_sub(1);
+        self.chunk_by(byte_idx, self.counts.bytes, |root, start| root.chunk_at_byte(start.bytes + byte_idx.min(last)))
     }
 
     /// The chunk that holds a character, or the last chunk for the length; none where the index is past that.
     pub fn get_chunk_at_char(&self, char_idx: usize) -> Option<ChunkAt<'a>> {
-        let is_inside = char_idx <= self.counts.chars;
-        is_inside
-            .then(|| self.chunk_by(|root, start| root.chunk_at_char(start.chars + char_idx.min(self.counts.chars - 1))))
+        let last = self.counts.chars.wrapping_sub(1);
+        self.chunk_by(char_idx, self.counts.chars, |root, start| root.chunk_at_char(start.chars + char_idx.min(last)))
     }
 
     /// The chunk that holds the line break before a line: the first chunk for the first line, the last chunk for the
     /// number of lines; none where the index is past that.
     pub fn get_chunk_at_line_break(&self, line_break_idx: usize) -> Option<ChunkAt<'a>> {
         let lines = self.len_lines();
-        let is_inside = line_break_idx <= lines;
-        is_inside.then(|| {
-            self.chunk_by(|root, start| match line_break_idx {
-                0 => root.chunk_at_byte(start.bytes),
-                _ if line_break_idx == lines => root.chunk_at_byte(start.bytes + self.counts.bytes - 1),
-                _ => root.chunk_at_line_break(start.line_breaks + line_break_idx),
-            })
+        self.chunk_by(line_break_idx, lines, |root, start| match line_break_idx {
+            0 => root.chunk_at_byte(start.bytes),
+            _ if line_break_idx == lines => root.chunk_at_byte(start.bytes + self.counts.bytes - 1),
+            _ => root.chunk_at_line_break(start.line_breaks + line_break_idx),
         })
     }
 
-    /// A chunk of the range that a look-up finds, cut to the range and counted from its start.
-    fn chunk_by(&self, find: impl FnOnce(&'a Root, Counts) -> Option<ChunkAt<'a>>) -> ChunkAt<'a> {
-        match self.part {
+    /// A chunk of the range that a look-up finds, cut to the range and counted from its start; none where the index is past
+    /// the length.
+    #[inline]
+    fn chunk_by(
+        &self,
+        index: usize,
+        len: usize,
+        find: impl FnOnce(&'a Root, Counts) -> Option<ChunkAt<'a>>,
+    ) -> Option<ChunkAt<'a>> {
+        Some(match self.part {
+            _ if index > len => return None,
             Part::Range { root, start } => {
                 let (text, bytes, chars, line_breaks) = known(find(root, start));
                 let (text, first) = cut(text, bytes, start, self.counts);
@@ -332,19 +327,13 @@ impl<'a> RopeSlice<'a> {
                 (text, first - start.bytes, chars, line_breaks.saturating_sub(start.line_breaks))
             }
             Part::Text(text) => (text, 0, 0, 0),
-        }
-    }
-
-    /// A slice of a range of characters; none where it is not in range.
-    #[inline]
-    pub fn get_slice<R: RangeBounds<usize>>(&self, char_range: R) -> Option<RopeSlice<'a>> {
-        self.slice_chars(Bounds::of(&char_range)).ok()
+        })
     }
 
     pub(crate) fn slice_chars(&self, bounds: Bounds) -> Result<RopeSlice<'a>> {
         let len = self.counts.chars;
         let (from, to) = bounds.of_chars(len)?;
-        if to - from == len {
+        if to - from == len && !self.may_be_one_chunk() {
             return Ok(*self);
         }
         Ok(match self.part {
@@ -356,16 +345,10 @@ impl<'a> RopeSlice<'a> {
         })
     }
 
-    /// A slice of a range of bytes; none where it is not in range, or one of its bounds lies inside a character.
-    #[inline]
-    pub fn get_byte_slice<R: RangeBounds<usize>>(&self, byte_range: R) -> Option<RopeSlice<'a>> {
-        self.slice_bytes(Bounds::of(&byte_range)).ok()
-    }
-
     pub(crate) fn slice_bytes(&self, bounds: Bounds) -> Result<RopeSlice<'a>> {
         let len = self.counts.bytes;
         let (from, to) = bounds.of_bytes(len)?;
-        if to - from == len {
+        if to - from == len && !self.may_be_one_chunk() {
             return Ok(*self);
         }
         let slice = match self.part {
@@ -381,21 +364,22 @@ impl<'a> RopeSlice<'a> {
     /// A cursor over the bytes that stands before a byte; none where the index is past the end.
     #[inline]
     pub fn get_bytes_at(&self, byte_idx: usize) -> Option<Bytes<'a>> {
-        let is_inside = byte_idx <= self.counts.bytes;
-        is_inside.then(|| match self.part {
-            Part::Range { root, start } => Bytes::of_range(root, start, self.counts, byte_idx),
-            Part::Text(text) => Bytes::of_text(text, byte_idx),
-        })
+        (byte_idx <= self.counts.bytes).then(|| Bytes::at(self.behind(byte_idx), byte_idx, self.counts.bytes))
     }
 
     /// A cursor over the characters that stands before a character; none where the index is past the end.
     #[inline]
     pub fn get_chars_at(&self, char_idx: usize) -> Option<Chars<'a>> {
-        let is_inside = char_idx <= self.counts.chars;
-        is_inside.then(|| match self.part {
-            Part::Range { root, start } => Chars::of_range(root, start, self.counts, char_idx),
-            Part::Text(text) => Chars::of_text(text, self.counts, char_idx),
-        })
+        let byte_idx = self.try_char_to_byte(char_idx).ok()?;
+        Some(Chars::at(self.behind(byte_idx), char_idx, self.counts.chars))
+    }
+
+    #[inline]
+    fn behind(&self, byte_idx: usize) -> InChunk<'a> {
+        match self.part {
+            Part::Range { root, start } => Chunks::behind(root, start, self.counts, byte_idx),
+            Part::Text(text) => (Chunks::of_text(text, true), text, byte_idx),
+        }
     }
 
     /// A cursor over the lines that stands before a line, or at the end for the number of lines; none where the index is
@@ -409,33 +393,47 @@ impl<'a> RopeSlice<'a> {
     /// What [`chunks_at_byte`](Self::chunks_at_byte) answers; none where the index is past the end.
     #[inline]
     pub fn get_chunks_at_byte(&self, byte_idx: usize) -> Option<ChunksAt<'a>> {
-        Some(self.chunks_from(self.get_chunk_at_byte(byte_idx)?, byte_idx == self.len_bytes()))
+        self.chunks_by(byte_idx, self.len_bytes(), |root, start, list| list.fetch_at_byte(root, start.bytes + byte_idx))
     }
 
     /// What [`chunks_at_char`](Self::chunks_at_char) answers; none where the index is past the end.
     #[inline]
     pub fn get_chunks_at_char(&self, char_idx: usize) -> Option<ChunksAt<'a>> {
-        Some(self.chunks_from(self.get_chunk_at_char(char_idx)?, char_idx == self.len_chars()))
+        self.chunks_by(char_idx, self.len_chars(), |root, start, list| list.fetch_at_char(root, start.chars + char_idx))
     }
 
     /// What [`chunks_at_line_break`](Self::chunks_at_line_break) answers; none where the index is past the number of lines.
     #[inline]
     pub fn get_chunks_at_line_break(&self, line_break_idx: usize) -> Option<ChunksAt<'a>> {
-        Some(self.chunks_from(self.get_chunk_at_line_break(line_break_idx)?, line_break_idx == self.len_lines()))
+        self.chunks_by(line_break_idx, self.len_lines(), |root, start, list| match line_break_idx {
+            0 => list.fetch_at_byte(root, start.bytes),
+            _ => list.fetch_at_line_break(root, start.line_breaks + line_break_idx),
+        })
     }
 
-    /// A cursor before a chunk, or at the end.
+    /// A cursor before the chunk that a look-up finds, or at the end for the length; none where the index is past that.
     #[inline]
-    fn chunks_from(&self, (chunk, bytes, chars, line_breaks): ChunkAt<'a>, is_at_end: bool) -> ChunksAt<'a> {
+    fn chunks_by(
+        &self,
+        index: usize,
+        len: usize,
+        find: impl FnOnce(&'a Root, Counts, &mut Pieces<'a>) -> (usize, usize, usize),
+    ) -> Option<ChunksAt<'a>> {
         let all = self.counts;
-        match self.part {
-            Part::Range { root, start } if is_at_end => {
-                (Chunks::of_range(root, start, all, all.bytes), all.bytes, all.chars, all.line_breaks)
+        let chunks = match self.part {
+            _ if index > len => return None,
+            Part::Range { root, start } if index < len => {
+                let mut chunks = Chunks::of_range(root, start, all, 0);
+                let (bytes, chars, breaks) = find(root, start, &mut chunks.pieces);
+                chunks.stand(bytes);
+                let (bytes, chars) = (bytes.saturating_sub(start.bytes), chars.saturating_sub(start.chars));
+                return Some((chunks, bytes, chars, breaks.saturating_sub(start.line_breaks)));
             }
-            Part::Range { root, start } => (Chunks::before(root, start, all, chunk, bytes), bytes, chars, line_breaks),
-            Part::Text(text) if is_at_end => (Chunks::of_text(text, true), all.bytes, all.chars, all.line_breaks),
-            Part::Text(text) => (Chunks::of_text(text, false), 0, 0, 0),
-        }
+            Part::Text(text) if index < len => return Some((Chunks::of_text(text, false), 0, 0, 0)),
+            Part::Range { root, start } => Chunks::of_range(root, start, all, all.bytes),
+            Part::Text(text) => Chunks::of_text(text, true),
+        };
+        Some((chunks, all.bytes, all.chars, all.line_breaks))
     }
 
     /// A cursor over the chunks.

@@ -13,35 +13,10 @@
 //! ```
 use crate::ffi::{self, Counts};
 
-/// The character that holds a byte.
-pub fn byte_to_char_idx(text: &str, byte_idx: usize) -> usize {
-    ffi::byte_to_char(text, byte_idx)
-}
-
-/// The line on which a byte lies.
-pub fn byte_to_line_idx(text: &str, byte_idx: usize) -> usize {
-    ffi::byte_to_line(text, byte_idx)
-}
-
-/// The byte at which a character starts.
-pub fn char_to_byte_idx(text: &str, char_idx: usize) -> usize {
-    ffi::char_to_byte(text, char_idx)
-}
-
-/// The line on which a character lies.
-pub fn char_to_line_idx(text: &str, char_idx: usize) -> usize {
-    ffi::char_to_line(text, char_idx)
-}
-
-/// The byte at which a line starts.
-pub fn line_to_byte_idx(text: &str, line_idx: usize) -> usize {
-    ffi::line_to_byte(text, line_idx)
-}
-
-/// The character at which a line starts.
-pub fn line_to_char_idx(text: &str, line_idx: usize) -> usize {
-    ffi::line_to_char(text, line_idx)
-}
+pub use crate::ffi::{
+    byte_to_char as byte_to_char_idx, byte_to_line as byte_to_line_idx, char_to_byte as char_to_byte_idx,
+    char_to_line as char_to_line_idx, line_to_byte as line_to_byte_idx, line_to_char as line_to_char_idx,
+};
 
 // A line is sought in a window of the text that grows, since a call of the library reads all that it is given.
 const WINDOW: usize = 128;

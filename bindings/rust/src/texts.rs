@@ -5,21 +5,22 @@ use std::fmt;
 use std::hash::{Hash, Hasher};
 
 use crate::builder::RopeBuilder;
+use crate::ffi::Counts;
 use crate::rope::Rope;
 use crate::slice::{Part, RopeSlice};
 
 // Ropes of texts.
 
 macro_rules! rope_of_texts {
-    ($($text:ty;)*) => {
+    ($(<$($life:lifetime)?> $text:ty;)*) => {
         $(
-            impl<'a> From<$text> for Rope {
+            impl<$($life)?> From<$text> for Rope {
                 fn from(text: $text) -> Rope {
                     Rope::from_str(&text)
                 }
             }
 
-            impl<'a> FromIterator<$text> for Rope {
+            impl<$($life)?> FromIterator<$text> for Rope {
                 /// A rope of the texts, one behind another.
                 fn from_iter<T: IntoIterator<Item = $text>>(texts: T) -> Rope {
                     let mut builder = RopeBuilder::new();
@@ -31,23 +32,10 @@ macro_rules! rope_of_texts {
     };
 }
 
-// `String` has no lifetime to name, so that it stands apart.
 rope_of_texts! {
-    &'a str;
-    Cow<'a, str>;
-}
-
-impl From<String> for Rope {
-    fn from(text: String) -> Rope {
-        Rope::from_str(&text)
-    }
-}
-
-impl FromIterator<String> for Rope {
-    /// A rope of the texts, one behind another.
-    fn from_iter<T: IntoIterator<Item = String>>(texts: T) -> Rope {
-        texts.into_iter().map(Cow::<str>::Owned).collect()
-    }
+    <'a> &'a str;
+    <'a> Cow<'a, str>;
+    <> String;
 }
 
 /// Up to so many bytes a copy costs less than to cut a tree twice.
@@ -56,19 +44,12 @@ const COPIED: usize = 1 << 13;
 impl<'a> From<RopeSlice<'a>> for Rope {
     /// A rope of the slice's text. Of a long text it shares what it can with the slice's rope.
     fn from(slice: RopeSlice<'a>) -> Rope {
-        let (root, start) = match slice.part {
-            Part::Range { root, start } if slice.len_bytes() > COPIED => (root, start.chars),
-            _ => return Rope::from_str(&Cow::from(slice)),
-        };
-        let mut rope = Rope::of(root.clone());
-        let end = start + slice.len_chars();
-        if end < rope.len_chars() {
-            drop(rope.split_off(end));
+        match slice.part {
+            Part::Range { root, start } if slice.len_bytes() > COPIED => {
+                Rope::of(root.clone_chars(start.chars, start.chars + slice.len_chars()))
+            }
+            _ => Rope::from_str(&Cow::from(slice)),
         }
-        if start > 0 {
-            rope = rope.split_off(start);
-        }
-        rope
     }
 }
 
@@ -149,13 +130,7 @@ fn order(left: RopeSlice<'_>, right: RopeSlice<'_>) -> Ordering {
 }
 
 fn is_text(slice: RopeSlice<'_>, text: &str) -> bool {
-    let mut rest = text.as_bytes();
-    slice.len_bytes() == text.len()
-        && slice.chunks().all(|chunk| {
-            let (part, behind) = rest.split_at(chunk.len());
-            rest = behind;
-            part == chunk.as_bytes()
-        })
+    slice.len_bytes() == text.len() && order(slice, RopeSlice::of_text(text, Counts::NONE)).is_eq()
 }
 
 impl PartialEq for Rope {

@@ -198,6 +198,22 @@ fn cursors_walk_both_ways() {
     }
 }
 
+/// The first line of a slice is as much as the slice has of it, also where the cursor comes to it again.
+#[test]
+fn a_first_line_stays_cut() {
+    let rope = Rope::from_str(&"one line\n".repeat(300));
+    let slice = rope.slice(4..);
+    let mut lines = slice.lines();
+    for count in 1..60 {
+        for line in 0..count {
+            assert_eq!(lines.next().unwrap(), if line == 0 { "line\n" } else { "one line\n" });
+        }
+        for line in (0..count).rev() {
+            assert_eq!(lines.prev().unwrap(), if line == 0 { "line\n" } else { "one line\n" });
+        }
+    }
+}
+
 /// What a cursor answers knows its place in the rope, on whichever way the cursor came there.
 #[test]
 fn passed_lines_are_texts_of_their_own() {

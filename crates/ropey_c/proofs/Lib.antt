@@ -1,4 +1,5 @@
 pub mod BuilderHandles
+pub mod Before
 pub mod Bytes
 pub mod Copying
 pub mod Filling

@@ -1,5 +1,6 @@
 -- What a call on a handle does. Without a rope it answers `NO_ROPE_HELD` and changes nothing.
 use Rattle.std.specs.Prelude.{◌≡◌, ◌<◌, ◌≤◌, ◌+◌, ◌↔◌, ℕ, ℤ, pos, negsuc, Bool, IsTrue, List, ◌++◌, length, drop, Option, Some, None, Result, Ok, Err, IfSome, IsSomeAnd, MatchOption}
+use Rattle.std.specs.List.{slice_range}
 use Rattle.std.specs.Str.{IsUtf8, chars, encode_utf8_all}
 use Rattle.std.specs.declared.cmp.Ordering.{Ordering}
 use Rattle.std.specs.declared.cmp.Ordering.TheVariants.{Less, Equal, Greater}
@@ -10,8 +11,9 @@ use Rattle.rope_text.specs.Compare.{text_cmp}
 use Rattle.rope_text.specs.Conversions.{line_to_char}
 use Rattle.rope_text.specs.Lines.{line_count}
 use Rattle.rope_text.specs.Lookup.{FoundChunk}
-use Rattle.ropey.specs.View.{RopeView, IsBuilt}
-use Rattle.ropey_c.specs.Status.{status_of}
+use Rattle.rope_text.specs.Edit.{char_range_error}
+use Rattle.ropey.specs.View.{RopeView, IsBuilt, IsRope}
+use Rattle.ropey_c.specs.Status.{status_of, IsStatus}
 use Rattle.ropey_c.specs.declared.status.TheConstants.{OK, NO_ROPE_HELD, INVALID_UTF8, LINE_INDEX_OUT_OF_BOUNDS, BUFFER_TOO_SMALL}
 use Rattle.ropey_c.specs.declared.lookups.Span.{Span}
 use Rattle.ropey_c.specs.declared.chunks.Chunk.{Chunk}
@@ -42,6 +44,13 @@ Changes (Some old) (Some new) status Status After = Status old × (0 < status �
 -- a rope as it is built, with the set of line breaks that a number stands for
 abbrev pub IsBuiltWith : Option LineBreaks → RopeView → Type 0
 IsBuiltWith breaks rope = IsSomeAnd breaks (λ set. IsBuilt set rope)
+
+-- a rope of a range of characters was made, unless the range has a fault; a refusal leaves what the handle held
+abbrev pub ClonesChars : Option RopeView → ℕ → ℕ → ℕ → Option RopeView → Option RopeView → Type 0
+ClonesChars None start end status old new = (status ≡ NO_ROPE_HELD) × (new ≡ old)
+ClonesChars (Some rope) start end status old new =
+    IsStatus (char_range_error (Some start) (Some end) (length rope.text)) status × (0 < status → new ≡ old)
+    × (status ≡ OK → IsSomeAnd new (λ made. (made.text ≡ slice_range rope.text start end) × (made.breaks ≡ rope.breaks) × IsRope made))
 
 -- a call that has nothing to do: on a rope that `Empty` holds of it answers `OK` and leaves the rope as it was
 abbrev pub Keeps : Option RopeView → Option RopeView → ℕ → (RopeView → Type 0) → Type 0

@@ -1,6 +1,7 @@
 pub mod Handles
 pub mod Status
 pub mod Answers
+pub mod Before
 pub mod Builders
 pub mod Counts
 pub mod ByteEdits

@@ -4,7 +4,7 @@ use Rattle.std.specs.Borrow.{Bor}
 use Rattle.std.specs.Iterator.{Yields}
 use Rattle.std.specs.Str.{chars, encode_utf8_all}
 use Rattle.rope_text.specs.Text.{byte_len}
-use Rattle.rope_text.specs.Lookup.{front_chunks, chunk_place_at_byte}
+use Rattle.rope_text.specs.Lookup.{found_chunk, front_chunks, LieBefore, chunk_place_at_byte}
 use Rattle.rope_text.specs.Conversions.{line_to_byte}
 use Rattle.rope_text.specs.LineParts.{line_of}
 use Rattle.rope_text.specs.Lines.{line_count}
@@ -56,6 +56,16 @@ FillsBefore (Some rope) i status old new count_old count before_old before =
     (byte_len rope.text < i → (status ≡ BYTE_INDEX_OUT_OF_BOUNDS) × (new ≡ old) × (count ≡ count_old) × (before ≡ before_old))
     × (i ≤ byte_len rope.text → (status ≡ OK) × (before ≡ byte_len (front_chunks rope.chunks (chunk_place_at_byte rope.chunks i)))
     × Fills (reverse (take (chunk_place_at_byte rope.chunks i) rope.chunks)) old new count)
+
+-- the chunks from a place on, with the bytes, the characters and the line breaks of the text before the first of them, for an index
+-- that is at most a length
+abbrev pub FillsAt : Option RopeView → (RopeView → ℕ) → ℕ → (RopeView → ℕ) → ℕ → ℕ → List Piece → List Piece → ℕ → ℕ → ℕ → ℕ → ℕ → ℕ → ℕ → ℕ → Type 0
+FillsAt None len i place missing status old new count_old count bytes_old bytes chars_old chars breaks_old breaks =
+    (status ≡ NO_ROPE_HELD) × (new ≡ old) × (count ≡ count_old) × (bytes ≡ bytes_old) × (chars ≡ chars_old) × (breaks ≡ breaks_old)
+FillsAt (Some rope) len i place missing status old new count_old count bytes_old bytes chars_old chars breaks_old breaks =
+    (len rope < i → (status ≡ missing) × (new ≡ old) × (count ≡ count_old) × (bytes ≡ bytes_old) × (chars ≡ chars_old) × (breaks ≡ breaks_old))
+    × (i ≤ len rope → (status ≡ OK) × LieBefore (found_chunk rope.breaks rope.chunks (place rope)) bytes chars breaks
+    × Fills (drop (place rope) rope.chunks) old new count)
 
 -- the bytes of a line, and the pieces of its text: the chunks, clipped to it
 abbrev pub FillsLine : Option RopeView → ℕ → ℕ → List Piece → List Piece → ℕ → ℕ → Span → Span → Type 0

@@ -1,5 +1,5 @@
 -- Parts of a rope's text, as C sees them.
-use Rattle.std.specs.Prelude.{◌≡◌, ℕ, ◌+◌, ◌<◌, ◌≤◌, nat_le, if◌then◌else◌, List, [], length, take, drop, map, reverse, min, Option, Some, None}
+use Rattle.std.specs.Prelude.{◌≡◌, ℕ, ◌<◌, ◌≤◌, nat_le, if◌then◌else◌, List, [], length, take, drop, map, reverse, min, Option, Some, None}
 use Rattle.std.specs.Iterator.{Yields}
 use Rattle.std.specs.Str.{encode_utf8_all}
 use Rattle.rope_text.specs.declared.error.Error.{Error}

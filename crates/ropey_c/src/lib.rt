@@ -2,10 +2,10 @@
 //!
 //! A program holds a rope by a struct of one pointer, which is null where there is no rope. An edit gets it as a
 //! [`handle::Handle`], by `&mut`; a look-up as a [`lent::Lent`], by `&`, so that look-ups leave it alone. Each function tests
-//! every index, text and number that it is given: none has a condition. It answers a status: 0, or the number of the first
-//! reason for which it was refused. A refused call leaves the ropes as they were, and writes nothing, but where its comment
-//! says so. `Global`, the allocator of the C library, takes no bytes, so C passes nothing for it. No call walks more text
-//! than its namesake of `ropey`.
+//! every index, text and number that it is given: none has a condition, but for [`makers::ropey_from_text_unchecked`]. It
+//! answers a status: 0, or the number of the first reason for which it was refused. A refused call leaves the ropes as they
+//! were, and writes nothing, but where its comment says so. `Global`, the allocator of the C library, takes no bytes, so C
+//! passes nothing for it. No call walks more text than its namesake of `ropey`.
 //!
 //!     ropey_rope rope = ROPEY_NO_ROPE;
 //!     ropey_from_text(text, 11, ROPEY_UNICODE, &rope);     // "hello world"
@@ -20,10 +20,10 @@
 //! at once. What a place that is written to held before is never read, so it may hold anything.
 //!
 //! *Where to look.* `makers` makes, clones and frees ropes; `char_edits`, `byte_edits` and `replace` change them; `lengths`,
-//! `counts`, `conversions`, `positions` and `lookups` answer about a place or a part; `chunks` and `pieces` show where bytes
-//! lie; `copies` copies text out; `compare` compares texts; `texts` answers about plain texts; `builders` takes bytes in
-//! parts, over `intake`; `handle`, `lent`, `builder_handle` and `unboxed` keep a rope behind a pointer; `status` has the
-//! numbers that stand for refusals.
+//! `counts`, `conversions`, `positions` and `lookups` answer about a place or a part; `chunks`, `pieces` and `slices` show
+//! where bytes lie, and what lies before them; `copies` copies text out; `compare` compares texts; `texts` answers about
+//! plain texts; `builders` takes bytes in parts, over `intake`; `handle`, `lent`, `builder_handle` and `unboxed` keep a rope
+//! behind a pointer; `status` has the numbers that stand for refusals.
 #![tactic(auto)]
 
 pub mod builder_handle;

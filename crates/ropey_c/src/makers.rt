@@ -1,20 +1,24 @@
 //! Ropes that are made, cloned and freed.
 ghost use Rattle.std.specs.Prelude.{◌≡◌, ◌<◌, ◌⊎◌, [], None, Some, IfSome, IsSomeAnd, MatchOption, MatchResult};
-ghost use Rattle.std.specs.Str.{chars};
+ghost use Rattle.std.specs.Str.{IsUtf8, chars};
 ghost use Rattle.rope_text.specs.declared.error.Error.TheVariants.{OutOfMemory};
-ghost use Rattle.ropey.specs.View.{HasFewChunks, IsBuilt};
+ghost use Rattle.rope_slice.specs.Slice.{text_of, breaks_of};
+ghost use Rattle.ropey.specs.View.{HasFewChunks, IsBuilt, IsRope};
 ghost use Rattle.ropey_c.specs.Handles.{HoldsRope};
 ghost use Rattle.ropey_c.specs.Status.{given_breaks, IsStatus, IsTextStatus, IsMakerStatus};
-ghost use Rattle.ropey_c.specs.Answers.{Changes, IsBuiltWith};
+ghost use Rattle.ropey_c.specs.Answers.{Changes, IsBuiltWith, ClonesChars};
 
 use crate::handle::Handle;
 use crate::lent::Lent;
 use crate::status::{
     INVALID_UTF8, NO_ROPE_HELD, OK, OUT_OF_MEMORY, UNKNOWN_BREAK_SET, given_breaks, status,
+    status_of,
 };
+use rope_text::range::char_bounds;
 use rope_text::utf8;
-use ropey::{LineBreaks, Rope};
+use ropey::{LineBreaks, Rope, RopeSlice};
 use std::alloc::Global;
+use std::str;
 
 // Puts a rope that was just made into a handle.
 pub(crate) fn keep(alloc: Global, made: Rope, rope: &mut Handle) -> u32
@@ -31,17 +35,25 @@ pub(crate) fn keep(alloc: Global, made: Rope, rope: &mut Handle) -> u32
     }
 }
 
-fn make(alloc: Global, text: &[u8], breaks: LineBreaks, rope: &mut Handle) -> u32
+fn make(alloc: Global, text: &str, breaks: LineBreaks, rope: &mut Handle) -> u32
+    ensures status { IsStatus None result }
+    ensures ok { result ≡ OK → IsSomeAnd rope.new.rope (λ r. (r.text ≡ chars text.now) × IsBuilt breaks r) }
+    ensures err { 0 < result → rope.new.rope ≡ rope.old.rope }
+{
+    match Rope::from_str_with(alloc, text, breaks) {
+        Ok(made) => keep(alloc, made, rope),
+        Err(_) => OUT_OF_MEMORY,
+    }
+}
+
+fn make_checked(alloc: Global, text: &[u8], breaks: LineBreaks, rope: &mut Handle) -> u32
     ensures status { IsTextStatus text.now None result }
     ensures ok { result ≡ OK → IsSomeAnd rope.new.rope (λ r. (r.text ≡ chars text.now) × IsBuilt breaks r) }
     ensures err { 0 < result → rope.new.rope ≡ rope.old.rope }
 {
-    let Some(text) = utf8::text_of(text) else {
-        return INVALID_UTF8;
-    };
-    match Rope::from_str_with(alloc, text, breaks) {
-        Ok(made) => keep(alloc, made, rope),
-        Err(_) => OUT_OF_MEMORY,
+    match utf8::text_of(text) {
+        Some(text) => make(alloc, text, breaks, rope),
+        None => INVALID_UTF8,
     }
 }
 
@@ -64,7 +76,34 @@ pub extern "C" fn ropey_from_text(
     ensures err { 0 < result → rope.new.rope ≡ rope.old.rope }
 {
     match given_breaks(break_set) {
-        Some(breaks) => make(alloc, text, breaks, rope),
+        Some(breaks) => make_checked(alloc, text, breaks, rope),
+        None => UNKNOWN_BREAK_SET,
+    }
+}
+
+/// Makes a rope of a copy of a text that is known to be UTF-8, without reading it to find out, and frees the one that the
+/// handle held. This alone of all calls has a condition: what it makes of other bytes is no rope, and anything may come of
+/// it later.
+///
+/// Takes time and memory in proportion to the text, which is at most `isize::MAX` bytes.
+///
+/// # Errors
+///
+/// `UNKNOWN_BREAK_SET`, then `OUT_OF_MEMORY`. A refused call leaves the handle as it was.
+#[unsafe(no_mangle)]
+pub extern "C" fn ropey_from_text_unchecked(
+    alloc: Global,
+    text: &[u8],
+    break_set: u32,
+    rope: &mut Handle,
+) -> u32
+    requires { IsUtf8 text.now }
+    ensures status { IsMakerStatus (given_breaks break_set) text.now result }
+    ensures ok { result ≡ OK → IsSomeAnd rope.new.rope (λ r. (r.text ≡ chars text.now) × IsBuiltWith (given_breaks break_set) r) }
+    ensures err { 0 < result → rope.new.rope ≡ rope.old.rope }
+{
+    match given_breaks(break_set) {
+        Some(set) => make(alloc, unsafe { str::from_utf8_unchecked(text) }, set, rope),
         None => UNKNOWN_BREAK_SET,
     }
 }
@@ -108,6 +147,53 @@ pub extern "C" fn ropey_clone(alloc: Global, rope: &Lent, copy: &mut Handle) -> 
 {
     match rope.held() {
         Some(held) => clone_into(alloc, held, copy),
+        None => NO_ROPE_HELD,
+    }
+}
+
+fn clone_chars(alloc: Global, rope: &Rope, start: usize, end: usize, copy: &mut Handle) -> u32
+    ensures { ClonesChars (Some rope.now) start end result copy.old.rope copy.new.rope }
+{
+    match char_bounds(&(start..end), rope.len_chars()) {
+        Ok((start, end)) => keep_part(alloc, rope.slice(start..end), copy),
+        Err(error) => status_of(error),
+    }
+}
+
+// Puts a rope of a slice's text into a handle.
+fn keep_part(alloc: Global, part: RopeSlice<'_>, rope: &mut Handle) -> u32
+    ensures status { IsStatus None result }
+    ensures ok { result ≡ OK → IsSomeAnd rope.new.rope (λ r. (r.text ≡ text_of part.entry)
+        × (r.breaks ≡ breaks_of part.entry) × IsRope r) }
+    ensures err { 0 < result → rope.new.rope ≡ rope.old.rope }
+{
+    match Rope::from_slice(alloc, part) {
+        Ok(made) => keep(alloc, made, rope),
+        Err(_) => OUT_OF_MEMORY,
+    }
+}
+
+/// Makes a rope of the characters from `start` up to `end`, counted from 0, and frees the one that `copy` held. The two ropes
+/// share the nodes that lie within the range until one of them is edited, which leaves the other as it was. Takes time and
+/// memory for the nodes along the two cuts.
+///
+/// # Errors
+///
+/// `NO_ROPE_HELD`, then `CHAR_RANGE_OUT_OF_BOUNDS`, then `CHAR_RANGE_INVALID`, then `OUT_OF_MEMORY`. A refused call leaves
+/// `copy` as it was.
+#[unsafe(no_mangle)]
+pub extern "C" fn ropey_clone_chars(
+    alloc: Global,
+    rope: &Lent,
+    start: usize,
+    end: usize,
+    copy: &mut Handle,
+) -> u32
+    ensures answer { ClonesChars rope.now.rope start end result copy.old.rope copy.new.rope }
+    ensures kept { HoldsRope rope.now.rope }
+{
+    match rope.held() {
+        Some(held) => clone_chars(alloc, held, start, end, copy),
         None => NO_ROPE_HELD,
     }
 }

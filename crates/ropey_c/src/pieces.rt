@@ -2,15 +2,22 @@
 //!
 //! A program reads a text with it from a place on, some chunks at a time. The bytes belong to the rope, and are lent for
 //! as long as its handle is: until it is edited or freed. No call takes memory.
-ghost use Rattle.std.specs.Prelude.{◌≡◌, Some};
+ghost use Rattle.std.specs.Prelude.{◌≡◌, length, Some};
 ghost use Rattle.std.specs.Iterator.{IsFinite};
 ghost use Rattle.std.specs.Str.{chars, encode_utf8_all};
+ghost use Rattle.rope_text.specs.Text.{byte_len};
+ghost use Rattle.rope_text.specs.Lines.{line_count};
+ghost use Rattle.rope_text.specs.Lookup.{chunk_place_at_byte, chunk_place_at_char, chunk_place_at_line_break};
+ghost use Rattle.rope_text.specs.Sides.{ahead};
 ghost use Rattle.ropey_c.specs.Handles.{HoldsRope};
-ghost use Rattle.ropey_c.specs.Pieces.{FillsBy, FillsFrom, FillsBefore, FillsLine};
+ghost use Rattle.ropey_c.specs.Pieces.{Fills, FillsBy, FillsFrom, FillsBefore, FillsAt, FillsLine};
 
 use crate::lent::Lent;
 use crate::lookups::Span;
-use crate::status::{BYTE_INDEX_OUT_OF_BOUNDS, LINE_INDEX_OUT_OF_BOUNDS, NO_ROPE_HELD, OK};
+use crate::status::{
+    BYTE_INDEX_OUT_OF_BOUNDS, CHAR_INDEX_OUT_OF_BOUNDS, LINE_INDEX_OUT_OF_BOUNDS, NO_ROPE_HELD, OK,
+};
+use rope_slice::ChunksAt;
 use ropey::Rope;
 
 /// A piece of a text: its bytes, which are lent. C sees a pointer, which is never null, and their number.
@@ -127,6 +134,216 @@ pub extern "C" fn ropey_chunks_before_byte<'a>(
         return NO_ROPE_HELD;
     };
     find_pieces_before(held, byte_idx, pieces, count, bytes_before)
+}
+
+// Writes the chunks ahead as far as there is room, how many they are, and what lies before the first of them.
+fn write_chunks<'a>(
+    found: ChunksAt<'a>,
+    pieces: &mut [Piece<'a>],
+    count: &mut usize,
+    bytes_before: &mut usize,
+    chars_before: &mut usize,
+    line_breaks_before: &mut usize,
+)
+    ensures pieces { Fills (ahead found.entry.0) pieces.old pieces.new count.new }
+    ensures bytes { bytes_before.new ≡ found.entry.1 }
+    ensures chars { chars_before.new ≡ found.entry.2 }
+    ensures line_breaks { line_breaks_before.new ≡ found.entry.3 }
+{
+    let (chunks, bytes, chars, line_breaks) = found;
+    *bytes_before = bytes;
+    *chars_before = chars;
+    *line_breaks_before = line_breaks;
+    *count = fill(chunks, pieces);
+}
+
+fn find_chunks_at_byte<'a>(
+    rope: &'a Rope,
+    byte_idx: usize,
+    pieces: &mut [Piece<'a>],
+    count: &mut usize,
+    bytes_before: &mut usize,
+    chars_before: &mut usize,
+    line_breaks_before: &mut usize,
+) -> u32
+    ensures { FillsAt (Some rope.now) (λ r. byte_len r.text) byte_idx (λ r. chunk_place_at_byte r.chunks byte_idx)
+        BYTE_INDEX_OUT_OF_BOUNDS result pieces.old pieces.new count.old count.new bytes_before.old bytes_before.new
+        chars_before.old chars_before.new line_breaks_before.old line_breaks_before.new }
+{
+    if byte_idx > rope.len_bytes() {
+        return BYTE_INDEX_OUT_OF_BOUNDS;
+    }
+    let found = rope.chunks_at_byte(byte_idx);
+    write_chunks(
+        found,
+        pieces,
+        count,
+        bytes_before,
+        chars_before,
+        line_breaks_before,
+    );
+    OK
+}
+
+/// The chunks from the one that holds the byte `byte_idx` on, as `ropey_chunks_from_byte` gives them, with how many bytes,
+/// characters and line breaks of the text lie before the first of them. At the end of the text there are no chunks, and all of
+/// the text lies before.
+///
+/// # Errors
+///
+/// `NO_ROPE_HELD`, then `BYTE_INDEX_OUT_OF_BOUNDS`, exactly where the index is past the number of bytes. Then nothing is written.
+#[unsafe(no_mangle)]
+pub extern "C" fn ropey_chunks_at_byte<'a>(
+    rope: &'a Lent,
+    byte_idx: usize,
+    pieces: &mut [Piece<'a>],
+    count: &mut usize,
+    bytes_before: &mut usize,
+    chars_before: &mut usize,
+    line_breaks_before: &mut usize,
+) -> u32
+    ensures answer { FillsAt rope.now.rope (λ r. byte_len r.text) byte_idx (λ r. chunk_place_at_byte r.chunks byte_idx)
+        BYTE_INDEX_OUT_OF_BOUNDS result pieces.old pieces.new count.old count.new bytes_before.old bytes_before.new
+        chars_before.old chars_before.new line_breaks_before.old line_breaks_before.new }
+    ensures kept { HoldsRope rope.now.rope }
+{
+    let Some(held) = rope.held() else {
+        return NO_ROPE_HELD;
+    };
+    find_chunks_at_byte(
+        held,
+        byte_idx,
+        pieces,
+        count,
+        bytes_before,
+        chars_before,
+        line_breaks_before,
+    )
+}
+
+fn find_chunks_at_char<'a>(
+    rope: &'a Rope,
+    char_idx: usize,
+    pieces: &mut [Piece<'a>],
+    count: &mut usize,
+    bytes_before: &mut usize,
+    chars_before: &mut usize,
+    line_breaks_before: &mut usize,
+) -> u32
+    ensures { FillsAt (Some rope.now) (λ r. length r.text) char_idx (λ r. chunk_place_at_char r.chunks char_idx)
+        CHAR_INDEX_OUT_OF_BOUNDS result pieces.old pieces.new count.old count.new bytes_before.old bytes_before.new
+        chars_before.old chars_before.new line_breaks_before.old line_breaks_before.new }
+{
+    if char_idx > rope.len_chars() {
+        return CHAR_INDEX_OUT_OF_BOUNDS;
+    }
+    let found = rope.chunks_at_char(char_idx);
+    write_chunks(
+        found,
+        pieces,
+        count,
+        bytes_before,
+        chars_before,
+        line_breaks_before,
+    );
+    OK
+}
+
+/// The same from the chunk on that holds the character `char_idx`.
+///
+/// # Errors
+///
+/// `NO_ROPE_HELD`, then `CHAR_INDEX_OUT_OF_BOUNDS`, exactly where the index is past the number of characters. Then nothing is written.
+#[unsafe(no_mangle)]
+pub extern "C" fn ropey_chunks_at_char<'a>(
+    rope: &'a Lent,
+    char_idx: usize,
+    pieces: &mut [Piece<'a>],
+    count: &mut usize,
+    bytes_before: &mut usize,
+    chars_before: &mut usize,
+    line_breaks_before: &mut usize,
+) -> u32
+    ensures answer { FillsAt rope.now.rope (λ r. length r.text) char_idx (λ r. chunk_place_at_char r.chunks char_idx)
+        CHAR_INDEX_OUT_OF_BOUNDS result pieces.old pieces.new count.old count.new bytes_before.old bytes_before.new
+        chars_before.old chars_before.new line_breaks_before.old line_breaks_before.new }
+    ensures kept { HoldsRope rope.now.rope }
+{
+    let Some(held) = rope.held() else {
+        return NO_ROPE_HELD;
+    };
+    find_chunks_at_char(
+        held,
+        char_idx,
+        pieces,
+        count,
+        bytes_before,
+        chars_before,
+        line_breaks_before,
+    )
+}
+
+fn find_chunks_at_line_break<'a>(
+    rope: &'a Rope,
+    line_idx: usize,
+    pieces: &mut [Piece<'a>],
+    count: &mut usize,
+    bytes_before: &mut usize,
+    chars_before: &mut usize,
+    line_breaks_before: &mut usize,
+) -> u32
+    ensures { FillsAt (Some rope.now) (λ r. line_count r.breaks r.text) line_idx (λ r. chunk_place_at_line_break r.breaks r.chunks line_idx)
+        LINE_INDEX_OUT_OF_BOUNDS result pieces.old pieces.new count.old count.new bytes_before.old bytes_before.new
+        chars_before.old chars_before.new line_breaks_before.old line_breaks_before.new }
+{
+    if line_idx > rope.len_lines() {
+        return LINE_INDEX_OUT_OF_BOUNDS;
+    }
+    let found = rope.chunks_at_line_break(line_idx);
+    write_chunks(
+        found,
+        pieces,
+        count,
+        bytes_before,
+        chars_before,
+        line_breaks_before,
+    );
+    OK
+}
+
+/// The same from the chunk on that holds the line break before the line `line_idx`, and for the first line from the first
+/// chunk on. For the number of lines there are no chunks.
+///
+/// # Errors
+///
+/// `NO_ROPE_HELD`, then `LINE_INDEX_OUT_OF_BOUNDS`, exactly where the index is past the number of lines. Then nothing is written.
+#[unsafe(no_mangle)]
+pub extern "C" fn ropey_chunks_at_line_break<'a>(
+    rope: &'a Lent,
+    line_idx: usize,
+    pieces: &mut [Piece<'a>],
+    count: &mut usize,
+    bytes_before: &mut usize,
+    chars_before: &mut usize,
+    line_breaks_before: &mut usize,
+) -> u32
+    ensures answer { FillsAt rope.now.rope (λ r. line_count r.breaks r.text) line_idx (λ r. chunk_place_at_line_break r.breaks r.chunks line_idx)
+        LINE_INDEX_OUT_OF_BOUNDS result pieces.old pieces.new count.old count.new bytes_before.old bytes_before.new
+        chars_before.old chars_before.new line_breaks_before.old line_breaks_before.new }
+    ensures kept { HoldsRope rope.now.rope }
+{
+    let Some(held) = rope.held() else {
+        return NO_ROPE_HELD;
+    };
+    find_chunks_at_line_break(
+        held,
+        line_idx,
+        pieces,
+        count,
+        bytes_before,
+        chars_before,
+        line_breaks_before,
+    )
 }
 
 fn find_line_pieces<'a>(

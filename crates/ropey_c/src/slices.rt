@@ -4,16 +4,21 @@
 //! rope, and are lent for as long as its handle is. No call takes memory.
 #![tactic(auto)]
 
-ghost use Rattle.std.specs.Prelude.{◌≡◌, ◌<◌, ◌≤◌, [], length, Some};
+ghost use Rattle.std.specs.Prelude.{◌≡◌, ◌<◌, ◌≤◌, [], length, drop, Some};
 ghost use Rattle.std.specs.Iterator.{IsFinite};
 ghost use Rattle.std.specs.Str.{chars, encode_utf8_all};
-ghost use Rattle.rope_slice.specs.Slice.{content_of, text_of, chunks_of};
+ghost use Rattle.rope_text.specs.LineParts.{part_between, lines_of};
+ghost use Rattle.rope_slice.specs.Slice.{content_of, text_of, chunks_of, breaks_of};
+ghost use Rattle.ropey.specs.View.{content};
 ghost use Rattle.ropey_c.specs.Handles.{HoldsRope};
 ghost use Rattle.ropey_c.specs.Slices.{shown, shown_as, SliceOfChars, SliceOfLine, ShowsBy, ShowsLinesFrom, ShowsLinesBefore};
+ghost use Rattle.ropey_c.specs.Before.{IsBefore, SliceOfCharsAt, CountsInCharsAt, ShowsLinesAt};
 
 use crate::counts::{Counts, counts_of};
 use crate::lent::Lent;
-use crate::status::{LINE_INDEX_OUT_OF_BOUNDS, NO_ROPE_HELD, OK, status_of};
+use crate::status::{
+    CHAR_INDEX_OUT_OF_BOUNDS, LINE_INDEX_OUT_OF_BOUNDS, NO_ROPE_HELD, OK, status_of,
+};
 use rope_text::range::char_bounds;
 use ropey::{Rope, RopeSlice};
 
@@ -205,4 +210,171 @@ pub extern "C" fn ropey_lines_before<'a>(
         return NO_ROPE_HELD;
     };
     find_lines_before(held, line_idx, lines, count)
+}
+
+// How much lies before a character, from which on the text is `rest`.
+fn before_rest(rope: &Rope, char_idx: usize, rest: &RopeSlice<'_>) -> Counts
+    requires within { char_idx ≤ length rope.now.text }
+    requires rest { text_of rest.now ≡ drop char_idx rope.now.text }
+    requires breaks { breaks_of rest.now ≡ rope.now.breaks }
+    ensures { IsBefore rope.now.breaks rope.now.text char_idx result }
+{
+    Counts {
+        bytes: rope.len_bytes() - rest.len_bytes(),
+        chars: char_idx,
+        utf16: rope.len_utf16_cu() - rest.len_utf16_cu(),
+        line_breaks: rope.len_lines() - rest.len_lines(),
+    }
+}
+
+// The text from a character on, and how much lies before it.
+fn rest_from(rope: &Rope, char_idx: usize) -> (RopeSlice<'_>, Counts)
+    requires within { char_idx ≤ length rope.now.text }
+    ensures rest { content_of result.0
+        ≡ part_between (content rope.now) char_idx (length rope.now.text) }
+    ensures before { IsBefore rope.now.breaks rope.now.text char_idx result.1 }
+{
+    let rest = rope.slice(char_idx..);
+    let before = before_rest(rope, char_idx, &rest);
+    (rest, before)
+}
+
+// The characters from `start` up to `end`, and how much lies before them.
+fn part_at(rope: &Rope, start: usize, end: usize) -> (RopeSlice<'_>, Counts)
+    requires ordered { start ≤ end }
+    requires within { end ≤ length rope.now.text }
+    ensures part { content_of result.0 ≡ part_between (content rope.now) start end }
+    ensures before { IsBefore rope.now.breaks rope.now.text start result.1 }
+{
+    let (rest, before) = rest_from(rope, start);
+    (rest.slice(..end - start), before)
+}
+
+fn find_chars_at<'a>(
+    rope: &'a Rope,
+    start: usize,
+    end: usize,
+    slice: &mut Slice<'a>,
+    before: &mut Counts,
+) -> u32
+    ensures { SliceOfCharsAt (Some rope.now) start end result slice.old slice.new before.old before.new }
+{
+    match char_bounds(&(start..end), rope.len_chars()) {
+        Ok((start, end)) => {
+            let (part, counts) = part_at(rope, start, end);
+            *slice = slice_of(&part);
+            *before = counts;
+            OK
+        }
+        Err(error) => status_of(error),
+    }
+}
+
+/// The characters from `start` up to `end`, counted from 0, as `ropey_char_slice` gives them, and how much of the text lies
+/// before them. A line break that ends behind `start` is none of those before it.
+///
+/// # Errors
+///
+/// `NO_ROPE_HELD`, then `CHAR_RANGE_OUT_OF_BOUNDS`, then `CHAR_RANGE_INVALID`. Then nothing is written.
+#[unsafe(no_mangle)]
+pub extern "C" fn ropey_char_slice_at<'a>(
+    rope: &'a Lent,
+    start: usize,
+    end: usize,
+    slice: &mut Slice<'a>,
+    before: &mut Counts,
+) -> u32
+    ensures answer { SliceOfCharsAt rope.now.rope start end result slice.old slice.new before.old before.new }
+    ensures kept { HoldsRope rope.now.rope }
+{
+    let Some(held) = rope.held() else {
+        return NO_ROPE_HELD;
+    };
+    find_chars_at(held, start, end, slice, before)
+}
+
+fn count_chars_at(
+    rope: &Rope,
+    start: usize,
+    end: usize,
+    counts: &mut Counts,
+    before: &mut Counts,
+) -> u32
+    ensures { CountsInCharsAt (Some rope.now) start end result counts.old counts.new before.old before.new }
+{
+    match char_bounds(&(start..end), rope.len_chars()) {
+        Ok((start, end)) => {
+            let (counted, front) = part_at(rope, start, end);
+            *counts = counts_of(&counted);
+            *before = front;
+            OK
+        }
+        Err(error) => status_of(error),
+    }
+}
+
+/// How much text the characters from `start` up to `end` are, as `ropey_counts_in_chars` counts it, and how much of the text
+/// lies before them, as `ropey_char_slice_at` does.
+///
+/// # Errors
+///
+/// `NO_ROPE_HELD`, then `CHAR_RANGE_OUT_OF_BOUNDS`, then `CHAR_RANGE_INVALID`. Then nothing is written.
+#[unsafe(no_mangle)]
+pub extern "C" fn ropey_counts_in_chars_at(
+    rope: &Lent,
+    start: usize,
+    end: usize,
+    counts: &mut Counts,
+    before: &mut Counts,
+) -> u32
+    ensures answer { CountsInCharsAt rope.now.rope start end result counts.old counts.new before.old before.new }
+    ensures kept { HoldsRope rope.now.rope }
+{
+    match rope.held() {
+        Some(held) => count_chars_at(held, start, end, counts, before),
+        None => NO_ROPE_HELD,
+    }
+}
+
+fn find_lines_at<'a>(
+    rope: &'a Rope,
+    char_idx: usize,
+    lines: &mut [Slice<'a>],
+    count: &mut usize,
+    before: &mut Counts,
+) -> u32
+    ensures { ShowsLinesAt (Some rope.now) char_idx result lines.old lines.new count.old count.new before.old before.new }
+{
+    if char_idx > rope.len_chars() {
+        return CHAR_INDEX_OUT_OF_BOUNDS;
+    }
+    let (rest, counts) = rest_from(rope, char_idx);
+    *before = counts;
+    *count = fill_slices(rest.lines(), lines);
+    OK
+}
+
+/// The lines of the text from the character `char_idx` on, each with its line break, written to `lines` as far as there is
+/// room. Their number is written to `count`, and how much of the text lies before the character to `before`. The first of
+/// them begins at that character, also where a line doesn't. A line break that ends behind it is none of those before it.
+/// Costs two look-ups, and then a step a line.
+///
+/// # Errors
+///
+/// `NO_ROPE_HELD`, then `CHAR_INDEX_OUT_OF_BOUNDS`. Then nothing is written.
+#[unsafe(no_mangle)]
+pub extern "C" fn ropey_lines_at<'a>(
+    rope: &'a Lent,
+    char_idx: usize,
+    lines: &mut [Slice<'a>],
+    count: &mut usize,
+    before: &mut Counts,
+) -> u32
+    ensures answer { ShowsLinesAt rope.now.rope char_idx result lines.old lines.new count.old count.new before.old before.new }
+    ensures kept { HoldsRope rope.now.rope }
+{
+    let Some(held) = rope.held() else {
+        return NO_ROPE_HELD;
+    };
+    find_lines_at(held, char_idx, lines, count, before)
 }

@@ -1,6 +1,5 @@
 //! Bytes, chunk by chunk.
-use crate::ffi::{Counts, Root};
-use crate::iter::{counted_cursor, Chunks};
+use crate::iter::{counted_cursor, Chunks, InChunk};
 
 /// A cursor over the bytes of a text.
 ///
@@ -27,17 +26,10 @@ pub struct Bytes<'a> {
 counted_cursor!(Bytes, u8);
 
 impl<'a> Bytes<'a> {
-    /// Over a range of a rope, at its byte `at`.
+    /// In a chunk, at the byte `idx` of it and the byte `passed` of all.
     #[inline]
-    pub(crate) fn of_range(root: &'a Root, start: Counts, counts: Counts, at: usize) -> Bytes<'a> {
-        let (chunks, text, idx) = Chunks::behind(root, start, counts, at);
-        Bytes { chunks, chunk: text.as_bytes(), idx, passed: at, total: counts.bytes, is_reversed: false }
-    }
-
-    #[inline]
-    pub(crate) fn of_text(text: &'a str, at: usize) -> Bytes<'a> {
-        let chunks = Chunks::of_text(text, true);
-        Bytes { chunks, chunk: text.as_bytes(), idx: at, passed: at, total: text.len(), is_reversed: false }
+    pub(crate) fn at((chunks, text, idx): InChunk<'a>, passed: usize, total: usize) -> Bytes<'a> {
+        Bytes { chunks, chunk: text.as_bytes(), idx, passed, total, is_reversed: false }
     }
 
     #[inline(always)]

@@ -1,8 +1,7 @@
 //! Characters, chunk by chunk.
 use std::str;
 
-use crate::ffi::{char_to_byte, Counts, Root};
-use crate::iter::{counted_cursor, Chunks};
+use crate::iter::{counted_cursor, Chunks, InChunk};
 
 /// A cursor over the characters of a text.
 ///
@@ -31,27 +30,10 @@ pub struct Chars<'a> {
 counted_cursor!(Chars, char);
 
 impl<'a> Chars<'a> {
-    /// Over a range of a rope, at its character `at`.
+    /// In a chunk, at the byte `idx` of it and the character `passed` of all.
     #[inline]
-    pub(crate) fn of_range(root: &'a Root, start: Counts, counts: Counts, at: usize) -> Chars<'a> {
-        let byte_idx = match at {
-            0 => 0,
-            _ if at == counts.chars => counts.bytes,
-            _ => root.char_to_byte(start.chars + at).map_or(counts.bytes, |byte_idx| byte_idx - start.bytes),
-        };
-        let (chunks, chunk, idx) = Chunks::behind(root, start, counts, byte_idx);
-        Chars::at(chunks, chunk, chunk[idx..].chars(), at, counts)
-    }
-
-    #[inline]
-    pub(crate) fn of_text(text: &'a str, counts: Counts, at: usize) -> Chars<'a> {
-        let ahead = if at == 0 { text.chars() } else { text[char_to_byte(text, at)..].chars() };
-        Chars::at(Chunks::of_text(text, true), text, ahead, at, counts)
-    }
-
-    #[inline]
-    fn at(chunks: Chunks<'a>, chunk: &'a str, side: str::Chars<'a>, passed: usize, counts: Counts) -> Chars<'a> {
-        Chars { chunks, chunk, side, is_ahead: true, passed, total: counts.chars, is_reversed: false }
+    pub(crate) fn at((chunks, chunk, idx): InChunk<'a>, passed: usize, total: usize) -> Chars<'a> {
+        Chars { chunks, chunk, side: chunk[idx..].chars(), is_ahead: true, passed, total, is_reversed: false }
     }
 
     #[inline(always)]

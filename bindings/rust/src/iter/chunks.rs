@@ -1,9 +1,8 @@
 //! Chunks, fetched some at a time.
-use std::mem;
-
 use crate::ffi::{Counts, Pieces, Root};
 use crate::iter::cursor;
 use crate::slice::{cut, known};
+use crate::MAX_BYTES;
 
 /// A cursor over the chunks of a text: pieces of at most 984 bytes, none of them empty, that join to the text.
 ///
@@ -15,66 +14,62 @@ use crate::slice::{cut, known};
 /// assert_eq!(rope, joined);
 /// ```
 pub struct Chunks<'a> {
-    // The rope, and some chunks around the cursor, of which so many lie behind it.
+    // The rope, and some chunks around the cursor, of which so many lie behind it. Without a rope, a text in one piece.
     root: Option<&'a Root>,
-    pieces: Pieces<'a>,
+    pub(crate) pieces: Pieces<'a>,
     passed: usize,
-    // The chunk ahead of a cursor that has moved nowhere, if it is known. Without a rope, the text in one piece.
-    text: &'a str,
     // The range, and where the cursor stands, in bytes of the rope.
     start: usize,
     end: usize,
     at: usize,
-    // How many chunks to fetch next: few at first, as many a cursor is soon dropped.
-    room: usize,
     is_reversed: bool,
 }
 
-/// How many chunks are fetched at once, at first and at most.
-const FIRST: usize = 2;
-const MOST: usize = 64;
+/// How many chunks are fetched at once at most.
+const MOST: usize = 256;
 
 cursor!(Chunks, &'a str, {});
 
+/// A cursor behind a chunk, the chunk, and how many of its bytes lie before a place in it.
+pub(crate) type InChunk<'a> = (Chunks<'a>, &'a str, usize);
+
 impl Clone for Chunks<'_> {
-    /// The same place. What was fetched isn't copied, as many a clone is soon dropped.
+    /// The same place. Of what was fetched no more than a few are copied, as many a clone is soon dropped.
     #[inline]
     fn clone(&self) -> Self {
-        Chunks { pieces: Pieces::new(), passed: 0, room: FIRST, ..*self }
+        let pieces = self.pieces.few();
+        Chunks { passed: self.passed.min(pieces.len()), pieces, ..*self }
     }
 }
 
 impl<'a> Chunks<'a> {
-    #[inline]
-    fn new(root: Option<&'a Root>, text: &'a str, (start, end, at): (usize, usize, usize)) -> Chunks<'a> {
-        Chunks { root, pieces: Pieces::new(), passed: 0, text, start, end, at, room: FIRST, is_reversed: false }
-    }
-
     /// Over a range of a rope, at its byte `at`, where a chunk begins, or at an end of the range.
     #[inline]
     pub(crate) fn of_range(root: &'a Root, start: Counts, counts: Counts, at: usize) -> Chunks<'a> {
-        Chunks::new(Some(root), "", (start.bytes, start.bytes + counts.bytes, start.bytes + at))
-    }
-
-    /// Over a range of a rope, before a chunk that begins at its byte `at`.
-    #[inline]
-    pub(crate) fn before(root: &'a Root, start: Counts, counts: Counts, chunk: &'a str, at: usize) -> Chunks<'a> {
-        Chunks { text: chunk, ..Chunks::of_range(root, start, counts, at) }
+        let (start, end) = (start.bytes, start.bytes + counts.bytes);
+        Chunks { root: Some(root), pieces: Pieces::new(), passed: 0, start, end, at: start + at, is_reversed: false }
     }
 
     /// Over a text in one piece, before or behind it.
     #[inline]
     pub(crate) fn of_text(text: &'a str, is_behind: bool) -> Chunks<'a> {
-        Chunks::new(None, text, (0, text.len(), if is_behind { text.len() } else { 0 }))
+        let (pieces, end) = (Pieces::of(text), text.len());
+        let (passed, at) = if is_behind { (1, end) } else { (0, 0) };
+        Chunks { root: None, pieces, passed, start: 0, end, at, is_reversed: false }
     }
 
     /// Over a range of a rope, behind the chunk that holds its byte `at`, or behind the last one; with that chunk, as far as
     /// it lies in the range, and how many of its bytes lie before `at`.
     #[inline]
-    pub(crate) fn behind(root: &'a Root, start: Counts, counts: Counts, at: usize) -> (Chunks<'a>, &'a str, usize) {
+    pub(crate) fn behind(root: &'a Root, start: Counts, counts: Counts, at: usize) -> InChunk<'a> {
+        let mut chunks = Chunks::of_range(root, start, counts, 0);
+        if at == 0 {
+            let text = known(chunks.forward());
+            return (chunks, text, 0);
+        }
         let (text, before, ..) = known(root.chunk_at_byte(start.bytes + at.min(counts.bytes - 1)));
         let (text, first) = cut(text, before, start, counts);
-        let chunks = Chunks::of_range(root, start, counts, first + text.len() - start.bytes);
+        chunks.at = first + text.len();
         (chunks, text, start.bytes + at - first)
     }
 
@@ -84,16 +79,8 @@ impl<'a> Chunks<'a> {
         if left == 0 {
             return None;
         }
-        let Some(root) = self.root else {
-            self.at = self.end;
-            return Some(self.text);
-        };
         if self.passed == self.pieces.len() {
-            if !self.text.is_empty() {
-                self.at += self.text.len();
-                return Some(mem::take(&mut self.text));
-            }
-            self.fetch_ahead(root);
+            self.fetch_ahead();
         }
         let mut text = self.pieces.get(self.passed)?;
         if text.len() > left {
@@ -111,12 +98,8 @@ impl<'a> Chunks<'a> {
         if left == 0 {
             return None;
         }
-        let Some(root) = self.root else {
-            self.at = self.start;
-            return Some(self.text);
-        };
         if self.passed == 0 {
-            self.fetch_behind(root);
+            self.fetch_behind();
         }
         let mut text = self.pieces.get(self.passed.checked_sub(1)?)?;
         if text.len() > left {
@@ -137,27 +120,52 @@ impl<'a> Chunks<'a> {
         before
     }
 
-    /// Fetches the chunks ahead; the first may begin before the cursor, where the range does.
+    /// Fetches the chunks ahead.
     #[inline(never)]
-    fn fetch_ahead(&mut self, root: &'a Root) {
-        let first = self.pieces.fetch(root, self.at, self.room);
-        self.room = MOST.min(2 * self.room);
-        self.passed = 0;
-        if let Some(text) = self.pieces.get(0) {
-            self.pieces.set(0, &text[self.at - first..]);
+    fn fetch_ahead(&mut self) {
+        if let Some(root) = self.root {
+            let next = self.set_room(self.end - self.at);
+            let (first, ..) = self.pieces.fetch_at_byte(root, self.at);
+            (self.pieces.room, self.passed) = (next, 0);
+            self.cut_first(first);
         }
     }
 
     /// Fetches the chunks behind; of the one in which the range ends, the part behind the cursor.
     #[inline(never)]
-    fn fetch_behind(&mut self, root: &'a Root) {
-        self.text = "";
-        let end = self.pieces.fetch_before(root, self.at, self.room);
-        self.room = MOST.min(2 * self.room);
-        if end < self.at {
-            self.pieces.fetch(root, end, 1);
-            self.pieces.set(0, &known(self.pieces.get(0))[..self.at - end]);
+    fn fetch_behind(&mut self) {
+        if let Some(root) = self.root {
+            let next = self.set_room(self.at - self.start);
+            let end = self.pieces.fetch_before(root, self.at);
+            if end < self.at {
+                self.pieces.room = 1;
+                self.pieces.fetch_at_byte(root, end);
+                let text = known(self.pieces.get(0));
+                self.pieces.set(0, &text[..self.at - end]);
+            }
+            (self.pieces.room, self.passed) = (next, self.pieces.len());
         }
-        self.passed = self.pieces.len();
+    }
+
+    /// Has about as many fetched as full chunks would have the text that is left, and two at least; answers how many to fetch the
+    /// next time: few at first, as many a cursor is soon dropped.
+    fn set_room(&mut self, left: usize) -> usize {
+        let room = self.pieces.room;
+        self.pieces.room = room.min((left + MAX_BYTES / 2) / MAX_BYTES + 1).max(2);
+        MOST.min(2 * room)
+    }
+
+    /// Stands before the first of what was fetched, which begins at the byte `first` of the rope, or at the start of the range.
+    pub(crate) fn stand(&mut self, first: usize) {
+        self.at = first.max(self.start);
+        self.cut_first(first);
+    }
+
+    /// The first of what was fetched begins at the byte `first` of the rope, perhaps before the cursor, where the range does.
+    #[inline]
+    fn cut_first(&mut self, first: usize) {
+        if let Some(text) = self.pieces.get(0).filter(|_| first < self.at) {
+            self.pieces.set(0, &text[self.at - first..]);
+        }
     }
 }

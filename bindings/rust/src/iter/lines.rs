@@ -18,9 +18,8 @@ use crate::str_utils::{first_line, last_line};
 pub struct Lines<'a> {
     slice: RopeSlice<'a>,
     is_whole: bool,
-    // Of a rope: some lines around the cursor, and how much of the rope lies before it, where that is known.
+    // Of a rope: some lines around the cursor.
     window: Window<'a>,
-    before: Option<Counts>,
     // Of a text in one piece: the byte at which it stands.
     idx: usize,
     passed: usize,
@@ -42,7 +41,7 @@ impl<'a> Lines<'a> {
         let idx = slice.as_str().filter(|_| line_idx > 0).map_or(0, |text| line_to_byte(text, line_idx));
         let before = (line_idx == 0).then(|| slice.start());
         let (is_whole, total) = (slice.is_whole(), slice.len_lines());
-        Lines { slice, is_whole, window: Window::new(), before, idx, passed: line_idx, total, is_reversed: false }
+        Lines { slice, is_whole, window: Window::new(before), idx, passed: line_idx, total, is_reversed: false }
     }
 
     #[inline(always)]
@@ -91,7 +90,8 @@ impl<'a> Lines<'a> {
         let Some((root, line)) = self.slice.line_of_rope(line_idx, self.is_whole) else {
             return self.cut_line(line_idx, is_back);
         };
-        let left = if is_back { line_idx + 1 } else { self.total - line_idx };
+        // The first line of a slice that isn't whole may be cut, and is fetched going forward alone, from where the slice starts.
+        let left = if is_back { line_idx + usize::from(self.is_whole) } else { self.total - line_idx };
         let (text, counts) = self.window.line(root, line, is_back, left);
         let Some(text) = text else { return self.long_line(root, line, counts, is_back) };
         self.pass(counts, is_back);
@@ -100,41 +100,41 @@ impl<'a> Lines<'a> {
 
     #[inline(always)]
     fn pass(&mut self, line: Counts, is_back: bool) {
-        if let Some(before) = self.before {
-            self.before = Some(if is_back { before.minus(line) } else { before.plus(line) });
+        if let Some(before) = self.window.before {
+            self.window.before = Some(if is_back { before.minus(line) } else { before.plus(line) });
         }
     }
 
     /// A line that lies in several chunks.
     #[inline(never)]
     fn long_line(&mut self, root: &'a Root, line: usize, counts: Counts, is_back: bool) -> RopeSlice<'a> {
-        let start = match self.before {
+        let start = match self.window.before {
             Some(before) if is_back => before.minus(counts),
             Some(before) => before,
             None => RopeSlice::before_line(root, line),
         };
-        self.before = Some(if is_back { start } else { start.plus(counts) });
+        self.window.before = Some(if is_back { start } else { start.plus(counts) });
         RopeSlice::of_range(root, start, counts)
     }
 
     /// A line at an end of a slice, which may be less than the rope's.
     #[inline(never)]
     fn cut_line(&mut self, line_idx: usize, is_back: bool) -> RopeSlice<'a> {
-        let line = match self.before {
-            Some(before) if !is_back && line_idx > 0 => self.clipped(line_idx, before),
+        let line = match self.window.before {
+            Some(before) if !is_back => self.clipped(line_idx, before),
             _ => self.slice.get_line(line_idx).unwrap_or(RopeSlice::EMPTY),
         };
-        self.pass(line.counts(), is_back);
+        self.pass(line.counts, is_back);
         line
     }
 
     /// The line that the cursor stands before, as far as it lies in the slice.
     fn clipped(&mut self, line_idx: usize, before: Counts) -> RopeSlice<'a> {
-        let left = self.slice.start().plus(self.slice.counts()).minus(before);
+        let left = self.slice.start().plus(self.slice.counts).minus(before);
         let Some((root, line)) = self.slice.line_of_rope(line_idx, true).filter(|_| left.bytes > 0) else {
             return RopeSlice::EMPTY;
         };
-        let (text, counts) = self.window.line(root, line, false, 1);
+        let (text, counts) = self.window.line(root, line, false, self.total - line_idx);
         let counts = if counts.bytes > left.bytes { left } else { counts };
         RopeSlice::of_lent(root, (text.map(|text| &text[..counts.bytes]), counts), || before)
     }

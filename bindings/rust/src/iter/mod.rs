@@ -25,6 +25,7 @@ mod lines;
 pub use self::bytes::Bytes;
 pub use self::chars::Chars;
 pub use self::chunks::Chunks;
+pub(crate) use self::chunks::InChunk;
 pub use self::lines::Lines;
 
 /// What the four cursors have alike, over `forward` and `backward`.

@@ -1,5 +1,5 @@
-use Rattle.std.proofs.Common.{refl, ap, ◌∙◌, subst, arith}
-use Rattle.rope_text.specs.Sides.{ahead, turned}
+use Rattle.std.proofs.Common.{refl, ap, subst, arith}
+use Rattle.rope_text.specs.Sides.{ahead}
 use Rattle.ropey_c.specs.Slices.{Shows}
 use Rattle.ropey_c.proofs.Showing.{lines_shown}
 use Rattle.ropey_c.proofs.slices.find_lines.Goals as goal

@@ -129,7 +129,7 @@ returns-clause-cut c =
           let k = c.args.at - c.from_str-front_info.result.chars in
           let at_is : length (f e) + k ≡ c.args.at = omega (arith, front_chars e, w.if-at-chars-2.true) in
           let put = takes br _ w.insert_in_place.new.self (b e) s k w.insert_in_place.result behind w.insert_in_place.ensures.leaf w.insert_in_place.ensures.tree w.insert_in_place.ensures.full
-              (omega (arith, back_bytes e, c.in-Some.ensures.room.1, c.len.ensures.value)) in
+          (omega (arith, back_bytes e, c.in-Some.ensures.room.1, c.len.ensures.value)) in
           let within : k ≤ length (b e) = omega (arith, at_is, c.requires.within, ap length (whole e), length-append (f e) (b e)) in
           let apart = back_seam (f e) (b e) s k (omega (arith, w.if-at-chars-2.true)) within c.in-Some.ensures.apart in
           rw (w.self-is, w.leaf-is, w.keep.ensures, kept e, put.0)
@@ -158,7 +158,7 @@ returns-clause-leaf c =
       | then-at-chars-2 w ↦
           let k = c.args.at - c.from_str-front_info.result.chars in
           let put = takes br _ w.insert_in_place.new.self (b e) s k w.insert_in_place.result behind w.insert_in_place.ensures.leaf w.insert_in_place.ensures.tree w.insert_in_place.ensures.full
-              (omega (arith, back_bytes e, c.in-Some.ensures.room.1, c.len.ensures.value)) in
+          (omega (arith, back_bytes e, c.in-Some.ensures.room.1, c.len.ensures.value)) in
           rw (w.leaf-is, put.0) (record { flat = refl; tree = put.1 })
       | else-at-chars-2 w ↦ rw (w.leaf-is, behind) (record { flat = refl; tree = back_tree e })
     ]
