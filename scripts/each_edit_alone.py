@@ -211,7 +211,7 @@ def try_all(edits, bodies):
         standing = bodies_of(CRATES.glob("*/must-fail/*.edit"))
         kept = [row for key, row in table().items() if key in standing and key not in bodies]
         write([*kept, *rows_of(bodies, found)])
-    each = (time.monotonic() - begun) / max(len(bodies), 1)
+    each = (time.monotonic() - begun) / len(bodies)
     print(f"{len(bodies) - len(lost)} were refused, {len(lost)} not; {each:.1f} seconds a body")
     return not lost
 
@@ -241,6 +241,9 @@ def main(words):
     if "--changed" in words:
         rows = table()
         bodies = {key: body for key, body in bodies.items() if key not in rows or rows[key][5] != body[1]}
+    if not bodies:
+        print("none has changed")
+        return 0
     return 0 if try_all(edits, bodies) else 1
 
 

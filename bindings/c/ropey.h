@@ -22,8 +22,9 @@
  * break of the rope's set. A text has one line more than it has line breaks, and its last line may be empty.
  *
  * Refusals. A call answers ROPEY_OK, or the first reason for which it was refused, in the order in which its comment gives
- * them. No index, text or number can make a call do anything else, but for ropey_from_text_unchecked. A refused call leaves every rope as it was and writes
- * nothing, but where its comment says so. A call on a handle that holds no rope answers ROPEY_NO_ROPE_HELD.
+ * them. No index, text or number can make a call do anything else, but for ropey_from_text_unchecked. A refused call leaves
+ * every rope as it was and writes nothing, but where its comment says so. A call on a handle that holds no rope answers
+ * ROPEY_NO_ROPE_HELD.
  *
  * Edits are the calls that take a `ropey_rope *` which holds a rope; look-ups are those that take a `const ropey_rope *`.
  * A look-up changes nothing, and gives pointers into the rope's memory. They are good until the handle is passed to an
@@ -168,8 +169,8 @@ typedef struct {
  * Refused: UNKNOWN_BREAK_SET, INVALID_UTF8, OUT_OF_MEMORY. */
 ropey_status ropey_from_text(const uint8_t *text, size_t len, uint32_t break_set, ropey_rope *rope);
 
-/* The same of a text that is known to be UTF-8, which is not read to find out. This alone of all calls has a condition: where the
- * bytes are no UTF-8, it makes no rope, and later calls may do anything. Refused: UNKNOWN_BREAK_SET, OUT_OF_MEMORY. */
+/* The same of a text that is known to be UTF-8, which is not read to find out. This alone of all calls has a condition: of
+ * bytes that aren't UTF-8 it makes no rope, and later calls may do anything. Refused: UNKNOWN_BREAK_SET, OUT_OF_MEMORY. */
 ropey_status ropey_from_text_unchecked(const uint8_t *text, size_t len, uint32_t break_set, ropey_rope *rope);
 
 /* Frees the rope, if there is one. Afterwards the handle holds none. */
